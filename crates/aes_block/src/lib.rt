@@ -6,3 +6,6 @@ mod schedule;
 mod state;
 
 pub use schedule::Schedule;
+
+#[cfg(test)]
+mod tests;
