@@ -5,4 +5,4 @@ mod chaining;
 mod sealing;
 mod stream;
 
-pub use sealing::seal;
+pub use sealing::{BadMic, seal, unseal};
