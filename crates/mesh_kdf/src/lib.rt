@@ -1,0 +1,8 @@
+//! AES-CMAC (RFC 4493) and the key derivations s1, k1, k2, k3 and k4 of a mesh network (Mesh Profile 1.0.1, section 3.8.2).
+//!
+//! - `mac`: AES-CMAC of a message
+//! - `subkeys`: what AES-CMAC adds to its last block
+//! - `derivations`: s1 to k4
+#![tactic(auto)]
+
+mod subkeys;
