@@ -5,4 +5,9 @@
 //! - `derivations`: s1 to k4
 #![tactic(auto)]
 
+mod derivations;
+mod mac;
 mod subkeys;
+
+pub use derivations::{K2, k1, k2, k3, k4, s1};
+pub use mac::cmac;
