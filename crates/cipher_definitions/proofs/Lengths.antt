@@ -1,8 +1,8 @@
 -- Every block that AES gives, and every result of AES-CMAC, has 16 octets, whatever it is given.
-use Rattle.std.proofs.Common.{◌≡◌, ℕ, zero, suc, ◌+◌, ◌*◌, List, [], ◌∷◌, ◌++◌, length, take, drop, replicate, refl, ap, ◌∙◌, arith}
-use Rattle.cipher_definitions.specs.Octets.{xor_lists, blocks}
+use Rattle.std.proofs.Common.{◌≡◌, ℕ, List, [], ◌∷◌, ◌++◌, length}
+use Rattle.cipher_definitions.specs.Octets.{xor_lists}
 use Rattle.cipher_definitions.specs.Aes.{shift_rows, last_round, cipher, aes, chained}
-use Rattle.cipher_definitions.specs.Cmac.{last_block, blocks_before_last, cmac}
+use Rattle.cipher_definitions.specs.Cmac.{cmac}
 use Rattle.cipher_definitions.specs.Kdf.{s1, k1}
 use Rattle.cipher_definitions.proofs.Sums.{length-xor_lists}
 

@@ -82,9 +82,9 @@ turned_word constant w = bit_xor (sub_octet (slice_index w 1)) constant ∷ sub_
 -- its own first word: each is the sum of the word four before it and the word before it (5.2)
 unfoldable pub words_after : List ℕ → List ℕ → List ℕ
 words_after key first =
-  let second = xor_lists (word key 1) first in
-  let third = xor_lists (word key 2) second in
-  first ++ second ++ third ++ xor_lists (word key 3) third
+    let second = xor_lists (word key 1) first in
+    let third = xor_lists (word key 2) second in
+    first ++ second ++ third ++ xor_lists (word key 3) third
 
 -- the round key after a round key, by the constant of its round (5.2, with Nk = 4)
 unfoldable pub next_key : ℕ → List ℕ → List ℕ

@@ -1,7 +1,7 @@
 -- AES-CCM (RFC 3610) with L = 2, so a nonce of 13 octets and texts of fewer than 2^16 octets, with M
 -- of 4 or 8 octets of MIC, and with fewer than 65,280 octets of additional data. Sealing alone is
 -- defined: a text opens as the one that seals to it. Section numbers are the RFC's.
-use Rattle.std.specs.Prelude.{◌≡◌, ℕ, zero, suc, ◌+◌, ◌-◌, ◌*◌, ◌/◌, nat_eq, List, [], ◌∷◌, ◌++◌, length, take, replicate, ◌==◌, if◌then◌else◌}
+use Rattle.std.specs.Prelude.{◌≡◌, ℕ, zero, suc, ◌+◌, ◌-◌, ◌*◌, ◌/◌, List, [], ◌∷◌, ◌++◌, length, take, replicate, ◌==◌, if◌then◌else◌}
 use Rattle.cipher_definitions.specs.Octets.{two_octets, xor_lists, block_count, whole_blocks}
 use Rattle.cipher_definitions.specs.Aes.{aes, chained}
 
@@ -16,13 +16,13 @@ first_block nonce additional text_length mic_length = first_flags additional mic
 
 -- the blocks of the additional data, which begin with its length, or none where it is empty (2.2)
 unfoldable pub additional_blocks : List ℕ → List (List ℕ)
-additional_blocks [] = []
-additional_blocks (x ∷ xs) = whole_blocks (two_octets (length (x ∷ xs)) ++ (x ∷ xs))
+additional_blocks additional =
+    if (length additional) == 0 then [] else whole_blocks (two_octets (length additional) ++ additional)
 
 -- T: the first M octets of the chaining of B_0, additional data and text (2.2)
 unfoldable pub ccm_tag : List ℕ → List ℕ → List ℕ → List ℕ → ℕ → List ℕ
 ccm_tag key nonce additional text mic_length =
-  take mic_length (chained key (replicate 16 0) (first_block nonce additional (length text) mic_length ∷ additional_blocks additional ++ whole_blocks text))
+    take mic_length (chained key (replicate 16 0) (first_block nonce additional (length text) mic_length ∷ additional_blocks additional ++ whole_blocks text))
 
 -- A_i: the flags L' = 1, the nonce and the counter (2.3)
 abbrev pub counter_block : List ℕ → ℕ → List ℕ

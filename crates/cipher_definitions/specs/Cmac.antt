@@ -37,5 +37,5 @@ blocks_before_last n = (n - 1) / 16
 -- last block with its subkey (2.4)
 unfoldable pub cmac : List ℕ → List ℕ → List ℕ
 cmac key message =
-  chained key (replicate 16 0)
+    chained key (replicate 16 0)
     (blocks (blocks_before_last (length message)) message ++ last_block key (drop (16 * blocks_before_last (length message)) message) ∷ [])

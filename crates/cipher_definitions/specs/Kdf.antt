@@ -1,6 +1,6 @@
 -- The key derivations of the Mesh Profile 1.0.1. Section numbers are the profile's, and keys are
 -- lists of 16 octets.
-use Rattle.std.specs.Prelude.{ℕ, ◌+◌, ◌/◌, ◌%◌, ◌^◌, List, [], ◌∷◌, ◌++◌, replicate, codes}
+use Rattle.std.specs.Prelude.{ℕ, ◌/◌, ◌%◌, ◌^◌, List, [], ◌∷◌, ◌++◌, replicate, codes}
 use Rattle.cipher_definitions.specs.Octets.{two_octets, octets_of, number_of}
 use Rattle.cipher_definitions.specs.Cmac.{cmac}
 
@@ -29,8 +29,8 @@ k2_third t p = cmac t (k2_second t p ++ p ++ 3 ∷ [])
 -- the number of k2: T1, T2 and T3 as one number of 384 bits, modulo 2^263 (3.8.2.6)
 unfoldable pub k2_number : List ℕ → List ℕ → ℕ
 k2_number n p =
-  let t = derived_key (codes "smk2") n in
-  number_of (k2_first t p ++ k2_second t p ++ k2_third t p) % 2 ^ 263
+    let t = derived_key (codes "smk2") n in
+    number_of (k2_first t p ++ k2_second t p ++ k2_third t p) % 2 ^ 263
 
 -- what k2 derives: NID, a number of 7 bits, and EncryptionKey and PrivacyKey (3.8.6.3.1)
 pub record K2Value : Type 0 where
@@ -43,7 +43,7 @@ unfoldable pub k2 : List ℕ → List ℕ → K2Value
 k2 n p = record {
   nid = k2_number n p / 2 ^ 256;
   encryption = octets_of 16 (k2_number n p / 2 ^ 128);
-  privacy = octets_of 16 (k2_number n p)
+  privacy = octets_of 16 (k2_number n p);
 }
 
 -- k3: eight octets, the result modulo 2^64 (3.8.2.7)
@@ -73,9 +73,9 @@ master_credentials net_key = k2 net_key (0 ∷ [])
 -- the P of k2 for a friendship: its addresses and counters are numbers of 16 bits (3.8.6.3.1)
 abbrev pub friendship_parameter : ℕ → ℕ → ℕ → ℕ → List ℕ
 friendship_parameter lpn friend lpn_counter friend_counter =
-  1 ∷ two_octets lpn ++ two_octets friend ++ two_octets lpn_counter ++ two_octets friend_counter
+    1 ∷ two_octets lpn ++ two_octets friend ++ two_octets lpn_counter ++ two_octets friend_counter
 
 -- the friendship credentials of a network key (3.8.6.3.1)
 unfoldable pub friendship_credentials : List ℕ → ℕ → ℕ → ℕ → ℕ → K2Value
 friendship_credentials net_key lpn friend lpn_counter friend_counter =
-  k2 net_key (friendship_parameter lpn friend lpn_counter friend_counter)
+    k2 net_key (friendship_parameter lpn friend lpn_counter friend_counter)

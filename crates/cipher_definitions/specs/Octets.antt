@@ -2,13 +2,15 @@
 -- 256, and the octets of a number stand high octet first.
 use Rattle.std.specs.Prelude.{ℕ, zero, suc, ◌+◌, ◌-◌, ◌*◌, ◌/◌, ◌%◌, ◌^◌, List, [], ◌∷◌, ◌++◌, length, take, drop, map, replicate, bit_xor}
 
--- the low two, three and four octets of a number
+-- the low two octets of a number
 abbrev pub two_octets : ℕ → List ℕ
 two_octets n = n / 256 % 256 ∷ n % 256 ∷ []
 
+-- the low three octets of a number
 abbrev pub three_octets : ℕ → List ℕ
 three_octets n = n / 65536 % 256 ∷ n / 256 % 256 ∷ n % 256 ∷ []
 
+-- the low four octets of a number
 abbrev pub four_octets : ℕ → List ℕ
 four_octets n = n / 16777216 % 256 ∷ n / 65536 % 256 ∷ n / 256 % 256 ∷ n % 256 ∷ []
 
