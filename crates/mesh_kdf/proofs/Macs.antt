@@ -1,9 +1,10 @@
 -- The loop of AES-CMAC over the blocks before the last.
-use Rattle.std.proofs.Common.{◌≡◌, ℕ, zero, suc, ◌+◌, ◌-◌, ◌*◌, ◌/◌, ◌<◌, ◌≤◌, List, [], ◌∷◌, ◌++◌, length, take, drop, refl, ap, arith, length-drop, ◌∙◌, sym}
+use Rattle.std.proofs.Common.{◌≡◌, ℕ, suc, ◌+◌, ◌-◌, ◌*◌, ◌/◌, ◌<◌, ◌≤◌, List, [], ◌∷◌, ◌++◌, length, take, drop, refl, arith, length-drop, ◌∙◌, sym, replicate, nat_eq, false}
 use Rattle.std.proofs.lemmas.List.{drop-drop}
+use Rattle.std.proofs.lemmas.Bool.Decides.{nat_tests}
 use Rattle.cipher_definitions.specs.Octets.{xor_lists, blocks}
 use Rattle.cipher_definitions.specs.Aes.{aes, chained}
-use Rattle.cipher_definitions.specs.Cmac.{last_block, blocks_before_last}
+use Rattle.cipher_definitions.specs.Cmac.{last_block, blocks_before_last, doubled, first_subkey, second_subkey, filled_block}
 
 -- AES-CMAC of what is left of a message, from the sum of the blocks so far
 abbrev pub mac_from : List ℕ → List ℕ → List ℕ → List ℕ
@@ -32,3 +33,16 @@ unfolding chained blocks
 mac_end key sum rest z h e =
   let n : (length rest - 1) / 16 ≡ 0 = omega arith in
   rw n at e
+
+-- the last block where it is complete, and where it is filled
+pub complete_block : (key b e s z : List ℕ) → length b ≡ 16 → e ≡ aes key (replicate 16 0) → s ≡ doubled e → z ≡ xor_lists b s
+  → z ≡ last_block key b
+unfolding last_block first_subkey
+complete_block key b e s z h p q r = rw (h, r, q, p) refl
+
+pub incomplete_block : (key b e s f t z : List ℕ) → (length b ≡ 16 → ⊥) → e ≡ aes key (replicate 16 0) → s ≡ doubled e
+  → f ≡ filled_block b → t ≡ doubled s → z ≡ xor_lists f t → z ≡ last_block key b
+unfolding last_block first_subkey second_subkey
+incomplete_block key b e s f t z h p q u v r =
+  let n : nat_eq (length b) 16 ≡ false = grind (arith, nat_tests) in
+  rw (n, r, v, q, p, u) refl

@@ -1,6 +1,6 @@
 -- Laws of the number that octets make, and of the octets of a number.
-use Rattle.std.proofs.Common.{◌≡◌, ℕ, zero, suc, ◌+◌, ◌*◌, ◌/◌, ◌%◌, ◌^◌, ◌<◌, List, [], ◌∷◌, ◌++◌, length, get_or, refl, ap, ◌∙◌, sym, subst, arith, length-append, add-one, lit<}
-use Rattle.std.proofs.lemmas.Nat.{pow-add, mul-add-lt, div-mul-add, mod-mul-add, div-add-mod', field_of}
+use Rattle.std.proofs.Common.{◌≡◌, ℕ, zero, suc, ◌+◌, ◌*◌, ◌/◌, ◌%◌, ◌^◌, ◌<◌, List, [], ◌∷◌, ◌++◌, length, get_or, refl, ap, ◌∙◌, sym, arith, length-append, lit<}
+use Rattle.std.proofs.lemmas.Nat.{pow-add, mul-add-lt, div-mul-add, div-add-mod'}
 use Rattle.std.proofs.Math.Nat.{pow-succ', mul_assoc, add-mul, mul_comm, add_assoc, one-le-pow, mul-add-div_right, mul-add-mod_self_right, mod-eq_of_lt}
 use Rattle.cipher_definitions.specs.Octets.{octets_of, number_of}
 

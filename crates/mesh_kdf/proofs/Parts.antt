@@ -1,10 +1,10 @@
 -- The parts of the numbers that k2, k3 and k4 take, as octets of the results of AES-CMAC that make these numbers.
-use Rattle.std.proofs.Common.{◌≡◌, ℕ, zero, suc, ◌+◌, ◌*◌, ◌/◌, ◌%◌, ◌^◌, ◌<◌, List, [], ◌∷◌, ◌++◌, length, get_or, take, drop, refl, ap, ◌∙◌, sym, arith, length-drop}
+use Rattle.std.proofs.Common.{◌≡◌, ℕ, suc, ◌+◌, ◌*◌, ◌/◌, ◌%◌, ◌^◌, ◌<◌, List, [], ◌∷◌, ◌++◌, length, get_or, take, drop, refl, ap, ◌∙◌, sym, arith, length-drop}
 use Rattle.std.proofs.lemmas.List.{get_or-drop, take-append-drop}
 use Rattle.std.proofs.lemmas.Nat.{div-mul-add, field_of, shr-shr}
 use Rattle.std.proofs.Math.Nat.{pow-succ', mul_assoc, mul_comm, mul-add-mod_self_right}
 use Rattle.cipher_definitions.specs.Octets.{octets_of, number_of}
-use Rattle.mesh_kdf.proofs.Numbers.{AreOctets, tail_octets, number_of-append, number_of-below, octets_of-high, octets_of-number_of, octets_of-mod}
+use Rattle.mesh_kdf.proofs.Numbers.{AreOctets, number_of-append, number_of-below, octets_of-high, octets_of-number_of, octets_of-mod}
 
 turned : (x c d p : ℕ) → x * (c * d * p) ≡ x * c * p * d
 turned x c d p = rw (mul_assoc c d p, mul_comm d p, ← mul_assoc c p d, ← mul_assoc x (c * p) d, ← mul_assoc x c p) refl

@@ -3,11 +3,14 @@
 //! - `mac`: AES-CMAC of a message
 //! - `subkeys`: what AES-CMAC adds to its last block
 //! - `derivations`: s1 to k4
+//! - `credentials`: what k2 derives
 #![tactic(auto)]
 
+mod credentials;
 mod derivations;
 mod mac;
 mod subkeys;
 
-pub use derivations::{K2, k1, k2, k3, k4, s1};
+pub use credentials::K2;
+pub use derivations::{k1, k2, k3, k4, s1};
 pub use mac::cmac;

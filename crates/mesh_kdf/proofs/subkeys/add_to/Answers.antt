@@ -1,5 +1,4 @@
-use Rattle.std.proofs.Common.{◌≡◌, ◌++◌, take, drop, arith, ◌<◌, length}
-use Rattle.cipher_definitions.specs.Octets.{xor_lists}
+use Rattle.std.proofs.Common.{arith}
 use Rattle.mesh_kdf.proofs.Turns.{added_more, added_all}
 use Rattle.mesh_kdf.proofs.subkeys.add_to.Goals as goal
 
