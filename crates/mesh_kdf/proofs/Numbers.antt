@@ -19,16 +19,16 @@ pub number_of-append : (xs ys : List ℕ) → number_of (xs ++ ys) ≡ number_of
 unfolding number_of
 number_of-append [] ys = omega arith
 number_of-append (x ∷ xs) ys =
-  rw (length-append xs ys, pow-add 256 (length xs) (length ys), number_of-append xs ys) (regrouped x (256 ^ length xs) (256 ^ length ys) (number_of xs) (number_of ys))
+    rw (length-append xs ys, pow-add 256 (length xs) (length ys), number_of-append xs ys) (regrouped x (256 ^ length xs) (256 ^ length ys) (number_of xs) (number_of ys))
 
 -- the number of n octets is below 256^n
 pub number_of-below : (xs : List ℕ) → AreOctets xs → number_of xs < 256 ^ length xs
 unfolding number_of
 number_of-below [] h = lit< tt
 number_of-below (x ∷ xs) h =
-  let p : x < 256 = h.each 0 in
-  let q : number_of xs < 256 ^ length xs = number_of-below xs (tail_octets x xs h) in
-  rw (pow-succ' 256 (length xs), mul_comm 256 (256 ^ length xs)) (mul-add-lt x (256 ^ length xs) (number_of xs) 256 p q)
+    let p : x < 256 = h.each 0 in
+    let q : number_of xs < 256 ^ length xs = number_of-below xs (tail_octets x xs h) in
+    rw (pow-succ' 256 (length xs), mul_comm 256 (256 ^ length xs)) (mul-add-lt x (256 ^ length xs) (number_of xs) 256 p q)
 
 positive : (n : ℕ) → 0 < 256 ^ n
 positive n = one-le-pow n 256 (lit< tt)
@@ -44,20 +44,20 @@ pub octets_of-high : (n a b : ℕ) → octets_of n (a * 256 ^ n + b) ≡ octets_
 unfolding octets_of
 octets_of-high zero a b = refl
 octets_of-high (suc n) a b =
-  rw (moved a n b, high_octet (256 ^ n) a b (positive n), octets_of-high n (a * 256) b) refl
+    rw (moved a n b, high_octet (256 ^ n) a b (positive n), octets_of-high n (a * 256) b) refl
 
 -- the octets of the number that octets make are these octets
 pub octets_of-number_of : (xs : List ℕ) → AreOctets xs → octets_of (length xs) (number_of xs) ≡ xs
 unfolding octets_of number_of
 octets_of-number_of [] h = refl
 octets_of-number_of (x ∷ xs) h =
-  let p : x < 256 = h.each 0 in
-  let rest : AreOctets xs = tail_octets x xs h in
-  let q : number_of xs < 256 ^ length xs = number_of-below xs rest in
-  rw (div-mul-add x (256 ^ length xs) (number_of xs) q, mod-eq_of_lt p, octets_of-high (length xs) x (number_of xs), octets_of-number_of xs rest) refl
+    let p : x < 256 = h.each 0 in
+    let rest : AreOctets xs = tail_octets x xs h in
+    let q : number_of xs < 256 ^ length xs = number_of-below xs rest in
+    rw (div-mul-add x (256 ^ length xs) (number_of xs) q, mod-eq_of_lt p, octets_of-high (length xs) x (number_of xs), octets_of-number_of xs rest) refl
 
 -- the low n octets of a remainder by a multiple of 256^n
 pub octets_of-mod : (n c x : ℕ) → octets_of n (x % (c * 256 ^ n)) ≡ octets_of n x
 octets_of-mod n c x =
-  let e : x / (c * 256 ^ n) * c * 256 ^ n + x % (c * 256 ^ n) ≡ x = rw (mul_assoc (x / (c * 256 ^ n)) c (256 ^ n)) (div-add-mod' x (c * 256 ^ n)) in
-  sym (octets_of-high n (x / (c * 256 ^ n) * c) (x % (c * 256 ^ n))) ∙ ap (octets_of n) e
+    let e : x / (c * 256 ^ n) * c * 256 ^ n + x % (c * 256 ^ n) ≡ x = rw (mul_assoc (x / (c * 256 ^ n)) c (256 ^ n)) (div-add-mod' x (c * 256 ^ n)) in
+    sym (octets_of-high n (x / (c * 256 ^ n) * c) (x % (c * 256 ^ n))) ∙ ap (octets_of n) e

@@ -4,7 +4,7 @@ use Rattle.std.proofs.lemmas.List.{take_all, drop_all, append-nil}
 use Rattle.cipher_definitions.specs.Octets.{xor_lists}
 
 step : (s o : List ℕ) (i : ℕ) → i < length s → i < length o
-  → take (suc i) (slice_set s i (bit_xor (slice_index_or s i 0) (slice_index_or o i 0))) ++ xor_lists (drop (suc i) (slice_set s i (bit_xor (slice_index_or s i 0) (slice_index_or o i 0)))) (drop (suc i) o)
+    → take (suc i) (slice_set s i (bit_xor (slice_index_or s i 0) (slice_index_or o i 0))) ++ xor_lists (drop (suc i) (slice_set s i (bit_xor (slice_index_or s i 0) (slice_index_or o i 0)))) (drop (suc i) o)
     ≡ take i s ++ xor_lists (drop i s) (drop i o)
 unfolding xor_lists
 step [] o i h k = absurd (omega arith)
@@ -14,7 +14,7 @@ step (x ∷ s) (y ∷ o) (suc i) h k = ap (λ t. x ∷ t) (step s o i (omega ari
 
 -- what is added so far, and the sum of what is left, one turn on
 pub added_more : (s o z : List ℕ) (i : ℕ) → i < length s → i < length o → take i s ++ xor_lists (drop i s) (drop i o) ≡ z
-  → take (i + 1) (slice_set s i (bit_xor (slice_index_or s i 0) (slice_index_or o i 0))) ++ xor_lists (drop (i + 1) (slice_set s i (bit_xor (slice_index_or s i 0) (slice_index_or o i 0)))) (drop (i + 1) o) ≡ z
+    → take (i + 1) (slice_set s i (bit_xor (slice_index_or s i 0) (slice_index_or o i 0))) ++ xor_lists (drop (i + 1) (slice_set s i (bit_xor (slice_index_or s i 0) (slice_index_or o i 0)))) (drop (i + 1) o) ≡ z
 added_more s o z i h k e = rw add-one (step s o i h k ∙ e)
 
 -- all is added

@@ -124,5 +124,4 @@ fn last_6_bits(block: &[u8; 16]) -> u8
 /// What the type of a slice says of its items, as a clause that a proof can cite.
 fn are_octets(octets: &[u8])
     ensures { (i : ℕ) → slice_index_or octets.now i 0 < 256 }
-{
-}
+{}

@@ -14,3 +14,6 @@ mod subkeys;
 pub use credentials::K2;
 pub use derivations::{k1, k2, k3, k4, s1};
 pub use mac::cmac;
+
+#[cfg(test)]
+mod tests;
