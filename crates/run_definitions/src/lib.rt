@@ -1,0 +1,2 @@
+//! The definitions of a run.
+#![tactic(auto)]
