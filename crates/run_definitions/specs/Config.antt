@@ -1,6 +1,6 @@
 -- What the records of a store say of the node, one change for each record, on plain sets: a set of keys as the list of its rows by
 -- index, a set of bindings or subscriptions as the list of its members in the order in which they came.
-use Rattle.std.specs.Prelude.{ℕ, ◌+◌, ◌/◌, ◌%◌, ◌==◌, ◌&&◌, not, nat_lt, nat_le, Bool, true, false, if◌then◌else◌, List, [], ◌∷◌, ◌++◌, Option, Some, None, unwrap_or, map, fold, filter, replicate}
+use Rattle.std.specs.Prelude.{ℕ, ◌+◌, ◌/◌, ◌%◌, ◌==◌, ◌&&◌, not, nat_lt, nat_le, Bool, true, false, if◌then◌else◌, List, [], ◌∷◌, ◌++◌, Some, None, unwrap_or, map, fold, filter, replicate}
 use Rattle.std.specs.List.{list_any}
 use Rattle.mesh_base.specs.declared.address.Address.{Address}
 use Rattle.mesh_base.specs.declared.iv_state.IvState.{IvState}

@@ -5,3 +5,5 @@ pub mod WorkedReports
 pub mod Pairs
 pub mod Config
 pub mod Entries
+pub mod Seals
+pub mod Uses

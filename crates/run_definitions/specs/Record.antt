@@ -1,5 +1,5 @@
 -- The record of a run: what is told of a node over all its lives.
-use Rattle.std.specs.Prelude.{ℕ, zero, suc, List, [], ◌∷◌, Option, Some, None, option_and_then}
+use Rattle.std.specs.Prelude.{ℕ, zero, suc, List, [], ◌∷◌, Option, option_and_then}
 use Rattle.std.specs.List.{slice_get, filter_map, flat_map}
 use Rattle.std.specs.Option.{option_map}
 use Rattle.mesh_types.specs.declared.history.Entry.{Entry}
