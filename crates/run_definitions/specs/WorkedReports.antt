@@ -90,13 +90,13 @@ two_requests = record {
 -- its report, where the lines of its jobs have these words at their ends
 abbrev pub request_lines : List ℕ → List ℕ → List ℕ
 request_lines first second = lines_text (
-  codes "life 1 12345678 n 12345678 000000"
-  ∷ codes "e 1 b0 1 raw planned"
-  ∷ codes "e 2 b0 2 raw planned"
-  ∷ (codes "s b0 1.1 ctl 12345678 000000 00 1201 fffd 034b50057e400000010000" ++ first)
-  ∷ (codes "s b0 2.1 ctl 12345678 000001 00 1201 fffd 034b50057e400000010000" ++ second)
-  ∷ codes "end"
-  ∷ [])
+    codes "life 1 12345678 n 12345678 000000"
+    ∷ codes "e 1 b0 1 raw planned"
+    ∷ codes "e 2 b0 2 raw planned"
+    ∷ (codes "s b0 1.1 ctl 12345678 000000 00 1201 fffd 034b50057e400000010000" ++ first)
+    ∷ (codes "s b0 2.1 ctl 12345678 000001 00 1201 fffd 034b50057e400000010000" ++ second)
+    ∷ codes "end"
+    ∷ [])
 
 -- A Poll is answered, and the answer is kept; a message of twelve octets goes out in two segments, and power is cut after the first.
 
@@ -131,7 +131,7 @@ abbrev pub cut_run : Run
 cut_run = record {
   lives = record {
     over = [];
-    life = record { opened = opened; entries = cut_entries; refills = 0; sends = [] ∷ cut_lines ∷ []; end = F.Cut 4 };
+    life = record { opened = opened; entries = cut_entries; refills = 0; sends = cut_lines ∷ []; end = F.Cut 4 };
   } ∷ record {
     over = [];
     life = record { opened = W.CutAtStart; entries = []; refills = 0; sends = []; end = F.Cut 0 };
@@ -144,24 +144,24 @@ cut_run = record {
 
 abbrev pub cut_text : List ℕ
 cut_text = lines_text (
-  codes "life 1 12345678 n 12345678 000000"
-  ∷ codes "e 1 b0 1 net control 0201 1201 12345678 000002 01 00"
-  ∷ codes "e 2 b0 2 kept kept"
-  ∷ codes "e 3 b0 3 send planned"
-  ∷ codes "e 4 b0 4 begin begun"
-  ∷ codes "s b1 1.1 ctl 12345678 000000 00 1201 0201 02001234567800"
-  ∷ codes "s b1 3.1 long 12345678 000001 07 1201 0003 dev 7f7f7f7f7f7f7f7f7f7f7f7f"
-  ∷ codes "s b1 4.1 seg 12345678 000001 07 1201 0003 0 1 000001"
-  ∷ codes "cut 4"
-  ∷ codes "life 2 cut"
-  ∷ codes "cut 0"
-  ∷ codes "life 3 wasreset"
-  ∷ [])
+    codes "life 1 12345678 n 12345678 000000"
+    ∷ codes "e 1 b0 1 net control 0201 1201 12345678 000002 01 00"
+    ∷ codes "e 2 b0 2 kept kept"
+    ∷ codes "e 3 b0 3 send planned"
+    ∷ codes "e 4 b0 4 begin begun"
+    ∷ codes "s b0 1.1 ctl 12345678 000000 00 1201 0201 02001234567800"
+    ∷ codes "s b0 3.1 long 12345678 000001 07 1201 0003 dev 7f7f7f7f7f7f7f7f7f7f7f7f"
+    ∷ codes "s b0 4.1 seg 12345678 000001 07 1201 0003 0 1 000001"
+    ∷ codes "cut 4"
+    ∷ codes "life 2 cut"
+    ∷ codes "cut 0"
+    ∷ codes "life 3 wasreset"
+    ∷ [])
 
 -- each record has its report
 pub record AreWorkedReports : Type 0 where
   pub requests : report_text two_requests false ≡ request_lines [] []
   pub requests_with_octets :
-    report_text two_requests true
-    ≡ request_lines (codes " 68ffb8a074aaf6aae44a1d1dab0fdb37ff526b2739840ee0f0de9af6") (codes " 68eca487516765b5e5bfdacbaf6cb7fb6bff871f035444ce83a670df")
+      report_text two_requests true
+      ≡ request_lines (codes " 68ffb8a074aaf6aae44a1d1dab0fdb37ff526b2739840ee0f0de9af6") (codes " 68eca487516765b5e5bfdacbaf6cb7fb6bff871f035444ce83a670df")
   pub cut : report_text cut_run false ≡ cut_text
