@@ -7,3 +7,5 @@ pub mod Config
 pub mod Entries
 pub mod Seals
 pub mod Uses
+pub mod Ranges
+pub mod History
