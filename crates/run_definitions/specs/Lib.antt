@@ -9,3 +9,4 @@ pub mod Seals
 pub mod Uses
 pub mod Ranges
 pub mod History
+pub mod Recovered
