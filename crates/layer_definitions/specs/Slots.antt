@@ -1,71 +1,74 @@
 -- The octets of the node's flash: slots, the headers of the two banks, and the slots that an image recovers. An image is the 65,536
--- octets of the chip as they are read after a power cut; erased octets are ff. Slots are counted from 0 over the whole chip, each of 32
--- octets. A bank is 1,024 slots: bank 0 begins at slot 0, bank 1 at slot 1,024. (The layout is this project's own.)
-use Rattle.std.specs.Prelude.{ℕ, zero, suc, ◌+◌, ◌-◌, ◌*◌, ◌%◌, ◌^◌, ◌==◌, ◌&&◌, nat_lt, Bool, true, false, if◌then◌else◌, List, [], ◌∷◌, ◌++◌, take, drop, replicate, slice_index, Option, Some, None}
-use Rattle.std.specs.Option.{option_map}
-use Rattle.cipher_definitions.specs.Octets.{four_octets, number_of}
+-- octets of the chip as they are read; erased octets are ff. (The layout is this project's own.)
+use Rattle.std.specs.Prelude.{ℕ, zero, suc, ◌+◌, ◌*◌, ◌-◌, ◌%◌, List, [], ◌∷◌, ◌++◌, slice_index, slice_range, replicate, ◌&&◌, ◌==◌, nat_lt, Bool, if◌then◌else◌, Option, Some, None, option_map, option_to_list}
+use Rattle.std.specs.Int.{to_be_bytes, w32}
 use Rattle.mesh_base.specs.declared.slot.Slot.{Slot}
 
--- the record in a slot: its kind, and 30 octets
-abbrev pub slot_at : List ℕ → ℕ → Slot
-slot_at image n = record { kind = slice_index image (32 * n); body = take 30 (drop (32 * n + 1) image) }
+-- Slots of 32 octets: a kind, 30 octets, and a gate. Slot number n of the flash lies from octet 32 n on; bank 0 has the slots 0 to 1,023
+-- and bank 1 the next 1,024.
 
--- A slot is gated where its last octet is 00. The gate is written after all else, so what a cut left of a slot isn't gated.
-abbrev pub is_gated : List ℕ → ℕ → Bool
-is_gated image n = slice_index image (32 * n + 31) == 0
+-- the 32 octets of a slot
+abbrev pub text_at : List ℕ → ℕ → List ℕ
+text_at content n = slice_range content (32 * n) (32 * n + 32)
 
--- The header of a bank is its first slot: kind f0, format 01, the generation, the complement of the generation, zeros.
+-- of an erased slot
+abbrev pub blank_text : List ℕ
+blank_text = replicate 32 255
 
--- the number of a bank's first slot
-abbrev pub first_slot : ℕ → ℕ
-first_slot bank = 1024 * bank
+-- a slot with this record, its gate open
+abbrev pub text_of : Slot → List ℕ
+text_of slot = (slot.kind ∷ slot.body) ++ 0 ∷ []
+
+abbrev pub gate_of : List ℕ → ℕ
+gate_of text = slice_index text 31
+
+-- what a text holds: only gate 00 counts
+abbrev pub gated : List ℕ → Option Slot
+gated text = if gate_of text == 0 then Some (record { kind = slice_index text 0; body = slice_range text 1 31 }) else None
+
+-- what the slots 1 to n of a bank hold, in order
+abbrev pub slots_to : List ℕ → ℕ → ℕ → List Slot
+slots_to content bank zero = []
+slots_to content bank (suc n) = slots_to content bank n ++ option_to_list (gated (text_at content (1024 * bank + suc n)))
+
+-- what a bank holds
+unfoldable pub slots_of : List ℕ → ℕ → List Slot
+slots_of content bank = slots_to content bank 1023
+
+-- Slot 0 of a bank is its header: kind f0, format 01, the generation in 4 octets and its complement in 4, zeros. Generations tell which
+-- bank counts.
+
+-- the number in 4 octets, the high one first
+abbrev pub number_at : List ℕ → ℕ → ℕ
+number_at text at = 16777216 * slice_index text at + 65536 * slice_index text (at + 1) + 256 * slice_index text (at + 2) + slice_index text (at + 3)
+
+abbrev pub generation_of : List ℕ → ℕ
+generation_of text = number_at text 2
+
+-- gate 00, format 01, and a true complement
+unfoldable pub is_sound : List ℕ → Bool
+is_sound text = (gate_of text == 0) && (slice_index text 1 == 1) && (number_at text 2 + number_at text 6 == 4294967295)
 
 abbrev pub header_of : ℕ → Slot
-header_of generation = record { kind = 0xf0; body = 1 ∷ four_octets generation ++ four_octets (2 ^ 32 - 1 - generation) ++ replicate 21 0 }
+header_of generation = record { kind = 240; body = 1 ∷ to_be_bytes w32 generation ++ to_be_bytes w32 (4294967295 - generation) ++ replicate 21 0 }
 
-abbrev pub generation_at : List ℕ → ℕ → ℕ
-generation_at image bank = number_of (take 4 (drop (32 * first_slot bank + 2) image))
+-- Of two sound headers the one counts whose generation is the other's plus one, modulo 2 ^ 32; where neither is, the greater, and bank 0
+-- where they are equal.
+abbrev pub newer : ℕ → ℕ → ℕ
+newer first second =
+    if second == (first + 1) % 4294967296 then 1
+    else (if first == (second + 1) % 4294967296 then 0
+    else (if nat_lt first second then 1 else 0))
 
-abbrev pub complement_at : List ℕ → ℕ → ℕ
-complement_at image bank = number_of (take 4 (drop (32 * first_slot bank + 6) image))
+-- the bank that counts, by the headers of both
+unfoldable pub counting_by : List ℕ → List ℕ → Option ℕ
+counting_by first second =
+    if is_sound first then (if is_sound second then Some (newer (generation_of first) (generation_of second)) else Some 0)
+    else (if is_sound second then Some 1 else None)
 
--- A header is sound where it is gated, has that kind and format, and its complement is true.
-unfoldable pub is_sound : List ℕ → ℕ → Bool
-is_sound image bank =
-    is_gated image (first_slot bank)
-    && slice_index image (32 * first_slot bank) == 0xf0
-    && slice_index image (32 * first_slot bank + 1) == 1
-    && generation_at image bank + complement_at image bank == 2 ^ 32 - 1
+abbrev pub counting : List ℕ → Option ℕ
+counting content = counting_by (text_at content 0) (text_at content 1024)
 
--- Of two banks with sound headers the one counts whose generation is the other's plus one, modulo 2^32; where neither is, the one with
--- the greater generation counts, and bank 0 where they are equal.
-abbrev pub newer_bank : ℕ → ℕ → ℕ
-newer_bank first second =
-    if second == (first + 1) % 2 ^ 32 then 1
-    else if first == (second + 1) % 2 ^ 32 then 0
-    else if nat_lt first second then 1
-    else 0
-
-abbrev pub counting_of : Bool → Bool → ℕ → ℕ → Option ℕ
-counting_of true true first second = Some (newer_bank first second)
-counting_of true false first second = Some 0
-counting_of false true first second = Some 1
-counting_of false false first second = None
-
--- the bank that counts, or none where no header is sound
-unfoldable pub counting : List ℕ → Option ℕ
-counting image = counting_of (is_sound image 0) (is_sound image 1) (generation_at image 0) (generation_at image 1)
-
--- the gated ones of so many slots from slot n on, in order
-abbrev pub gated_from : List ℕ → ℕ → ℕ → List Slot
-gated_from image n zero = []
-gated_from image n (suc more) =
-    if is_gated image n then slot_at image n ∷ gated_from image (n + 1) more else gated_from image (n + 1) more
-
--- the gated slots of a bank behind its header, in order
-unfoldable pub gated : List ℕ → ℕ → List Slot
-gated image bank = gated_from image (first_slot bank + 1) 1023
-
--- What an image recovers: the gated slots, in order, of the bank that counts; nothing where no header is sound.
-abbrev pub recovered_slots : List ℕ → Option (List Slot)
-recovered_slots image = option_map (gated image) (counting image)
+-- What an image recovers: the slots of the bank that counts, in order, and nothing where no header is sound.
+abbrev pub recovered : List ℕ → Option (List Slot)
+recovered content = option_map (slots_of content) (counting content)

@@ -1,7 +1,7 @@
 -- The text of a record in a slot, and the list of records that an image of the flash recovers. (The records are this project's own.)
 use Rattle.std.specs.Prelude.{◌≡◌, ℕ, ◌-◌, List, [], ◌∷◌, ◌++◌, length, replicate, map, Some, All, if◌then◌else◌}
 use Rattle.cipher_definitions.specs.Octets.{two_octets, three_octets, four_octets, octets_of}
-use Rattle.layer_definitions.specs.Slots.{recovered_slots}
+use Rattle.layer_definitions.specs.Slots.{recovered}
 use Rattle.mesh_base.specs.declared.slot.Slot.{Slot}
 use Rattle.mesh_types.specs.declared.records.StoreRecord.{StoreRecord}
 use Rattle.mesh_types.specs.declared.records.StoreRecord.TheVariants as R
@@ -27,5 +27,5 @@ record_text R.Reset = slot_of 10 []
 
 -- An image recovers these records: the slots that it recovers are their texts, and each has its fields in their ranges.
 pub record IsRecovered (image : List ℕ) (records : List StoreRecord) : Type 0 where
-  pub texts : recovered_slots image ≡ Some (map record_text records)
+  pub texts : recovered image ≡ Some (map record_text records)
   pub ranges : All IsInRange records
