@@ -9,3 +9,6 @@ pub mod Seals
 pub mod Uses
 pub mod Ranges
 pub mod History
+pub mod Layers
+pub mod Answers
+pub mod Readings
