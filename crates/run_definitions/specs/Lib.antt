@@ -12,3 +12,6 @@ pub mod History
 pub mod Layers
 pub mod Answers
 pub mod Readings
+pub mod Stores
+pub mod Jobs
+pub mod Handling
