@@ -15,3 +15,6 @@ pub mod Readings
 pub mod Stores
 pub mod Jobs
 pub mod Handling
+pub mod Lines
+pub mod Order
+pub mod RunOf
