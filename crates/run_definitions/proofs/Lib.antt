@@ -1,1 +1,6 @@
 pub mod WorkedReports
+pub mod Lists
+pub mod Pairs
+pub mod Rising
+pub mod Handled
+pub mod Accepting

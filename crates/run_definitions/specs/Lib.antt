@@ -18,3 +18,4 @@ pub mod Handling
 pub mod Lines
 pub mod Order
 pub mod RunOf
+pub mod Safety
