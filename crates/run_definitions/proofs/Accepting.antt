@@ -31,7 +31,7 @@ use Rattle.run_definitions.specs.Pairs.{is_expired, is_newer}
 use Rattle.run_definitions.specs.Readings.{Sees, sees_pdu, sees_beacon, sees_nothing, IsReading}
 use Rattle.run_definitions.specs.Uses.{accepted}
 
-some_is : {A : Type 0} {a b : A} → Some a ≡ Some b → a ≡ b
+pub some_is : {A : Type 0} {a b : A} → Some a ≡ Some b → a ≡ b
 some_is e = cc
 
 -- an answer that isn't one of an accepted message, or none
@@ -158,17 +158,17 @@ pdu_accepts layers past r low opening n e =
 
 -- Of all events only a PDU is answered so, and its IV Index is the known one or the one before.
 
-data Silent : Answer → Type 0 where
+pub data Silent : Answer → Type 0 where
   silent : {a : Answer} → accepted a ≡ None → Silent a
 
 silent_pick : (b : Bool) (x y : Answer) → Silent x → Silent y → Silent (cond b x y)
 silent_pick true x y h k = h
 silent_pick false x y h k = k
 
-nothing_accepted : (a : Answer) (n : Name) → Silent a → accepted a ≡ Some n → ⊥
+pub nothing_accepted : (a : Answer) (n : Name) → Silent a → accepted a ≡ Some n → ⊥
 nothing_accepted a n (silent h) e = cc
 
-reset_accepts : (b : Bool) (a : Answer) (n : Name) → accepted (cond b A.Reset a) ≡ Some n → accepted a ≡ Some n
+pub reset_accepts : (b : Bool) (a : Answer) (n : Name) → accepted (cond b A.Reset a) ≡ Some n → accepted a ≡ Some n
 reset_accepts true a n e = absurd cc
 reset_accepts false a n e = e
 
@@ -183,14 +183,14 @@ begin_silent layers past pair dst =
     (silent_pick (layers.is_befriended past dst) _ _ (silent refl)
     (silent_pick (leb 4 (layers.unacknowledged past)) _ _ (silent refl) (silent refl)))
 
-beacon_silent : (layers : Layers) (past : Past) (b : Option Beacon) → Silent (beacon_answer layers past (OfBeacon b))
+pub beacon_silent : (layers : Layers) (past : Past) (b : Option Beacon) → Silent (beacon_answer layers past (OfBeacon b))
 beacon_silent layers past None = silent refl
 beacon_silent layers past (Some b) = silent refl
 
-unless_silent : (past : Past) (a : Answer) → Silent a → Silent (unless_reset past a)
+pub unless_silent : (past : Past) (a : Answer) → Silent a → Silent (unless_reset past a)
 unless_silent past a h = silent_pick (config_before past).reset A.Reset a (silent refl) h
 
-nothing_silent : (layers : Layers) (past : Past) (event : Event) → Silent (answer_of layers past event OfNothing)
+pub nothing_silent : (layers : Layers) (past : Past) (event : Event) → Silent (answer_of layers past event OfNothing)
 unfolding answer_of
 nothing_silent layers past (E.Net octets) = unless_silent past A.Unread (silent refl)
 nothing_silent layers past (E.Bcn octets) = unless_silent past A.Unread (silent refl)

@@ -4,3 +4,4 @@ pub mod Pairs
 pub mod Rising
 pub mod Handled
 pub mod Accepting
+pub mod Names
