@@ -23,9 +23,9 @@ pub record Opening : Type 0 where
 -- What the octets of an event are read as. Of a network PDU: its reading; the lower transport PDU in that; and, where it completes an
 -- access message, how that opens. Of a beacon: the beacon. Where nothing reads there is none. Other events have no octets to be read.
 pub data Insight : Type 0 where
-  pdu : Option Reading → Option Lower → Option Opening → Insight
-  beacon : Option Beacon → Insight
-  plain : Insight
+  OfPdu : Option Reading → Option Lower → Option Opening → Insight
+  OfBeacon : Option Beacon → Insight
+  OfNothing : Insight
 
 -- an entry, with what its octets were read as, and the records of the store before its event
 pub record Told : Type 0 where

@@ -10,3 +10,13 @@ pub mod Uses
 pub mod Ranges
 pub mod History
 pub mod Recovered
+pub mod Layers
+pub mod Answers
+pub mod Readings
+pub mod Stores
+pub mod Jobs
+pub mod Handling
+pub mod Lines
+pub mod Order
+pub mod RunOf
+pub mod Safety
