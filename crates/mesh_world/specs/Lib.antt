@@ -1,0 +1,4 @@
+pub mod Nonce
+pub mod Pairs
+pub mod World
+pub mod Good

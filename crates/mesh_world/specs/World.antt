@@ -1,0 +1,134 @@
+-- The world of steps: what a node has of its numbers, its nonces and its messages, and the nine steps that change it. It knows nothing
+-- of threads, of flash or of any code.
+use Rattle.std.specs.Prelude.{◌≡◌, ℕ, ◌+◌, ◌*◌, ◌^◌, ◌<◌, ◌≤◌, ◌⊎◌, ◌==◌, max, if◌then◌else◌, List, [], ◌∷◌, ◌++◌, map, All, Contains, Option, Some, None, IfSome, IsSomeAnd, ⊤}
+use Rattle.mesh_base.specs.declared.address.Address.{Address}
+use Rattle.mesh_base.specs.declared.pair.Pair.{Pair}
+use Rattle.mesh_base.specs.declared.pair.Name.{Name}
+use Rattle.mesh_world.specs.Pairs.{word, pair_of, IsPair, IsNewer, IsExpired}
+use Rattle.mesh_world.specs.Nonce.{network_nonce, access_nonce}
+
+-- one seal by AES-CCM: under this key and nonce, this plaintext
+pub record Use : Type 0 where
+  pub key : List ℕ
+  pub nonce : List ℕ
+  pub plain : List ℕ
+
+-- which layer seals: the network layer under a network nonce, or the upper transport layer under an application or a device nonce
+pub data Layer : Type 0 where
+  Network : Layer
+  Upper : Layer
+
+-- a use by this layer with this pair in its nonce
+pub record Sealing : Type 0 where
+  pub layer : Layer
+  pub pair : Pair
+  pub made : Use
+
+-- the nonce is one of the layer with this pair (Mesh Profile 1.0.1, sections 3.8.5.1 to 3.8.5.3), of any other fields
+abbrev pub HasNonce : Layer → Pair → List ℕ → Type 0
+HasNonce Network p nonce = (ctl_ttl src : ℕ) × (nonce ≡ network_nonce ctl_ttl p.seq src p.iv)
+HasNonce Upper p nonce =
+  (kind aszmic src dst : ℕ) × ((kind ≡ 1) ⊎ (kind ≡ 2)) × (nonce ≡ access_nonce kind aszmic p.seq src dst p.iv)
+
+pub record World : Type 0 where
+  -- the word of the next pair to be drawn
+  pub next : ℕ
+  -- the word up to which pairs may be drawn
+  pub mark : ℕ
+  -- the durable mark: the word from which the node goes on after a power cut
+  pub kept : ℕ
+  -- all pairs ever drawn, and those drawn since power came on
+  pub drawn : List Pair
+  pub held : List Pair
+  -- all seals ever made with own pairs
+  pub seals : List Sealing
+  -- the known IV Index
+  pub current : ℕ
+  -- the replay list: the entry of each source, if it has one
+  pub entry : Address → Option Pair
+  -- the message that was accepted and is not yet delivered, if there is one
+  pub pending : Option Name
+  -- all messages ever delivered
+  pub delivered : List Name
+
+abbrev pub uses : World → List Use
+uses w = map (λ s. s.made) w.seals
+
+pub data WorldStep : Type 0 where
+  -- the next pair is drawn
+  Draw : WorldStep
+  -- a seal is made
+  Seal : (sealing : Sealing) → WorldStep
+  -- a known IV Index and a mark become durable
+  Reserve : (current mark : ℕ) → WorldStep
+  -- the mark rises
+  Publish : (mark : ℕ) → WorldStep
+  -- drawing goes on under this IV Index
+  Advance : (iv : ℕ) → WorldStep
+  -- a message is accepted: its pair is durable in the replay list
+  Accept : (name : Name) → WorldStep
+  -- the expired entry of a source goes
+  Expire : (src : Address) → WorldStep
+  -- the accepted message is delivered
+  Deliver : (name : Name) → WorldStep
+  -- power fails and comes back, with this durable mark
+  Cut : (mark : ℕ) → WorldStep
+
+-- the seal uses this layer and this pair
+abbrev pub IsOf : Layer → Pair → Sealing → Type 0
+IsOf layer p s = (s.layer ≡ layer) × (s.pair ≡ p)
+
+-- the step may be taken in this world
+abbrev pub IsAllowed : World → WorldStep → Type 0
+IsAllowed w Draw = (w.next < w.mark) × IsPair (pair_of w.next)
+IsAllowed w (Seal s) = Contains w.held s.pair × All (λ other. IsOf s.layer s.pair other → ⊥) w.seals × HasNonce s.layer s.pair s.made.nonce
+IsAllowed w (Reserve current mark) = (w.current ≤ current) × (w.kept ≤ mark)
+IsAllowed w (Publish mark) = (w.mark ≤ mark) × (mark ≤ w.kept)
+IsAllowed w (Advance iv) = iv * 2 ^ 25 ≤ w.mark
+IsAllowed w (Accept name) =
+  ((name.pair.iv ≡ w.current) ⊎ (name.pair.iv + 1 ≡ w.current)) × IfSome (w.entry name.src) (λ kept. IsExpired w.current kept ⊎ IsNewer name.pair kept)
+IsAllowed w (Expire src) = IsSomeAnd (w.entry src) (λ kept. IsExpired w.current kept)
+IsAllowed w (Deliver name) = w.pending ≡ Some name
+IsAllowed w (Cut mark) = w.kept ≤ mark
+
+-- the entries with another one for this source
+abbrev pub entries_with : (Address → Option Pair) → Address → Option Pair → Address → Option Pair
+entries_with entry src e other = if other.0 == src.0 then e else entry other
+
+-- the world after the step
+abbrev pub after : World → WorldStep → World
+after w Draw = record w { next = w.next + 1; drawn = w.drawn ++ pair_of w.next ∷ []; held = w.held ++ pair_of w.next ∷ [] }
+after w (Seal s) = record w { seals = w.seals ++ s ∷ [] }
+after w (Reserve current mark) = record w { current = current; kept = mark }
+after w (Publish mark) = record w { mark = mark }
+after w (Advance iv) = record w { next = max w.next (iv * 2 ^ 25) }
+after w (Accept name) = record w { entry = entries_with w.entry name.src (Some name.pair); pending = Some name }
+after w (Expire src) = record w { entry = entries_with w.entry src None }
+after w (Deliver name) = record w { pending = None; delivered = w.delivered ++ name ∷ [] }
+after w (Cut mark) = record w { next = mark; mark = mark; kept = mark; held = []; pending = None }
+
+-- each step may be taken where it stands
+abbrev pub AreAllowed : World → List WorldStep → Type 0
+AreAllowed w [] = ⊤
+AreAllowed w (s ∷ steps) = IsAllowed w s × AreAllowed (after w s) steps
+
+-- the world at the end of the steps
+abbrev pub after_all : World → List WorldStep → World
+after_all w [] = w
+after_all w (s ∷ steps) = after_all (after w s) steps
+
+-- The world after provisioning, under the known IV Index `current` and the IV Index `transmit` to send with: no pair is drawn yet, and
+-- the first pair under the IV Index to send with is next. A block of numbers is reserved before the first draw.
+abbrev pub provisioned : ℕ → ℕ → World
+provisioned current transmit = record {
+  next = transmit * 2 ^ 25;
+  mark = transmit * 2 ^ 25;
+  kept = transmit * 2 ^ 25;
+  drawn = [];
+  held = [];
+  seals = [];
+  current = current;
+  entry = λ src. None;
+  pending = None;
+  delivered = [];
+}
