@@ -1,14 +1,14 @@
 -- A nonce shows its layer and its pair, so a good world's seals have different nonces.
-use Rattle.std.proofs.Common.{◌≡◌, ◌≢◌, ℕ, ◌+◌, ◌*◌, ◌/◌, ◌%◌, ◌^◌, ◌<◌, ◌≤◌, ◌⊎◌, inl, inr, refl, sym, ◌∙◌, ap, subst, arith, Bool, true, false, nat_eq, List, [], ◌∷◌, ◌++◌, length, get_or, map}
-use Rattle.std.specs.List.{All, AllPairs, Contains}
+use Rattle.std.proofs.Common.{◌≡◌, ℕ, ◌+◌, ◌*◌, ◌/◌, ◌%◌, ◌^◌, ◌<◌, ◌⊎◌, refl, sym, ◌∙◌, ap, subst, arith, List, length, get_or}
+use Rattle.std.specs.List.{Contains}
 use Rattle.std.proofs.lemmas.List.{get_or-map, length-map}
 use Rattle.std.proofs.lemmas.List.Elements.{All-contains, Contains-get_or}
 use Rattle.mesh_base.specs.declared.pair.Pair.{Pair}
-use Rattle.mesh_world.specs.Nonce.{network_nonce, access_nonce}
 use Rattle.mesh_world.specs.Pairs.{IsPair}
-use Rattle.mesh_world.specs.World.{World, Layer, Sealing, Use, HasNonce, IsOf, uses}
+use Rattle.mesh_world.specs.World.{World, Layer, Sealing, HasNonce, IsOf, uses}
 use Rattle.mesh_world.specs.World.Layer.{Network, Upper}
-use Rattle.mesh_world.specs.Good.{Good, NoReuse}
+use Rattle.mesh_world.specs.Good.{IsGood}
+use Rattle.mesh_world.specs.Safety.{NoReuse, Use}
 
 -- the octets of a nonce at these places, as one number
 abbrev pub seq_in : List ℕ → ℕ
@@ -43,29 +43,31 @@ same_layer Upper Network p q n (kind, aszmic, src', dst, k, e') (ctl_ttl, src, e
 
 pub same_pair : (p q : Pair) → p.iv ≡ q.iv → p.seq ≡ q.seq → q ≡ p
 same_pair p q e f =
-  let with_iv = λ (n : ℕ). let r : Pair = record { iv = n; seq = q.seq } in r in
-  let with_seq = λ (n : ℕ). let r : Pair = record { iv = p.iv; seq = n } in r in
-  ap with_iv (sym e) ∙ ap with_seq (sym f)
+    let with_iv = λ (n : ℕ). let r : Pair = record { iv = n; seq = q.seq } in r in
+    let with_seq = λ (n : ℕ). let r : Pair = record { iv = p.iv; seq = n } in r in
+    ap with_iv (sym e) ∙ ap with_seq (sym f)
 
-module _ (w : World) (g : Good w) where
+module _ (w : World) (g : IsGood w) where
   -- two seals with one nonce would be of one layer and one pair
   apart : (s t : Sealing) → Contains w.seals s → Contains w.seals t → (IsOf s.layer s.pair t → ⊥) → s.made.nonce ≡ t.made.nonce → ⊥
   apart s t at_s at_t other e =
-    let fits_s = All-contains IsPair w.drawn s.pair g.drawn_pairs (All-contains (λ x. Contains w.drawn x.pair) w.seals s g.seals_drawn at_s) in
-    let fits_t = All-contains IsPair w.drawn t.pair g.drawn_pairs (All-contains (λ x. Contains w.drawn x.pair) w.seals t g.seals_drawn at_t) in
-    let has_s = All-contains (λ x. HasNonce x.layer x.pair x.made.nonce) w.seals s g.seals_nonce at_s in
-    let has_t = subst (HasNonce t.layer t.pair) (sym e) (All-contains (λ x. HasNonce x.layer x.pair x.made.nonce) w.seals t g.seals_nonce at_t) in
-    other (same_layer s.layer t.layer s.pair t.pair s.made.nonce has_s has_t,
-      same_pair s.pair t.pair
-        (sym (iv_told s.layer s.pair s.made.nonce fits_s has_s) ∙ iv_told t.layer t.pair s.made.nonce fits_t has_t)
-        (sym (seq_told s.layer s.pair s.made.nonce fits_s has_s) ∙ seq_told t.layer t.pair s.made.nonce fits_t has_t))
+      let fits_s = All-contains IsPair w.drawn s.pair g.drawn_pairs (All-contains (λ x. Contains w.drawn x.pair) w.seals s g.seals_drawn at_s) in
+      let fits_t = All-contains IsPair w.drawn t.pair g.drawn_pairs (All-contains (λ x. Contains w.drawn x.pair) w.seals t g.seals_drawn at_t) in
+      let has_s = All-contains (λ x. HasNonce x.layer x.pair x.made.nonce) w.seals s g.seals_nonce at_s in
+      let has_t = subst (HasNonce t.layer t.pair) (sym e) (All-contains (λ x. HasNonce x.layer x.pair x.made.nonce) w.seals t g.seals_nonce at_t) in
+      other (
+        same_layer s.layer t.layer s.pair t.pair s.made.nonce has_s has_t,
+        same_pair s.pair t.pair
+            (sym (iv_told s.layer s.pair s.made.nonce fits_s has_s) ∙ iv_told t.layer t.pair s.made.nonce fits_t has_t)
+            (sym (seq_told s.layer s.pair s.made.nonce fits_s has_s) ∙ seq_told t.layer t.pair s.made.nonce fits_t has_t),
+      )
 
   pub no_reuse : NoReuse (uses w)
   no_reuse i j d before within keys nonces =
-    let none : Sealing = record { layer = Network; pair = record { iv = 0; seq = 0 }; made = d } in
-    let j_within : j < length w.seals = omega (arith, length-map w.seals (λ s. s.made)) in
-    let i_within : i < length w.seals = omega arith in
-    let at_i = get_or-map (λ s. s.made) w.seals i none d i_within in
-    let at_j = get_or-map (λ s. s.made) w.seals j none d j_within in
-    absurd (apart (get_or w.seals i none) (get_or w.seals j none) (Contains-get_or w.seals i none i_within) (Contains-get_or w.seals j none j_within)
+      let none : Sealing = record { layer = Network; pair = record { iv = 0; seq = 0 }; made = d } in
+      let j_within : j < length w.seals = omega (arith, length-map w.seals (λ s. s.made)) in
+      let i_within : i < length w.seals = omega arith in
+      let at_i = get_or-map (λ s. s.made) w.seals i none d i_within in
+      let at_j = get_or-map (λ s. s.made) w.seals j none d j_within in
+      absurd (apart (get_or w.seals i none) (get_or w.seals j none) (Contains-get_or w.seals i none i_within) (Contains-get_or w.seals j none j_within)
       (g.seals_once i j none before j_within) (sym (ap (λ (u : Use). u.nonce) at_i) ∙ nonces ∙ ap (λ (u : Use). u.nonce) at_j))

@@ -1,5 +1,5 @@
 -- What an entry of the replay list spends, over plain variables.
-use Rattle.std.proofs.Common.{◌≡◌, ◌≢◌, ℕ, ◌+◌, ◌*◌, ◌/◌, ◌%◌, ◌^◌, ◌<◌, ◌≤◌, ◌⊎◌, inl, inr, refl, arith, Bool, true, false, nat_eq, cond, Option, Some, None, IfSome, ap, subst}
+use Rattle.std.proofs.Common.{◌≡◌, ℕ, ◌+◌, ◌≤◌, ◌⊎◌, inl, inr, refl, arith, Bool, true, false, nat_eq, cond, Option, Some, None, IfSome, ap, subst}
 use Rattle.std.specs.Option.{IsSomeAnd}
 use Rattle.std.proofs.lemmas.Bool.{eqb-true, eq-eqb}
 use Rattle.mesh_base.specs.declared.address.Address.{Address}
@@ -57,9 +57,9 @@ same_address a b e = ap (λ (n : ℕ). let s : Address = record { 0 = n } in s) 
 
 -- What was spent stays so where an entry is replaced by one that spends all that it spent.
 pub spent_replaced : (c : ℕ) (entry : Address → Option Pair) (src : Address) (e : Option Pair) (n : Name) → (IsSpentBy c n.pair (entry src) → IsSpentBy c n.pair e)
-  → IsSpentBy c n.pair (entry n.src) → IsSpentBy c n.pair (entries_with entry src e n.src)
+    → IsSpentBy c n.pair (entry n.src) → IsSpentBy c n.pair (entries_with entry src e n.src)
 spent_replaced c entry src e n f spent =
-  chosen (IsSpentBy c n.pair) (nat_eq n.src.0 src.0) e (entry n.src)
+    chosen (IsSpentBy c n.pair) (nat_eq n.src.0 src.0) e (entry n.src)
     (λ same. f (subst (λ (s : Address). IsSpentBy c n.pair (entry s)) (same_address n.src src (eqb-true n.src.0 src.0 same)) spent))
     (λ other. spent)
 

@@ -1,4 +1,6 @@
+pub mod Examples
+pub mod Good
 pub mod Nonce
 pub mod Pairs
+pub mod Safety
 pub mod World
-pub mod Good

@@ -1,56 +1,52 @@
--- The world of steps: what a node has of its numbers, its nonces and its messages, and the nine steps that change it. It knows nothing
--- of threads, of flash or of any code.
+-- The world of steps: what a node has of its numbers, its seals and its messages, and the nine steps that change it. It knows nothing of
+-- threads, of flash or of any code.
 use Rattle.std.specs.Prelude.{◌≡◌, ℕ, ◌+◌, ◌*◌, ◌^◌, ◌<◌, ◌≤◌, ◌⊎◌, ◌==◌, max, if◌then◌else◌, List, [], ◌∷◌, ◌++◌, map, All, Contains, Option, Some, None, IfSome, IsSomeAnd, ⊤}
 use Rattle.mesh_base.specs.declared.address.Address.{Address}
-use Rattle.mesh_base.specs.declared.pair.Pair.{Pair}
 use Rattle.mesh_base.specs.declared.pair.Name.{Name}
-use Rattle.mesh_world.specs.Pairs.{word, pair_of, IsPair, IsNewer, IsExpired}
+use Rattle.mesh_base.specs.declared.pair.Pair.{Pair}
 use Rattle.mesh_world.specs.Nonce.{network_nonce, access_nonce}
-
--- one seal by AES-CCM: under this key and nonce, this plaintext
-pub record Use : Type 0 where
-  pub key : List ℕ
-  pub nonce : List ℕ
-  pub plain : List ℕ
+use Rattle.mesh_world.specs.Pairs.{pair_of, IsPair, IsNewer, IsExpired}
+use Rattle.mesh_world.specs.Safety.{Use}
 
 -- which layer seals: the network layer under a network nonce, or the upper transport layer under an application or a device nonce
 pub data Layer : Type 0 where
   Network : Layer
   Upper : Layer
 
--- a use by this layer with this pair in its nonce
+-- a seal of this layer, for which this pair was drawn
 pub record Sealing : Type 0 where
   pub layer : Layer
   pub pair : Pair
   pub made : Use
 
--- the nonce is one of the layer with this pair (Mesh Profile 1.0.1, sections 3.8.5.1 to 3.8.5.3), of any other fields
+-- the nonce is one of the layer with this pair, whatever its other fields are (Mesh Profile 1.0.1, sections 3.8.5.1 to 3.8.5.3)
 abbrev pub HasNonce : Layer → Pair → List ℕ → Type 0
 HasNonce Network p nonce = (ctl_ttl src : ℕ) × (nonce ≡ network_nonce ctl_ttl p.seq src p.iv)
 HasNonce Upper p nonce =
-  (kind aszmic src dst : ℕ) × ((kind ≡ 1) ⊎ (kind ≡ 2)) × (nonce ≡ access_nonce kind aszmic p.seq src dst p.iv)
+    (kind aszmic src dst : ℕ) × ((kind ≡ 1) ⊎ (kind ≡ 2)) × (nonce ≡ access_nonce kind aszmic p.seq src dst p.iv)
 
 pub record World : Type 0 where
   -- the word of the next pair to be drawn
   pub next : ℕ
-  -- the word up to which pairs may be drawn
+  -- the mark: the word below which pairs are drawn
   pub mark : ℕ
   -- the durable mark: the word from which the node goes on after a power cut
   pub kept : ℕ
-  -- all pairs ever drawn, and those drawn since power came on
+  -- the pairs drawn ever, and those drawn since power came on
   pub drawn : List Pair
   pub held : List Pair
-  -- all seals ever made with own pairs
+  -- the seals made ever
   pub seals : List Sealing
   -- the known IV Index
   pub current : ℕ
-  -- the replay list: the entry of each source, if it has one
+  -- the replay list: the entry of each source that has one
   pub entry : Address → Option Pair
-  -- the message that was accepted and is not yet delivered, if there is one
+  -- the message that was accepted and not yet delivered, if there is one
   pub pending : Option Name
-  -- all messages ever delivered
+  -- the messages delivered ever
   pub delivered : List Name
 
+-- the uses of keys and nonces by all seals
 abbrev pub uses : World → List Use
 uses w = map (λ s. s.made) w.seals
 
@@ -65,33 +61,44 @@ pub data WorldStep : Type 0 where
   Publish : (mark : ℕ) → WorldStep
   -- drawing goes on under this IV Index
   Advance : (iv : ℕ) → WorldStep
-  -- a message is accepted: its pair is durable in the replay list
+  -- a message is accepted: its pair is durable as the entry of its source
   Accept : (name : Name) → WorldStep
-  -- the expired entry of a source goes
+  -- the expired entry of this source goes
   Expire : (src : Address) → WorldStep
   -- the accepted message is delivered
   Deliver : (name : Name) → WorldStep
-  -- power fails and comes back, with this durable mark
+  -- power is cut and comes back, over a flash that has this durable mark
   Cut : (mark : ℕ) → WorldStep
 
--- the seal uses this layer and this pair
+-- the seal is of this layer and has this pair
 abbrev pub IsOf : Layer → Pair → Sealing → Type 0
 IsOf layer p s = (s.layer ≡ layer) × (s.pair ≡ p)
+
+-- no seal of this layer has this pair
+abbrev pub IsUnused : Layer → Pair → List Sealing → Type 0
+IsUnused layer p seals = All (λ s. IsOf layer p s → ⊥) seals
+
+-- a PDU with this pair is read: its IV Index is the known one or the one before
+abbrev pub IsRead : World → Pair → Type 0
+IsRead w p = (p.iv ≡ w.current) ⊎ (p.iv + 1 ≡ w.current)
+
+-- the source has no entry, an expired one, or one that this name is above
+abbrev pub IsAboveEntry : World → Name → Type 0
+IsAboveEntry w name = IfSome (w.entry name.src) (λ kept. IsExpired w.current kept ⊎ IsNewer name.pair kept)
 
 -- the step may be taken in this world
 abbrev pub IsAllowed : World → WorldStep → Type 0
 IsAllowed w Draw = (w.next < w.mark) × IsPair (pair_of w.next)
-IsAllowed w (Seal s) = Contains w.held s.pair × All (λ other. IsOf s.layer s.pair other → ⊥) w.seals × HasNonce s.layer s.pair s.made.nonce
+IsAllowed w (Seal s) = Contains w.held s.pair × IsUnused s.layer s.pair w.seals × HasNonce s.layer s.pair s.made.nonce
 IsAllowed w (Reserve current mark) = (w.current ≤ current) × (w.kept ≤ mark)
 IsAllowed w (Publish mark) = (w.mark ≤ mark) × (mark ≤ w.kept)
 IsAllowed w (Advance iv) = iv * 2 ^ 25 ≤ w.mark
-IsAllowed w (Accept name) =
-  ((name.pair.iv ≡ w.current) ⊎ (name.pair.iv + 1 ≡ w.current)) × IfSome (w.entry name.src) (λ kept. IsExpired w.current kept ⊎ IsNewer name.pair kept)
+IsAllowed w (Accept name) = IsRead w name.pair × IsAboveEntry w name
 IsAllowed w (Expire src) = IsSomeAnd (w.entry src) (λ kept. IsExpired w.current kept)
 IsAllowed w (Deliver name) = w.pending ≡ Some name
 IsAllowed w (Cut mark) = w.kept ≤ mark
 
--- the entries with another one for this source
+-- the entries with this one for this source
 abbrev pub entries_with : (Address → Option Pair) → Address → Option Pair → Address → Option Pair
 entries_with entry src e other = if other.0 == src.0 then e else entry other
 
@@ -107,18 +114,18 @@ after w (Expire src) = record w { entry = entries_with w.entry src None }
 after w (Deliver name) = record w { pending = None; delivered = w.delivered ++ name ∷ [] }
 after w (Cut mark) = record w { next = mark; mark = mark; kept = mark; held = []; pending = None }
 
--- each step may be taken where it stands
+-- each of the steps may be taken where it stands
 abbrev pub AreAllowed : World → List WorldStep → Type 0
 AreAllowed w [] = ⊤
 AreAllowed w (s ∷ steps) = IsAllowed w s × AreAllowed (after w s) steps
 
--- the world at the end of the steps
+-- the world after all of the steps
 abbrev pub after_all : World → List WorldStep → World
 after_all w [] = w
 after_all w (s ∷ steps) = after_all (after w s) steps
 
--- The world after provisioning, under the known IV Index `current` and the IV Index `transmit` to send with: no pair is drawn yet, and
--- the first pair under the IV Index to send with is next. A block of numbers is reserved before the first draw.
+-- The world after provisioning, with the known IV Index `current` and the IV Index `transmit` to send with. The next pair is the first one
+-- of the IV Index to send with; nothing is reserved, drawn, sealed, accepted or delivered yet.
 abbrev pub provisioned : ℕ → ℕ → World
 provisioned current transmit = record {
   next = transmit * 2 ^ 25;
