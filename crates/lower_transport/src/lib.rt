@@ -4,12 +4,17 @@
 //! - `reading`: from octets to a PDU
 //! - `writing`: from a PDU to octets
 //! - `sequence`: SeqAuth
+//! - `laws`: a text has one reading
 #![tactic(auto)]
 
+mod laws;
 mod reading;
 mod sequence;
+#[cfg(test)]
+mod tests;
 mod writing;
 
+pub use laws::one_reading_law;
 pub use mesh_base::lower::Lower;
 pub use reading::{Malformed, read};
 pub use sequence::seq_auth;

@@ -29,7 +29,11 @@ fn key_of(first: u8) -> (bool, u8)
     ensures fits { IsKey result.0 result.1 }
     ensures bits { key_bits result.0 result.1 ≡ (if (first / 2 ^ 6 % 2) == 0 then 0 else first % 2 ^ 7) }
 {
-    if (first >> 6) & 1 == 1 { (true, first & 0x3f) } else { (false, 0) }
+    if (first >> 6) & 1 == 1 {
+        (true, first & 0x3f)
+    } else {
+        (false, 0)
+    }
 }
 
 /// The fields in the three octets of a segment's header.
@@ -59,7 +63,10 @@ fn segment_of<const N: usize>(rest: &[u8]) -> Result<(Header, Octets<N>), Malfor
     }
     let (front, back) = rest.split_at(3);
     let header = header_of(front);
-    if header.seg_o > header.seg_n || back.len() == 0 || (header.seg_o < header.seg_n && back.len() < N) {
+    if header.seg_o > header.seg_n
+        || back.len() == 0
+        || (header.seg_o < header.seg_n && back.len() < N)
+    {
         return Err(Malformed);
     }
     match Octets::of(back) {
@@ -105,8 +112,21 @@ fn read_access_part(first: u8, rest: &[u8]) -> Result<Lower, Malformed>
     let (akf, aid) = key_of(first);
     match segment_of(rest) {
         Ok((header, piece)) => {
-            let Header { szmic, seq_zero, seg_o, seg_n } = header;
-            Ok(Lower::AccessPart { akf, aid, szmic, seq_zero, seg_o, seg_n, piece })
+            let Header {
+                szmic,
+                seq_zero,
+                seg_o,
+                seg_n,
+            } = header;
+            Ok(Lower::AccessPart {
+                akf,
+                aid,
+                szmic,
+                seq_zero,
+                seg_o,
+                seg_n,
+                piece,
+            })
         }
         Err(_) => Err(Malformed),
     }
@@ -120,8 +140,19 @@ fn read_control_part(first: u8, rest: &[u8]) -> Result<Lower, Malformed>
 {
     match segment_of(rest) {
         Ok((header, piece)) => {
-            let Header { szmic: _, seq_zero, seg_o, seg_n } = header;
-            Ok(Lower::ControlPart { opcode: first & 0x7f, seq_zero, seg_o, seg_n, piece })
+            let Header {
+                szmic: _,
+                seq_zero,
+                seg_o,
+                seg_n,
+            } = header;
+            Ok(Lower::ControlPart {
+                opcode: first & 0x7f,
+                seq_zero,
+                seg_o,
+                seg_n,
+                piece,
+            })
         }
         Err(_) => Err(Malformed),
     }
@@ -133,7 +164,9 @@ pub fn read(ctl: bool, tpdu: &[u8]) -> Result<Lower, Malformed>
     ensures ok { IfOk result (Reads ctl tpdu.now) }
     ensures err { OnErr result ((l : Lower) → Reads ctl tpdu.now l → ⊥) }
 {
-    let [first, rest @ ..] = tpdu else { return Err(Malformed) };
+    let [first, rest @ ..] = tpdu else {
+        return Err(Malformed)
+    };
     let segmented = *first >= 0x80;
     match (ctl, segmented) {
         (false, false) => read_access(*first, rest),

@@ -50,11 +50,25 @@ pub fn write(l: &Lower) -> Octets<16>
             out.extend(&[*opcode]);
             out.extend(params.as_slice());
         }
-        Lower::AccessPart { akf, aid, szmic, seq_zero, seg_o, seg_n, piece } => {
+        Lower::AccessPart {
+            akf,
+            aid,
+            szmic,
+            seq_zero,
+            seg_o,
+            seg_n,
+            piece,
+        } => {
             out.extend(&segment_start(key_octet(*akf, *aid), *szmic, *seq_zero, *seg_o, *seg_n));
             out.extend(piece.as_slice());
         }
-        Lower::ControlPart { opcode, seq_zero, seg_o, seg_n, piece } => {
+        Lower::ControlPart {
+            opcode,
+            seq_zero,
+            seg_o,
+            seg_n,
+            piece,
+        } => {
             out.extend(&segment_start(*opcode, false, *seq_zero, *seg_o, *seg_n));
             out.extend(piece.as_slice());
         }
