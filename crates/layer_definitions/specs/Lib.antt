@@ -1,1 +1,5 @@
+pub mod Network
+pub mod Upper
+pub mod IvIndex
 pub mod Lower
+pub mod Beacon
