@@ -1,8 +1,11 @@
 -- A nonce shows its layer and its pair, so a good world's seals have different nonces.
-use Rattle.std.proofs.Common.{◌≡◌, ℕ, ◌+◌, ◌*◌, ◌/◌, ◌%◌, ◌^◌, ◌<◌, ◌⊎◌, refl, sym, ◌∙◌, ap, subst, arith, List, length, get_or}
+use Rattle.std.proofs.Common.{◌≡◌, ℕ, ◌+◌, ◌*◌, ◌/◌, ◌%◌, ◌^◌, ◌<◌, refl, sym, ◌∙◌, ap, subst, arith, List, length, get_or}
 use Rattle.std.specs.List.{Contains}
 use Rattle.std.proofs.lemmas.List.{get_or-map, length-map}
 use Rattle.std.proofs.lemmas.List.Elements.{All-contains, Contains-get_or}
+use Rattle.layer_definitions.specs.Upper.{nonce_type}
+use Rattle.mesh_base.specs.declared.keys.UpperKey.{UpperKey}
+use Rattle.mesh_base.specs.declared.keys.UpperKey.TheVariants.{App, Device}
 use Rattle.mesh_base.specs.declared.pair.Pair.{Pair}
 use Rattle.mesh_world.specs.Pairs.{IsPair}
 use Rattle.mesh_world.specs.World.{World, Layer, Sealing, HasNonce, IsOf, uses}
@@ -17,29 +20,36 @@ seq_in n = (get_or n 2 0 * 256 + get_or n 3 0) * 256 + get_or n 4 0
 abbrev pub iv_in : List ℕ → ℕ
 iv_in n = ((get_or n 9 0 * 256 + get_or n 10 0) * 256 + get_or n 11 0) * 256 + get_or n 12 0
 
-three_octets : (n : ℕ) → n < 2 ^ 24 → (n / 65536 % 256 * 256 + n / 256 % 256) * 256 + n % 256 ≡ n
-three_octets n h = omega arith
+abbrev seq_in_three : ℕ → ℕ
+seq_in_three n = (n / 65536 % 256 * 256 + n / 256 % 256) * 256 + n % 256
 
-four_octets : (n : ℕ) → n < 2 ^ 32 → ((n / 16777216 % 256 * 256 + n / 65536 % 256) * 256 + n / 256 % 256) * 256 + n % 256 ≡ n
-four_octets n h = omega arith
+abbrev iv_in_four : ℕ → ℕ
+iv_in_four n = ((n / 16777216 % 256 * 256 + n / 65536 % 256) * 256 + n / 256 % 256) * 256 + n % 256
+
+three_octets_told : (n : ℕ) → n < 2 ^ 24 → seq_in_three n ≡ n
+three_octets_told n h = omega arith
+
+four_octets_told : (n : ℕ) → n < 2 ^ 32 → iv_in_four n ≡ n
+four_octets_told n h = omega arith
 
 pub seq_told : (layer : Layer) (p : Pair) (n : List ℕ) → IsPair p → HasNonce layer p n → seq_in n ≡ p.seq
-seq_told Network p n h (ctl_ttl, src, e) = ap seq_in e ∙ three_octets p.seq h.1
-seq_told Upper p n h (kind, aszmic, src, dst, k, e) = ap seq_in e ∙ three_octets p.seq h.1
+seq_told Network p n h (f, iv, seq, e) = ap seq_in e ∙ ap seq_in_three seq ∙ three_octets_told p.seq h.1
+seq_told Upper p n h (key, f, pair, e) = ap seq_in e ∙ ap (λ (q : Pair). seq_in_three q.seq) pair ∙ three_octets_told p.seq h.1
 
 pub iv_told : (layer : Layer) (p : Pair) (n : List ℕ) → IsPair p → HasNonce layer p n → iv_in n ≡ p.iv
-iv_told Network p n h (ctl_ttl, src, e) = ap iv_in e ∙ four_octets p.iv h.0
-iv_told Upper p n h (kind, aszmic, src, dst, k, e) = ap iv_in e ∙ four_octets p.iv h.0
+iv_told Network p n h (f, iv, seq, e) = ap iv_in e ∙ ap iv_in_four iv ∙ four_octets_told p.iv h.0
+iv_told Upper p n h (key, f, pair, e) = ap iv_in e ∙ ap (λ (q : Pair). iv_in_four q.iv) pair ∙ four_octets_told p.iv h.0
 
-first_of_layer : Layer → ℕ → Type 0
-first_of_layer Network k = k ≡ 0
-first_of_layer Upper k = (k ≡ 1) ⊎ (k ≡ 2)
+-- the first octet of an upper nonce is its type, which is never that of a network nonce
+typed : (key : UpperKey) → 0 ≡ nonce_type key → ⊥
+typed (App index aid octets) e = omega arith
+typed (Device octets) e = omega arith
 
 pub same_layer : (a b : Layer) (p q : Pair) (n : List ℕ) → HasNonce a p n → HasNonce b q n → b ≡ a
 same_layer Network Network p q n x y = refl
 same_layer Upper Upper p q n x y = refl
-same_layer Network Upper p q n (ctl_ttl, src, e) (kind, aszmic, src', dst, k, e') = absurd (let at : 0 ≡ kind = ap (λ (l : List ℕ). get_or l 0 0) (sym e ∙ e') in grind arith)
-same_layer Upper Network p q n (kind, aszmic, src', dst, k, e') (ctl_ttl, src, e) = absurd (let at : 0 ≡ kind = ap (λ (l : List ℕ). get_or l 0 0) (sym e ∙ e') in grind arith)
+same_layer Network Upper p q n (f, iv, seq, e) (key, g, pair, e') = absurd (typed key (ap (λ (l : List ℕ). get_or l 0 0) (sym e ∙ e')))
+same_layer Upper Network p q n (key, g, pair, e') (f, iv, seq, e) = absurd (typed key (ap (λ (l : List ℕ). get_or l 0 0) (sym e ∙ e')))
 
 pub same_pair : (p q : Pair) → p.iv ≡ q.iv → p.seq ≡ q.seq → q ≡ p
 same_pair p q e f =

@@ -1,10 +1,14 @@
 -- Small worlds, which show that steps of every kind can be taken, and that conditions of the steps are needed.
-use Rattle.std.specs.Prelude.{◌+◌, ◌*◌, ◌^◌, List, [], ◌∷◌, ◌++◌}
+use Rattle.std.specs.Prelude.{◌+◌, ◌*◌, ◌^◌, false, None, List, [], ◌∷◌, ◌++◌}
+use Rattle.layer_definitions.specs.Network.{network_nonce}
+use Rattle.layer_definitions.specs.Upper.{upper_nonce}
 use Rattle.mesh_base.specs.declared.address.Address.{Address}
+use Rattle.mesh_base.specs.declared.fields.NetFields.{NetFields}
+use Rattle.mesh_base.specs.declared.keys.UpperKey.TheVariants.{Device}
 use Rattle.mesh_base.specs.declared.pair.Name.{Name}
 use Rattle.mesh_base.specs.declared.pair.Pair.{Pair}
+use Rattle.mesh_base.specs.declared.upper.UpperFields.{UpperFields}
 use Rattle.mesh_world.specs.Good.{IsGood}
-use Rattle.mesh_world.specs.Nonce.{network_nonce, access_nonce}
 use Rattle.mesh_world.specs.World.{after_all, AreAllowed, provisioned, Sealing, World, WorldStep}
 use Rattle.mesh_world.specs.World.Layer.{Network, Upper}
 use Rattle.mesh_world.specs.World.WorldStep.{Draw, Seal, Reserve, Publish, Advance, Accept, Expire, Deliver, Cut}
@@ -24,11 +28,18 @@ message = record { src = source; pair = record { iv = 4; seq = 0 } }
 abbrev pub first_pair : Pair
 first_pair = record { iv = 4; seq = 0 }
 
+abbrev pub network_fields : NetFields
+network_fields = record { iv = 4; ctl = false; ttl = 7; seq = 0; src = record { 0 = 2 }; dst = source; tpdu = [] }
+
 abbrev pub network_seal : Sealing
-network_seal = record { layer = Network; pair = first_pair; made = record { key = []; nonce = network_nonce 7 0 2 4; plain = [] } }
+network_seal = record { layer = Network; pair = first_pair; made = record { key = []; nonce = network_nonce network_fields; plain = [] } }
+
+abbrev pub upper_fields : UpperFields
+upper_fields = record { pair = first_pair; src = record { 0 = 2 }; dst = source; long_mic = false; label = None }
 
 abbrev pub upper_seal : Sealing
-upper_seal = record { layer = Upper; pair = first_pair; made = record { key = []; nonce = access_nonce 1 0 0 2 3 4; plain = [] } }
+upper_seal =
+    record { layer = Upper; pair = first_pair; made = record { key = []; nonce = upper_nonce (Device []) upper_fields; plain = [] } }
 
 -- a block of 256 pairs is reserved, and the first pair is drawn
 abbrev pub draw_one : List WorldStep

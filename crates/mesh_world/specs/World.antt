@@ -1,10 +1,14 @@
 -- The world of steps: what a node has of its numbers, its seals and its messages, and the nine steps that change it. It knows nothing of
 -- threads, of flash or of any code.
 use Rattle.std.specs.Prelude.{◌≡◌, ℕ, ◌+◌, ◌*◌, ◌^◌, ◌<◌, ◌≤◌, ◌⊎◌, ◌==◌, max, if◌then◌else◌, List, [], ◌∷◌, ◌++◌, map, All, Contains, Option, Some, None, IfSome, IsSomeAnd, ⊤}
+use Rattle.layer_definitions.specs.Network.{network_nonce}
+use Rattle.layer_definitions.specs.Upper.{upper_nonce}
 use Rattle.mesh_base.specs.declared.address.Address.{Address}
+use Rattle.mesh_base.specs.declared.fields.NetFields.{NetFields}
+use Rattle.mesh_base.specs.declared.keys.UpperKey.{UpperKey}
 use Rattle.mesh_base.specs.declared.pair.Name.{Name}
 use Rattle.mesh_base.specs.declared.pair.Pair.{Pair}
-use Rattle.mesh_world.specs.Nonce.{network_nonce, access_nonce}
+use Rattle.mesh_base.specs.declared.upper.UpperFields.{UpperFields}
 use Rattle.mesh_world.specs.Pairs.{pair_of, IsPair, IsNewer, IsExpired}
 use Rattle.mesh_world.specs.Safety.{Use}
 
@@ -19,11 +23,10 @@ pub record Sealing : Type 0 where
   pub pair : Pair
   pub made : Use
 
--- the nonce is one of the layer with this pair, whatever its other fields are (Mesh Profile 1.0.1, sections 3.8.5.1 to 3.8.5.3)
+-- the nonce is one of the layer with this pair, whatever the other fields are (Mesh Profile 1.0.1, sections 3.8.5.1 to 3.8.5.3)
 abbrev pub HasNonce : Layer → Pair → List ℕ → Type 0
-HasNonce Network p nonce = (ctl_ttl src : ℕ) × (nonce ≡ network_nonce ctl_ttl p.seq src p.iv)
-HasNonce Upper p nonce =
-    (kind aszmic src dst : ℕ) × ((kind ≡ 1) ⊎ (kind ≡ 2)) × (nonce ≡ access_nonce kind aszmic p.seq src dst p.iv)
+HasNonce Network p nonce = (f : NetFields) × (f.iv ≡ p.iv) × (f.seq ≡ p.seq) × (nonce ≡ network_nonce f)
+HasNonce Upper p nonce = (key : UpperKey) × (f : UpperFields) × (f.pair ≡ p) × (nonce ≡ upper_nonce key f)
 
 pub record World : Type 0 where
   -- the word of the next pair to be drawn

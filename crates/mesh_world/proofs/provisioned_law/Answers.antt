@@ -1,6 +1,7 @@
 use Rattle.std.proofs.Common.{◌≡◌, inl, refl, lit<, lit≤, []}
 use Rattle.std.proofs.lemmas.List.Elements.{All-cons, All-nil}
-use Rattle.mesh_world.specs.Examples.{first_pair, network_seal}
+use Rattle.mesh_base.specs.declared.keys.UpperKey.TheVariants.{Device}
+use Rattle.mesh_world.specs.Examples.{first_pair, network_fields, network_seal, upper_fields}
 use Rattle.mesh_world.specs.World.{IsOf, Sealing}
 use Rattle.mesh_world.specs.World.Layer.{Network, Upper}
 use Rattle.mesh_world.proofs.provisioned_law.Goals as goal
@@ -19,9 +20,9 @@ returns-clause-steps c =
         (
           (lit< tt, (lit< tt, lit< tt)),
           (
-            ((0, lit< tt, refl), All-nil of_network, (7, 2, refl)),
+            ((0, lit< tt, refl), All-nil of_network, (network_fields, refl, refl, refl)),
             (
-              ((0, lit< tt, refl), All-cons of_upper network_seal [] (λ e. other_layer e.0) (All-nil of_upper), (1, 0, 2, 3, inl refl, refl)),
+              ((0, lit< tt, refl), All-cons of_upper network_seal [] (λ e. other_layer e.0) (All-nil of_upper), (Device [], upper_fields, refl, refl)),
               ((inl refl, tt), (refl, ((lit≤ tt, lit≤ tt), (lit< tt, ((lit≤ tt, lit≤ tt), (lit≤ tt, (lit≤ tt, tt))))))),
             ),
           ),
