@@ -1,9 +1,9 @@
 //! From octets to a lower transport PDU.
 #![tactic(auto)]
 
-ghost use Rattle.std.specs.Prelude.{◌≡◌, ℕ, ◌+◌, ◌*◌, ◌/◌, ◌%◌, ◌^◌, ◌<◌, ◌≤◌, ◌==◌, if◌then◌else◌, Bool, false, true, List, ◌∷◌, ◌++◌, length, IfOk, OnErr};
+ghost use Rattle.std.specs.Prelude.{◌≡◌, ℕ, ◌+◌, ◌*◌, ◌/◌, ◌%◌, ◌^◌, ◌<◌, ◌≤◌, ◌==◌, if◌then◌else◌, Bool, false, true, List, ◌∷◌, ◌++◌, length, IfOk, IsFalse, OnErr};
 ghost use Rattle.mesh_base.specs.declared.lower.Lower.{Lower};
-ghost use Rattle.layer_definitions.specs.Lower.{IsKey, IsSegment, key_bits, Reads, segment_octets};
+ghost use Rattle.layer_definitions.specs.Lower.{akf_and_aid, IsPiece, ReadsLower, segmentation};
 
 use byteorder::{BigEndian, ByteOrder};
 use mesh_base::lower::Lower;
@@ -26,8 +26,9 @@ struct Header {
 
 /// AKF and AID of a first octet. AID isn't read with the device key.
 fn key_of(first: u8) -> (bool, u8)
-    ensures fits { IsKey result.0 result.1 }
-    ensures bits { key_bits result.0 result.1 ≡ (if (first / 2 ^ 6 % 2) == 0 then 0 else first % 2 ^ 7) }
+    ensures aid { result.1 < 2 ^ 6 }
+    ensures device { IsFalse result.0 → result.1 ≡ 0 }
+    ensures bits { akf_and_aid result.0 result.1 ≡ (if (first / 2 ^ 6 % 2) == 0 then 0 else first % 2 ^ 7) }
 {
     if (first >> 6) & 1 == 1 {
         (true, first & 0x3f)
@@ -42,7 +43,7 @@ fn header_of(octets: &[u8]) -> Header
     ensures seq_zero { result.seq_zero < 2 ^ 13 }
     ensures seg_o { result.seg_o < 2 ^ 5 }
     ensures seg_n { result.seg_n < 2 ^ 5 }
-    ensures octets { segment_octets result.szmic result.seq_zero result.seg_o result.seg_n ≡ octets.now }
+    ensures octets { segmentation result.szmic result.seq_zero result.seg_o result.seg_n ≡ octets.now }
 {
     let bits = BigEndian::read_u24(octets);
     Header {
@@ -55,18 +56,20 @@ fn header_of(octets: &[u8]) -> Header
 
 /// The header and the octets of a segment, of which there are N, but in the last one 1 to N.
 fn segment_of<const N: usize>(rest: &[u8]) -> Result<(Header, Octets<N>), Malformed>
-    ensures ok { IfOk result (λ s. (rest.now ≡ segment_octets s.0.szmic s.0.seq_zero s.0.seg_o s.0.seg_n ++ s.1) × IsSegment N s.0.seq_zero s.0.seg_o s.0.seg_n s.1) }
-    ensures err { OnErr result ((szmic : Bool) (seq_zero seg_o seg_n : ℕ) (piece : List ℕ) → IsSegment N seq_zero seg_o seg_n piece → rest.now ≡ segment_octets szmic seq_zero seg_o seg_n ++ piece → ⊥) }
+    ensures ok { IfOk result (λ s.
+        (rest.now ≡ segmentation s.0.szmic s.0.seq_zero s.0.seg_o s.0.seg_n ++ s.1)
+        × (s.0.seq_zero < 2 ^ 13) × (s.0.seg_n < 2 ^ 5) × IsPiece N s.0.seg_o s.0.seg_n s.1) }
+    ensures err { OnErr result ((szmic : Bool) (seq_zero seg_o seg_n : ℕ) (piece : List ℕ)
+        → rest.now ≡ segmentation szmic seq_zero seg_o seg_n ++ piece
+        → seq_zero < 2 ^ 13 → seg_n < 2 ^ 5 → IsPiece N seg_o seg_n piece → ⊥) }
 {
     if rest.len() < 3 {
         return Err(Malformed);
     }
     let (front, back) = rest.split_at(3);
     let header = header_of(front);
-    if header.seg_o > header.seg_n
-        || back.len() == 0
-        || (header.seg_o < header.seg_n && back.len() < N)
-    {
+    let is_last = header.seg_o == header.seg_n;
+    if header.seg_o > header.seg_n || back.len() == 0 || (back.len() < N && !is_last) {
         return Err(Malformed);
     }
     match Octets::of(back) {
@@ -76,10 +79,11 @@ fn segment_of<const N: usize>(rest: &[u8]) -> Result<(Header, Octets<N>), Malfor
 }
 
 /// An unsegmented access message: an upper transport PDU of 5 to 15 octets.
+#[tactic(auto, unfolding(layer_definitions::specs::Lower::lower_text))]
 fn read_access(first: u8, rest: &[u8]) -> Result<Lower, Malformed>
     requires { first < 2 ^ 7 }
-    ensures ok { IfOk result (Reads false (first ∷ rest.now)) }
-    ensures err { OnErr result ((l : Lower) → Reads false (first ∷ rest.now) l → ⊥) }
+    ensures ok { IfOk result (ReadsLower false (first ∷ rest.now)) }
+    ensures err { OnErr result ((l : Lower) → ReadsLower false (first ∷ rest.now) l → ⊥) }
 {
     if rest.len() < 5 {
         return Err(Malformed);
@@ -92,10 +96,11 @@ fn read_access(first: u8, rest: &[u8]) -> Result<Lower, Malformed>
 }
 
 /// An unsegmented control message: up to 11 octets of parameters.
+#[tactic(auto, unfolding(layer_definitions::specs::Lower::lower_text))]
 fn read_control(opcode: u8, rest: &[u8]) -> Result<Lower, Malformed>
     requires { opcode < 2 ^ 7 }
-    ensures ok { IfOk result (Reads true (opcode ∷ rest.now)) }
-    ensures err { OnErr result ((l : Lower) → Reads true (opcode ∷ rest.now) l → ⊥) }
+    ensures ok { IfOk result (ReadsLower true (opcode ∷ rest.now)) }
+    ensures err { OnErr result ((l : Lower) → ReadsLower true (opcode ∷ rest.now) l → ⊥) }
 {
     match Octets::of(rest) {
         Ok(params) => Ok(Lower::Control { opcode, params }),
@@ -104,10 +109,11 @@ fn read_control(opcode: u8, rest: &[u8]) -> Result<Lower, Malformed>
 }
 
 /// A segment of an access message.
+#[tactic(auto, unfolding(layer_definitions::specs::Lower::lower_text))]
 fn read_access_part(first: u8, rest: &[u8]) -> Result<Lower, Malformed>
     requires { 2 ^ 7 ≤ first }
-    ensures ok { IfOk result (Reads false (first ∷ rest.now)) }
-    ensures err { OnErr result ((l : Lower) → Reads false (first ∷ rest.now) l → ⊥) }
+    ensures ok { IfOk result (ReadsLower false (first ∷ rest.now)) }
+    ensures err { OnErr result ((l : Lower) → ReadsLower false (first ∷ rest.now) l → ⊥) }
 {
     let (akf, aid) = key_of(first);
     match segment_of(rest) {
@@ -133,10 +139,11 @@ fn read_access_part(first: u8, rest: &[u8]) -> Result<Lower, Malformed>
 }
 
 /// A segment of a control message. The bit before SeqZero is reserved.
+#[tactic(auto, unfolding(layer_definitions::specs::Lower::lower_text))]
 fn read_control_part(first: u8, rest: &[u8]) -> Result<Lower, Malformed>
     requires { 2 ^ 7 ≤ first }
-    ensures ok { IfOk result (Reads true (first ∷ rest.now)) }
-    ensures err { OnErr result ((l : Lower) → Reads true (first ∷ rest.now) l → ⊥) }
+    ensures ok { IfOk result (ReadsLower true (first ∷ rest.now)) }
+    ensures err { OnErr result ((l : Lower) → ReadsLower true (first ∷ rest.now) l → ⊥) }
 {
     match segment_of(rest) {
         Ok((header, piece)) => {
@@ -160,9 +167,10 @@ fn read_control_part(first: u8, rest: &[u8]) -> Result<Lower, Malformed>
 
 /// The lower transport PDU in the transport PDU of a network PDU with this CTL. `Malformed` exactly where no PDU has these octets: reserved
 /// bits, and AID with the device key, are read as anything.
+#[tactic(auto, unfolding(layer_definitions::specs::Lower::lower_text))]
 pub fn read(ctl: bool, tpdu: &[u8]) -> Result<Lower, Malformed>
-    ensures ok { IfOk result (Reads ctl tpdu.now) }
-    ensures err { OnErr result ((l : Lower) → Reads ctl tpdu.now l → ⊥) }
+    ensures ok { IfOk result (ReadsLower ctl tpdu.now) }
+    ensures err { OnErr result ((l : Lower) → ReadsLower ctl tpdu.now l → ⊥) }
 {
     let [first, rest @ ..] = tpdu else {
         return Err(Malformed)

@@ -2,7 +2,8 @@
 #![tactic(auto)]
 
 ghost use Rattle.std.specs.Prelude.{◌≡◌, ℕ, ◌%◌, ◌^◌, ◌≤◌, IfNone, IfSome};
-ghost use Rattle.layer_definitions.specs.Lower.{IsSeqAuth};
+ghost use Rattle.layer_definitions.specs.Lower.{seq_auth as seq_auth_of};
+ghost use Rattle.lower_transport.specs.SeqAuth.{IsSeqAuth};
 
 use mesh_base::pair::Pair;
 
@@ -11,9 +12,10 @@ const COUNT: u32 = 0x2000;
 
 /// The pair of SeqAuth (section 3.5.3.1): the IV Index, and the greatest number at most SEQ whose low 13 bits are `seq_zero`. None exactly
 /// where there is no such number.
+#[tactic(auto, unfolding(layer_definitions::specs::Lower::seq_auth))]
 pub fn seq_auth(pair: Pair, seq_zero: u16) -> Option<Pair>
-    ensures iv { IfSome result (λ p. p.iv ≡ pair.iv) }
-    ensures some { IfSome result (λ p. IsSeqAuth pair.seq seq_zero p.seq) }
+    ensures value { result ≡ seq_auth_of pair seq_zero }
+    ensures some { IfSome result (λ p. (p.iv ≡ pair.iv) × IsSeqAuth pair.seq seq_zero p.seq) }
     ensures none { IfNone result ((n : ℕ) → n ≤ pair.seq → n % 2 ^ 13 ≡ seq_zero → ⊥) }
 {
     let seq_zero = u32::from(seq_zero);

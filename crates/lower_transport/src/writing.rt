@@ -2,7 +2,7 @@
 #![tactic(auto)]
 
 ghost use Rattle.std.specs.Prelude.{◌≡◌, ◌+◌, ◌^◌, ◌<◌, ◌∷◌};
-ghost use Rattle.layer_definitions.specs.Lower.{Fits, IsKey, key_bits, lower_text, segment_octets};
+ghost use Rattle.layer_definitions.specs.Lower.{akf_and_aid, Fits, lower_text, segmentation};
 
 use byteorder::{BigEndian, ByteOrder};
 use mesh_base::lower::Lower;
@@ -10,9 +10,9 @@ use mesh_base::octets::Octets;
 
 /// AKF and AID in the low bits of a first octet.
 fn key_octet(akf: bool, aid: u8) -> u8
-    requires { IsKey akf aid }
+    requires { aid < 2 ^ 6 }
     ensures bound { result < 2 ^ 7 }
-    ensures value { result ≡ key_bits akf aid }
+    ensures value { result ≡ akf_and_aid akf aid }
 {
     if akf { 0x40 + aid } else { aid }
 }
@@ -23,7 +23,7 @@ fn segment_start(low: u8, szmic: bool, seq_zero: u16, seg_o: u8, seg_n: u8) -> [
     requires seq_zero { seq_zero < 2 ^ 13 }
     requires seg_o { seg_o < 2 ^ 5 }
     requires seg_n { seg_n < 2 ^ 5 }
-    ensures value { result ≡ (2 ^ 7 + low) ∷ segment_octets szmic seq_zero seg_o seg_n }
+    ensures value { result ≡ (2 ^ 7 + low) ∷ segmentation szmic seq_zero seg_o seg_n }
 {
     let szmic = if szmic { 1u32 << 23 } else { 0 };
     let bits = szmic + (u32::from(seq_zero) << 10) + (u32::from(seg_o) << 5) + u32::from(seg_n);
@@ -36,6 +36,7 @@ fn segment_start(low: u8, szmic: bool, seq_zero: u16, seg_o: u8, seg_n: u8) -> [
 /// The octets of a lower transport PDU, with 0 in the reserved bits.
 ///
 /// The fields of `l` are within their widths and ranges (section 3.5.2), as those of each PDU that was read are.
+#[tactic(auto, unfolding(layer_definitions::specs::Lower::lower_text))]
 pub fn write(l: &Lower) -> Octets<16>
     requires { Fits l.now }
     ensures value { result ≡ lower_text l.now }
