@@ -3,3 +3,4 @@ pub mod Upper
 pub mod IvIndex
 pub mod Lower
 pub mod Beacon
+pub mod KeyRefresh
