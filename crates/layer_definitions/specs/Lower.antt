@@ -1,5 +1,5 @@
 -- Lower transport PDUs (Mesh Profile 1.0.1). Section numbers are the profile's.
-use Rattle.std.specs.Prelude.{◌≡◌, ℕ, ◌+◌, ◌-◌, ◌*◌, ◌/◌, ◌%◌, ◌^◌, ◌<◌, ◌≤◌, ◌==◌, nat_le, Bool, true, false, IsFalse, if◌then◌else◌, List, [], ◌∷◌, ◌++◌, length, take, drop, Option, Some, None}
+use Rattle.std.specs.Prelude.{◌≡◌, ℕ, ◌+◌, ◌-◌, ◌*◌, ◌/◌, ◌%◌, ◌^◌, ◌<◌, ◌≤◌, ◌==◌, ◌&&◌, nat_le, nat_lt, Bool, true, false, IsFalse, if◌then◌else◌, List, [], ◌∷◌, ◌++◌, length, take, drop, Option, Some, None}
 use Rattle.cipher_definitions.specs.Octets.{two_octets, three_octets, four_octets}
 use Rattle.mesh_base.specs.declared.lower.Lower.{Lower}
 use Rattle.mesh_base.specs.declared.lower.Lower.TheVariants.{Access, Control, AccessPart, ControlPart}
@@ -64,7 +64,7 @@ pub record ReadsLower (ctl : Bool) (tpdu : List ℕ) (l : Lower) : Type 0 where
 -- SeqAuth of a segment with this pair: its IV Index with the greatest number up to SEQ whose low 13 bits are SeqZero, if there is one
 -- (3.5.3.1)
 unfoldable pub seq_auth : Pair → ℕ → Option Pair
-seq_auth p seq_zero = if nat_le seq_zero p.seq then Some (record { iv = p.iv; seq = p.seq - (p.seq - seq_zero) % 2 ^ 13 }) else None
+seq_auth p seq_zero = if nat_lt seq_zero (2 ^ 13) && nat_le seq_zero p.seq then Some (record { iv = p.iv; seq = p.seq - (p.seq - seq_zero) % 2 ^ 13 }) else None
 
 -- The segments of an access message's upper transport PDU, each of 12 octets but the last (3.5.3).
 
