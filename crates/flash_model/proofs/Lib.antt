@@ -1,0 +1,5 @@
+pub mod Began
+pub mod Bits
+pub mod Changed
+pub mod Mixed
+pub mod Moments
