@@ -26,7 +26,7 @@ reached_more None changes h = h
 reached_more (Some a) changes h =
     ⊎_elim
     (λ (more : nat_lt (a.changes + a.calls) changes ≡ true). let lt : a.changes + a.calls < changes = ltb-true _ _ more in
-        ⊎_elim (λ (low : changes < 4294967295). or_left (nat_lt (a.changes + a.calls) (min (changes + 1) 4294967295)) (min (changes + 1) 4294967295 == 4294967295) (lt-ltb _ _ (omega arith))) (λ (top : 4294967295 ≤ changes). or_right (nat_lt (a.changes + a.calls) (min (changes + 1) 4294967295)) (min (changes + 1) 4294967295 == 4294967295) (eq-eqb _ _ (omega arith))) (sides changes))
+    ⊎_elim (λ (low : changes < 4294967295). or_left (nat_lt (a.changes + a.calls) (min (changes + 1) 4294967295)) (min (changes + 1) 4294967295 == 4294967295) (lt-ltb _ _ (omega arith))) (λ (top : 4294967295 ≤ changes). or_right (nat_lt (a.changes + a.calls) (min (changes + 1) 4294967295)) (min (changes + 1) 4294967295 == 4294967295) (eq-eqb _ _ (omega arith))) (sides changes))
     (λ (top : (changes == 4294967295) ≡ true). let at : changes ≡ 4294967295 = eqb-true _ _ top in or_right (nat_lt (a.changes + a.calls) (min (changes + 1) 4294967295)) (min (changes + 1) 4294967295 == 4294967295) (eq-eqb _ _ (omega arith)))
     (or_true (nat_lt (a.changes + a.calls) changes) (changes == 4294967295) h)
   where
@@ -37,7 +37,7 @@ reached_now : (a : Armed) (changes : ℕ) → a.left ≡ 0 → is_ahead (Some a)
 reached_now a changes none h =
     ⊎_elim
     (λ (le : nat_le (a.changes + a.calls) (changes + a.left) ≡ true). let at : a.changes + a.calls ≤ changes + a.left = leb-true _ _ le in
-        ⊎_elim (λ (low : changes < 4294967295). or_left (nat_lt (a.changes + a.calls) (min (changes + 1) 4294967295)) (min (changes + 1) 4294967295 == 4294967295) (lt-ltb _ _ (omega arith))) (λ (top : 4294967295 ≤ changes). or_right (nat_lt (a.changes + a.calls) (min (changes + 1) 4294967295)) (min (changes + 1) 4294967295 == 4294967295) (eq-eqb _ _ (omega arith))) (sides changes))
+    ⊎_elim (λ (low : changes < 4294967295). or_left (nat_lt (a.changes + a.calls) (min (changes + 1) 4294967295)) (min (changes + 1) 4294967295 == 4294967295) (lt-ltb _ _ (omega arith))) (λ (top : 4294967295 ≤ changes). or_right (nat_lt (a.changes + a.calls) (min (changes + 1) 4294967295)) (min (changes + 1) 4294967295 == 4294967295) (eq-eqb _ _ (omega arith))) (sides changes))
     (λ (top : (changes == 4294967295) ≡ true). let at : changes ≡ 4294967295 = eqb-true _ _ top in or_right (nat_lt (a.changes + a.calls) (min (changes + 1) 4294967295)) (min (changes + 1) 4294967295 == 4294967295) (eq-eqb _ _ (omega arith)))
     (or_true (nat_le (a.changes + a.calls) (changes + a.left)) (changes == 4294967295) h)
   where
@@ -48,7 +48,7 @@ ahead_more : (a : Armed) (changes : ℕ) → is_ahead (Some a) changes ≡ true 
 ahead_more a changes h =
     ⊎_elim
     (λ (le : nat_le (a.changes + a.calls) (changes + a.left) ≡ true). let at : a.changes + a.calls ≤ changes + a.left = leb-true _ _ le in
-        ⊎_elim (λ (low : changes < 4294967295). or_left (nat_le (a.changes + a.calls) (min (changes + 1) 4294967295 + (a.left - 1))) (min (changes + 1) 4294967295 == 4294967295) (le-leb _ _ (omega arith))) (λ (top : 4294967295 ≤ changes). or_right (nat_le (a.changes + a.calls) (min (changes + 1) 4294967295 + (a.left - 1))) (min (changes + 1) 4294967295 == 4294967295) (eq-eqb _ _ (omega arith))) (sides changes))
+    ⊎_elim (λ (low : changes < 4294967295). or_left (nat_le (a.changes + a.calls) (min (changes + 1) 4294967295 + (a.left - 1))) (min (changes + 1) 4294967295 == 4294967295) (le-leb _ _ (omega arith))) (λ (top : 4294967295 ≤ changes). or_right (nat_le (a.changes + a.calls) (min (changes + 1) 4294967295 + (a.left - 1))) (min (changes + 1) 4294967295 == 4294967295) (eq-eqb _ _ (omega arith))) (sides changes))
     (λ (top : (changes == 4294967295) ≡ true). let at : changes ≡ 4294967295 = eqb-true _ _ top in or_right (nat_le (a.changes + a.calls) (min (changes + 1) 4294967295 + (a.left - 1))) (min (changes + 1) 4294967295 == 4294967295) (eq-eqb _ _ (omega arith)))
     (or_true (nat_le (a.changes + a.calls) (changes + a.left)) (changes == 4294967295) h)
   where

@@ -25,16 +25,19 @@ masked_lem mask old new m o = record {
   where
     each : (j : ℕ) → bit_at (bit_or (bit_and old (255 - mask)) (bit_and new mask)) j ≡ max (min (bit_at old j) (bit_at (255 - mask) j)) (min (bit_at new j) (bit_at mask j))
     each j = bit_at_or _ _ j ∙ (λ i. max (bit_at_and old (255 - mask) j i) (bit_at_and new mask j i))
+
     taken_low : (j : ℕ) → bit_at mask j ≡ 1 → j < 8 → bit_at (bit_or (bit_and old (255 - mask)) (bit_and new mask)) j ≡ bit_at new j
     taken_low j is low =
         let e = each j in
         let n : bit_at (255 - mask) j ≡ 1 - bit_at mask j = bit_at_not w8 mask j m low in
         omega (arith, e, n, is, bit_at-lt old j, bit_at-lt new j)
+
     kept_low : (j : ℕ) → bit_at mask j ≡ 0 → j < 8 → bit_at (bit_or (bit_and old (255 - mask)) (bit_and new mask)) j ≡ bit_at old j
     kept_low j is low =
         let e = each j in
         let n : bit_at (255 - mask) j ≡ 1 - bit_at mask j = bit_at_not w8 mask j m low in
         omega (arith, e, n, is, bit_at-lt old j, bit_at-lt new j)
+
     kept_high : (j : ℕ) → bit_at mask j ≡ 0 → 8 ≤ j → bit_at (bit_or (bit_and old (255 - mask)) (bit_and new mask)) j ≡ bit_at old j
     kept_high j is high = let e = each j in omega (arith, e, is, bit_at_above old 8 j o high)
 
@@ -62,8 +65,8 @@ octet_of_bits x none =
     let rest : x % 256 < 256 = omega arith in
     let split : x / 256 * 256 + x % 256 ≡ x = omega arith in
     let same : x ≡ x % 256 = same_from_bits x (x % 256) (λ j. ⊎_elim
-        (λ low. subst (λ (y : ℕ). bit_at y j ≡ bit_at (x % 256) j) split (bit_at_cat_low (x / 256) 8 (x % 256) j low))
-        (λ high. none j high ∙ sym (bit_at_above (x % 256) 8 j rest high)) (cases_8 j)) in
+    (λ low. subst (λ (y : ℕ). bit_at y j ≡ bit_at (x % 256) j) split (bit_at_cat_low (x / 256) 8 (x % 256) j low))
+    (λ high. none j high ∙ sym (bit_at_above (x % 256) 8 j rest high)) (cases_8 j)) in
     omega arith
 
 -- what lies between octets is an octet

@@ -1,5 +1,6 @@
 pub mod Began
 pub mod Bits
 pub mod Changed
+pub mod Leaves
 pub mod Mixed
 pub mod Moments

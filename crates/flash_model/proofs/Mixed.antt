@@ -82,13 +82,13 @@ one_more : (mask : ℕ) (old mid new octets : List ℕ) (p x b : ℕ) → IsMixe
 one_more mask old mid new octets p x b so within here others is = record {
   size = length-set octets p x ∙ so.size;
   each = λ o. ⊎_elim
-    (λ (e : o ≡ p). let lt : p < length octets = omega (arith, so.size) in
-        subst (λ (q : ℕ). IsMasked mask (get_or old q 0) (get_or new q 0) (get_or (set octets p x) q 0)) (sym e)
-        (subst (λ (y : ℕ). IsMasked mask (get_or old p 0) (get_or new p 0) y) (sym (get_or-set_same octets p x 0 lt))
-        (subst (λ (y : ℕ). IsMasked mask (get_or old p 0) y x) (sym here) is)))
-    (λ (n : o ≢ p). subst (λ (y : ℕ). IsMasked mask (get_or old o 0) (get_or new o 0) y) (sym (get_or-set_other octets p o x 0 n))
-        (subst (λ (y : ℕ). IsMasked mask (get_or old o 0) y (get_or octets o 0)) (sym (others o n)) (so.each o)))
-    (cases_eq o p);
+      (λ (e : o ≡ p). let lt : p < length octets = omega (arith, so.size) in
+      subst (λ (q : ℕ). IsMasked mask (get_or old q 0) (get_or new q 0) (get_or (set octets p x) q 0)) (sym e)
+      (subst (λ (y : ℕ). IsMasked mask (get_or old p 0) (get_or new p 0) y) (sym (get_or-set_same octets p x 0 lt))
+      (subst (λ (y : ℕ). IsMasked mask (get_or old p 0) y x) (sym here) is)))
+      (λ (n : o ≢ p). subst (λ (y : ℕ). IsMasked mask (get_or old o 0) (get_or new o 0) y) (sym (get_or-set_other octets p o x 0 n))
+      (subst (λ (y : ℕ). IsMasked mask (get_or old o 0) y (get_or octets o 0)) (sym (others o n)) (so.each o)))
+      (cases_eq o p);
 }
 
 -- an octet that is to stay so far
@@ -107,9 +107,9 @@ program_more mask at i bytes old octets x so lt fits is =
     let same = waits mask old (programmed at (take i bytes) old) octets (at + i) so (programmed_next at (take i bytes) old (at + i) place) in
     subst (λ (l : List ℕ). IsMixed mask old (programmed at l old) (set octets (at + i) x)) (sym (take_more bytes i 0 lt))
     (one_more mask old (programmed at (take i bytes) old) (programmed at (take i bytes ++ b ∷ []) old) octets (at + i) x (bit_and (get_or old (at + i) 0) b) so within
-        (programmed_last at (take i bytes) b old (at + i) place within)
-        (λ o n. programmed_other at (take i bytes) b old o (λ e. n (e ∙ sym place)))
-        (subst (λ (y : ℕ). IsMasked mask y (bit_and y b) x) same is))
+    (programmed_last at (take i bytes) b old (at + i) place within)
+    (λ o n. programmed_other at (take i bytes) b old o (λ e. n (e ∙ sym place)))
+    (subst (λ (y : ℕ). IsMasked mask y (bit_and y b) x) same is))
 
 pub blank_none : (mask at : ℕ) (old : List ℕ) → IsMixed mask old (blanked at 0 old) old
 blank_none mask at old = same_mixed mask old _ (blanked_none at old)
@@ -121,9 +121,9 @@ blank_more mask at i old octets x so within is =
     let step : i + 1 ≡ suc i = omega arith in
     subst (λ (n : ℕ). IsMixed mask old (blanked at n old) (set octets (at + i) x)) (sym step)
     (one_more mask old (blanked at i old) (blanked at (suc i) old) octets (at + i) x 255 so within
-        (blanked_last at i old (at + i) refl within)
-        (λ o n. blanked_other at i old o n)
-        (subst (λ (y : ℕ). IsMasked mask y 255 x) same is))
+    (blanked_last at i old (at + i) refl within)
+    (λ o n. blanked_other at i old o n)
+    (subst (λ (y : ℕ). IsMasked mask y 255 x) same is))
 
 -- ---- what it comes to
 pub mixed_torn : (mask : ℕ) (old new octets : List ℕ) → IsMixed mask old new octets → IsTorn old new octets

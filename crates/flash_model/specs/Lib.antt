@@ -4,3 +4,4 @@ pub mod Course
 pub mod Memory
 pub mod Octets
 pub mod Past
+pub mod Rewrite

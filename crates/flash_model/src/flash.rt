@@ -28,7 +28,7 @@ pub trait Flash {
     fn read(&mut self, at: u32, buf: &mut [u8]) -> Result<(), FlashFailed>
         requires within { at + length buf.old ≤ FLASH_OCTETS }
 
-        ensures octets { OnOk result (buf.new ≡ slice_range (chip self.old).now at (at + length buf.old)) }
+        ensures value { OnOk result (buf.new ≡ slice_range (chip self.old).now at (at + length buf.old)) }
         ensures stays { IsTrue (chip self.old).honest → Stays (chip self.old) (chip self.new) }
 
         // of every flash, honest or not

@@ -6,6 +6,10 @@ mod flash;
 mod memory;
 mod octets;
 mod past;
+mod rewriting;
+#[cfg(test)]
+mod tests;
 
 pub use flash::{Bench, FLASH_OCTETS, Flash, FlashFailed, SECTOR_OCTETS, SECTORS};
 pub use memory::{MemFlash, Memory};
+pub use rewriting::rewrite;

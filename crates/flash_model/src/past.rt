@@ -21,7 +21,9 @@ pub struct Past {
 
 /// What one call adds to the past, as the number that its step stores.
 pub const CHANGED: u64 = 0;
+
 pub const FAILED: u64 = 1;
+
 pub const CYCLED: u64 = 2;
 
 /// The table has one word, and no rule: its one seat does each step, a store for one more call.

@@ -14,7 +14,7 @@ invariant_of-self c =
     let arm = c.nearer-self.ensures in
     let changes = c.saturating_add-self.ensures in
     let is : c.note.new.self ≡ noted (call_of (course_of before.failed before.arm)) found before.past =
-        c.note.ensures ∙ ap (λ (k : ℕ). noted k found before.past) (c.noted_as.ensures ∙ ap call_of c.next_course-course.ensures) in
+    c.note.ensures ∙ ap (λ (k : ℕ). noted k found before.past) (c.noted_as.ensures ∙ ap call_of c.next_course-course.ensures) in
     let fails : c.fails-self.result ≡ is_failing (course_of before.failed before.arm) = c.fails-self.ensures ∙ ap is_failing c.next_course-course.ensures in
     record {
       content = before.content;

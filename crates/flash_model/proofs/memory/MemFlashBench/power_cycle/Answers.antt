@@ -18,4 +18,4 @@ invariant_of-self c =
 pub returns-clause-any_moment : goal.returns-clause-any_moment
 returns-clause-any_moment c honest =
     time_note c.args.self.now.past c.note.new.self c.args.self.now.octets.items c.args.self.now.octets.items c.args.self.now.changes 0 c.args.self.now.arm None
-        (ap (λ (p : Past). p.contents) c.note.ensures ∙ ap (λ (l : List ℕ). c.args.self.now.past.contents ++ l ∷ []) c.deref.ensures.value) (λ d. d ≡ c.args.self.now.octets.items) refl
+    (ap (λ (p : Past). p.contents) c.note.ensures ∙ ap (λ (l : List ℕ). c.args.self.now.past.contents ++ l ∷ []) c.deref.ensures.value) (λ d. d ≡ c.args.self.now.octets.items) refl

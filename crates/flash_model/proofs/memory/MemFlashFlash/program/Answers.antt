@@ -40,7 +40,7 @@ returns-in-Whole-clause-ok c honest =
     let change = programmed c.args.at c.args.bytes.now in
     let so = wrote 255 c.begin.new.self.octets.len change old c.begin.new.self.octets.items c.deref_mut.result.now c.program_octets.new.octets c.deref_mut.ensures.value (ap (λ v. v.items) c.begin.ensures.octets) c.deref_mut.ensures.len c.program_octets.ensures in
     done_note c.args.self.now.past c.begin.new.self.past old _ c.args.self.now.changes c.begin.new.self.changes c.args.self.now.arm c.begin.new.self.arm (ap (λ (p : Past). p.contents) c.begin.ensures.past) change
-        (mixed_whole old (change old) _ c.args.self.now.content (programmed_content _ _ _ c.args.self.now.content) so)
+    (mixed_whole old (change old) _ c.args.self.now.content (programmed_content _ _ _ c.args.self.now.content) so)
 
 pub returns-in-Whole-clause-any_moment : goal.returns-in-Whole-clause-any_moment
 returns-in-Whole-clause-any_moment c honest =
@@ -73,4 +73,4 @@ returns-in-Dead-clause-any_moment c honest =
     let old = c.args.self.now.octets.items in
     let change = programmed c.args.at c.args.bytes.now in
     cut_note c.args.self.now.past c.begin.new.self.past old c.begin.new.self.octets.items c.args.self.now.changes c.begin.new.self.changes c.args.self.now.arm c.begin.new.self.arm (ap (λ (p : Past). p.contents) c.begin.ensures.past) change
-        (subst (λ (l : List ℕ). IsTorn old (change old) l) (sym (ap (λ v. v.items) c.begin.ensures.octets)) (torn_none old (change old)))
+    (subst (λ (l : List ℕ). IsTorn old (change old) l) (sym (ap (λ v. v.items) c.begin.ensures.octets)) (torn_none old (change old)))

@@ -18,4 +18,4 @@ invariant_of-self c =
 pub returns-then-self-clause-stays : goal.returns-then-self-clause-stays
 returns-then-self-clause-stays c honest =
     stays_note c.args.self.now.past c.note.new.self c.args.self.now.octets.items c.args.self.now.octets.items c.args.self.now.changes c.args.self.now.changes c.args.self.now.arm c.args.self.now.arm
-        (ap (λ (p : Past). p.contents) c.note.ensures ∙ ap (λ (l : List ℕ). c.args.self.now.past.contents ++ l ∷ []) c.deref.ensures.value) refl
+    (ap (λ (p : Past). p.contents) c.note.ensures ∙ ap (λ (l : List ℕ). c.args.self.now.past.contents ++ l ∷ []) c.deref.ensures.value) refl
