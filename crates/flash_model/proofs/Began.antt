@@ -9,51 +9,62 @@ use Rattle.flash_model.specs.declared.past.Past.{Past}
 use Rattle.flash_model.specs.Course.{course_of, nearer_arm, is_failing, call_of, is_reached_by, is_ahead}
 use Rattle.flash_model.specs.Past.{noted}
 
-or_true : (a b : Bool) → (a || b) ≡ true → (a ≡ true) ⊎ (b ≡ true)
-or_true true b h = inl refl
-or_true false b h = inr h
+-- the tests of the arm as facts: `goal` calls counted is what it waits for
+passed : (goal n : ℕ) → (nat_lt goal n || n == 4294967295) ≡ true → (goal < n) ⊎ (n ≡ 4294967295)
+passed goal n h = by_test (nat_lt goal n) refl h
+  where
+    by_test : (b : Bool) → nat_lt goal n ≡ b → (b || n == 4294967295) ≡ true → (goal < n) ⊎ (n ≡ 4294967295)
+    by_test true is h = inl (ltb-true goal n is)
+    by_test false is h = inr (eqb-true n 4294967295 h)
 
-or_left : (a b : Bool) → a ≡ true → (a || b) ≡ true
-or_left true b h = refl
-or_left false b h = absurd (true≢false (sym h))
+is_passed : (goal n : ℕ) → (goal < n) ⊎ (n ≡ 4294967295) → (nat_lt goal n || n == 4294967295) ≡ true
+is_passed goal n (inl more) = ap (λ b. b || n == 4294967295) (lt-ltb goal n more)
+is_passed goal n (inr top) = by_test (nat_lt goal n)
+  where
+    by_test : (b : Bool) → (b || n == 4294967295) ≡ true
+    by_test true = refl
+    by_test false = eq-eqb n 4294967295 top
 
-or_right : (a b : Bool) → b ≡ true → (a || b) ≡ true
-or_right true b h = refl
-or_right false b h = h
+comes : (goal n left : ℕ) → (nat_le goal (n + left) || n == 4294967295) ≡ true → (goal ≤ n + left) ⊎ (n ≡ 4294967295)
+comes goal n left h = by_test (nat_le goal (n + left)) refl h
+  where
+    by_test : (b : Bool) → nat_le goal (n + left) ≡ b → (b || n == 4294967295) ≡ true → (goal ≤ n + left) ⊎ (n ≡ 4294967295)
+    by_test true is h = inl (leb-true goal (n + left) is)
+    by_test false is h = inr (eqb-true n 4294967295 h)
+
+will_come : (goal n left : ℕ) → (goal ≤ n + left) ⊎ (n ≡ 4294967295) → (nat_le goal (n + left) || n == 4294967295) ≡ true
+will_come goal n left (inl le) = ap (λ b. b || n == 4294967295) (le-leb goal (n + left) le)
+will_come goal n left (inr top) = by_test (nat_le goal (n + left))
+  where
+    by_test : (b : Bool) → (b || n == 4294967295) ≡ true
+    by_test true = refl
+    by_test false = eq-eqb n 4294967295 top
+
+-- one more counted, or the count stands at its end
+counted : (n : ℕ) → (min (n + 1) 4294967295 ≡ n + 1) ⊎ (min (n + 1) 4294967295 ≡ 4294967295)
+counted n = grind arith
 
 reached_more : (arm : Option Armed) (changes : ℕ) → is_reached_by arm changes ≡ true → is_reached_by (nearer_arm arm) (min (changes + 1) 4294967295) ≡ true
 reached_more None changes h = h
 reached_more (Some a) changes h =
-    ⊎_elim
-    (λ (more : nat_lt (a.changes + a.calls) changes ≡ true). let lt : a.changes + a.calls < changes = ltb-true _ _ more in
-    ⊎_elim (λ (low : changes < 4294967295). or_left (nat_lt (a.changes + a.calls) (min (changes + 1) 4294967295)) (min (changes + 1) 4294967295 == 4294967295) (lt-ltb _ _ (omega arith))) (λ (top : 4294967295 ≤ changes). or_right (nat_lt (a.changes + a.calls) (min (changes + 1) 4294967295)) (min (changes + 1) 4294967295 == 4294967295) (eq-eqb _ _ (omega arith))) (sides changes))
-    (λ (top : (changes == 4294967295) ≡ true). let at : changes ≡ 4294967295 = eqb-true _ _ top in or_right (nat_lt (a.changes + a.calls) (min (changes + 1) 4294967295)) (min (changes + 1) 4294967295 == 4294967295) (eq-eqb _ _ (omega arith)))
-    (or_true (nat_lt (a.changes + a.calls) changes) (changes == 4294967295) h)
-  where
-    sides : (n : ℕ) → (n < 4294967295) ⊎ (4294967295 ≤ n)
-    sides n = grind arith
+    is_passed (a.changes + a.calls) (min (changes + 1) 4294967295) (⊎_elim
+    (λ (e : min (changes + 1) 4294967295 ≡ changes + 1). ⊎_elim (λ (more : a.changes + a.calls < changes). inl (omega arith)) (λ (top : changes ≡ 4294967295). inr (omega arith)) (passed (a.changes + a.calls) changes h))
+    (λ top. inr top)
+    (counted changes))
 
 reached_now : (a : Armed) (changes : ℕ) → a.left ≡ 0 → is_ahead (Some a) changes ≡ true → is_reached_by (nearer_arm (Some a)) (min (changes + 1) 4294967295) ≡ true
 reached_now a changes none h =
-    ⊎_elim
-    (λ (le : nat_le (a.changes + a.calls) (changes + a.left) ≡ true). let at : a.changes + a.calls ≤ changes + a.left = leb-true _ _ le in
-    ⊎_elim (λ (low : changes < 4294967295). or_left (nat_lt (a.changes + a.calls) (min (changes + 1) 4294967295)) (min (changes + 1) 4294967295 == 4294967295) (lt-ltb _ _ (omega arith))) (λ (top : 4294967295 ≤ changes). or_right (nat_lt (a.changes + a.calls) (min (changes + 1) 4294967295)) (min (changes + 1) 4294967295 == 4294967295) (eq-eqb _ _ (omega arith))) (sides changes))
-    (λ (top : (changes == 4294967295) ≡ true). let at : changes ≡ 4294967295 = eqb-true _ _ top in or_right (nat_lt (a.changes + a.calls) (min (changes + 1) 4294967295)) (min (changes + 1) 4294967295 == 4294967295) (eq-eqb _ _ (omega arith)))
-    (or_true (nat_le (a.changes + a.calls) (changes + a.left)) (changes == 4294967295) h)
-  where
-    sides : (n : ℕ) → (n < 4294967295) ⊎ (4294967295 ≤ n)
-    sides n = grind arith
+    is_passed (a.changes + a.calls) (min (changes + 1) 4294967295) (⊎_elim
+    (λ (e : min (changes + 1) 4294967295 ≡ changes + 1). ⊎_elim (λ (le : a.changes + a.calls ≤ changes + a.left). inl (omega arith)) (λ (top : changes ≡ 4294967295). inr (omega arith)) (comes (a.changes + a.calls) changes a.left h))
+    (λ top. inr top)
+    (counted changes))
 
 ahead_more : (a : Armed) (changes : ℕ) → is_ahead (Some a) changes ≡ true → is_ahead (nearer_arm (Some a)) (min (changes + 1) 4294967295) ≡ true
 ahead_more a changes h =
-    ⊎_elim
-    (λ (le : nat_le (a.changes + a.calls) (changes + a.left) ≡ true). let at : a.changes + a.calls ≤ changes + a.left = leb-true _ _ le in
-    ⊎_elim (λ (low : changes < 4294967295). or_left (nat_le (a.changes + a.calls) (min (changes + 1) 4294967295 + (a.left - 1))) (min (changes + 1) 4294967295 == 4294967295) (le-leb _ _ (omega arith))) (λ (top : 4294967295 ≤ changes). or_right (nat_le (a.changes + a.calls) (min (changes + 1) 4294967295 + (a.left - 1))) (min (changes + 1) 4294967295 == 4294967295) (eq-eqb _ _ (omega arith))) (sides changes))
-    (λ (top : (changes == 4294967295) ≡ true). let at : changes ≡ 4294967295 = eqb-true _ _ top in or_right (nat_le (a.changes + a.calls) (min (changes + 1) 4294967295 + (a.left - 1))) (min (changes + 1) 4294967295 == 4294967295) (eq-eqb _ _ (omega arith)))
-    (or_true (nat_le (a.changes + a.calls) (changes + a.left)) (changes == 4294967295) h)
-  where
-    sides : (n : ℕ) → (n < 4294967295) ⊎ (4294967295 ≤ n)
-    sides n = grind arith
+    will_come (a.changes + a.calls) (min (changes + 1) 4294967295) (a.left - 1) (⊎_elim
+    (λ (e : min (changes + 1) 4294967295 ≡ changes + 1). ⊎_elim (λ (le : a.changes + a.calls ≤ changes + a.left). inl (omega arith)) (λ (top : changes ≡ 4294967295). inr (omega arith)) (comes (a.changes + a.calls) changes a.left h))
+    (λ top. inr top)
+    (counted changes))
 
 module _ (past : Past) (octets : List ℕ) (changes : ℕ) where
   pub began_whole : (failed : Bool) (arm : Option Armed) → (failed ≡ false → past.faults ≡ past.cycled)

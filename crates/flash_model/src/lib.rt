@@ -11,5 +11,5 @@ mod rewriting;
 mod tests;
 
 pub use flash::{Bench, FLASH_OCTETS, Flash, FlashFailed, SECTOR_OCTETS, SECTORS};
-pub use memory::{MemFlash, Memory};
+pub use memory::MemFlash;
 pub use rewriting::rewrite;

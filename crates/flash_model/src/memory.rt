@@ -12,20 +12,6 @@ use crate::flash::{Bench, FLASH_OCTETS, Flash, FlashFailed, SECTOR_OCTETS};
 use crate::octets::{blank_octets, program_octets};
 use crate::past::{CYCLED, FAILED, Recorder};
 use std::alloc::{AllocError, Global};
-use thiserror::Error;
-
-/// There was no memory.
-#[derive(Clone, Copy, Debug, PartialEq, Eq, Error)]
-#[error("out of memory")]
-pub struct Memory;
-
-impl From<AllocError> for Memory {
-    ghost from_gives = { λ _ e. e ≡ record {} };
-
-    fn from(_: AllocError) -> Self {
-        Memory
-    }
-}
 
 /// A flash in memory that power can be cut from. It fails by an arm alone, and takes memory only when it is made.
 #[derive(Drop)]
@@ -44,7 +30,7 @@ pub struct MemFlash {
 
 impl MemFlash {
     /// An erased flash.
-    pub fn new(alloc: Global) -> Result<Self, Memory>
+    pub fn new(alloc: Global) -> Result<Self, AllocError>
         ensures erased { IfOk result (λ m. (⟦<MemFlash as Flash>⟧.chip m).now ≡ replicate 65536 255) }
         ensures fresh { IfOk result (λ m. IsFresh (⟦<MemFlash as Flash>⟧.chip m)) }
         ensures sure { IfOk result (λ m. IsTrue (⟦<MemFlash as Flash>⟧.chip m).sure) }
