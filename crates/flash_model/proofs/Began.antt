@@ -1,10 +1,10 @@
 -- A program or erase call of a flash in memory is begun: what its fields say of faults and of the arm stays true.
-use Rattle.std.proofs.Common.{◌≡◌, ◌⊎◌, ℕ, zero, suc, ◌+◌, ◌-◌, ◌<◌, ◌≤◌, List, Bool, true, false, cond, Option, Some, None, refl, sym, ap, ◌∙◌, subst, inl, inr, ⊎_elim, arith, true≢false}
+use Rattle.std.proofs.Common.{◌≡◌, ◌⊎◌, ℕ, ◌+◌, ◌-◌, ◌<◌, ◌≤◌, List, Bool, true, false, cond, Option, Some, None, refl, sym, ap, subst, inl, inr, ⊎_elim, arith, true≢false}
 use Rattle.std.specs.Prelude.{nat_lt, nat_le, ◌==◌, ◌||◌, min}
 use Rattle.std.proofs.lemmas.Bool.{eqb-true, eq-eqb, lt-ltb, ltb-true, leb-true, le-leb}
 use Rattle.flash_model.specs.declared.armed.Armed.{Armed}
 use Rattle.flash_model.specs.declared.armed.Course.{Course}
-use Rattle.flash_model.specs.declared.armed.Course.TheVariants.{Whole, Torn, Dead}
+use Rattle.flash_model.specs.declared.armed.Course.TheVariants.{Whole, Torn}
 use Rattle.flash_model.specs.declared.past.Past.{Past}
 use Rattle.flash_model.specs.Course.{course_of, nearer_arm, is_failing, call_of, is_reached_by, is_ahead}
 use Rattle.flash_model.specs.Past.{noted}

@@ -1,5 +1,5 @@
 -- What a power cut leaves over several calls in a row: it begins, goes on, joins and weakens.
-use Rattle.std.proofs.Common.{◌≡◌, ◌⊎◌, ℕ, ◌≤◌, List, inl, inr, ⊎_elim, arith}
+use Rattle.std.proofs.Common.{◌⊎◌, ℕ, List, inl, inr, ⊎_elim, arith}
 use Rattle.flash_model.specs.Chip.{Chip, Elapses, LeavesOnly}
 
 -- what only_now says of a flash

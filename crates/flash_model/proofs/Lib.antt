@@ -4,3 +4,4 @@ pub mod Changed
 pub mod Leaves
 pub mod Mixed
 pub mod Moments
+pub mod Runs

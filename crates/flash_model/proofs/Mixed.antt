@@ -1,11 +1,11 @@
 -- Octets written one after another under a mask, and what that is for a cut and for a whole call.
-use Rattle.std.proofs.Common.{◌≡◌, ◌⊎◌, ◌≢◌, ℕ, zero, suc, ◌+◌, ◌*◌, ◌<◌, ◌≤◌, List, [], ◌∷◌, ◌++◌, length, get_or, take, set, replicate, length-take, refl, sym, ap, ◌∙◌, subst, inl, inr, ⊎_elim, arith}
+use Rattle.std.proofs.Common.{◌≡◌, ◌≢◌, ℕ, zero, suc, ◌+◌, ◌<◌, ◌≤◌, List, [], ◌∷◌, ◌++◌, length, get_or, take, set, replicate, length-take, refl, sym, ap, ◌∙◌, subst, inl, inr, ⊎_elim, arith}
 use Rattle.std.specs.Prelude.{bit_and}
 use Rattle.std.specs.Int.{bit_at}
 use Rattle.std.proofs.lemmas.Bool.{cases_eq}
 use Rattle.std.proofs.lemmas.List.{get_or-set_same, get_or-set_other, length-set, ext_get_or, take_more, length-replicate}
 use Rattle.std.proofs.lemmas.Nat.{and_le_l}
-use Rattle.flash_model.specs.Octets.{IsContent, IsMasked, IsMixed, IsTorn, IsBetween, programmed, blanked, erased}
+use Rattle.flash_model.specs.Octets.{IsContent, IsMasked, IsMixed, IsTorn, IsBetween, programmed, blanked}
 use Rattle.flash_model.proofs.Bits.{masked_same, masked_whole, masked_between, between_small, between_same}
 use Rattle.flash_model.proofs.Changed.{length-programmed, length-blanked}
 

@@ -1,15 +1,14 @@
 -- One call of a flash in memory: what it adds to the past, and what its images are.
-use Rattle.std.proofs.Common.{◌≡◌, ◌⊎◌, ℕ, zero, suc, ◌+◌, ◌-◌, ◌<◌, ◌≤◌, List, [], ◌∷◌, ◌++◌, length, drop, take, Bool, true, false, cond, Option, Some, None, Result, Ok, Err, refl, sym, ap, ◌∙◌, subst, inl, inr, ⊎_elim, arith, length-append, true≢false}
-use Rattle.std.specs.Prelude.{nat_lt, ◌==◌, option_map, min}
+use Rattle.std.proofs.Common.{◌≡◌, ◌⊎◌, ℕ, ◌-◌, ◌≤◌, List, [], ◌∷◌, ◌++◌, length, drop, take, Bool, true, false, cond, Option, Some, None, Err, refl, sym, ap, ◌∙◌, subst, inl, inr, ⊎_elim, arith, length-append}
+use Rattle.std.specs.Prelude.{nat_lt, ◌==◌, option_map}
 use Rattle.std.proofs.lemmas.Bool.{le-ltb}
 use Rattle.std.proofs.lemmas.Grind.{common_steps}
 use Rattle.std.proofs.lemmas.List.{drop-append-le}
 use Rattle.flash_model.specs.declared.armed.Armed.{Armed}
-use Rattle.flash_model.specs.declared.armed.Course.{Course}
-use Rattle.flash_model.specs.declared.armed.Course.TheVariants.{Whole, Torn, Dead}
+use Rattle.flash_model.specs.declared.armed.Course.TheVariants.{Whole, Torn}
 use Rattle.flash_model.specs.declared.past.Past.{Past}
 use Rattle.flash_model.specs.Octets.{IsContent, IsMixed, IsTorn}
-use Rattle.flash_model.specs.Chip.{Chip, Cut, Elapses, IsCut, IsDone, Stays}
+use Rattle.flash_model.specs.Chip.{Cut, Elapses, IsCut, IsDone, Stays}
 use Rattle.flash_model.specs.Arming.{Follows, mask_of}
 use Rattle.flash_model.specs.Course.{course_of, nearer_arm}
 use Rattle.flash_model.specs.Past.{HadBeen}

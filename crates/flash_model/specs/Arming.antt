@@ -1,7 +1,7 @@
 -- How a steady flash fails: at the call that an arm tears, and at each call from then on until the power cycle.
 use Rattle.std.specs.Prelude.{◌≡◌, ◌⊎◌, ℕ, ◌+◌, ◌-◌, ◌<◌, min, List, Bool, true, false, ◌==◌, nat_lt, Option, Some, None, Result, IsOk, IsErr, OnOk, IsTrue}
 use Rattle.flash_model.specs.Octets.{IsMixed}
-use Rattle.flash_model.specs.Chip.{Chip, Arm, Setting}
+use Rattle.flash_model.specs.Chip.{Chip, Arm}
 
 -- it has failed since the last power cycle
 abbrev pub is_cut : Chip → Bool

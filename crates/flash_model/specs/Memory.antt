@@ -1,6 +1,6 @@
 -- A flash in memory as a chip, and why it keeps the laws of one.
-use Rattle.std.specs.Prelude.{◌≡◌, ◌⊎◌, ℕ, zero, suc, ◌+◌, ◌<◌, ◌≤◌, List, [], ◌∷◌, length, drop, Bool, true, false, ◌||◌, ◌==◌, nat_lt, Option, Some, None, is_none, option_map, refl}
-use Rattle.std.proofs.Common.{inl, inr, sym, ap, subst, arith, true≢false}
+use Rattle.std.specs.Prelude.{◌≡◌, ◌⊎◌, ℕ, zero, suc, ◌<◌, List, [], ◌∷◌, length, drop, Bool, true, false, ◌||◌, ◌==◌, nat_lt, Option, Some, None, is_none, option_map, refl}
+use Rattle.std.proofs.Common.{inl, inr, sym, subst, arith, true≢false}
 use Rattle.std.proofs.lemmas.Bool.{eqb-true, ltb-true}
 use Rattle.flash_model.specs.declared.armed.Armed.{Armed}
 use Rattle.flash_model.specs.declared.past.Past.{Past}

@@ -1,4 +1,13 @@
 // The chip behind a journal, and the chip on a bench, where power can be cut within a call.
+//
+// Clearing: a program call only clears bits, and only of its range; an erase sets all bits, and only of its sector.
+// Tearing: power that fails within such a call leaves each bit of the range as it was or as it was to be. What it left is
+// stable: it reads the same until the next program or erase.
+// Durability: what a call that returned Ok wrote is there in every image from then on.
+// So a caller that writes a record with its gate still ff, and clears the gate in a call of its own, finds the record whole
+// or its gate not 00, wherever power failed.
+//
+// That a chip is such a flash is the premise `honest`; a flash in memory is proved to be one.
 ghost use Rattle.std.specs.Prelude.{◌≡◌, ℕ, ◌+◌, ◌*◌, ◌%◌, ◌<◌, ◌≤◌, List, length, false, slice_range, IsTrue, IsOk, OnOk, OnErr, None, Some};
 ghost use Rattle.flash_model.specs.Octets.{IsContent, programmed, erased};
 ghost use Rattle.flash_model.specs.Chip.{Chip, Elapses, IsCut, IsDone, IsFresh, Keeps, KeepsCount, Stays};

@@ -1,7 +1,6 @@
-use Rattle.std.proofs.Common.{◌≡◌, ◌<◌, ◌∙◌, ◌++◌, ◌∷◌, [], List, ℕ, ◌+◌, min, true, ap, sym, subst}
+use Rattle.std.proofs.Common.{◌≡◌, ◌<◌, ◌∙◌, ◌++◌, ◌∷◌, [], List, ℕ, ap, sym, subst}
 use Rattle.flash_model.specs.declared.past.Past.{Past}
-use Rattle.flash_model.specs.declared.armed.Course.{Course}
-use Rattle.flash_model.specs.Course.{call_of, is_failing, is_reached_by, is_ahead, course_of, nearer_arm}
+use Rattle.flash_model.specs.Course.{call_of, is_failing, course_of}
 use Rattle.flash_model.specs.Past.{noted}
 use Rattle.flash_model.proofs.Began.{began_whole, began_cut, began_ahead, next_reached, next_ahead}
 use Rattle.flash_model.proofs.Moments.{contents_more}

@@ -1,4 +1,4 @@
-use Rattle.std.proofs.Common.{◌≡◌, refl, ap, sym, subst, true≢false}
+use Rattle.std.proofs.Common.{◌≡◌, refl, sym, subst, true≢false}
 use Rattle.flash_model.specs.declared.past.Past.{Past}
 use Rattle.flash_model.specs.Past.{HadBeen}
 use Rattle.flash_model.proofs.Mixed.{blank_content}

@@ -1,10 +1,9 @@
-use Rattle.std.proofs.Common.{◌≡◌, ◌∙◌, ap, sym, refl, subst, List, ℕ, ◌*◌, arith}
+use Rattle.std.proofs.Common.{◌∙◌, ap, sym, subst, List, ℕ}
 use Rattle.flash_model.specs.declared.past.Past.{Past}
 use Rattle.flash_model.specs.declared.flash.FlashFailed.{FlashFailed}
-use Rattle.flash_model.specs.Octets.{IsContent, IsTorn, programmed, blanked, erased}
+use Rattle.flash_model.specs.Octets.{IsTorn, programmed}
 use Rattle.flash_model.specs.Memory.{left_of}
-use Rattle.flash_model.proofs.Mixed.{mixed_whole, mixed_torn, programmed_content, blanked_content, torn_content, torn_none}
-use Rattle.flash_model.proofs.Changed.{length-programmed, length-blanked}
+use Rattle.flash_model.proofs.Mixed.{mixed_whole, mixed_torn, programmed_content, torn_content, torn_none}
 use Rattle.flash_model.proofs.Moments.{wrote, done_note, cut_note, torn_follows, left_nearer}
 use Rattle.flash_model.proofs.memory.MemFlashFlash.program.Goals as goal
 

@@ -1,4 +1,4 @@
-use Rattle.std.proofs.Common.{◌≡◌, ◌<◌, ◌∙◌, ◌++◌, ◌∷◌, [], List, ℕ, ap, sym, refl, subst, arith, true≢false}
+use Rattle.std.proofs.Common.{◌<◌, ◌∙◌, ◌++◌, ◌∷◌, [], List, ℕ, ap, sym, refl, subst, arith, true≢false}
 use Rattle.flash_model.specs.declared.past.Past.{Past}
 use Rattle.flash_model.proofs.Moments.{contents_more, stays_note}
 use Rattle.flash_model.proofs.memory.MemFlashFlash.read.Goals as goal
