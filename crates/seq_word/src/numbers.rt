@@ -1,0 +1,231 @@
+//! The two words, with all calls.
+#![tactic(auto)]
+
+ghost use Rattle.std.specs.Prelude.{◌≡◌, ℕ, ◌+◌, ◌*◌, ◌^◌, ◌<◌, ◌≤◌, List, [], ◌∷◌, ◌++◌, All, IfOk, IfErr, OnErr};
+ghost use Rattle.seq_word.specs.Word.{word_of, seq_of, IsWord};
+ghost use Rattle.seq_word.specs.Rule.{times};
+ghost use Rattle.seq_word.specs.Seen.{DrawerView, Finds, HasCause, SameDrawn, LostTries, miss_of};
+
+use crate::closed::Closed;
+use crate::drawer::Drawer;
+use crate::keeper::Keeper;
+use crate::miss::{DrawStop, Miss};
+use crate::rule::{
+    Advances, COUNTER, Draws, MARK, Opening, Publishes, Seats, SeesMark, SeesNext, Words,
+};
+use crate::word::{SPENT_SEQ, WORDS_PER_IV, pair_of};
+use atomic_table::Table;
+use mesh_base::pair::Pair;
+use std::alloc::{AllocError, Global};
+use std::marker::Model;
+use std::snapshot::Snapshot;
+use std::sync::Wait;
+
+/// A counter of numbers to draw, and the mark that bounds them. Threads share it by `&`, and each steps with a seat of its own.
+///
+/// Between any two atomic steps both hold words, and the counter is at most the mark. The mark is the keeper's. Each word from
+/// the opening on and below the counter was drawn once, at one seat, or was passed over by an advance.
+#[derive(Drop)]
+pub struct Numbers {
+    table: Words,
+}
+
+impl Model for Numbers {
+    ghost use Rattle.std.specs.Prelude.{◌≡◌};
+    ghost use Rattle.seq_word.specs.Seen.{NumbersView};
+
+    ghost Value = { NumbersView };
+
+    ghost view = { λ n. record { which = n.table.shared.table_id; opened = n.table.shared.key.next } };
+
+    ghost invariant = { λ n. (n.table.shared.table_id.words ≡ 2) × (n.table.shared.table_id.slots ≡ 0) };
+}
+
+/// One look at both words.
+struct Look {
+    mark: u64,
+    next: u64,
+}
+
+impl Numbers {
+    /// The words with the counter at `next`, the keeper's seat, and a first seat that draws.
+    /// An error says that memory ran out.
+    pub fn start(
+        alloc: Global,
+        next: u64,
+        mark: u64,
+    ) -> Result<(Numbers, Keeper, Drawer), AllocError>
+        requires next_word { IsWord next }
+        requires mark_word { IsWord mark }
+        requires order { next ≤ mark }
+
+        ensures opened { IfOk result (λ t. t.0.opened ≡ next) }
+        ensures keeper { IfOk result (λ t. t.1 ≡ record { which = t.0.which; mark = mark; advances = [] }) }
+        ensures drawer { IfOk result (λ t. t.2 ≡ record { which = t.0.which; drawn = []; raised = []; noted = []; marks = []; nexts = [] }) }
+    {
+        let (table, mut seat) = Table::of_words(alloc, &[next, mark], &Opening { next, mark })?;
+        let drawer = Drawer {
+            seat: table.shared.split_seat::<Seats>(&mut seat),
+        };
+        Ok((Numbers { table }, Keeper { seat }, drawer))
+    }
+
+    /// Looks at the mark, and then at the counter.
+    fn look(&self, d: &mut Drawer) -> Look
+        requires made { d.old.which ≡ self.now.which }
+
+        ensures word { IsWord result.next }
+        ensures marks { d.new.marks ≡ d.old.marks ++ result.mark ∷ [] }
+        ensures nexts { d.new.nexts ≡ d.old.nexts ++ result.next ∷ [] }
+        ensures same { SameDrawn d.old d.new }
+    {
+        let mark = self.table.shared.load::<SeesMark>(&mut d.seat, MARK);
+        let next = self.table.shared.load::<SeesNext>(&mut d.seat, COUNTER);
+        Look { mark, next }
+    }
+
+    /// Draws the number that the counter gives, if no other seat comes between. One load of the mark, one of the counter, and
+    /// one compare-exchange. Where two causes hold, the miss is the first in the order of `Miss`.
+    pub fn try_draw(&self, d: &mut Drawer) -> Result<Pair, Miss>
+        requires made { d.old.which ≡ self.now.which }
+
+        ensures same { (d.new.which ≡ d.old.which) × (d.new.noted ≡ d.old.noted) }
+
+        ensures drawn { IfOk result (λ p. d.new.drawn ≡ d.old.drawn ++ word_of p ∷ []) }
+        ensures raised { IfOk result (λ p. d.new.raised ≡ d.old.raised ++ (word_of p + 1) ∷ []) }
+        ensures above { IfOk result (λ p. All (λ x. x < word_of p) d.old.drawn × All (λ x. x < word_of p) d.old.noted) }
+        ensures unspent { IfOk result (λ p. p.seq < 2 ^ 24) }
+        ensures found { IfOk result (λ p. Finds p d.old d.new) }
+
+        ensures err { OnErr result (SameDrawn d.old d.new) }
+        ensures cause { IfErr result (λ e. HasCause e d.old d.new) }
+    {
+        let Look { mark, next } = self.look(d);
+        let pair = pair_of(next);
+        if pair.seq == SPENT_SEQ {
+            return Err(Miss::Spent { iv: pair.iv });
+        }
+        if next >= mark {
+            return Err(Miss::Dry { next, mark });
+        }
+        let words = &self.table.shared;
+        let found = words.compare_exchange::<Draws>(&mut d.seat, COUNTER, next, next + 1);
+        if found != next {
+            return Err(Miss::Lost {
+                expected: next,
+                found,
+            });
+        }
+        Ok(pair)
+    }
+
+    /// Draws a number. It tries again as long as another seat comes between, and for no other cause.
+    pub fn draw(&self, rt: &impl Wait, d: &mut Drawer) -> Result<Pair, DrawStop>
+        requires made { d.old.which ≡ self.now.which }
+
+        ensures same { (d.new.which ≡ d.old.which) × (d.new.noted ≡ d.old.noted) }
+
+        ensures drawn { IfOk result (λ p. d.new.drawn ≡ d.old.drawn ++ word_of p ∷ []) }
+        ensures raised { IfOk result (λ p. d.new.raised ≡ d.old.raised ++ (word_of p + 1) ∷ []) }
+        ensures above { IfOk result (λ p. All (λ x. x < word_of p) d.old.drawn × All (λ x. x < word_of p) d.old.noted) }
+        ensures unspent { IfOk result (λ p. p.seq < 2 ^ 24) }
+        ensures found { IfOk result (λ p. (tries : List (ℕ × ℕ)) × (v : DrawerView) × LostTries tries d.old v × Finds p v d.new) }
+
+        ensures err { OnErr result (SameDrawn d.old d.new) }
+        ensures cause { IfErr result (λ e. (tries : List (ℕ × ℕ)) × (v : DrawerView) × LostTries tries d.old v × HasCause (miss_of e) v d.new) }
+    {
+        for _ in rt.forever() {
+            match self.try_draw(d) {
+                Ok(pair) => return Ok(pair),
+                Err(Miss::Spent { iv }) => return Err(DrawStop::Spent { iv }),
+                Err(Miss::Dry { next, mark }) => return Err(DrawStop::Dry { next, mark }),
+                Err(Miss::Lost { .. }) => {}
+            }
+        }
+        unreachable!()
+    }
+
+    /// Moves the mark up to `mark`. Only a mark that is in flash already may be published.
+    pub fn publish(&self, k: &mut Keeper, mark: u64)
+        requires made { k.old.which ≡ self.now.which }
+        requires word { IsWord mark }
+        requires up { k.old.mark ≤ mark }
+
+        ensures { k.new ≡ record k.old { mark = mark } }
+    {
+        self.table
+            .shared
+            .store::<Publishes>(&mut k.seat, MARK, mark);
+    }
+
+    /// Moves the counter up to the first number of an IV Index, unless it is there or above.
+    pub fn advance(&self, k: &mut Keeper, iv: u32)
+        requires made { k.old.which ≡ self.now.which }
+        requires marked { iv * 2 ^ 25 ≤ k.old.mark }
+
+        ensures { (found : ℕ) × (k.new ≡ record k.old { advances = k.old.advances ++ (found, iv * 2 ^ 25) ∷ [] }) }
+    {
+        let to = u64::from(iv) * WORDS_PER_IV;
+        self.table
+            .shared
+            .fetch_max::<Advances>(&mut k.seat, COUNTER, to);
+    }
+
+    /// A new seat that draws, above all that this one has drawn.
+    pub fn split(&self, d: &mut Drawer) -> Drawer
+        requires made { d.old.which ≡ self.now.which }
+
+        ensures same { d.new ≡ d.old }
+        ensures value { result ≡ record { which = d.old.which; drawn = []; raised = []; noted = d.old.noted ++ d.old.drawn; marks = []; nexts = [] } }
+    {
+        Drawer {
+            seat: self.table.shared.split_seat::<Seats>(&mut d.seat),
+        }
+    }
+
+    /// Takes another seat in, with all that it drew and saw.
+    pub fn join(&self, d: &mut Drawer, other: Drawer)
+        requires made { d.old.which ≡ self.now.which }
+        requires other_made { other.which ≡ self.now.which }
+
+        ensures which { d.new.which ≡ d.old.which }
+        ensures drawn { d.new.drawn ≡ d.old.drawn ++ other.drawn }
+        ensures raised { d.new.raised ≡ d.old.raised ++ other.raised }
+        ensures noted { d.new.noted ≡ d.old.noted ++ other.noted }
+        ensures marks { d.new.marks ≡ d.old.marks ++ other.marks }
+        ensures nexts { d.new.nexts ≡ d.old.nexts ++ other.nexts }
+    {
+        let Drawer { seat } = other;
+        self.table.shared.join_seat::<Seats>(&mut d.seat, seat);
+    }
+
+    /// Takes the words back, with the keeper's seat and one that draws. No thread shares them any more.
+    pub fn close(self, k: Keeper, d: Drawer) -> Closed
+        requires keeper_made { k.which ≡ self.which }
+        requires drawer_made { d.which ≡ self.which }
+
+        ensures drawn { result.drawn ≡ d.drawn }
+        ensures looks { (result.marks ≡ d.marks) × (result.nexts ≡ d.nexts) }
+
+        ensures words { IsWord result.next × IsWord result.mark }
+        ensures order { (self.opened ≤ result.next) × (result.next ≤ result.mark) }
+        ensures mark { result.mark ≡ k.mark }
+        ensures advanced { All (λ a. a.1 ≤ result.next) k.advances }
+
+        ensures since { All (λ x. self.opened ≤ x) d.drawn }
+        ensures below { All (λ x. x < result.next) d.drawn }
+        ensures once { (x : ℕ) → times x d.drawn ≤ 1 }
+        ensures seen { All (λ x. x ≤ result.next) d.nexts × All (λ x. x ≤ result.mark) d.marks }
+    {
+        let Numbers { table } = self;
+        let Keeper { seat: keeper } = k;
+        let Drawer { mut seat } = d;
+        table.shared.join_seat::<Seats>(&mut seat, keeper);
+        let last = Snapshot::of(&seat);
+        let words = table.close_with(seat);
+        let next = words.word(COUNTER);
+        let mark = words.word(MARK);
+        words.free();
+        Closed { next, mark, last }
+    }
+}
