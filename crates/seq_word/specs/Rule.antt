@@ -25,13 +25,19 @@ gone x v = times x v.drawn + passed_over x v.advances
 
 -- What holds of the view of the seat `by`, where the counter was opened at `opened` and is `next`, and the mark is `mark`, which the seat `keeper` keeps
 pub record Fits (opened next mark keeper by : ℕ) (v : View) : Type 0 where
+  -- each word drawn here is at least the opening, and below the counter
   pub since : All (λ x. opened ≤ x) v.drawn
   pub drawn : All (λ x. x < next) v.drawn
+  -- the counter has not gone below what a draw here left in it
   pub raised : All (λ x. x ≤ next) v.raised
+  -- each word that was drawn where this seat was split off is below the counter
   pub noted : All (λ x. x < next) v.noted
+  -- each mark seen is at most the mark, and each word seen in the counter at most the counter
   pub marks : All (λ x. x ≤ mark) v.marks
   pub nexts : All (λ x. x ≤ next) v.nexts
+  -- the counter has not gone below where the keeper moved it to
   pub advances : All (λ a. a.1 ≤ next) v.advances
+  -- only the keeper's seat keeps a mark, and that is the mark
   pub keeps : v.keeps ≡ true → (by ≡ keeper) × (v.mark ≡ mark)
 
 -- The running rule, of the two words as numbers and of all views
@@ -40,11 +46,11 @@ pub record Stands (opened next mark keeper : ℕ) (views : List View) : Type 0 w
   pub mark_word : IsWord mark
   pub in_order : next ≤ mark
   pub opening : opened ≤ next
-  -- each word from the opening on and below the counter went by once, at one seat, and no other did
+  -- each word from the opening on and below the counter went by once, at one seat, and no other word did
   pub once : (x : ℕ) → sum_by (gone x) views + once_below x opened ≡ once_below x next
   pub each : (by : ℕ) (v : View) → get_elem? views by ≡ some v → Fits opened next mark keeper by v
 
--- The running rule
+-- The running rule, which holds between any two atomic steps
 pub record Ruled {S : Type 0} (opened : ℕ) (s : State S View) : Type 0 where
   pub next : ℕ
   pub mark : ℕ

@@ -1,5 +1,5 @@
 -- What contracts see of the two words and of the seats at them, and what one try to draw tells.
-use Rattle.std.specs.Prelude.{◌≡◌, ◌≢◌, ℕ, ◌+◌, ◌*◌, ◌^◌, ◌<◌, ◌≤◌, List, [], ◌∷◌, ◌++◌}
+use Rattle.std.specs.Prelude.{◌≡◌, ◌≢◌, ℕ, ◌+◌, ◌*◌, ◌^◌, ◌<◌, ◌≤◌, List, [], ◌∷◌, ◌++◌, All}
 use Rattle.atomic_table.specs.Seated.{TableId}
 use Rattle.mesh_base.specs.declared.pair.Pair.{Pair}
 use Rattle.seq_word.specs.declared.miss.Miss.{Miss}
@@ -22,6 +22,10 @@ pub record DrawerView : Type 0 where
   pub marks : List ℕ
   pub nexts : List ℕ
 
+-- a seat that has drawn and seen nothing, where these words had been drawn before it was split off
+abbrev pub fresh : TableId → List ℕ → DrawerView
+fresh which noted = record { which = which; drawn = []; raised = []; noted = noted; marks = []; nexts = [] }
+
 -- The keeper's seat: at which words, the mark, and of each advance the word that it found in the counter and the one that it moved the counter to
 pub record KeeperView : Type 0 where
   pub which : TableId
@@ -35,6 +39,10 @@ pub record ClosedView : Type 0 where
   pub drawn : List ℕ
   pub marks : List ℕ
   pub nexts : List ℕ
+
+-- the word is above all that was drawn at the seat, and all that had been drawn before it was split off
+abbrev pub IsAbove : DrawerView → ℕ → Type 0
+IsAbove v word = All (λ x. x < word) v.drawn × All (λ x. x < word) v.noted
 
 -- A try that gave this pair: its look found the pair's word in the counter, below the mark that the look before had found
 pub record Finds (p : Pair) (v w : DrawerView) : Type 0 where
@@ -61,6 +69,10 @@ pub record SameDrawn (v w : DrawerView) : Type 0 where
 abbrev pub LostTries : List (ℕ × ℕ) → DrawerView → DrawerView → Type 0
 LostTries [] v w = w ≡ v
 LostTries (t ∷ tries) v w = (u : DrawerView) × LostTries tries v u × SameDrawn u w × HasCause (missed.Lost t.0 t.1) u w
+
+-- some tries were lost, and then this was done
+abbrev pub AfterLost : (DrawerView → DrawerView → Type 0) → DrawerView → DrawerView → Type 0
+AfterLost Done v w = (tries : List (ℕ × ℕ)) × (u : DrawerView) × LostTries tries v u × Done u w
 
 abbrev pub miss_of : DrawStop → Miss
 miss_of (stopped.Spent iv) = missed.Spent iv

@@ -8,7 +8,7 @@ use atomic_table::Seat;
 use std::marker::Model;
 use std::snapshot::Snapshot;
 
-/// The two words once they are closed, and what was drawn and seen at the seats that were joined. Only `Numbers::close` makes one.
+/// What the two words held at the end, and what was drawn and seen at the seats that were joined. Only `Numbers::close` makes one.
 #[derive(Drop)]
 pub struct Closed {
     pub(crate) next: u64,
@@ -21,11 +21,17 @@ impl Model for Closed {
 
     ghost Value = { ClosedView };
 
-    ghost view = { λ c. record { next = c.next; mark = c.mark; drawn = c.last.value.me.0.drawn; marks = c.last.value.me.0.marks; nexts = c.last.value.me.0.nexts } };
+    ghost view = { λ c. let v = c.last.value.me.0 in record {
+      next = c.next;
+      mark = c.mark;
+      drawn = v.drawn;
+      marks = v.marks;
+      nexts = v.nexts;
+    } };
 }
 
 impl Closed {
-    /// The counter: the next word that would have been drawn.
+    /// The counter: the word that would have been drawn next.
     pub fn next(&self) -> u64
         ensures { result ≡ self.now.next }
     {

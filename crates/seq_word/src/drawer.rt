@@ -5,7 +5,7 @@ use crate::rule::View;
 use atomic_table::Seat;
 use std::marker::Model;
 
-/// A seat that draws numbers from the words that it was made with. It takes no memory, and is handed to the thread that draws.
+/// A seat that draws, at the words that it was made with. It takes no memory. Hand each thread that draws a seat of its own.
 #[derive(Drop)]
 pub struct Drawer {
     pub(crate) seat: Seat<u8, View>,
@@ -17,7 +17,14 @@ impl Model for Drawer {
 
     ghost Value = { DrawerView };
 
-    ghost view = { λ d. record { which = d.seat.table_id; drawn = d.seat.me.0.drawn; raised = d.seat.me.0.raised; noted = d.seat.me.0.noted; marks = d.seat.me.0.marks; nexts = d.seat.me.0.nexts } };
+    ghost view = { λ d. let v = d.seat.me.0 in record {
+      which = d.seat.table_id;
+      drawn = v.drawn;
+      raised = v.raised;
+      noted = v.noted;
+      marks = v.marks;
+      nexts = v.nexts;
+    } };
 
     // It keeps no mark, has made no advance and holds no slot.
     ghost invariant = { λ d. (d.seat.me.0.keeps ≡ false) × (d.seat.me.0.advances ≡ []) × (d.seat.me.1 ≡ []) };

@@ -1,19 +1,22 @@
-//! The two words that all bearers of a node share: a counter from which each draws its sequence numbers, without a lock, and a mark that bounds them.
+//! The two words that all bearers of a node share: a counter, from which each draws its sequence numbers without a lock, and a
+//! mark, below which the numbers lie that may be drawn.
 //!
 //! - `word`: an IV Index and a SEQ in one number
-//! - `rule`: what the two words and the seats at them keep between any two atomic steps
+//! - `rule`: what the words and the seats at them keep between any two atomic steps
 //! - `miss`: why a draw gave no number
-//! - `numbers`: the two words, with all calls
 //! - `drawer`, `keeper`, `closed`: a seat that draws, the one seat that moves the mark, and what the words held at the end
+//! - `numbers`: the two words, with all calls
 //! - `laws`: what follows from the rule
+//!
+//! Not promised: that a draw succeeds in the end, that bearers draw in turn, that two threads run.
 #![tactic(auto)]
 
-pub mod closed;
-pub mod drawer;
-pub mod keeper;
+mod closed;
+mod drawer;
+mod keeper;
 pub mod laws;
-pub mod miss;
-pub mod numbers;
+mod miss;
+mod numbers;
 mod rule;
 #[cfg(test)]
 mod tests;

@@ -1,10 +1,10 @@
 //! The two words, with all calls.
 #![tactic(auto)]
 
-ghost use Rattle.std.specs.Prelude.{◌≡◌, ℕ, ◌+◌, ◌*◌, ◌^◌, ◌<◌, ◌≤◌, List, [], ◌∷◌, ◌++◌, All, IfOk, IfErr, OnErr};
+ghost use Rattle.std.specs.Prelude.{◌≡◌, ℕ, ◌+◌, ◌*◌, ◌^◌, ◌<◌, ◌≤◌, [], ◌∷◌, ◌++◌, All, IfOk, IfErr, OnErr};
 ghost use Rattle.seq_word.specs.Word.{word_of, seq_of, IsWord};
 ghost use Rattle.seq_word.specs.Rule.{times};
-ghost use Rattle.seq_word.specs.Seen.{DrawerView, Finds, HasCause, SameDrawn, LostTries, miss_of};
+ghost use Rattle.seq_word.specs.Seen.{fresh, IsAbove, Finds, HasCause, SameDrawn, AfterLost, miss_of};
 
 use crate::closed::Closed;
 use crate::drawer::Drawer;
@@ -21,10 +21,11 @@ use std::marker::Model;
 use std::snapshot::Snapshot;
 use std::sync::Wait;
 
-/// A counter of numbers to draw, and the mark that bounds them. Threads share it by `&`, and each steps with a seat of its own.
+/// The counter, whose word is the next to be drawn, and the mark, a word that no draw reaches. Threads share them by `&`, and
+/// each steps with a seat of its own. Words are those of `crate::word`.
 ///
-/// Between any two atomic steps both hold words, and the counter is at most the mark. The mark is the keeper's. Each word from
-/// the opening on and below the counter was drawn once, at one seat, or was passed over by an advance.
+/// Between any two atomic steps the counter is at most the mark, and the mark is the keeper's. Each word from the opening on and
+/// below the counter was drawn once, at one seat, or was passed over once, by an advance.
 #[derive(Drop)]
 pub struct Numbers {
     table: Words,
@@ -48,8 +49,8 @@ struct Look {
 }
 
 impl Numbers {
-    /// The words with the counter at `next`, the keeper's seat, and a first seat that draws.
-    /// An error says that memory ran out.
+    /// Opens the counter at `next` under the mark `mark`, both words, with the keeper's seat and a first seat that draws. An error
+    /// says that memory ran out.
     pub fn start(
         alloc: Global,
         next: u64,
@@ -61,7 +62,7 @@ impl Numbers {
 
         ensures opened { IfOk result (λ t. t.0.opened ≡ next) }
         ensures keeper { IfOk result (λ t. t.1 ≡ record { which = t.0.which; mark = mark; advances = [] }) }
-        ensures drawer { IfOk result (λ t. t.2 ≡ record { which = t.0.which; drawn = []; raised = []; noted = []; marks = []; nexts = [] }) }
+        ensures drawer { IfOk result (λ t. t.2 ≡ fresh t.0.which []) }
     {
         let (table, mut seat) = Table::of_words(alloc, &[next, mark], &Opening { next, mark })?;
         let drawer = Drawer {
@@ -84,8 +85,9 @@ impl Numbers {
         Look { mark, next }
     }
 
-    /// Draws the number that the counter gives, if no other seat comes between. One load of the mark, one of the counter, and
-    /// one compare-exchange. Where two causes hold, the miss is the first in the order of `Miss`.
+    /// Draws the next number, if no other seat comes between: a load of the mark, a load of the counter, and a compare-exchange on
+    /// the counter. The miss tells the words that these found; where two causes hold, it is the first in the order of `Miss`.
+    /// It waits for no other thread.
     pub fn try_draw(&self, d: &mut Drawer) -> Result<Pair, Miss>
         requires made { d.old.which ≡ self.now.which }
 
@@ -93,7 +95,7 @@ impl Numbers {
 
         ensures drawn { IfOk result (λ p. d.new.drawn ≡ d.old.drawn ++ word_of p ∷ []) }
         ensures raised { IfOk result (λ p. d.new.raised ≡ d.old.raised ++ (word_of p + 1) ∷ []) }
-        ensures above { IfOk result (λ p. All (λ x. x < word_of p) d.old.drawn × All (λ x. x < word_of p) d.old.noted) }
+        ensures above { IfOk result (λ p. IsAbove d.old (word_of p)) }
         ensures unspent { IfOk result (λ p. p.seq < 2 ^ 24) }
         ensures found { IfOk result (λ p. Finds p d.old d.new) }
 
@@ -119,7 +121,7 @@ impl Numbers {
         Ok(pair)
     }
 
-    /// Draws a number. It tries again as long as another seat comes between, and for no other cause.
+    /// Draws the next number. It tries again where another seat came between, and for no other cause.
     pub fn draw(&self, rt: &impl Wait, d: &mut Drawer) -> Result<Pair, DrawStop>
         requires made { d.old.which ≡ self.now.which }
 
@@ -127,12 +129,12 @@ impl Numbers {
 
         ensures drawn { IfOk result (λ p. d.new.drawn ≡ d.old.drawn ++ word_of p ∷ []) }
         ensures raised { IfOk result (λ p. d.new.raised ≡ d.old.raised ++ (word_of p + 1) ∷ []) }
-        ensures above { IfOk result (λ p. All (λ x. x < word_of p) d.old.drawn × All (λ x. x < word_of p) d.old.noted) }
+        ensures above { IfOk result (λ p. IsAbove d.old (word_of p)) }
         ensures unspent { IfOk result (λ p. p.seq < 2 ^ 24) }
-        ensures found { IfOk result (λ p. (tries : List (ℕ × ℕ)) × (v : DrawerView) × LostTries tries d.old v × Finds p v d.new) }
+        ensures found { IfOk result (λ p. AfterLost (Finds p) d.old d.new) }
 
         ensures err { OnErr result (SameDrawn d.old d.new) }
-        ensures cause { IfErr result (λ e. (tries : List (ℕ × ℕ)) × (v : DrawerView) × LostTries tries d.old v × HasCause (miss_of e) v d.new) }
+        ensures cause { IfErr result (λ e. AfterLost (HasCause (miss_of e)) d.old d.new) }
     {
         for _ in rt.forever() {
             match self.try_draw(d) {
@@ -145,7 +147,7 @@ impl Numbers {
         unreachable!()
     }
 
-    /// Moves the mark up to `mark`. Only a mark that is in flash already may be published.
+    /// Moves the mark up to `mark`, a word. Publish a mark that is in flash already, since numbers below it are drawn from now on.
     pub fn publish(&self, k: &mut Keeper, mark: u64)
         requires made { k.old.which ≡ self.now.which }
         requires word { IsWord mark }
@@ -158,12 +160,13 @@ impl Numbers {
             .store::<Publishes>(&mut k.seat, MARK, mark);
     }
 
-    /// Moves the counter up to the first number of an IV Index, unless it is there or above.
+    /// Moves the counter up to SEQ 0 of the IV Index `iv`, unless it is there or above. What it passes over is never drawn.
     pub fn advance(&self, k: &mut Keeper, iv: u32)
         requires made { k.old.which ≡ self.now.which }
         requires marked { iv * 2 ^ 25 ≤ k.old.mark }
 
-        ensures { (found : ℕ) × (k.new ≡ record k.old { advances = k.old.advances ++ (found, iv * 2 ^ 25) ∷ [] }) }
+        ensures noted { (found : ℕ) × (k.new.advances ≡ k.old.advances ++ (found, iv * 2 ^ 25) ∷ []) }
+        ensures same { (k.new.which ≡ k.old.which) × (k.new.mark ≡ k.old.mark) }
     {
         let to = u64::from(iv) * WORDS_PER_IV;
         self.table
@@ -171,19 +174,19 @@ impl Numbers {
             .fetch_max::<Advances>(&mut k.seat, COUNTER, to);
     }
 
-    /// A new seat that draws, above all that this one has drawn.
+    /// A new seat. What it draws is above all that this one has drawn so far.
     pub fn split(&self, d: &mut Drawer) -> Drawer
         requires made { d.old.which ≡ self.now.which }
 
         ensures same { d.new ≡ d.old }
-        ensures value { result ≡ record { which = d.old.which; drawn = []; raised = []; noted = d.old.noted ++ d.old.drawn; marks = []; nexts = [] } }
+        ensures value { result ≡ fresh d.old.which (d.old.noted ++ d.old.drawn) }
     {
         Drawer {
             seat: self.table.shared.split_seat::<Seats>(&mut d.seat),
         }
     }
 
-    /// Takes another seat in, with all that it drew and saw.
+    /// Takes another seat in, with all that was drawn and seen there.
     pub fn join(&self, d: &mut Drawer, other: Drawer)
         requires made { d.old.which ≡ self.now.which }
         requires other_made { other.which ≡ self.now.which }
@@ -199,7 +202,7 @@ impl Numbers {
         self.table.shared.join_seat::<Seats>(&mut d.seat, seat);
     }
 
-    /// Takes the words back, with the keeper's seat and one that draws. No thread shares them any more.
+    /// Ends the words, with the keeper's seat and one that draws. What was drawn at a seat that isn't joined to this one is not told.
     pub fn close(self, k: Keeper, d: Drawer) -> Closed
         requires keeper_made { k.which ≡ self.which }
         requires drawer_made { d.which ≡ self.which }

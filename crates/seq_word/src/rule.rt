@@ -1,4 +1,16 @@
 //! The rule of the two words, as `atomic_table` takes it. The definitions stand in `specs/Rule.antt`.
+//!
+//! There are seven kinds of atomic step. Each changes the view of the seat that takes it, and a join that of the other seat too.
+//!
+//! | Step | Seat | What its view notes |
+//! |---|---|---|
+//! | a load of the mark | a drawer | the mark, among its looks |
+//! | a load of the counter | a drawer | the word, among its looks |
+//! | a compare-exchange on the counter, from the word last seen to the next | a drawer | won: the word as drawn, and what it left in the counter; lost: the word found, among its looks |
+//! | a store on the mark | the keeper | the mark as its own |
+//! | a fetch_max on the counter | the keeper | the word found, and the one moved to |
+//! | a split | a drawer, and at the start the keeper | nothing; the new seat notes all that was drawn here, or noted |
+//! | a join | a drawer | all that the other seat knows; at the end also the keeper's mark. The other seat is left knowing nothing |
 #![tactic(auto)]
 
 use atomic_table::{Join, Play, Split, Table, TableRule};
@@ -43,6 +55,7 @@ pub struct Opening {
 /// The table of the two words. It has no slots.
 pub type Words = Table<u8, View, Opening, Law, Global>;
 
+/// The running rule, as the rule of the table.
 pub struct Law;
 
 impl TableRule<u8, View, Opening> for Law {
@@ -53,6 +66,7 @@ impl TableRule<u8, View, Opening> for Law {
     ghost first = { λ key. first_keeper key.mark };
 }
 
+/// A load of the mark.
 pub struct SeesMark;
 
 impl Play<u8, View> for SeesMark {
@@ -61,6 +75,7 @@ impl Play<u8, View> for SeesMark {
     ghost then = { rule.SeesMark };
 }
 
+/// A load of the counter.
 pub struct SeesNext;
 
 impl Play<u8, View> for SeesNext {
@@ -69,6 +84,7 @@ impl Play<u8, View> for SeesNext {
     ghost then = { rule.SeesNext };
 }
 
+/// A compare-exchange on the counter.
 pub struct Draws;
 
 impl Play<u8, View> for Draws {
@@ -77,6 +93,7 @@ impl Play<u8, View> for Draws {
     ghost then = { rule.Draws };
 }
 
+/// A store on the mark.
 pub struct Publishes;
 
 impl Play<u8, View> for Publishes {
@@ -85,6 +102,7 @@ impl Play<u8, View> for Publishes {
     ghost then = { rule.Publishes };
 }
 
+/// A fetch_max on the counter.
 pub struct Advances;
 
 impl Play<u8, View> for Advances {
