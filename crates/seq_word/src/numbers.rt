@@ -155,9 +155,8 @@ impl Numbers {
 
         ensures { k.new ≡ record k.old { mark = mark } }
     {
-        self.table
-            .shared
-            .store::<Publishes>(&mut k.seat, MARK, mark);
+        let words = &self.table.shared;
+        words.store::<Publishes>(&mut k.seat, MARK, mark);
     }
 
     /// Moves the counter up to SEQ 0 of the IV Index `iv`, unless it is there or above. What it passes over is never drawn.
@@ -169,9 +168,8 @@ impl Numbers {
         ensures same { (k.new.which ≡ k.old.which) × (k.new.mark ≡ k.old.mark) }
     {
         let to = u64::from(iv) * WORDS_PER_IV;
-        self.table
-            .shared
-            .fetch_max::<Advances>(&mut k.seat, COUNTER, to);
+        let words = &self.table.shared;
+        words.fetch_max::<Advances>(&mut k.seat, COUNTER, to);
     }
 
     /// A new seat. What it draws is above all that this one has drawn so far.

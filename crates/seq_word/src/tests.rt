@@ -141,14 +141,16 @@ fn join_all(
     Ok(seqs)
 }
 
-// Every seat draws `each` numbers, all at once. SEQ of all of them, in order, and the counter at the end.
+// Every seat draws `each` numbers, all at once, below a mark `total` above the counter. SEQ of all of them, in order, and the counter at the end.
 fn draw_at_once<R: Threads + Wait + Sync>(
     rt: &R,
     alloc: Global,
     count: usize,
     each: usize,
+    total: u16,
 ) -> Result<(Vec<u32>, u64), AllocError> {
-    let (numbers, keeper, mut drawer) = Numbers::start(alloc, FIRST, FIRST + 0x10_0000)?;
+    let mark = FIRST + u64::from(total);
+    let (numbers, keeper, mut drawer) = Numbers::start(alloc, FIRST, mark)?;
     let bearers = seats(alloc, &numbers, &mut drawer, count)?;
     let shared = &numbers;
     let bearers = thread::map_vec(
@@ -165,9 +167,9 @@ fn draw_at_once<R: Threads + Wait + Sync>(
 
 #[test]
 fn threads_draw_each_number_once(rt: HostRuntime) -> Result<(), Fail> {
-    for (count, each, total) in [(2, 300, 600u32), (8, 1000, 8000u32)] {
-        let (seqs, next) = draw_at_once(&rt, rt.alloc(), count, each)?;
-        let wanted: Vec<u32> = (0..total).collect(rt.alloc())?;
+    for (count, each, total) in [(2, 300, 0x258), (8, 1000, 8000u16)] {
+        let (seqs, next) = draw_at_once(&rt, rt.alloc(), count, each, total)?;
+        let wanted: Vec<u32> = (0..u32::from(total)).collect(rt.alloc())?;
         assert_eq!(rt; seqs, wanted, "{count} threads");
         assert_eq!(rt; next, FIRST + u64::from(total));
     }
