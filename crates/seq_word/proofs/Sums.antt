@@ -1,11 +1,11 @@
 -- Sums over the views of all seats, and how often a word goes by.
-use Rattle.std.proofs.Common.{◌≡◌, ◌≢◌, ℕ, zero, suc, ◌+◌, ◌≤◌, List, [], ◌∷◌, set, refl, sym, ap, arith}
-use Rattle.std.specs.Prelude.{◌==◌, ◌&&◌, nat_lt, nat_le, cond, max, sum_by}
+use Rattle.std.proofs.Common.{◌≡◌, ◌≢◌, ℕ, zero, suc, ◌+◌, ◌<◌, ◌≤◌, List, [], ◌∷◌, length, get_or, set, refl, sym, ap, arith}
+use Rattle.std.specs.Prelude.{◌==◌, ◌&&◌, nat_lt, nat_le, cond, max, AllPairs, sum_by}
 use Rattle.std.proofs.lemmas.List.Sums.{sum_by-cons}
 use Rattle.std.proofs.lemmas.Bool.Decides.{nat_tests}
 use mathlib.Core.Option.{some, some-ne-none, some-injective}
 use lib.ListN.{get_elem?}
-use Rattle.seq_word.specs.Rule.{once_below}
+use Rattle.seq_word.specs.Rule.{times, once_below}
 
 module _ {V : Type 0} (f : V → ℕ) where
   -- the sum after a change of one element
@@ -41,3 +41,16 @@ once_below-max x n to = grind (arith, nat_tests)
 
 pub same-one : (x : ℕ) → ◌≡◌ {A = ℕ} (cond (x == x) 1 0) 1
 same-one x = grind (arith, nat_tests)
+
+at_or : (xs : List ℕ) (i d x : ℕ) → i < length xs → get_or xs i d ≡ x → get_elem? xs i ≡ some x
+at_or [] i d x within e = absurd (omega arith)
+at_or (y ∷ ys) zero d x within e = ap some e
+at_or (y ∷ ys) (suc i) d x within e = at_or ys i d x (omega arith) e
+
+-- where no word stands twice, the words at two places differ
+pub distinct : (xs : List ℕ) → ((x : ℕ) → times x xs ≤ 1) → AllPairs (λ x y. x ≢ y) xs
+distinct xs once i j d before within same =
+    let x = get_or xs j d in
+    let here = at_or xs i d x (omega arith) same in
+    let there = at_or xs j d x within refl in
+    absurd (omega (arith, share_of_two (λ (y : ℕ). cond (y == x) 1 0) xs i j x x (λ e. omega arith) here there, same-one x, once x))

@@ -1,7 +1,7 @@
 //! The two words, with all calls.
 #![tactic(auto)]
 
-ghost use Rattle.std.specs.Prelude.{◌≡◌, ℕ, ◌+◌, ◌*◌, ◌^◌, ◌<◌, ◌≤◌, [], ◌∷◌, ◌++◌, All, IfOk, IfErr, OnErr};
+ghost use Rattle.std.specs.Prelude.{◌≡◌, ◌≢◌, ℕ, ◌+◌, ◌*◌, ◌^◌, ◌<◌, ◌≤◌, [], ◌∷◌, ◌++◌, All, AllPairs, IfOk, IfErr, OnErr};
 ghost use Rattle.seq_word.specs.Word.{word_of, seq_of, IsWord};
 ghost use Rattle.seq_word.specs.Rule.{times};
 ghost use Rattle.seq_word.specs.Seen.{fresh, IsAbove, Finds, HasCause, SameDrawn, AfterLost, miss_of};
@@ -216,6 +216,7 @@ impl Numbers {
         ensures since { All (λ x. self.opened ≤ x) d.drawn }
         ensures below { All (λ x. x < result.next) d.drawn }
         ensures once { (x : ℕ) → times x d.drawn ≤ 1 }
+        ensures distinct { AllPairs (λ x y. x ≢ y) d.drawn }
         ensures seen { All (λ x. x ≤ result.next) d.nexts × All (λ x. x ≤ result.mark) d.marks }
     {
         let Numbers { table } = self;
