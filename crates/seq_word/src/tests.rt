@@ -12,6 +12,10 @@ use std::thread::Threads;
 // SEQ 0 under IV Index 12345678.
 const FIRST: u64 = 0x0024_68ac_f000_0000;
 
+fn pair(iv: u32, seq: u32) -> Pair {
+    Pair { iv, seq }
+}
+
 #[test]
 fn draws_up_to_the_mark(rt: HostRuntime) -> Result<(), Fail> {
     let (numbers, mut keeper, mut drawer) = Numbers::start(rt.alloc(), FIRST, FIRST)?;
@@ -21,35 +25,19 @@ fn draws_up_to_the_mark(rt: HostRuntime) -> Result<(), Fail> {
     let second = numbers.try_draw(&mut drawer);
     let late = numbers.draw(&rt, &mut drawer);
     let closed = numbers.close(keeper, drawer);
-    assert_eq!(rt;
-        early,
-        Err(Miss::Dry {
-            next: FIRST,
-            mark: FIRST
-        })
-    );
-    assert_eq!(rt;
-        first,
-        Ok(Pair {
-            iv: 0x1234_5678,
-            seq: 0
-        })
-    );
-    assert_eq!(rt;
-        second,
-        Ok(Pair {
-            iv: 0x1234_5678,
-            seq: 1
-        })
-    );
+    let bounds = (closed.next(), closed.mark());
+    let (w, end) = (FIRST, FIRST + 2);
+    assert_eq!(rt; early, Err(Miss::Dry { next: w, mark: w }));
+    assert_eq!(rt; first, Ok(pair(0x1234_5678, 0)));
+    assert_eq!(rt; second, Ok(pair(0x1234_5678, 1)));
     assert_eq!(rt;
         late,
         Err(DrawStop::Dry {
-            next: FIRST + 2,
-            mark: FIRST + 2
+            next: end,
+            mark: end
         })
     );
-    assert_eq!(rt; (closed.next(), closed.mark()), (FIRST + 2, FIRST + 2));
+    assert_eq!(rt; bounds, (end, end));
     Ok(())
 }
 
@@ -65,13 +53,7 @@ fn spent_until_the_next_iv_index(rt: HostRuntime) -> Result<(), Fail> {
     let closed = numbers.close(keeper, drawer);
     assert_eq!(rt; first, Err(Miss::Spent { iv: 0x1234_5678 }));
     assert_eq!(rt; second, Err(DrawStop::Spent { iv: 0x1234_5678 }));
-    assert_eq!(rt;
-        third,
-        Ok(Pair {
-            iv: 0x1234_5679,
-            seq: 0
-        })
-    );
+    assert_eq!(rt; third, Ok(pair(0x1234_5679, 0)));
     assert_eq!(rt; closed.next(), FIRST + 0x200_0001);
     Ok(())
 }
@@ -141,7 +123,8 @@ fn join_all(
     Ok(seqs)
 }
 
-// Every seat draws `each` numbers, all at once, below a mark `total` above the counter. SEQ of all of them, in order, and the counter at the end.
+// Every seat draws `each` numbers, all at once, below a mark `total` above the counter. Gives SEQ of all of them, in order, and
+// the counter at the end.
 fn draw_at_once<R: Threads + Wait + Sync>(
     rt: &R,
     alloc: Global,
