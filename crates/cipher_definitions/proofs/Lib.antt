@@ -1,0 +1,5 @@
+pub mod Vectors
+pub mod Sums
+pub mod Lengths
+pub mod Sealing
+pub mod Blocks
