@@ -58,8 +58,8 @@ module _ {T E : Type 0} where
   free_before : (views : List (View T E)) (id : ℕ) (v w : View T E) → get_elem? views id ≡ some v → v.inside ≡ false → Free (set views id w) → Free views
   free_before views id v w at out free by u bt =
       dite (ℕ_discrete by id)
-        (λ e. let same : u ≡ v = some-injective u v (sym bt ∙ ap (λ i. get_elem? views i) e ∙ at) in ap (λ z. z.inside) same ∙ out)
-        (λ ne. free by u (set_else views id by w ne ∙ bt))
+      (λ e. let same : u ≡ v = some-injective u v (sym bt ∙ ap (λ i. get_elem? views i) e ∙ at) in ap (λ z. z.inside) same ∙ out)
+      (λ ne. free by u (set_else views id by w ne ∙ bt))
 
   waits_inside : (first : T) (s : ℕ) (log : List E) (v : View T E) → Fits first s log v → v.waits ≡ false → v.inside ≡ false
   waits_inside first s log v f w = not_true v.inside (λ i. not_both v.waits (f.inside i).0 w)
@@ -131,7 +131,7 @@ module _ {T E O : Type 0} (entries : T → List E) (origin : T → O) where
 
   goes : (first : T) (slots id word : ℕ) (me : Me (Option T) (View T E)) (f : ℕ → ℕ) (then : ℕ → Me (Option T) (View T E) → Type 0)
       → ((t s : ℕ) (log : List E) (homes : List (maybe.Option (Option T))) (views : List (View T E)) → Stands entries origin first t s log homes views → length homes ≡ slots → get_elem? views id ≡ some me.0
-        → Goes first id word (f (slice_index (t ∷ s ∷ length log ∷ []) word)) me (t ∷ s ∷ length log ∷ []) homes views (then (slice_index (t ∷ s ∷ length log ∷ []) word)))
+      → Goes first id word (f (slice_index (t ∷ s ∷ length log ∷ []) word)) me (t ∷ s ∷ length log ∷ []) homes views (then (slice_index (t ∷ s ∷ length log ∷ []) word)))
       → Allows (Ruled entries origin first) slots id me word f then
   goes first slots id word me f then go s h len at fits =
       let g = go h.ticket h.serving h.log s.homes s.views h.stands len at in
@@ -158,29 +158,29 @@ module _ {T E O : Type 0} (entries : T → List E) (origin : T → O) where
       → Allows (Ruled entries origin first) slots id me 0 (λ n. either (eqb n old) (old + 1) n) (TakesTicket (step slots 0 old (old + 1) none) me)
   takes_ticket first slots id me old waits parts room =
       goes first slots id 0 me (λ n. either (eqb n old) (old + 1) n) (TakesTicket (step slots 0 old (old + 1) none) me) (λ t s log homes views h len at.
-        let v = me.0 in
-        let f = h.each id v at in
-        let out = waits_inside first s log v f waits in
-        exchanged t old (old + 1) (λ n. Goes first id 0 n me (t ∷ s ∷ length log ∷ []) homes views (TakesTicket (step slots 0 old (old + 1) none) me t))
-          (λ e. record {
-            view = queueing v t;
-            act = keeps;
-            ticket = old + 1;
-            serving = s;
-            log = log;
-            valid = tt;
-            words = refl;
-            stands = moves first t s log homes views id v h at (old + 1) s log homes (queueing v t) room h.count_word (prefix_refl log)
-              (omega (arith, e, ap one_if waits))
-              (λ k. omega (arith, no_ticket k v waits, one_next k t, ap (λ (n : ℕ). one_below k (n + 1)) e))
-              (λ p. refl)
-              refl
-              (record { seen = f.seen; told = f.told; own = f.own; inside = λ i. absurd (not_both v.inside i out); starts = f.starts; gone = λ z. absurd (omega arith) })
-              (λ by u ne bt fu. fu)
-              (λ free. h.home (free_before views id v (queueing v t) at out free));
-            tells = ((λ _. refl), (λ ne. absurd (ne e)));
-          })
-          (λ ne. stays first id 0 t me t s log homes views (TakesTicket (step slots 0 old (old + 1) none) me t) h at refl ((λ e. absurd (ne e)), (λ _. refl))))
+      let v = me.0 in
+      let f = h.each id v at in
+      let out = waits_inside first s log v f waits in
+      exchanged t old (old + 1) (λ n. Goes first id 0 n me (t ∷ s ∷ length log ∷ []) homes views (TakesTicket (step slots 0 old (old + 1) none) me t))
+      (λ e. record {
+        view = queueing v t;
+        act = keeps;
+        ticket = old + 1;
+        serving = s;
+        log = log;
+        valid = tt;
+        words = refl;
+        stands = moves first t s log homes views id v h at (old + 1) s log homes (queueing v t) room h.count_word (prefix_refl log)
+            (omega (arith, e, ap one_if waits))
+            (λ k. omega (arith, no_ticket k v waits, one_next k t, ap (λ (n : ℕ). one_below k (n + 1)) e))
+            (λ p. refl)
+            refl
+            (record { seen = f.seen; told = f.told; own = f.own; inside = λ i. absurd (not_both v.inside i out); starts = f.starts; gone = λ z. absurd (omega arith) })
+            (λ by u ne bt fu. fu)
+            (λ free. h.home (free_before views id v (queueing v t) at out free));
+        tells = ((λ _. refl), (λ ne. absurd (ne e)));
+      })
+      (λ ne. stays first id 0 t me t s log homes views (TakesTicket (step slots 0 old (old + 1) none) me t) h at refl ((λ e. absurd (ne e)), (λ _. refl))))
 
   -- a pass with all parts finds the entries of `start`, and then its own
   whole : (first : T) (t s : ℕ) (log : List E) (homes : List (maybe.Option (Option T))) (views : List (View T E)) (id : ℕ) (v : View T E) → Stands entries origin first t s log homes views → get_elem? views id ≡ some v
@@ -189,7 +189,7 @@ module _ {T E O : Type 0} (entries : T → List E) (origin : T → O) where
       let f = h.each id v at in
       let none_else : (p by : ℕ) (u : View T E) → get_elem? views by ≡ some u → u.parts ≡ 0 → times_at p u.own ≡ 0 = λ p by u bt z. ap (times_at p) ((h.each by u bt).gone z).2 in
       let places : (p : ℕ) → times_at p v.own + one_below p (length (entries first)) ≡ one_below p (length log) =
-          λ p. omega (arith, h.places p, total_whole (λ u. times_at p u.own) (λ u. u.parts) views id v at (all ∙ sym h.parts) (none_else p)) in
+      λ p. omega (arith, h.places p, total_whole (λ u. times_at p u.own) (λ u. u.parts) views id v at (all ∙ sym h.parts) (none_else p)) in
       whole_list (entries first) log v.own h.begins f.own places
 
   -- look at serving
@@ -197,47 +197,51 @@ module _ {T E O : Type 0} (entries : T → List E) (origin : T → O) where
       → Allows (Ruled entries origin first) slots id me 1 (λ n. n) (LooksAtServing entries origin (step slots 1 0 0 none) me)
   looks_at_serving first slots id me waits out =
       goes first slots id 1 me (λ n. n) (LooksAtServing entries origin (step slots 1 0 0 none) me) (λ t s log homes views h len at.
-        let v = me.0 in
-        let f = h.each id v at in
-        let some_here = some_part first s log v f waits in
-        let starts = f.starts some_here in
-        dite (ℕ_discrete s v.ticket)
-          (λ e.
-            let nobody_in : Free views = λ by u bt. not_true u.inside (λ i.
-                dite (ℕ_discrete by id)
-                  (λ same. not_both u.inside i (ap (λ z. z.inside) (some-injective u v (sym bt ∙ ap (λ k. get_elem? views k) same ∙ at)) ∙ out))
-                  (λ apart. let a = (h.each by u bt).inside i in one_pass first t s log homes views h s id by v u apart at bt waits (sym e) a.0 a.1)) in
-            let home = h.home nobody_in in
-            let x = home.value in
-            let w = entering v (entries x) in
-            record {
-              view = w;
-              act = takes 0 (Some x);
-              ticket = t;
-              serving = s;
-              log = log;
-              valid = subst (λ hs. get_elem? hs 0 ≡ some (some (Some x))) (sym home.home) refl;
-              words = refl;
-              stands = moves first t s log homes views id v h at t s log (slice_set homes 0 none) w h.ticket_word h.count_word (prefix_refl log)
-                refl
-                (λ k. refl)
-                (λ p. refl)
-                refl
-                (record { seen = subst (λ l. IsPrefix (entries x) l) home.all (prefix_refl (entries x)); told = f.told; own = f.own; inside = λ _. (waits, sym e, home.all); starts = f.starts; gone = λ z. absurd (omega arith) })
-                (λ by u ne bt fu. fu)
-                (λ free. absurd (not_both true refl (free id w (set_there views id v w at))));
-              tells = (
-                (λ _. (x, refl, λ y began. record {
-                  few = subst (λ l. length l < 2 ^ 64) (sym home.all) h.count_word;
-                  began = let same : first ≡ y = cc in home.began ∙ ap origin same;
-                  seen = subst (λ l. IsPrefix v.seen l) (sym home.all) f.seen;
-                  own = subst (λ l. StandFrom 0 l v.own) (sym home.all) f.own;
-                  whole = λ all. let same : first ≡ y = cc in home.all ∙ whole first t s log homes views id v h at all ∙ ap (λ z. entries z ++ entries_of v.own) same;
-                })),
-                (λ ne. absurd (ne e)),
-              );
-            })
-          (λ ne. stays first id 1 s me t s log homes views (LooksAtServing entries origin (step slots 1 0 0 none) me s) h at refl ((λ e. absurd (ne e)), (λ _. refl))))
+      let v = me.0 in
+      let f = h.each id v at in
+      let some_here = some_part first s log v f waits in
+      let starts = f.starts some_here in
+      dite (ℕ_discrete s v.ticket)
+      (λ e.
+      let nobody_in : Free views = λ by u bt. not_true u.inside (λ i.
+      dite (ℕ_discrete by id)
+      (λ same. not_both u.inside i (ap (λ z. z.inside) (some-injective u v (sym bt ∙ ap (λ k. get_elem? views k) same ∙ at)) ∙ out))
+      (λ apart. let a = (h.each by u bt).inside i in one_pass first t s log homes views h s id by v u apart at bt waits (sym e) a.0 a.1)) in
+      let home = h.home nobody_in in
+      let x = home.value in
+      let w = entering v (entries x) in
+      record {
+        view = w;
+        act = takes 0 (Some x);
+        ticket = t;
+        serving = s;
+        log = log;
+        valid = subst (λ hs. get_elem? hs 0 ≡ some (some (Some x))) (sym home.home) refl;
+        words = refl;
+        stands = moves first t s log homes views id v h at t s log (slice_set homes 0 none) w h.ticket_word h.count_word (prefix_refl log)
+            refl
+            (λ k. refl)
+            (λ p. refl)
+            refl
+            (record { seen = subst (λ l. IsPrefix (entries x) l) home.all (prefix_refl (entries x)); told = f.told; own = f.own; inside = λ _. (waits, sym e, home.all); starts = f.starts; gone = λ z. absurd (omega arith) })
+            (λ by u ne bt fu. fu)
+            (λ free. absurd (not_both true refl (free id w (set_there views id v w at))));
+        tells = (
+          (λ _. (
+            x,
+            refl,
+            λ y began. record {
+              few = subst (λ l. length l < 2 ^ 64) (sym home.all) h.count_word;
+              began = let same : first ≡ y = cc in home.began ∙ ap origin same;
+              seen = subst (λ l. IsPrefix v.seen l) (sym home.all) f.seen;
+              own = subst (λ l. StandFrom 0 l v.own) (sym home.all) f.own;
+              whole = λ all. let same : first ≡ y = cc in home.all ∙ whole first t s log homes views id v h at all ∙ ap (λ z. entries z ++ entries_of v.own) same;
+            },
+          )),
+          (λ ne. absurd (ne e)),
+        );
+      })
+      (λ ne. stays first id 1 s me t s log homes views (LooksAtServing entries origin (step slots 1 0 0 none) me s) h at refl ((λ e. absurd (ne e)), (λ _. refl))))
 
   -- count the entries added: those of the value in hand behind those that were seen
   counts_in_hand : (first : T) (slots id : ℕ) (me : Me (Option T) (View T E)) (k : ℕ) → me.0.inside ≡ true → IsPrefix me.0.seen (in_hand entries me.1) → length (in_hand entries me.1) < 2 ^ 64
@@ -245,27 +249,27 @@ module _ {T E O : Type 0} (entries : T → List E) (origin : T → O) where
       → Allows (Ruled entries origin first) slots id me 2 (λ n. (n + k) % 2 ^ 64) (Counts entries (step slots 2 k 0 none) me)
   counts_in_hand first slots id me k inside grows few added =
       goes first slots id 2 me (λ n. (n + k) % 2 ^ 64) (Counts entries (step slots 2 k 0 none) me) (λ t s log homes views h len at.
-        let v = me.0 in
-        let es = in_hand entries me.1 in
-        let f = h.each id v at in
-        let within = f.inside inside in
-        let same : v.seen ≡ log = within.2 in
-        let longer_log : IsPrefix log es = subst (λ l. IsPrefix l es) same grows in
-        let n : ℕ = length v.seen in
-        let now_length : length log ≡ n = sym (ap length same) in
-        let total : (length log + k) % 2 ^ 64 ≡ length es = omega (arith, now_length, added, few) in
-        let w = adding v es in
-        let more = drop n es in
-        let more_length : n + length more ≡ length es = omega (arith, length-drop n es, prefix_length v.seen es grows) in
-        record {
-          view = w;
-          act = keeps;
-          ticket = t;
-          serving = s;
-          log = es;
-          valid = tt;
-          words = ap (λ c. t ∷ s ∷ c ∷ []) total;
-          stands = moves first t s log homes views id v h at t s es homes w h.ticket_word few longer_log
+      let v = me.0 in
+      let es = in_hand entries me.1 in
+      let f = h.each id v at in
+      let within = f.inside inside in
+      let same : v.seen ≡ log = within.2 in
+      let longer_log : IsPrefix log es = subst (λ l. IsPrefix l es) same grows in
+      let n : ℕ = length v.seen in
+      let now_length : length log ≡ n = sym (ap length same) in
+      let total : (length log + k) % 2 ^ 64 ≡ length es = omega (arith, now_length, added, few) in
+      let w = adding v es in
+      let more = drop n es in
+      let more_length : n + length more ≡ length es = omega (arith, length-drop n es, prefix_length v.seen es grows) in
+      record {
+        view = w;
+        act = keeps;
+        ticket = t;
+        serving = s;
+        log = es;
+        valid = tt;
+        words = ap (λ c. t ∷ s ∷ c ∷ []) total;
+        stands = moves first t s log homes views id v h at t s es homes w h.ticket_word few longer_log
             refl
             (λ p. refl)
             (λ p. omega (arith, times_append p v.own (enumerate_from n more), times_placed p n more, ap (λ (c : ℕ). one_below p c) now_length, ap (λ (c : ℕ). one_below p c) more_length))
@@ -280,36 +284,36 @@ module _ {T E O : Type 0} (entries : T → List E) (origin : T → O) where
               gone = fu.gone;
             })
             (λ free. absurd (not_both v.inside inside (free id w (set_there views id v w at))));
-          tells = refl;
-        })
+        tells = refl;
+      })
 
   pub counts_entries : (first : T) (slots id : ℕ) (me : Me (Option T) (View T E)) (k : ℕ) (v : View T E) (x : T) → me ≡ (v, (0, Some x) ∷ []) → v.inside ≡ true → IsPrefix v.seen (entries x) → length (entries x) < 2 ^ 64 → length v.seen + k ≡ length (entries x)
       → Allows (Ruled entries origin first) slots id me 2 (λ n. (n + k) % 2 ^ 64) (Counts entries (step slots 2 k 0 none) me)
   counts_entries first slots id me k v x e inside grows few added =
       subst (λ m. Allows (Ruled entries origin first) slots id m 2 (λ n. (n + k) % 2 ^ 64) (Counts entries (step slots 2 k 0 none) m)) (sym e)
-        (counts_in_hand first slots id (v, (0, Some x) ∷ []) k inside grows few added)
+      (counts_in_hand first slots id (v, (0, Some x) ∷ []) k inside grows few added)
 
   -- pass on
   passes_in_hand : (first : T) (slots id : ℕ) (me : Me (Option T) (View T E)) (x : T) → slots ≡ 1 → me.0.inside ≡ true → me.1 ≡ (0, Some x) ∷ [] → me.0.seen ≡ entries x → origin x ≡ origin first
       → Allows (Ruled entries origin first) slots id me 1 (λ n. (n + 1) % 2 ^ 64) (PassesOn (step slots 1 1 0 none) me)
   passes_in_hand first slots id me x one inside has all began =
       goes first slots id 1 me (λ n. (n + 1) % 2 ^ 64) (PassesOn (step slots 1 1 0 none) me) (λ t s log homes views h len at.
-        let v = me.0 in
-        let f = h.each id v at in
-        let within = f.inside inside in
-        let waits : v.waits ≡ true = within.0 in
-        let given : s < t = below_from s t (omega (arith, h.tickets s, has_it s v waits within.1, total_has (λ u. one_if (has_ticket s u)) views id v at)) in
-        let next : (s + 1) % 2 ^ 64 ≡ s + 1 = omega (arith, h.ticket_word) in
-        let w = leaving v in
-        record {
-          view = w;
-          act = gives;
-          ticket = t;
-          serving = s + 1;
-          log = log;
-          valid = tt;
-          words = ap (λ n. t ∷ n ∷ length log ∷ []) next;
-          stands = moves first t s log homes views id v h at t (s + 1) log (put_back homes me.1) w h.ticket_word h.count_word (prefix_refl log)
+      let v = me.0 in
+      let f = h.each id v at in
+      let within = f.inside inside in
+      let waits : v.waits ≡ true = within.0 in
+      let given : s < t = below_from s t (omega (arith, h.tickets s, has_it s v waits within.1, total_has (λ u. one_if (has_ticket s u)) views id v at)) in
+      let next : (s + 1) % 2 ^ 64 ≡ s + 1 = omega (arith, h.ticket_word) in
+      let w = leaving v in
+      record {
+        view = w;
+        act = gives;
+        ticket = t;
+        serving = s + 1;
+        log = log;
+        valid = tt;
+        words = ap (λ n. t ∷ n ∷ length log ∷ []) next;
+        stands = moves first t s log homes views id v h at t (s + 1) log (put_back homes me.1) w h.ticket_word h.count_word (prefix_refl log)
             (omega (arith, ap one_if waits))
             (λ k. omega (arith, its_ticket k v waits, ap (λ n. one_if (n == k)) within.1, one_next k s))
             (λ p. refl)
@@ -322,8 +326,8 @@ module _ {T E O : Type 0} (entries : T → List E) (origin : T → O) where
               all = sym all ∙ within.2;
               began = began;
             });
-          tells = refl;
-        })
+        tells = refl;
+      })
     where
       one_home : (homes : List (maybe.Option (Option T))) (x : T) → length homes ≡ 1 → slice_set homes 0 (some (Some x)) ≡ some (Some x) ∷ []
       one_home [] x e = absurd (omega arith)
@@ -334,24 +338,24 @@ module _ {T E O : Type 0} (entries : T → List E) (origin : T → O) where
       → Allows (Ruled entries origin first) slots id me 1 (λ n. (n + 1) % 2 ^ 64) (PassesOn (step slots 1 1 0 none) me)
   passes_on first slots id me v x e one inside seen began =
       subst (λ m. Allows (Ruled entries origin first) slots id m 1 (λ n. (n + 1) % 2 ^ 64) (PassesOn (step slots 1 1 0 none) m)) (sym e)
-        (passes_in_hand first slots id (v, (0, Some x) ∷ []) x one inside refl seen began)
+      (passes_in_hand first slots id (v, (0, Some x) ∷ []) x one inside refl seen began)
 
   -- what either pass of a join had seen
   pub is_told : (first : T) (slots id : ℕ) (me : Me (Option T) (View T E)) → me.0.inside ≡ false
       → Allows (Ruled entries origin first) slots id me 0 (λ n. n) (IsTold (step slots 0 0 0 none) me)
   is_told first slots id me out =
       goes first slots id 0 me (λ n. n) (IsTold (step slots 0 0 0 none) me) (λ t s log homes views h len at.
-        let v = me.0 in
-        let f = h.each id v at in
-        let sees : (seen : List E) → IsPrefix seen log → IsLongerOf v.seen v.told seen → Goes first id 0 t me (t ∷ s ∷ length log ∷ []) homes views (IsTold (step slots 0 0 0 none) me t) = λ seen front tells. record {
-          view = informed v seen;
-          act = keeps;
-          ticket = t;
-          serving = s;
-          log = log;
-          valid = tt;
-          words = refl;
-          stands = moves first t s log homes views id v h at t s log homes (informed v seen) h.ticket_word h.count_word (prefix_refl log)
+      let v = me.0 in
+      let f = h.each id v at in
+      let sees : (seen : List E) → IsPrefix seen log → IsLongerOf v.seen v.told seen → Goes first id 0 t me (t ∷ s ∷ length log ∷ []) homes views (IsTold (step slots 0 0 0 none) me t) = λ seen front tells. record {
+        view = informed v seen;
+        act = keeps;
+        ticket = t;
+        serving = s;
+        log = log;
+        valid = tt;
+        words = refl;
+        stands = moves first t s log homes views id v h at t s log homes (informed v seen) h.ticket_word h.count_word (prefix_refl log)
             refl
             (λ k. refl)
             (λ p. refl)
@@ -359,12 +363,12 @@ module _ {T E O : Type 0} (entries : T → List E) (origin : T → O) where
             (record { seen = front; told = record { rest = log; is = refl }; own = f.own; inside = λ i. absurd (not_both v.inside i out); starts = f.starts; gone = f.gone })
             (λ by u ne bt fu. fu)
             (λ free. h.home (free_before views id v (informed v seen) at out free));
-          tells = (seen, refl, tells);
-        } in
-        ⊎_elim
-          (λ a. sees v.told f.told (record { first = a; second = prefix_refl v.told; either = inr refl }))
-          (λ a. sees v.seen f.seen (record { first = prefix_refl v.seen; second = a; either = inl refl }))
-          (longer v.seen v.told log f.seen f.told))
+        tells = (seen, refl, tells);
+      } in
+      ⊎_elim
+      (λ a. sees v.told f.told (record { first = a; second = prefix_refl v.told; either = inr refl }))
+      (λ a. sees v.seen f.seen (record { first = prefix_refl v.seen; second = a; either = inl refl }))
+      (longer v.seen v.told log f.seen f.told))
 
   -- split a pass
   pub splits : (first : T) (id : ℕ) (v : View T E) → v.waits ≡ false → 1 < v.parts → Splits (Ruled entries origin first) id v (keeping v) (fresh v)
@@ -388,8 +392,8 @@ module _ {T E O : Type 0} (entries : T → List E) (origin : T → O) where
           places = λ p. omega (arith, st.places p, total_set (λ u. times_at p u.own) views id v (keeping v) at, sum_by_push (λ u. times_at p u.own) rest (fresh v));
           parts = omega (arith, st.parts, total_set (λ u. u.parts) views id v (keeping v) at, sum_by_push (λ u. u.parts) rest (fresh v));
           each = each_snoc (Fits first h.serving h.log) rest (fresh v)
-            (record { seen = f.seen; told = record { rest = h.log; is = refl }; own = tt; inside = λ i. absurd (not_both false i refl); starts = λ _. f.starts (omega arith); gone = λ z. absurd (omega arith) })
-            (each_set (Fits first h.serving h.log) (Fits first h.serving h.log) views id (keeping v)
+              (record { seen = f.seen; told = record { rest = h.log; is = refl }; own = tt; inside = λ i. absurd (not_both false i refl); starts = λ _. f.starts (omega arith); gone = λ z. absurd (omega arith) })
+              (each_set (Fits first h.serving h.log) (Fits first h.serving h.log) views id (keeping v)
               (record { seen = f.seen; told = f.told; own = f.own; inside = f.inside; starts = λ _. f.starts (omega arith); gone = λ z. absurd (omega arith) })
               (λ by u ne bt fu. fu)
               st.each);
@@ -409,7 +413,7 @@ module _ {T E O : Type 0} (entries : T → List E) (origin : T → O) where
       let v_out = waits_inside first h.serving h.log v f v_waits in
       let w_out = waits_inside first h.serving h.log w g w_waits in
       let once : (p : ℕ) → times_at p v.own + times_at p w.own ≤ 1 = λ p.
-          omega (arith, st.places p, total_two (λ u. times_at p u.own) views id other v w apart at bt, below_one p (length h.log)) in
+      omega (arith, st.places p, total_two (λ u. times_at p u.own) views id other v w apart at bt, below_one p (length h.log)) in
       record {
         ticket = h.ticket;
         serving = h.serving;
@@ -424,9 +428,9 @@ module _ {T E O : Type 0} (entries : T → List E) (origin : T → O) where
           places = λ p. omega (arith, st.places p, times_merge p v.own w.own, total_set (λ u. times_at p u.own) views id v (both v w) at, total_set (λ u. times_at p u.own) merged other w nobody bt');
           parts = omega (arith, st.parts, total_set (λ u. u.parts) views id v (both v w) at, total_set (λ u. u.parts) merged other w nobody bt');
           each = each_set (Fits first h.serving h.log) (Fits first h.serving h.log) merged other nobody
-            (record { seen = record { rest = h.log; is = refl }; told = record { rest = h.log; is = refl }; own = tt; inside = λ i. absurd (not_both false i refl); starts = λ z. absurd (omega arith); gone = λ _. (refl, refl, refl) })
-            (λ by u ne ut fu. fu)
-            (each_set (Fits first h.serving h.log) (Fits first h.serving h.log) views id (both v w)
+              (record { seen = record { rest = h.log; is = refl }; told = record { rest = h.log; is = refl }; own = tt; inside = λ i. absurd (not_both false i refl); starts = λ z. absurd (omega arith); gone = λ _. (refl, refl, refl) })
+              (λ by u ne ut fu. fu)
+              (each_set (Fits first h.serving h.log) (Fits first h.serving h.log) views id (both v w)
               (record { seen = f.seen; told = g.seen; own = stand_merge h.log v.own w.own f.own g.own once; inside = λ i. absurd (not_both v.inside i v_out); starts = λ _. f.starts some_here; gone = λ z. absurd (omega arith) })
               (λ by u ne ut fu. fu)
               st.each);
@@ -452,8 +456,8 @@ module _ {T E O : Type 0} (entries : T → List E) (origin : T → O) where
           places = λ p. omega arith;
           parts = refl;
           each = λ by u at. ⊎_elim (λ e. absurd (some-ne-none u (sym e))) (λ e. subst (Fits value 0 (entries value)) e
-            (record { seen = prefix_refl (entries value); told = record { rest = entries value; is = refl }; own = tt; inside = λ i. absurd (not_both false i refl); starts = λ _. refl; gone = λ z. absurd (omega arith) }))
-            (at_snoc [] v u by at);
+              (record { seen = prefix_refl (entries value); told = record { rest = entries value; is = refl }; own = tt; inside = λ i. absurd (not_both false i refl); starts = λ _. refl; gone = λ z. absurd (omega arith) }))
+              (at_snoc [] v u by at);
           home = λ _. record { value = value; home = refl; all = refl; began = refl };
         };
       }

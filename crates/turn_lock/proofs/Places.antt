@@ -132,11 +132,11 @@ module _ {E : Type 0} where
   times_put : (p : ℕ) (x : ℕ × E) (ys : List (ℕ × E)) → times_at p (put_in x ys) ≡ one_at p x + times_at p ys
   times_put p x [] = times_cons p x []
   times_put p x (y ∷ ys) = by_test (nat_lt x.0 y.0) refl (times_put p x ys) where
-      by_test : (b : Bool) → nat_lt x.0 y.0 ≡ b → times_at p (put_in x ys) ≡ one_at p x + times_at p ys → times_at p (put_in x (y ∷ ys)) ≡ one_at p x + times_at p (y ∷ ys)
-      by_test true e h = ap (times_at p) (put_below x y ys true e) ∙ times_cons p x (y ∷ ys)
-      by_test false e h =
-          let behind = ap (times_at p) (put_below x y ys false e) in
-          omega (arith, behind, times_cons p y (put_in x ys), times_cons p y ys)
+    by_test : (b : Bool) → nat_lt x.0 y.0 ≡ b → times_at p (put_in x ys) ≡ one_at p x + times_at p ys → times_at p (put_in x (y ∷ ys)) ≡ one_at p x + times_at p (y ∷ ys)
+    by_test true e h = ap (times_at p) (put_below x y ys true e) ∙ times_cons p x (y ∷ ys)
+    by_test false e h =
+        let behind = ap (times_at p) (put_below x y ys false e) in
+        omega (arith, behind, times_cons p y (put_in x ys), times_cons p y ys)
 
   pub times_merge : (p : ℕ) (xs ys : List (ℕ × E)) → times_at p (merge xs ys) ≡ times_at p xs + times_at p ys
   times_merge p [] ys = omega arith

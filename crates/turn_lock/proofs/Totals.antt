@@ -41,7 +41,7 @@ module _ {V : Type 0} where
       let e = ap f same in
       let d = ap g same in
       let empty : (by : ℕ) (u : V) → get_elem? xs by ≡ some u → f u ≡ 0 =
-          λ by u bt. none (suc by) u bt (omega (arith, total_has g xs by u bt, sum_by-cons g x xs)) in
+      λ by u bt. none (suc by) u bt (omega (arith, total_has g xs by u bt, sum_by-cons g x xs)) in
       omega (arith, total_none f xs empty, sum_by-cons f x xs)
   total_whole f g (x ∷ xs) (suc id) v at all none =
       let has = total_has g xs id v at in

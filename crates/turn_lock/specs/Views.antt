@@ -12,12 +12,12 @@ pub record TurnView (T : Type 0) : Type 0 where
 
 -- A pass, as callers see it.
 pub record PassView (T E : Type 0) : Type 0 where
-  pub which : TableId              -- the lock that it was made with
-  pub first : Option T             -- the value that was given to `start` of that lock
-  pub parts : ℕ                    -- of the 1,024 parts of the lock
-  pub inside : Bool                -- it has the value
-  pub seen : List E                -- all entries of the value, when it last entered or left, or was told of them
-  pub own : List (ℕ × E)           -- the entries that it added, each with its place
+  pub which : TableId  -- the lock that it was made with
+  pub first : Option T  -- the value that was given to `start` of that lock
+  pub parts : ℕ  -- of the 1,024 parts of the lock
+  pub inside : Bool  -- it has the value
+  pub seen : List E  -- all entries of the value, when it last entered or left, or was told of them
+  pub own : List (ℕ × E)  -- the entries that it added, each with its place
 
 -- The pass was made with this lock.
 pub record IsPassOf {T E : Type 0} (turn : TurnView T) (pass : PassView T E) : Type 0 where

@@ -13,9 +13,11 @@ use std::marker::Model;
 use std::snapshot::Snapshot;
 use std::sync::Wait;
 use std::thread;
+use thiserror::Error;
 
 /// There was no memory.
-#[derive(Debug, Clone, Copy, PartialEq, Eq)]
+#[derive(Debug, Clone, Copy, PartialEq, Eq, Error)]
+#[error("no memory")]
 pub struct Memory;
 
 /// The ticket word: the next ticket to be given.
@@ -99,12 +101,10 @@ impl<T: Logged + Send + Drop> Turn<T> {
         let mut expected = self.table.shared.peek(TICKET);
         for _ in rt.forever() {
             if expected < u64::MAX {
-                let found = self.table.shared.compare_exchange::<TakeTicket>(
-                    seat,
-                    TICKET,
-                    expected,
-                    expected + 1,
-                );
+                let found = self
+                    .table
+                    .shared
+                    .compare_exchange::<TakeTicket>(seat, TICKET, expected, expected + 1);
                 if found == expected {
                     return found;
                 }
@@ -167,8 +167,12 @@ impl<T: Logged + Send + Drop> Turn<T> {
     {
         let more = value.count() - p.found;
         self.table.shared.exchange(&mut p.seat, HOME, Some(value));
-        self.table.shared.fetch_add::<CountEntries>(&mut p.seat, COUNT, more);
-        self.table.shared.fetch_add::<PassOn>(&mut p.seat, SERVING, 1);
+        self.table
+            .shared
+            .fetch_add::<CountEntries>(&mut p.seat, COUNT, more);
+        self.table
+            .shared
+            .fetch_add::<PassOn>(&mut p.seat, SERVING, 1);
     }
 
     /// A new pass, which has one part of `p` and has seen what `p` has seen.
@@ -196,7 +200,9 @@ impl<T: Logged + Send + Drop> Turn<T> {
             seat: other_seat,
             found: _,
         } = other;
-        self.table.shared.join_seat::<Parts>(&mut p.seat, other_seat);
+        self.table
+            .shared
+            .join_seat::<Parts>(&mut p.seat, other_seat);
         self.table.shared.load::<Learn>(&mut p.seat, TICKET);
     }
 
@@ -204,5 +210,8 @@ impl<T: Logged + Send + Drop> Turn<T> {
     pub fn close(self, p: Pass<T>)
         requires pass { IsPassOf self p }
         requires inside { p.inside ≡ true }
-    {}
+    {
+        drop(p);
+        drop(self);
+    }
 }

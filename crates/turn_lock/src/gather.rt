@@ -1,0 +1,31 @@
+//! A caller of three passes, which shows what the clauses of the lock say together.
+ghost use Rattle.std.specs.Prelude.{◌≡◌, ◌+◌, false, ◌++◌};
+ghost use Rattle.turn_lock.specs.Entries.{entries_of, merge};
+ghost use Rattle.turn_lock.specs.Views.{IsPassOf};
+
+use crate::logged::Logged;
+use crate::turn::{Pass, Turn};
+use std::sync::Wait;
+
+/// Takes three passes in, which have all parts of the lock between them, and ends the lock.
+/// The value has the entries that it began with, and then those of the three passes, in the order of their places.
+pub fn gather<T: Logged + Send + Drop>(
+    rt: &impl Wait,
+    turn: Turn<T>,
+    first: Pass<T>,
+    second: Pass<T>,
+    third: Pass<T>,
+) -> T
+    requires passes { IsPassOf turn first × IsPassOf turn second × IsPassOf turn third }
+    requires outside { (first.inside ≡ false) × (second.inside ≡ false) × (third.inside ≡ false) }
+    requires all { first.parts + second.parts + third.parts ≡ 1024 }
+    ensures origin { T.origin result ≡ T.origin turn.first }
+    ensures history { T.entries result ≡ T.entries turn.first ++ entries_of (merge (merge first.own second.own) third.own) }
+{
+    let mut all = first;
+    turn.join(&mut all, second);
+    turn.join(&mut all, third);
+    let value = turn.enter(rt, &mut all);
+    turn.close(all);
+    value
+}
