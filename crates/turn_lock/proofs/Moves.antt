@@ -363,7 +363,7 @@ module _ {T E O : Type 0} (entries : T → List E) (origin : T → O) where
             (record { seen = front; told = record { rest = log; is = refl }; own = f.own; inside = λ i. absurd (not_both v.inside i out); starts = f.starts; gone = f.gone })
             (λ by u ne bt fu. fu)
             (λ free. h.home (free_before views id v (informed v seen) at out free));
-        tells = (seen, refl, tells);
+        tells = (seen, log, refl, tells, front, f.own);
       } in
       ⊎_elim
       (λ a. sees v.told f.told (record { first = a; second = prefix_refl v.told; either = inr refl }))

@@ -1,12 +1,14 @@
 -- Lists that begin with others, and entries with their places.
-use Rattle.std.proofs.Common.{◌≡◌, ℕ, zero, suc, ◌+◌, ◌<◌, ◌≤◌, ◌⊎◌, inl, inr, ⊎_elim, Bool, true, false, cond, List, [], ◌∷◌, ◌++◌, length, drop, Some, refl, sym, ap, ◌∙◌, arith, subst, append_assoc, append-nil, length-append}
+use Rattle.std.proofs.Common.{◌≡◌, ℕ, zero, suc, ◌+◌, ◌<◌, ◌≤◌, ◌≢◌, ◌⊎◌, inl, inr, ⊎_elim, Bool, true, false, cond, List, [], ◌∷◌, ◌++◌, length, drop, Some, refl, sym, ap, ◌∙◌, arith, subst, append_assoc, append-nil, length-append}
 use Rattle.std.specs.Prelude.{nat_lt, ◌==◌, slice_get}
 use Rattle.std.specs.List.{enumerate_from}
 use Rattle.std.proofs.lemmas.List.{drop_at, drop_all}
 use Rattle.std.proofs.lemmas.List.Sums.{sum_by-cons, sum_by-append}
 use Rattle.std.proofs.lemmas.Option.{slice_get_within}
 use Rattle.std.proofs.lemmas.Bool.Decides.{nat_tests}
-use Rattle.turn_lock.specs.Entries.{IsPrefix, StandFrom, entries_of, times_at, put_in, merge, one_below}
+use mathlib.Core.Logic.{dite}
+use native.Mathlib.Decide.{dec_le, ℕ_discrete}
+use Rattle.turn_lock.specs.Entries.{IsPrefix, IsLongerOf, StandFrom, entries_of, times_at, put_in, merge, one_below}
 
 above_test : (m n : ℕ) → nat_lt m n ≡ true → m + 1 ≤ n
 above_test m n e = grind (arith, nat_tests)
@@ -206,3 +208,34 @@ module _ {E : Type 0} where
       let short : n ≤ length l = prefix_length front l a in
       let none : (p : ℕ) → p < n → times_at p own ≡ 0 = λ p lt. omega (arith, all p, one_within p n lt, one_within p (length l) (omega arith)) in
       prefix_drop front l a ∙ ap (λ es. front ++ es) (all_from n l own short (stand_higher n 0 l own h none) all)
+
+  elsewhere : (p : ℕ) (x : ℕ × E) → x.0 ≢ p → one_at p x ≡ 0
+  elsewhere p x apart = grind (arith, nat_tests)
+
+  place_within : (p n : ℕ) (l : List E) (own : List (ℕ × E)) → StandFrom n l own → 1 ≤ times_at p own → p < length l
+  place_within p n l [] h some = absurd (omega arith)
+  place_within p n l (x ∷ own) h some =
+      dite (ℕ_discrete x.0 p)
+      (λ e. subst (λ k. k < length l) e (slice_get_within l x.0 x.1 h.1))
+      (λ apart. place_within p (x.0 + 1) l own h.2 (omega (arith, times_cons p x own, elsewhere p x apart)))
+
+  get_shorter : (xs rest : List E) (i : ℕ) (e : E) → i < length xs → slice_get (xs ++ rest) i ≡ Some e → slice_get xs i ≡ Some e
+  get_shorter [] rest i e lt h = absurd (omega arith)
+  get_shorter (x ∷ xs) rest zero e lt h = h
+  get_shorter (x ∷ xs) rest (suc i) e lt h = get_shorter xs rest i e (omega arith) h
+
+  stand_shorter : (n : ℕ) (xs rest : List E) (own : List (ℕ × E)) → StandFrom n (xs ++ rest) own → ((p : ℕ) → 1 ≤ times_at p own → p < length xs) → StandFrom n xs own
+  stand_shorter n xs rest [] h within = tt
+  stand_shorter n xs rest (x ∷ own) h within = (
+    h.0,
+    get_shorter xs rest x.0 x.1 (within x.0 (omega (arith, times_cons x.0 x own, here x))) h.1,
+    stand_shorter (x.0 + 1) xs rest own h.2 (λ p some. within p (omega (arith, times_cons p x own))),
+  )
+
+  -- the own entries of two passes, where they stand in the list together, stand in what either has seen
+  pub stand_both : (xs ys seen l : List E) (mine theirs : List (ℕ × E)) → IsLongerOf xs ys seen → IsPrefix seen l → StandFrom 0 xs mine → StandFrom 0 ys theirs → StandFrom 0 l (merge mine theirs) → StandFrom 0 seen (merge mine theirs)
+  stand_both xs ys seen l mine theirs longest front a b h =
+      stand_shorter 0 seen front.rest (merge mine theirs) (subst (λ k. StandFrom 0 k (merge mine theirs)) front.is h) (λ p some.
+      dite (dec_le 1 (times_at p mine))
+      (λ is. let short = prefix_length xs seen longest.first in let within = place_within p 0 xs mine a is in omega arith)
+      (λ not. let short = prefix_length ys seen longest.second in let within = place_within p 0 ys theirs b (omega (arith, not, times_merge p mine theirs)) in omega arith))

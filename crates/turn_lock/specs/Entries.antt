@@ -1,6 +1,6 @@
 -- Lists of entries, and entries with the places at which they stand in such a list. Places are counted from 0.
-use Rattle.std.specs.Prelude.{◌≡◌, ℕ, ◌+◌, ◌≤◌, if◌then◌else◌, nat_lt, ◌==◌, List, [], ◌∷◌, ◌++◌, map, length, drop, Some, slice_get, ⊤, ◌⊎◌}
-use Rattle.std.specs.List.{count_by, enumerate_from}
+use Rattle.std.specs.Prelude.{◌≡◌, ℕ, ◌+◌, ◌≤◌, Bool, if◌then◌else◌, nat_lt, ◌==◌, List, [], ◌∷◌, ◌++◌, map, length, drop, Some, slice_get, ⊤, ◌⊎◌}
+use Rattle.std.specs.List.{count_by, enumerate_from, filter}
 
 module _ {E : Type 0} where
   -- the list begins with these entries
@@ -26,6 +26,10 @@ module _ {E : Type 0} where
 
   abbrev pub entries_of : List (ℕ × E) → List E
   entries_of own = map (λ x. x.1) own
+
+  -- the entries that pass a test, as one that tells which thread wrote them
+  abbrev pub kept : (E → Bool) → List (ℕ × E) → List E
+  kept keep own = filter keep (entries_of own)
 
   -- how many of the entries have this place
   abbrev pub times_at : ℕ → List (ℕ × E) → ℕ

@@ -17,9 +17,11 @@ module _ {T E : Type 0} where
   abbrev pub PassesOn : Step (Option T) → Me (Option T) (View T E) → ℕ → Me (Option T) (View T E) → Type 0
   PassesOn step before found after = after ≡ (leaving before.0, rest before.1)
 
-  -- after a join the pass has seen what either had seen, and no more
+  -- after a join the pass has seen what either had seen, and no more, and its own entries stand in the list that begins so
   abbrev pub IsTold : Step (Option T) → Me (Option T) (View T E) → ℕ → Me (Option T) (View T E) → Type 0
-  IsTold step before found after = (seen : List E) × (after ≡ (informed before.0 seen, before.1)) × IsLongerOf before.0.seen before.0.told seen
+  IsTold step before found after =
+      (seen log : List E) × (after ≡ (informed before.0 seen, before.1))
+      × IsLongerOf before.0.seen before.0.told seen × IsPrefix seen log × StandFrom 0 log before.0.own
 
   module _ (entries : T → List E) where
     abbrev pub entries_in : Option T → List E

@@ -3,7 +3,7 @@ use Rattle.std.specs.Prelude.{◌≡◌, ℕ, ◌+◌, ◌-◌, Bool, true, fals
 use Rattle.atomic_table.specs.Seated.{TableId}
 use Rattle.atomic_table.specs.Table.{Me}
 use Rattle.turn_lock.specs.declared.view.View.{View}
-use Rattle.turn_lock.specs.Entries.{added, merge}
+use Rattle.turn_lock.specs.Entries.{StandFrom, added, merge}
 
 -- A lock, as callers see it: which one it is, and the value that was given to `start`.
 pub record TurnView (T : Type 0) : Type 0 where
@@ -24,9 +24,10 @@ pub record IsPassOf {T E : Type 0} (turn : TurnView T) (pass : PassView T E) : T
   pub which : pass.which ≡ turn.which
   pub first : pass.first ≡ Some turn.first
 
--- What a pass has at any time between two calls: some part of the lock, a ticket exactly while it is inside, and then the slot, out of which the value was taken, and the number of entries that it found.
+-- What a pass has at any time between two calls: some part of the lock; own entries that stand in what it has seen; a ticket exactly while it is inside, and then the slot, out of which the value was taken, and the number of entries that it found.
 pub record IsAtRest {T E : Type 0} (me : Me (Option T) (View T E)) (count : ℕ) : Type 0 where
   pub parts : 0 < me.0.parts
+  pub own : StandFrom 0 me.0.seen me.0.own
   pub ticket : me.0.waits ≡ me.0.inside
   pub outside : me.0.inside ≡ false → me.1 ≡ []
   pub slot : me.0.inside ≡ true → me.1 ≡ (0, None) ∷ []

@@ -32,7 +32,9 @@ const COUNT: usize = 2;
 /// The value's home.
 const HOME: usize = 0;
 
-/// A lock that hands its value out in the order of tickets.
+/// A lock that hands its value out in the order of tickets. Threads share it by `&`.
+///
+/// A contract sees which lock it is, and the value that was given to `start` (`first`).
 #[derive(Drop)]
 pub struct Turn<T: Logged> {
     table: Table<Option<T>, View<T, T::Entry>, Snapshot<T>, Law, Global>,
@@ -49,7 +51,10 @@ impl<T: Logged> Model for Turn<T> {
     ghost invariant = { λ t. (t.table.shared.table_id.words ≡ 3) × (t.table.shared.table_id.slots ≡ 1) };
 }
 
-/// The right to take turns at a lock. A thread needs one of its own.
+/// The right to take turns at a lock. Each thread has one of its own.
+///
+/// A contract sees its parts of the lock, whether it is inside, the entries that it has seen, and its own entries with
+/// their places, which are counted from 0.
 #[derive(Drop)]
 pub struct Pass<T: Logged> {
     seat: Seat<Option<T>, View<T, T::Entry>>,
@@ -68,7 +73,7 @@ impl<T: Logged> Model for Pass<T> {
 }
 
 impl<T: Logged + Send + Drop> Turn<T> {
-    /// Makes a lock for the value, and the pass that has all 1,024 parts of it. Want of memory drops the value.
+    /// Makes a lock for the value, and the pass that has all 1,024 parts of it. For want of memory the value is dropped.
     pub fn start(alloc: Global, value: T) -> Result<(Turn<T>, Pass<T>), Memory>
         requires few { length (T.entries value) < 2 ^ 64 }
         ensures first { IfOk result (λ r. r.0.first ≡ value) }
@@ -90,7 +95,7 @@ impl<T: Logged + Send + Drop> Turn<T> {
         }
     }
 
-    // Takes a ticket. Where none is left, it waits forever.
+    // Takes a ticket. Where none is left, it waits for ever.
     fn queue(&self, rt: &impl Wait, seat: &mut Seat<Option<T>, View<T, T::Entry>>) -> u64
         requires table { seat.old.table_id ≡ self.now.which }
         requires outside { seat.old.me.0.waits ≡ false }
@@ -98,13 +103,16 @@ impl<T: Logged + Send + Drop> Turn<T> {
         ensures table { seat.new.table_id ≡ seat.old.table_id }
         ensures ticket { seat.new.me ≡ (queueing seat.old.me.0 result, seat.old.me.1) }
     {
-        let mut expected = self.table.shared.peek(TICKET);
+        let table = &self.table.shared;
+        let mut expected = table.peek(TICKET);
         for _ in rt.forever() {
             if expected < u64::MAX {
-                let found = self
-                    .table
-                    .shared
-                    .compare_exchange::<TakeTicket>(seat, TICKET, expected, expected + 1);
+                let found = table.compare_exchange::<TakeTicket>(
+                    seat,
+                    TICKET,
+                    expected,
+                    expected + 1,
+                );
                 if found == expected {
                     return found;
                 }
@@ -126,9 +134,10 @@ impl<T: Logged + Send + Drop> Turn<T> {
         ensures inside { seat.new.me ≡ (entering seat.old.me.0 (T.entries result), (0, None) ∷ []) }
         ensures finds { Finds T.entries T.origin seat.old.me.0 self.now.first result }
     {
+        let table = &self.table.shared;
         for _ in rt.forever() {
-            if self.table.shared.load::<LookAtServing>(seat, SERVING) == ticket {
-                let Some(value) = self.table.shared.exchange(seat, HOME, None) else {
+            if table.load::<LookAtServing>(seat, SERVING) == ticket {
+                let Some(value) = table.exchange(seat, HOME, None) else {
                     unreachable!()
                 };
                 return value;
@@ -138,14 +147,14 @@ impl<T: Logged + Send + Drop> Turn<T> {
         unreachable!()
     }
 
-    /// Waits for its turn, and hands the value out. A call that finds no ticket left, after 2^64 - 1 of them, waits forever.
+    /// Takes a ticket, waits for its turn, and hands the value out. Once 2^64 - 1 tickets were taken, it waits for ever.
     pub fn enter(&self, rt: &impl Wait, p: &mut Pass<T>) -> T
         requires pass { IsPassOf self.now p.old }
         requires outside { p.old.inside ≡ false }
         ensures origin { T.origin result ≡ T.origin self.now.first }
         ensures few { length (T.entries result) < 2 ^ 64 }
         ensures seen { IsPrefix p.old.seen (T.entries result) }
-        ensures own { StandFrom 0 (T.entries result) p.old.own }
+        ensures stands { StandFrom 0 (T.entries result) p.old.own }
         ensures whole { p.old.parts ≡ 1024 → T.entries result ≡ T.entries self.now.first ++ entries_of p.old.own }
         ensures same { p.new ≡ record p.old { inside = true; seen = T.entries result } }
     {
@@ -155,7 +164,7 @@ impl<T: Logged + Send + Drop> Turn<T> {
         value
     }
 
-    /// Takes the value back, and passes the turn on. The entries added are the pass's own.
+    /// Takes the value back, and passes the turn on. The entries that were added since `enter` are the pass's own.
     pub fn leave(&self, p: &mut Pass<T>, value: T)
         requires pass { IsPassOf self.now p.old }
         requires inside { p.old.inside ≡ true }
@@ -163,19 +172,17 @@ impl<T: Logged + Send + Drop> Turn<T> {
         requires few { length (T.entries value) < 2 ^ 64 }
         requires seen { IsPrefix p.old.seen (T.entries value) }
         ensures own { p.new.own ≡ p.old.own ++ added p.old.seen (T.entries value) }
+        ensures stands { StandFrom 0 p.new.seen p.new.own }
         ensures same { p.new ≡ record p.old { inside = false; seen = T.entries value; own = p.new.own } }
     {
         let more = value.count() - p.found;
-        self.table.shared.exchange(&mut p.seat, HOME, Some(value));
-        self.table
-            .shared
-            .fetch_add::<CountEntries>(&mut p.seat, COUNT, more);
-        self.table
-            .shared
-            .fetch_add::<PassOn>(&mut p.seat, SERVING, 1);
+        let table = &self.table.shared;
+        table.exchange(&mut p.seat, HOME, Some(value));
+        table.fetch_add::<CountEntries>(&mut p.seat, COUNT, more);
+        table.fetch_add::<PassOn>(&mut p.seat, SERVING, 1);
     }
 
-    /// A new pass, which has one part of `p` and has seen what `p` has seen.
+    /// A new pass, for another thread. It has one of the parts of `p`, no entries of its own, and has seen what `p` has seen.
     pub fn split(&self, p: &mut Pass<T>) -> Pass<T>
         requires pass { IsPassOf self.now p.old }
         requires outside { p.old.inside ≡ false }
@@ -187,26 +194,26 @@ impl<T: Logged + Send + Drop> Turn<T> {
         Pass { seat, found: 0 }
     }
 
-    /// Takes another pass in: `p` has the parts and the own entries of both then, and has seen what either has seen.
+    /// Takes another pass in. `p` then has the parts and the own entries of both, and has seen what either has seen.
     pub fn join(&self, p: &mut Pass<T>, other: Pass<T>)
         requires pass { IsPassOf self.now p.old }
         requires other { IsPassOf self.now other }
         requires outside { (p.old.inside ≡ false) × (other.inside ≡ false) }
         ensures own { p.new.own ≡ merge p.old.own other.own }
         ensures seen { IsLongerOf p.old.seen other.seen p.new.seen }
+        ensures stands { StandFrom 0 p.new.seen p.new.own }
         ensures same { p.new ≡ record p.old { parts = p.old.parts + other.parts; seen = p.new.seen; own = p.new.own } }
     {
         let Pass {
             seat: other_seat,
             found: _,
         } = other;
-        self.table
-            .shared
-            .join_seat::<Parts>(&mut p.seat, other_seat);
-        self.table.shared.load::<Learn>(&mut p.seat, TICKET);
+        let table = &self.table.shared;
+        table.join_seat::<Parts>(&mut p.seat, other_seat);
+        table.load::<Learn>(&mut p.seat, TICKET);
     }
 
-    /// Ends the lock. The caller has the value.
+    /// Ends the lock. The pass is inside, so the caller has the value, and keeps it.
     pub fn close(self, p: Pass<T>)
         requires pass { IsPassOf self p }
         requires inside { p.inside ≡ true }
