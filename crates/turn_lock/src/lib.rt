@@ -25,4 +25,4 @@ mod turn;
 mod view;
 
 pub use logged::Logged;
-pub use turn::{Memory, Pass, Turn};
+pub use turn::{Pass, Turn};

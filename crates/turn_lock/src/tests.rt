@@ -134,9 +134,7 @@ fn written<R: Threads + Wait + Sync>(
         name: 7,
         lines: Vec::new(alloc),
     };
-    let Ok((lock, mut first)) = Turn::start(alloc, log) else {
-        return Err(AllocError);
-    };
+    let (lock, mut first) = Turn::start(alloc, log)?;
     let mut passes = split_off(alloc, &lock, &mut first, threads)?;
     write_all(rt, &lock, passes.as_mut_slice(), turns);
     join_all(&lock, &mut first, passes);
@@ -211,9 +209,7 @@ fn split_and_joined(
 ) -> Result<Log, AllocError> {
     let mut lines = Vec::new(alloc);
     lines.push(Line { thread: 9, turn: 0 })?;
-    let Ok((lock, mut a)) = Turn::start(alloc, Log { name: 7, lines }) else {
-        return Err(AllocError);
-    };
+    let (lock, mut a) = Turn::start(alloc, Log { name: 7, lines })?;
     let mut b = lock.split(&mut a);
     let mut c = lock.split(&mut a);
     take_turns(rt, &lock, &mut a, &mut b, &mut c, early);

@@ -7,18 +7,12 @@ ghost use Rattle.turn_lock.specs.Plays.{Finds, in_hand};
 
 use crate::logged::Logged;
 use crate::view::{CountEntries, Law, Learn, LookAtServing, Parts, PassOn, TakeTicket, View};
-use atomic_table::{Refused, Seat, Table};
-use std::alloc::Global;
+use atomic_table::{Seat, Table};
+use std::alloc::{AllocError, Global};
 use std::marker::Model;
 use std::snapshot::Snapshot;
 use std::sync::Wait;
 use std::thread;
-use thiserror::Error;
-
-/// There was no memory.
-#[derive(Debug, Clone, Copy, PartialEq, Eq, Error)]
-#[error("no memory")]
-pub struct Memory;
 
 /// The ticket word: the next ticket to be given.
 const TICKET: usize = 0;
@@ -74,7 +68,7 @@ impl<T: Logged> Model for Pass<T> {
 
 impl<T: Logged + Send + Drop> Turn<T> {
     /// Makes a lock for the value, and the pass that has all 1,024 parts of it. For want of memory the value is dropped.
-    pub fn start(alloc: Global, value: T) -> Result<(Turn<T>, Pass<T>), Memory>
+    pub fn start(alloc: Global, value: T) -> Result<(Turn<T>, Pass<T>), AllocError>
         requires few { length (T.entries value) < 2 ^ 64 }
         ensures first { IfOk result (λ r. r.0.first ≡ value) }
         ensures pass { IfOk result (λ r. IsPassOf r.0 r.1) }
@@ -86,13 +80,11 @@ impl<T: Logged + Send + Drop> Turn<T> {
         let first = Snapshot::of(&value);
         let words = [0, 0, value.count()];
         let mut home = Vec::new(alloc);
-        let Ok(()) = home.push(Some(value)) else {
-            return Err(Memory);
+        home.push(Some(value))?;
+        let Ok((table, seat)) = Table::new(alloc, &words, home, &first) else {
+            return Err(AllocError);
         };
-        match Table::new(alloc, &words, home, &first) {
-            Ok((table, seat)) => Ok((Turn { table }, Pass { seat, found: 0 })),
-            Err(Refused { slots: _ }) => Err(Memory),
-        }
+        Ok((Turn { table }, Pass { seat, found: 0 }))
     }
 
     // Takes a ticket. Where none is left, it waits for ever.
