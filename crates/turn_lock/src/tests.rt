@@ -69,6 +69,37 @@ fn write(rt: &impl Wait, lock: &Turn<Log>, pass: &mut Pass<Log>, thread: usize, 
     }
 }
 
+// Takes a turn in which nothing is done.
+fn visit<T: Logged + Send + Drop>(rt: &impl Wait, lock: &Turn<T>, pass: &mut Pass<T>)
+    requires pass { IsPassOf lock.now pass.old × (pass.old.inside ≡ false) }
+    ensures pass { IsPassOf lock.now pass.new × (pass.new.inside ≡ false) }
+{
+    let value = lock.enter(rt, pass);
+    lock.leave(pass, value);
+}
+
+// Threads share a lock of any value, and each has a pass of it.
+fn visit_all<T: Logged + Send + Drop, R: Threads + Wait + Sync>(
+    rt: &R,
+    lock: &Turn<T>,
+    passes: &mut [Pass<T>],
+)
+    requires passes { All (λ p. IsPassOf lock.now p × (p.inside ≡ false)) passes.old }
+    ensures passes { All (λ p. IsPassOf lock.now p × (p.inside ≡ false)) passes.new }
+{
+    thread::for_each_mut(
+        rt,
+        passes,
+        8,
+        &|_i, p: &mut Pass<T>|
+            requires pass { IsPassOf lock.now p.now × (p.now.inside ≡ false) }
+            ensures pass { IsPassOf lock.entry.now p.exit.now × (p.exit.now.inside ≡ false) }
+        {
+            visit(rt, lock, p);
+        },
+    );
+}
+
 // Each thread has a pass, and takes its turns.
 fn write_all<R: Threads + Wait + Sync>(
     rt: &R,
@@ -136,6 +167,7 @@ fn written<R: Threads + Wait + Sync>(
     };
     let (lock, mut first) = Turn::start(alloc, log)?;
     let mut passes = split_off(alloc, &lock, &mut first, threads)?;
+    visit_all(rt, &lock, passes.as_mut_slice());
     write_all(rt, &lock, passes.as_mut_slice(), turns);
     join_all(&lock, &mut first, passes);
     let log = lock.enter(rt, &mut first);
