@@ -1,0 +1,4 @@
+pub mod Vectors
+pub mod Sums
+pub mod Lengths
+pub mod Sealing

@@ -1,0 +1,5 @@
+pub mod Octets
+pub mod Aes
+pub mod Ccm
+pub mod Cmac
+pub mod Kdf
