@@ -1,3 +1,5 @@
 pub mod Address
 pub mod IvState
 pub mod Keys
+pub mod Memory
+pub mod Outside

@@ -10,6 +10,9 @@
 //! - `lower`: the four kinds of lower transport PDU
 //! - `beacon`: what a Secure Network beacon says
 //! - `slot`: one record of the flash
+//! - `outside`: the traits `Source` and `Sink`
+//! - `memory`: sources and sinks in memory, failing at chosen calls or never
+//! - `standard`: the source and the sink over std's readers and writers
 #![tactic(auto)]
 
 pub mod address;
@@ -18,6 +21,9 @@ pub mod fields;
 pub mod iv_state;
 pub mod keys;
 pub mod lower;
+pub mod memory;
 pub mod octets;
+pub mod outside;
 pub mod pair;
 pub mod slot;
+pub mod standard;

@@ -1,0 +1,10 @@
+-- The round keys made, and those that follow the last of them, are all of them.
+use Rattle.std.proofs.Common.{◌≡◌, ◌++◌, ◌-◌, length, take}
+use Rattle.cipher_definitions.specs.Aes.{keys_from}
+use Rattle.aes_block.proofs.schedule.keys_after.Given as goal
+
+abbrev pub invariant-loop-slot : goal.invariant-loop-slot
+invariant-loop-slot l = record {
+  made : take l.slot-index l.slot-items ++ keys_from (10 - l.slot-index) l.constant l.last ≡ keys_from 10 1 l.key;
+  count : length l.slot-items ≡ 10;
+}
