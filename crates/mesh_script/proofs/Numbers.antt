@@ -1,6 +1,6 @@
 -- Reading a number digit by digit.
 use Rattle.std.proofs.Common.{◌≡◌, ℕ, ◌+◌, ◌*◌, ◌^◌, ◌<◌, ◌≤◌, List, ◌∷◌, length, drop, get_or, Option, Some, None, refl, arith, eq-eqb, add-one, zero, suc, lit<}
-use Rattle.std.proofs.Math.Nat.{pow-succ', pow-le-pow_right}
+use Rattle.std.proofs.Math.Nat.{one-le-pow, pow-succ', pow-le-pow_right}
 use Rattle.std.proofs.lemmas.List.{at_drop_more, at_drop_all}
 use Rattle.hex.specs.Hex.{hex_digit_value}
 use Rattle.mesh_script.specs.Digits.{number_from, number_word}
@@ -36,3 +36,13 @@ number_end n w i h = rw (at_drop_all (number_from n) w i h) refl
 pub number_is : (k : ℕ) (w : List ℕ) (z : Option ℕ) → length w ≡ k → number_from 0 w ≡ z → number_word k w ≡ z
 unfolding number_word
 number_is k w z h e = rw (eq-eqb (length w) k h) e
+
+-- a digit of a number of 32 bits is found by a division by less than 2 ^ 32
+pub place_fits : (k : ℕ) → k < 8 → 16 ^ k < 2 ^ 32
+place_fits k h =
+  let a : k ≤ 7 = omega arith in
+  let b : 16 ^ k ≤ 16 ^ 7 = pow-le-pow_right (lit< tt) a in
+  omega arith
+
+pub place_is_some : (k : ℕ) → 0 < 16 ^ k
+place_is_some k = one-le-pow k 16 (lit< tt)
