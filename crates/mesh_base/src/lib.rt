@@ -9,6 +9,7 @@
 //! - `iv_state`: the state of the IV Index and the steps that it takes
 //! - `lower`: the four kinds of lower transport PDU
 //! - `beacon`: what a Secure Network beacon says
+//! - `upper`: what seals an access message besides its key
 //! - `slot`: one record of the flash
 //! - `outside`: the traits `Source` and `Sink`
 //! - `memory`: sources and sinks in memory, failing at chosen calls or never
@@ -27,3 +28,4 @@ pub mod outside;
 pub mod pair;
 pub mod slot;
 pub mod standard;
+pub mod upper;
