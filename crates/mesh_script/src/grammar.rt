@@ -50,14 +50,14 @@ pub struct RawLine {
     pub tpdu: Octets<16>,
 }
 
-/// The `raw` lines of a script, in their order. A clause sees the list of them.
+/// The `raw` lines of a script in their order, at most 4,096. A clause sees the list of them.
 #[derive(Debug, Drop)]
 pub struct RawLines {
     lines: Vec<RawLine>,
 }
 
 impl Model for RawLines {
-    ghost use Rattle.std.specs.Prelude.{List};
+    ghost use Rattle.std.specs.Prelude.{◌≤◌, List, length};
     ghost use Rattle.std.specs.List.{All};
     ghost use Rattle.mesh_script.specs.declared.grammar.RawLine.{RawLine};
     ghost use Rattle.mesh_script.specs.Raw.{IsRaw};
@@ -66,7 +66,7 @@ impl Model for RawLines {
 
     ghost view = { λ l. l.lines.items };
 
-    ghost invariant = { λ l. All IsRaw l.lines.items };
+    ghost invariant = { λ l. (All IsRaw l.lines.items) × (length l.lines.items ≤ 4096) };
 }
 
 impl RawLines {
@@ -74,6 +74,7 @@ impl RawLines {
     pub fn as_slice(&self) -> &[RawLine]
         ensures value { result.now ≡ self.now }
         ensures ranges { All IsRaw result.now }
+        ensures bound { length result.now ≤ 4096 }
     {
         self.lines.as_slice()
     }
@@ -167,6 +168,7 @@ fn raw_line(alloc: Global, line: &[u8]) -> Result<Option<RawLine>, AllocError>
 
 #[tactic(auto, unfolding(crate::specs::Script::each_read))]
 fn raw_lines(alloc: Global, lines: &[&[u8]]) -> Result<Option<RawLines>, AllocError>
+    requires { length lines.now ≤ 4096 }
     ensures value { IfOk result (λ ls. ls ≡ each_read raw_line (map (λ l. l.now) lines.now)) }
 {
     let mut out = Vec::new(alloc);
@@ -181,7 +183,8 @@ fn raw_lines(alloc: Global, lines: &[&[u8]]) -> Result<Option<RawLines>, AllocEr
 
 /// The lines behind the first two and before the last piece.
 fn lines_of_life(alloc: Global, lines: &[&[u8]]) -> Result<Option<RawLines>, AllocError>
-    requires { 3 ≤ length lines.now }
+    requires least { 3 ≤ length lines.now }
+    requires most { length lines.now ≤ 4099 }
     ensures value { IfOk result (λ ls. ls ≡ each_read raw_line (slice_range (map (λ l. l.now) lines.now) 2 (length lines.now - 1))) }
 {
     raw_lines(alloc, &lines[2..lines.len() - 1])
@@ -189,7 +192,8 @@ fn lines_of_life(alloc: Global, lines: &[&[u8]]) -> Result<Option<RawLines>, All
 
 #[tactic(auto, unfolding(crate::specs::Script::script_fields))]
 fn script_fields(alloc: Global, lines: &[&[u8]]) -> Result<Option<Script>, AllocError>
-    requires { 3 ≤ length lines.now }
+    requires least { 3 ≤ length lines.now }
+    requires most { length lines.now ≤ 4099 }
     ensures value { IfOk result (λ s. s ≡ script_fields (map (λ l. l.now) lines.now)) }
 {
     let words = split(alloc, piece(lines, 0), b' ')?;
