@@ -41,8 +41,8 @@ abbrev pub opened_over : List StoreRecord → Opened
 opened_over records = W.On (config_of records).iv (config_of records).mark
 
 -- the master credentials of a network key
-abbrev pub material : List ℕ → NetMaterial
-material net_key =
+abbrev pub master_material : List ℕ → NetMaterial
+master_material net_key =
   let credentials = master_credentials net_key in
   record { nid = credentials.nid; encryption = credentials.encryption; privacy = credentials.privacy }
 
@@ -52,12 +52,12 @@ fields_of p seq l = own_fields (record { iv = p.iv; seq = seq }) true l.ttl p.un
 
 -- its one job
 abbrev pub job_of : ProvisionLine → RawLine → Job
-job_of p l = J.Control (material p.net_key) l.ttl p.unicast l.dst l.tpdu None
+job_of p l = J.Control (master_material p.net_key) l.ttl p.unicast l.dst l.tpdu None
 
 -- what becomes of the job under the number seq
 abbrev pub outcome_of : ProvisionLine → ℕ → RawLine → Outcome
 outcome_of p seq l =
-  O.Ctl (record { iv = p.iv; seq = seq }) l.ttl p.unicast l.dst l.tpdu (net_text (material p.net_key) (fields_of p seq l))
+  O.Ctl (record { iv = p.iv; seq = seq }) l.ttl p.unicast l.dst l.tpdu (net_text (master_material p.net_key) (fields_of p seq l))
 
 -- the entry of a line at place i of the history
 abbrev pub entry_of : ProvisionLine → ℕ → RawLine → Entry
