@@ -13,6 +13,8 @@ pub mod grammar;
 pub mod lines;
 mod outcomes;
 pub mod text;
+#[cfg(test)]
+mod tests;
 mod words;
 
 pub use crate::grammar::{LONGEST_SCRIPT, ProvisionLine, RawLine, RawLines, Script, read_script};
