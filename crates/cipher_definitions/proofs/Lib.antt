@@ -2,3 +2,4 @@ pub mod Vectors
 pub mod Sums
 pub mod Lengths
 pub mod Sealing
+pub mod Blocks

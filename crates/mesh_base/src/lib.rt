@@ -28,4 +28,6 @@ pub mod outside;
 pub mod pair;
 pub mod slot;
 pub mod standard;
+#[cfg(test)]
+mod tests;
 pub mod upper;

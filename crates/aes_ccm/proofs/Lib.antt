@@ -1,0 +1,4 @@
+pub mod Loops
+pub mod Blocks
+pub mod Comparing
+pub mod Opening

@@ -1,0 +1,114 @@
+//! What no clause says: that calls which may lack memory succeed, that the sources and sinks serve as their callers need them, and
+//! the edges of the standard's table of addresses.
+#![tactic(auto)]
+
+use crate::address::{Address, AddressKind};
+use crate::memory::{MemSink, MemSource, SureSink, SureSource};
+use crate::octets::{Octets, TooMany};
+use crate::outside::{Failed, Sink, Source};
+use crate::standard::{StdSink, StdSource};
+use std::io::{self, Read, Write};
+
+#[test]
+fn kinds_of_addresses(rt: HostRuntime) {
+    // Mesh Profile 1.0.1, table 3.5: the first and the last address of each kind.
+    let cases = [
+        (0x0000, AddressKind::Unassigned),
+        (0x0001, AddressKind::Unicast),
+        (0x7fff, AddressKind::Unicast),
+        (0x8000, AddressKind::Virtual),
+        (0xbfff, AddressKind::Virtual),
+        (0xc000, AddressKind::Group),
+        (0xffff, AddressKind::Group),
+    ];
+    for (address, kind) in cases {
+        assert!(rt; Address(address).kind() == kind, "address {address}");
+    }
+}
+
+#[test]
+fn octets_fill_up(rt: HostRuntime) {
+    let mut octets: Octets<3> = Octets::new();
+    assert!(rt; octets.push(1) == Ok(()));
+    octets.extend(&[2, 3]);
+    assert!(rt; octets.push(4) == Err(TooMany));
+    assert!(rt; octets.as_slice() == [1, 2, 3].as_slice());
+    assert!(rt; Octets::<3>::of(&[1, 2, 3]) == Ok(octets.copied()));
+    assert!(rt; Octets::<2>::of(&[1, 2, 3]).is_err());
+}
+
+#[test]
+fn memory_fails_at_the_listed_calls(rt: HostRuntime) {
+    let mut source = MemSource::new(&[1, 2, 3, 4, 5], &[2, 4]);
+    let mut buf = [0; 2];
+    for want in [Ok(2), Err(Failed), Ok(2), Err(Failed), Ok(1), Ok(0), Ok(0)] {
+        assert!(rt; source.read(&mut buf) == want);
+    }
+    assert!(rt; buf.as_slice() == [5, 4].as_slice());
+
+    let mut sink = MemSink::new(rt.alloc(), &[1, 3]).expect(&rt, "there is memory");
+    for want in [Err(Failed), Ok(2), Err(Failed), Ok(2)] {
+        assert!(rt; sink.write(&[7, 8]) == want);
+        assert!(rt; !sink.lacked_memory());
+    }
+    assert!(rt; sink.octets() == [7, 8, 7, 8].as_slice());
+}
+
+#[test]
+fn sure_memory_takes_all(rt: HostRuntime) {
+    let mut source = SureSource::new(&[1, 2, 3]);
+    let mut buf = [0; 2];
+    for want in [Ok(2), Ok(1), Ok(0)] {
+        assert!(rt; source.read(&mut buf) == want);
+    }
+
+    let mut sink = SureSink::new(rt.alloc(), 3).expect(&rt, "there is memory");
+    assert!(rt; sink.write(&[1, 2]) == Ok(2));
+    assert!(rt; sink.write(&[3]) == Ok(1));
+    assert!(rt; sink.octets() == Some([1, 2, 3].as_slice()));
+    assert!(rt; sink.write(&[4]) == Ok(1));
+    assert!(rt; sink.octets().is_none());
+}
+
+#[derive(Drop)]
+struct Broken;
+
+impl Read for Broken {
+    fn read(&mut self, _buf: &mut [u8]) -> io::Result<usize> {
+        Err(io::ErrorKind::Other.into())
+    }
+}
+
+#[derive(Drop)]
+struct Stuck;
+
+impl Write for Stuck {
+    fn write(&mut self, _buf: &[u8]) -> io::Result<usize> {
+        Ok(0)
+    }
+
+    fn flush(&mut self) -> io::Result<()> {
+        Ok(())
+    }
+}
+
+#[test]
+fn std_is_passed_on(rt: HostRuntime) {
+    let mut source = StdSource::new([1, 2, 3].as_slice());
+    let mut buf = [0; 2];
+    for want in [Ok(2), Ok(1), Ok(0)] {
+        assert!(rt; source.read(&mut buf) == want);
+    }
+    assert!(rt; source.faults == 0);
+    let mut broken = StdSource::new(Broken);
+    assert!(rt; broken.read(&mut buf) == Err(Failed));
+    assert!(rt; broken.faults == 1);
+
+    let mut sink = StdSink::new(Vec::new(rt.alloc()));
+    assert!(rt; sink.write(&[1, 2]) == Ok(2));
+    assert!(rt; sink.inner.as_slice() == [1, 2].as_slice());
+    let mut stuck = StdSink::new(Stuck);
+    assert!(rt; stuck.write(&[]) == Ok(0));
+    assert!(rt; stuck.write(&[1]) == Err(Failed));
+    assert!(rt; stuck.faults == 1);
+}
