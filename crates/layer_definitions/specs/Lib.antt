@@ -1,3 +1,6 @@
 pub mod Network
 pub mod Upper
 pub mod IvIndex
+pub mod Lower
+pub mod Beacon
+pub mod KeyRefresh

@@ -7,3 +7,14 @@ pub mod Config
 pub mod Entries
 pub mod Seals
 pub mod Uses
+pub mod Ranges
+pub mod History
+pub mod Layers
+pub mod Answers
+pub mod Readings
+pub mod Stores
+pub mod Jobs
+pub mod Handling
+pub mod Lines
+pub mod Order
+pub mod RunOf

@@ -1,10 +1,12 @@
 -- What the node seals: the network PDU of a job's line, and the upper PDU of an access message.
-use Rattle.std.specs.Prelude.{ℕ, ◌+◌, ◌^◌, Bool, true, false, if◌then◌else◌, List, ◌∷◌, None}
+use Rattle.std.specs.Prelude.{ℕ, Bool, true, false, List, None}
+use Rattle.layer_definitions.specs.Lower.{lower_text}
 use Rattle.layer_definitions.specs.Upper.{upper_text}
 use Rattle.mesh_base.specs.declared.address.Address.{Address}
 use Rattle.mesh_base.specs.declared.fields.NetFields.{NetFields}
 use Rattle.mesh_base.specs.declared.keys.UpperKey.{UpperKey}
 use Rattle.mesh_base.specs.declared.keys.UpperKey.TheVariants as U
+use Rattle.mesh_base.specs.declared.lower.Lower.TheVariants.{Access}
 use Rattle.mesh_base.specs.declared.pair.Pair.{Pair}
 use Rattle.mesh_base.specs.declared.upper.UpperFields.{UpperFields}
 
@@ -32,7 +34,7 @@ aid_of_key (U.App index aid key) = aid
 
 -- the transport PDU of an unsegmented access message
 abbrev pub access_tpdu : UpperKey → List ℕ → List ℕ
-access_tpdu key upper = ((if is_app_key key then 2 ^ 6 else 0) + aid_of_key key) ∷ upper
+access_tpdu key upper = lower_text (Access (is_app_key key) (aid_of_key key) upper)
 
 -- the fields of the network PDU of an unsegmented access message of this node
 abbrev pub message_fields : UpperKey → Pair → ℕ → Address → Address → List ℕ → NetFields
