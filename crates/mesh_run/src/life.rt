@@ -6,14 +6,11 @@ ghost use Rattle.std.specs.List.{All};
 ghost use Rattle.mesh_types.specs.declared.report.ReportLine.TheVariants as L;
 ghost use Rattle.mesh_script.specs.Raw.{IsRaw};
 ghost use Rattle.mesh_script.specs.declared.grammar.ProvisionLine.{ProvisionLine};
-ghost use Rattle.layer_definitions.specs.Network.{net_text, HasPdu};
 ghost use Rattle.run_definitions.specs.Report.{opened_line, entry_lines, bearer_lines, life_lines};
 ghost use Rattle.mesh_run.specs.Told.{provisioned, opened_over, master_material, fields_of, outcome_of, entry_of, sent_of, placed, life_of};
 
-use mesh_base::address::Address;
 use mesh_base::fields::{NetFields, NetMaterial};
 use mesh_base::iv_state::IvState;
-use mesh_base::octets::Octets;
 use mesh_base::pair::Pair;
 use mesh_kdf::{K2, k2};
 use mesh_script::{ProvisionLine, RawLine, Script};
@@ -21,17 +18,8 @@ use mesh_types::answers::Answer;
 use mesh_types::events::Kind;
 use mesh_types::lines::Outcome;
 use mesh_types::report::ReportLine;
+use network_layer::seal;
 use std::alloc::{AllocError, Global};
-
-fn seal(m: &NetMaterial, f: &NetFields) -> Octets<29>
-    requires nid { m.now.nid < 2 ^ 7 }
-    requires fields { HasPdu f.now }
-    ensures value { result ≡ net_text m.now f.now }
-{
-    let _ = m;
-    let _ = f;
-    Octets::new()
-}
 
 /// The master credentials of a network key (Mesh Profile 1.0.1, section 3.8.6.3.1).
 #[tactic(auto, unfolding(cipher_definitions::specs::Kdf::master_credentials))]
