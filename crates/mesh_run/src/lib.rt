@@ -11,6 +11,8 @@ mod printing;
 mod reading;
 mod running;
 mod status;
+#[cfg(test)]
+mod tests;
 
 pub use crate::running::run;
 pub use crate::status::Status;
