@@ -1,1 +1,3 @@
 pub mod NetworkLaws
+pub mod OctetLaws
+pub mod UpperLaws

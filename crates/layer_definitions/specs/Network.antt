@@ -79,3 +79,7 @@ pub record Reads (keys : List Heard) (current : ℕ) (octets : List ℕ) (f : Ne
   pub key : slice_get keys place ≡ Some by
   pub reads : ReadsUnder by.material current octets f
   pub first : (k : ℕ) (h : Heard) (g : NetFields) → k < place → slice_get keys k ≡ Some h → ReadsUnder h.material current octets g → ⊥
+
+-- Under no key of the list do the octets read as anything.
+abbrev pub IsUnread : List Heard → ℕ → List ℕ → Type 0
+IsUnread keys current octets = (k : ℕ) (h : Heard) (f : NetFields) → slice_get keys k ≡ Some h → ReadsUnder h.material current octets f → ⊥

@@ -1,0 +1,39 @@
+-- Laws of octets that the texts of several layers share.
+use Rattle.std.proofs.Common.{◌≡◌, ℕ, ◌/◌, ◌%◌, ◌^◌, ◌<◌, ◌≤◌, List, ◌++◌, length, take, drop, get_or, refl, sym, ap, ◌∙◌, arith}
+use Rattle.std.proofs.lemmas.List.{length-take-le, take_at, drop_at}
+use Rattle.cipher_definitions.specs.Octets.{two_octets, three_octets}
+use Rattle.cipher_definitions.specs.Ccm.{ccm_mic, ccm_tag}
+use Rattle.cipher_definitions.proofs.Lengths.{length-chained}
+use Rattle.cipher_definitions.proofs.Sums.{length-xor_lists}
+
+-- the front of a block is as long as is asked for
+pub length-block_front : (n : ℕ) (block : List ℕ) → n ≤ 16 → length block ≡ 16 → length (take n block) ≡ n
+length-block_front n block h e = length-take-le n block (omega (arith, h, e))
+
+-- a MIC has as many octets as are asked for, up to a block
+pub length-ccm_mic : (key nonce additional text : List ℕ) (n : ℕ) → n ≤ 16 → length (ccm_mic key nonce additional text n) ≡ n
+unfolding ccm_mic ccm_tag
+length-ccm_mic key nonce additional text n h = length-xor_lists _ _ ∙ length-block_front n _ h (length-chained key _ _ refl)
+
+-- what stands before, and behind, a place of known length is determined by the whole
+pub append_fronts : (xs ys zs ws : List ℕ) → length xs ≡ length zs → xs ++ ys ≡ zs ++ ws → xs ≡ zs
+append_fronts xs ys zs ws e h =
+    sym (take_at xs ys (length zs) e) ∙ ap (λ l. take (length zs) l) h ∙ take_at zs ws (length zs) refl
+
+pub append_backs : (xs ys zs ws : List ℕ) → length xs ≡ length zs → xs ++ ys ≡ zs ++ ws → ys ≡ ws
+append_backs xs ys zs ws e h =
+    sym (drop_at xs ys (length zs) e) ∙ ap (λ l. drop (length zs) l) h ∙ drop_at zs ws (length zs) refl
+
+-- numbers of 16 and of 24 bits are determined by their octets
+pub two_octets-injective : (a b : ℕ) → a < 2 ^ 16 → b < 2 ^ 16 → two_octets a ≡ two_octets b → a ≡ b
+two_octets-injective a b h k e =
+    let high : a / 256 % 256 ≡ b / 256 % 256 = ap (λ l. get_or l 0 0) e in
+    let low : a % 256 ≡ b % 256 = ap (λ l. get_or l 1 0) e in
+    omega arith
+
+pub three_octets-injective : (a b : ℕ) → a < 2 ^ 24 → b < 2 ^ 24 → three_octets a ≡ three_octets b → a ≡ b
+three_octets-injective a b h k e =
+    let high : a / 65536 % 256 ≡ b / 65536 % 256 = ap (λ l. get_or l 0 0) e in
+    let middle : a / 256 % 256 ≡ b / 256 % 256 = ap (λ l. get_or l 1 0) e in
+    let low : a % 256 ≡ b % 256 = ap (λ l. get_or l 2 0) e in
+    omega arith
