@@ -5,3 +5,4 @@ pub mod Rising
 pub mod Handled
 pub mod Accepting
 pub mod Names
+pub mod Lives
