@@ -6,3 +6,4 @@ pub mod Handled
 pub mod Accepting
 pub mod Names
 pub mod Lives
+pub mod Sending
