@@ -115,7 +115,7 @@ rise_pick c false xs ys h k = k
 
 -- Refills.
 
-rises_fill : (c : Config) → Rises c (fill_of c)
+pub rises_fill : (c : Config) → Rises c (fill_of c)
 rises_fill c = (le_itself c.iv.current, omega arith)
 
 pub rise_filled : (n : ℕ) (records : List StoreRecord) → Rise records (filled n records)

@@ -6,3 +6,5 @@ pub mod Rising
 pub mod Handled
 pub mod Accepting
 pub mod Names
+pub mod Lives
+pub mod Sending

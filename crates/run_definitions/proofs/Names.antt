@@ -68,13 +68,13 @@ abbrev pub InRange : List StoreRecord → Type 0
 InRange records = AllByRecursion IsInRange records
 
 -- the records before the first of some entries, and those that it leaves, are in range if those that all of them leave are
-first_in_range : (layers : Layers) (records : List StoreRecord) (before : List Told) (t : Told) (ts : List Told)
+pub first_in_range : (layers : Layers) (records : List StoreRecord) (before : List Told) (t : Told) (ts : List Told)
   → AreHandled layers records before (t ∷ ts) → InRange (records_left layers records before (t ∷ ts)) → InRange (records_after layers (past_of before t) t)
 first_in_range layers records before t ts h r =
     let (rest, e) = left_is layers (records_after layers (past_of before t) t) (before ++ t ∷ []) ts h.2 in
     every_front IsInRange (records_after layers (past_of before t) t) rest (subst InRange e r)
 
-before_in_range : (layers : Layers) (before : List Told) (t : Told) → InRange (records_after layers (past_of before t) t) → InRange t.records
+pub before_in_range : (layers : Layers) (before : List Told) (t : Told) → InRange (records_after layers (past_of before t) t) → InRange t.records
 before_in_range layers before t r = every_front IsInRange t.records _ r
 
 pub entry_rise_all : (layers : Layers) → AreSafe layers → (before : List Told) (t : Told)
