@@ -4,3 +4,4 @@ pub mod IvIndex
 pub mod Lower
 pub mod Beacon
 pub mod KeyRefresh
+pub mod Slots

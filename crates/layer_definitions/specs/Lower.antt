@@ -33,7 +33,7 @@ abbrev pub Fits : Lower → Type 0
 Fits (Access akf aid upper) = (aid < 2 ^ 6) × (IsFalse akf → aid ≡ 0) × (5 ≤ length upper) × (length upper ≤ 15)
 Fits (Control opcode params) = (opcode < 2 ^ 7) × (length params ≤ 11)
 Fits (AccessPart akf aid szmic seq_zero seg_o seg_n piece) =
-  (aid < 2 ^ 6) × (IsFalse akf → aid ≡ 0) × (seq_zero < 2 ^ 13) × (seg_n < 2 ^ 5) × IsPiece 12 seg_o seg_n piece
+    (aid < 2 ^ 6) × (IsFalse akf → aid ≡ 0) × (seq_zero < 2 ^ 13) × (seg_n < 2 ^ 5) × IsPiece 12 seg_o seg_n piece
 Fits (ControlPart opcode seq_zero seg_o seg_n piece) = (opcode < 2 ^ 7) × (seq_zero < 2 ^ 13) × (seg_n < 2 ^ 5) × IsPiece 8 seg_o seg_n piece
 
 -- whether it is a control message

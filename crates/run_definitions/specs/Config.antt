@@ -76,23 +76,27 @@ finished_net r = record r { phase = 0; key = unwrap_or r.next r.key; next = None
 abbrev pub finished_app : ℕ → AppKeyRow → AppKeyRow
 finished_app net r = if r.net == net then record r { key = unwrap_or r.next r.key; next = None } else r
 
--- the bindings without those to application keys of the network key
-abbrev pub binds_without_net : ℕ → List AppKeyRow → List (Address × ℕ × ℕ) → List (Address × ℕ × ℕ)
-binds_without_net net apps binds = filter (λ b. not (list_any (λ r. r.net == net && r.index == b.2) apps)) binds
+-- op 1 add, 2 update, 3 phase 2, 4 finish, 5 delete
+abbrev pub nets_after : ℕ → ℕ → List ℕ → List NetKeyRow → List NetKeyRow
+nets_after op index key nets =
+    if op == 1 then put_net (record { index = index; phase = 0; key = key; next = None }) nets
+    else if op == 2 then change_net index (λ r. record r { phase = 1; next = Some key }) nets
+    else if op == 3 then change_net index (λ r. record r { phase = 2 }) nets
+    else if op == 4 then change_net index finished_net nets
+    else if op == 5 then filter (λ r. not (r.index == index)) nets
+    else nets
 
--- op 1 add, 2 update, 3 phase 2, 4 finish, 5 delete, with which its application keys and their bindings go
-abbrev pub with_net_key : Config → ℕ → ℕ → List ℕ → Config
-with_net_key c op index key =
-    if op == 1 then record c { nets = put_net (record { index = index; phase = 0; key = key; next = None }) c.nets }
-    else if op == 2 then record c { nets = change_net index (λ r. record r { phase = 1; next = Some key }) c.nets }
-    else if op == 3 then record c { nets = change_net index (λ r. record r { phase = 2 }) c.nets }
-    else if op == 4 then record c { nets = change_net index finished_net c.nets; apps = map (finished_app index) c.apps }
-    else if op == 5 then record c {
-      nets = filter (λ r. not (r.index == index)) c.nets;
-      apps = filter (λ r. not (r.net == index)) c.apps;
-      binds = binds_without_net index c.apps c.binds;
-    }
-    else c
+-- with a network key its application keys finish and go
+abbrev pub apps_after_net : ℕ → ℕ → List AppKeyRow → List AppKeyRow
+apps_after_net op index apps =
+    if op == 4 then map (finished_app index) apps
+    else if op == 5 then filter (λ r. not (r.net == index)) apps
+    else apps
+
+-- and with these their bindings go
+abbrev pub binds_after_net : ℕ → ℕ → List AppKeyRow → List (Address × ℕ × ℕ) → List (Address × ℕ × ℕ)
+binds_after_net op index apps binds =
+    if op == 5 then filter (λ b. not (list_any (λ r. r.net == index && r.index == b.2) apps)) binds else binds
 
 -- Application keys.
 
@@ -107,16 +111,17 @@ put_app r (x ∷ xs) =
 abbrev pub updated_app : ℕ → List ℕ → AppKeyRow → AppKeyRow
 updated_app index key r = if r.index == index then record r { next = Some key } else r
 
--- op 1 add, 2 update, 3 delete, with which its bindings go
-abbrev pub with_app_key : Config → ℕ → ℕ → ℕ → List ℕ → Config
-with_app_key c op net index key =
-    if op == 1 then record c { apps = put_app (record { net = net; index = index; key = key; next = None }) c.apps }
-    else if op == 2 then record c { apps = map (updated_app index key) c.apps }
-    else if op == 3 then record c {
-      apps = filter (λ r. not (r.index == index)) c.apps;
-      binds = filter (λ b. not (b.2 == index)) c.binds;
-    }
-    else c
+-- op 1 add, 2 update, 3 delete
+abbrev pub apps_after : ℕ → ℕ → ℕ → List ℕ → List AppKeyRow → List AppKeyRow
+apps_after op net index key apps =
+    if op == 1 then put_app (record { net = net; index = index; key = key; next = None }) apps
+    else if op == 2 then map (updated_app index key) apps
+    else if op == 3 then filter (λ r. not (r.index == index)) apps
+    else apps
+
+-- with an application key its bindings go
+abbrev pub binds_after_app : ℕ → ℕ → List (Address × ℕ × ℕ) → List (Address × ℕ × ℕ)
+binds_after_app op index binds = if op == 3 then filter (λ b. not (b.2 == index)) binds else binds
 
 -- Bindings and subscriptions.
 
@@ -124,11 +129,11 @@ abbrev pub is_bind : Address → ℕ → ℕ → Address × ℕ × ℕ → Bool
 is_bind element model app b = b.0.0 == element.0 && b.1 == model && b.2 == app
 
 -- op 1 bind, 2 unbind
-abbrev pub with_bind : Config → ℕ → Address → ℕ → ℕ → Config
-with_bind c op element model app =
-    if op == 1 then (if list_any (is_bind element model app) c.binds then c else record c { binds = c.binds ++ (element, model, app) ∷ [] })
-    else if op == 2 then record c { binds = filter (λ b. not (is_bind element model app b)) c.binds }
-    else c
+abbrev pub binds_after : ℕ → Address → ℕ → ℕ → List (Address × ℕ × ℕ) → List (Address × ℕ × ℕ)
+binds_after op element model app binds =
+    if op == 1 then (if list_any (is_bind element model app) binds then binds else binds ++ (element, model, app) ∷ [])
+    else if op == 2 then filter (λ b. not (is_bind element model app b)) binds
+    else binds
 
 abbrev pub is_sub : Address → ℕ → Address → Address × ℕ × Address → Bool
 is_sub element model address s = s.0.0 == element.0 && s.1 == model && s.2.0 == address.0
@@ -138,36 +143,38 @@ abbrev pub subs_without : Address → ℕ → List (Address × ℕ × Address) �
 subs_without element model subs = filter (λ s. not (s.0.0 == element.0 && s.1 == model)) subs
 
 -- op 1 add, 2 delete, 3 all of the model go, 4 all of the model go and this one comes
-abbrev pub with_sub : Config → ℕ → Address → ℕ → Address → Config
-with_sub c op element model address =
-    if op == 1 then (if list_any (is_sub element model address) c.subs then c else record c { subs = c.subs ++ (element, model, address) ∷ [] })
-    else if op == 2 then record c { subs = filter (λ s. not (is_sub element model address s)) c.subs }
-    else if op == 3 then record c { subs = subs_without element model c.subs }
-    else if op == 4 then record c { subs = subs_without element model c.subs ++ (element, model, address) ∷ [] }
-    else c
+abbrev pub subs_after : ℕ → Address → ℕ → Address → List (Address × ℕ × Address) → List (Address × ℕ × Address)
+subs_after op element model address subs =
+    if op == 1 then (if list_any (is_sub element model address) subs then subs else subs ++ (element, model, address) ∷ [])
+    else if op == 2 then filter (λ s. not (is_sub element model address s)) subs
+    else if op == 3 then subs_without element model subs
+    else if op == 4 then subs_without element model subs ++ (element, model, address) ∷ []
+    else subs
 
--- 1 beacon, 2 Default TTL, 3 friend, 4 relay in the high octet and retransmissions in the low one, 5 network transmit
-abbrev pub with_feature : Config → ℕ → ℕ → Config
-with_feature c which value =
-    if which == 1 then record c { beacon = value }
-    else if which == 2 then record c { ttl = value }
-    else if which == 3 then record c { friend = value }
-    else if which == 4 then record c { relay = value / 256; retransmit = value % 256 }
-    else if which == 5 then record c { transmit = value }
-    else c
-
--- one record's change
+-- One record's change. Feature 1 is beacon, 2 Default TTL, 3 friend, 4 relay in the high octet and its retransmissions in the low one, and
+-- 5 network transmit.
 unfoldable pub changed : Config → StoreRecord → Config
 changed c (R.Identity unicast elements dev_key) = record c { unicast = unicast; elements = elements; dev_key = dev_key }
 changed c (R.Numbers current progress mark hours since) =
     record c { iv = record { current = current; progress = progress; hours = hours; since = since }; mark = mark }
 changed c (R.Hour hours since) = record c { iv = record { current = c.iv.current; progress = c.iv.progress; hours = hours; since = since } }
 changed c (R.Replay name) = c
-changed c (R.NetKey op index key) = with_net_key c op index key
-changed c (R.AppKey op net index key) = with_app_key c op net index key
-changed c (R.Bind op element model app) = with_bind c op element model app
-changed c (R.Subscribe op element model address) = with_sub c op element model address
-changed c (R.Feature which value) = with_feature c which value
+changed c (R.NetKey op index key) = record c {
+  nets = nets_after op index key c.nets;
+  apps = apps_after_net op index c.apps;
+  binds = binds_after_net op index c.apps c.binds;
+}
+changed c (R.AppKey op net index key) = record c { apps = apps_after op net index key c.apps; binds = binds_after_app op index c.binds }
+changed c (R.Bind op element model app) = record c { binds = binds_after op element model app c.binds }
+changed c (R.Subscribe op element model address) = record c { subs = subs_after op element model address c.subs }
+changed c (R.Feature which value) = record c {
+  beacon = if which == 1 then value else c.beacon;
+  ttl = if which == 2 then value else c.ttl;
+  friend = if which == 3 then value else c.friend;
+  relay = if which == 4 then value / 256 else c.relay;
+  retransmit = if which == 4 then value % 256 else c.retransmit;
+  transmit = if which == 5 then value else c.transmit;
+}
 changed c R.Reset = record c { reset = true }
 
 -- what a list of records says

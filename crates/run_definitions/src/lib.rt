@@ -4,7 +4,9 @@
 //! - `Record`: the record of a run over all its lives
 //! - `Text`, `Report`: the lines of a record, and their text
 //! - `Pairs`, `Config`, `Entries`: what the records of a store say of the node and of its replay list
+//! - `Ranges`, `Recovered`: the texts of records in the flash, and the records that an image of it recovers
 //! - `Seals`, `Uses`: what the lines seal, which messages were accepted, and when that is safe
 #![tactic(auto)]
 
 pub mod laws;
+pub mod recovery;

@@ -1,0 +1,10 @@
+-- What is done, and the sum of what is left, are the sum of all.
+use Rattle.std.proofs.Common.{◌≡◌, ◌++◌, length, take, drop}
+use Rattle.cipher_definitions.specs.Octets.{xor_lists}
+use Rattle.network_layer.proofs.obfuscation.masked.Given as goal
+
+abbrev pub invariant-loop-i : goal.invariant-loop-i
+invariant-loop-i l = record {
+  added : take l.i l.octets ++ xor_lists (drop l.i l.octets) (drop l.i l.mask) ≡ xor_lists l.initial.octets l.mask;
+  count : length l.octets ≡ 6;
+}
