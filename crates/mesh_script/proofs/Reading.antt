@@ -9,17 +9,17 @@ read_on f out xs = each_read f xs >>= λ ys. Some (out ++ ys)
 
 -- one more was read
 pub read_on_more : {A B : Type 0} (f : A → Option B) (out : List B) (x : A) (xs : List A) (y : B)
-    → f x ≡ Some y → read_on f out (x ∷ xs) ≡ read_on f (out ++ y ∷ []) xs
+  → f x ≡ Some y → read_on f out (x ∷ xs) ≡ read_on f (out ++ y ∷ []) xs
 unfolding each_read
 read_on_more f out x xs y e =
-    rw e (elim (each_read f xs) as (λ r. ((r >>= λ ys. Some (y ∷ ys)) >>= λ ys. Some (out ++ ys)) ≡ (r >>= λ ys. Some ((out ++ y ∷ []) ++ ys))) [
-      | None ↦ refl
-      | Some ys ↦ ap Some (sym (append_assoc out (y ∷ []) ys))
-    ])
+  rw e (elim (each_read f xs) as (λ r. ((r >>= λ ys. Some (y ∷ ys)) >>= λ ys. Some (out ++ ys)) ≡ (r >>= λ ys. Some ((out ++ y ∷ []) ++ ys))) [
+    | None ↦ refl
+    | Some ys ↦ ap Some (sym (append_assoc out (y ∷ []) ys))
+  ])
 
 -- one can't be read
 pub read_on_fails : {A B : Type 0} (f : A → Option B) (out : List B) (x : A) (xs : List A)
-    → f x ≡ None → read_on f out (x ∷ xs) ≡ None
+  → f x ≡ None → read_on f out (x ∷ xs) ≡ None
 unfolding each_read
 read_on_fails f out x xs e = rw e refl
 

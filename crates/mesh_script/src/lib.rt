@@ -12,9 +12,9 @@ mod digits;
 pub mod grammar;
 pub mod lines;
 mod outcomes;
+pub mod text;
 #[cfg(test)]
 mod tests;
-pub mod text;
 mod words;
 
 pub use crate::grammar::{LONGEST_SCRIPT, ProvisionLine, RawLine, RawLines, Script, read_script};

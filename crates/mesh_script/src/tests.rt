@@ -1,6 +1,5 @@
 //! The reader on whole scripts and on texts that aren't scripts, and the lines of the report as they are printed.
 
-use crate::{read_script, write_line};
 use mesh_base::address::Address;
 use mesh_base::iv_state::{IvState, IvStep};
 use mesh_base::octets::Octets;
@@ -12,8 +11,9 @@ use mesh_types::report::ReportLine;
 use std::process::Abort;
 use std::test::Fail;
 
-const NODE: &[u8] =
-    b"provision 1201 1 12345678 00 0af 7dd7364cd842ad18c17c2b820c84c3d6 9d6dd0e96eb25dc19a40ed9914f8f03f\n";
+use crate::{read_script, write_line};
+
+const NODE: &[u8] = b"provision 1201 1 12345678 00 0af 7dd7364cd842ad18c17c2b820c84c3d6 9d6dd0e96eb25dc19a40ed9914f8f03f\n";
 
 #[test]
 fn reads_scripts(rt: HostRuntime) -> Result<(), Fail> {

@@ -25,7 +25,7 @@ use Rattle.run_definitions.proofs.Rising.{Blocked, IsBlocked, Later, Rise, block
 
 -- what outlasts a cut only rises, too
 outlasting_rises : (layers : Layers) → AreSafe layers → (plan : List Step) (l : Life) (past : Past) (more : List StoreRecord)
-    → Outlasts layers plan l past more → Marked (config_of past.records) → RiseAll (config_of past.records) more
+  → Outlasts layers plan l past more → Marked (config_of past.records) → RiseAll (config_of past.records) more
 outlasting_rises layers safe plan l past _ no_record m = tt
 outlasting_rises layers safe plan l past _ (of_event k n event insight cut next sees) m =
     rise_take n (config_of past.records) _ (stores_rise layers safe past event insight _ refl m)
@@ -33,6 +33,7 @@ outlasting_rises layers safe plan l past _ (of_refill cut) m = (rises_fill (conf
 
 -- The parts of a life.
 module _ (layers : Layers) (safe : AreSafe layers) (plan : List Step) (over : List StoreRecord) (l : Life) (next : List StoreRecord) (h : LifeOf layers plan over l next) where
+
   abbrev left : List StoreRecord
   left = records_left layers over [] h.told
 
@@ -53,6 +54,7 @@ module _ (layers : Layers) (safe : AreSafe layers) (plan : List Step) (over : Li
   more_rise : Rise at_end (at_end ++ h.leaves.more)
   more_rise = rise_all h.leaves.more at_end (outlasting_rises layers safe plan l (past_at_end layers over l h.told) h.leaves.more h.leaves.outlasts (marked at_end filled_in_range))
 
+
   pub life_rises : Rise over (at_end ++ h.leaves.more)
   life_rises = rise_after more_rise (rise_after (rise_filled l.refills left) (handled_rise layers safe over [] h.told h.handled left_in_range))
 
@@ -65,7 +67,7 @@ module _ (layers : Layers) (safe : AreSafe layers) (plan : List Step) (over : Li
       let all : List StoreRecord = at_end ++ h.leaves.more in
       let by_entry : Blocked n (config_of all).iv.current (entry_of all n.src.0) = blocked_entry n _ (kept_of all n.src.0) b in
       let moved : Blocked n (config_of next).iv.current (entry_of all n.src.0) =
-      subst (λ (c : Config). Blocked n c.iv.current (entry_of all n.src.0)) (sym h.leaves.alike.config) by_entry in
+        subst (λ (c : Config). Blocked n c.iv.current (entry_of all n.src.0)) (sym h.leaves.alike.config) by_entry in
       entry_blocked n _ (kept_of next n.src.0) (subst (Blocked n (config_of next).iv.current) (sym (h.leaves.alike.entries n.src.0)) moved)
 
   told_names : names h.told ≡ life_delivered l
@@ -79,15 +81,15 @@ module _ (layers : Layers) (safe : AreSafe layers) (plan : List Step) (over : Li
   life_once ns o =
       let handled : Once (ns ++ names h.told) left = once_handled layers safe over [] h.told ns h.handled left_in_range o in
       let ended : AllBlocked (ns ++ names h.told) (at_end ++ h.leaves.more) =
-      blocked_all (ns ++ names h.told) (rise_after more_rise (rise_filled l.refills left)) handled.blocked in
+        blocked_all (ns ++ names h.told) (rise_after more_rise (rise_filled l.refills left)) handled.blocked in
       subst (λ k. Once (ns ++ k) next) told_names
-      (record {
-        differ = handled.differ;
-        blocked = every_map (λ n. IsBlocked n (at_end ++ h.leaves.more)) (λ n. IsBlocked n next) still_blocked (ns ++ names h.told) ended;
-      })
+        (record {
+          differ = handled.differ;
+          blocked = every_map (λ n. IsBlocked n (at_end ++ h.leaves.more)) (λ n. IsBlocked n next) still_blocked (ns ++ names h.told) ended;
+        })
 
 lives_differ : (layers : Layers) → AreSafe layers → (plans : List (List Step)) (lives : List LifeOver) (last : List StoreRecord) (ns : List Name)
-    → LivesOf layers plans lives last → Once ns (first_over lives last) → Differ (ns ++ flat_map (λ x. life_delivered x.life) lives)
+  → LivesOf layers plans lives last → Once ns (first_over lives last) → Differ (ns ++ flat_map (λ x. life_delivered x.life) lives)
 lives_differ layers safe [] [] last ns h o = rw append-nil o.differ
 lives_differ layers safe [] (x ∷ xs) last ns h o = absurd h
 lives_differ layers safe (plan ∷ plans) [] last ns h o = absurd h

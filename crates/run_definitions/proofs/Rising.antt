@@ -102,8 +102,8 @@ pub blocked_rise : (n : Name) {l m : List StoreRecord} → Rise l m → IsBlocke
 blocked_rise n same b = b
 blocked_rise n (more m r k h) b =
     rw (config_push, kept_push)
-    (blocked_later n _ _ _ (later_changed (config_of m) r h).current
-    (blocked_after n (config_of m).iv.current (kept_of m n.src.0) r (blocked_rise n k b)))
+      (blocked_later n _ _ _ (later_changed (config_of m) r h).current
+        (blocked_after n (config_of m).iv.current (kept_of m n.src.0) r (blocked_rise n k b)))
 
 blocked_by_itself : (n : Name) (c : ℕ) (kept : Option Pair) → Blocked n c (greatest_with kept n.pair)
 blocked_by_itself n c None = by_kept (not_newer_itself n.pair)
