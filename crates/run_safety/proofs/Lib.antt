@@ -9,3 +9,4 @@ pub mod Sending
 pub mod Walking
 pub mod LifeLines
 pub mod Nonces
+pub mod Reuse

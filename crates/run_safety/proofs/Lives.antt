@@ -15,7 +15,7 @@ use Rattle.run_definitions.specs.Order.{Step}
 use Rattle.run_definitions.specs.Ranges.{IsInRange}
 use Rattle.run_definitions.specs.Record.{Life, LifeOver, Run, first_over}
 use Rattle.run_definitions.specs.RunOf.{IsAlike, Leaves, LifeOf, LivesOf, Outlasts, no_record, of_event, of_refill, RunOf, Script, past_at_end}
-use Rattle.run_safety.specs.Safety.{AreSafe}
+use Rattle.run_safety.specs.Safety.{AreSafe, DeliversOnce}
 use Rattle.run_definitions.specs.Stores.{filled}
 use Rattle.run_definitions.specs.Uses.{AtMostOnce, accepted, delivered, life_delivered}
 use Rattle.run_safety.proofs.Handled.{Marked, RiseAll, marked, rise_all, rise_filled, rise_take, rises_fill, stores_rise}
@@ -39,7 +39,7 @@ module _ (layers : Layers) (safe : AreSafe layers) (plan : List Step) (over : Li
   abbrev at_end : List StoreRecord
   at_end = filled l.refills left
 
-  end_in_range : InRange (at_end ++ h.leaves.more)
+  pub end_in_range : InRange (at_end ++ h.leaves.more)
   end_in_range = recursion_from_All IsInRange (at_end ++ h.leaves.more) h.leaves.ranges
 
   filled_in_range : InRange at_end
@@ -95,6 +95,6 @@ lives_differ layers safe (plan ∷ plans) (x ∷ xs) last ns h o =
     let one : Once (ns ++ life_delivered x.life) (first_over xs last) = life_once layers safe plan x.over x.life (first_over xs last) h.0 ns o in
     rw (← append_assoc) (lives_differ layers safe plans xs last (ns ++ life_delivered x.life) h.1 one)
 
-pub at_most_once : (layers : Layers) → AreSafe layers → (s : Script) (r : Run) → RunOf layers s r → AtMostOnce (delivered r)
+pub at_most_once : DeliversOnce
 at_most_once layers safe s r h =
     pairs_from_apart _ (delivered r) (lives_differ layers safe s.lives r.lives r.last [] h.lives (record { differ = tt; blocked = tt }))

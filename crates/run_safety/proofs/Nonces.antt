@@ -110,7 +110,7 @@ pub data Tagged (own : Config) : List Use → List Tag → Type 0 where
   own_use : {u : Use} {t : Tag} {us : List Use} {ts : List Tag} → HasTag u.nonce t → Tagged own us ts → Tagged own (u ∷ us) (t ∷ ts)
   foreign_use : {u : Use} {us : List Use} {ts : List Tag} → is_own own u ≡ false → Tagged own us ts → Tagged own (u ∷ us) ts
 
-tagged_append : (own : Config) {us vs : List Use} {ts ss : List Tag} → Tagged own us ts → Tagged own vs ss → Tagged own (us ++ vs) (ts ++ ss)
+pub tagged_append : (own : Config) {us vs : List Use} {ts ss : List Tag} → Tagged own us ts → Tagged own vs ss → Tagged own (us ++ vs) (ts ++ ss)
 tagged_append own no_use k = k
 tagged_append own (own_use h hs) k = own_use h (tagged_append own hs k)
 tagged_append own (foreign_use h hs) k = foreign_use h (tagged_append own hs k)
