@@ -1,13 +1,11 @@
 -- What the table of answers says of an accepted message: its IV Index is read, its name is newer than the entry of its source, and its
 -- source is no element of this node.
-use Rattle.std.proofs.Common.{◌≡◌, ℕ, ◌+◌, ◌⊎◌, inl, inr, Bool, true, false, cond, not, ◌&&◌, ◌||◌, eqb, ltb, leb, List, [], ◌∷◌, length, refl, ap, sym, subst, ◌∙◌, arith, Option, Some, None}
-use Rattle.std.specs.Bool.{⊤, IsFalse}
+use Rattle.std.proofs.Common.{◌≡◌, ℕ, ◌+◌, ◌⊎◌, Bool, true, false, cond, not, ◌&&◌, ◌||◌, eqb, ltb, leb, List, length, refl, ap, sym, subst, arith, Option, Some, None}
 use Rattle.std.specs.Option.{option_or, option_map, unwrap_or, is_some}
 use Rattle.std.specs.List.{list_any}
 use Rattle.std.proofs.lemmas.Bool.Decides.{nat_tests}
 use Rattle.layer_definitions.specs.KeyRefresh.{app_row}
 use Rattle.layer_definitions.specs.Lower.{seq_auth}
-use Rattle.layer_definitions.specs.Network.{Reads, ReadsUnder, IsHeardUnder, IsInWidths}
 use Rattle.mesh_base.specs.IvState.{transmit_of}
 use Rattle.mesh_base.specs.declared.address.Address.{Address}
 use Rattle.mesh_base.specs.declared.beacon.Beacon.{Beacon}
@@ -22,7 +20,7 @@ use Rattle.mesh_types.specs.declared.events.Event.{Event}
 use Rattle.mesh_types.specs.declared.events.Event.TheVariants as E
 use Rattle.mesh_types.specs.declared.events.SendKey.{SendKey}
 use Rattle.mesh_types.specs.declared.events.SendKey.TheVariants as K
-use Rattle.run_definitions.specs.Answers.{answer_of, beacon_answer, begin_answer, config_before, later, is_again, is_before_cache, is_cached, is_mine, is_name, is_segment, is_unicast, lower_answer, message_name, message_pair, named_answer, network_answer, opened_answer, pair_of, pdu_answer, placed_answer, replayed, segment_answer, send_answer, transport_answer, unless_reset, whole_answer}
+use Rattle.run_definitions.specs.Answers.{answer_of, beacon_answer, begin_answer, config_before, later, is_again, is_cached, is_mine, is_name, is_segment, is_unicast, lower_answer, message_name, message_pair, named_answer, network_answer, opened_answer, pair_of, pdu_answer, placed_answer, replayed, segment_answer, send_answer, transport_answer, unless_reset, whole_answer}
 use Rattle.run_definitions.specs.Config.{is_element}
 use Rattle.run_definitions.specs.Entries.{entry_of}
 use Rattle.run_definitions.specs.History.{Insight, OfBeacon, OfNothing, OfPdu, Opening, Past, Reading}

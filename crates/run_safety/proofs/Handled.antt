@@ -1,10 +1,10 @@
 -- The records of a life only rise: refills, what its events store, and what outlasts a cut.
-use Rattle.std.proofs.Common.{◌≡◌, ℕ, zero, suc, ◌+◌, ◌*◌, ◌%◌, ◌^◌, ◌<◌, ◌≤◌, Bool, true, false, not, ◌&&◌, eqb, ltb, leb, cond, replicate, List, [], ◌∷◌, ◌++◌, refl, ap, sym, subst, ◌∙◌, arith, append_assoc, append-nil, Option, Some, None, take}
+use Rattle.std.proofs.Common.{◌≡◌, ℕ, zero, suc, ◌+◌, ◌*◌, ◌%◌, ◌^◌, ◌<◌, ◌≤◌, Bool, true, false, not, ◌&&◌, eqb, ltb, leb, cond, replicate, List, [], ◌∷◌, ◌++◌, refl, sym, subst, arith, append_assoc, append-nil, Option, Some, None, take}
 use Rattle.std.specs.Bool.{⊤}
-use Rattle.std.specs.List.{AllByRecursion, All, fold}
+use Rattle.std.specs.List.{AllByRecursion, fold}
 use Rattle.std.specs.Option.{IfSome, option_to_list}
-use Rattle.std.proofs.lemmas.Bool.{cond_both, ltb-false, ltb-true}
-use Rattle.layer_definitions.specs.IvIndex.{aged, begun, finished, iv_due, iv_hours, iv_next, recovered}
+use Rattle.std.proofs.lemmas.Bool.{ltb-false, ltb-true}
+use Rattle.layer_definitions.specs.IvIndex.{aged, iv_due, iv_hours, iv_next}
 use Rattle.mesh_base.specs.IvState.{transmit_of}
 use Rattle.mesh_base.specs.declared.iv_state.IvState.{IvState}
 use Rattle.mesh_base.specs.declared.iv_state.IvStep.{IvStep}
@@ -17,15 +17,13 @@ use Rattle.mesh_types.specs.declared.events.Event.{Event}
 use Rattle.mesh_types.specs.declared.events.Event.TheVariants as E
 use Rattle.mesh_types.specs.declared.records.StoreRecord.{StoreRecord}
 use Rattle.mesh_types.specs.declared.records.StoreRecord.TheVariants as R
-use Rattle.run_definitions.specs.Answers.{answer_of, beacon_answer, config_before, is_busy, unless_reset}
+use Rattle.run_definitions.specs.Answers.{answer_of, beacon_answer, config_before, is_busy}
 use Rattle.run_definitions.specs.Config.{Config, changed, config_of, no_config}
-use Rattle.run_definitions.specs.Handling.{AreHandled, Handles, past_of, records_left}
-use Rattle.run_definitions.specs.History.{Insight, OfBeacon, OfNothing, OfPdu, Past, Told}
+use Rattle.run_definitions.specs.History.{Insight, OfBeacon, OfNothing, OfPdu, Past}
 use Rattle.run_definitions.specs.Layers.{AccessMessage, Layers}
 use Rattle.run_definitions.specs.Ranges.{IsInRange, IsMark}
 use Rattle.run_safety.specs.Safety.{AreSafe, IsChange}
-use Rattle.run_definitions.specs.Stores.{asked, fill_of, filled, hours_passed, hours_step, message_of, moved, phase_records, records_after, step_records, stores, tick_records}
-use Rattle.run_safety.proofs.Lists.{every_front}
+use Rattle.run_definitions.specs.Stores.{asked, fill_of, filled, hours_passed, hours_step, message_of, moved, phase_records, step_records, stores, tick_records}
 use Rattle.run_safety.proofs.Rising.{Rise, same, more, Rises, config_push, rise_after}
 
 -- The mark of a list of records in range is at most the end of its transmit IV Index, and the known IV Index has 32 bits.

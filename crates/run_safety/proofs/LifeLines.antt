@@ -1,29 +1,24 @@
 -- The lines of all bearers of a life.
-use Rattle.std.proofs.Common.{◌≡◌, ℕ, zero, suc, ◌+◌, Bool, true, false, cond, List, [], ◌∷◌, ◌++◌, map, length, refl, ap, sym, subst, ◌∙◌, append_assoc, append-nil, length-append, Option, Some, None}
-use Rattle.std.specs.Bool.{⊤}
-use Rattle.std.specs.List.{AllByRecursion, filter, filter_map, flat_map, slice_get}
+use Rattle.std.proofs.Common.{◌≡◌, ℕ, suc, ◌+◌, Bool, true, false, cond, List, [], ◌∷◌, ◌++◌, map, length, refl, ap, sym, subst, ◌∙◌, append_assoc, append-nil, length-append, Some, None}
+use Rattle.std.specs.List.{AllByRecursion, filter_map, flat_map, slice_get}
 use Rattle.std.proofs.lemmas.Grind.{flat_map-append}
 use Rattle.std.proofs.lemmas.List.Elements.{filter_map-append}
-use Rattle.mesh_base.specs.declared.pair.Pair.{Pair}
 use Rattle.mesh_types.specs.declared.events.Event.{Event}
 use Rattle.mesh_types.specs.declared.history.Entry.{Entry}
 use Rattle.mesh_types.specs.declared.history.Sent.{Sent}
 use Rattle.mesh_types.specs.declared.records.StoreRecord.{StoreRecord}
-use Rattle.mesh_types.specs.declared.report.Opened.{Opened}
-use Rattle.mesh_types.specs.declared.report.Opened.TheVariants as W
 use Rattle.run_definitions.specs.Config.{Config, config_of}
 use Rattle.run_definitions.specs.History.{Told}
 use Rattle.run_definitions.specs.Layers.{Layers}
-use Rattle.run_definitions.specs.Lines.{drawn_of}
-use Rattle.run_definitions.specs.Order.{Does, IsOrdered, Part, PartsOf, Placed, Step, Task, Walks, broken, ends, handle, is_cut, of_bearer, phases_of, placed_from, whole}
+use Rattle.run_definitions.specs.Order.{Does, IsOrdered, Part, PartsOf, Placed, Step, Task, broken, ends, handle, of_bearer, placed_from, whole}
 use Rattle.run_definitions.specs.Record.{Life, Shown, list_at, shown, shown_of}
-use Rattle.run_definitions.specs.RunOf.{LifeOf, draws, is_on}
+use Rattle.run_definitions.specs.RunOf.{LifeOf, is_on}
 use Rattle.run_safety.specs.Safety.{AreSafe}
-use Rattle.run_safety.proofs.Lists.{Sub, every_append, every_back, every_front, sub_append}
+use Rattle.run_safety.proofs.Lists.{every_append, every_back, every_front, sub_append}
 use Rattle.run_safety.proofs.Lives.{left_in_range}
 use Rattle.run_safety.proofs.Rising.{Later}
 use Rattle.run_safety.proofs.Sending.{JobsFit, entries_fit}
-use Rattle.run_safety.proofs.Walking.{EntryFits, LinesFit, Ready, ShownFits, TaskFits, Tag, both, doubled, no_lines, plain, tags, walk}
+use Rattle.run_safety.proofs.Walking.{EntryFits, LinesFit, ShownFits, TaskFits, no_lines, plain, walk}
 
 lines_append : (own : Config) (xs ys : List Shown) → LinesFit own None xs → LinesFit own None ys → LinesFit own None (xs ++ ys)
 lines_append own xs ys h k = record {

@@ -1,10 +1,9 @@
 -- Lists: what holds of each element or of each two, by recursion, and parts of a list in its order.
-use Rattle.std.proofs.Common.{◌≡◌, ℕ, suc, zero, ◌<◌, ◌+◌, Bool, true, false, List, [], ◌∷◌, ◌++◌, length, get_or, refl, ap, sym, subst, arith, append_assoc, Option, Some, None}
+use Rattle.std.proofs.Common.{suc, List, [], ◌∷◌, ◌++◌, arith}
 use Rattle.std.specs.Bool.{⊤}
-use Rattle.std.specs.List.{AllByRecursion, All, AllPairs, flat_map, filter_map, filter}
+use Rattle.std.specs.List.{AllByRecursion, AllPairs}
 use Rattle.std.proofs.lemmas.List.Elements.{All-from_recursion, recursion_from_All}
 use Rattle.std.proofs.lemmas.List.Kept.{AllPairs-cons}
-use Rattle.run_definitions.specs.Record.{list_at}
 
 -- Each.
 

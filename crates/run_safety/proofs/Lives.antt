@@ -1,27 +1,26 @@
 -- A life leaves records that only rose, and no name is accepted twice over all lives.
-use Rattle.std.proofs.Common.{◌≡◌, ◌≢◌, ℕ, ◌≤◌, List, [], ◌∷◌, ◌++◌, map, refl, ap, sym, subst, ◌∙◌, append_assoc, append-nil, Option, Some, None, take}
-use Rattle.std.specs.Bool.{⊤}
-use Rattle.std.specs.List.{AllByRecursion, cons_option, filter_map, flat_map}
+use Rattle.std.proofs.Common.{◌≡◌, List, [], ◌∷◌, ◌++◌, map, refl, ap, sym, subst, ◌∙◌, append_assoc, append-nil}
+use Rattle.std.specs.List.{cons_option, filter_map, flat_map}
 use Rattle.std.proofs.lemmas.List.Elements.{recursion_from_All}
 use Rattle.mesh_base.specs.declared.pair.Name.{Name}
 use Rattle.mesh_types.specs.declared.history.Entry.{Entry}
 use Rattle.mesh_types.specs.declared.records.StoreRecord.{StoreRecord}
 use Rattle.run_definitions.specs.Config.{Config, config_of}
-use Rattle.run_definitions.specs.Entries.{entry_of, kept_of, unexpired}
-use Rattle.run_definitions.specs.Handling.{AreHandled, records_left}
+use Rattle.run_definitions.specs.Entries.{entry_of, kept_of}
+use Rattle.run_definitions.specs.Handling.{records_left}
 use Rattle.run_definitions.specs.History.{Past, Told}
 use Rattle.run_definitions.specs.Layers.{Layers}
 use Rattle.run_definitions.specs.Order.{Step}
 use Rattle.run_definitions.specs.Ranges.{IsInRange}
-use Rattle.run_definitions.specs.Record.{Life, LifeOver, Run, first_over}
-use Rattle.run_definitions.specs.RunOf.{IsAlike, Leaves, LifeOf, LivesOf, Outlasts, no_record, of_event, of_refill, RunOf, Script, past_at_end}
+use Rattle.run_definitions.specs.Record.{Life, LifeOver, first_over}
+use Rattle.run_definitions.specs.RunOf.{LifeOf, LivesOf, Outlasts, no_record, of_event, of_refill, past_at_end}
 use Rattle.run_safety.specs.Safety.{AreSafe, DeliversOnce}
 use Rattle.run_definitions.specs.Stores.{filled}
-use Rattle.run_definitions.specs.Uses.{AtMostOnce, accepted, delivered, life_delivered}
+use Rattle.run_definitions.specs.Uses.{accepted, delivered, life_delivered}
 use Rattle.run_safety.proofs.Handled.{Marked, RiseAll, marked, rise_all, rise_filled, rise_take, rises_fill, stores_rise}
-use Rattle.run_safety.proofs.Lists.{Apart, every_front, every_map, pairs_from_apart}
+use Rattle.run_safety.proofs.Lists.{every_front, every_map, pairs_from_apart}
 use Rattle.run_safety.proofs.Names.{AllBlocked, Differ, InRange, Once, blocked_all, filled_is, handled_rise, names, once_handled}
-use Rattle.run_safety.proofs.Rising.{Blocked, IsBlocked, Later, Rise, blocked_entry, entry_blocked, later_after, rise_after, rise_later}
+use Rattle.run_safety.proofs.Rising.{Blocked, IsBlocked, Later, Rise, blocked_entry, entry_blocked, rise_after, rise_later}
 
 -- what outlasts a cut only rises, too
 outlasting_rises : (layers : Layers) → AreSafe layers → (plan : List Step) (l : Life) (past : Past) (more : List StoreRecord)

@@ -1,20 +1,17 @@
 -- No name is accepted twice.
-use Rattle.std.proofs.Common.{◌≡◌, ◌≢◌, ℕ, zero, suc, ◌≤◌, Bool, true, false, cond, List, [], ◌∷◌, ◌++◌, map, refl, ap, sym, subst, ◌∙◌, arith, append_assoc, append-nil, Option, Some, None}
-use Rattle.std.specs.Bool.{⊤}
-use Rattle.std.specs.List.{All, AllByRecursion, cons_option, filter_map, flat_map}
-use Rattle.std.proofs.lemmas.List.Elements.{recursion_from_All}
+use Rattle.std.proofs.Common.{◌≡◌, ◌≢◌, ℕ, zero, suc, Bool, true, false, cond, List, [], ◌∷◌, ◌++◌, refl, ap, sym, subst, ◌∙◌, append_assoc, append-nil, Option, Some, None}
+use Rattle.std.specs.List.{AllByRecursion, cons_option, filter_map}
 use Rattle.mesh_base.specs.declared.pair.Name.{Name}
 use Rattle.mesh_base.specs.declared.pair.Pair.{Pair}
-use Rattle.mesh_types.specs.declared.history.Entry.{Entry}
 use Rattle.mesh_types.specs.declared.records.StoreRecord.{StoreRecord}
 use Rattle.mesh_types.specs.declared.records.StoreRecord.TheVariants as R
 use Rattle.mesh_types.specs.declared.answers.Answer.{Answer}
 use Rattle.mesh_types.specs.declared.answers.Answer.TheVariants as A
 use Rattle.mesh_types.specs.declared.events.Event.{Event}
 use Rattle.mesh_types.specs.declared.events.Event.TheVariants as E
-use Rattle.run_definitions.specs.Answers.{answer_of, config_before, replayed}
+use Rattle.run_definitions.specs.Answers.{answer_of, replayed}
 use Rattle.run_definitions.specs.Config.{config_of}
-use Rattle.run_definitions.specs.Entries.{entry_of, kept_of, unexpired}
+use Rattle.run_definitions.specs.Entries.{kept_of}
 use Rattle.run_definitions.specs.Handling.{AreHandled, Handles, past_of, records_left}
 use Rattle.run_definitions.specs.History.{Insight, OfPdu, Past, Told}
 use Rattle.run_definitions.specs.Layers.{Layers}

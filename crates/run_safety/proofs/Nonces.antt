@@ -1,9 +1,8 @@
 -- The nonces of a line: of which layer and which pair each is, and whose.
-use Rattle.std.proofs.Common.{◌≡◌, ◌≢◌, ℕ, ◌+◌, ◌*◌, ◌/◌, ◌%◌, ◌^◌, ◌<◌, Bool, true, false, not, cond, eqb, List, [], ◌∷◌, ◌++◌, get_or, refl, ap, sym, subst, ◌∙◌, arith, Option, Some, None}
-use Rattle.std.specs.Bool.{⊤}
-use Rattle.std.specs.List.{AllByRecursion, filter, flat_map, slice_index}
+use Rattle.std.proofs.Common.{◌≡◌, ◌≢◌, ℕ, ◌+◌, ◌*◌, ◌/◌, ◌%◌, ◌^◌, ◌<◌, Bool, true, false, not, cond, eqb, List, [], ◌∷◌, ◌++◌, get_or, refl, ap, sym, ◌∙◌, arith}
+use Rattle.std.specs.List.{AllByRecursion, filter, flat_map}
 use Rattle.layer_definitions.specs.Network.{network_nonce}
-use Rattle.layer_definitions.specs.Upper.{upper_nonce, nonce_type}
+use Rattle.layer_definitions.specs.Upper.{upper_nonce}
 use Rattle.mesh_base.specs.declared.address.Address.{Address}
 use Rattle.mesh_base.specs.declared.fields.NetFields.{NetFields}
 use Rattle.mesh_base.specs.declared.fields.NetMaterial.{NetMaterial}
@@ -17,8 +16,8 @@ use Rattle.run_definitions.specs.Config.{Config, is_element}
 use Rattle.run_definitions.specs.Lines.{Shows, shows_bcn, shows_ctl, shows_first, shows_late, shows_long, shows_msg, shows_relay, shows_rep, shows_seg, shows_sent, shows_sent_long, shows_spent}
 use Rattle.run_definitions.specs.Record.{Shown}
 use Rattle.run_definitions.specs.Seals.{message_fields, own_fields, own_upper_fields}
-use Rattle.run_definitions.specs.Uses.{Use, network_use, nonce_source, seals_of, upper_use}
-use Rattle.run_safety.proofs.Lists.{Apart, every_append, every_map}
+use Rattle.run_definitions.specs.Uses.{Use, network_use, nonce_source, seals_of}
+use Rattle.run_safety.proofs.Lists.{Apart}
 use Rattle.run_safety.proofs.Sending.{Foreign}
 use Rattle.run_safety.proofs.Walking.{ForeignJob, ShownFits, Tag, network_tag, tags, tags_of, upper_tag}
 

@@ -1,5 +1,5 @@
 -- The order and the expiry of pairs.
-use Rattle.std.proofs.Common.{◌≡◌, ℕ, ◌+◌, ◌≤◌, Bool, true, false, arith}
+use Rattle.std.proofs.Common.{◌≡◌, ℕ, ◌≤◌, true, false, arith}
 use Rattle.std.proofs.lemmas.Bool.Decides.{nat_tests}
 use Rattle.mesh_base.specs.declared.pair.Pair.{Pair}
 use Rattle.run_definitions.specs.Pairs.{is_newer, newer_of, is_expired}

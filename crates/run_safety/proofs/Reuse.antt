@@ -1,7 +1,6 @@
 -- No nonce of this node seals twice, over all lives.
-use Rattle.std.proofs.Common.{◌≡◌, ◌≢◌, ℕ, ◌+◌, ◌-◌, ◌*◌, ◌^◌, ◌<◌, ◌≤◌, Bool, true, false, cond, List, [], ◌∷◌, ◌++◌, refl, ap, sym, subst, ◌∙◌, arith, append_assoc, append-nil, Option, Some, None}
-use Rattle.std.specs.Bool.{⊤}
-use Rattle.std.specs.List.{AllByRecursion, AllPairs, filter, flat_map}
+use Rattle.std.proofs.Common.{◌≡◌, ◌≢◌, ℕ, ◌+◌, ◌*◌, ◌^◌, ◌<◌, ◌≤◌, true, false, List, [], ◌∷◌, refl, ap, sym, subst, ◌∙◌, arith}
+use Rattle.std.specs.List.{AllByRecursion, flat_map}
 use Rattle.std.proofs.lemmas.Grind.{flat_map-append}
 use Rattle.std.proofs.lemmas.List.Elements.{recursion_from_All}
 use Rattle.mesh_base.specs.IvState.{transmit_of}
@@ -12,17 +11,17 @@ use Rattle.run_definitions.specs.Config.{Config, config_of}
 use Rattle.run_definitions.specs.Layers.{Layers}
 use Rattle.run_definitions.specs.Order.{Step}
 use Rattle.run_definitions.specs.Pairs.{word}
-use Rattle.run_definitions.specs.Record.{Life, LifeOver, Run, first_over, shown}
-use Rattle.run_definitions.specs.RunOf.{LifeOf, LivesOf, RunOf, Script, draws}
-use Rattle.run_safety.specs.Safety.{AreSafe, DrawsApart, Keeps, LivesKeep, ReusesNoNonce, all_draws}
-use Rattle.run_definitions.specs.Uses.{NoReuse, Use, life_seals, node_of, nonce_source, uses}
+use Rattle.run_definitions.specs.Record.{Life, LifeOver, first_over, shown}
+use Rattle.run_definitions.specs.RunOf.{LifeOf, LivesOf, draws}
+use Rattle.run_safety.specs.Safety.{AreSafe, DrawsApart, LivesKeep, ReusesNoNonce, all_draws}
+use Rattle.run_definitions.specs.Uses.{Use, life_seals, node_of, uses}
 use Rattle.run_safety.proofs.Handled.{Marked, marked}
 use Rattle.run_safety.proofs.LifeLines.{life_lines}
 use Rattle.run_safety.proofs.Lists.{Apart, Sub, apart_append, apart_from_pairs, apart_map, apart_sub, every_append, every_map, every_sub, no_part, pairs_from_apart, sub_append}
 use Rattle.run_safety.proofs.Lives.{end_in_range, life_later}
-use Rattle.run_safety.proofs.Nonces.{NoClash, Tagged, Wide, is_own, lines_tagged, no_clash, no_use, tagged_append}
+use Rattle.run_safety.proofs.Nonces.{NoClash, Tagged, Wide, lines_tagged, no_clash, no_use, tagged_append}
 use Rattle.run_safety.proofs.Rising.{Later, later_after, later_same}
-use Rattle.run_safety.proofs.Walking.{Tag, both, doubled, network_tag, tags, upper_tag}
+use Rattle.run_safety.proofs.Walking.{Tag, doubled, network_tag, tags, upper_tag}
 
 abbrev life_draws : LifeOver → List Pair
 life_draws x = draws (shown x.life)

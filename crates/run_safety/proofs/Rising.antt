@@ -1,15 +1,14 @@
 -- Records that only rise: none lowers the known IV Index or the mark, and none is an identity.
-use Rattle.std.proofs.Common.{eq-eqb, ◌≡◌, ℕ, ◌+◌, ◌≤◌, ◌⊎◌, inl, inr, Bool, true, false, cond, List, [], ◌∷◌, ◌++◌, refl, ap, sym, ◌∙◌, arith, append_assoc, Option, Some, None}
+use Rattle.std.proofs.Common.{eq-eqb, ◌≡◌, ℕ, ◌≤◌, Bool, true, false, cond, List, [], ◌∷◌, ◌++◌, refl, ap, ◌∙◌, arith, Option, Some, None}
 use Rattle.std.specs.Bool.{⊤}
 use Rattle.std.proofs.lemmas.Grind.{fold-append}
-use Rattle.std.proofs.lemmas.Bool.{cases_Bool}
 use Rattle.mesh_base.specs.declared.pair.Name.{Name}
 use Rattle.mesh_base.specs.declared.pair.Pair.{Pair}
 use Rattle.mesh_types.specs.declared.records.StoreRecord.{StoreRecord}
 use Rattle.mesh_types.specs.declared.records.StoreRecord.TheVariants as R
 use Rattle.run_definitions.specs.Config.{Config, changed, config_of, no_config}
-use Rattle.run_definitions.specs.Entries.{entry_of, greatest_with, kept_after, kept_of, unexpired}
-use Rattle.run_definitions.specs.Pairs.{is_expired, is_newer, newer_of}
+use Rattle.run_definitions.specs.Entries.{greatest_with, kept_after, kept_of, unexpired}
+use Rattle.run_definitions.specs.Pairs.{is_expired, is_newer}
 use Rattle.run_safety.proofs.Pairs.{expired_below, expired_later, not_newer_left, not_newer_right, not_newer_itself}
 
 pub config_push : (records : List StoreRecord) (r : StoreRecord) → config_of (records ++ r ∷ []) ≡ changed (config_of records) r

@@ -1,14 +1,13 @@
 -- The jobs of an entry: a PDU that goes on is none of this node's, and a first segment is the first job of a `begin` entry alone.
-use Rattle.std.proofs.Common.{add-one, ne_eqb, zero, suc, ◌≡◌, ℕ, ◌+◌, ◌-◌, ◌/◌, ◌^◌, ◌<◌, ◌≤◌, Bool, true, false, cond, not, ◌&&◌, ◌||◌, eqb, ltb, leb, List, [], ◌∷◌, ◌++◌, map, refl, ap, sym, subst, ◌∙◌, arith, Option, Some, None, length}
+use Rattle.std.proofs.Common.{add-one, ne_eqb, zero, suc, ◌≡◌, ℕ, ◌-◌, ◌/◌, ◌^◌, ◌<◌, Bool, true, false, cond, not, ◌&&◌, ◌||◌, eqb, ltb, leb, List, [], ◌∷◌, ◌++◌, map, refl, ap, sym, subst, ◌∙◌, arith, Option, Some, None, length}
 use Rattle.std.specs.Bool.{⊤, xor}
-use Rattle.std.specs.List.{All, AllByRecursion, Contains, flat_map, list_any, range_with_len}
+use Rattle.std.specs.List.{All, AllByRecursion, flat_map, list_any, range_with_len}
 use Rattle.std.specs.Option.{option_map, option_map_or, option_to_list, unwrap_or}
 use Rattle.std.proofs.lemmas.List.Elements.{recursion_from_All, All-from_recursion, All-contains}
 use Rattle.mesh_base.specs.declared.address.Address.{Address}
-use Rattle.mesh_base.specs.declared.fields.NetFields.{NetFields}
 use Rattle.mesh_base.specs.declared.fields.NetMaterial.{NetMaterial}
 use Rattle.layer_definitions.specs.KeyRefresh.{own_beacon, transmit_material}
-use Rattle.layer_definitions.specs.Lower.{acknowledgment, last_segment, lower_text, segment}
+use Rattle.layer_definitions.specs.Lower.{acknowledgment, last_segment, lower_text}
 use Rattle.mesh_base.specs.declared.keys.NetKeyRow.{NetKeyRow}
 use Rattle.mesh_base.specs.declared.keys.UpperKey.{UpperKey}
 use Rattle.mesh_base.specs.declared.lower.Lower.{Lower}
@@ -22,20 +21,20 @@ use Rattle.mesh_types.specs.declared.events.SendKey.{SendKey}
 use Rattle.mesh_types.specs.declared.jobs.Job.{Job}
 use Rattle.mesh_types.specs.declared.jobs.Job.TheVariants as J
 use Rattle.mesh_types.specs.declared.records.StoreRecord.{StoreRecord}
-use Rattle.run_definitions.specs.Answers.{answer_of, config_before, is_before_cache, is_cached, is_mine, is_unicast, later, network_answer, pdu_answer, transport_answer, unless_reset}
+use Rattle.run_definitions.specs.Answers.{answer_of, config_before, is_before_cache, is_unicast, later, network_answer, pdu_answer, transport_answer, unless_reset}
 use Rattle.run_definitions.specs.Config.{Config, config_of, is_element}
 use Rattle.run_definitions.specs.Handling.{AreHandled, Handles, past_of, records_left}
 use Rattle.run_definitions.specs.History.{Insight, OfBeacon, OfNothing, OfPdu, Opening, Past, Reading, Told, now_of}
 use Rattle.run_definitions.specs.Jobs.{ack_asked, ack_job, ack_jobs, beacon_jobs, beacons_due, begin_jobs, block_asked, element_address, first_net, first_round_job, is_refreshed, reply_ttl, jobs_of, message_jobs, pdu_jobs, raw_jobs, refresh_jobs, relay_jobs, segment_numbers, send_jobs, send_keys, sent_job, tick_jobs, under}
 use Rattle.run_definitions.specs.Layers.{Layers}
 use Rattle.run_definitions.specs.Readings.{IsReading, Sees, sees_pdu, sees_beacon, sees_nothing}
-use Rattle.run_safety.specs.Safety.{AreSafe, IsFitJob, WasHeard}
+use Rattle.run_safety.specs.Safety.{AreSafe, IsFitJob}
 use Rattle.run_definitions.specs.Stores.{message_of, records_after}
 use Rattle.run_safety.proofs.Accepting.{some_is}
 use Rattle.run_safety.proofs.Handled.{rise_filled}
 use Rattle.run_safety.proofs.Lists.{every_append, every_map}
 use Rattle.run_safety.proofs.Names.{InRange, entry_rises, first_in_range}
-use Rattle.run_safety.proofs.Rising.{Later, Rise, later_after, later_same, rise_later}
+use Rattle.run_safety.proofs.Rising.{Later, Rise, later_after, rise_later}
 
 -- a source is none of the node's elements, and is within its width
 abbrev pub Foreign : Config → Address → Type 0

@@ -1,6 +1,6 @@
 -- The lines of a bearer: each shows its job, and each pair that it seals with is one that it draws, where the first segment of a message
 -- seals with the pair that the line before it drew.
-use Rattle.std.proofs.Common.{◌≡◌, ℕ, zero, suc, ◌+◌, ◌-◌, ◌<◌, Bool, true, false, not, cond, List, [], ◌∷◌, ◌++◌, map, length, refl, ap, sym, subst, ◌∙◌, arith, append_assoc, append-nil, length-append, add-one, Option, Some, None, IsTrue}
+use Rattle.std.proofs.Common.{◌≡◌, ℕ, ◌+◌, Bool, true, false, List, [], ◌∷◌, ◌++◌, map, length, refl, ap, sym, subst, ◌∙◌, append_assoc, length-append, Option, Some, None, IsTrue}
 use Rattle.std.specs.Bool.{⊤}
 use Rattle.std.specs.List.{AllByRecursion, cons_option, filter_map, flat_map, slice_get}
 use Rattle.std.specs.Option.{option_to_list}
@@ -15,12 +15,12 @@ use Rattle.mesh_types.specs.declared.jobs.Job.TheVariants as J
 use Rattle.mesh_types.specs.declared.lines.Outcome.{Outcome}
 use Rattle.mesh_types.specs.declared.lines.Outcome.TheVariants as O
 use Rattle.run_definitions.specs.Config.{Config}
-use Rattle.run_definitions.specs.Lines.{Shows, shows_bcn, shows_ctl, shows_first, shows_late, shows_long, shows_msg, shows_relay, shows_rep, shows_seg, shows_sent, shows_sent_long, shows_spent, after_line, drawn_of, is_drawing, kept_events}
+use Rattle.run_definitions.specs.Lines.{Shows, shows_bcn, shows_ctl, shows_first, shows_late, shows_long, shows_msg, shows_relay, shows_rep, shows_seg, shows_sent, shows_sent_long, shows_spent, after_line, drawn_of, kept_events}
 use Rattle.run_definitions.specs.Order.{Placed, Task, Walks, follow, follows, handle, handles, is_outside, job_tasks, stops, write, write_tasks, writes}
 use Rattle.run_definitions.specs.Record.{Shown, shown_of}
 use Rattle.run_definitions.specs.RunOf.{draws}
 use Rattle.run_safety.proofs.Accepting.{some_is}
-use Rattle.run_safety.proofs.Lists.{Sub, no_part, kept_part, passed_part, every_append, sub_append, sub_nothing}
+use Rattle.run_safety.proofs.Lists.{Sub, kept_part, passed_part, every_append, sub_nothing}
 use Rattle.run_safety.proofs.Sending.{BeginFits, Fine, FirstOf, first_of, Foreign, JobsFit}
 
 -- Tags: a pair, and whether the upper transport layer seals with it, or the network layer.
