@@ -1,10 +1,2 @@
 pub mod WorkedReports
 pub mod Texts
-pub mod Lists
-pub mod Pairs
-pub mod Rising
-pub mod Handled
-pub mod Accepting
-pub mod Names
-pub mod Lives
-pub mod Sending

@@ -129,7 +129,7 @@ is_again past n =
 abbrev pub segment_answer : Layers → Past → Reading → Lower → Name → Option Answer
 segment_answer layers past r low n =
     if not (list_any (is_name n) (layers.in_progress past)) && nat_le 8 (length (layers.in_progress past))
-      then Some (A.NoRoom (take 8 (layers.in_progress past)))
+    then Some (A.NoRoom (take 8 (layers.in_progress past)))
     else if layers.conflicts past n r low then Some A.Conflict
     else if nat_lt 0 (layers.missing past n low) then Some (A.Waiting (layers.missing past n low))
     else None

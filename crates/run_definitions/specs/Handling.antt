@@ -23,9 +23,9 @@ past_of before t = record { told = before; records = t.records }
 abbrev pub AreHandled : Layers → List StoreRecord → List Told → List Told → Type 0
 AreHandled layers records before [] = ⊤
 AreHandled layers records before (t ∷ ts) =
-  (t.records ≡ filled t.entry.fills records)
-  × Handles layers (past_of before t) t
-  × AreHandled layers (records_after layers (past_of before t) t) (before ++ t ∷ []) ts
+    (t.records ≡ filled t.entry.fills records)
+    × Handles layers (past_of before t) t
+    × AreHandled layers (records_after layers (past_of before t) t) (before ++ t ∷ []) ts
 
 -- the records that entries leave
 abbrev pub records_left : Layers → List StoreRecord → List Told → List Told → List StoreRecord

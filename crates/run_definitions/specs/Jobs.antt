@@ -38,7 +38,7 @@ under c net job = option_to_list (option_map job (transmit_material c.nets net))
 abbrev pub relay_jobs : Config → Reading → List Job
 relay_jobs c r =
     if c.relay == 1 && nat_le 2 r.fields.ttl && not (is_element c r.fields.dst.0)
-      then under c r.by.index (λ m. J.Relay m (record r.fields { ttl = r.fields.ttl - 1 }))
+    then under c r.by.index (λ m. J.Relay m (record r.fields { ttl = r.fields.ttl - 1 }))
     else []
 
 -- TTL of an acknowledgment or a reply: 0 to what was heard with 0, else the Default TTL
@@ -97,9 +97,9 @@ abbrev pub pdu_jobs : Layers → Past → Config → Insight → Answer → List
 pdu_jobs layers past c (OfPdu (Some r) low opening) answer =
     if is_before_cache answer then []
     else relay_jobs c r
-      ++ ack_jobs c r low answer
-      ++ message_jobs layers past c r (OfPdu (Some r) low opening) answer
-      ++ refresh_jobs (config_before past) c
+    ++ ack_jobs c r low answer
+    ++ message_jobs layers past c r (OfPdu (Some r) low opening) answer
+    ++ refresh_jobs (config_before past) c
 pdu_jobs layers past c _ answer = []
 
 -- The jobs of a tick event: acknowledgments, segments, and beacons where a multiple of 1000 ticks was passed or the IV state changed.
@@ -107,9 +107,9 @@ pdu_jobs layers past c _ answer = []
 abbrev pub beacons_due : Past → Config → ℕ → List Job
 beacons_due past c ticks =
     if nat_lt (now_of past.told / 1000) (later past ticks / 1000)
-      || not ((config_before past).iv.current == c.iv.current)
-      || xor (config_before past).iv.progress c.iv.progress
-      then beacon_jobs c
+    || not ((config_before past).iv.current == c.iv.current)
+    || xor (config_before past).iv.progress c.iv.progress
+    then beacon_jobs c
     else []
 
 abbrev pub tick_jobs : Layers → Past → Config → ℕ → List Job

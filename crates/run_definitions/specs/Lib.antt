@@ -9,7 +9,6 @@ pub mod Seals
 pub mod Uses
 pub mod Ranges
 pub mod History
-pub mod Recovered
 pub mod Layers
 pub mod Answers
 pub mod Readings
@@ -19,4 +18,4 @@ pub mod Handling
 pub mod Lines
 pub mod Order
 pub mod RunOf
-pub mod Safety
+pub mod Recovered

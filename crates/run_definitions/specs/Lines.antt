@@ -41,37 +41,37 @@ is_late auth p = not (p.iv == auth.iv) || nat_lt (auth.seq + 8191) p.seq
 -- event asks for is the event's. Where a network PDU goes out, its octets are the text of these fields.
 pub data Shows : Event → Job → Outcome → Type 0 where
   shows_ctl : {event : Event} {m : NetMaterial} {ttl : ℕ} {src dst : Address} {tpdu : List ℕ} {keep : Option (Address × Bool)} {pair : Pair}
-    → Shows event (J.Control m ttl src dst tpdu keep) (O.Ctl pair ttl src dst tpdu (net_text m (own_fields pair true ttl src dst tpdu)))
+      → Shows event (J.Control m ttl src dst tpdu keep) (O.Ctl pair ttl src dst tpdu (net_text m (own_fields pair true ttl src dst tpdu)))
   shows_msg : {event : Event} {net : ℕ} {m : NetMaterial} {key : UpperKey} {ttl : ℕ} {src dst : Address} {payload : List ℕ}
-    {keep : Option (Address × Bool)} {pair : Pair}
-    → length payload ≤ 11
-    → Shows event (J.Message net m key ttl src dst payload keep)
+      {keep : Option (Address × Bool)} {pair : Pair}
+      → length payload ≤ 11
+      → Shows event (J.Message net m key ttl src dst payload keep)
       (O.Msg pair ttl src dst (key_name_of key) payload (net_text m (message_fields key pair ttl src dst payload)))
   shows_long : {event : Event} {net : ℕ} {m : NetMaterial} {key : UpperKey} {ttl : ℕ} {src dst : Address} {payload : List ℕ}
-    {keep : Option (Address × Bool)} {pair : Pair}
-    → 11 < length payload
-    → Shows event (J.Message net m key ttl src dst payload keep) (O.Long pair ttl src dst (key_name_of key) payload)
+      {keep : Option (Address × Bool)} {pair : Pair}
+      → 11 < length payload
+      → Shows event (J.Message net m key ttl src dst payload keep) (O.Long pair ttl src dst (key_name_of key) payload)
   shows_sent : {element hops : ℕ} {at : Address} {with : SendKey} {net : ℕ} {m : NetMaterial} {key : UpperKey} {ttl : ℕ} {src dst : Address}
-    {payload : List ℕ} {pair : Pair}
-    → length payload ≤ 11
-    → Shows (E.Send element at hops with payload) (J.Sent net m key ttl src dst)
+      {payload : List ℕ} {pair : Pair}
+      → length payload ≤ 11
+      → Shows (E.Send element at hops with payload) (J.Sent net m key ttl src dst)
       (O.Msg pair ttl src dst (key_name_of key) payload (net_text m (message_fields key pair ttl src dst payload)))
   shows_sent_long : {element hops : ℕ} {at : Address} {with : SendKey} {net : ℕ} {m : NetMaterial} {key : UpperKey} {ttl : ℕ} {src dst : Address}
-    {payload : List ℕ} {pair : Pair}
-    → 11 < length payload
-    → Shows (E.Send element at hops with payload) (J.Sent net m key ttl src dst) (O.Long pair ttl src dst (key_name_of key) payload)
+      {payload : List ℕ} {pair : Pair}
+      → 11 < length payload
+      → Shows (E.Send element at hops with payload) (J.Sent net m key ttl src dst) (O.Long pair ttl src dst (key_name_of key) payload)
   shows_first : {event : Event} {m : NetMaterial} {name : Name} {ttl : ℕ} {src dst : Address} {seg_o seg_n : ℕ} {tpdu : List ℕ}
-    → Shows event (J.Segment m name ttl src dst seg_o seg_n tpdu true)
+      → Shows event (J.Segment m name ttl src dst seg_o seg_n tpdu true)
       (O.Seg name.pair ttl src dst seg_o seg_n name.pair.seq (net_text m (own_fields name.pair false ttl src dst tpdu)))
   shows_seg : {event : Event} {m : NetMaterial} {name : Name} {ttl : ℕ} {src dst : Address} {seg_o seg_n : ℕ} {tpdu : List ℕ} {pair : Pair}
-    → is_late name.pair pair ≡ false
-    → Shows event (J.Segment m name ttl src dst seg_o seg_n tpdu false)
+      → is_late name.pair pair ≡ false
+      → Shows event (J.Segment m name ttl src dst seg_o seg_n tpdu false)
       (O.Seg pair ttl src dst seg_o seg_n name.pair.seq (net_text m (own_fields pair false ttl src dst tpdu)))
   shows_late : {event : Event} {m : NetMaterial} {name : Name} {ttl : ℕ} {src dst : Address} {seg_o seg_n : ℕ} {tpdu : List ℕ} {pair : Pair}
-    → is_late name.pair pair ≡ true
-    → Shows event (J.Segment m name ttl src dst seg_o seg_n tpdu false) (O.Late pair)
+      → is_late name.pair pair ≡ true
+      → Shows event (J.Segment m name ttl src dst seg_o seg_n tpdu false) (O.Late pair)
   shows_relay : {event : Event} {m : NetMaterial} {f : NetFields}
-    → Shows event (J.Relay m f) (O.Relay (pair_of f) f.ctl f.ttl f.src f.dst f.tpdu (net_text m f))
+      → Shows event (J.Relay m f) (O.Relay (pair_of f) f.ctl f.ttl f.src f.dst f.tpdu (net_text m f))
   shows_rep : {event : Event} {name : Name} {octets : List ℕ} → Shows event (J.Repeat name octets) (O.Rep name octets)
   shows_bcn : {event : Event} {octets : List ℕ} → Shows event (J.Beacon octets) (O.Bcn octets)
   shows_spent : {event : Event} {job : Job} {iv : ℕ} → is_drawing job ≡ true → Shows event job (O.Spent iv)

@@ -50,16 +50,16 @@ job_tasks p = write_tasks p.at 0 p.entry.event p.entry.jobs
 pub data Walks : List Task → List Placed → List Sent → List Task → Type 0 where
   stops : {tasks : List Task} → Walks tasks [] [] tasks
   handles : {tasks : List Task} {es : List Placed} {ls : List Sent} {left : List Task} (p : Placed)
-    → IsTrue (is_outside p.entry.event)
-    → Walks (job_tasks p ++ tasks) es ls left
-    → Walks (handle p.entry.event ∷ tasks) (p ∷ es) ls left
+      → IsTrue (is_outside p.entry.event)
+      → Walks (job_tasks p ++ tasks) es ls left
+      → Walks (handle p.entry.event ∷ tasks) (p ∷ es) ls left
   follows : {tasks : List Task} {es : List Placed} {ls : List Sent} {left : List Task} (p : Placed)
-    → Walks (job_tasks p ++ tasks) es ls left
-    → Walks (follow p.entry.event ∷ tasks) (p ∷ es) ls left
+      → Walks (job_tasks p ++ tasks) es ls left
+      → Walks (follow p.entry.event ∷ tasks) (p ∷ es) ls left
   writes : {i j : ℕ} {event : Event} {job : Job} {outcome : Outcome} {tasks : List Task} {es : List Placed} {ls : List Sent} {left : List Task}
-    → Shows event job outcome
-    → Walks (map follow (after_line job outcome) ++ tasks) es ls left
-    → Walks (write i j event job ∷ tasks) es (record { entry = i; job = j; outcome = outcome } ∷ ls) left
+      → Shows event job outcome
+      → Walks (map follow (after_line job outcome) ++ tasks) es ls left
+      → Walks (write i j event job ∷ tasks) es (record { entry = i; job = j; outcome = outcome } ∷ ls) left
 
 -- A life's plan: its phases, in which each bearer has a list of events, and which the bearers leave together; and where the flash is
 -- set to fail.
@@ -92,12 +92,12 @@ Does events part k left = Walks (map handle (list_at events k)) (of_bearer k par
 pub data PartsOf : Bool → List (List (List Event)) → List Part → Type 0 where
   ends : {is_cut : Bool} → PartsOf is_cut [] []
   whole : {is_cut : Bool} {events : List (List Event)} {more : List (List (List Event))} {part : Part} {parts : List Part}
-    → ((k : ℕ) → Does events part k [])
-    → PartsOf is_cut more parts
-    → PartsOf is_cut (events ∷ more) (part ∷ parts)
+      → ((k : ℕ) → Does events part k [])
+      → PartsOf is_cut more parts
+      → PartsOf is_cut (events ∷ more) (part ∷ parts)
   broken : {events : List (List Event)} {more : List (List (List Event))} {part : Part}
-    → ((k : ℕ) → (left : List Task) × Does events part k left)
-    → PartsOf true (events ∷ more) (part ∷ [])
+      → ((k : ℕ) → (left : List Task) × Does events part k left)
+      → PartsOf true (events ∷ more) (part ∷ [])
 
 abbrev pub is_cut : End → Bool
 is_cut F.Ended = false

@@ -1,11 +1,8 @@
 -- Pairs of an IV Index and a SEQ: words, order and expiry.
-use Rattle.std.specs.Prelude.{ℕ, ◌+◌, ◌*◌, ◌^◌, ◌==◌, ◌&&◌, ◌||◌, nat_lt, Bool, if◌then◌else◌}
+use Rattle.std.specs.Prelude.{ℕ, ◌+◌, ◌==◌, ◌&&◌, ◌||◌, nat_lt, Bool, if◌then◌else◌}
 use Rattle.mesh_base.specs.declared.pair.Pair.{Pair}
-
--- The word of a pair: the IV Index, then 25 bits for SEQ. SEQ has 24 bits; the word behind the last SEQ of an IV Index says that none
--- is left under it.
-abbrev pub word : Pair → ℕ
-word p = p.iv * 2 ^ 25 + p.seq
+-- the word of a pair
+pub use Rattle.mesh_world.specs.Pairs.{word}
 
 -- whether p is above q, by the IV Index first and then by SEQ
 abbrev pub is_newer : Pair → Pair → Bool

@@ -64,7 +64,7 @@ IsOpened layers past r n (Access akf aid upper) opening =
     IsOpenedUnder (keys_tried (config_before past) r akf aid) (fields_heard r n false) upper opening
 IsOpened layers past r n (AccessPart akf aid szmic seq_zero seg_o seg_n piece) opening =
     IsOpenedUnder (keys_tried (config_before past) r akf aid) (fields_heard r n szmic)
-      (layers.whole past n (AccessPart akf aid szmic seq_zero seg_o seg_n piece)) opening
+    (layers.whole past n (AccessPart akf aid szmic seq_zero seg_o seg_n piece)) opening
 IsOpened layers past r n (Control opcode params) opening = opening ≡ None
 IsOpened layers past r n (ControlPart opcode seq_zero seg_o seg_n piece) opening = opening ≡ None
 
@@ -91,13 +91,13 @@ has_octets past _ = false
 
 pub data Sees (layers : Layers) (past : Past) : Event → Insight → Type 0 where
   sees_pdu : {octets : List ℕ} {reading : Option Reading} {low : Option Lower} {opening : Option Opening}
-    → IsFalse (config_before past).reset
-    → IsReading layers past octets reading
-    → IsLower past reading low
-    → IsOpening layers past reading low opening
-    → Sees layers past (E.Net octets) (OfPdu reading low opening)
+      → IsFalse (config_before past).reset
+      → IsReading layers past octets reading
+      → IsLower past reading low
+      → IsOpening layers past reading low opening
+      → Sees layers past (E.Net octets) (OfPdu reading low opening)
   sees_beacon : {octets : List ℕ} {b : Option Beacon}
-    → IsFalse (config_before past).reset
-    → IsBeacon past octets b
-    → Sees layers past (E.Bcn octets) (OfBeacon b)
+      → IsFalse (config_before past).reset
+      → IsBeacon past octets b
+      → Sees layers past (E.Bcn octets) (OfBeacon b)
   sees_nothing : {event : Event} → has_octets past event ≡ false → Sees layers past event OfNothing

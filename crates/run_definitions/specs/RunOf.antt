@@ -77,10 +77,10 @@ past_at_end layers over l told = record { told = told; records = filled l.refill
 pub data Outlasts (layers : Layers) (plan : List Step) (l : Life) (past : Past) : List StoreRecord → Type 0 where
   no_record : Outlasts layers plan l past []
   of_event : (k n : ℕ) (event : Event) (insight : Insight)
-    → IsTrue (is_cut l.end)
-    → next_event plan l k ≡ Some event
-    → Sees layers past event insight
-    → Outlasts layers plan l past (take n (stores layers past event insight (answer_of layers past event insight)))
+      → IsTrue (is_cut l.end)
+      → next_event plan l k ≡ Some event
+      → Sees layers past event insight
+      → Outlasts layers plan l past (take n (stores layers past event insight (answer_of layers past event insight)))
   of_refill : IsTrue (is_cut l.end) → Outlasts layers plan l past (fill_of (config_of past.records) ∷ [])
 
 -- What the next life opens over is alike to all the records of this life.

@@ -62,7 +62,7 @@ abbrev pub tick_records : Layers → Past → ℕ → List StoreRecord
 tick_records layers past ticks =
     if hours_passed past ticks == 0 then []
     else R.Hour (hours_step layers past ticks).0.hours (hours_step layers past ticks).0.since
-      ∷ step_records (config_before past) (hours_step layers past ticks).1
+    ∷ step_records (config_before past) (hours_step layers past ticks).1
 
 -- the access message that a PDU completed, as it opened
 abbrev pub message_of : Insight → Name → Address → Option AccessMessage

@@ -1,5 +1,5 @@
 -- What a run does with its keys and its messages, and when that is safe.
-use Rattle.std.specs.Prelude.{◌≡◌, ◌≢◌, ℕ, ◌+◌, ◌*◌, true, false, List, [], ◌++◌, Option, Some, None, AllPairs, filter, slice_index}
+use Rattle.std.specs.Prelude.{ℕ, ◌+◌, ◌*◌, true, false, List, [], ◌++◌, Option, Some, None, filter, slice_index}
 use Rattle.std.specs.List.{filter_map, flat_map}
 use Rattle.std.specs.Option.{option_map, option_to_list}
 use Rattle.layer_definitions.specs.Network.{network_nonce, network_plaintext}
@@ -16,23 +16,11 @@ use Rattle.mesh_types.specs.declared.jobs.Job.{Job}
 use Rattle.mesh_types.specs.declared.jobs.Job.TheVariants as J
 use Rattle.mesh_types.specs.declared.lines.Outcome.{Outcome}
 use Rattle.mesh_types.specs.declared.lines.Outcome.TheVariants as O
+-- a use of a key, and what safety means: of the uses of keys, and of the messages accepted
+pub use Rattle.mesh_world.specs.Safety.{Use, NoReuse, AtMostOnce}
 use Rattle.run_definitions.specs.Config.{Config, config_of, is_element}
 use Rattle.run_definitions.specs.Record.{Life, Run, first_over, shown}
 use Rattle.run_definitions.specs.Seals.{own_fields, own_upper_fields, message_fields}
-
--- One seal by AES-CCM: under this key and nonce, this plaintext.
-pub record Use : Type 0 where
-  pub key : List ℕ
-  pub nonce : List ℕ
-  pub plain : List ℕ
-
--- two seals of equal key and nonce have equal plaintexts
-abbrev pub NoReuse : List Use → Type 0
-NoReuse uses = AllPairs (λ u v. u.key ≡ v.key → u.nonce ≡ v.nonce → u.plain ≡ v.plain) uses
-
--- no name stands twice
-abbrev pub AtMostOnce : List Name → Type 0
-AtMostOnce names = AllPairs (λ m n. m ≢ n) names
 
 -- The seals of a line.
 

@@ -54,25 +54,25 @@ apart_from_pairs R (x ∷ xs) h =
 -- Parts of a list, in its order.
 
 pub data Sub (A : Type 0) : List A → List A → Type 0 where
-  none : Sub A [] []
-  keep : {x : A} {xs ys : List A} → Sub A xs ys → Sub A (x ∷ xs) (x ∷ ys)
-  skip : {y : A} {xs ys : List A} → Sub A xs ys → Sub A xs (y ∷ ys)
+  no_part : Sub A [] []
+  kept_part : {x : A} {xs ys : List A} → Sub A xs ys → Sub A (x ∷ xs) (x ∷ ys)
+  passed_part : {y : A} {xs ys : List A} → Sub A xs ys → Sub A xs (y ∷ ys)
 
 pub sub_nothing : {A : Type 0} (ys : List A) → Sub A [] ys
-sub_nothing [] = none
-sub_nothing (y ∷ ys) = skip (sub_nothing ys)
+sub_nothing [] = no_part
+sub_nothing (y ∷ ys) = passed_part (sub_nothing ys)
 
 pub sub_append : {A : Type 0} {xs ys vs ws : List A} → Sub A xs ys → Sub A vs ws → Sub A (xs ++ vs) (ys ++ ws)
-sub_append none k = k
-sub_append (keep h) k = keep (sub_append h k)
-sub_append (skip h) k = skip (sub_append h k)
+sub_append no_part k = k
+sub_append (kept_part h) k = kept_part (sub_append h k)
+sub_append (passed_part h) k = passed_part (sub_append h k)
 
 pub every_sub : {A : Type 0} (P : A → Type 0) {xs ys : List A} → Sub A xs ys → AllByRecursion P ys → AllByRecursion P xs
-every_sub P none h = tt
-every_sub P (keep s) h = (h.0, every_sub P s h.1)
-every_sub P (skip s) h = every_sub P s h.1
+every_sub P no_part h = tt
+every_sub P (kept_part s) h = (h.0, every_sub P s h.1)
+every_sub P (passed_part s) h = every_sub P s h.1
 
 pub apart_sub : {A : Type 0} (R : A → A → Type 0) {xs ys : List A} → Sub A xs ys → Apart R ys → Apart R xs
-apart_sub R none h = tt
-apart_sub R (keep s) h = (every_sub (R _) s h.0, apart_sub R s h.1)
-apart_sub R (skip s) h = apart_sub R s h.1
+apart_sub R no_part h = tt
+apart_sub R (kept_part s) h = (every_sub (R _) s h.0, apart_sub R s h.1)
+apart_sub R (passed_part s) h = apart_sub R s h.1

@@ -10,7 +10,7 @@ use Rattle.mesh_types.specs.declared.records.StoreRecord.TheVariants as R
 use Rattle.run_definitions.specs.Config.{Config, changed, config_of, no_config}
 use Rattle.run_definitions.specs.Entries.{entry_of, greatest_with, kept_after, kept_of, unexpired}
 use Rattle.run_definitions.specs.Pairs.{is_expired, is_newer, newer_of}
-use Rattle.run_definitions.proofs.Pairs.{expired_below, expired_later, not_newer_left, not_newer_right, not_newer_itself}
+use Rattle.run_safety.proofs.Pairs.{expired_below, expired_later, not_newer_left, not_newer_right, not_newer_itself}
 
 pub config_push : (records : List StoreRecord) (r : StoreRecord) → config_of (records ++ r ∷ []) ≡ changed (config_of records) r
 config_push records r = fold-append changed no_config records (r ∷ [])
@@ -102,8 +102,8 @@ pub blocked_rise : (n : Name) {l m : List StoreRecord} → Rise l m → IsBlocke
 blocked_rise n same b = b
 blocked_rise n (more m r k h) b =
     rw (config_push, kept_push)
-      (blocked_later n _ _ _ (later_changed (config_of m) r h).current
-        (blocked_after n (config_of m).iv.current (kept_of m n.src.0) r (blocked_rise n k b)))
+    (blocked_later n _ _ _ (later_changed (config_of m) r h).current
+    (blocked_after n (config_of m).iv.current (kept_of m n.src.0) r (blocked_rise n k b)))
 
 blocked_by_itself : (n : Name) (c : ℕ) (kept : Option Pair) → Blocked n c (greatest_with kept n.pair)
 blocked_by_itself n c None = by_kept (not_newer_itself n.pair)

@@ -29,13 +29,13 @@ use Rattle.run_definitions.specs.History.{Insight, OfBeacon, OfNothing, OfPdu, O
 use Rattle.run_definitions.specs.Jobs.{ack_asked, ack_job, ack_jobs, beacon_jobs, beacons_due, begin_jobs, block_asked, element_address, first_net, first_round_job, is_refreshed, reply_ttl, jobs_of, message_jobs, pdu_jobs, raw_jobs, refresh_jobs, relay_jobs, segment_numbers, send_jobs, send_keys, sent_job, tick_jobs, under}
 use Rattle.run_definitions.specs.Layers.{Layers}
 use Rattle.run_definitions.specs.Readings.{IsReading, Sees, sees_pdu, sees_beacon, sees_nothing}
-use Rattle.run_definitions.specs.Safety.{AreSafe, IsFitJob, WasHeard}
+use Rattle.run_safety.specs.Safety.{AreSafe, IsFitJob, WasHeard}
 use Rattle.run_definitions.specs.Stores.{message_of, records_after}
-use Rattle.run_definitions.proofs.Accepting.{some_is}
-use Rattle.run_definitions.proofs.Handled.{rise_filled}
-use Rattle.run_definitions.proofs.Lists.{every_append, every_map}
-use Rattle.run_definitions.proofs.Names.{InRange, entry_rises, first_in_range}
-use Rattle.run_definitions.proofs.Rising.{Later, Rise, later_after, later_same, rise_later}
+use Rattle.run_safety.proofs.Accepting.{some_is}
+use Rattle.run_safety.proofs.Handled.{rise_filled}
+use Rattle.run_safety.proofs.Lists.{every_append, every_map}
+use Rattle.run_safety.proofs.Names.{InRange, entry_rises, first_in_range}
+use Rattle.run_safety.proofs.Rising.{Later, Rise, later_after, later_same, rise_later}
 
 -- a source is none of the node's elements, and is within its width
 abbrev pub Foreign : Config → Address → Type 0
@@ -50,8 +50,8 @@ Fine own _ = ⊤
 -- a job that is the first segment of the message with this pair
 pub data FirstOf (p : Pair) : Job → Type 0 where
   first_of : {material : NetMaterial} {name : Name} {ttl : ℕ} {src dst : Address} {seg_o seg_n : ℕ} {tpdu : List ℕ}
-    → name.pair ≡ p
-    → FirstOf p (J.Segment material name ttl src dst seg_o seg_n tpdu true)
+      → name.pair ≡ p
+      → FirstOf p (J.Segment material name ttl src dst seg_o seg_n tpdu true)
 
 abbrev pub BeginFits : Config → Pair → List Job → Type 0
 BeginFits own p [] = ⊤
@@ -66,15 +66,15 @@ JobsFit own _ jobs = AllByRecursion (Fine own) jobs
 -- what got into the message cache is of a foreign source
 abbrev pub HeardFits : Config → Told → Type 0
 HeardFits own t =
-  (r : Reading) (low : Option Lower) (opening : Option Opening)
-  → t.insight ≡ OfPdu (Some r) low opening → is_before_cache t.entry.answer ≡ false → Foreign own r.fields.src
+    (r : Reading) (low : Option Lower) (opening : Option Opening)
+    → t.insight ≡ OfPdu (Some r) low opening → is_before_cache t.entry.answer ≡ false → Foreign own r.fields.src
 
 element_refused : (past : Past) (r : Reading) (x : Answer) → is_element (config_before past) r.fields.src.0 ≡ true
-  → is_before_cache (unwrap_or (network_answer past r) x) ≡ true
+    → is_before_cache (unwrap_or (network_answer past r) x) ≡ true
 element_refused past r x e = refused (not (is_unicast r.fields.src) || eqb r.fields.dst.0 0) _ _ x e
   where
     refused : (bad own : Bool) (o : Option Answer) (x : Answer) → own ≡ true
-      → is_before_cache (unwrap_or (cond bad (Some A.BadAddress) (cond own (Some A.Own) o)) x) ≡ true
+        → is_before_cache (unwrap_or (cond bad (Some A.BadAddress) (cond own (Some A.Own) o)) x) ≡ true
     refused true own o x e = refl
     refused false true o x e = refl
     refused false false o x e = absurd cc
@@ -88,19 +88,20 @@ is_false true h = absurd (h refl)
 is_false false h = refl
 
 passed_foreign : (layers : Layers) (past : Past) (octets : List ℕ) (r : Reading) (low : Option Lower) (opening : Option Opening)
-  → IsReading layers past octets (Some r) → is_before_cache (pdu_answer layers past (OfPdu (Some r) low opening)) ≡ false
-  → Foreign (config_before past) r.fields.src
-passed_foreign layers past octets r low opening h e =
-    (is_false _ (λ own. let f : is_before_cache (pdu_answer layers past (OfPdu (Some r) low opening)) ≡ true = element_refused past r (transport_answer layers past r low opening) own in cc),
-     h.1.reads.in_widths.src)
+    → IsReading layers past octets (Some r) → is_before_cache (pdu_answer layers past (OfPdu (Some r) low opening)) ≡ false
+    → Foreign (config_before past) r.fields.src
+passed_foreign layers past octets r low opening h e = (
+  is_false _ (λ own. let f : is_before_cache (pdu_answer layers past (OfPdu (Some r) low opening)) ≡ true = element_refused past r (transport_answer layers past r low opening) own in cc),
+  h.1.reads.in_widths.src,
+)
 
 foreign_in : (own c : Config) (src : Address) → Later own c → Foreign c src → Foreign own src
 foreign_in own c src h k = (rw (← h.unicast, ← h.elements) k.0, k.1)
 
 -- one that is handled, after its answer
 pdu_heard : (layers : Layers) (own : Config) (past : Past) (octets : List ℕ) (reading : Option Reading) (low : Option Lower) (opening : Option Opening) (answer : Answer)
-  → Later own (config_before past) → IsReading layers past octets reading → answer ≡ unless_reset past (pdu_answer layers past (OfPdu reading low opening))
-  → (r : Reading) → reading ≡ Some r → is_before_cache answer ≡ false → Foreign own r.fields.src
+    → Later own (config_before past) → IsReading layers past octets reading → answer ≡ unless_reset past (pdu_answer layers past (OfPdu reading low opening))
+    → (r : Reading) → reading ≡ Some r → is_before_cache answer ≡ false → Foreign own r.fields.src
 pdu_heard layers own past octets None low opening answer k h e r is passed = absurd cc
 pdu_heard layers own past octets (Some q) low opening answer k h e r is passed =
     let here : is_before_cache (pdu_answer layers past (OfPdu (Some q) low opening)) ≡ false = reset_before_cache _ _ (ap is_before_cache (sym e) ∙ passed) in
@@ -113,8 +114,8 @@ reading_of (OfPdu reading low opening) = reading
 reading_of _ = None
 
 heard_of : (layers : Layers) (own : Config) (past : Past) (event : Event) (insight : Insight) (answer : Answer)
-  → Later own (config_before past) → Sees layers past event insight → answer ≡ answer_of layers past event insight
-  → (r : Reading) (low : Option Lower) (opening : Option Opening) → insight ≡ OfPdu (Some r) low opening → is_before_cache answer ≡ false → Foreign own r.fields.src
+    → Later own (config_before past) → Sees layers past event insight → answer ≡ answer_of layers past event insight
+    → (r : Reading) (low : Option Lower) (opening : Option Opening) → insight ≡ OfPdu (Some r) low opening → is_before_cache answer ≡ false → Foreign own r.fields.src
 unfolding answer_of reading_of
 heard_of layers own past _ _ answer k (sees_pdu {octets = octets} {reading = reading} {low = l} {opening = o} reset h m n) e r low opening is passed =
     pdu_heard layers own past octets reading l o answer k h e r (ap reading_of is) passed
@@ -122,7 +123,7 @@ heard_of layers own past _ _ answer k (sees_beacon reset h) e r low opening is p
 heard_of layers own past _ _ answer k (sees_nothing h) e r low opening is passed = absurd cc
 
 pub heard_fits : (layers : Layers) (own : Config) (before : List Told) (t : Told)
-  → Later own (config_of t.records) → Handles layers (past_of before t) t → HeardFits own t
+    → Later own (config_of t.records) → Handles layers (past_of before t) t → HeardFits own t
 heard_fits layers own before t k h r low opening is passed =
     heard_of layers own (past_of before t) t.entry.event t.insight t.entry.answer k h.sees h.answer r low opening is passed
 
@@ -185,7 +186,7 @@ fit_all own past jobs h k =
 fine_relay : (own c : Config) (r : Reading) → Foreign own r.fields.src → AllFine own (relay_jobs c r)
 fine_relay own c r h =
     fine_pick own (eqb c.relay 1 && leb 2 r.fields.ttl && not (is_element c r.fields.dst.0)) _ _
-      (fine_under own c r.by.index (λ m. J.Relay m (record r.fields { ttl = r.fields.ttl - 1 })) (λ m. h)) no_job
+    (fine_under own c r.by.index (λ m. J.Relay m (record r.fields { ttl = r.fields.ttl - 1 })) (λ m. h)) no_job
 
 fine_ack : (own c : Config) (r : Reading) (numbers : ℕ × ℕ) (block : ℕ) → AllFine own (ack_job c r numbers.0 block)
 fine_ack own c r numbers block =
@@ -200,7 +201,7 @@ fine_acks own c r None answer = no_job
 fine_acks own c r (Some low) answer = fine_pick own (is_unicast r.fields.dst) _ _ (fine_asked own c r answer (segment_numbers low)) no_job
 
 fine_messages : (layers : Layers) → AreSafe layers → (own c : Config) (past : Past) (r : Reading) (insight : Insight) (answer : Answer)
-  → AllByRecursion (HeardFits own) past.told → AllFine own (message_jobs layers past c r insight answer)
+    → AllByRecursion (HeardFits own) past.told → AllFine own (message_jobs layers past c r insight answer)
 fine_messages layers safe own c past r insight (A.Control name dst opcode params) h =
     fit_all own past _ h (safe.control_jobs past c (record { reading = r; opcode = opcode; params = params }))
 fine_messages layers safe own c past r insight (A.Delivered name dst key payload) h =
@@ -215,19 +216,19 @@ fine_unless own true jobs f = no_job
 fine_unless own false jobs f = f refl
 
 fine_read : (layers : Layers) → AreSafe layers → (own c : Config) (past : Past) (r : Reading) (low : Option Lower) (opening : Option Opening) (answer : Answer)
-  → AllByRecursion (HeardFits own) past.told → (is_before_cache answer ≡ false → Foreign own r.fields.src)
-  → AllFine own (pdu_jobs layers past c (OfPdu (Some r) low opening) answer)
+    → AllByRecursion (HeardFits own) past.told → (is_before_cache answer ≡ false → Foreign own r.fields.src)
+    → AllFine own (pdu_jobs layers past c (OfPdu (Some r) low opening) answer)
 fine_read layers safe own c past r low opening answer h k =
     fine_unless own (is_before_cache answer) _ (λ passed.
-      fine_append own _ _
-        (fine_append own _ _ (fine_append own _ _ (fine_relay own c r (k passed)) (fine_acks own c r low answer)) (fine_messages layers safe own c past r (OfPdu (Some r) low opening) answer h))
-        (fine_refresh own (config_before past) c))
+    fine_append own _ _
+    (fine_append own _ _ (fine_append own _ _ (fine_relay own c r (k passed)) (fine_acks own c r low answer)) (fine_messages layers safe own c past r (OfPdu (Some r) low opening) answer h))
+    (fine_refresh own (config_before past) c))
 
 -- a PDU heard
 fine_pdu : (layers : Layers) → AreSafe layers → (own c : Config) (past : Past) (insight : Insight) (answer : Answer)
-  → AllByRecursion (HeardFits own) past.told
-  → ((r : Reading) (low : Option Lower) (opening : Option Opening) → insight ≡ OfPdu (Some r) low opening → is_before_cache answer ≡ false → Foreign own r.fields.src)
-  → AllFine own (pdu_jobs layers past c insight answer)
+    → AllByRecursion (HeardFits own) past.told
+    → ((r : Reading) (low : Option Lower) (opening : Option Opening) → insight ≡ OfPdu (Some r) low opening → is_before_cache answer ≡ false → Foreign own r.fields.src)
+    → AllFine own (pdu_jobs layers past c insight answer)
 fine_pdu layers safe own c past (OfPdu (Some r) low opening) answer h k = fine_read layers safe own c past r low opening answer h (k r low opening refl)
 fine_pdu layers safe own c past (OfPdu None low opening) answer h k = no_job
 fine_pdu layers safe own c past (OfBeacon b) answer h k = no_job
@@ -240,8 +241,8 @@ fine_due own c past ticks = fine_pick own (◌||◌ (◌||◌ (ltb (now_of past.
 fine_tick : (layers : Layers) → AreSafe layers → (own c : Config) (past : Past) (ticks : ℕ) → AllByRecursion (HeardFits own) past.told → AllFine own (tick_jobs layers past c ticks)
 fine_tick layers safe own c past ticks h =
     fine_append own _ _
-      (fine_append own _ _ (fit_all own past _ h (safe.acks_due past c ticks)) (fit_all own past _ h (safe.segments_due past c ticks)))
-      (fine_due own c past ticks)
+    (fine_append own _ _ (fit_all own past _ h (safe.acks_due past c ticks)) (fit_all own past _ h (safe.segments_due past c ticks)))
+    (fine_due own c past ticks)
 
 -- the node's own messages
 fine_sent : (own c : Config) (element : ℕ) (dst : Address) (ttl : ℕ) (keys : ℕ × UpperKey) → AllFine own (sent_job c element dst ttl keys)
@@ -254,7 +255,7 @@ fine_send layers own c past element dst ttl key payload =
 fine_raw : (own c : Config) (dst : Address) (ttl : ℕ) (tpdu : List ℕ) → AllFine own (raw_jobs c dst ttl tpdu)
 fine_raw own c dst ttl tpdu =
     fine_option own (λ net. under c net (λ m. J.Control m ttl (element_address c 0) dst tpdu None)) (first_net c)
-      (λ net. fine_under own c net (λ m. J.Control m ttl (element_address c 0) dst tpdu None) (λ m. tt))
+    (λ net. fine_under own c net (λ m. J.Control m ttl (element_address c 0) dst tpdu None) (λ m. tt))
 
 -- The segments of a message that begins.
 
@@ -265,15 +266,15 @@ not_zero : (k : ℕ) → eqb (suc k) 0 ≡ false
 not_zero k = ne_eqb (suc k) 0 (λ e. absurd (omega (arith, e)))
 
 later_segments : (own c : Config) (pair : Pair) (dst src : Address) (ttl net : ℕ) (akf : Bool) (aid : ℕ) (upper : List ℕ) (k n : ℕ)
-  → AllFine own (flat_map (round_jobs c pair dst src ttl net akf aid upper) (range_with_len (suc k) n))
+    → AllFine own (flat_map (round_jobs c pair dst src ttl net akf aid upper) (range_with_len (suc k) n))
 later_segments own c pair dst src ttl net akf aid upper k zero = no_job
 later_segments own c pair dst src ttl net akf aid upper k (suc n) =
     rw add-one
-      (fine_append own _ _ (fine_under own c net (first_round_job pair dst src ttl akf aid upper (suc k)) (λ m. not_zero k))
-        (later_segments own c pair dst src ttl net akf aid upper (suc k) n))
+    (fine_append own _ _ (fine_under own c net (first_round_job pair dst src ttl akf aid upper (suc k)) (λ m. not_zero k))
+    (later_segments own c pair dst src ttl net akf aid upper (suc k) n))
 
 begin_made : (own c : Config) (pair : Pair) (dst src : Address) (ttl : ℕ) (akf : Bool) (aid : ℕ) (upper : List ℕ) (o : Option NetMaterial) (rest : List Job)
-  → AllFine own rest → (o ≡ None → rest ≡ []) → BeginFits own pair (option_to_list (option_map (first_round_job pair dst src ttl akf aid upper 0) o) ++ rest)
+    → AllFine own rest → (o ≡ None → rest ≡ []) → BeginFits own pair (option_to_list (option_map (first_round_job pair dst src ttl akf aid upper 0) o) ++ rest)
 begin_made own c pair dst src ttl akf aid upper None rest h k = subst (BeginFits own pair) (sym (k refl)) tt
 begin_made own c pair dst src ttl akf aid upper (Some m) rest h k = (first_of refl, every_fine own rest h)
 
@@ -282,19 +283,19 @@ none_under c net job [] e = refl
 none_under c net job (k ∷ ks) e = rw e (none_under c net job ks e)
 
 begin_fits : (own c : Config) (pair : Pair) (dst src : Address) (ttl net : ℕ) (akf : Bool) (aid : ℕ) (upper : List ℕ)
-  → BeginFits own pair (begin_jobs c pair dst src ttl net akf aid upper)
+    → BeginFits own pair (begin_jobs c pair dst src ttl net akf aid upper)
 begin_fits own c pair dst src ttl net akf aid upper =
     rw add-one
-      (begin_made own c pair dst src ttl akf aid upper (transmit_material c.nets net) _
-        (later_segments own c pair dst src ttl net akf aid upper 0 (last_segment upper))
-        (none_under c net (first_round_job pair dst src ttl akf aid upper) (range_with_len 1 (last_segment upper))))
+    (begin_made own c pair dst src ttl akf aid upper (transmit_material c.nets net) _
+    (later_segments own c pair dst src ttl net akf aid upper 0 (last_segment upper))
+    (none_under c net (first_round_job pair dst src ttl akf aid upper) (range_with_len 1 (last_segment upper))))
 
 -- The jobs of each entry.
 
 jobs_fit : (layers : Layers) → AreSafe layers → (own c : Config) (past : Past) (event : Event) (insight : Insight) (answer : Answer)
-  → AllByRecursion (HeardFits own) past.told
-  → ((r : Reading) (low : Option Lower) (opening : Option Opening) → insight ≡ OfPdu (Some r) low opening → is_before_cache answer ≡ false → Foreign own r.fields.src)
-  → JobsFit own event (jobs_of layers past c event insight answer)
+    → AllByRecursion (HeardFits own) past.told
+    → ((r : Reading) (low : Option Lower) (opening : Option Opening) → insight ≡ OfPdu (Some r) low opening → is_before_cache answer ≡ false → Foreign own r.fields.src)
+    → JobsFit own event (jobs_of layers past c event insight answer)
 unfolding jobs_of
 jobs_fit layers safe own c past (E.Net octets) insight answer h k = every_fine own _ (fine_pdu layers safe own c past insight answer h k)
 jobs_fit layers safe own c past (E.Bcn octets) insight answer h k = tt
@@ -309,17 +310,18 @@ jobs_fit layers safe own c past (E.Begin pair dst src ttl net akf aid upper) ins
 jobs_fit layers safe own c past (E.Kept lpn fsn name octets) insight answer h k = tt
 
 pub entries_fit : (layers : Layers) → AreSafe layers → (own : Config) (records : List StoreRecord) (before ts : List Told)
-  → AreHandled layers records before ts → InRange (records_left layers records before ts) → Later own (config_of records)
-  → AllByRecursion (HeardFits own) before → AllByRecursion (λ t. JobsFit own t.entry.event t.entry.jobs) ts
+    → AreHandled layers records before ts → InRange (records_left layers records before ts) → Later own (config_of records)
+    → AllByRecursion (HeardFits own) before → AllByRecursion (λ t. JobsFit own t.entry.event t.entry.jobs) ts
 entries_fit layers safe own records before [] h r k heard = tt
 entries_fit layers safe own records before (t ∷ ts) h r k heard =
     let here : InRange (records_after layers (past_of before t) t) = first_in_range layers records before t ts h r in
     let filled : Later own (config_of t.records) =
-      later_after own (config_of records) (config_of t.records) k (rise_later (subst (λ l. Rise records l) (sym h.0) (rise_filled t.entry.fills records))) in
+    later_after own (config_of records) (config_of t.records) k (rise_later (subst (λ l. Rise records l) (sym h.0) (rise_filled t.entry.fills records))) in
     let after : Later own (config_of (records_after layers (past_of before t) t)) =
-      later_after own (config_of t.records) _ filled (rise_later (entry_rises layers safe before t h.1 here)) in
+    later_after own (config_of t.records) _ filled (rise_later (entry_rises layers safe before t h.1 here)) in
     let this : HeardFits own t = heard_fits layers own before t filled h.1 in
     let fits : JobsFit own t.entry.event (jobs_of layers (past_of before t) (config_of (records_after layers (past_of before t) t)) t.entry.event t.insight t.entry.answer) =
-      jobs_fit layers safe own _ (past_of before t) t.entry.event t.insight t.entry.answer heard this in
-    (subst (JobsFit own t.entry.event) (sym h.1.jobs) fits,
-     entries_fit layers safe own (records_after layers (past_of before t) t) (before ++ t ∷ []) ts h.2 r after (every_append (HeardFits own) before (t ∷ []) heard (this, tt)))
+    jobs_fit layers safe own _ (past_of before t) t.entry.event t.insight t.entry.answer heard this in (
+      subst (JobsFit own t.entry.event) (sym h.1.jobs) fits,
+      entries_fit layers safe own (records_after layers (past_of before t) t) (before ++ t ∷ []) ts h.2 r after (every_append (HeardFits own) before (t ∷ []) heard (this, tt)),
+    )

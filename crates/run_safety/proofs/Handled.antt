@@ -23,10 +23,10 @@ use Rattle.run_definitions.specs.Handling.{AreHandled, Handles, past_of, records
 use Rattle.run_definitions.specs.History.{Insight, OfBeacon, OfNothing, OfPdu, Past, Told}
 use Rattle.run_definitions.specs.Layers.{AccessMessage, Layers}
 use Rattle.run_definitions.specs.Ranges.{IsInRange, IsMark}
-use Rattle.run_definitions.specs.Safety.{AreSafe, IsChange}
+use Rattle.run_safety.specs.Safety.{AreSafe, IsChange}
 use Rattle.run_definitions.specs.Stores.{asked, fill_of, filled, hours_passed, hours_step, message_of, moved, phase_records, records_after, step_records, stores, tick_records}
-use Rattle.run_definitions.proofs.Lists.{every_front}
-use Rattle.run_definitions.proofs.Rising.{Rise, same, more, Rises, config_push, rise_after}
+use Rattle.run_safety.proofs.Lists.{every_front}
+use Rattle.run_safety.proofs.Rising.{Rise, same, more, Rises, config_push, rise_after}
 
 -- The mark of a list of records in range is at most the end of its transmit IV Index, and the known IV Index has 32 bits.
 
@@ -180,7 +180,7 @@ unfolding changed
 tick_rises layers past ticks m =
     let hour : StoreRecord = R.Hour (hours_step layers past ticks).0.hours (hours_step layers past ticks).0.since in
     let rest : RiseAll (changed (config_before past) hour) (step_records (config_before past) (hours_step layers past ticks).1) =
-      step_rises (config_before past) (changed (config_before past) hour) (hours_step layers past ticks).1 refl refl m (hours_rise layers past ticks) in
+    step_rises (config_before past) (changed (config_before past) hour) (hours_step layers past ticks).1 refl refl m (hours_rise layers past ticks) in
     rise_pick (config_before past) (eqb (hours_passed past ticks) 0) [] (hour ∷ step_records (config_before past) (hours_step layers past ticks).1) tt (tt, rest)
 
 change_rises : (c : Config) (r : StoreRecord) → IsChange r → Rises c r
@@ -197,7 +197,7 @@ asked_rises layers safe past c None = tt
 asked_rises layers safe past c (Some m) = changes_rise c (layers.change past m) (safe.change past m)
 
 pub stores_rise : (layers : Layers) → AreSafe layers → (past : Past) (event : Event) (insight : Insight) (answer : Answer)
-  → answer ≡ answer_of layers past event insight → Marked (config_before past) → RiseAll (config_before past) (stores layers past event insight answer)
+    → answer ≡ answer_of layers past event insight → Marked (config_before past) → RiseAll (config_before past) (stores layers past event insight answer)
 unfolding changed stores answer_of
 stores_rise layers safe past (E.Net octets) insight (A.Delivered name dst key payload) e m = (tt, asked_rises layers safe past _ (message_of insight name dst))
 stores_rise layers safe past (E.Net octets) insight (A.Control name dst opcode params) e m = (tt, tt)

@@ -99,14 +99,14 @@ opened_accepts past r m None n e = absurd cc
 opened_accepts past r m (Some o) n e = some_is (placed_accepts past m _ n e)
 
 whole_accepts : (layers : Layers) (past : Past) (r : Reading) (low : Lower) (m : Name) (opening : Option Opening) (n : Name)
-  → accepted (whole_answer layers past r low m opening) ≡ Some n → m ≡ n
+    → accepted (whole_answer layers past r low m opening) ≡ Some n → m ≡ n
 whole_accepts layers past r (Access akf aid upper) m opening n e = opened_accepts past r m opening n e
 whole_accepts layers past r (AccessPart akf aid szmic seq_zero seg_o seg_n piece) m opening n e = opened_accepts past r m opening n e
 whole_accepts layers past r (Control opcode params) m opening n e = some_is (placed_accepts past m _ n e)
 whole_accepts layers past r (ControlPart opcode seq_zero seg_o seg_n piece) m opening n e = some_is (placed_accepts past m _ n e)
 
 named_accepts : (layers : Layers) (past : Past) (r : Reading) (low : Lower) (m : Option Name) (opening : Option Opening) (n : Name)
-  → accepted (named_answer layers past r low m opening) ≡ Some n → (m ≡ Some n) × (replayed (entry_of past.records n.src.0) n.pair ≡ None)
+    → accepted (named_answer layers past r low m opening) ≡ Some n → (m ≡ Some n) × (replayed (entry_of past.records n.src.0) n.pair ≡ None)
 named_accepts layers past r low None opening n e = absurd cc
 named_accepts layers past r low (Some m) opening n e =
     let (passed, whole) = past_refusal (lower_answer layers past r low m) _ n (lower_refuses layers past r low m) e in
@@ -144,14 +144,14 @@ from_named past r low n e h =
     record { src = src; iv = pair_iv r.fields low n.pair pair; newer = h }
 
 transport_accepts : (layers : Layers) (past : Past) (r : Reading) (low : Option Lower) (opening : Option Opening) (n : Name)
-  → accepted (transport_answer layers past r low opening) ≡ Some n → AcceptedFrom past r n
+    → accepted (transport_answer layers past r low opening) ≡ Some n → AcceptedFrom past r n
 transport_accepts layers past r None opening n e = absurd cc
 transport_accepts layers past r (Some low) opening n e =
     let (named, newer) = named_accepts layers past r low (message_name r.fields low) opening n e in
     from_named past r low n named newer
 
 pub pdu_accepts : (layers : Layers) (past : Past) (r : Reading) (low : Option Lower) (opening : Option Opening) (n : Name)
-  → accepted (pdu_answer layers past (OfPdu (Some r) low opening)) ≡ Some n → AcceptedFrom past r n
+    → accepted (pdu_answer layers past (OfPdu (Some r) low opening)) ≡ Some n → AcceptedFrom past r n
 pdu_accepts layers past r low opening n e =
     let (passed, rest) = past_refusal (network_answer past r) _ n (network_refuses past r) e in
     transport_accepts layers past r low opening n rest
@@ -214,12 +214,12 @@ fresh_reading layers past octets r n h k = record {
 }
 
 fresh_pdu : (layers : Layers) (past : Past) (octets : List ℕ) (reading : Option Reading) (low : Option Lower) (opening : Option Opening) (n : Name)
-  → IsReading layers past octets reading → accepted (pdu_answer layers past (OfPdu reading low opening)) ≡ Some n → Fresh past n
+    → IsReading layers past octets reading → accepted (pdu_answer layers past (OfPdu reading low opening)) ≡ Some n → Fresh past n
 fresh_pdu layers past octets None low opening n h e = absurd cc
 fresh_pdu layers past octets (Some r) low opening n h e = fresh_reading layers past octets r n h (pdu_accepts layers past r low opening n e)
 
 pub fresh : (layers : Layers) (past : Past) (event : Event) (insight : Insight) (n : Name)
-  → Sees layers past event insight → accepted (answer_of layers past event insight) ≡ Some n → Fresh past n
+    → Sees layers past event insight → accepted (answer_of layers past event insight) ≡ Some n → Fresh past n
 unfolding answer_of
 fresh layers past _ _ n (sees_pdu {octets = octets} {reading = reading} {low = low} {opening = opening} reset r l o) e =
     fresh_pdu layers past octets reading low opening n r (reset_accepts _ _ n e)

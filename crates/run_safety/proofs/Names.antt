@@ -21,13 +21,13 @@ use Rattle.run_definitions.specs.Layers.{Layers}
 use Rattle.run_definitions.specs.Pairs.{is_expired, is_newer}
 use Rattle.run_definitions.specs.Ranges.{IsInRange}
 use Rattle.run_definitions.specs.Readings.{Sees, sees_pdu, sees_beacon, sees_nothing}
-use Rattle.run_definitions.specs.Safety.{AreSafe}
+use Rattle.run_safety.specs.Safety.{AreSafe}
 use Rattle.run_definitions.specs.Stores.{asked, filled, fill_of, message_of, records_after, stores}
 use Rattle.run_definitions.specs.Uses.{accepted}
-use Rattle.run_definitions.proofs.Accepting.{Fresh, beacon_silent, fresh, nothing_accepted, nothing_silent, some_is, unless_silent}
-use Rattle.run_definitions.proofs.Handled.{RiseAll, marked, rise_all, rise_filled, stores_rise}
-use Rattle.run_definitions.proofs.Lists.{Apart, apart_push, every_append, every_front, every_map}
-use Rattle.run_definitions.proofs.Rising.{config_push, Blocked, by_expiry, by_kept, IsBlocked, Rise, same, blocked_by_replay, blocked_entry, blocked_rise, rise_after}
+use Rattle.run_safety.proofs.Accepting.{Fresh, beacon_silent, fresh, nothing_accepted, nothing_silent, some_is, unless_silent}
+use Rattle.run_safety.proofs.Handled.{RiseAll, marked, rise_all, rise_filled, stores_rise}
+use Rattle.run_safety.proofs.Lists.{Apart, apart_push, every_append, every_front, every_map}
+use Rattle.run_safety.proofs.Rising.{config_push, Blocked, by_expiry, by_kept, IsBlocked, Rise, same, blocked_by_replay, blocked_entry, blocked_rise, rise_after}
 
 -- Records grow at their end.
 
@@ -41,7 +41,7 @@ joined : (r fills t stored rest l : List StoreRecord) → l ≡ (t ++ stored) ++
 joined r fills t stored rest l e g = rw (e, g, append_assoc, append_assoc) refl
 
 pub left_is : (layers : Layers) (records : List StoreRecord) (before ts : List Told) → AreHandled layers records before ts
-  → (rest : List StoreRecord) × (records_left layers records before ts ≡ records ++ rest)
+    → (rest : List StoreRecord) × (records_left layers records before ts ≡ records ++ rest)
 left_is layers records before [] h = ([], sym (append-nil records))
 left_is layers records before (t ∷ ts) h =
     let (fills, e) = filled_is t.entry.fills records in
@@ -69,7 +69,7 @@ InRange records = AllByRecursion IsInRange records
 
 -- the records before the first of some entries, and those that it leaves, are in range if those that all of them leave are
 pub first_in_range : (layers : Layers) (records : List StoreRecord) (before : List Told) (t : Told) (ts : List Told)
-  → AreHandled layers records before (t ∷ ts) → InRange (records_left layers records before (t ∷ ts)) → InRange (records_after layers (past_of before t) t)
+    → AreHandled layers records before (t ∷ ts) → InRange (records_left layers records before (t ∷ ts)) → InRange (records_after layers (past_of before t) t)
 first_in_range layers records before t ts h r =
     let (rest, e) = left_is layers (records_after layers (past_of before t) t) (before ++ t ∷ []) ts h.2 in
     every_front IsInRange (records_after layers (past_of before t) t) rest (subst InRange e r)
@@ -78,23 +78,23 @@ pub before_in_range : (layers : Layers) (before : List Told) (t : Told) → InRa
 before_in_range layers before t r = every_front IsInRange t.records _ r
 
 pub entry_rise_all : (layers : Layers) → AreSafe layers → (before : List Told) (t : Told)
-  → Handles layers (past_of before t) t → InRange (records_after layers (past_of before t) t)
-  → RiseAll (config_of t.records) (stores layers (past_of before t) t.entry.event t.insight t.entry.answer)
+    → Handles layers (past_of before t) t → InRange (records_after layers (past_of before t) t)
+    → RiseAll (config_of t.records) (stores layers (past_of before t) t.entry.event t.insight t.entry.answer)
 entry_rise_all layers safe before t h r =
     stores_rise layers safe (past_of before t) t.entry.event t.insight t.entry.answer h.answer (marked t.records (before_in_range layers before t r))
 
 pub entry_rises : (layers : Layers) → AreSafe layers → (before : List Told) (t : Told)
-  → Handles layers (past_of before t) t → InRange (records_after layers (past_of before t) t) → Rise t.records (records_after layers (past_of before t) t)
+    → Handles layers (past_of before t) t → InRange (records_after layers (past_of before t) t) → Rise t.records (records_after layers (past_of before t) t)
 entry_rises layers safe before t h r = rise_all _ t.records (entry_rise_all layers safe before t h r)
 
 pub handled_rise : (layers : Layers) → AreSafe layers → (records : List StoreRecord) (before ts : List Told)
-  → AreHandled layers records before ts → InRange (records_left layers records before ts) → Rise records (records_left layers records before ts)
+    → AreHandled layers records before ts → InRange (records_left layers records before ts) → Rise records (records_left layers records before ts)
 handled_rise layers safe records before [] h r = same
 handled_rise layers safe records before (t ∷ ts) h r =
     let here : InRange (records_after layers (past_of before t) t) = first_in_range layers records before t ts h r in
     let fills : Rise records t.records = subst (λ l. Rise records l) (sym h.0) (rise_filled t.entry.fills records) in
     rise_after (handled_rise layers safe (records_after layers (past_of before t) t) (before ++ t ∷ []) ts h.2 r)
-      (rise_after (entry_rises layers safe before t h.1 here) fills)
+    (rise_after (entry_rises layers safe before t h.1 here) fills)
 
 -- The names accepted in a list of entries are none of the names before, which stay blocked, and they are apart.
 
@@ -114,7 +114,7 @@ blocked_all {l} {m} ns rise b = every_map (λ n. IsBlocked n l) (λ n. IsBlocked
 differ_push : (ns : List Name) (past : Past) (n : Name) → Differ ns → AllBlocked ns past.records → Fresh past n → Differ (ns ++ n ∷ [])
 differ_push ns past n d b f =
     apart_push (λ m k. m ≢ k) ns n d
-      (every_map (λ m. IsBlocked m past.records) (λ m. m ≢ n) (λ m h e. blocked_not_fresh past n (subst (λ k. IsBlocked k past.records) e h) f) ns b)
+    (every_map (λ m. IsBlocked m past.records) (λ m. m ≢ n) (λ m h e. blocked_not_fresh past n (subst (λ k. IsBlocked k past.records) e h) f) ns b)
 
 pub record Once (ns : List Name) (records : List StoreRecord) : Type 0 where
   pub differ : Differ ns
@@ -122,7 +122,7 @@ pub record Once (ns : List Name) (records : List StoreRecord) : Type 0 where
 
 -- what an accepted message stores begins with its Replay record
 net_stores : (layers : Layers) (past : Past) (octets : List ℕ) (insight : Insight) (answer : Answer) (n : Name) → accepted answer ≡ Some n
-  → (rest : List StoreRecord) × (stores layers past (E.Net octets) insight answer ≡ R.Replay n ∷ rest)
+    → (rest : List StoreRecord) × (stores layers past (E.Net octets) insight answer ≡ R.Replay n ∷ rest)
 unfolding stores
 net_stores layers past octets insight (A.Delivered name dst key payload) n a =
     let same : name ≡ n = some_is a in (asked layers past (message_of insight name dst), ap (λ m. R.Replay m ∷ asked layers past (message_of insight name dst)) same)
@@ -131,8 +131,8 @@ net_stores layers past octets insight (A.Control name dst opcode params) n a =
 net_stores layers past octets insight _ n a = absurd cc
 
 accepted_stores : (layers : Layers) (past : Past) (event : Event) (insight : Insight) (answer : Answer) (n : Name)
-  → Sees layers past event insight → answer ≡ answer_of layers past event insight → accepted answer ≡ Some n
-  → (rest : List StoreRecord) × (stores layers past event insight answer ≡ R.Replay n ∷ rest)
+    → Sees layers past event insight → answer ≡ answer_of layers past event insight → accepted answer ≡ Some n
+    → (rest : List StoreRecord) × (stores layers past event insight answer ≡ R.Replay n ∷ rest)
 unfolding answer_of
 accepted_stores layers past _ _ answer n (sees_pdu {octets = octets} {reading = reading} {low = low} {opening = opening} reset r l o) e a =
     net_stores layers past octets (OfPdu reading low opening) answer n a
@@ -143,50 +143,50 @@ accepted_stores layers past _ _ answer n (sees_nothing {event = event} h) e a =
 
 -- so the name is blocked by what is stored
 blocked_stored : (records stored : List StoreRecord) (n : Name) (rest : List StoreRecord) → stored ≡ R.Replay n ∷ rest → RiseAll (config_of records) stored
-  → IsBlocked n (records ++ stored)
+    → IsBlocked n (records ++ stored)
 blocked_stored records stored n rest e r =
     let rises : RiseAll (config_of records) (R.Replay n ∷ rest) = subst (RiseAll (config_of records)) e r in
     let later : RiseAll (config_of (records ++ R.Replay n ∷ [])) rest = rw config_push rises.1 in
     let b : IsBlocked n ((records ++ R.Replay n ∷ []) ++ rest) =
-      blocked_rise n (rise_all rest (records ++ R.Replay n ∷ []) later) (blocked_by_replay n records) in
+    blocked_rise n (rise_all rest (records ++ R.Replay n ∷ []) later) (blocked_by_replay n records) in
     subst (IsBlocked n) (append_assoc records (R.Replay n ∷ []) rest ∙ ap (λ l. records ++ l) (sym e)) b
 
 -- with an entry more
 once_named : (layers : Layers) (past : Past) (stored : List StoreRecord) (ns : List Name) (o : Option Name)
-  → RiseAll (config_of past.records) stored
-  → ((n : Name) → o ≡ Some n → Fresh past n)
-  → ((n : Name) → o ≡ Some n → (rest : List StoreRecord) × (stored ≡ R.Replay n ∷ rest))
-  → Once ns past.records → Once (ns ++ cons_option o []) (past.records ++ stored)
+    → RiseAll (config_of past.records) stored
+    → ((n : Name) → o ≡ Some n → Fresh past n)
+    → ((n : Name) → o ≡ Some n → (rest : List StoreRecord) × (stored ≡ R.Replay n ∷ rest))
+    → Once ns past.records → Once (ns ++ cons_option o []) (past.records ++ stored)
 once_named layers past stored ns None rise f g o =
     rw append-nil (record { differ = o.differ; blocked = blocked_all ns (rise_all stored past.records rise) o.blocked })
 once_named layers past stored ns (Some n) rise f g o = record {
   differ = differ_push ns past n o.differ o.blocked (f n refl);
   blocked =
-    every_append _ ns (n ∷ []) (blocked_all ns (rise_all stored past.records rise) o.blocked)
+      every_append _ ns (n ∷ []) (blocked_all ns (rise_all stored past.records rise) o.blocked)
       (blocked_stored past.records stored n (g n refl).0 (g n refl).1 rise, tt);
 }
 
 once_entry : (layers : Layers) → AreSafe layers → (before : List Told) (t : Told) (ns : List Name)
-  → Handles layers (past_of before t) t → InRange (records_after layers (past_of before t) t)
-  → Once ns t.records → Once (ns ++ names (t ∷ [])) (records_after layers (past_of before t) t)
+    → Handles layers (past_of before t) t → InRange (records_after layers (past_of before t) t)
+    → Once ns t.records → Once (ns ++ names (t ∷ [])) (records_after layers (past_of before t) t)
 once_entry layers safe before t ns h r o =
     once_named layers (past_of before t) _ ns (accepted t.entry.answer) (entry_rise_all layers safe before t h r)
-      (λ n a. fresh layers (past_of before t) t.entry.event t.insight n h.sees (ap accepted (sym h.answer) ∙ a))
-      (λ n a. accepted_stores layers (past_of before t) t.entry.event t.insight t.entry.answer n h.sees h.answer a)
-      o
+    (λ n a. fresh layers (past_of before t) t.entry.event t.insight n h.sees (ap accepted (sym h.answer) ∙ a))
+    (λ n a. accepted_stores layers (past_of before t) t.entry.event t.insight t.entry.answer n h.sees h.answer a)
+    o
 
 -- over a list of entries
 pub once_handled : (layers : Layers) → AreSafe layers → (records : List StoreRecord) (before ts : List Told) (ns : List Name)
-  → AreHandled layers records before ts → InRange (records_left layers records before ts)
-  → Once ns records → Once (ns ++ names ts) (records_left layers records before ts)
+    → AreHandled layers records before ts → InRange (records_left layers records before ts)
+    → Once ns records → Once (ns ++ names ts) (records_left layers records before ts)
 once_handled layers safe records before [] ns h r o = rw append-nil o
 once_handled layers safe records before (t ∷ ts) ns h r o =
     let here : InRange (records_after layers (past_of before t) t) = first_in_range layers records before t ts h r in
     let filled_once : Once ns t.records =
-      record { differ = o.differ; blocked = blocked_all ns (subst (λ l. Rise records l) (sym h.0) (rise_filled t.entry.fills records)) o.blocked } in
+    record { differ = o.differ; blocked = blocked_all ns (subst (λ l. Rise records l) (sym h.0) (rise_filled t.entry.fills records)) o.blocked } in
     let one : Once (ns ++ names (t ∷ [])) (records_after layers (past_of before t) t) = once_entry layers safe before t ns h.1 here filled_once in
     let all : Once ((ns ++ names (t ∷ [])) ++ names ts) (records_left layers records before (t ∷ ts)) =
-      once_handled layers safe (records_after layers (past_of before t) t) (before ++ t ∷ []) ts (ns ++ names (t ∷ [])) h.2 r one in
+    once_handled layers safe (records_after layers (past_of before t) t) (before ++ t ∷ []) ts (ns ++ names (t ∷ [])) h.2 r one in
     subst (λ k. Once k (records_left layers records before (t ∷ ts))) (more_names ns t ts) all
   where
     more_names : (ns : List Name) (t : Told) (ts : List Told) → (ns ++ names (t ∷ [])) ++ names ts ≡ ns ++ names (t ∷ ts)

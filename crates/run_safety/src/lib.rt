@@ -1,0 +1,2 @@
+//! The safety law over whole runs.
+#![tactic(auto)]
