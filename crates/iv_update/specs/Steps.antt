@@ -13,7 +13,8 @@ state_after s (Finish next) = next
 state_after s (Recover next) = next
 state_after s Wait = s
 
--- A state may follow another one: the IV Index to send with doesn't fall, and the known IV Index doesn't fall and moves up by at most 42.
+-- A state may follow another one: the IV Index to send with doesn't fall, and the known IV Index doesn't fall and
+-- moves up by at most 42.
 pub record IsLater (before after : IvState) : Type 0 where
   pub has_transmit : HasTransmit after
   pub transmit : transmit_of before ≤ transmit_of after

@@ -66,11 +66,12 @@ fn on_ahead(s: &IvState, iv: u32, flag: bool) -> IvStep
     }
 }
 
-/// What an authentic beacon of the network key with index `from` does, whose IV Index is `iv` and whose IV Update flag is `flag`.
+/// What an authentic beacon of the network key with index `from` does, whose IV Index is `iv` and whose IV Update
+/// flag is `flag`.
 ///
-/// `primary` says that the node holds the primary network key, index 000: then the beacons of other keys raise no IV Index. `busy` says
-/// that an own segmented message is not acknowledged yet: then an update in progress doesn't end. The state isn't in progress with an IV
-/// Index of 0.
+/// `primary` says that the node holds the primary network key, index 000: then the beacons of other keys raise no IV
+/// Index. `busy` says that an own segmented message is not acknowledged yet: then an update in progress doesn't end.
+/// The state isn't in progress with an IV Index of 0.
 ///
 /// A beacon that is ignored names the rule:
 ///

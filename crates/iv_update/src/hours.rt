@@ -54,11 +54,11 @@ fn due_step(s: &IvState, mark_seq: u32, busy: bool) -> IvStep
     IvStep::Ignore { rule: 0 }
 }
 
-/// The state after `passed` hours more, and the step that is due then: an update begins, one ends, or neither is made (rule 0, as where no
-/// hour passed). The hours stop at 65,535.
+/// The state after `passed` hours more, and the step that is due then: an update begins, one ends, or neither is made
+/// (rule 0, as where no hour passed). The hours stop at 65,535.
 ///
-/// `mark_seq` is the SEQ of the durable mark, and `busy` says that an own segmented message is not acknowledged yet. The state isn't in
-/// progress with an IV Index of 0.
+/// `mark_seq` is the SEQ of the durable mark, and `busy` says that an own segmented message is not acknowledged yet.
+/// The state isn't in progress with an IV Index of 0.
 pub fn on_hours(s: &IvState, passed: u32, mark_seq: u32, busy: bool) -> (IvState, IvStep)
     requires { HasTransmit s.now }
     ensures value { result ≡ iv_hours s.now passed mark_seq busy }

@@ -29,8 +29,8 @@ fn recover(current: u32, progress: bool) -> IvStep {
     IvStep::Recover(state(current, progress, 0, 0))
 }
 
-// The columns: the state; whether the primary key is held, and the key of the beacon; its IV Index and its flag; whether a segmented message
-// is unacknowledged; the step.
+// The columns: the state; whether the primary key is held, and the key of the beacon; its IV Index and its flag;
+// whether a segmented message is unacknowledged; the step.
 #[test]
 fn beacons(rt: HostRuntime) {
     let normal = state(1000, false, 96, 192);
@@ -116,7 +116,8 @@ fn beacons(rt: HostRuntime) {
     }
 }
 
-// The columns: the state; the hours that pass; SEQ of the mark; whether a segmented message is unacknowledged; the hours then; the step.
+// The columns: the state; the hours that pass; SEQ of the mark; whether a segmented message is unacknowledged; the
+// hours then; the step.
 #[test]
 fn hours(rt: HostRuntime) {
     let last = u32::MAX;

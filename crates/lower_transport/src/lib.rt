@@ -1,5 +1,5 @@
-//! The codec of lower transport PDUs (Mesh Profile 1.0.1, section 3.5.2): [`read`] and [`write`], and [`seq_auth`], which finds the number
-//! under which a segmented message was sealed.
+//! The codec of lower transport PDUs (Mesh Profile 1.0.1, section 3.5.2): [`read`] and [`write`], and [`seq_auth`],
+//! which finds the number under which a segmented message was sealed.
 //!
 //! - `reading`: from octets to a PDU
 //! - `writing`: from a PDU to octets

@@ -165,8 +165,8 @@ fn read_control_part(first: u8, rest: &[u8]) -> Result<Lower, Malformed>
     }
 }
 
-/// The lower transport PDU in the transport PDU of a network PDU with this CTL. `Malformed` exactly where no PDU has these octets: reserved
-/// bits, and AID with the device key, are read as anything.
+/// The lower transport PDU in the transport PDU of a network PDU with this CTL. `Malformed` exactly where no PDU has
+/// these octets: reserved bits, and AID with the device key, are read as anything.
 #[tactic(auto, unfolding(layer_definitions::specs::Lower::lower_text))]
 pub fn read(ctl: bool, tpdu: &[u8]) -> Result<Lower, Malformed>
     ensures ok { IfOk result (ReadsLower ctl tpdu.now) }

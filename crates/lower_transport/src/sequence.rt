@@ -10,8 +10,8 @@ use mesh_base::pair::Pair;
 /// How many numbers SeqZero counts: it has 13 bits.
 const COUNT: u32 = 0x2000;
 
-/// The pair of SeqAuth (section 3.5.3.1): the IV Index, and the greatest number at most SEQ whose low 13 bits are `seq_zero`. None exactly
-/// where there is no such number.
+/// The pair of SeqAuth (section 3.5.3.1): the IV Index, and the greatest number at most SEQ whose low 13 bits are
+/// `seq_zero`. None exactly where there is no such number.
 #[tactic(auto, unfolding(layer_definitions::specs::Lower::seq_auth))]
 pub fn seq_auth(pair: Pair, seq_zero: u16) -> Option<Pair>
     ensures value { result ≡ seq_auth_of pair seq_zero }

@@ -115,7 +115,8 @@ fn lengths(rt: HostRuntime) {
     }
 }
 
-// Bits that are read as anything and written as 0: AID with the device key, and the reserved bit of a control message's segment.
+// Bits that are read as anything and written as 0: AID with the device key, and the reserved bit of a control
+// message's segment.
 #[test]
 fn reserved_bits(rt: HostRuntime) {
     let cases = [

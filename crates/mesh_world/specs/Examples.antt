@@ -53,8 +53,8 @@ hear_one = Accept message ∷ Deliver message ∷ []
 abbrev pub forget_one : List WorldStep
 forget_one = hear_one ++ Reserve 6 (5 * 2 ^ 25) ∷ Expire source ∷ []
 
--- steps of all nine kinds: a pair is drawn and sealed with by both layers, a message is heard and forgotten, the node goes on under IV
--- Index 5, and power is cut
+-- steps of all nine kinds: a pair is drawn and sealed with by both layers, a message is heard and forgotten, the node
+-- goes on under IV Index 5, and power is cut
 abbrev pub all_kinds : List WorldStep
 all_kinds = draw_one ++ Seal network_seal ∷ Seal upper_seal ∷ [] ++ forget_one ++ Publish (5 * 2 ^ 25) ∷ Advance 5 ∷ Cut (5 * 2 ^ 25) ∷ []
 

@@ -1,5 +1,5 @@
--- The world of steps: what a node has of its numbers, its seals and its messages, and the nine steps that change it. It knows nothing of
--- threads, of flash or of any code.
+-- The world of steps: what a node has of its numbers, its seals and its messages, and the nine steps that change it.
+-- It knows nothing of threads, of flash or of any code.
 use Rattle.std.specs.Prelude.{◌≡◌, ℕ, ◌+◌, ◌*◌, ◌^◌, ◌<◌, ◌≤◌, ◌⊎◌, ◌==◌, max, if◌then◌else◌, List, [], ◌∷◌, ◌++◌, map, All, Contains, Option, Some, None, IfSome, IsSomeAnd, ⊤}
 use Rattle.layer_definitions.specs.Network.{network_nonce}
 use Rattle.layer_definitions.specs.Upper.{upper_nonce}
@@ -12,7 +12,8 @@ use Rattle.mesh_base.specs.declared.upper.UpperFields.{UpperFields}
 use Rattle.mesh_world.specs.Pairs.{pair_of, IsPair, IsNewer, IsExpired}
 use Rattle.mesh_world.specs.Safety.{Use}
 
--- which layer seals: the network layer under a network nonce, or the upper transport layer under an application or a device nonce
+-- which layer seals: the network layer under a network nonce, or the upper transport layer under an application or a
+-- device nonce
 pub data Layer : Type 0 where
   Network : Layer
   Upper : Layer
@@ -23,7 +24,8 @@ pub record Sealing : Type 0 where
   pub pair : Pair
   pub made : Use
 
--- the nonce is one of the layer with this pair, whatever the other fields are (Mesh Profile 1.0.1, sections 3.8.5.1 to 3.8.5.3)
+-- the nonce is one of the layer with this pair, whatever the other fields are (Mesh Profile 1.0.1, sections 3.8.5.1
+-- to 3.8.5.3)
 abbrev pub HasNonce : Layer → Pair → List ℕ → Type 0
 HasNonce Network p nonce = (f : NetFields) × (f.iv ≡ p.iv) × (f.seq ≡ p.seq) × (nonce ≡ network_nonce f)
 HasNonce Upper p nonce = (key : UpperKey) × (f : UpperFields) × (f.pair ≡ p) × (nonce ≡ upper_nonce key f)
@@ -127,8 +129,8 @@ abbrev pub after_all : World → List WorldStep → World
 after_all w [] = w
 after_all w (s ∷ steps) = after_all (after w s) steps
 
--- The world after provisioning, with the known IV Index `current` and the IV Index `transmit` to send with. The next pair is the first one
--- of the IV Index to send with; nothing is reserved, drawn, sealed, accepted or delivered yet.
+-- The world after provisioning, with the known IV Index `current` and the IV Index `transmit` to send with. The next
+-- pair is the first one of the IV Index to send with; nothing is reserved, drawn, sealed, accepted or delivered yet.
 abbrev pub provisioned : ℕ → ℕ → World
 provisioned current transmit = record {
   next = transmit * 2 ^ 25;

@@ -1,16 +1,19 @@
-//! Why the node is safe, apart from all code: a world of numbers, seals and messages, the nine steps that change it, and the law that
-//! each step keeps a good world. In a good world no key and nonce seal two plaintexts, and no message is delivered twice.
+//! Why the node is safe, apart from all code: a world of numbers, seals and messages, the nine steps that change it,
+//! and the law that each step keeps a good world. In a good world no key and nonce seal two plaintexts, and no
+//! message is delivered twice.
 //!
-//! The crate has definitions (in `specs/`) and laws about them: the functions below do nothing, and their contracts are the laws.
+//! The crate has definitions (in `specs/`) and laws about them: the functions below do nothing, and their contracts
+//! are the laws.
 //!
-//! - **Numbers.** A pair of IV Index and SEQ is counted as one word, and `next` is the word of the next pair. Pairs are drawn one by one
-//!   below the `mark`, and the mark is never above the durable mark `kept`. A power cut forgets `next`, and the node goes on at the
-//!   durable mark, which is above all that was drawn. So no pair is ever drawn twice.
-//! - **Seals.** A pair serves for one seal of the network layer and one of the upper transport layer. Their nonces differ in their first
-//!   octet, and nonces of different pairs differ in IV Index or SEQ. So no nonce is used twice.
-//! - **Messages.** A message is delivered only after its pair is the durable entry of its source, and it is accepted only above that entry.
-//!   An entry goes only when its IV Index is too old to be read. So what was delivered, or was accepted and lost in a power cut, is never
-//!   accepted again.
+//! - **Numbers.** A pair of IV Index and SEQ is counted as one word, and `next` is the word of the next pair. Pairs
+//!   are drawn one by one below the `mark`, and the mark is never above the durable mark `kept`. A power cut forgets
+//!   `next`, and the node goes on at the durable mark, which is above all that was drawn. So no pair is ever drawn
+//!   twice.
+//! - **Seals.** A pair serves for one seal of the network layer and one of the upper transport layer. Their nonces
+//!   differ in their first octet, and nonces of different pairs differ in IV Index or SEQ. So no nonce is used twice.
+//! - **Messages.** A message is delivered only after its pair is the durable entry of its source, and it is accepted
+//!   only above that entry. An entry goes only when its IV Index is too old to be read. So what was delivered, or was
+//!   accepted and lost in a power cut, is never accepted again.
 #![tactic(auto)]
 
 ghost use Rattle.std.specs.Prelude.{◌≡◌, ℕ, ◌*◌, ◌+◌, ◌^◌, ◌<◌, ◌≤◌, ◌≢◌, [], All, Contains, List, None};
@@ -22,10 +25,11 @@ ghost use Rattle.mesh_world.specs.Safety.{AtMostOnce, NoReuse};
 ghost use Rattle.mesh_world.specs.World.{after, after_all, AreAllowed, HasNonce, IsAllowed, IsUnused, provisioned, Sealing, uses, World, WorldStep};
 ghost use Rattle.mesh_world.specs.World.WorldStep.{Accept, Advance, Cut, Deliver, Draw, Expire, Publish, Reserve, Seal};
 
-/// The law of the world: over every list of steps that are allowed where they stand, a good world stays good; and a good world has no
-/// key and nonce with two plaintexts, and no message that was delivered twice.
+/// The law of the world: over every list of steps that are allowed where they stand, a good world stays good; and a
+/// good world has no key and nonce with two plaintexts, and no message that was delivered twice.
 pub fn world_law()
-    ensures good { (w : World) (steps : List WorldStep) → IsGood w → AreAllowed w steps → IsGood (after_all w steps) }
+    ensures good { (w : World) (steps : List WorldStep)
+        → IsGood w → AreAllowed w steps → IsGood (after_all w steps) }
     ensures no_reuse { (w : World) → IsGood w → NoReuse (uses w) }
     ensures at_most_once { (w : World) → IsGood w → AtMostOnce w.delivered }
 {}
@@ -36,17 +40,20 @@ pub fn provisioned_law()
     ensures steps { AreAllowed new_node all_kinds }
 {}
 
-/// A power cut is allowed in every world. It leaves the next pair at the durable mark, and nothing held or pending; what was drawn, sealed,
-/// accepted and delivered before stays so.
+/// A power cut is allowed in every world. It leaves the next pair at the durable mark, and nothing held or pending;
+/// what was drawn, sealed, accepted and delivered before stays so.
 pub fn cut_law()
     ensures allowed { (w : World) → IsAllowed w (Cut w.kept) }
     ensures next { (w : World) → (after w (Cut w.kept)).next ≡ w.kept }
-    ensures forgotten { (w : World) (mark : ℕ) → ((after w (Cut mark)).held ≡ []) × ((after w (Cut mark)).pending ≡ None) }
-    ensures same { (w : World) (mark : ℕ) → after w (Cut mark) ≡ record w { next = mark; mark = mark; kept = mark; held = []; pending = None } }
+    ensures forgotten { (w : World) (mark : ℕ)
+        → ((after w (Cut mark)).held ≡ []) × ((after w (Cut mark)).pending ≡ None) }
+    ensures same { (w : World) (mark : ℕ)
+        → after w (Cut mark) ≡ record w { next = mark; mark = mark; kept = mark; held = []; pending = None } }
 {}
 
-/// The conditions of the steps are needed. The first clauses hold of every world: where the end of the step is good, the condition held.
-/// The others are single worlds in which the step lacks nothing but the condition, and its end isn't good.
+/// The conditions of the steps are needed. The first clauses hold of every world: where the end of the step is good,
+/// the condition held. The others are single worlds in which the step lacks nothing but the condition, and its end
+/// isn't good.
 pub fn conditions_law()
     // a pair is drawn only below the mark, and only within the widths of a pair
     ensures draw { (w : World) → IsGood (after w Draw) → IsAllowed w Draw }
