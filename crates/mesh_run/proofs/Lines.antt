@@ -5,10 +5,7 @@ use Rattle.mesh_script.specs.declared.grammar.ProvisionLine.{ProvisionLine}
 use Rattle.mesh_script.specs.declared.grammar.RawLine.{RawLine}
 use Rattle.mesh_types.specs.declared.answers.Answer.TheVariants as A
 use Rattle.mesh_types.specs.declared.events.Kind.TheVariants as K
-use Rattle.mesh_types.specs.declared.history.Entry.{Entry}
-use Rattle.mesh_types.specs.declared.history.Sent.{Sent}
 use Rattle.mesh_types.specs.declared.lines.Outcome.{Outcome}
-use Rattle.mesh_types.specs.declared.report.ReportLine.{ReportLine}
 use Rattle.mesh_types.specs.declared.report.ReportLine.TheVariants as L
 use Rattle.run_definitions.specs.Report.{entry_lines, bearer_lines}
 use Rattle.mesh_run.specs.Told.{entry_of, outcome_of, sent_of, placed}
@@ -22,7 +19,7 @@ pub line_end : {X : Type 0} (old left all : List X) → left ≡ [] → old ++ l
 line_end old left all e g = sym (append-nil old) ∙ ap (λ v. old ++ v) (sym e) ∙ g
 
 pub entry_more : (p : ProvisionLine) (ls : List RawLine) (i : ℕ) → i < length ls
-  → entry_lines (i + 1) (placed (entry_of p) i (drop i ls))
+    → entry_lines (i + 1) (placed (entry_of p) i (drop i ls))
     ≡ L.Entry (i + 1) 0 (i + 1) K.Raw A.Planned ∷ entry_lines (i + 1 + 1) (placed (entry_of p) (i + 1) (drop (i + 1) ls))
 unfolding placed
 entry_more p [] i h = absurd (omega arith)
@@ -33,14 +30,14 @@ unfolding placed
 entry_end p ls i h = at_drop_all (λ ls. entry_lines (i + 1) (placed (entry_of p) i ls)) ls i h
 
 pub sent_more : (p : ProvisionLine) (ls : List RawLine) (i : ℕ) (d : RawLine) → i < length ls
-  → bearer_lines true 0 (placed (sent_of p) i (drop i ls))
+    → bearer_lines true 0 (placed (sent_of p) i (drop i ls))
     ≡ L.Sent 0 (i + 1) 1 (outcome_of p i (get_or ls i d)) true ∷ bearer_lines true 0 (placed (sent_of p) (i + 1) (drop (i + 1) ls))
 unfolding placed
 sent_more p ls i d h = at_drop_more (λ ls. bearer_lines true 0 (placed (sent_of p) i ls)) ls i d h
 
 -- the line that was put behind the others is the one that is next
 pub sent_step : (p : ProvisionLine) (ls : List RawLine) (i seq : ℕ) (x : RawLine) (o : Outcome) → i < length ls → seq ≡ i → x ≡ get_or ls i x → o ≡ outcome_of p seq x
-  → bearer_lines true 0 (placed (sent_of p) i (drop i ls)) ≡ L.Sent 0 (seq + 1) 1 o true ∷ bearer_lines true 0 (placed (sent_of p) (i + 1) (drop (i + 1) ls))
+    → bearer_lines true 0 (placed (sent_of p) i (drop i ls)) ≡ L.Sent 0 (seq + 1) 1 o true ∷ bearer_lines true 0 (placed (sent_of p) (i + 1) (drop (i + 1) ls))
 sent_step p ls i seq x o h n e f = sent_more p ls i x h ∙ rw (← e, f, n) refl
 
 pub sent_end : (p : ProvisionLine) (ls : List RawLine) (i : ℕ) → length ls ≤ i → bearer_lines true 0 (placed (sent_of p) i (drop i ls)) ≡ []

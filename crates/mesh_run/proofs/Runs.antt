@@ -1,5 +1,5 @@
 -- From what the parts of a run do to what the run does.
-use Rattle.std.proofs.Common.{◌≡◌, ℕ, ◌≤◌, true, List, [], ◌++◌, length, Option, Some, None, refl, sym, ap, ◌∙◌, append-nil}
+use Rattle.std.proofs.Common.{◌≡◌, ℕ, ◌≤◌, true, List, ◌++◌, length, Option, Some, None, refl, sym, ap, ◌∙◌, append-nil}
 use Rattle.std.specs.Prelude.{IfSome}
 use Rattle.std.specs.List.{flat_map}
 use Rattle.std.specs.Io.KnownBytes.{Consumes, IsAtEnd}
@@ -38,19 +38,19 @@ pub record Says (left after : Option (List ℕ)) (text : List ℕ) (s : Script) 
 
 -- the whole report was written
 pub whole_run : (left after old new : Option (List ℕ)) (text : List ℕ) (s : Script) (lines : List ReportLine) → Says left after text s
-  → lines ≡ life_lines true 1 (life_of s) → length s.lines ≤ 4096 → Grows old new (flat_map line_text lines)
-  → IfSome left (λ text. (s : Script) × (script_of text ≡ Some s) × Ran s old new)
+    → lines ≡ life_lines true 1 (life_of s) → length s.lines ≤ 4096 → Grows old new (flat_map line_text lines)
+    → IfSome left (λ text. (s : Script) × (script_of text ≡ Some s) × Ran s old new)
 whole_run None after old new text s lines h e b w = tt
 whole_run (Some xs) after old new text s lines h e b w =
-  let same : xs ≡ text = all_read (Some xs) after text h.read h.end in
-  (s, rw same (sym h.script), record { report = rw (report_is s lines e) at w; no_reuse = no_reuse s b })
+    let same : xs ≡ text = all_read (Some xs) after text h.read h.end in
+    (s, rw same (sym h.script), record { report = rw (report_is s lines e) at w; no_reuse = no_reuse s b })
 
 -- a front of the report was written
 pub front_of_run : (left after old new : Option (List ℕ)) (text : List ℕ) (s : Script) (lines : List ReportLine) → Says left after text s
-  → lines ≡ life_lines true 1 (life_of s) → WritesFront old new (flat_map line_text lines)
-  → IfSome left (λ text. WritesFront old new (report_of text))
+    → lines ≡ life_lines true 1 (life_of s) → WritesFront old new (flat_map line_text lines)
+    → IfSome left (λ text. WritesFront old new (report_of text))
 front_of_run None after old new text s lines h e w = tt
 front_of_run (Some xs) after old new text s lines h e w =
-  let same : xs ≡ text = all_read (Some xs) after text h.read h.end in
-  let report : report_of xs ≡ flat_map line_text lines = ap report_of same ∙ ap script_report (sym h.script) ∙ sym (report_is s lines e) in
-  rw report w
+    let same : xs ≡ text = all_read (Some xs) after text h.read h.end in
+    let report : report_of xs ≡ flat_map line_text lines = ap report_of same ∙ ap script_report (sym h.script) ∙ sym (report_is s lines e) in
+    rw report w

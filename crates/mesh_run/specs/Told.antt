@@ -4,7 +4,6 @@ use Rattle.cipher_definitions.specs.Kdf.{master_credentials}
 use Rattle.layer_definitions.specs.Network.{net_text}
 use Rattle.mesh_base.specs.declared.fields.NetFields.{NetFields}
 use Rattle.mesh_base.specs.declared.fields.NetMaterial.{NetMaterial}
-use Rattle.mesh_base.specs.declared.pair.Pair.{Pair}
 use Rattle.mesh_types.specs.declared.answers.Answer.TheVariants as A
 use Rattle.mesh_types.specs.declared.events.Event.TheVariants as E
 use Rattle.mesh_types.specs.declared.history.Entry.{Entry}
@@ -23,7 +22,7 @@ use Rattle.mesh_script.specs.declared.grammar.RawLine.{RawLine}
 use Rattle.mesh_script.specs.declared.grammar.Script.{Script}
 use Rattle.mesh_script.specs.Script.{script_of}
 use Rattle.run_definitions.specs.Config.{config_of}
-use Rattle.run_definitions.specs.Record.{Life, LifeOver, Run}
+use Rattle.run_definitions.specs.Record.{Life, Run}
 use Rattle.run_definitions.specs.Report.{report_text}
 use Rattle.run_definitions.specs.Seals.{own_fields}
 
@@ -31,10 +30,10 @@ use Rattle.run_definitions.specs.Seals.{own_fields}
 -- begin, and its network key.
 abbrev pub provisioned : ProvisionLine → List StoreRecord
 provisioned p =
-  R.Identity p.unicast p.elements p.dev_key
-  ∷ R.Numbers p.iv false (p.iv * 2 ^ 25) 0 192
-  ∷ R.NetKey 1 p.net_index p.net_key
-  ∷ []
+    R.Identity p.unicast p.elements p.dev_key
+    ∷ R.Numbers p.iv false (p.iv * 2 ^ 25) 0 192
+    ∷ R.NetKey 1 p.net_index p.net_key
+    ∷ []
 
 -- how a life opens over records
 abbrev pub opened_over : List StoreRecord → Opened
@@ -43,8 +42,8 @@ opened_over records = W.On (config_of records).iv (config_of records).mark
 -- the master credentials of a network key
 abbrev pub master_material : List ℕ → NetMaterial
 master_material net_key =
-  let credentials = master_credentials net_key in
-  record { nid = credentials.nid; encryption = credentials.encryption; privacy = credentials.privacy }
+    let credentials = master_credentials net_key in
+    record { nid = credentials.nid; encryption = credentials.encryption; privacy = credentials.privacy }
 
 -- the fields of the control PDU of a line, under the number seq
 abbrev pub fields_of : ProvisionLine → ℕ → RawLine → NetFields
@@ -57,7 +56,7 @@ job_of p l = J.Control (master_material p.net_key) l.ttl p.unicast l.dst l.tpdu 
 -- what becomes of the job under the number seq
 abbrev pub outcome_of : ProvisionLine → ℕ → RawLine → Outcome
 outcome_of p seq l =
-  O.Ctl (record { iv = p.iv; seq = seq }) l.ttl p.unicast l.dst l.tpdu (net_text (master_material p.net_key) (fields_of p seq l))
+    O.Ctl (record { iv = p.iv; seq = seq }) l.ttl p.unicast l.dst l.tpdu (net_text (master_material p.net_key) (fields_of p seq l))
 
 -- the entry of a line at place i of the history
 abbrev pub entry_of : ProvisionLine → ℕ → RawLine → Entry

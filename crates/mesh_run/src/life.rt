@@ -57,7 +57,10 @@ fn outcome(provision: &ProvisionLine, material: &NetMaterial, seq: u32, line: &R
         tpdu: line.tpdu.copied(),
     };
     Outcome::Ctl {
-        pair: Pair { iv: provision.iv, seq },
+        pair: Pair {
+            iv: provision.iv,
+            seq,
+        },
         ttl: line.ttl,
         src: provision.unicast,
         dst: line.dst,
@@ -102,7 +105,11 @@ fn push_entries(out: &mut Vec<ReportLine>, lines: &[RawLine]) -> Result<(), Allo
 }
 
 /// The lines of the jobs, one for each entry, sealed under numbers from 0 on.
-fn push_sends(out: &mut Vec<ReportLine>, provision: &ProvisionLine, lines: &[RawLine]) -> Result<(), AllocError>
+fn push_sends(
+    out: &mut Vec<ReportLine>,
+    provision: &ProvisionLine,
+    lines: &[RawLine],
+) -> Result<(), AllocError>
     requires bound { length lines.now ≤ 4096 }
     requires ranges { All IsRaw lines.now }
     ensures ok { OnOk result (out.new.items ≡ out.old.items ++ bearer_lines true 0 (placed (sent_of provision.now) 0 lines.now)) }

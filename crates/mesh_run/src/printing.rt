@@ -40,7 +40,11 @@ pub enum WriteStop {
 }
 
 /// Writes a line of the report, with its LF, as one piece.
-fn write_report_line<K: Sink>(alloc: Global, sink: &mut K, line: &ReportLine) -> Result<(), WriteStop>
+fn write_report_line<K: Sink>(
+    alloc: Global,
+    sink: &mut K,
+    line: &ReportLine,
+) -> Result<(), WriteStop>
     ensures ok { OnOk result (Grows (K.held sink.old) (K.held sink.new) (line_text line.now)) }
     ensures err { OnErr result (WritesFront (K.held sink.old) (K.held sink.new) (line_text line.now)) }
     ensures cause { result ≡ Err stop.Fault → Rose (K.faults sink.old) (K.faults sink.new) }
@@ -56,7 +60,11 @@ fn write_report_line<K: Sink>(alloc: Global, sink: &mut K, line: &ReportLine) ->
 }
 
 /// Writes lines of the report, one after another.
-pub fn write_report<K: Sink>(alloc: Global, sink: &mut K, lines: &[ReportLine]) -> Result<(), WriteStop>
+pub fn write_report<K: Sink>(
+    alloc: Global,
+    sink: &mut K,
+    lines: &[ReportLine],
+) -> Result<(), WriteStop>
     ensures ok { OnOk result (Grows (K.held sink.old) (K.held sink.new) (flat_map line_text lines.now)) }
     ensures err { OnErr result (WritesFront (K.held sink.old) (K.held sink.new) (flat_map line_text lines.now)) }
     ensures cause { result ≡ Err stop.Fault → Rose (K.faults sink.old) (K.faults sink.new) }

@@ -11,14 +11,13 @@ ghost use Rattle.mesh_run.specs.Status.{is_command, due, IsDue};
 ghost use Rattle.mesh_run.specs.Told.{report_of};
 ghost use Rattle.mesh_run.specs.Ran.{Ran};
 
-use mesh_base::outside::{Sink, Source};
-use mesh_script::read_script;
-use std::alloc::Global;
-
 use crate::life::life_lines;
 use crate::printing::{WriteStop, write_report};
 use crate::reading::{ReadStop, read_whole};
 use crate::status::Status;
+use mesh_base::outside::{Sink, Source};
+use mesh_script::read_script;
+use std::alloc::Global;
 
 /// Whether the words after the program's name are the command `run --hex`.
 fn is_command(words: &[&str]) -> bool
@@ -31,7 +30,12 @@ fn is_command(words: &[&str]) -> bool
 ///
 /// The words after the program's name are `run --hex`; every other list is `Usage`. What the source has is read to its end before
 /// anything is written.
-pub fn run<S: Source, K: Sink>(alloc: Global, words: &[&str], source: &mut S, sink: &mut K) -> Status
+pub fn run<S: Source, K: Sink>(
+    alloc: Global,
+    words: &[&str],
+    source: &mut S,
+    sink: &mut K,
+) -> Status
     // Each status has its cause.
     ensures usage { (result ≡ Status.Usage) ↔ (is_command (map (λ w. w.now) words.now) ≡ false) }
     ensures read_fault { result ≡ Status.ReadFault → Rose (S.faults source.old) (S.faults source.new) }

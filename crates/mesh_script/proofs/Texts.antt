@@ -10,15 +10,11 @@ unfolding hex_digits
 hex_digits_more zero n h = absurd (omega arith)
 hex_digits_more (suc k) n h = let e : suc k - 1 ≡ k = omega arith in rw e refl
 
--- two pieces were put behind a text
-pub appended : (old mid new a b : List ℕ) → mid ≡ old ++ a → new ≡ mid ++ b → new ≡ old ++ (a ++ b)
-appended old mid new a b h k = k ∙ ap (λ (v : List ℕ). v ++ b) h ∙ append_assoc old a b
-
 -- one of the digits that are left was put behind a text
 pub digit_more : (old new : List ℕ) (k n d : ℕ) (all : List ℕ) → 0 < k → d ≡ slice_index lower_digits (n / 16 ^ (k - 1) % 16)
-  → new ≡ old ++ d ∷ [] → old ++ hex_digits k n ≡ all → new ++ hex_digits (k - 1) n ≡ all
+    → new ≡ old ++ d ∷ [] → old ++ hex_digits k n ≡ all → new ++ hex_digits (k - 1) n ≡ all
 digit_more old new k n d all h e f g =
-  rw (f, append_assoc, e) (ap (λ (v : List ℕ). old ++ v) (sym (hex_digits_more k n h)) ∙ g)
+    rw (f, append_assoc, e) (ap (λ (v : List ℕ). old ++ v) (sym (hex_digits_more k n h)) ∙ g)
 
 -- no digit is left
 pub digits_end : (old : List ℕ) (k n : ℕ) (all : List ℕ) → k ≡ 0 → old ++ hex_digits k n ≡ all → old ≡ all

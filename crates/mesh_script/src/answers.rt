@@ -8,15 +8,13 @@ ghost use Rattle.mesh_types.specs.declared.answers.Answer.TheVariants as A;
 ghost use Rattle.run_definitions.specs.Report.{answer_text, key_text, key_step_text, iv_step_text, params_text};
 ghost use Rattle.run_definitions.specs.Text.{hex_digits, address_text, name_text, pair_text};
 
-use std::alloc::AllocError;
-
+use crate::text::LineText;
 use mesh_base::address::Address;
 use mesh_base::iv_state::IvStep;
 use mesh_base::octets::Octets;
 use mesh_base::pair::{Name, Pair};
 use mesh_types::answers::{Answer, KeyName, KeyStep};
-
-use crate::text::LineText;
+use std::alloc::AllocError;
 
 /// The words of an answer.
 pub fn push_answer(text: &mut LineText, answer: &Answer) -> Result<(), AllocError>
@@ -113,12 +111,7 @@ fn push_index(text: &mut LineText, word: &[u8], index: u16) -> Result<(), AllocE
 }
 
 /// A word, the source and the destination of a message, and its IV Index and SEQ.
-fn push_source(
-    text: &mut LineText,
-    word: &[u8],
-    name: Name,
-    dst: Address,
-) -> Result<(), AllocError>
+fn push_source(text: &mut LineText, word: &[u8], name: Name, dst: Address) -> Result<(), AllocError>
     ensures ok { OnOk result (text.new ≡ text.old ++ (word.now ++ address_text name.src ++ address_text dst ++ pair_text name.pair)) }
 {
     text.push(word)?;

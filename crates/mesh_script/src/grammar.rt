@@ -8,14 +8,12 @@ ghost use Rattle.mesh_script.specs.Script.{provision_fields, provision_line, raw
 ghost use Rattle.mesh_script.specs.Raw.{IsRaw};
 ghost use Rattle.mesh_script.specs.Words.{pieces};
 
-use std::alloc::{AllocError, Global};
-use std::marker::Model;
-
-use mesh_base::address::Address;
-use mesh_base::octets::Octets;
-
 use crate::digits::{key, number, tpdu};
 use crate::words::{piece, split};
+use mesh_base::address::Address;
+use mesh_base::octets::Octets;
+use std::alloc::{AllocError, Global};
+use std::marker::Model;
 
 /// The longest script, in octets.
 pub const LONGEST_SCRIPT: usize = 4_194_304;

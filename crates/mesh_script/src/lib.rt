@@ -3,7 +3,8 @@
 //! - `grammar`: what a script says, and `read_script`
 //! - `words`: a text cut into lines, and a line into words
 //! - `digits`: hexadecimal digits, as numbers and as octets
-//! - `lines`: the lines of the report
+//! - `lines`: the lines of the report, and `write_line`
+//! - `answers`, `outcomes`: the words of an answer, and of what became of a job
 //! - `text`: the text of one line, word by word
 #![tactic(auto)]
 
@@ -12,9 +13,9 @@ mod digits;
 pub mod grammar;
 pub mod lines;
 mod outcomes;
-pub mod text;
 #[cfg(test)]
 mod tests;
+pub mod text;
 mod words;
 
 pub use crate::grammar::{LONGEST_SCRIPT, ProvisionLine, RawLine, RawLines, Script, read_script};

@@ -6,17 +6,15 @@ ghost use Rattle.std.specs.Fmt.{decimal};
 ghost use Rattle.mesh_types.specs.declared.report.ReportLine.TheVariants as L;
 ghost use Rattle.run_definitions.specs.Report.{line_text, words_text, state_text, next_text, kind_text};
 
-use std::alloc::{AllocError, Global};
-
+use crate::answers::push_answer;
+use crate::outcomes::push_outcome;
+use crate::text::LineText;
 use mesh_base::iv_state::IvState;
 use mesh_types::answers::Answer;
 use mesh_types::events::Kind;
 use mesh_types::lines::Outcome;
 use mesh_types::report::ReportLine;
-
-use crate::answers::push_answer;
-use crate::outcomes::push_outcome;
-use crate::text::LineText;
+use std::alloc::{AllocError, Global};
 
 /// The text of a line of the report, with its LF.
 pub fn write_line(alloc: Global, line: &ReportLine) -> Result<LineText, AllocError>

@@ -6,16 +6,14 @@ ghost use Rattle.mesh_types.specs.declared.lines.Outcome.TheVariants as O;
 ghost use Rattle.run_definitions.specs.Report.{outcome_text, control_bit_text, pdu_text};
 ghost use Rattle.run_definitions.specs.Text.{iv_text, octets_text, pair_text, route_text};
 
-use std::alloc::AllocError;
-
+use crate::answers::push_key;
+use crate::text::LineText;
 use mesh_base::address::Address;
 use mesh_base::octets::Octets;
 use mesh_base::pair::{Name, Pair};
 use mesh_types::answers::KeyName;
 use mesh_types::lines::Outcome;
-
-use crate::answers::push_key;
-use crate::text::LineText;
+use std::alloc::AllocError;
 
 /// The words of an outcome. With `hex` the octets of a network PDU are shown.
 pub fn push_outcome(text: &mut LineText, hex: bool, outcome: &Outcome) -> Result<(), AllocError>
@@ -138,15 +136,14 @@ fn push_ctl(
 fn push_bit(text: &mut LineText, bit: bool) -> Result<(), AllocError>
     ensures ok { OnOk result (text.new ≡ text.old ++ control_bit_text bit) }
 {
-    if bit { text.push(b" 1") } else { text.push(b" 0") }
+    if bit {
+        text.push(b" 1")
+    } else {
+        text.push(b" 0")
+    }
 }
 
-fn push_rep(
-    text: &mut LineText,
-    hex: bool,
-    name: Name,
-    pdu: &Octets<29>,
-) -> Result<(), AllocError>
+fn push_rep(text: &mut LineText, hex: bool, name: Name, pdu: &Octets<29>) -> Result<(), AllocError>
     ensures ok { OnOk result (text.new ≡ text.old ++ outcome_text hex (O.Rep name pdu.now)) }
 {
     text.push(b" rep")?;

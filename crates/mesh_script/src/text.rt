@@ -6,11 +6,10 @@ ghost use Rattle.std.specs.Fmt.{decimal};
 ghost use Rattle.hex.specs.Hex.{lower_digits};
 ghost use Rattle.run_definitions.specs.Text.{hex_digits, word_text, octets_text, address_text, iv_text, pair_text, name_text, route_text};
 
-use std::alloc::{AllocError, Global};
-use std::marker::Model;
-
 use mesh_base::address::Address;
 use mesh_base::pair::{Name, Pair};
+use std::alloc::{AllocError, Global};
+use std::marker::Model;
 
 const HEX_DIGITS: [u8; 16] = *b"0123456789abcdef";
 

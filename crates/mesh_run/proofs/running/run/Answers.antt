@@ -14,7 +14,7 @@ returns-in-Err-life_lines-clause-front g c = λ _. front_of_none _ _
 
 pub returns-in-Ok-write_report-clause-done : goal.returns-in-Ok-write_report-clause-done
 returns-in-Ok-write_report-clause-done g c = λ _.
-  whole_run _ _ _ _ _ c.in-Ok-Some.script c.as_slice-2.result.now
+    whole_run _ _ _ _ _ c.in-Ok-Some.script c.as_slice-2.result.now
     (record {
       read = c.in-Ok.ensures.octets;
       end = c.in-Ok.ensures.end;
@@ -24,7 +24,7 @@ returns-in-Ok-write_report-clause-done g c = λ _.
 
 pub returns-in-Err-Fault-write_report-clause-front : goal.returns-in-Err-Fault-write_report-clause-front
 returns-in-Err-Fault-write_report-clause-front g c = λ _.
-  front_of_run _ _ _ _ _ c.in-Ok-Some.script c.as_slice-2.result.now
+    front_of_run _ _ _ _ _ c.in-Ok-Some.script c.as_slice-2.result.now
     (record {
       read = c.in-Ok.ensures.octets;
       end = c.in-Ok.ensures.end;
@@ -34,7 +34,7 @@ returns-in-Err-Fault-write_report-clause-front g c = λ _.
 
 pub returns-clause-front : goal.returns-clause-front
 returns-clause-front g c = λ _.
-  front_of_run _ _ _ _ _ c.in-Ok-Some.script c.as_slice-2.result.now
+    front_of_run _ _ _ _ _ c.in-Ok-Some.script c.as_slice-2.result.now
     (record {
       read = c.in-Ok.ensures.octets;
       end = c.in-Ok.ensures.end;

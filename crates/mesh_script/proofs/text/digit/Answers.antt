@@ -1,4 +1,3 @@
-use Rattle.std.proofs.Common.{◌^◌, ◌<◌, arith}
 use Rattle.mesh_script.proofs.Numbers.{place_fits, place_is_some}
 use Rattle.mesh_script.proofs.text.digit.Goals as goal
 
