@@ -11,7 +11,8 @@ use Rattle.mesh_types.specs.declared.history.Entry.{Entry}
 use Rattle.run_definitions.specs.Record.{shown_of}
 use Rattle.run_definitions.specs.Uses.{Use, NoReuse, uses, seals_of, network_use, life_seals, node_of, nonce_source}
 use Rattle.run_definitions.specs.Config.{is_element}
-use Rattle.mesh_run.specs.Told.{entry_of, sent_of, fields_of, master_material, placed, life_of, record_of}
+use Rattle.layer_definitions.specs.KeyRefresh.{master_material}
+use Rattle.mesh_run.specs.Told.{entry_of, sent_of, fields_of, placed, life_of, record_of}
 
 -- the seal of a line
 abbrev pub seal_of : ProvisionLine → ℕ → RawLine → Use

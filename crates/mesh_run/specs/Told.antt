@@ -1,9 +1,8 @@
 -- The record of the run of a script: its one life is told as the script says.
 use Rattle.std.specs.Prelude.{ℕ, ◌+◌, ◌*◌, ◌^◌, true, false, List, [], ◌∷◌, Option, Some, None}
-use Rattle.cipher_definitions.specs.Kdf.{master_credentials}
+use Rattle.layer_definitions.specs.KeyRefresh.{master_material}
 use Rattle.layer_definitions.specs.Network.{net_text}
 use Rattle.mesh_base.specs.declared.fields.NetFields.{NetFields}
-use Rattle.mesh_base.specs.declared.fields.NetMaterial.{NetMaterial}
 use Rattle.mesh_types.specs.declared.answers.Answer.TheVariants as A
 use Rattle.mesh_types.specs.declared.events.Event.TheVariants as E
 use Rattle.mesh_types.specs.declared.history.Entry.{Entry}
@@ -24,26 +23,24 @@ use Rattle.mesh_script.specs.Script.{script_of}
 use Rattle.run_definitions.specs.Config.{config_of}
 use Rattle.run_definitions.specs.Record.{Life, Run}
 use Rattle.run_definitions.specs.Report.{report_text}
+use Rattle.run_definitions.specs.RunOf.{Provisioning, provisioned}
 use Rattle.run_definitions.specs.Seals.{own_fields}
 
--- The records that provisioning writes: the node, its IV state with 192 hours since a recovery and the mark at which its numbers
--- begin, and its network key.
-abbrev pub provisioned : ProvisionLine → List StoreRecord
-provisioned p =
-    R.Identity p.unicast p.elements p.dev_key
-    ∷ R.Numbers p.iv false (p.iv * 2 ^ 25) 0 192
-    ∷ R.NetKey 1 p.net_index p.net_key
-    ∷ []
+-- what the node is provisioned with by a line of the script
+abbrev pub provisioning : ProvisionLine → Provisioning
+provisioning p = record {
+  unicast = p.unicast;
+  elements = p.elements;
+  iv = p.iv;
+  in_progress = false;
+  net_index = p.net_index;
+  net_key = p.net_key;
+  dev_key = p.dev_key;
+}
 
 -- how a life opens over records
 abbrev pub opened_over : List StoreRecord → Opened
 opened_over records = W.On (config_of records).iv (config_of records).mark
-
--- the master credentials of a network key
-abbrev pub master_material : List ℕ → NetMaterial
-master_material net_key =
-    let credentials = master_credentials net_key in
-    record { nid = credentials.nid; encryption = credentials.encryption; privacy = credentials.privacy }
 
 -- the fields of the control PDU of a line, under the number seq
 abbrev pub fields_of : ProvisionLine → ℕ → RawLine → NetFields
@@ -81,7 +78,7 @@ placed f i (x ∷ xs) = f i x ∷ placed f (i + 1) xs
 -- the life of a script
 unfoldable pub life_of : Script → Life
 life_of s = record {
-  opened = opened_over (provisioned s.provision);
+  opened = opened_over (provisioned (provisioning s.provision));
   entries = placed (entry_of s.provision) 0 s.lines;
   refills = 0;
   sends = placed (sent_of s.provision) 0 s.lines ∷ [];
@@ -91,8 +88,8 @@ life_of s = record {
 -- the record of its run
 unfoldable pub record_of : Script → Run
 record_of s = record {
-  lives = record { over = provisioned s.provision; life = life_of s } ∷ [];
-  last = provisioned s.provision;
+  lives = record { over = provisioned (provisioning s.provision); life = life_of s } ∷ [];
+  last = provisioned (provisioning s.provision);
 }
 
 -- the report of a text, with the octets of network PDUs; none where the text is no script

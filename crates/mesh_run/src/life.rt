@@ -7,7 +7,9 @@ ghost use Rattle.mesh_types.specs.declared.report.ReportLine.TheVariants as L;
 ghost use Rattle.mesh_script.specs.Raw.{IsRaw};
 ghost use Rattle.mesh_script.specs.declared.grammar.ProvisionLine.{ProvisionLine};
 ghost use Rattle.run_definitions.specs.Report.{opened_line, entry_lines, bearer_lines, life_lines};
-ghost use Rattle.mesh_run.specs.Told.{provisioned, opened_over, master_material, fields_of, outcome_of, entry_of, sent_of, placed, life_of};
+ghost use Rattle.layer_definitions.specs.KeyRefresh.{master_material};
+ghost use Rattle.run_definitions.specs.RunOf.{provisioned};
+ghost use Rattle.mesh_run.specs.Told.{provisioning, opened_over, fields_of, outcome_of, entry_of, sent_of, placed, life_of};
 
 use mesh_base::fields::{NetFields, NetMaterial};
 use mesh_base::iv_state::IvState;
@@ -22,7 +24,7 @@ use network_layer::seal;
 use std::alloc::{AllocError, Global};
 
 /// The master credentials of a network key (Mesh Profile 1.0.1, section 3.8.6.3.1).
-#[tactic(auto, unfolding(cipher_definitions::specs::Kdf::master_credentials))]
+#[tactic(auto, unfolding(cipher_definitions::specs::Kdf::master_credentials, layer_definitions::specs::KeyRefresh::master_material))]
 fn master_material(net_key: &[u8; 16]) -> NetMaterial
     ensures value { result ≡ master_material net_key.now }
     ensures width { result.nid < 2 ^ 7 }
@@ -70,9 +72,9 @@ fn outcome(provision: &ProvisionLine, material: &NetMaterial, seq: u32, line: &R
 }
 
 /// The line of the opening: the IV state of provisioning, and the number with which the node begins.
-#[tactic(auto, unfolding(run_definitions::specs::Config::changed))]
+#[tactic(auto, unfolding(run_definitions::specs::Config::changed, mesh_base::specs::IvState::transmit_of))]
 fn opened(provision: &ProvisionLine) -> ReportLine
-    ensures value { result ≡ opened_line 1 (opened_over (provisioned provision.now)) }
+    ensures value { result ≡ opened_line 1 (opened_over (provisioned (provisioning provision.now))) }
 {
     ReportLine::Opened {
         life: 1,

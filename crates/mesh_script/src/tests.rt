@@ -108,14 +108,26 @@ fn writes_lines(rt: HostRuntime) -> Result<(), Fail> {
         key: KeyName::App(0x123),
         payload: Octets::of(&[0x82, 0x02, 0x01, 0x01])?,
     };
-    shows(&rt, &answered(delivered), b"e 2 b0 2 net delivered 0003 1201 12345678 3129ab app:123 82020101\n")?;
-    shows(&rt, &answered(Answer::NoAppKey { index: 5 }), b"e 2 b0 2 net noappkey 005\n")?;
+    shows(
+        &rt,
+        &answered(delivered),
+        b"e 2 b0 2 net delivered 0003 1201 12345678 3129ab app:123 82020101\n",
+    )?;
+    shows(
+        &rt,
+        &answered(Answer::NoAppKey { index: 5 }),
+        b"e 2 b0 2 net noappkey 005\n",
+    )?;
     let beacon = Answer::Beacon {
         index: 0,
         key: KeyStep::Same,
         iv: IvStep::Ignore { rule: 2 },
     };
-    shows(&rt, &answered(beacon), b"e 2 b0 2 net beacon 000 same ignore 2\n")?;
+    shows(
+        &rt,
+        &answered(beacon),
+        b"e 2 b0 2 net beacon 000 same ignore 2\n",
+    )?;
 
     let sent = ReportLine::Sent {
         bearer: 0,
@@ -135,5 +147,9 @@ fn writes_lines(rt: HostRuntime) -> Result<(), Fail> {
         },
         hex: false,
     };
-    shows(&rt, &sent, b"s b0 2.2 msg 12345678 000001 07 1201 0003 dev 800300563412\n")
+    shows(
+        &rt,
+        &sent,
+        b"s b0 2.2 msg 12345678 000001 07 1201 0003 dev 800300563412\n",
+    )
 }
