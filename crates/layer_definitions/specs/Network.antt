@@ -83,3 +83,14 @@ pub record Reads (keys : List Heard) (current : ℕ) (octets : List ℕ) (f : Ne
 -- Under no key of the list do the octets read as anything.
 abbrev pub IsUnread : List Heard → ℕ → List ℕ → Type 0
 IsUnread keys current octets = (k : ℕ) (h : Heard) (f : NetFields) → slice_get keys k ≡ Some h → ReadsUnder h.material current octets f → ⊥
+
+-- Under one material octets read as one set of fields at most.
+abbrev pub HaveOneReading : Type 0
+HaveOneReading =
+    (m : NetMaterial) (current : ℕ) (octets : List ℕ) (f g : NetFields) → ReadsUnder m current octets f → ReadsUnder m current octets g → f ≡ g
+
+-- The octets of a PDU read as its fields, where it is heard under its IV Index.
+abbrev pub TextsReadBack : Type 0
+TextsReadBack =
+    (m : NetMaterial) (current : ℕ) (f : NetFields) → m.nid < 2 ^ 7 → HasPdu f → IsInWidths f → (f.iv ≡ current) ⊎ (f.iv + 1 ≡ current)
+    → ReadsUnder m current (net_text m f) f
