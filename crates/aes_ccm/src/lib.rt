@@ -6,3 +6,8 @@ mod sealing;
 mod stream;
 
 pub use sealing::{BadMic, seal, unseal};
+
+#[cfg(test)]
+mod tests;
+#[cfg(test)]
+mod vectors;

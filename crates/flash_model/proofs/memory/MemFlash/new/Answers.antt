@@ -1,0 +1,19 @@
+use Rattle.std.proofs.Common.{◌≡◌, refl, sym, subst, true≢false}
+use Rattle.flash_model.specs.declared.past.Past.{Past}
+use Rattle.flash_model.specs.Past.{HadBeen}
+use Rattle.flash_model.proofs.Mixed.{blank_content}
+use Rattle.flash_model.proofs.memory.MemFlash.new.Goals as goal
+
+pub invariant_of-result : goal.invariant_of-result
+invariant_of-result c =
+    let begins = c.in_ok-past.ensures in
+    record {
+      content = blank_content 65536 c.in_ok-octets.octets.items refl (c.in_ok-octets.ensures.items_if_clones_equal (λ y e. e));
+      contents = λ d had. absurd (subst (λ (p : Past). HadBeen p.contents d) begins had);
+      whole = λ not. subst (λ (p : Past). p.faults ≡ p.cycled) (sym begins) refl;
+      cut = λ yes. absurd (true≢false (sym yes));
+      ahead = λ not. refl;
+    }
+
+pub returns-clause-erased : goal.returns-clause-erased
+returns-clause-erased c = c.in_ok-octets.ensures.items_if_clones_equal (λ y e. e)

@@ -1,0 +1,48 @@
+-- How a steady flash fails: at the call that an arm tears, and at each call from then on until the power cycle.
+use Rattle.std.specs.Prelude.{◌≡◌, ◌⊎◌, ℕ, ◌+◌, ◌-◌, ◌<◌, min, List, Bool, true, false, ◌==◌, nat_lt, Option, Some, None, Result, IsOk, IsErr, OnOk, IsTrue}
+use Rattle.flash_model.specs.Octets.{IsMixed}
+use Rattle.flash_model.specs.Chip.{Chip, Arm}
+
+-- it has failed since the last power cycle
+abbrev pub is_cut : Chip → Bool
+is_cut chip = nat_lt chip.setting.faults chip.faults
+
+abbrev pub mask_of : Bool → Option Arm → Option ℕ
+mask_of true (Some arm) = Some arm.mask
+mask_of true None = None
+mask_of false arm = None
+
+-- the mask under which the next program or erase call is torn
+abbrev pub tearing : Chip → Option ℕ
+tearing chip = mask_of (chip.left == 0) chip.setting.arm
+
+module _ {T E : Type 0} where
+  -- a program or erase call after the cut; the torn one; any other
+  abbrev pub Follows : Bool → Option ℕ → (List ℕ → List ℕ) → List ℕ → List ℕ → Result T E → Type 0
+  Follows true mask change old new result = IsErr result × (new ≡ old)
+  Follows false (Some mask) change old new result = IsErr result × IsMixed mask old (change old) new
+  Follows false None change old new result = IsOk result
+
+  -- a program or erase call of a steady flash
+  pub record ObeysArm (change : List ℕ → List ℕ) (old new : Chip) (result : Result T E) : Type 0 where
+    pub course : Follows (is_cut old) (tearing old) change old.now new.now result
+    pub counted : new.changes ≡ min (old.changes + 1) 4294967295
+    pub nearer : new.left ≡ old.left - 1
+    pub no_fault : OnOk result (new.faults ≡ old.faults)
+
+  -- a read of a steady flash: it fails exactly after the cut
+  pub record ObeysCut (old new : Chip) (result : Result T E) : Type 0 where
+    pub cut : is_cut old ≡ true → IsErr result
+    pub whole : is_cut old ≡ false → IsOk result
+    pub changes : new.changes ≡ old.changes
+    pub left : new.left ≡ old.left
+    pub no_fault : OnOk result (new.faults ≡ old.faults)
+
+-- there is an arm, and its torn call was begun
+abbrev pub IsReached : Option Arm → ℕ → Type 0
+IsReached None changes = ⊥
+IsReached (Some arm) changes = (arm.changes + arm.calls < changes) ⊎ (changes ≡ 4294967295)
+
+-- a steady flash has failed since the last power cycle only by an arm
+abbrev pub IsExplained : Chip → Type 0
+IsExplained chip = IsTrue chip.steady → chip.setting.faults < chip.faults → IsReached chip.setting.arm chip.changes

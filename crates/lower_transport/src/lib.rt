@@ -1,0 +1,21 @@
+//! The codec of lower transport PDUs (Mesh Profile 1.0.1, section 3.5.2): [`read`] and [`write`], and [`seq_auth`],
+//! which finds the number under which a segmented message was sealed.
+//!
+//! - `reading`: from octets to a PDU
+//! - `writing`: from a PDU to octets
+//! - `sequence`: SeqAuth
+//! - `laws`: a text has one reading
+#![tactic(auto)]
+
+mod laws;
+mod reading;
+mod sequence;
+#[cfg(test)]
+mod tests;
+mod writing;
+
+pub use laws::one_reading_law;
+pub use mesh_base::lower::Lower;
+pub use reading::{Malformed, read};
+pub use sequence::seq_auth;
+pub use writing::write;

@@ -1,0 +1,64 @@
+//! AES-CMAC (RFC 4493, section 2.4).
+#![tactic(auto)]
+
+ghost use Rattle.std.specs.Prelude.{◌≡◌, ◌<◌, ◌≤◌, ◌+◌, length, replicate, [], ◌∷◌, ◌++◌, drop};
+ghost use Rattle.cipher_definitions.specs.Octets.{xor_lists, blocks};
+ghost use Rattle.cipher_definitions.specs.Aes.{aes, chained};
+ghost use Rattle.cipher_definitions.specs.Cmac.{cmac, last_block, blocks_before_last};
+
+use crate::subkeys::{add_to, doubled, filled_block};
+use aes_block::Schedule;
+
+/// AES-CMAC of a message of any length under a key.
+pub fn cmac(key: &[u8; 16], m: &[u8]) -> [u8; 16]
+    ensures value { result ≡ cmac key.now m.now }
+    ensures length { length result ≡ 16 }
+{
+    let schedule = Schedule::new(key);
+    let mut sum = [0; 16];
+    let mut rest = m;
+    while rest.len() > 16 {
+        let (front, back) = rest.split_at(16);
+        sum = chained_once(&schedule, &sum, front);
+        rest = back;
+    }
+    let last = last_block(&schedule, rest);
+    chained_once(&schedule, &sum, &last)
+}
+
+/// One step of the chaining: the sum with a block, enciphered.
+fn chained_once(schedule: &Schedule, sum: &[u8; 16], block: &[u8]) -> [u8; 16]
+    requires { length block.now ≡ 16 }
+    ensures value { result ≡ aes schedule.now (xor_lists sum.now block.now) }
+    ensures length { length result ≡ 16 }
+{
+    let mut next = *sum;
+    add_to(&mut next, block);
+    schedule.encrypt(next)
+}
+
+/// The last block of a message with the subkey for it, from the octets behind the blocks before it.
+fn last_block(schedule: &Schedule, rest: &[u8]) -> [u8; 16]
+    requires { length rest.now ≤ 16 }
+    ensures value { result ≡ last_block schedule.now rest.now }
+    ensures length { length result ≡ 16 }
+{
+    let first = doubled(&schedule.encrypt([0; 16]));
+    if rest.len() == 16 {
+        with_subkey(rest, &first)
+    } else {
+        with_subkey(&filled_block(rest), &doubled(&first))
+    }
+}
+
+/// The sum of a block and a subkey.
+fn with_subkey(block: &[u8], subkey: &[u8; 16]) -> [u8; 16]
+    requires { length block.now ≡ 16 }
+    ensures value { result ≡ xor_lists block.now subkey.now }
+    ensures length { length result ≡ 16 }
+{
+    let mut sum = [0; 16];
+    sum.copy_from_slice(block);
+    add_to(&mut sum, subkey);
+    sum
+}

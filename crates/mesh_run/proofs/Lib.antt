@@ -1,0 +1,4 @@
+pub mod Lines
+pub mod Runs
+pub mod Safety
+pub mod Written

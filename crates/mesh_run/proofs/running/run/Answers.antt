@@ -1,0 +1,43 @@
+use Rattle.std.proofs.Common.{sym, ◌∙◌, ap}
+use Rattle.mesh_script.specs.Script.{script_of}
+use Rattle.mesh_run.proofs.Runs.{front_of_none, whole_run, front_of_run}
+use Rattle.mesh_run.proofs.running.run.Goals as goal
+
+pub returns-in-Err-Memory-clause-front : goal.returns-in-Err-Memory-clause-front
+returns-in-Err-Memory-clause-front g c = λ _. front_of_none _ _
+
+pub returns-in-Err-clause-front : goal.returns-in-Err-clause-front
+returns-in-Err-clause-front g c = λ _. front_of_none _ _
+
+pub returns-in-Err-life_lines-clause-front : goal.returns-in-Err-life_lines-clause-front
+returns-in-Err-life_lines-clause-front g c = λ _. front_of_none _ _
+
+pub returns-in-Ok-write_report-clause-done : goal.returns-in-Ok-write_report-clause-done
+returns-in-Ok-write_report-clause-done g c = λ _.
+    whole_run _ _ _ _ _ c.in-Ok-Some.script c.as_slice-2.result.now
+    (record {
+      read = c.in-Ok.ensures.octets;
+      end = c.in-Ok.ensures.end;
+      script = sym c.in-Ok-Some.field-0-is ∙ c.in-Ok-Some.ensures.value ∙ ap script_of c.as_slice.ensures.value;
+    })
+    (c.as_slice-2.ensures.value ∙ c.in-Ok-life_lines.ensures.value) c.in-Ok-life_lines.ensures.bound c.in-Ok-write_report.ensures.ok
+
+pub returns-in-Err-Fault-write_report-clause-front : goal.returns-in-Err-Fault-write_report-clause-front
+returns-in-Err-Fault-write_report-clause-front g c = λ _.
+    front_of_run _ _ _ _ _ c.in-Ok-Some.script c.as_slice-2.result.now
+    (record {
+      read = c.in-Ok.ensures.octets;
+      end = c.in-Ok.ensures.end;
+      script = sym c.in-Ok-Some.field-0-is ∙ c.in-Ok-Some.ensures.value ∙ ap script_of c.as_slice.ensures.value;
+    })
+    (c.as_slice-2.ensures.value ∙ c.in-Ok-life_lines.ensures.value) c.in-Err-Fault-write_report.ensures.err
+
+pub returns-clause-front : goal.returns-clause-front
+returns-clause-front g c = λ _.
+    front_of_run _ _ _ _ _ c.in-Ok-Some.script c.as_slice-2.result.now
+    (record {
+      read = c.in-Ok.ensures.octets;
+      end = c.in-Ok.ensures.end;
+      script = sym c.in-Ok-Some.field-0-is ∙ c.in-Ok-Some.ensures.value ∙ ap script_of c.as_slice.ensures.value;
+    })
+    (c.as_slice-2.ensures.value ∙ c.in-Ok-life_lines.ensures.value) c.in-Err-Memory-write_report.ensures.err

@@ -1,0 +1,4 @@
+pub mod Octets
+pub mod Ran
+pub mod Status
+pub mod Told

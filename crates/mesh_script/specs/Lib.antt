@@ -1,0 +1,4 @@
+pub mod Digits
+pub mod Raw
+pub mod Script
+pub mod Words

@@ -1,0 +1,15 @@
+-- The kind of an event.
+use Rattle.mesh_types.specs.declared.events.Event.{Event}
+use Rattle.mesh_types.specs.declared.events.Event.TheVariants as E
+use Rattle.mesh_types.specs.declared.events.Kind.{Kind}
+use Rattle.mesh_types.specs.declared.events.Kind.TheVariants as K
+
+-- the kind of an event, as the report shows it
+abbrev pub kind_of : Event → Kind
+kind_of (E.Net octets) = K.Net
+kind_of (E.Bcn octets) = K.Bcn
+kind_of (E.Send element dst ttl key payload) = K.Send
+kind_of (E.Raw dst ttl tpdu) = K.Raw
+kind_of (E.Tick ticks) = K.Tick
+kind_of (E.Begin pair dst src ttl net akf aid upper) = K.Begin
+kind_of (E.Kept lpn fsn name pdu) = K.Kept

@@ -1,0 +1,2 @@
+pub mod KeyName
+pub mod Kind

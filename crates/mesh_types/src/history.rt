@@ -1,0 +1,39 @@
+//! The history of a life.
+#![tactic(auto)]
+
+use crate::answers::Answer;
+use crate::events::Event;
+use crate::jobs::Jobs;
+use crate::lines::Outcome;
+use std::mem::size_of;
+
+// A life keeps up to 8,192 entries, which thus stay below 200,000,000 octets.
+const _: () = prove!(size_of::<Entry>() <= 24_000);
+
+/// An event that was handled under the node's lock.
+#[derive(Debug, Drop, PartialEq, Eq)]
+pub struct Entry {
+    /// The bearer, 0 to 7.
+    pub bearer: u8,
+    /// The number of this entry among those of its bearer in this life, from 1 on.
+    pub number: u32,
+    /// The event.
+    pub event: Event,
+    /// The number of refills that were stored since the entry before.
+    pub fills: u32,
+    /// The answer.
+    pub answer: Answer,
+    /// The jobs.
+    pub jobs: Jobs,
+}
+
+/// A job that was done.
+#[derive(Debug, Drop, PartialEq, Eq)]
+pub struct Sent {
+    /// The place of its entry in the life's history, from 0 on.
+    pub entry: u32,
+    /// Its place among the jobs of that entry, from 0 on.
+    pub job: u8,
+    /// What became of it.
+    pub outcome: Outcome,
+}

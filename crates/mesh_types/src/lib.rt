@@ -1,0 +1,19 @@
+//! The plain types that a run of a node is told in, below all crates that work with them, so that the definitions of a run
+//! can name them.
+//!
+//! - `events`: what happens to a node
+//! - `answers`: what it answers to an event
+//! - `jobs`: what it is to send for an event
+//! - `lines`: what became of a job
+//! - `history`: the entries of a life and the lines of its bearers
+//! - `records`: the records of its store
+//! - `report`: the lines of the report
+#![tactic(auto)]
+
+pub mod answers;
+pub mod events;
+pub mod history;
+pub mod jobs;
+pub mod lines;
+pub mod records;
+pub mod report;

@@ -1,0 +1,5 @@
+pub mod Examples
+pub mod Good
+pub mod Pairs
+pub mod Safety
+pub mod World

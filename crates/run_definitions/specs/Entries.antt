@@ -1,0 +1,48 @@
+-- The replay list as the records say it: an entry for each source that has one.
+use Rattle.std.specs.Prelude.{ℕ, ◌==◌, ◌&&◌, not, nat_lt, Bool, if◌then◌else◌, List, [], ◌∷◌, length, Option, Some, None, is_some, fold, filter}
+use Rattle.std.specs.List.{list_any}
+use Rattle.mesh_base.specs.declared.pair.Pair.{Pair}
+use Rattle.mesh_types.specs.declared.records.StoreRecord.{StoreRecord}
+use Rattle.mesh_types.specs.declared.records.StoreRecord.TheVariants as R
+use Rattle.run_definitions.specs.Pairs.{newer_of, is_expired}
+use Rattle.run_definitions.specs.Config.{config_of}
+
+-- with one pair more
+abbrev pub greatest_with : Option Pair → Pair → Option Pair
+greatest_with None p = Some p
+greatest_with (Some q) p = Some (newer_of q p)
+
+-- with one record more, of which the Replay records of this source count
+abbrev pub kept_after : ℕ → Option Pair → StoreRecord → Option Pair
+kept_after src kept (R.Replay name) = if name.src.0 == src then greatest_with kept name.pair else kept
+kept_after src kept _ = kept
+
+-- the greatest pair of the Replay records of a source
+abbrev pub kept_of : List StoreRecord → ℕ → Option Pair
+kept_of records src = fold (kept_after src) None records
+
+-- a pair, if it isn't expired
+abbrev pub unexpired : ℕ → Option Pair → Option Pair
+unexpired current None = None
+unexpired current (Some p) = if is_expired current p then None else Some p
+
+-- The entry of a source: the greatest pair of its Replay records, or none where there is none or it is expired under the IV Index
+-- that the whole list says.
+abbrev pub entry_of : List StoreRecord → ℕ → Option Pair
+entry_of records src = unexpired (config_of records).iv.current (kept_of records src)
+
+-- the sources of the Replay records, each once
+abbrev pub sources_after : List ℕ → StoreRecord → List ℕ
+sources_after srcs (R.Replay name) = if list_any (λ s. s == name.src.0) srcs then srcs else name.src.0 ∷ srcs
+sources_after srcs _ = srcs
+
+abbrev pub sources_of : List StoreRecord → List ℕ
+sources_of records = fold sources_after [] records
+
+-- how many other sources have an entry
+abbrev pub others_held : List StoreRecord → ℕ → ℕ
+others_held records src = length (filter (λ s. not (s == src) && is_some (entry_of records s)) (sources_of records))
+
+-- A source without an entry has room where fewer than 64 others have one.
+abbrev pub has_room : List StoreRecord → ℕ → Bool
+has_room records src = nat_lt (others_held records src) 64

@@ -1,0 +1,163 @@
+-- When a record is one of a run: the relation of a life to its plan, and of a run to its script.
+use Rattle.std.specs.Prelude.{◌≡◌, ◌≢◌, ℕ, ◌+◌, ◌*◌, ◌^◌, ◌<◌, ◌≤◌, ◌==◌, Bool, true, false, IsTrue, List, [], ◌∷◌, ◌++◌, length, map, filter, take, All, AllPairs, Option, Some, ⊤}
+use Rattle.std.specs.List.{filter_map, flat_map, range_with_len, slice_get}
+use Rattle.mesh_base.specs.IvState.{transmit_of}
+use Rattle.mesh_base.specs.declared.address.Address.{Address}
+use Rattle.mesh_base.specs.declared.iv_state.IvState.{IvState}
+use Rattle.mesh_base.specs.declared.pair.Pair.{Pair}
+use Rattle.mesh_types.specs.declared.events.Event.{Event}
+use Rattle.mesh_types.specs.declared.history.Entry.{Entry}
+use Rattle.mesh_types.specs.declared.lines.Outcome.{Outcome}
+use Rattle.mesh_types.specs.declared.lines.Outcome.TheVariants as O
+use Rattle.mesh_types.specs.declared.records.StoreRecord.{StoreRecord}
+use Rattle.mesh_types.specs.declared.records.StoreRecord.TheVariants as R
+use Rattle.mesh_types.specs.declared.report.End.{End}
+use Rattle.mesh_types.specs.declared.report.End.TheVariants as F
+use Rattle.mesh_types.specs.declared.report.Opened.{Opened}
+use Rattle.mesh_types.specs.declared.report.Opened.TheVariants as W
+use Rattle.run_definitions.specs.Answers.{answer_of}
+use Rattle.run_definitions.specs.Config.{Config, config_of}
+use Rattle.run_definitions.specs.Entries.{entry_of}
+use Rattle.run_definitions.specs.Handling.{AreHandled, records_left}
+use Rattle.run_definitions.specs.History.{Insight, Past, Told}
+use Rattle.run_definitions.specs.Layers.{Layers}
+use Rattle.run_definitions.specs.Lines.{drawn_of}
+use Rattle.run_definitions.specs.Order.{Step, IsOrdered, is_cut, is_outside, phases_of}
+use Rattle.run_definitions.specs.Pairs.{word}
+use Rattle.run_definitions.specs.Ranges.{IsInRange}
+use Rattle.run_definitions.specs.Readings.{Sees}
+use Rattle.run_definitions.specs.Record.{Life, LifeOver, Run, Shown, first_over, list_at, shown, shown_by}
+use Rattle.run_definitions.specs.Stores.{filled, fill_of, stores}
+
+-- The opening of a life over records that say `c`: the flash may fail; else the life is `wasreset` where there was a Node Reset, and
+-- where there was none it opens with the IV state and the mark.
+pub data Opens (c : Config) : Opened → End → Type 0 where
+  opens : {end : End} → c.reset ≡ false → Opens c (W.On c.iv c.mark) end
+  was_reset : c.reset ≡ true → Opens c W.WasReset F.Ended
+  cut_at_start : {calls : ℕ} → Opens c W.CutAtStart (F.Cut calls)
+
+abbrev pub is_on : Opened → Bool
+is_on (W.On state mark) = true
+is_on W.WasReset = false
+is_on W.CutAtStart = false
+
+-- nothing is done
+pub record IsIdle (l : Life) : Type 0 where
+  pub entries : l.entries ≡ []
+  pub refills : l.refills ≡ 0
+  pub sends : (k : ℕ) → list_at l.sends k ≡ []
+
+-- the entries of a bearer are numbered from 1
+abbrev pub bearer_entries : Life → ℕ → List Entry
+bearer_entries l k = filter (λ e. e.bearer == k) l.entries
+
+abbrev pub IsNumbered : Life → ℕ → Type 0
+IsNumbered l k = map (λ e. e.number) (bearer_entries l k) ≡ range_with_len 1 (length (bearer_entries l k))
+
+-- The records that a life leaves.
+
+-- two lists say the same of the node and have the same replay list
+pub record IsAlike (a b : List StoreRecord) : Type 0 where
+  pub config : config_of a ≡ config_of b
+  pub entries : (src : ℕ) → entry_of a src ≡ entry_of b src
+
+-- the events from outside that a bearer has in a life, and the one after those that it handled
+abbrev pub plan_events : List Step → ℕ → List Event
+plan_events plan k = flat_map (λ events. list_at events k) (phases_of plan)
+
+abbrev pub next_event : List Step → Life → ℕ → Option Event
+next_event plan l k = slice_get (plan_events plan k) (length (filter (λ e. is_outside e.event) (bearer_entries l k)))
+
+-- what stands at the end of a life
+abbrev pub past_at_end : Layers → List StoreRecord → Life → List Told → Past
+past_at_end layers over l told = record { told = told; records = filled l.refills (records_left layers over [] told) }
+
+-- What of the records in hand may outlast a cut: whole records from the front of those of a bearer's next event, or those of one
+-- refill, all after the refills that were stored last.
+pub data Outlasts (layers : Layers) (plan : List Step) (l : Life) (past : Past) : List StoreRecord → Type 0 where
+  no_record : Outlasts layers plan l past []
+  of_event : (k n : ℕ) (event : Event) (insight : Insight)
+      → IsTrue (is_cut l.end)
+      → next_event plan l k ≡ Some event
+      → Sees layers past event insight
+      → Outlasts layers plan l past (take n (stores layers past event insight (answer_of layers past event insight)))
+  of_refill : IsTrue (is_cut l.end) → Outlasts layers plan l past (fill_of (config_of past.records) ∷ [])
+
+-- What the next life opens over is alike to all the records of this life.
+pub record Leaves (layers : Layers) (plan : List Step) (l : Life) (past : Past) (next : List StoreRecord) : Type 0 where
+  pub more : List StoreRecord
+  pub outlasts : Outlasts layers plan l past more
+  pub ranges : All IsInRange (past.records ++ more)
+  pub alike : IsAlike next (past.records ++ more)
+
+-- The pairs of a life.
+
+abbrev pub draws : List Shown → List Pair
+draws lines = filter_map (λ s. drawn_of s.job s.outcome) lines
+
+-- Each pair drawn has a SEQ below 2^24 and lies from the mark that the life opened with up to, and not at, the mark that it leaves; no
+-- two lines draw one pair; and the pairs of a bearer rise.
+pub record IsDrawn (over next : List StoreRecord) (l : Life) : Type 0 where
+  pub seq : All (λ p. p.seq < 2 ^ 24) (draws (shown l))
+  pub from : All (λ p. (config_of over).mark ≤ word p) (draws (shown l))
+  pub below : All (λ p. word p < (config_of next).mark) (draws (shown l))
+  pub once : AllPairs (λ p q. word p ≢ word q) (draws (shown l))
+  pub rise : (k : ℕ) → AllPairs (λ p q. word p < word q) (draws (shown_by l k))
+
+-- a line says that no number is left only where the mark that the life leaves has reached the end of that IV Index
+abbrev pub IsSpentRight : ℕ → Outcome → Type 0
+IsSpentRight mark (O.Spent iv) = iv * 2 ^ 25 + 2 ^ 24 ≤ mark
+IsSpentRight mark _ = ⊤
+
+-- The life is one of this plan: it opens over the one list of records and leaves the other.
+pub record LifeOf (layers : Layers) (plan : List Step) (over : List StoreRecord) (l : Life) (next : List StoreRecord) : Type 0 where
+  pub opening : Opens (config_of over) l.opened l.end
+  pub idle : is_on l.opened ≡ false → IsIdle l
+  -- what the octets of the entries were read as
+  pub told : List Told
+  pub entries : map (λ t. t.entry) told ≡ l.entries
+  pub handled : AreHandled layers over [] told
+  pub numbers : (k : ℕ) → IsNumbered l k
+  pub order : is_on l.opened ≡ true → IsOrdered plan l
+  pub leaves : Leaves layers plan l (past_at_end layers over l told) next
+  pub drawn : IsDrawn over next l
+  pub spent : All (λ s. IsSpentRight (config_of next).mark s.outcome) (shown l)
+
+-- Runs.
+
+-- what a node is provisioned with: FLAGS has IV Update in Progress in bit 1
+pub record Provisioning : Type 0 where
+  pub unicast : Address
+  pub elements : ℕ
+  pub iv : ℕ
+  pub in_progress : Bool
+  pub net_index : ℕ
+  pub net_key : List ℕ
+  pub dev_key : List ℕ
+
+-- the IV state at provisioning: IV Index Recovery is allowed at once, and an IV Update in progress takes its time
+abbrev pub first_state : Provisioning → IvState
+first_state p = record { current = p.iv; progress = p.in_progress; hours = 0; since = 192 }
+
+-- the records of provisioning
+abbrev pub provisioned : Provisioning → List StoreRecord
+provisioned p =
+    R.Identity p.unicast p.elements p.dev_key
+    ∷ R.Numbers p.iv p.in_progress (transmit_of (first_state p) * 2 ^ 25) 0 192
+    ∷ R.NetKey 1 p.net_index p.net_key
+    ∷ []
+
+-- a script: what the node is provisioned with, and the plan of each life
+pub record Script : Type 0 where
+  pub node : Provisioning
+  pub lives : List (List Step)
+
+-- each life is one of its plan, and leaves what the life after it opens over; the last one leaves the last list
+abbrev pub LivesOf : Layers → List (List Step) → List LifeOver → List StoreRecord → Type 0
+LivesOf layers [] [] last = ⊤
+LivesOf layers (plan ∷ plans) (x ∷ xs) last = LifeOf layers plan x.over x.life (first_over xs last) × LivesOf layers plans xs last
+LivesOf layers _ _ last = ⊥
+
+pub record RunOf (layers : Layers) (s : Script) (r : Run) : Type 0 where
+  pub first : first_over r.lives r.last ≡ provisioned s.node
+  pub lives : LivesOf layers s.lives r.lives r.last

@@ -1,0 +1,90 @@
+-- The records that an event stores, and those that a refill stores.
+use Rattle.std.specs.Prelude.{ℕ, ◌+◌, ◌-◌, ◌*◌, ◌/◌, ◌%◌, ◌^◌, ◌==◌, nat_lt, zero, suc, if◌then◌else◌, List, [], ◌∷◌, ◌++◌, Option, Some, None, replicate}
+use Rattle.std.specs.Option.{option_to_list}
+use Rattle.layer_definitions.specs.IvIndex.{iv_hours}
+use Rattle.mesh_base.specs.IvState.{transmit_of}
+use Rattle.mesh_base.specs.declared.address.Address.{Address}
+use Rattle.mesh_base.specs.declared.iv_state.IvState.{IvState}
+use Rattle.mesh_base.specs.declared.iv_state.IvStep.{IvStep}
+use Rattle.mesh_base.specs.declared.iv_state.IvStep.TheVariants as I
+use Rattle.mesh_base.specs.declared.pair.Name.{Name}
+use Rattle.mesh_types.specs.declared.answers.Answer.{Answer}
+use Rattle.mesh_types.specs.declared.answers.Answer.TheVariants as A
+use Rattle.mesh_types.specs.declared.answers.KeyStep.{KeyStep}
+use Rattle.mesh_types.specs.declared.answers.KeyStep.TheVariants as S
+use Rattle.mesh_types.specs.declared.events.Event.{Event}
+use Rattle.mesh_types.specs.declared.events.Event.TheVariants as E
+use Rattle.mesh_types.specs.declared.records.StoreRecord.{StoreRecord}
+use Rattle.mesh_types.specs.declared.records.StoreRecord.TheVariants as R
+use Rattle.run_definitions.specs.Answers.{config_before, is_busy, later}
+use Rattle.run_definitions.specs.Config.{Config, config_of}
+use Rattle.run_definitions.specs.History.{Insight, OfPdu, Past, Told, now_of}
+use Rattle.run_definitions.specs.Layers.{Layers, AccessMessage}
+
+-- A refill reserves 256 numbers more, under the IV state as it is.
+abbrev pub fill_of : Config → StoreRecord
+fill_of c = R.Numbers c.iv.current c.iv.progress (c.mark + 256) c.iv.hours c.iv.since
+
+-- the records with so many refills more
+abbrev pub filled : ℕ → List StoreRecord → List StoreRecord
+filled zero records = records
+filled (suc n) records = filled n (records ++ fill_of (config_of records) ∷ [])
+
+-- The record of a new IV state. Where the transmit IV Index rises, SEQ starts at 0 under it; else the mark stays.
+abbrev pub moved : Config → IvState → StoreRecord
+moved c s =
+    R.Numbers s.current s.progress (if nat_lt (transmit_of c.iv) (transmit_of s) then transmit_of s * 2 ^ 25 else c.mark) s.hours s.since
+
+abbrev pub step_records : Config → IvStep → List StoreRecord
+step_records c (I.Ignore rule) = []
+step_records c (I.Begin s) = moved c s ∷ []
+step_records c (I.Finish s) = moved c s ∷ []
+step_records c (I.Recover s) = moved c s ∷ []
+step_records c I.Wait = []
+
+-- the record of a beacon that changes the Key Refresh phase of its network key
+abbrev pub phase_records : ℕ → KeyStep → List StoreRecord
+phase_records index S.Same = []
+phase_records index S.Phase2 = R.NetKey 3 index (replicate 16 0) ∷ []
+phase_records index S.Phase0 = R.NetKey 4 index (replicate 16 0) ∷ []
+
+-- 360,000 ticks of 10 ms are an hour: how many hours of the life end when so many ticks more have passed
+abbrev pub hours_passed : Past → ℕ → ℕ
+hours_passed past ticks = later past ticks / 360000 - now_of past.told / 360000
+
+-- the IV state with these hours, and what it does of its own
+abbrev pub hours_step : Layers → Past → ℕ → IvState × IvStep
+hours_step layers past ticks =
+    let c = config_before past in iv_hours c.iv (hours_passed past ticks) (c.mark % 2 ^ 25) (is_busy layers past)
+
+-- where hours passed, the record of them, and then that of a new IV state, if there is one
+abbrev pub tick_records : Layers → Past → ℕ → List StoreRecord
+tick_records layers past ticks =
+    if hours_passed past ticks == 0 then []
+    else R.Hour (hours_step layers past ticks).0.hours (hours_step layers past ticks).0.since
+    ∷ step_records (config_before past) (hours_step layers past ticks).1
+
+-- the access message that a PDU completed, as it opened
+abbrev pub message_of : Insight → Name → Address → Option AccessMessage
+message_of (OfPdu (Some r) lower (Some o)) name dst =
+    Some (record { name = name; dst = dst; net = r.by.index; ttl = r.fields.ttl; key = o.key; payload = o.payload })
+message_of _ name dst = None
+
+-- the one record that an accepted message asks for, if any
+abbrev pub asked : Layers → Past → Option AccessMessage → List StoreRecord
+asked layers past None = []
+asked layers past (Some m) = option_to_list (layers.change past m)
+
+-- What an event stores, by its answer. An accepted message is recorded before the change that it asks for; the phase of a network key
+-- before the IV state of the same beacon.
+unfoldable pub stores : Layers → Past → Event → Insight → Answer → List StoreRecord
+stores layers past (E.Net octets) insight (A.Delivered name dst key payload) =
+    R.Replay name ∷ asked layers past (message_of insight name dst)
+stores layers past (E.Net octets) insight (A.Control name dst opcode params) = R.Replay name ∷ []
+stores layers past (E.Bcn octets) insight (A.Beacon index key iv) = phase_records index key ++ step_records (config_before past) iv
+stores layers past (E.Tick ticks) insight (A.Ticked now) = tick_records layers past ticks
+stores layers past _ insight _ = []
+
+-- the records after an entry
+abbrev pub records_after : Layers → Past → Told → List StoreRecord
+records_after layers past t = past.records ++ stores layers past t.entry.event t.insight t.entry.answer

@@ -1,0 +1,12 @@
+pub mod Lists
+pub mod Pairs
+pub mod Rising
+pub mod Handled
+pub mod Accepting
+pub mod Names
+pub mod Lives
+pub mod Sending
+pub mod Walking
+pub mod LifeLines
+pub mod Nonces
+pub mod Reuse

@@ -1,0 +1,194 @@
+-- No name is accepted twice.
+use Rattle.std.proofs.Common.{◌≡◌, ◌≢◌, ℕ, zero, suc, Bool, true, false, cond, List, [], ◌∷◌, ◌++◌, refl, ap, sym, subst, ◌∙◌, append_assoc, append-nil, Option, Some, None}
+use Rattle.std.specs.List.{AllByRecursion, cons_option, filter_map}
+use Rattle.mesh_base.specs.declared.pair.Name.{Name}
+use Rattle.mesh_base.specs.declared.pair.Pair.{Pair}
+use Rattle.mesh_types.specs.declared.records.StoreRecord.{StoreRecord}
+use Rattle.mesh_types.specs.declared.records.StoreRecord.TheVariants as R
+use Rattle.mesh_types.specs.declared.answers.Answer.{Answer}
+use Rattle.mesh_types.specs.declared.answers.Answer.TheVariants as A
+use Rattle.mesh_types.specs.declared.events.Event.{Event}
+use Rattle.mesh_types.specs.declared.events.Event.TheVariants as E
+use Rattle.run_definitions.specs.Answers.{answer_of, replayed}
+use Rattle.run_definitions.specs.Config.{config_of}
+use Rattle.run_definitions.specs.Entries.{kept_of}
+use Rattle.run_definitions.specs.Handling.{AreHandled, Handles, past_of, records_left}
+use Rattle.run_definitions.specs.History.{Insight, OfPdu, Past, Told}
+use Rattle.run_definitions.specs.Layers.{Layers}
+use Rattle.run_definitions.specs.Pairs.{is_expired, is_newer}
+use Rattle.run_definitions.specs.Ranges.{IsInRange}
+use Rattle.run_definitions.specs.Readings.{Sees, sees_pdu, sees_beacon, sees_nothing}
+use Rattle.run_safety.specs.Safety.{AreSafe}
+use Rattle.run_definitions.specs.Stores.{asked, filled, fill_of, message_of, records_after, stores}
+use Rattle.run_definitions.specs.Uses.{accepted}
+use Rattle.run_safety.proofs.Accepting.{Fresh, beacon_silent, fresh, nothing_accepted, nothing_silent, some_is, unless_silent}
+use Rattle.run_safety.proofs.Handled.{RiseAll, marked, rise_all, rise_filled, stores_rise}
+use Rattle.run_safety.proofs.Lists.{Apart, apart_push, every_append, every_front, every_map}
+use Rattle.run_safety.proofs.Rising.{config_push, Blocked, by_expiry, by_kept, IsBlocked, Rise, same, blocked_by_replay, blocked_entry, blocked_rise, rise_after}
+
+-- Records grow at their end.
+
+pub filled_is : (n : ℕ) (records : List StoreRecord) → (rest : List StoreRecord) × (filled n records ≡ records ++ rest)
+filled_is zero records = ([], sym (append-nil records))
+filled_is (suc n) records =
+    let (rest, e) = filled_is n (records ++ fill_of (config_of records) ∷ []) in
+    (fill_of (config_of records) ∷ rest, e ∙ append_assoc records (fill_of (config_of records) ∷ []) rest)
+
+joined : (r fills t stored rest l : List StoreRecord) → l ≡ (t ++ stored) ++ rest → t ≡ r ++ fills → l ≡ r ++ (fills ++ (stored ++ rest))
+joined r fills t stored rest l e g = rw (e, g, append_assoc, append_assoc) refl
+
+pub left_is : (layers : Layers) (records : List StoreRecord) (before ts : List Told) → AreHandled layers records before ts
+    → (rest : List StoreRecord) × (records_left layers records before ts ≡ records ++ rest)
+left_is layers records before [] h = ([], sym (append-nil records))
+left_is layers records before (t ∷ ts) h =
+    let (fills, e) = filled_is t.entry.fills records in
+    let (rest, f) = left_is layers (records_after layers (past_of before t) t) (before ++ t ∷ []) ts h.2 in
+    let stored : List StoreRecord = stores layers (past_of before t) t.entry.event t.insight t.entry.answer in
+    (fills ++ (stored ++ rest), joined records fills t.records stored rest _ f (h.0 ∙ e))
+
+-- A blocked name is no fresh one.
+
+not_fresh : (n : Name) (c : ℕ) (entry : Option Pair) → Blocked n c entry → is_expired c n.pair ≡ false → replayed entry n.pair ≡ None → ⊥
+not_fresh n c entry (by_expiry e) h k = cc
+not_fresh n c (Some p) (by_kept e) h k = not_replayed n p (is_newer n.pair p) e k
+  where
+    not_replayed : (n : Name) (p : Pair) (b : Bool) → b ≡ false → cond b None (Some (A.Replay p)) ≡ None → ⊥
+    not_replayed n p true e k = cc
+    not_replayed n p false e k = cc
+
+pub blocked_not_fresh : (past : Past) (n : Name) → IsBlocked n past.records → Fresh past n → ⊥
+blocked_not_fresh past n b f = not_fresh n _ _ (blocked_entry n _ (kept_of past.records n.src.0) b) f.read f.newer
+
+-- The records of a list of entries rise, if all of them are in range.
+
+abbrev pub InRange : List StoreRecord → Type 0
+InRange records = AllByRecursion IsInRange records
+
+-- the records before the first of some entries, and those that it leaves, are in range if those that all of them leave are
+pub first_in_range : (layers : Layers) (records : List StoreRecord) (before : List Told) (t : Told) (ts : List Told)
+    → AreHandled layers records before (t ∷ ts) → InRange (records_left layers records before (t ∷ ts)) → InRange (records_after layers (past_of before t) t)
+first_in_range layers records before t ts h r =
+    let (rest, e) = left_is layers (records_after layers (past_of before t) t) (before ++ t ∷ []) ts h.2 in
+    every_front IsInRange (records_after layers (past_of before t) t) rest (subst InRange e r)
+
+pub before_in_range : (layers : Layers) (before : List Told) (t : Told) → InRange (records_after layers (past_of before t) t) → InRange t.records
+before_in_range layers before t r = every_front IsInRange t.records _ r
+
+pub entry_rise_all : (layers : Layers) → AreSafe layers → (before : List Told) (t : Told)
+    → Handles layers (past_of before t) t → InRange (records_after layers (past_of before t) t)
+    → RiseAll (config_of t.records) (stores layers (past_of before t) t.entry.event t.insight t.entry.answer)
+entry_rise_all layers safe before t h r =
+    stores_rise layers safe (past_of before t) t.entry.event t.insight t.entry.answer h.answer (marked t.records (before_in_range layers before t r))
+
+pub entry_rises : (layers : Layers) → AreSafe layers → (before : List Told) (t : Told)
+    → Handles layers (past_of before t) t → InRange (records_after layers (past_of before t) t) → Rise t.records (records_after layers (past_of before t) t)
+entry_rises layers safe before t h r = rise_all _ t.records (entry_rise_all layers safe before t h r)
+
+pub handled_rise : (layers : Layers) → AreSafe layers → (records : List StoreRecord) (before ts : List Told)
+    → AreHandled layers records before ts → InRange (records_left layers records before ts) → Rise records (records_left layers records before ts)
+handled_rise layers safe records before [] h r = same
+handled_rise layers safe records before (t ∷ ts) h r =
+    let here : InRange (records_after layers (past_of before t) t) = first_in_range layers records before t ts h r in
+    let fills : Rise records t.records = subst (λ l. Rise records l) (sym h.0) (rise_filled t.entry.fills records) in
+    rise_after (handled_rise layers safe (records_after layers (past_of before t) t) (before ++ t ∷ []) ts h.2 r)
+    (rise_after (entry_rises layers safe before t h.1 here) fills)
+
+-- The names accepted in a list of entries are none of the names before, which stay blocked, and they are apart.
+
+abbrev pub names : List Told → List Name
+names ts = filter_map (λ t. accepted t.entry.answer) ts
+
+abbrev pub Differ : List Name → Type 0
+Differ ns = Apart (λ m n. m ≢ n) ns
+
+abbrev pub AllBlocked : List Name → List StoreRecord → Type 0
+AllBlocked ns records = AllByRecursion (λ n. IsBlocked n records) ns
+
+pub blocked_all : {l m : List StoreRecord} (ns : List Name) → Rise l m → AllBlocked ns l → AllBlocked ns m
+blocked_all {l} {m} ns rise b = every_map (λ n. IsBlocked n l) (λ n. IsBlocked n m) (λ n h. blocked_rise n rise h) ns b
+
+-- with an accepted name more
+differ_push : (ns : List Name) (past : Past) (n : Name) → Differ ns → AllBlocked ns past.records → Fresh past n → Differ (ns ++ n ∷ [])
+differ_push ns past n d b f =
+    apart_push (λ m k. m ≢ k) ns n d
+    (every_map (λ m. IsBlocked m past.records) (λ m. m ≢ n) (λ m h e. blocked_not_fresh past n (subst (λ k. IsBlocked k past.records) e h) f) ns b)
+
+pub record Once (ns : List Name) (records : List StoreRecord) : Type 0 where
+  pub differ : Differ ns
+  pub blocked : AllBlocked ns records
+
+-- what an accepted message stores begins with its Replay record
+net_stores : (layers : Layers) (past : Past) (octets : List ℕ) (insight : Insight) (answer : Answer) (n : Name) → accepted answer ≡ Some n
+    → (rest : List StoreRecord) × (stores layers past (E.Net octets) insight answer ≡ R.Replay n ∷ rest)
+unfolding stores
+net_stores layers past octets insight (A.Delivered name dst key payload) n a =
+    let same : name ≡ n = some_is a in (asked layers past (message_of insight name dst), ap (λ m. R.Replay m ∷ asked layers past (message_of insight name dst)) same)
+net_stores layers past octets insight (A.Control name dst opcode params) n a =
+    let same : name ≡ n = some_is a in ([], ap (λ m. R.Replay m ∷ []) same)
+net_stores layers past octets insight _ n a = absurd cc
+
+accepted_stores : (layers : Layers) (past : Past) (event : Event) (insight : Insight) (answer : Answer) (n : Name)
+    → Sees layers past event insight → answer ≡ answer_of layers past event insight → accepted answer ≡ Some n
+    → (rest : List StoreRecord) × (stores layers past event insight answer ≡ R.Replay n ∷ rest)
+unfolding answer_of
+accepted_stores layers past _ _ answer n (sees_pdu {octets = octets} {reading = reading} {low = low} {opening = opening} reset r l o) e a =
+    net_stores layers past octets (OfPdu reading low opening) answer n a
+accepted_stores layers past _ _ answer n (sees_beacon {b = b} reset k) e a =
+    absurd (nothing_accepted _ n (unless_silent past _ (beacon_silent layers past b)) (ap accepted (sym e) ∙ a))
+accepted_stores layers past _ _ answer n (sees_nothing {event = event} h) e a =
+    absurd (nothing_accepted _ n (nothing_silent layers past event) (ap accepted (sym e) ∙ a))
+
+-- so the name is blocked by what is stored
+blocked_stored : (records stored : List StoreRecord) (n : Name) (rest : List StoreRecord) → stored ≡ R.Replay n ∷ rest → RiseAll (config_of records) stored
+    → IsBlocked n (records ++ stored)
+blocked_stored records stored n rest e r =
+    let rises : RiseAll (config_of records) (R.Replay n ∷ rest) = subst (RiseAll (config_of records)) e r in
+    let later : RiseAll (config_of (records ++ R.Replay n ∷ [])) rest = rw config_push rises.1 in
+    let b : IsBlocked n ((records ++ R.Replay n ∷ []) ++ rest) =
+    blocked_rise n (rise_all rest (records ++ R.Replay n ∷ []) later) (blocked_by_replay n records) in
+    subst (IsBlocked n) (append_assoc records (R.Replay n ∷ []) rest ∙ ap (λ l. records ++ l) (sym e)) b
+
+-- with an entry more
+once_named : (layers : Layers) (past : Past) (stored : List StoreRecord) (ns : List Name) (o : Option Name)
+    → RiseAll (config_of past.records) stored
+    → ((n : Name) → o ≡ Some n → Fresh past n)
+    → ((n : Name) → o ≡ Some n → (rest : List StoreRecord) × (stored ≡ R.Replay n ∷ rest))
+    → Once ns past.records → Once (ns ++ cons_option o []) (past.records ++ stored)
+once_named layers past stored ns None rise f g o =
+    rw append-nil (record { differ = o.differ; blocked = blocked_all ns (rise_all stored past.records rise) o.blocked })
+once_named layers past stored ns (Some n) rise f g o = record {
+  differ = differ_push ns past n o.differ o.blocked (f n refl);
+  blocked =
+      every_append _ ns (n ∷ []) (blocked_all ns (rise_all stored past.records rise) o.blocked)
+      (blocked_stored past.records stored n (g n refl).0 (g n refl).1 rise, tt);
+}
+
+once_entry : (layers : Layers) → AreSafe layers → (before : List Told) (t : Told) (ns : List Name)
+    → Handles layers (past_of before t) t → InRange (records_after layers (past_of before t) t)
+    → Once ns t.records → Once (ns ++ names (t ∷ [])) (records_after layers (past_of before t) t)
+once_entry layers safe before t ns h r o =
+    once_named layers (past_of before t) _ ns (accepted t.entry.answer) (entry_rise_all layers safe before t h r)
+    (λ n a. fresh layers (past_of before t) t.entry.event t.insight n h.sees (ap accepted (sym h.answer) ∙ a))
+    (λ n a. accepted_stores layers (past_of before t) t.entry.event t.insight t.entry.answer n h.sees h.answer a)
+    o
+
+-- over a list of entries
+pub once_handled : (layers : Layers) → AreSafe layers → (records : List StoreRecord) (before ts : List Told) (ns : List Name)
+    → AreHandled layers records before ts → InRange (records_left layers records before ts)
+    → Once ns records → Once (ns ++ names ts) (records_left layers records before ts)
+once_handled layers safe records before [] ns h r o = rw append-nil o
+once_handled layers safe records before (t ∷ ts) ns h r o =
+    let here : InRange (records_after layers (past_of before t) t) = first_in_range layers records before t ts h r in
+    let filled_once : Once ns t.records =
+    record { differ = o.differ; blocked = blocked_all ns (subst (λ l. Rise records l) (sym h.0) (rise_filled t.entry.fills records)) o.blocked } in
+    let one : Once (ns ++ names (t ∷ [])) (records_after layers (past_of before t) t) = once_entry layers safe before t ns h.1 here filled_once in
+    let all : Once ((ns ++ names (t ∷ [])) ++ names ts) (records_left layers records before (t ∷ ts)) =
+    once_handled layers safe (records_after layers (past_of before t) t) (before ++ t ∷ []) ts (ns ++ names (t ∷ [])) h.2 r one in
+    subst (λ k. Once k (records_left layers records before (t ∷ ts))) (more_names ns t ts) all
+  where
+    more_names : (ns : List Name) (t : Told) (ts : List Told) → (ns ++ names (t ∷ [])) ++ names ts ≡ ns ++ names (t ∷ ts)
+    more_names ns t ts = append_assoc ns (names (t ∷ [])) (names ts) ∙ ap (λ l. ns ++ l) (one_more (accepted t.entry.answer) (names ts))
+      where
+        one_more : (o : Option Name) (l : List Name) → cons_option o [] ++ l ≡ cons_option o l
+        one_more None l = refl
+        one_more (Some n) l = refl

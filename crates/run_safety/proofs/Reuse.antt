@@ -1,0 +1,139 @@
+-- No nonce of this node seals twice, over all lives.
+use Rattle.std.proofs.Common.{◌≡◌, ◌≢◌, ℕ, ◌+◌, ◌*◌, ◌^◌, ◌<◌, ◌≤◌, true, false, List, [], ◌∷◌, refl, ap, sym, subst, ◌∙◌, arith}
+use Rattle.std.specs.List.{AllByRecursion, flat_map}
+use Rattle.std.proofs.lemmas.Grind.{flat_map-append}
+use Rattle.std.proofs.lemmas.List.Elements.{recursion_from_All}
+use Rattle.mesh_base.specs.IvState.{transmit_of}
+use Rattle.mesh_base.specs.declared.iv_state.IvState.{IvState}
+use Rattle.mesh_base.specs.declared.pair.Pair.{Pair}
+use Rattle.mesh_types.specs.declared.records.StoreRecord.{StoreRecord}
+use Rattle.run_definitions.specs.Config.{Config, config_of}
+use Rattle.run_definitions.specs.Layers.{Layers}
+use Rattle.run_definitions.specs.Order.{Step}
+use Rattle.run_definitions.specs.Pairs.{word}
+use Rattle.run_definitions.specs.Record.{Life, LifeOver, first_over, shown}
+use Rattle.run_definitions.specs.RunOf.{LifeOf, LivesOf, draws}
+use Rattle.run_safety.specs.Safety.{AreSafe, DrawsApart, LivesKeep, ReusesNoNonce, all_draws}
+use Rattle.run_definitions.specs.Uses.{Use, life_seals, node_of, uses}
+use Rattle.run_safety.proofs.Handled.{Marked, marked}
+use Rattle.run_safety.proofs.LifeLines.{life_lines}
+use Rattle.run_safety.proofs.Lists.{Apart, Sub, apart_append, apart_from_pairs, apart_map, apart_sub, every_append, every_map, every_sub, no_part, pairs_from_apart, sub_append}
+use Rattle.run_safety.proofs.Lives.{end_in_range, life_later}
+use Rattle.run_safety.proofs.Nonces.{NoClash, Tagged, Wide, lines_tagged, no_clash, no_use, tagged_append}
+use Rattle.run_safety.proofs.Rising.{Later, later_after, later_same}
+use Rattle.run_safety.proofs.Walking.{Tag, doubled, network_tag, tags, upper_tag}
+
+abbrev life_draws : LifeOver → List Pair
+life_draws x = draws (shown x.life)
+
+-- The pairs of a life are within their widths.
+
+transmit_up_to : (s : IvState) → transmit_of s ≤ s.current
+unfolding transmit_of
+transmit_up_to s = omega arith
+
+iv_below : (iv seq mark transmit current : ℕ) → iv * 2 ^ 25 + seq < mark → mark ≤ transmit * 2 ^ 25 + 2 ^ 24 → transmit ≤ current → current < 2 ^ 32 → iv < 2 ^ 32
+iv_below iv seq mark transmit current a b c d = omega arith
+
+wide_below : (c : Config) → Marked c → (ps : List Pair) → AllByRecursion (λ (p : Pair). p.seq < 2 ^ 24) ps → AllByRecursion (λ (p : Pair). word p < c.mark) ps → AllByRecursion Wide ps
+wide_below c m [] h k = tt
+wide_below c m (p ∷ ps) h k =
+    (record { seq = h.0; iv = iv_below p.iv p.seq c.mark (transmit_of c.iv) c.iv.current k.0 m.mark (transmit_up_to c.iv) m.current }, wide_below c m ps h.1 k.1)
+
+module _ (layers : Layers) (safe : AreSafe layers) (plan : List Step) (over : List StoreRecord) (l : Life) (next : List StoreRecord) (h : LifeOf layers plan over l next) where
+  next_marked : Marked (config_of next)
+  next_marked = subst Marked (sym h.leaves.alike.config) (marked _ (end_in_range layers safe plan over l next h))
+
+  life_wide : AllByRecursion Wide (draws (shown l))
+  life_wide = wide_below (config_of next) next_marked (draws (shown l)) (recursion_from_All _ (draws (shown l)) h.drawn.seq) (recursion_from_All _ (draws (shown l)) h.drawn.below)
+
+-- The pairs of all lives: none stands twice, since each life draws from the mark that it opens with up to the mark that it leaves.
+
+pub record Drawn (lives : List LifeOver) (last : List StoreRecord) : Type 0 where
+  pub wide : AllByRecursion Wide (all_draws lives)
+  pub from : AllByRecursion (λ (p : Pair). (config_of (first_over lives last)).mark ≤ word p) (all_draws lives)
+  pub once : Apart (λ p q. word p ≢ word q) (all_draws lives)
+
+apart_by_mark : (mark : ℕ) (ps qs : List Pair) → AllByRecursion (λ (p : Pair). word p < mark) ps → AllByRecursion (λ (q : Pair). mark ≤ word q) qs
+    → AllByRecursion (λ (p : Pair). AllByRecursion (λ (q : Pair). word p ≢ word q) qs) ps
+apart_by_mark mark [] qs h k = tt
+apart_by_mark mark (p ∷ ps) qs h k =
+    (every_map (λ (q : Pair). mark ≤ word q) (λ (q : Pair). word p ≢ word q) (λ q m e. let a : word p < mark = h.0 in omega arith) qs k, apart_by_mark mark ps qs h.1 k)
+
+pub lives_drawn : (layers : Layers) → AreSafe layers → (plans : List (List Step)) (lives : List LifeOver) (last : List StoreRecord) → LivesOf layers plans lives last → Drawn lives last
+lives_drawn layers safe [] [] last h = record { wide = tt; from = tt; once = tt }
+lives_drawn layers safe [] (x ∷ xs) last h = absurd h
+lives_drawn layers safe (plan ∷ plans) [] last h = absurd h
+lives_drawn layers safe (plan ∷ plans) (x ∷ xs) last h =
+    let next : List StoreRecord = first_over xs last in
+    let rest : Drawn xs last = lives_drawn layers safe plans xs last h.1 in
+    let later : Later (config_of x.over) (config_of next) = life_later layers safe plan x.over x.life next h.0 in
+    let below : AllByRecursion (λ (p : Pair). word p < (config_of next).mark) (life_draws x) = recursion_from_All _ (life_draws x) h.0.drawn.below in
+    record {
+      wide = every_append Wide (life_draws x) (all_draws xs) (life_wide layers safe plan x.over x.life next h.0) rest.wide;
+      from =
+          every_append (λ (p : Pair). (config_of x.over).mark ≤ word p) (life_draws x) (all_draws xs) (recursion_from_All _ (life_draws x) h.0.drawn.from)
+          (every_map (λ (p : Pair). (config_of next).mark ≤ word p) (λ (p : Pair). (config_of x.over).mark ≤ word p) (λ p m. let a : (config_of x.over).mark ≤ (config_of next).mark = later.mark in omega arith) (all_draws xs) rest.from);
+      once =
+          apart_append (λ p q. word p ≢ word q) (life_draws x) (all_draws xs) (apart_from_pairs (λ p q. word p ≢ word q) (life_draws x) h.0.drawn.once) rest.once
+          (apart_by_mark (config_of next).mark (life_draws x) (all_draws xs) below rest.from);
+    }
+
+-- What all lines seal with.
+
+abbrev all_tags : List LifeOver → List Tag
+all_tags lives = flat_map (λ x. tags (shown x.life)) lives
+
+record Sealed (own : Config) (lives : List LifeOver) : Type 0 where
+  tagged : Tagged own (flat_map (λ x. life_seals x.life) lives) (all_tags lives)
+  sub : Sub Tag (all_tags lives) (doubled (all_draws lives))
+
+lives_sealed : (layers : Layers) → AreSafe layers → (own : Config) (plans : List (List Step)) (lives : List LifeOver) (last : List StoreRecord)
+    → LivesOf layers plans lives last → Later own (config_of (first_over lives last)) → Sealed own lives
+lives_sealed layers safe own [] [] last h k = record { tagged = no_use; sub = no_part }
+lives_sealed layers safe own [] (x ∷ xs) last h k = absurd h
+lives_sealed layers safe own (plan ∷ plans) [] last h k = absurd h
+lives_sealed layers safe own (plan ∷ plans) (x ∷ xs) last h k =
+    let next : List StoreRecord = first_over xs last in
+    let later : Later own (config_of next) = later_after own (config_of x.over) (config_of next) k (life_later layers safe plan x.over x.life next h.0) in
+    let rest : Sealed own xs = lives_sealed layers safe own plans xs last h.1 later in
+    let lines = life_lines layers safe plan x.over x.life next h.0 own k in
+    record {
+      tagged = tagged_append own (lines_tagged own (shown x.life) lines.shown) rest.tagged;
+      sub = rw flat_map-append (sub_append lines.sub rest.sub);
+    }
+
+-- Each pair seals at most once for each layer.
+
+both_wide : (ps : List Pair) → AllByRecursion Wide ps → AllByRecursion (λ (t : Tag). Wide t.pair) (doubled ps)
+both_wide [] h = tt
+both_wide (p ∷ ps) h = (h.0, (h.0, both_wide ps h.1))
+
+other_pair : (p : Pair) (t : Tag) (qs : List Pair) → t.pair ≡ p → AllByRecursion (λ (q : Pair). word p ≢ word q) qs → AllByRecursion (λ s. t ≢ s) (doubled qs)
+other_pair p t [] is h = tt
+other_pair p t (q ∷ qs) is h =
+    ((λ e. h.0 (ap word (sym is) ∙ ap (λ (s : Tag). word s.pair) e)), ((λ e. h.0 (ap word (sym is) ∙ ap (λ (s : Tag). word s.pair) e)), other_pair p t qs is h.1))
+
+doubled_apart : (ps : List Pair) → Apart (λ p q. word p ≢ word q) ps → Apart (λ s t. s ≢ t) (doubled ps)
+doubled_apart [] h = tt
+doubled_apart (p ∷ ps) h =
+    (((λ e. let f : true ≡ false = ap (λ (s : Tag). s.upper) e in cc), other_pair p (upper_tag p) ps refl h.0), (other_pair p (network_tag p) ps refl h.0, doubled_apart ps h.1))
+
+abbrev IsConsistent : Use → Use → Type 0
+IsConsistent u v = u.key ≡ v.key → u.nonce ≡ v.nonce → u.plain ≡ v.plain
+
+pub no_reuse : ReusesNoNonce
+no_reuse layers safe s r h =
+    let drawn : Drawn r.lives r.last = lives_drawn layers safe s.lives r.lives r.last h.lives in
+    let sealed : Sealed (node_of r) r.lives = lives_sealed layers safe (node_of r) s.lives r.lives r.last h.lives (later_same (node_of r)) in
+    let once : Apart (λ s t. s ≢ t) (all_tags r.lives) = apart_sub (λ s t. s ≢ t) sealed.sub (doubled_apart (all_draws r.lives) drawn.once) in
+    let wide : AllByRecursion (λ (t : Tag). Wide t.pair) (all_tags r.lives) = every_sub (λ (t : Tag). Wide t.pair) sealed.sub (both_wide (all_draws r.lives) drawn.wide) in
+    pairs_from_apart IsConsistent (uses r) (apart_map NoClash IsConsistent (λ u v clash key nonce. absurd (clash nonce)) (uses r) (no_clash (node_of r) sealed.tagged once wide))
+
+pub draws_apart : DrawsApart
+draws_apart layers safe s r h = pairs_from_apart _ (all_draws r.lives) (lives_drawn layers safe s.lives r.lives r.last h.lives).once
+
+pub lives_keep : LivesKeep
+lives_keep layers safe plan over l next h =
+    let later : Later (config_of over) (config_of next) = life_later layers safe plan over l next h in
+    record { mark = later.mark; current = later.current; unicast = later.unicast; elements = later.elements }

@@ -1,0 +1,85 @@
+-- What safety needs of the layers above. A node whose layers have these properties reuses no nonce and delivers nothing twice.
+use Rattle.std.specs.Prelude.{◌≡◌, ◌≢◌, ℕ, ◌≤◌, false, List, Option, Some, All, AllPairs, Contains, ⊤, IfSome}
+use Rattle.std.specs.List.{flat_map}
+use Rattle.mesh_base.specs.declared.fields.NetFields.{NetFields}
+use Rattle.mesh_base.specs.declared.lower.Lower.{Lower}
+use Rattle.mesh_base.specs.declared.pair.Pair.{Pair}
+use Rattle.mesh_types.specs.declared.jobs.Job.{Job}
+use Rattle.mesh_types.specs.declared.jobs.Job.TheVariants as J
+use Rattle.mesh_types.specs.declared.records.StoreRecord.{StoreRecord}
+use Rattle.mesh_types.specs.declared.records.StoreRecord.TheVariants as R
+use Rattle.run_definitions.specs.Answers.{is_before_cache}
+use Rattle.run_definitions.specs.Config.{Config, config_of}
+use Rattle.run_definitions.specs.History.{OfPdu, Opening, Past, Reading, Told}
+use Rattle.run_definitions.specs.Layers.{AccessMessage, ControlMessage, Layers}
+use Rattle.run_definitions.specs.Pairs.{word}
+use Rattle.run_definitions.specs.Order.{Step}
+use Rattle.run_definitions.specs.Record.{Life, LifeOver, Run, shown}
+use Rattle.run_definitions.specs.RunOf.{LifeOf, RunOf, Script, draws}
+use Rattle.run_definitions.specs.Uses.{AtMostOnce, NoReuse, delivered, uses}
+
+-- A PDU of this SRC was heard in this life, and got past the answer `own`.
+pub record WasHeard (past : Past) (f : NetFields) : Type 0 where
+  pub told : Told
+  pub is_told : Contains past.told told
+  pub reading : Reading
+  pub low : Option Lower
+  pub opening : Option Opening
+  pub read : told.insight ≡ OfPdu (Some reading) low opening
+  pub passed : is_before_cache told.entry.answer ≡ false
+  pub src : f.src ≡ reading.fields.src
+
+-- A PDU that goes on was heard, at once or out of a friend's queue; and no segment goes as the first one of a message.
+abbrev pub IsFitJob : Past → Job → Type 0
+IsFitJob past (J.Relay material fields) = WasHeard past fields
+IsFitJob past (J.Segment material name ttl src dst seg_o seg_n tpdu first) = first ≡ false
+IsFitJob past _ = ⊤
+
+-- A change of keys, bindings, subscriptions or features, or a Node Reset: neither the identity nor a number nor the replay list is in it.
+abbrev pub IsChange : StoreRecord → Type 0
+IsChange (R.NetKey op index key) = ⊤
+IsChange (R.AppKey op net index key) = ⊤
+IsChange (R.Bind op element model app) = ⊤
+IsChange (R.Subscribe op element model address) = ⊤
+IsChange (R.Feature which value) = ⊤
+IsChange R.Reset = ⊤
+IsChange _ = ⊥
+
+pub record AreSafe (layers : Layers) : Type 0 where
+  pub acks_due : (past : Past) (c : Config) (ticks : ℕ) → All (IsFitJob past) (layers.acks_due past c ticks)
+  pub segments_due : (past : Past) (c : Config) (ticks : ℕ) → All (IsFitJob past) (layers.segments_due past c ticks)
+  pub control_jobs : (past : Past) (c : Config) (m : ControlMessage) → All (IsFitJob past) (layers.control_jobs past c m)
+  pub replies : (past : Past) (c : Config) (m : AccessMessage) → All (IsFitJob past) (layers.replies past c m)
+  pub change : (past : Past) (m : AccessMessage) → IfSome (layers.change past m) IsChange
+
+-- The pairs that all lines of a run draw are apart.
+
+abbrev pub all_draws : List LifeOver → List Pair
+all_draws lives = flat_map (λ x. draws (shown x.life)) lives
+
+-- The laws of a run.
+
+-- no nonce of the node's own addresses seals two different plaintexts under one key
+abbrev pub ReusesNoNonce : Type 0
+ReusesNoNonce = (layers : Layers) → AreSafe layers → (s : Script) (r : Run) → RunOf layers s r → NoReuse (uses r)
+
+-- no message is delivered twice
+abbrev pub DeliversOnce : Type 0
+DeliversOnce = (layers : Layers) → AreSafe layers → (s : Script) (r : Run) → RunOf layers s r → AtMostOnce (delivered r)
+
+-- no two lines of all lives draw one pair
+abbrev pub DrawsApart : Type 0
+DrawsApart =
+    (layers : Layers) → AreSafe layers → (s : Script) (r : Run) → RunOf layers s r → AllPairs (λ p q. word p ≢ word q) (all_draws r.lives)
+
+-- from a life to the next the mark never falls, nor does the known IV Index, and the node keeps its elements
+pub record Keeps (before after : Config) : Type 0 where
+  pub mark : before.mark ≤ after.mark
+  pub current : before.iv.current ≤ after.iv.current
+  pub unicast : after.unicast ≡ before.unicast
+  pub elements : after.elements ≡ before.elements
+
+abbrev pub LivesKeep : Type 0
+LivesKeep =
+    (layers : Layers) → AreSafe layers → (plan : List Step) (over : List StoreRecord) (l : Life) (next : List StoreRecord)
+    → LifeOf layers plan over l next → Keeps (config_of over) (config_of next)

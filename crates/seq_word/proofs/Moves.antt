@@ -1,0 +1,385 @@
+-- Each step keeps the running rule.
+use Rattle.std.proofs.Common.{◌≡◌, ◌≢◌, ◌⊎◌, ℕ, zero, suc, ◌+◌, ◌%◌, ◌<◌, ◌≤◌, Bool, true, false, true≢false, List, [], ◌∷◌, ◌++◌, set, refl, sym, ap, ◌∙◌, subst, ⊎_elim, inl, inr, arith}
+use Rattle.std.specs.Prelude.{◌==◌, ◌||◌, ◌&&◌, nat_le, nat_lt, ◌^◌, cond, max, slice_index, All, sum_by}
+use Rattle.std.proofs.lemmas.List.Sums.{sum_by-append, sum_by_push}
+use Rattle.std.proofs.lemmas.List.Elements.{All-append, All-push, All-nil}
+use mathlib.Core.Option.{some, none, some-ne-none, some-injective}
+use native.Mathlib.Decide.{dec_le, ℕ_discrete}
+use prog.Atomic.{either}
+use lib.ListN.{get_elem?}
+use Rattle.atomic_table.specs.Table.{Me, Act, keeps, step, stepped, Valid, carried_after, Allows, Splits, Joins, opening, Final, Seen}
+use Rattle.atomic_table.proofs.Lists.{at_set, at_snoc, set_again, exchanged}
+use Rattle.seq_word.specs.declared.rule.View.{View}
+use Rattle.seq_word.specs.Word.{IsWord}
+use Rattle.seq_word.specs.Rule.{times, once_below, gone, Fits, Stands, Ruled, nobody, first_keeper, split_off, both, seeing_mark, seeing_next, drawing, publishing, advancing, SeesMark, SeesNext, Draws, Publishes, Advances, DrawnOnce}
+use Rattle.seq_word.proofs.Sums.{sum_by_at, share_of_one, share_of_two, once_below-le, once_below_more, once_below-max, same-one}
+
+All-last : (P : ℕ → Type 0) (xs : List ℕ) (x : ℕ) → All P (xs ++ x ∷ []) → P x
+All-last P [] x h = h 0 0 (omega arith)
+All-last P (y ∷ ys) x h = All-last P ys x (λ i d l. h (suc i) d (omega arith))
+
+-- what fits stays right where the words rise
+fits_later : (o n m k n' m' k' by : ℕ) (v : View) → Fits o n m k by v → n ≤ n' → m ≤ m' → (by ≡ k → (by ≡ k') × (m ≡ m')) → Fits o n' m' k' by v
+fits_later o n m k n' m' k' by v h up up' keeper = record {
+  since = h.since;
+  drawn = λ i d l. omega (arith, h.drawn i d l);
+  raised = λ i d l. omega (arith, h.raised i d l);
+  noted = λ i d l. omega (arith, h.noted i d l);
+  marks = λ i d l. omega (arith, h.marks i d l);
+  nexts = λ i d l. omega (arith, h.nexts i d l);
+  advances = λ i d l. omega (arith, h.advances i d l);
+  keeps = λ is. let was = h.keeps is in let now = keeper was.0 in (now.0, was.1 ∙ now.1);
+}
+
+-- One view changes, and the words rise or stay
+moves : (o n m k n' m' k' : ℕ) (views : List View) (id : ℕ) (v w : View) → Stands o n m k views → get_elem? views id ≡ some v
+    → IsWord n' → IsWord m' → n ≤ n' → m ≤ m' → n' ≤ m' → ((j : ℕ) → j ≢ id → j ≡ k → (j ≡ k') × (m ≡ m'))
+    → ((x : ℕ) → gone x w + once_below x n ≡ gone x v + once_below x n')
+    → Fits o n' m' k' id w → Stands o n' m' k' (set views id w)
+moves o n m k n' m' k' views id v w h at nw mw up up' order keeper goes fits = record {
+  counter_word = nw;
+  mark_word = mw;
+  in_order = order;
+  opening = omega (arith, h.opening);
+  once = λ x. omega (arith, sum_by_at (gone x) views id v w at, h.once x, goes x);
+  each = λ j u e.
+      ⊎_elim
+      (λ (t : (j ≡ id) × (w ≡ u)). subst (λ (y : ℕ × View). Fits o n' m' k' y.0 y.1) (λ i. (sym t.0 i, t.1 i)) fits)
+      (λ (t : (j ≢ id) × (get_elem? views j ≡ some u)). fits_later o n m k n' m' k' j u (h.each j u t.1) up up' (keeper j t.0))
+      (at_set views id j w u e);
+}
+
+module _ {S : Type 0} (o slots id : ℕ) (me : Me S View) (f : ℕ → ℕ) (then : ℕ → Me S View → Type 0) where
+  -- a step on the counter
+  goes_counter : ((n m k : ℕ) (views : List View) → Stands o n m k views → get_elem? views id ≡ some me.0 → (w : View) × Stands o (f n) m k (set views id w) × then n (w, me.1))
+      → Allows (Ruled o) slots id me 0 f then
+  goes_counter go s h len at fits =
+      let g = go h.next h.mark h.keeper s.views h.stands at in
+      let P : List ℕ → Type 0 = λ ws. (w : View) × (a : Act S) × Valid s.homes me.1 a × Ruled o (stepped (record { words = ws; homes = s.homes; views = s.views }) 0 (f (slice_index ws 0)) id me.1 w a) × then (slice_index ws 0) (w, carried_after me.1 a) in
+      subst P (sym h.words) (g.0, keeps, tt, record { next = f h.next; mark = h.mark; keeper = h.keeper; words = refl; stands = g.1 }, g.2)
+
+  -- a step on the mark
+  goes_mark : ((n m k : ℕ) (views : List View) → Stands o n m k views → get_elem? views id ≡ some me.0 → (w : View) × Stands o n (f m) k (set views id w) × then m (w, me.1))
+      → Allows (Ruled o) slots id me 1 f then
+  goes_mark go s h len at fits =
+      let g = go h.next h.mark h.keeper s.views h.stands at in
+      let P : List ℕ → Type 0 = λ ws. (w : View) × (a : Act S) × Valid s.homes me.1 a × Ruled o (stepped (record { words = ws; homes = s.homes; views = s.views }) 1 (f (slice_index ws 1)) id me.1 w a) × then (slice_index ws 1) (w, carried_after me.1 a) in
+      subst P (sym h.words) (g.0, keeps, tt, record { next = h.next; mark = f h.mark; keeper = h.keeper; words = refl; stands = g.1 }, g.2)
+
+fits_seeing : (o n m k by : ℕ) (v : View) (seen : ℕ) → seen ≤ n → Fits o n m k by v → Fits o n m k by (seeing_next v seen)
+fits_seeing o n m k by v seen le fits = record {
+  since = fits.since;
+  drawn = fits.drawn;
+  raised = fits.raised;
+  noted = fits.noted;
+  marks = fits.marks;
+  nexts = All-push (λ x. x ≤ n) v.nexts seen fits.nexts le;
+  advances = fits.advances;
+  keeps = fits.keeps;
+}
+
+-- a look at either word
+looks : (o n m k : ℕ) (views : List View) (id : ℕ) (v w : View) → Stands o n m k views → get_elem? views id ≡ some v → ((x : ℕ) → gone x w ≡ gone x v) → Fits o n m k id w → Stands o n m k (set views id w)
+looks o n m k views id v w h at same fits =
+    moves o n m k n m k views id v w h at h.counter_word h.mark_word (omega arith) (omega arith) h.in_order (λ j apart e. (e, refl)) (λ x. omega (arith, same x)) fits
+
+pub sees_mark : {S : Type 0} (o slots id : ℕ) (me : Me S View) → Allows (Ruled o) slots id me 1 (λ n. n) (SeesMark (step slots 1 0 0 none) me)
+sees_mark {S} o slots id me =
+    goes_mark o slots id me (λ n. n) (SeesMark (step slots 1 0 0 none) me)
+    (λ n m k views h at.
+    let fits = h.each id me.0 at in
+    let w = seeing_mark me.0 m in (
+      w,
+      looks o n m k views id me.0 w h at (λ x. refl) (record {
+        since = fits.since;
+        drawn = fits.drawn;
+        raised = fits.raised;
+        noted = fits.noted;
+        marks = All-push (λ x. x ≤ m) me.0.marks m fits.marks (omega arith);
+        nexts = fits.nexts;
+        advances = fits.advances;
+        keeps = fits.keeps;
+      }),
+      refl,
+    ))
+
+pub sees_next : {S : Type 0} (o slots id : ℕ) (me : Me S View) → Allows (Ruled o) slots id me 0 (λ n. n) (SeesNext (step slots 0 0 0 none) me)
+sees_next {S} o slots id me =
+    goes_counter o slots id me (λ n. n) (SeesNext (step slots 0 0 0 none) me)
+    (λ n m k views h at.
+    let w = seeing_next me.0 n in
+    (w, looks o n m k views id me.0 w h at (λ x. refl) (fits_seeing o n m k id me.0 n (omega arith) (h.each id me.0 at)), (h.counter_word, refl)))
+
+-- the number n is drawn, and the counter raised to n + 1
+drawn_now : (o n m k : ℕ) (views : List View) (id : ℕ) (v : View) → Stands o n m k views → get_elem? views id ≡ some v → n < m → n % 2 ^ 25 < 2 ^ 24 → Stands o (n + 1) m k (set views id (drawing v n (n + 1)))
+drawn_now o n m k views id v h at below unspent =
+    let fits = h.each id v at in
+    let later = fits_later o n m k (n + 1) m k id v fits (omega arith) (omega arith) (λ e. (e, refl)) in
+    moves o n m k (n + 1) m k views id v (drawing v n (n + 1)) h at (omega (arith, h.counter_word), omega (arith, h.counter_word)) h.mark_word (omega arith) (omega arith) (omega arith) (λ j apart e. (e, refl))
+    (λ x. omega (arith, sum_by_push (λ (y : ℕ). cond (y == x) 1 0) v.drawn n, once_below_more x n))
+    (record {
+      since = All-push (λ x. o ≤ x) v.drawn n fits.since h.opening;
+      drawn = All-push (λ x. x < n + 1) v.drawn n later.drawn (omega arith);
+      raised = All-push (λ x. x ≤ n + 1) v.raised (n + 1) later.raised (omega arith);
+      noted = later.noted;
+      marks = later.marks;
+      nexts = later.nexts;
+      advances = later.advances;
+      keeps = later.keeps;
+    })
+
+-- a draw from a number that the seat saw below the mark
+pub draws : {S : Type 0} (o slots id : ℕ) (me : Me S View) (marks : List ℕ) (old mark : ℕ) → me.0.marks ≡ marks ++ mark ∷ [] → old < mark → old % 2 ^ 25 < 2 ^ 24
+    → Allows (Ruled o) slots id me 0 (λ n. either (n == old) (old + 1) n) (Draws (step slots 0 old (old + 1) none) me)
+draws {S} o slots id me marks old mark last below unspent =
+    goes_counter o slots id me (λ n. either (n == old) (old + 1) n) (Draws (step slots 0 old (old + 1) none) me)
+    (λ n m k views h at.
+    let v = me.0 in
+    let fits = h.each id v at in
+    let seen : mark ≤ m = All-last (λ x. x ≤ m) marks mark (subst (All (λ x. x ≤ m)) last fits.marks) in
+    let Goes : ℕ → Type 0 = λ n'. (w : View) × Stands o n' m k (set views id w) × Draws {S = S} (step slots 0 old (old + 1) none) me n (w, me.1) in
+    exchanged n old (old + 1) Goes
+    (λ e.
+    let P : ℕ → Type 0 = λ n'. Stands o (n' + 1) m k (set views id (drawing v n (n' + 1))) in
+    (drawing v n (old + 1), subst P e (drawn_now o n m k views id v h at (omega arith) (subst (λ y. y % 2 ^ 25 < 2 ^ 24) (sym e) unspent)), ((λ _. (refl, fits.drawn, fits.noted)), (λ other. absurd (other e)))))
+    (λ other.
+    (seeing_next v n, looks o n m k views id v (seeing_next v n) h at (λ x. refl) (fits_seeing o n m k id v n (omega arith) fits), ((λ e. absurd (other e)), (λ _. refl)))))
+
+-- the keeper publishes a higher mark
+pub publishes : {S : Type 0} (o slots id : ℕ) (me : Me S View) (mark : ℕ) → me.0.keeps ≡ true → me.0.mark ≤ mark → IsWord mark
+    → Allows (Ruled o) slots id me 1 (λ _. mark) (λ _. Publishes (step slots 1 mark 0 none) me mark)
+publishes {S} o slots id me mark is up word =
+    goes_mark o slots id me (λ _. mark) (λ _. Publishes (step slots 1 mark 0 none) me mark)
+    (λ n m k views h at.
+    let v = me.0 in
+    let fits = h.each id v at in
+    let keeper = fits.keeps is in
+    let rises : m ≤ mark = omega (arith, keeper.1) in (
+      publishing v mark,
+      moves o n m k n mark k views id v (publishing v mark) h at h.counter_word word (omega arith) rises (omega (arith, h.in_order)) (λ j apart e. absurd (apart (e ∙ sym keeper.0))) (λ x. refl) (record {
+        since = fits.since;
+        drawn = fits.drawn;
+        raised = fits.raised;
+        noted = fits.noted;
+        marks = λ i d l. omega (arith, fits.marks i d l);
+        nexts = fits.nexts;
+        advances = fits.advances;
+        keeps = λ _. (keeper.0, refl);
+      }),
+      refl,
+    ))
+
+-- the keeper moves the counter up, within its mark
+pub advances : {S : Type 0} (o slots id : ℕ) (me : Me S View) (to : ℕ) → me.0.keeps ≡ true → to ≤ me.0.mark → IsWord to
+    → Allows (Ruled o) slots id me 0 (λ n. max n to) (Advances (step slots 0 to 0 none) me)
+advances {S} o slots id me to is within word =
+    goes_counter o slots id me (λ n. max n to) (Advances (step slots 0 to 0 none) me)
+    (λ n m k views h at.
+    let v = me.0 in
+    let fits = h.each id v at in
+    let keeper = fits.keeps is in
+    let n' = max n to in
+    let up : n ≤ n' = omega arith in
+    let later = fits_later o n m k n' m k id v fits up (omega arith) (λ e. (e, refl)) in (
+      advancing v n to,
+      moves o n m k n' m k views id v (advancing v n to) h at (greater_word n to h.counter_word word) h.mark_word up (omega arith) (omega (arith, h.in_order, keeper.1)) (λ j apart e. (e, refl))
+          (λ x. omega (arith, sum_by_push (λ (a : ℕ × ℕ). cond (nat_le a.0 x && nat_lt x a.1) 1 0) v.advances (n, to), once_below-max x n to))
+          (record {
+            since = later.since;
+            drawn = later.drawn;
+            raised = later.raised;
+            noted = later.noted;
+            marks = later.marks;
+            nexts = later.nexts;
+            advances = All-push (λ a. a.1 ≤ n') v.advances (n, to) later.advances (omega arith);
+            keeps = later.keeps;
+          }),
+      refl,
+    ))
+  where
+    greater_word : (n to : ℕ) → IsWord n → IsWord to → IsWord (max n to)
+    greater_word n to a b = ⊎_elim (λ e. subst IsWord (sym e) a) (λ e. subst IsWord (sym e) b) (which n to (dec_le to n))
+      where
+        which : (n to : ℕ) → Dec (to ≤ n) → (max n to ≡ n) ⊎ (max n to ≡ to)
+        which n to (yes le) = inl (omega arith)
+        which n to (no gt) = inr (omega arith)
+
+off : false ≡ true → ⊥
+off e = true≢false (sym e)
+
+fits_nobody : (o n m k by : ℕ) → Fits o n m k by nobody
+fits_nobody o n m k by = record {
+  since = All-nil (λ x. o ≤ x);
+  drawn = All-nil (λ x. x < n);
+  raised = All-nil (λ x. x ≤ n);
+  noted = All-nil (λ x. x < n);
+  marks = All-nil (λ x. x ≤ m);
+  nexts = All-nil (λ x. x ≤ n);
+  advances = All-nil (λ a. a.1 ≤ n);
+  keeps = λ e. absurd (off e);
+}
+
+-- the words at the start, with the keeper's seat
+pub begins : {S : Type 0} (next mark : ℕ) → IsWord next → IsWord mark → next ≤ mark → Ruled next (opening {S = S} (next ∷ mark ∷ []) [] (first_keeper mark))
+begins {S} next mark nw mw order = record {
+  next = next;
+  mark = mark;
+  keeper = 0;
+  words = refl;
+  stands = record { counter_word = nw; mark_word = mw; in_order = order; opening = omega arith; once = λ x. omega arith; each = first_only };
+}
+  where
+    keeper_fits : Fits next next mark 0 0 (first_keeper mark)
+    keeper_fits = let none = fits_nobody next next mark 0 0 in record {
+      since = none.since;
+      drawn = none.drawn;
+      raised = none.raised;
+      noted = none.noted;
+      marks = none.marks;
+      nexts = none.nexts;
+      advances = none.advances;
+      keeps = λ _. (refl, refl);
+    }
+
+    first_only : (by : ℕ) (v : View) → get_elem? (first_keeper mark ∷ []) by ≡ some v → Fits next next mark 0 by v
+    first_only zero v e = subst (Fits next next mark 0 0) (some-injective _ _ e) keeper_fits
+    first_only (suc by) v e = absurd (some-ne-none v (sym e))
+
+-- a seat is split off
+pub splits : {S : Type 0} (o id : ℕ) (v : View) → Splits {S = S} (Ruled o) id v v (split_off v)
+splits {S} o id v s h at =
+    let st = h.stands in
+    let fits = st.each id v at in
+    let views' = s.views ++ split_off v ∷ [] in
+    let new_fits : (by : ℕ) → Fits o h.next h.mark h.keeper by (split_off v) = λ by.
+    let none = fits_nobody o h.next h.mark h.keeper by in
+    record {
+      since = none.since;
+      drawn = none.drawn;
+      raised = none.raised;
+      noted = All-append (λ x. x < h.next) v.noted v.drawn fits.noted fits.drawn;
+      marks = none.marks;
+      nexts = none.nexts;
+      advances = none.advances;
+      keeps = none.keeps;
+    } in
+    let stands : Stands o h.next h.mark h.keeper views' = record {
+      counter_word = st.counter_word;
+      mark_word = st.mark_word;
+      in_order = st.in_order;
+      opening = st.opening;
+      once = λ x. omega (arith, sum_by_push (gone x) s.views (split_off v), st.once x);
+      each = λ by u e. ⊎_elim (λ was. st.each by u was) (λ new. subst (Fits o h.next h.mark h.keeper by) new (new_fits by)) (at_snoc s.views (split_off v) u by e);
+    } in
+    record { next = h.next; mark = h.mark; keeper = h.keeper; words = h.words; stands = subst (λ vs. Stands o h.next h.mark h.keeper (vs ++ split_off v ∷ [])) (sym (set_again s.views id v at)) stands }
+
+-- a seat takes in another, as `both`
+glues : (o n m k k' : ℕ) (views : List View) (id other : ℕ) (v w : View) → Stands o n m k views → get_elem? views id ≡ some v → other ≢ id → get_elem? (set views id (both v w)) other ≡ some w
+    → ((both v w).keeps ≡ true → (id ≡ k') × ((both v w).mark ≡ m)) → ((j : ℕ) → j ≢ id → j ≢ other → j ≡ k → j ≡ k')
+    → Stands o n m k' (set (set views id (both v w)) other nobody)
+glues o n m k k' views id other v w h at apart there mine others =
+    let fits = h.each id v at in
+    let theirs = ⊎_elim (λ (t : (other ≡ id) × (both v w ≡ w)). absurd (apart t.0)) (λ (t : (other ≢ id) × (get_elem? views other ≡ some w)). h.each other w t.1) (at_set views id other (both v w) w there) in
+    let joined : Fits o n m k' id (both v w) = record {
+      since = All-append (λ x. o ≤ x) v.drawn w.drawn fits.since theirs.since;
+      drawn = All-append (λ x. x < n) v.drawn w.drawn fits.drawn theirs.drawn;
+      raised = All-append (λ x. x ≤ n) v.raised w.raised fits.raised theirs.raised;
+      noted = All-append (λ x. x < n) v.noted w.noted fits.noted theirs.noted;
+      marks = All-append (λ x. x ≤ m) v.marks w.marks fits.marks theirs.marks;
+      nexts = All-append (λ x. x ≤ n) v.nexts w.nexts fits.nexts theirs.nexts;
+      advances = All-append (λ a. a.1 ≤ n) v.advances w.advances fits.advances theirs.advances;
+      keeps = mine;
+    } in
+    let views' = set views id (both v w) in
+    record {
+      counter_word = h.counter_word;
+      mark_word = h.mark_word;
+      in_order = h.in_order;
+      opening = h.opening;
+      once = λ x. omega (arith, sum_by_at (gone x) views' other w nobody there, sum_by_at (gone x) views id v (both v w) at, h.once x, sum_by-append (λ (y : ℕ). cond (y == x) 1 0) v.drawn w.drawn, sum_by-append (λ (a : ℕ × ℕ). cond (nat_le a.0 x && nat_lt x a.1) 1 0) v.advances w.advances);
+      each = λ j u e.
+          ⊎_elim
+          (λ (t : (j ≡ other) × (nobody ≡ u)). subst (Fits o n m k' j) t.1 (fits_nobody o n m k' j))
+          (λ (t : (j ≢ other) × (get_elem? views' j ≡ some u)).
+          ⊎_elim
+          (λ (t' : (j ≡ id) × (both v w ≡ u)). subst (λ (y : ℕ × View). Fits o n m k' y.0 y.1) (λ i. (sym t'.0 i, t'.1 i)) joined)
+          (λ (t' : (j ≢ id) × (get_elem? views j ≡ some u)). fits_later o n m k n m k' j u (h.each j u t'.1) (omega arith) (omega arith) (λ e'. (others j t'.0 t.0 e', refl)))
+          (at_set views id j (both v w) u t.1))
+          (at_set views' other j nobody u e);
+    }
+
+-- a seat that keeps the mark stays the keeper, and one that takes the keeper's seat in becomes the keeper
+joins_as : (o n m k : ℕ) (views : List View) (id other : ℕ) (v w : View) (b : Bool) → w.keeps ≡ b → Stands o n m k views → get_elem? views id ≡ some v → other ≢ id → get_elem? (set views id (both v w)) other ≡ some w
+    → (k' : ℕ) × Stands o n m k' (set (set views id (both v w)) other nobody)
+joins_as o n m k views id other v w true is h at apart there =
+    let theirs = ⊎_elim (λ (t : (other ≡ id) × (both v w ≡ w)). absurd (apart t.0)) (λ (t : (other ≢ id) × (get_elem? views other ≡ some w)). h.each other w t.1) (at_set views id other (both v w) w there) in
+    let keeper = theirs.keeps is in (
+      id,
+      glues o n m k id views id other v w h at apart there
+          (λ _. (refl, subst (λ b. cond b w.mark v.mark ≡ m) (sym is) keeper.1))
+          (λ j _ not_other e. absurd (not_other (e ∙ sym keeper.0))),
+    )
+joins_as o n m k views id other v w false is h at apart there =
+    let fits = h.each id v at in (
+      k,
+      glues o n m k k views id other v w h at apart there
+          (λ e. let kept = fits.keeps (subst (λ b. (v.keeps || b) ≡ true → v.keeps ≡ true) (sym is) (or_false v.keeps) e) in (kept.0, subst (λ b. cond b w.mark v.mark ≡ m) (sym is) kept.1))
+          (λ j _ _ e. e),
+    )
+  where
+    or_false : (b : Bool) → (b || false) ≡ true → b ≡ true
+    or_false true e = refl
+    or_false false e = e
+
+pub joins : {S : Type 0} (o id : ℕ) (v : View) (other : ℕ) (w : View) → Joins {S = S} (Ruled o) id v other w (both v w) nobody
+joins {S} o id v other w s h at apart there =
+    let g = joins_as o h.next h.mark h.keeper s.views id other v w w.keeps refl h.stands at apart there in
+    record { next = h.next; mark = h.mark; keeper = g.0; words = h.words; stands = g.1 }
+
+-- What a seat knows of the last words
+pub record Ends (o next mark : ℕ) (v : View) : Type 0 where
+  pub counter_word : IsWord next
+  pub mark_word : IsWord mark
+  pub in_order : next ≤ mark
+  pub opening : o ≤ next
+  pub fits : (keeper : ℕ) × (by : ℕ) × Fits o next mark keeper by v
+  pub once : (x : ℕ) → times x v.drawn ≤ 1
+
+pub ends : {S : Type 0} (o id : ℕ) (v : View) (ws : List ℕ) (xs : List S) (next mark : ℕ) → Final (Seen (Ruled o) id v) ws xs → get_elem? ws 0 ≡ some next → get_elem? ws 1 ≡ some mark → Ends o next mark v
+ends {S} o id v ws xs next mark final at_0 at_1 =
+    let s = final.0 in
+    let h = final.1.0 in
+    let at = final.1.1 in
+    let st = h.stands in
+    let is : h.next ∷ h.mark ∷ [] ≡ ws = sym h.words ∙ final.2 in
+    let counter : h.next ≡ next = some-injective _ _ (subst (λ l. get_elem? l 0 ≡ some next) (sym is) at_0) in
+    let bound : h.mark ≡ mark = some-injective _ _ (subst (λ l. get_elem? l 1 ≡ some mark) (sym is) at_1) in
+    let found : Ends o h.next h.mark v = record {
+      counter_word = st.counter_word;
+      mark_word = st.mark_word;
+      in_order = st.in_order;
+      opening = st.opening;
+      fits = (h.keeper, id, st.each id v at);
+      once = λ x. omega (arith, share_of_one (gone x) s.views id v at, st.once x, once_below-le x h.next);
+    } in
+    subst (λ (y : ℕ × ℕ). Ends o y.0 y.1 v) (λ i. (counter i, bound i)) found
+
+-- no two places of the drawn lists hold one word
+pub at_one_place : (o n m k : ℕ) (views : List View) → Stands o n m k views → DrawnOnce views
+at_one_place o n m k views h x by by' place place' v w at at' here there = seats (ℕ_discrete by by')
+  where
+    drawn_here : (u : View) (i : ℕ) → get_elem? u.drawn i ≡ some x → 1 ≤ times x u.drawn
+    drawn_here u i e = omega (arith, share_of_one (λ (y : ℕ). cond (y == x) 1 0) u.drawn i x e, same-one x)
+
+    most : sum_by (gone x) views ≤ 1
+    most = omega (arith, h.once x, once_below-le x n)
+
+    places : (u : View) (i : ℕ) → get_elem? views i ≡ some u → get_elem? u.drawn place ≡ some x → get_elem? u.drawn place' ≡ some x → Dec (place ≡ place') → place ≡ place'
+    places u i at_u e e' (yes same) = same
+    places u i at_u e e' (no apart) = absurd (omega (arith, share_of_two (λ (y : ℕ). cond (y == x) 1 0) u.drawn place place' x x apart e e', same-one x, most, share_of_one (gone x) views i u at_u))
+
+    seats : Dec (by ≡ by') → (by ≡ by') × (place ≡ place')
+    seats (yes same) =
+        let one : v ≡ w = some-injective _ _ (sym at ∙ ap (get_elem? views) same ∙ at') in
+        (same, places w by' at' (subst (λ (u : View). get_elem? u.drawn place ≡ some x) one here) there (ℕ_discrete place place'))
+    seats (no apart) = absurd (omega (arith, share_of_two (gone x) views by by' v w apart at at', most, drawn_here v place here, drawn_here w place' there))

@@ -1,0 +1,11 @@
+use Rattle.std.proofs.Common.{arith}
+use Rattle.seq_word.proofs.Moves.{begins, splits}
+use Rattle.seq_word.proofs.numbers.Numbers.start.Goals as goal
+
+pub of_words-requires : goal.of_words-requires
+of_words-requires c = begins c.args.next c.args.mark c.requires.next_word c.requires.mark_word c.requires.order
+
+pub split_seat-requires : goal.split_seat-requires
+split_seat-requires c =
+    let made = c.in_ok-table.ensures in
+    (made.2, omega (arith, made.0), splits _ _ _)

@@ -1,0 +1,79 @@
+-- What contracts see of the two words and of the seats at them, and what one try to draw tells.
+use Rattle.std.specs.Prelude.{◌≡◌, ◌≢◌, ℕ, ◌+◌, ◌*◌, ◌^◌, ◌<◌, ◌≤◌, List, [], ◌∷◌, ◌++◌, All}
+use Rattle.atomic_table.specs.Seated.{TableId}
+use Rattle.mesh_base.specs.declared.pair.Pair.{Pair}
+use Rattle.seq_word.specs.declared.miss.Miss.{Miss}
+use Rattle.seq_word.specs.declared.miss.Miss.TheVariants as missed
+use Rattle.seq_word.specs.declared.miss.DrawStop.{DrawStop}
+use Rattle.seq_word.specs.declared.miss.DrawStop.TheVariants as stopped
+use Rattle.seq_word.specs.Word.{word_of, seq_of}
+
+-- The two words: which they are, and where the counter was opened
+pub record NumbersView : Type 0 where
+  pub which : TableId
+  pub opened : ℕ
+
+-- A seat that draws: at which words, the words that it drew, what each draw left in the counter, the words that were drawn before it was split off, and its looks at the mark and at the counter
+pub record DrawerView : Type 0 where
+  pub which : TableId
+  pub drawn : List ℕ
+  pub raised : List ℕ
+  pub noted : List ℕ
+  pub marks : List ℕ
+  pub nexts : List ℕ
+
+-- a seat that has drawn and seen nothing, where these words had been drawn before it was split off
+abbrev pub fresh : TableId → List ℕ → DrawerView
+fresh which noted = record { which = which; drawn = []; raised = []; noted = noted; marks = []; nexts = [] }
+
+-- The keeper's seat: at which words, the mark, and of each advance the word that it found in the counter and the one that it moved the counter to
+pub record KeeperView : Type 0 where
+  pub which : TableId
+  pub mark : ℕ
+  pub advances : List (ℕ × ℕ)
+
+-- The two words when no seat is left, and what the seats told
+pub record ClosedView : Type 0 where
+  pub next : ℕ
+  pub mark : ℕ
+  pub drawn : List ℕ
+  pub marks : List ℕ
+  pub nexts : List ℕ
+
+-- the word is above all that was drawn at the seat, and all that had been drawn before it was split off
+abbrev pub IsAbove : DrawerView → ℕ → Type 0
+IsAbove v word = All (λ x. x < word) v.drawn × All (λ x. x < word) v.noted
+
+-- A try that gave this pair: its look found the pair's word in the counter, below the mark that the look before had found
+pub record Finds (p : Pair) (v w : DrawerView) : Type 0 where
+  pub mark : ℕ
+  pub marks : w.marks ≡ v.marks ++ mark ∷ []
+  pub nexts : w.nexts ≡ v.nexts ++ word_of p ∷ []
+  pub below : word_of p < mark
+
+-- The cause of a miss, by the looks of the try: first at the mark, then at the counter, and where the exchange was lost what it found
+abbrev pub HasCause : Miss → DrawerView → DrawerView → Type 0
+HasCause (missed.Spent iv) v w = (mark : ℕ) × (w.marks ≡ v.marks ++ mark ∷ []) × (w.nexts ≡ v.nexts ++ (iv * 2 ^ 25 + 2 ^ 24) ∷ [])
+HasCause (missed.Dry next mark) v w = (w.marks ≡ v.marks ++ mark ∷ []) × (w.nexts ≡ v.nexts ++ next ∷ []) × (mark ≤ next) × (seq_of next < 2 ^ 24)
+HasCause (missed.Lost expected found) v w =
+    (mark : ℕ) × (w.marks ≡ v.marks ++ mark ∷ []) × (w.nexts ≡ (v.nexts ++ expected ∷ []) ++ found ∷ []) × (found ≢ expected) × (expected < mark) × (seq_of expected < 2 ^ 24)
+
+-- the seat has drawn nothing more, and still draws at the same words
+pub record SameDrawn (v w : DrawerView) : Type 0 where
+  pub which : w.which ≡ v.which
+  pub drawn : w.drawn ≡ v.drawn
+  pub raised : w.raised ≡ v.raised
+  pub noted : w.noted ≡ v.noted
+
+-- between v and w these tries were lost, the latest first, and nothing else was done
+abbrev pub LostTries : List (ℕ × ℕ) → DrawerView → DrawerView → Type 0
+LostTries [] v w = w ≡ v
+LostTries (t ∷ tries) v w = (u : DrawerView) × LostTries tries v u × SameDrawn u w × HasCause (missed.Lost t.0 t.1) u w
+
+-- some tries were lost, and then this was done
+abbrev pub AfterLost : (DrawerView → DrawerView → Type 0) → DrawerView → DrawerView → Type 0
+AfterLost Done v w = (tries : List (ℕ × ℕ)) × (u : DrawerView) × LostTries tries v u × Done u w
+
+abbrev pub miss_of : DrawStop → Miss
+miss_of (stopped.Spent iv) = missed.Spent iv
+miss_of (stopped.Dry next mark) = missed.Dry next mark

@@ -1,0 +1,31 @@
+//! What follows from the rule of the two words, and of words and pairs.
+#![tactic(auto)]
+
+ghost use Rattle.std.specs.Prelude.{◌≡◌, ℕ, ◌<◌, ◌^◌};
+ghost use Rattle.atomic_table.specs.Table.{State};
+ghost use Rattle.mesh_base.specs.declared.pair.Pair.{Pair};
+ghost use Rattle.seq_word.specs.declared.rule.View.{View};
+ghost use Rattle.seq_word.specs.Word.{word_of, Precedes};
+ghost use Rattle.seq_word.specs.Rule.{Ruled, DrawnOnce, MarkIsKept};
+
+/// Whatever the words and the seats are between two atomic steps, no two places of the drawn lists, of one seat or of two, hold
+/// one word.
+pub fn drawn_once()
+    ensures { (opened : ℕ) (s : State ℕ View) → Ruled opened s → DrawnOnce s.views }
+{}
+
+/// Whatever the words and the seats are between two atomic steps, the second word is the mark in the view of the keeper's seat,
+/// and no other seat is the keeper's.
+pub fn mark_is_kept()
+    ensures { (opened : ℕ) (s : State ℕ View) → Ruled opened s → MarkIsKept s }
+{}
+
+/// Two pairs with one word are one pair.
+pub fn one_word()
+    ensures { (p q : Pair) → p.seq < 2 ^ 25 → q.seq < 2 ^ 25 → word_of p ≡ word_of q → p ≡ q }
+{}
+
+/// The order of words is that of pairs: by the IV Index first, and then by SEQ.
+pub fn word_order()
+    ensures { (p q : Pair) → p.seq < 2 ^ 25 → q.seq < 2 ^ 25 → Precedes p q → word_of p < word_of q }
+{}

@@ -1,0 +1,29 @@
+//! The two words that all bearers of a node share: a counter, from which each draws its sequence numbers without a lock, and a
+//! mark, below which the numbers lie that may be drawn.
+//!
+//! - `word`: an IV Index and a SEQ in one number
+//! - `rule`: what the words and the seats at them keep between any two atomic steps
+//! - `miss`: why a draw gave no number
+//! - `drawer`, `keeper`, `closed`: a seat that draws, the one seat that moves the mark, and what the words held at the end
+//! - `numbers`: the two words, with all calls
+//! - `laws`: what follows from the rule
+//!
+//! Not promised: that a draw succeeds in the end, that bearers draw in turn, that two threads run.
+#![tactic(auto)]
+
+mod closed;
+mod drawer;
+mod keeper;
+pub mod laws;
+mod miss;
+mod numbers;
+mod rule;
+#[cfg(test)]
+mod tests;
+pub mod word;
+
+pub use closed::Closed;
+pub use drawer::Drawer;
+pub use keeper::Keeper;
+pub use miss::{DrawStop, Miss};
+pub use numbers::Numbers;

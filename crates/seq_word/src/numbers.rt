@@ -1,0 +1,233 @@
+//! The two words, with all calls.
+#![tactic(auto)]
+
+ghost use Rattle.std.specs.Prelude.{◌≡◌, ◌≢◌, ℕ, ◌+◌, ◌*◌, ◌^◌, ◌<◌, ◌≤◌, [], ◌∷◌, ◌++◌, All, AllPairs, IfOk, IfErr, OnErr};
+ghost use Rattle.seq_word.specs.Word.{word_of, seq_of, IsWord};
+ghost use Rattle.seq_word.specs.Rule.{times};
+ghost use Rattle.seq_word.specs.Seen.{fresh, IsAbove, Finds, HasCause, SameDrawn, AfterLost, miss_of};
+
+use crate::closed::Closed;
+use crate::drawer::Drawer;
+use crate::keeper::Keeper;
+use crate::miss::{DrawStop, Miss};
+use crate::rule::{
+    Advances, COUNTER, Draws, MARK, Opening, Publishes, Seats, SeesMark, SeesNext, Words,
+};
+use crate::word::{SPENT_SEQ, WORDS_PER_IV, pair_of};
+use atomic_table::Table;
+use mesh_base::pair::Pair;
+use std::alloc::{AllocError, Global};
+use std::marker::Model;
+use std::snapshot::Snapshot;
+use std::sync::Wait;
+
+/// The counter, whose word is the next to be drawn, and the mark, a word that no draw reaches. Threads share them by `&`, and
+/// each steps with a seat of its own. Words are those of `crate::word`.
+///
+/// Between any two atomic steps the counter is at most the mark, and the mark is the keeper's. Each word from the opening on and
+/// below the counter was drawn once, at one seat, or was passed over once, by an advance.
+#[derive(Drop)]
+pub struct Numbers {
+    table: Words,
+}
+
+impl Model for Numbers {
+    ghost use Rattle.std.specs.Prelude.{◌≡◌};
+    ghost use Rattle.seq_word.specs.Seen.{NumbersView};
+
+    ghost Value = { NumbersView };
+
+    ghost view = { λ n. record { which = n.table.shared.table_id; opened = n.table.shared.key.next } };
+
+    ghost invariant = { λ n. (n.table.shared.table_id.words ≡ 2) × (n.table.shared.table_id.slots ≡ 0) };
+}
+
+/// One look at both words.
+struct Look {
+    mark: u64,
+    next: u64,
+}
+
+impl Numbers {
+    /// Opens the counter at `next` under the mark `mark`, both words, with the keeper's seat and a first seat that draws. An error
+    /// says that memory ran out.
+    pub fn start(
+        alloc: Global,
+        next: u64,
+        mark: u64,
+    ) -> Result<(Numbers, Keeper, Drawer), AllocError>
+        requires next_word { IsWord next }
+        requires mark_word { IsWord mark }
+        requires order { next ≤ mark }
+
+        ensures opened { IfOk result (λ t. t.0.opened ≡ next) }
+        ensures keeper { IfOk result (λ t. t.1 ≡ record { which = t.0.which; mark = mark; advances = [] }) }
+        ensures drawer { IfOk result (λ t. t.2 ≡ fresh t.0.which []) }
+    {
+        let (table, mut seat) = Table::of_words(alloc, &[next, mark], &Opening { next, mark })?;
+        let drawer = Drawer {
+            seat: table.shared.split_seat::<Seats>(&mut seat),
+        };
+        Ok((Numbers { table }, Keeper { seat }, drawer))
+    }
+
+    /// Looks at the mark, and then at the counter.
+    fn look(&self, d: &mut Drawer) -> Look
+        requires made { d.old.which ≡ self.now.which }
+
+        ensures word { IsWord result.next }
+        ensures marks { d.new.marks ≡ d.old.marks ++ result.mark ∷ [] }
+        ensures nexts { d.new.nexts ≡ d.old.nexts ++ result.next ∷ [] }
+        ensures same { SameDrawn d.old d.new }
+    {
+        let mark = self.table.shared.load::<SeesMark>(&mut d.seat, MARK);
+        let next = self.table.shared.load::<SeesNext>(&mut d.seat, COUNTER);
+        Look { mark, next }
+    }
+
+    /// Draws the next number, if no other seat comes between: a load of the mark, a load of the counter, and a compare-exchange on
+    /// the counter. The miss tells the words that these found; where two causes hold, it is the first in the order of `Miss`.
+    /// It waits for no other thread.
+    pub fn try_draw(&self, d: &mut Drawer) -> Result<Pair, Miss>
+        requires made { d.old.which ≡ self.now.which }
+
+        ensures same { (d.new.which ≡ d.old.which) × (d.new.noted ≡ d.old.noted) }
+
+        ensures drawn { IfOk result (λ p. d.new.drawn ≡ d.old.drawn ++ word_of p ∷ []) }
+        ensures raised { IfOk result (λ p. d.new.raised ≡ d.old.raised ++ (word_of p + 1) ∷ []) }
+        ensures above { IfOk result (λ p. IsAbove d.old (word_of p)) }
+        ensures unspent { IfOk result (λ p. p.seq < 2 ^ 24) }
+        ensures found { IfOk result (λ p. Finds p d.old d.new) }
+
+        ensures err { OnErr result (SameDrawn d.old d.new) }
+        ensures cause { IfErr result (λ e. HasCause e d.old d.new) }
+    {
+        let Look { mark, next } = self.look(d);
+        let pair = pair_of(next);
+        if pair.seq == SPENT_SEQ {
+            return Err(Miss::Spent { iv: pair.iv });
+        }
+        if next >= mark {
+            return Err(Miss::Dry { next, mark });
+        }
+        let words = &self.table.shared;
+        let found = words.compare_exchange::<Draws>(&mut d.seat, COUNTER, next, next + 1);
+        if found != next {
+            return Err(Miss::Lost {
+                expected: next,
+                found,
+            });
+        }
+        Ok(pair)
+    }
+
+    /// Draws the next number. It tries again where another seat came between, and for no other cause.
+    pub fn draw(&self, rt: &impl Wait, d: &mut Drawer) -> Result<Pair, DrawStop>
+        requires made { d.old.which ≡ self.now.which }
+
+        ensures same { (d.new.which ≡ d.old.which) × (d.new.noted ≡ d.old.noted) }
+
+        ensures drawn { IfOk result (λ p. d.new.drawn ≡ d.old.drawn ++ word_of p ∷ []) }
+        ensures raised { IfOk result (λ p. d.new.raised ≡ d.old.raised ++ (word_of p + 1) ∷ []) }
+        ensures above { IfOk result (λ p. IsAbove d.old (word_of p)) }
+        ensures unspent { IfOk result (λ p. p.seq < 2 ^ 24) }
+        ensures found { IfOk result (λ p. AfterLost (Finds p) d.old d.new) }
+
+        ensures err { OnErr result (SameDrawn d.old d.new) }
+        ensures cause { IfErr result (λ e. AfterLost (HasCause (miss_of e)) d.old d.new) }
+    {
+        for _ in rt.forever() {
+            match self.try_draw(d) {
+                Ok(pair) => return Ok(pair),
+                Err(Miss::Spent { iv }) => return Err(DrawStop::Spent { iv }),
+                Err(Miss::Dry { next, mark }) => return Err(DrawStop::Dry { next, mark }),
+                Err(Miss::Lost { .. }) => {}
+            }
+        }
+        unreachable!()
+    }
+
+    /// Moves the mark up to `mark`, a word. Publish a mark that is in flash already, since numbers below it are drawn from now on.
+    pub fn publish(&self, k: &mut Keeper, mark: u64)
+        requires made { k.old.which ≡ self.now.which }
+        requires word { IsWord mark }
+        requires up { k.old.mark ≤ mark }
+
+        ensures { k.new ≡ record k.old { mark = mark } }
+    {
+        let words = &self.table.shared;
+        words.store::<Publishes>(&mut k.seat, MARK, mark);
+    }
+
+    /// Moves the counter up to SEQ 0 of the IV Index `iv`, unless it is there or above. What it passes over is never drawn.
+    pub fn advance(&self, k: &mut Keeper, iv: u32)
+        requires made { k.old.which ≡ self.now.which }
+        requires marked { iv * 2 ^ 25 ≤ k.old.mark }
+
+        ensures noted { (found : ℕ) × (k.new.advances ≡ k.old.advances ++ (found, iv * 2 ^ 25) ∷ []) }
+        ensures same { (k.new.which ≡ k.old.which) × (k.new.mark ≡ k.old.mark) }
+    {
+        let to = u64::from(iv) * WORDS_PER_IV;
+        let words = &self.table.shared;
+        words.fetch_max::<Advances>(&mut k.seat, COUNTER, to);
+    }
+
+    /// A new seat. What it draws is above all that this one has drawn so far.
+    pub fn split(&self, d: &mut Drawer) -> Drawer
+        requires made { d.old.which ≡ self.now.which }
+
+        ensures same { d.new ≡ d.old }
+        ensures value { result ≡ fresh d.old.which (d.old.noted ++ d.old.drawn) }
+    {
+        Drawer {
+            seat: self.table.shared.split_seat::<Seats>(&mut d.seat),
+        }
+    }
+
+    /// Takes another seat in, with all that was drawn and seen there.
+    pub fn join(&self, d: &mut Drawer, other: Drawer)
+        requires made { d.old.which ≡ self.now.which }
+        requires other_made { other.which ≡ self.now.which }
+
+        ensures which { d.new.which ≡ d.old.which }
+        ensures drawn { d.new.drawn ≡ d.old.drawn ++ other.drawn }
+        ensures raised { d.new.raised ≡ d.old.raised ++ other.raised }
+        ensures noted { d.new.noted ≡ d.old.noted ++ other.noted }
+        ensures marks { d.new.marks ≡ d.old.marks ++ other.marks }
+        ensures nexts { d.new.nexts ≡ d.old.nexts ++ other.nexts }
+    {
+        let Drawer { seat } = other;
+        self.table.shared.join_seat::<Seats>(&mut d.seat, seat);
+    }
+
+    /// Ends the words, with the keeper's seat and one that draws. What was drawn at a seat that isn't joined to this one is not told.
+    pub fn close(self, k: Keeper, d: Drawer) -> Closed
+        requires keeper_made { k.which ≡ self.which }
+        requires drawer_made { d.which ≡ self.which }
+
+        ensures drawn { result.drawn ≡ d.drawn }
+        ensures looks { (result.marks ≡ d.marks) × (result.nexts ≡ d.nexts) }
+
+        ensures words { IsWord result.next × IsWord result.mark }
+        ensures order { (self.opened ≤ result.next) × (result.next ≤ result.mark) }
+        ensures mark { result.mark ≡ k.mark }
+        ensures advanced { All (λ a. a.1 ≤ result.next) k.advances }
+
+        ensures since { All (λ x. self.opened ≤ x) d.drawn }
+        ensures below { All (λ x. x < result.next) d.drawn }
+        ensures once { (x : ℕ) → times x d.drawn ≤ 1 }
+        ensures distinct { AllPairs (λ x y. x ≢ y) d.drawn }
+        ensures seen { All (λ x. x ≤ result.next) d.nexts × All (λ x. x ≤ result.mark) d.marks }
+    {
+        let Numbers { table } = self;
+        let Keeper { seat: keeper } = k;
+        let Drawer { mut seat } = d;
+        table.shared.join_seat::<Seats>(&mut seat, keeper);
+        let last = Snapshot::of(&seat);
+        let words = table.close_with(seat);
+        let next = words.word(COUNTER);
+        let mark = words.word(MARK);
+        words.free();
+        Closed { next, mark, last }
+    }
+}

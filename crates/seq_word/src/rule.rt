@@ -1,0 +1,131 @@
+//! The rule of the two words, as `atomic_table` takes it. The definitions stand in `specs/Rule.antt`.
+//!
+//! There are seven kinds of atomic step. Each changes the view of the seat that takes it, and a join that of the other seat too.
+//!
+//! | Step | Seat | What its view notes |
+//! |---|---|---|
+//! | a load of the mark | a drawer | the mark, among its looks |
+//! | a load of the counter | a drawer | the word, among its looks |
+//! | a compare-exchange on the counter, from the word last seen to the next | a drawer | won: the word as drawn, and what it left in the counter; lost: the word found, among its looks |
+//! | a store on the mark | the keeper | the mark as its own |
+//! | a fetch_max on the counter | the keeper | the word found, and the one moved to |
+//! | a split | a drawer, and at the start the keeper | nothing; the new seat notes all that was drawn here, or noted |
+//! | a join | a drawer | all that the other seat knows; at the end also the keeper's mark. The other seat is left knowing nothing |
+#![tactic(auto)]
+
+use atomic_table::{Join, Play, Split, Table, TableRule};
+use std::alloc::Global;
+use std::collections::LinkedList;
+
+/// The place of the counter among the words.
+pub const COUNTER: usize = 0;
+
+/// The place of the mark among the words.
+pub const MARK: usize = 1;
+
+/// What a seat at the two words knows. No value of it is made: it stands in proofs alone, so its lists take no memory and its numbers no bound.
+pub struct View {
+    /// Whether this is the keeper's seat.
+    pub keeps: bool,
+    /// The keeper's mark.
+    pub mark: u64,
+    /// The keeper's advances: the word that each found in the counter, and the one that it moved the counter to.
+    pub advances: LinkedList<(u64, u64)>,
+    /// The words that were drawn at this seat, in their order.
+    pub drawn: LinkedList<u64>,
+    /// What each of these draws left in the counter.
+    pub raised: LinkedList<u64>,
+    /// The words that had been drawn at the seat from which this one was split off, or were noted there.
+    pub noted: LinkedList<u64>,
+    /// The looks at the mark.
+    pub marks: LinkedList<u64>,
+    /// The looks at the counter.
+    pub nexts: LinkedList<u64>,
+}
+
+/// What the words are when the table is made.
+#[derive(Drop)]
+pub struct Opening {
+    /// The counter.
+    pub next: u64,
+    /// The mark.
+    pub mark: u64,
+}
+
+/// The table of the two words. It has no slots.
+pub type Words = Table<u8, View, Opening, Law, Global>;
+
+/// The running rule, as the rule of the table.
+pub struct Law;
+
+impl TableRule<u8, View, Opening> for Law {
+    ghost use Rattle.seq_word.specs.Rule.{Ruled, first_keeper};
+
+    ghost holds = { λ key. Ruled key.next };
+
+    ghost first = { λ key. first_keeper key.mark };
+}
+
+/// A load of the mark.
+pub struct SeesMark;
+
+impl Play<u8, View> for SeesMark {
+    ghost use Rattle.seq_word.specs.Rule as rule;
+
+    ghost then = { rule.SeesMark };
+}
+
+/// A load of the counter.
+pub struct SeesNext;
+
+impl Play<u8, View> for SeesNext {
+    ghost use Rattle.seq_word.specs.Rule as rule;
+
+    ghost then = { rule.SeesNext };
+}
+
+/// A compare-exchange on the counter.
+pub struct Draws;
+
+impl Play<u8, View> for Draws {
+    ghost use Rattle.seq_word.specs.Rule as rule;
+
+    ghost then = { rule.Draws };
+}
+
+/// A store on the mark.
+pub struct Publishes;
+
+impl Play<u8, View> for Publishes {
+    ghost use Rattle.seq_word.specs.Rule as rule;
+
+    ghost then = { rule.Publishes };
+}
+
+/// A fetch_max on the counter.
+pub struct Advances;
+
+impl Play<u8, View> for Advances {
+    ghost use Rattle.seq_word.specs.Rule as rule;
+
+    ghost then = { rule.Advances };
+}
+
+/// How seats are cut in two and put together.
+pub struct Seats;
+
+impl Split<View> for Seats {
+    ghost use Rattle.seq_word.specs.Rule.{split_off};
+
+    ghost left = { λ v. v };
+
+    ghost right = { split_off };
+}
+
+impl Join<View> for Seats {
+    ghost use Rattle.seq_word.specs.Rule as rule;
+
+    ghost both = { rule.both };
+
+    ghost spent = { rule.nobody };
+}
