@@ -1,4 +1,4 @@
-//! Obfuscation of the header (Mesh Profile 1.0.1, section 3.8.7.3).
+//! Obfuscation of the header and its undoing, which are the same sum (Mesh Profile 1.0.1, section 3.8.7.3).
 #![tactic(auto)]
 
 ghost use Rattle.std.specs.Prelude.{◌≡◌, ◌≤◌, length};
@@ -22,15 +22,17 @@ pub(crate) fn mask(m: &NetMaterial, iv: u32, sealed: &[u8]) -> [u8; 16]
     Schedule::new(&m.privacy).encrypt(block)
 }
 
-/// The sum, bit by bit, of the header and as much of a mask.
-pub(crate) fn masked(header: &[u8; 6], mask: &[u8]) -> [u8; 6]
-    requires { length mask.now ≡ 6 }
-    ensures value { result ≡ xor_lists header.now mask.now }
+/// Six octets with the front of a mask added, bit by bit.
+pub(crate) fn masked(octets: &[u8], mask: &[u8]) -> [u8; 6]
+    requires octets { length octets.now ≡ 6 }
+    requires mask { length mask.now ≡ 6 }
+    ensures value { result ≡ xor_lists octets.now mask.now }
     ensures length { length result ≡ 6 }
 {
-    let mut octets = *header;
+    let mut sum = [0; 6];
+    sum.copy_from_slice(octets);
     for i in 0..6 {
-        octets[i] ^= mask[i];
+        sum[i] ^= mask[i];
     }
-    octets
+    sum
 }

@@ -30,7 +30,12 @@ fn sealed_with(m: &NetMaterial, f: &NetFields, mic: &mut [u8]) -> Octets<22>
     ensures { result ≡ sealed_part m.now f.now }
 {
     let mut text = plaintext(f);
-    seal_in_place(&Schedule::new(&m.encryption), &nonce(f), &mut text, mic);
+    seal_in_place(
+        &Schedule::new(&m.encryption),
+        &nonce(&header(f), f.iv),
+        &mut text,
+        mic,
+    );
     let mut sealed = Octets::new();
     sealed.extend(text.as_slice());
     sealed.extend(mic);

@@ -1,9 +1,9 @@
 //! The standard's sample messages: the proof says that the code is the definition, and these that the definition is the standard's.
 #![tactic(auto)]
 
-use crate::seal;
+use crate::{NetReading, Unread, read, seal};
 use mesh_base::address::Address;
-use mesh_base::fields::{NetFields, NetMaterial};
+use mesh_base::fields::{Heard, NetFields, NetMaterial};
 use mesh_base::octets::Octets;
 
 // The master credentials of NetKey 7dd7364cd842ad18c17c2b820c84c3d6.
@@ -19,12 +19,31 @@ const MATERIAL: NetMaterial = NetMaterial {
     ],
 };
 
+// The key of this material, and another of its NID.
+const HEARD: Heard = Heard {
+    index: 0,
+    lpn: None,
+    fresh: false,
+    material: MATERIAL,
+};
+
+const OTHER: Heard = Heard {
+    index: 1,
+    lpn: None,
+    fresh: false,
+    material: NetMaterial {
+        nid: 0x68,
+        encryption: [0; 16],
+        privacy: [0; 16],
+    },
+};
+
 // A message's CTL, TTL, SEQ, SRC, DST and transport PDU, and its network PDU, under IV Index 12345678.
 #[derive(Clone, Copy)]
 struct Sample(bool, u8, u32, u16, u16, &'static [u8], &'static [u8]);
 
 #[test]
-fn seals_as_the_standard_says(rt: HostRuntime) {
+fn seals_and_reads_as_the_standard_says(rt: HostRuntime) {
     // Mesh Profile 1.0.1, sections 8.3.1 and 8.3.6: message #1, and both segments of message #6.
     let samples = [
         Sample(
@@ -56,7 +75,7 @@ fn seals_as_the_standard_says(rt: HostRuntime) {
         ),
     ];
     for Sample(ctl, ttl, seq, src, dst, tpdu, pdu) in samples {
-        assert!(rt; ttl < 128 && seq < 0x1000000 && tpdu.len() >= 1);
+        assert!(rt; ttl < 128 && seq < 0x1000000 && tpdu.len() >= 1 && pdu.len() >= 1);
         let most = if ctl { 12 } else { 16 };
         assert!(rt; tpdu.len() <= most);
         let fields = NetFields {
@@ -69,5 +88,21 @@ fn seals_as_the_standard_says(rt: HostRuntime) {
             tpdu: Octets::of(tpdu).expect(&rt, "at most 16 octets"),
         };
         assert!(rt; seal(&MATERIAL, &fields).as_slice() == pdu, "SEQ {seq}");
+
+        let reading = Ok(NetReading { fields, by: HEARD });
+        assert!(rt;
+            read(&[OTHER, HEARD], 0x12345678, pdu) == reading,
+            "SEQ {seq}"
+        );
+        assert!(rt;
+            read(&[OTHER, HEARD], 0x12345679, pdu) == reading,
+            "SEQ {seq}"
+        );
+        assert!(rt; read(&[HEARD], 0x1234567a, pdu) == Err(Unread), "SEQ {seq}");
+        assert!(rt; read(&[OTHER], 0x12345678, pdu) == Err(Unread), "SEQ {seq}");
+        assert!(rt;
+            read(&[HEARD], 0x12345678, &pdu[1..]) == Err(Unread),
+            "SEQ {seq}"
+        );
     }
 }

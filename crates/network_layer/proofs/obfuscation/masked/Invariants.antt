@@ -5,6 +5,6 @@ use Rattle.network_layer.proofs.obfuscation.masked.Given as goal
 
 abbrev pub invariant-loop-i : goal.invariant-loop-i
 invariant-loop-i l = record {
-  added : take l.i l.octets ++ xor_lists (drop l.i l.octets) (drop l.i l.mask) ≡ xor_lists l.initial.octets l.mask;
-  count : length l.octets ≡ 6;
+  added : take l.i l.sum ++ xor_lists (drop l.i l.sum) (drop l.i l.mask) ≡ xor_lists l.octets l.mask;
+  count : length l.sum ≡ 6;
 }

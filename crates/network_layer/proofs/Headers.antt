@@ -1,0 +1,37 @@
+-- Headers octet by octet.
+use Rattle.std.proofs.Common.{◌≡◌, ℕ, ◌+◌, ◌*◌, ◌/◌, ◌%◌, ◌<◌, List, [], ◌∷◌, ◌++◌, length, get_or, nat_le, if◌then◌else◌, sym, ◌∙◌, refl, arith, ap}
+use Rattle.std.proofs.lemmas.List.FromFn.{fill_by_all}
+use Rattle.cipher_definitions.specs.Octets.{two_octets, three_octets}
+
+-- a header is the list of its six octets
+pub six_octets : (h : List ℕ) → length h ≡ 6
+    → h ≡ get_or h 0 0 ∷ get_or h 1 0 ∷ get_or h 2 0 ∷ get_or h 3 0 ∷ get_or h 4 0 ∷ get_or h 5 0 ∷ []
+six_octets h e = fill_by_all (λ i. get_or h i 0) h 6 0 e (λ k below. refl)
+
+-- an octet of CTL and TTL, taken apart and put together
+pub control_octet : (a : ℕ) → a < 256 → (if nat_le 128 a then 128 else 0) + a % 128 ≡ a
+control_octet a h = grind arith
+
+-- octets of a number that they make
+pub three_octets-of : (n a b c : ℕ) → a < 256 → b < 256 → c < 256 → n ≡ a * 65536 + (b * 256 + c) → three_octets n ≡ a ∷ b ∷ c ∷ []
+three_octets-of n a b c ha hb hc e =
+    let high : n / 65536 % 256 ≡ a = omega arith in
+    let middle : n / 256 % 256 ≡ b = omega arith in
+    let low : n % 256 ≡ c = omega arith in
+    rw (high, middle, low) refl
+
+pub two_octets-of : (n a b : ℕ) → a < 256 → b < 256 → n ≡ a * 256 + b → two_octets n ≡ a ∷ b ∷ []
+two_octets-of n a b ha hb e =
+    let high : n / 256 % 256 ≡ a = omega arith in
+    let low : n % 256 ≡ b = omega arith in
+    rw (high, low) refl
+
+-- a header, taken apart and put together
+pub header_of : (h : List ℕ) (seq src : ℕ) → length h ≡ 6 → ((i : ℕ) → get_or h i 0 < 256)
+    → seq ≡ get_or h 1 0 * 65536 + (get_or h 2 0 * 256 + get_or h 3 0) → src ≡ get_or h 4 0 * 256 + get_or h 5 0
+    → ((if nat_le 128 (get_or h 0 0) then 128 else 0) + get_or h 0 0 % 128) ∷ three_octets seq ++ two_octets src ≡ h
+header_of h seq src e fits s t =
+    ap (λ x. x ∷ three_octets seq ++ two_octets src) (control_octet (get_or h 0 0) (fits 0))
+    ∙ ap (λ l. get_or h 0 0 ∷ l ++ two_octets src) (three_octets-of seq (get_or h 1 0) (get_or h 2 0) (get_or h 3 0) (fits 1) (fits 2) (fits 3) s)
+    ∙ ap (λ l. get_or h 0 0 ∷ get_or h 1 0 ∷ get_or h 2 0 ∷ get_or h 3 0 ∷ l) (two_octets-of src (get_or h 4 0) (get_or h 5 0) (fits 4) (fits 5) t)
+    ∙ sym (six_octets h e)
