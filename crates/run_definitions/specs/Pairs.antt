@@ -1,5 +1,5 @@
 -- Pairs of an IV Index and a SEQ: words, order and expiry.
-use Rattle.std.specs.Prelude.{ℕ, ◌+◌, ◌*◌, ◌^◌, ◌==◌, ◌&&◌, ◌||◌, nat_lt, Bool, if◌then◌else◌}
+use Rattle.std.specs.Prelude.{ℕ, ◌+◌, ◌==◌, ◌&&◌, ◌||◌, nat_lt, Bool, if◌then◌else◌}
 use Rattle.mesh_base.specs.declared.pair.Pair.{Pair}
 -- the word of a pair
 pub use Rattle.mesh_world.specs.Pairs.{word}

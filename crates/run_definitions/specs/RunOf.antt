@@ -73,15 +73,15 @@ abbrev pub past_at_end : Layers → List StoreRecord → Life → List Told → 
 past_at_end layers over l told = record { told = told; records = filled l.refills (records_left layers over [] told) }
 
 -- What of the records in hand may outlast a cut: whole records from the front of those of a bearer's next event, or those of one
--- refill, all after the refills that were stored last.
+-- refill, all after the refills that were stored last. Of a life that was cut at its opening nothing does.
 pub data Outlasts (layers : Layers) (plan : List Step) (l : Life) (past : Past) : List StoreRecord → Type 0 where
   no_record : Outlasts layers plan l past []
   of_event : (k n : ℕ) (event : Event) (insight : Insight)
-      → IsTrue (is_cut l.end)
+      → IsTrue (is_on l.opened) → IsTrue (is_cut l.end)
       → next_event plan l k ≡ Some event
       → Sees layers past event insight
       → Outlasts layers plan l past (take n (stores layers past event insight (answer_of layers past event insight)))
-  of_refill : IsTrue (is_cut l.end) → Outlasts layers plan l past (fill_of (config_of past.records) ∷ [])
+  of_refill : IsTrue (is_on l.opened) → IsTrue (is_cut l.end) → Outlasts layers plan l past (fill_of (config_of past.records) ∷ [])
 
 -- What the next life opens over is alike to all the records of this life.
 pub record Leaves (layers : Layers) (plan : List Step) (l : Life) (past : Past) (next : List StoreRecord) : Type 0 where

@@ -1,5 +1,5 @@
 -- What a run does with its keys and its messages, and when that is safe.
-use Rattle.std.specs.Prelude.{◌≡◌, ◌≢◌, ℕ, ◌+◌, ◌*◌, true, false, List, [], ◌++◌, Option, Some, None, AllPairs, filter, slice_index}
+use Rattle.std.specs.Prelude.{ℕ, ◌+◌, ◌*◌, true, false, List, [], ◌++◌, Option, Some, None, filter, slice_index}
 use Rattle.std.specs.List.{filter_map, flat_map}
 use Rattle.std.specs.Option.{option_map, option_to_list}
 use Rattle.layer_definitions.specs.Network.{network_nonce, network_plaintext}

@@ -10,3 +10,8 @@ pub mod Walking
 pub mod LifeLines
 pub mod Nonces
 pub mod Reuse
+pub mod WrittenRun
+pub mod NeededDraws
+pub mod NeededOnce
+pub mod NeededBound
+pub mod NeededNames

@@ -26,9 +26,9 @@ use Rattle.run_safety.proofs.Rising.{Blocked, IsBlocked, Later, Rise, blocked_en
 outlasting_rises : (layers : Layers) → AreSafe layers → (plan : List Step) (l : Life) (past : Past) (more : List StoreRecord)
     → Outlasts layers plan l past more → Marked (config_of past.records) → RiseAll (config_of past.records) more
 outlasting_rises layers safe plan l past _ no_record m = tt
-outlasting_rises layers safe plan l past _ (of_event k n event insight cut next sees) m =
+outlasting_rises layers safe plan l past _ (of_event k n event insight on cut next sees) m =
     rise_take n (config_of past.records) _ (stores_rise layers safe past event insight _ refl m)
-outlasting_rises layers safe plan l past _ (of_refill cut) m = (rises_fill (config_of past.records), tt)
+outlasting_rises layers safe plan l past _ (of_refill on cut) m = (rises_fill (config_of past.records), tt)
 
 -- The parts of a life.
 module _ (layers : Layers) (safe : AreSafe layers) (plan : List Step) (over : List StoreRecord) (l : Life) (next : List StoreRecord) (h : LifeOf layers plan over l next) where

@@ -1,1 +1,3 @@
 pub mod Safety
+pub mod WrittenRun
+pub mod Needed

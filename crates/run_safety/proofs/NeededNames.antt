@@ -1,0 +1,194 @@
+-- The records that show that the replay list and the table of the IV Index are needed: one control message is accepted in two lives.
+use Rattle.std.proofs.Common.{◌≡◌, ◌≢◌, ℕ, zero, suc, length, ◌+◌, ◌*◌, ◌^◌, ◌<◌, ◌≤◌, lit<, lit≤, inl, inr, get_or, Bool, true, false, eqb, List, [], ◌∷◌, ◌++◌, map, refl, ap, sym, ◌∙◌, arith, ne_eqb, append-nil, Option, Some, None}
+use Rattle.std.specs.Bool.{⊤}
+use Rattle.std.specs.List.{All, AllByRecursion, AllPairs, filter}
+use Rattle.std.proofs.lemmas.Bool.{true≢false}
+use Rattle.layer_definitions.specs.IvIndex.{iv_due}
+use Rattle.layer_definitions.specs.Network.{net_text}
+use Rattle.mesh_base.specs.IvState.{transmit_of}
+use Rattle.mesh_base.specs.declared.iv_state.IvState.{IvState}
+use Rattle.mesh_base.specs.declared.pair.Pair.{Pair}
+use Rattle.mesh_types.specs.declared.answers.Answer.{Answer}
+use Rattle.mesh_types.specs.declared.answers.Answer.TheVariants as A
+use Rattle.mesh_types.specs.declared.events.Event.{Event}
+use Rattle.mesh_types.specs.declared.events.Event.TheVariants as E
+use Rattle.mesh_types.specs.declared.history.Entry.{Entry}
+use Rattle.mesh_types.specs.declared.history.Sent.{Sent}
+use Rattle.mesh_types.specs.declared.jobs.Job.{Job}
+use Rattle.mesh_types.specs.declared.jobs.Job.TheVariants as J
+use Rattle.mesh_types.specs.declared.lines.Outcome.TheVariants as O
+use Rattle.mesh_types.specs.declared.records.StoreRecord.{StoreRecord}
+use Rattle.mesh_types.specs.declared.records.StoreRecord.TheVariants as R
+use Rattle.mesh_types.specs.declared.report.End.TheVariants as F
+use Rattle.mesh_types.specs.declared.report.Opened.TheVariants as W
+use Rattle.run_definitions.specs.Answers.{answer_of}
+use Rattle.run_definitions.specs.Config.{changed, config_of}
+use Rattle.run_definitions.specs.Handling.{AreHandled, Handles, past_of}
+use Rattle.run_definitions.specs.History.{OfNothing, Past, Told}
+use Rattle.run_definitions.specs.Jobs.{jobs_of}
+use Rattle.run_definitions.specs.Lines.{shows_ctl}
+use Rattle.run_safety.specs.Needed.{DrawsFromAnywhere, DrawsTwice, DrawsUnreserved, DrawsWithoutBound, LeavesBy, LifeBy, Reuses, Rules, RunBy, all_rules}
+use Rattle.run_definitions.specs.Order.{Does, IsOrdered, Part, Placed, Step, Walks, ends, handle, handles, of_bearer, phase, placed_from, stops, whole, writes}
+use Rattle.run_definitions.specs.Pairs.{word}
+use Rattle.run_definitions.specs.Ranges.{IsInRange}
+use Rattle.run_definitions.specs.Readings.{sees_nothing}
+use Rattle.run_definitions.specs.Record.{Life, LifeOver, Run, Shown, list_at, shown, shown_by}
+use Rattle.run_definitions.specs.RunOf.{IsNumbered, IsSpentRight, Opens, Provisioning, Script, draws, no_record, opens, past_at_end, provisioned}
+use Rattle.run_definitions.specs.Seals.{own_fields}
+use Rattle.run_definitions.specs.Stores.{stores}
+use Rattle.run_definitions.specs.Uses.{NoReuse, Use, seals_of, uses}
+use Rattle.run_safety.specs.WrittenRun.{address, dev_key, material, net_key, node, opened_state, pair, quiet_layers}
+use Rattle.run_safety.proofs.Lists.{pairs_from_apart}
+use Rattle.run_safety.proofs.WrittenRun.{all_of, dev_key_is, net_key_is, others_none, others_placed, quiet_safe}
+use Rattle.layer_definitions.specs.Beacon.{BeaconSource, ReadsBeacon, beacon_text}
+use Rattle.layer_definitions.specs.Lower.{ReadsLower, lower_text}
+use Rattle.layer_definitions.specs.Network.{HasPdu, IsInWidths, Reads}
+use Rattle.mesh_base.specs.declared.beacon.Beacon.{Beacon}
+use Rattle.mesh_base.specs.declared.fields.NetFields.{NetFields}
+use Rattle.mesh_base.specs.declared.iv_state.IvStep.TheVariants as I
+use Rattle.mesh_base.specs.declared.lower.Lower.TheVariants.{Control}
+use Rattle.mesh_base.specs.declared.pair.Name.{Name}
+use Rattle.mesh_types.specs.declared.answers.KeyStep.TheVariants as S
+use Rattle.run_definitions.specs.Entries.{entry_of}
+use Rattle.run_definitions.specs.History.{Insight, OfBeacon, OfPdu}
+use Rattle.run_safety.specs.Needed.{AreHandledButStep, HandlesButStep, Repeats, SaysTheSame}
+use Rattle.run_definitions.specs.Readings.{IsBeacon, IsReading, Sees, sees_beacon, sees_pdu}
+use Rattle.run_definitions.specs.RunOf.{IsAlike, IsDrawn}
+use Rattle.run_definitions.specs.Uses.{AtMostOnce, delivered}
+use Rattle.run_safety.specs.WrittenRun.{key_heard}
+use Rattle.run_safety.proofs.NeededDraws.{first_list, first_opens, mark}
+use Rattle.run_safety.proofs.WrittenRun.{ivi, material_nid}
+
+-- A control message of the node 0101, under this IV Index.
+
+abbrev control_fields : ℕ → NetFields
+control_fields iv = record { iv = iv; ctl = true; ttl = 0; seq = 1; src = address 0x0101; dst = address 0x1201; tpdu = 0x7f ∷ [] }
+
+abbrev control_event : ℕ → Event
+control_event iv = E.Net (net_text material (control_fields iv))
+
+abbrev control_name : ℕ → Name
+control_name iv = record { src = address 0x0101; pair = record { iv = iv; seq = 1 } }
+
+abbrev control_entry : ℕ → ℕ → Entry
+control_entry number iv =
+    record { bearer = 0; number = number; event = control_event iv; fills = 0; answer = A.Control (control_name iv) (address 0x1201) 0x7f []; jobs = [] }
+
+abbrev control_insight : ℕ → Insight
+control_insight iv = OfPdu (Some (record { fields = control_fields iv; by = key_heard })) (Some (Control 0x7f [])) None
+
+has_pdu : (iv : ℕ) → HasPdu (control_fields iv)
+has_pdu iv = record { ttl = lit< tt; seq = lit< tt; least = lit≤ tt; most = lit≤ tt }
+
+in_widths : (iv : ℕ) → iv < 2 ^ 32 → IsInWidths (control_fields iv)
+in_widths iv h = record { iv = h; src = lit< tt; dst = lit< tt; tpdu = all_of (λ x. x < 2 ^ 8) (0x7f ∷ []) (lit< tt, tt) }
+
+control_lower : ReadsLower true (0x7f ∷ []) (Control 0x7f [])
+unfolding lower_text
+control_lower = record { kind = refl; fits = (lit< tt, lit≤ tt); text = refl }
+
+zero_of : (e : Entry) → e.bearer ≡ 0 → AllByRecursion (λ (x : Entry). x.bearer ≡ 0) (e ∷ [])
+zero_of e h = (h, tt)
+
+nothing_drawn : (over next : List StoreRecord) (l : Life) → draws (shown l) ≡ [] → ((k : ℕ) → draws (shown_by l k) ≡ []) → IsDrawn over next l
+nothing_drawn over next l e f = record {
+  seq = rw e (all_of (λ (p : Pair). p.seq < 2 ^ 24) [] tt);
+  from = rw e (all_of (λ (p : Pair). (config_of over).mark ≤ word p) [] tt);
+  below = rw e (all_of (λ (p : Pair). word p < (config_of next).mark) [] tt);
+  once = rw e (pairs_from_apart (λ p q. word p ≢ word q) [] tt);
+  rise = λ k. rw (f k) (pairs_from_apart (λ p q. word p < word q) [] tt);
+}
+
+no_sends : (k : ℕ) → list_at {A = Sent} ([] ∷ []) k ≡ []
+no_sends zero = refl
+no_sends (suc k) = refl
+
+twice : (n : Name) → AtMostOnce (n ∷ n ∷ []) → ⊥
+twice n h = h 0 1 n (lit< tt) (lit< tt) refl
+
+-- A life with that message alone, under the IV Index 5.
+
+abbrev life : Life
+life = record { opened = W.On opened_state (mark + 0); entries = control_entry 1 5 ∷ []; refills = 0; sends = [] ∷ []; end = F.Ended }
+
+abbrev plan : List Step
+plan = phase ((control_event 5 ∷ []) ∷ []) ∷ []
+
+abbrev told : Told
+told = record { entry = control_entry 1 5; insight = control_insight 5; records = first_list }
+
+reads : IsReading quiet_layers (past_of [] told) (net_text material (control_fields 5)) (Some (record { fields = control_fields 5; by = key_heard }))
+unfolding changed
+reads = (
+  0,
+  record {
+    key = refl;
+    reads = record { has_pdu = has_pdu 5; in_widths = in_widths 5 (lit< tt); iv = (inl refl, ivi material (control_fields 5) material_nid); text = refl };
+    first = λ k h g lt is reads. absurd (omega arith);
+  },
+)
+
+handled : AreHandled quiet_layers first_list [] (told ∷ [])
+unfolding changed answer_of stores jobs_of
+handled = (refl, record { sees = sees_pdu refl reads control_lower refl; answer = refl; jobs = refl }, tt)
+
+abbrev part : Part
+part = record { entries = placed_from 0 (control_entry 1 5 ∷ []); sends = [] ∷ [] }
+
+does : (k : ℕ) → Does ((control_event 5 ∷ []) ∷ []) part k []
+does zero = handles (record { at = 0; entry = control_entry 1 5 }) refl stops
+does (suc k) = rw (others_placed k 0 (control_entry 1 5 ∷ []) (refl, tt)) stops
+
+ordered : IsOrdered plan life
+ordered = record { parts = part ∷ []; entries = refl; sends = λ k. sym (append-nil (list_at ([] ∷ []) k)); phases = whole does ends }
+
+numbered : (k : ℕ) → IsNumbered life k
+numbered zero = refl
+numbered (suc k) = rw (others_none k (control_entry 1 5 ∷ []) (refl, tt)) refl
+
+shows_nothing : (k : ℕ) → draws (shown_by life k) ≡ []
+shows_nothing k = rw (no_sends k) refl
+
+abbrev forgetful : Rules
+forgetful = record all_rules { is_alike = SaysTheSame }
+
+at_end_range : AllByRecursion IsInRange (first_list ++ R.Replay (control_name 5) ∷ [])
+unfolding transmit_of
+at_end_range = (
+  (lit≤ tt, lit≤ tt, lit≤ tt, lit≤ tt, dev_key_is),
+  (
+    (lit< tt, (λ e. lit< tt), record { seq = 0; word = refl; most = lit≤ tt; block = refl }, lit< tt, lit< tt),
+    (
+      (lit≤ tt, lit≤ tt, lit≤ tt, net_key_is),
+      ((lit< tt, lit< tt, lit< tt), tt),
+    ),
+  ),
+)
+
+leaves : LeavesBy forgetful quiet_layers plan life (past_at_end quiet_layers first_list life (told ∷ [])) first_list
+unfolding changed stores
+leaves = record { more = []; outlasts = no_record; ranges = all_of IsInRange (first_list ++ R.Replay (control_name 5) ∷ []) at_end_range; alike = record { config = refl } }
+
+life_by : LifeBy forgetful quiet_layers plan first_list life first_list
+life_by = record {
+  opening = first_opens (pair 0) 0x7f;
+  idle = λ e. absurd (true≢false e);
+  told = told ∷ [];
+  entries = refl;
+  handled = handled;
+  numbers = numbered;
+  order = λ e. ordered;
+  leaves = leaves;
+  drawn = nothing_drawn first_list first_list life refl shows_nothing;
+  spent = all_of (λ (s : Shown). IsSpentRight (config_of first_list).mark s.outcome) (shown life) tt;
+}
+
+-- the same life twice
+abbrev script : Script
+script = record { node = node; lives = plan ∷ plan ∷ [] }
+
+abbrev run : Run
+run = record { lives = record { over = first_list; life = life } ∷ record { over = first_list; life = life } ∷ []; last = first_list }
+
+pub replay_list_needed : Repeats (record all_rules { is_alike = SaysTheSame })
+replay_list_needed = (quiet_layers, script, run, quiet_safe, record { first = refl; lives = (life_by, (life_by, tt)) }, twice (control_name 5))

@@ -1,0 +1,135 @@
+-- The record that shows that a rule for the pairs of two bearers is needed: each has a control PDU, and both draw one pair.
+use Rattle.std.proofs.Common.{◌≡◌, ◌≢◌, ℕ, zero, suc, length, ◌+◌, ◌*◌, ◌^◌, ◌<◌, ◌≤◌, lit<, lit≤, get_or, Bool, true, false, eqb, List, [], ◌∷◌, ◌++◌, map, refl, ap, sym, ◌∙◌, arith, ne_eqb, append-nil, Option, Some, None}
+use Rattle.std.specs.Bool.{⊤}
+use Rattle.std.specs.List.{All, AllByRecursion, AllPairs, filter}
+use Rattle.std.proofs.lemmas.Bool.{true≢false}
+use Rattle.layer_definitions.specs.IvIndex.{iv_due}
+use Rattle.layer_definitions.specs.Network.{net_text}
+use Rattle.mesh_base.specs.IvState.{transmit_of}
+use Rattle.mesh_base.specs.declared.iv_state.IvState.{IvState}
+use Rattle.mesh_base.specs.declared.pair.Pair.{Pair}
+use Rattle.mesh_types.specs.declared.answers.Answer.{Answer}
+use Rattle.mesh_types.specs.declared.answers.Answer.TheVariants as A
+use Rattle.mesh_types.specs.declared.events.Event.{Event}
+use Rattle.mesh_types.specs.declared.events.Event.TheVariants as E
+use Rattle.mesh_types.specs.declared.history.Entry.{Entry}
+use Rattle.mesh_types.specs.declared.history.Sent.{Sent}
+use Rattle.mesh_types.specs.declared.jobs.Job.{Job}
+use Rattle.mesh_types.specs.declared.jobs.Job.TheVariants as J
+use Rattle.mesh_types.specs.declared.lines.Outcome.TheVariants as O
+use Rattle.mesh_types.specs.declared.records.StoreRecord.{StoreRecord}
+use Rattle.mesh_types.specs.declared.records.StoreRecord.TheVariants as R
+use Rattle.mesh_types.specs.declared.report.End.TheVariants as F
+use Rattle.mesh_types.specs.declared.report.Opened.TheVariants as W
+use Rattle.run_definitions.specs.Answers.{answer_of}
+use Rattle.run_definitions.specs.Config.{changed, config_of}
+use Rattle.run_definitions.specs.Handling.{AreHandled, Handles, past_of}
+use Rattle.run_definitions.specs.History.{OfNothing, Past, Told}
+use Rattle.run_definitions.specs.Jobs.{jobs_of}
+use Rattle.run_definitions.specs.Lines.{shows_ctl}
+use Rattle.run_safety.specs.Needed.{DrawsFromAnywhere, DrawsTwice, DrawsUnreserved, DrawsWithoutBound, LeavesBy, LifeBy, Reuses, Rules, RunBy, all_rules}
+use Rattle.run_definitions.specs.Order.{Does, IsOrdered, Part, Placed, Step, Walks, ends, handle, handles, of_bearer, phase, placed_from, stops, whole, writes}
+use Rattle.run_definitions.specs.Pairs.{word}
+use Rattle.run_definitions.specs.Ranges.{IsInRange}
+use Rattle.run_definitions.specs.Readings.{sees_nothing}
+use Rattle.run_definitions.specs.Record.{Life, LifeOver, Run, Shown, list_at, shown, shown_by}
+use Rattle.run_definitions.specs.RunOf.{IsNumbered, IsSpentRight, Opens, Provisioning, Script, draws, no_record, opens, past_at_end, provisioned}
+use Rattle.run_definitions.specs.Seals.{own_fields}
+use Rattle.run_definitions.specs.Stores.{stores}
+use Rattle.run_definitions.specs.Uses.{NoReuse, Use, seals_of, uses}
+use Rattle.run_safety.specs.WrittenRun.{address, dev_key, material, net_key, node, opened_state, pair, quiet_layers}
+use Rattle.run_safety.proofs.Lists.{pairs_from_apart}
+use Rattle.run_safety.proofs.WrittenRun.{all_of, dev_key_is, net_key_is, others_none, others_placed, quiet_safe}
+use Rattle.run_safety.proofs.NeededDraws.{Clash, drawn_only, first_list, first_opens, first_range, mark, no_first, no_second, other_text, raw_entry, raw_event, raw_line, second_list, some_use}
+
+abbrev entries : List Entry
+entries = raw_entry 0 1 0 0x7f ∷ raw_entry 1 1 0 0x7e ∷ []
+
+abbrev sends : List (List Sent)
+sends = (raw_line 0 (pair 0) 0x7f ∷ []) ∷ (raw_line 1 (pair 0) 0x7e ∷ []) ∷ []
+
+abbrev life : Life
+life = record { opened = W.On opened_state (mark + 0); entries = entries; refills = 1; sends = sends; end = F.Ended }
+
+abbrev events : List (List Event)
+events = (raw_event 0x7f ∷ []) ∷ (raw_event 0x7e ∷ []) ∷ []
+
+abbrev plan : List Step
+plan = phase events ∷ []
+
+abbrev told : List Told
+told =
+    record { entry = raw_entry 0 1 0 0x7f; insight = OfNothing; records = first_list }
+    ∷ record { entry = raw_entry 1 1 0 0x7e; insight = OfNothing; records = first_list }
+    ∷ []
+
+handled : AreHandled quiet_layers first_list [] told
+unfolding changed answer_of stores jobs_of transmit_of
+handled = (refl, record { sees = sees_nothing refl; answer = refl; jobs = refl }, (refl, record { sees = sees_nothing refl; answer = refl; jobs = refl }, tt))
+
+abbrev part : Part
+part = record { entries = placed_from 0 entries; sends = sends }
+
+third_none : (k : ℕ) → filter (λ (e : Entry). eqb e.bearer (suc (suc k))) entries ≡ []
+third_none k = rw (no_first k, no_second k) refl
+
+third_placed : (k : ℕ) → of_bearer (suc (suc k)) (placed_from 0 entries) ≡ []
+third_placed k = rw (no_first k, no_second k) refl
+
+does : (k : ℕ) → Does events part k []
+does zero = handles (record { at = 0; entry = raw_entry 0 1 0 0x7f }) refl (writes shows_ctl stops)
+does (suc zero) = handles (record { at = 1; entry = raw_entry 1 1 0 0x7e }) refl (writes shows_ctl stops)
+does (suc (suc k)) = rw (third_placed k) stops
+
+ordered : IsOrdered plan life
+ordered = record { parts = part ∷ []; entries = refl; sends = λ k. sym (append-nil (list_at sends k)); phases = whole does ends }
+
+numbered : (k : ℕ) → IsNumbered life k
+numbered zero = refl
+numbered (suc zero) = refl
+numbered (suc (suc k)) = rw (third_none k) refl
+
+leaves : LeavesBy (drawn_only DrawsTwice) quiet_layers plan life (past_at_end quiet_layers first_list life told) second_list
+unfolding changed stores transmit_of
+leaves = record { more = []; outlasts = no_record; ranges = all_of IsInRange second_list first_range; alike = record { config = refl; entries = λ src. refl } }
+
+rises : (k : ℕ) → AllPairs (λ p q. word p < word q) (draws (shown_by life k))
+rises zero = pairs_from_apart (λ p q. word p < word q) (pair 0 ∷ []) (tt, tt)
+rises (suc zero) = pairs_from_apart (λ p q. word p < word q) (pair 0 ∷ []) (tt, tt)
+rises (suc (suc k)) = pairs_from_apart (λ p q. word p < word q) [] tt
+
+drawn : DrawsTwice first_list second_list life
+unfolding changed transmit_of
+drawn = record {
+  seq = all_of (λ (p : Pair). p.seq < 2 ^ 24) (pair 0 ∷ pair 0 ∷ []) (lit< tt, (lit< tt, tt));
+  from = all_of (λ (p : Pair). (config_of first_list).mark ≤ word p) (pair 0 ∷ pair 0 ∷ []) (lit≤ tt, (lit≤ tt, tt));
+  below = all_of (λ (p : Pair). word p < (config_of second_list).mark) (pair 0 ∷ pair 0 ∷ []) (lit< tt, (lit< tt, tt));
+  rise = rises;
+}
+
+life_by : LifeBy (drawn_only DrawsTwice) quiet_layers plan first_list life second_list
+life_by = record {
+  opening = first_opens (pair 0) 0x7f;
+  idle = λ e. absurd (true≢false e);
+  told = told;
+  entries = refl;
+  handled = handled;
+  numbers = numbered;
+  order = λ e. ordered;
+  leaves = leaves;
+  drawn = drawn;
+  spent = all_of (λ (s : Shown). IsSpentRight (config_of second_list).mark s.outcome) (shown life) (tt, (tt, tt));
+}
+
+abbrev script : Script
+script = record { node = node; lives = plan ∷ [] }
+
+abbrev run : Run
+run = record { lives = record { over = first_list; life = life } ∷ []; last = second_list }
+
+clash : Clash (uses run)
+unfolding changed seals_of
+clash h = other_text _ _ refl refl (h 0 1 some_use (lit< tt) (lit< tt) refl refl)
+
+pub once_needed : Reuses (record all_rules { is_drawn = DrawsTwice })
+once_needed = (quiet_layers, script, run, quiet_safe, record { first = refl; lives = (life_by, tt) }, clash)

@@ -1,0 +1,132 @@
+-- Rules that are easy to lose, and what happens without them: for each there is a record that keeps all other rules of a run and isn't
+-- safe.
+use Rattle.std.specs.Prelude.{◌≡◌, ◌≢◌, ℕ, ◌^◌, ◌<◌, ◌≤◌, true, false, List, [], ◌∷◌, ◌++◌, map, All, AllPairs, ⊤}
+use Rattle.mesh_base.specs.declared.pair.Pair.{Pair}
+use Rattle.mesh_types.specs.declared.answers.Answer.{Answer}
+use Rattle.mesh_types.specs.declared.answers.Answer.TheVariants as A
+use Rattle.mesh_types.specs.declared.records.StoreRecord.{StoreRecord}
+use Rattle.run_definitions.specs.Answers.{answer_of}
+use Rattle.run_definitions.specs.Config.{config_of}
+use Rattle.run_definitions.specs.Handling.{AreHandled, past_of, records_left}
+use Rattle.run_definitions.specs.History.{Past, Told}
+use Rattle.run_definitions.specs.Jobs.{jobs_of}
+use Rattle.run_definitions.specs.Layers.{Layers}
+use Rattle.run_definitions.specs.Order.{IsOrdered, Step}
+use Rattle.run_definitions.specs.Pairs.{word}
+use Rattle.run_definitions.specs.Ranges.{IsInRange}
+use Rattle.run_definitions.specs.Readings.{Sees}
+use Rattle.run_definitions.specs.Record.{Life, LifeOver, Run, first_over, shown, shown_by}
+use Rattle.run_definitions.specs.RunOf.{IsAlike, IsDrawn, IsIdle, IsNumbered, IsSpentRight, Leaves, LifeOf, Opens, Outlasts, RunOf, Script, draws, is_on, past_at_end, provisioned}
+use Rattle.run_safety.specs.Safety.{AreSafe}
+use Rattle.run_definitions.specs.Stores.{filled, records_after}
+use Rattle.run_definitions.specs.Uses.{AtMostOnce, NoReuse, delivered, uses}
+
+-- the rules that may be changed: how entries are handled, what is left, and what is drawn
+pub record Rules : Type 1 where
+  pub are_handled : Layers → List StoreRecord → List Told → List Told → Type 0
+  pub is_alike : List StoreRecord → List StoreRecord → Type 0
+  pub is_drawn : List StoreRecord → List StoreRecord → Life → Type 0
+
+-- as they are
+abbrev pub all_rules : Rules
+all_rules = record { are_handled = AreHandled; is_alike = IsAlike; is_drawn = IsDrawn }
+
+-- a run by these rules, and by all the others as they are
+
+pub record LeavesBy (rules : Rules) (layers : Layers) (plan : List Step) (l : Life) (past : Past) (next : List StoreRecord) : Type 0 where
+  pub more : List StoreRecord
+  pub outlasts : Outlasts layers plan l past more
+  pub ranges : All IsInRange (past.records ++ more)
+  pub alike : rules.is_alike next (past.records ++ more)
+
+pub record LifeBy (rules : Rules) (layers : Layers) (plan : List Step) (over : List StoreRecord) (l : Life) (next : List StoreRecord) : Type 0 where
+  pub opening : Opens (config_of over) l.opened l.end
+  pub idle : is_on l.opened ≡ false → IsIdle l
+  pub told : List Told
+  pub entries : map (λ t. t.entry) told ≡ l.entries
+  pub handled : rules.are_handled layers over [] told
+  pub numbers : (k : ℕ) → IsNumbered l k
+  pub order : is_on l.opened ≡ true → IsOrdered plan l
+  pub leaves : LeavesBy rules layers plan l (past_at_end layers over l told) next
+  pub drawn : rules.is_drawn over next l
+  pub spent : All (λ s. IsSpentRight (config_of next).mark s.outcome) (shown l)
+
+abbrev pub LivesBy : Rules → Layers → List (List Step) → List LifeOver → List StoreRecord → Type 0
+LivesBy rules layers [] [] last = ⊤
+LivesBy rules layers (plan ∷ plans) (x ∷ xs) last = LifeBy rules layers plan x.over x.life (first_over xs last) × LivesBy rules layers plans xs last
+LivesBy rules layers _ _ last = ⊥
+
+pub record RunBy (rules : Rules) (layers : Layers) (s : Script) (r : Run) : Type 0 where
+  pub first : first_over r.lives r.last ≡ provisioned s.node
+  pub lives : LivesBy rules layers s.lives r.lives r.last
+
+-- By all rules it is a run.
+abbrev pub IsRunByAll : Type 0
+IsRunByAll = (layers : Layers) (s : Script) (r : Run) → RunBy all_rules layers s r → RunOf layers s r
+
+-- there is a record by these rules that seals two plaintexts under one key and nonce, or delivers a message twice
+abbrev pub Reuses : Rules → Type 0
+Reuses rules = (layers : Layers) × (s : Script) × (r : Run) × AreSafe layers × RunBy rules layers s r × (NoReuse (uses r) → ⊥)
+
+abbrev pub Repeats : Rules → Type 0
+Repeats rules = (layers : Layers) × (s : Script) × (r : Run) × AreSafe layers × RunBy rules layers s r × (AtMostOnce (delivered r) → ⊥)
+
+-- without the bound on SEQ: the word behind the last SEQ of an IV Index may lie between the marks, and its nonce is that of SEQ 0
+pub record DrawsWithoutBound (over next : List StoreRecord) (l : Life) : Type 0 where
+  pub from : All (λ p. (config_of over).mark ≤ word p) (draws (shown l))
+  pub below : All (λ p. word p < (config_of next).mark) (draws (shown l))
+  pub once : AllPairs (λ p q. word p ≢ word q) (draws (shown l))
+  pub rise : (k : ℕ) → AllPairs (λ p q. word p < word q) (draws (shown_by l k))
+
+-- without the mark that a life opens with: it may draw what the life before drew
+pub record DrawsFromAnywhere (over next : List StoreRecord) (l : Life) : Type 0 where
+  pub seq : All (λ p. p.seq < 2 ^ 24) (draws (shown l))
+  pub below : All (λ p. word p < (config_of next).mark) (draws (shown l))
+  pub once : AllPairs (λ p q. word p ≢ word q) (draws (shown l))
+  pub rise : (k : ℕ) → AllPairs (λ p q. word p < word q) (draws (shown_by l k))
+
+-- without the mark that it leaves: it may draw what the next life draws
+pub record DrawsUnreserved (over next : List StoreRecord) (l : Life) : Type 0 where
+  pub seq : All (λ p. p.seq < 2 ^ 24) (draws (shown l))
+  pub from : All (λ p. (config_of over).mark ≤ word p) (draws (shown l))
+  pub once : AllPairs (λ p q. word p ≢ word q) (draws (shown l))
+  pub rise : (k : ℕ) → AllPairs (λ p q. word p < word q) (draws (shown_by l k))
+
+-- without a rule for two bearers: both may draw one pair
+pub record DrawsTwice (over next : List StoreRecord) (l : Life) : Type 0 where
+  pub seq : All (λ p. p.seq < 2 ^ 24) (draws (shown l))
+  pub from : All (λ p. (config_of over).mark ≤ word p) (draws (shown l))
+  pub below : All (λ p. word p < (config_of next).mark) (draws (shown l))
+  pub rise : (k : ℕ) → AllPairs (λ p q. word p < word q) (draws (shown_by l k))
+
+-- without the replay list in what is left: a power cut forgets what was accepted
+pub record SaysTheSame (a b : List StoreRecord) : Type 0 where
+  pub config : config_of a ≡ config_of b
+
+-- without the table of the IV Index, so that a beacon may take any step: where the known IV Index falls, a name comes back whose entry
+-- was expired
+
+abbrev pub IsAnswerButStep : Answer → Answer → Type 0
+IsAnswerButStep (A.Beacon index key iv) (A.Beacon index' key' iv') = (index ≡ index') × (key ≡ key')
+IsAnswerButStep a b = a ≡ b
+
+pub record HandlesButStep (layers : Layers) (past : Past) (t : Told) : Type 0 where
+  pub sees : Sees layers past t.entry.event t.insight
+  pub answer : IsAnswerButStep t.entry.answer (answer_of layers past t.entry.event t.insight)
+  pub jobs : t.entry.jobs ≡ jobs_of layers past (config_of (records_after layers past t)) t.entry.event t.insight t.entry.answer
+
+abbrev pub AreHandledButStep : Layers → List StoreRecord → List Told → List Told → Type 0
+AreHandledButStep layers records before [] = ⊤
+AreHandledButStep layers records before (t ∷ ts) =
+    (t.records ≡ filled t.entry.fills records)
+    × HandlesButStep layers (past_of before t) t
+    × AreHandledButStep layers (records_after layers (past_of before t) t) (before ++ t ∷ []) ts
+
+-- what each rule is needed for
+pub record AreNeeded : Type 0 where
+  pub bound : Reuses (record all_rules { is_drawn = DrawsWithoutBound })
+  pub from : Reuses (record all_rules { is_drawn = DrawsFromAnywhere })
+  pub below : Reuses (record all_rules { is_drawn = DrawsUnreserved })
+  pub once : Reuses (record all_rules { is_drawn = DrawsTwice })
+  pub replay_list : Repeats (record all_rules { is_alike = SaysTheSame })
+  pub iv_table : Repeats (record all_rules { are_handled = AreHandledButStep })
