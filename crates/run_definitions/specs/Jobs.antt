@@ -1,12 +1,12 @@
 -- The jobs of an event, in their order. They see what the records say after the event: `c` in what follows.
 use Rattle.std.specs.Prelude.{ℕ, ◌+◌, ◌-◌, ◌/◌, ◌^◌, ◌==◌, ◌&&◌, ◌||◌, not, nat_lt, nat_le, Bool, false, if◌then◌else◌, List, [], ◌++◌, length, map, Option, Some, None}
-use Rattle.std.specs.Bool.{xor}
 use Rattle.std.specs.List.{flat_map, list_any, range_with_len, slice_get}
 use Rattle.std.specs.Option.{option_map, option_map_or, option_to_list}
 use Rattle.layer_definitions.specs.KeyRefresh.{net_row, own_beacon, transmit_app, transmit_material}
 use Rattle.layer_definitions.specs.Lower.{acknowledgment, last_segment, lower_text, segment}
 use Rattle.mesh_base.specs.declared.address.Address.{Address}
 use Rattle.mesh_base.specs.declared.fields.NetMaterial.{NetMaterial}
+use Rattle.mesh_base.specs.declared.iv_state.IvState.{IvState}
 use Rattle.mesh_base.specs.declared.keys.NetKeyRow.{NetKeyRow}
 use Rattle.mesh_base.specs.declared.keys.UpperKey.{UpperKey}
 use Rattle.mesh_base.specs.declared.keys.UpperKey.TheVariants as U
@@ -104,13 +104,12 @@ pdu_jobs layers past c _ answer = []
 
 -- The jobs of a tick event: acknowledgments, segments, and beacons where a multiple of 1000 ticks was passed or the IV state changed.
 
+abbrev pub is_moved : IvState → IvState → Bool
+is_moved s t = not (s.current == t.current) || (if s.progress then not t.progress else t.progress)
+
 abbrev pub beacons_due : Past → Config → ℕ → List Job
 beacons_due past c ticks =
-    if nat_lt (now_of past.told / 1000) (later past ticks / 1000)
-    || not ((config_before past).iv.current == c.iv.current)
-    || xor (config_before past).iv.progress c.iv.progress
-    then beacon_jobs c
-    else []
+    if nat_lt (now_of past.told / 1000) (later past ticks / 1000) || is_moved (config_before past).iv c.iv then beacon_jobs c else []
 
 abbrev pub tick_jobs : Layers → Past → Config → ℕ → List Job
 tick_jobs layers past c ticks = layers.acks_due past c ticks ++ layers.segments_due past c ticks ++ beacons_due past c ticks

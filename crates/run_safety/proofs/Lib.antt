@@ -15,3 +15,7 @@ pub mod NeededDraws
 pub mod NeededOnce
 pub mod NeededBound
 pub mod NeededNames
+pub mod NeededTable
+pub mod NeededOrder
+pub mod NeededLayers
+pub mod Needed

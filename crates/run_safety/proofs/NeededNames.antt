@@ -61,36 +61,36 @@ use Rattle.run_safety.proofs.WrittenRun.{ivi, material_nid}
 
 -- A control message of the node 0101, under this IV Index.
 
-abbrev control_fields : ℕ → NetFields
+abbrev pub control_fields : ℕ → NetFields
 control_fields iv = record { iv = iv; ctl = true; ttl = 0; seq = 1; src = address 0x0101; dst = address 0x1201; tpdu = 0x7f ∷ [] }
 
-abbrev control_event : ℕ → Event
+abbrev pub control_event : ℕ → Event
 control_event iv = E.Net (net_text material (control_fields iv))
 
-abbrev control_name : ℕ → Name
+abbrev pub control_name : ℕ → Name
 control_name iv = record { src = address 0x0101; pair = record { iv = iv; seq = 1 } }
 
-abbrev control_entry : ℕ → ℕ → Entry
+abbrev pub control_entry : ℕ → ℕ → Entry
 control_entry number iv =
     record { bearer = 0; number = number; event = control_event iv; fills = 0; answer = A.Control (control_name iv) (address 0x1201) 0x7f []; jobs = [] }
 
-abbrev control_insight : ℕ → Insight
+abbrev pub control_insight : ℕ → Insight
 control_insight iv = OfPdu (Some (record { fields = control_fields iv; by = key_heard })) (Some (Control 0x7f [])) None
 
-has_pdu : (iv : ℕ) → HasPdu (control_fields iv)
+pub has_pdu : (iv : ℕ) → HasPdu (control_fields iv)
 has_pdu iv = record { ttl = lit< tt; seq = lit< tt; least = lit≤ tt; most = lit≤ tt }
 
-in_widths : (iv : ℕ) → iv < 2 ^ 32 → IsInWidths (control_fields iv)
+pub in_widths : (iv : ℕ) → iv < 2 ^ 32 → IsInWidths (control_fields iv)
 in_widths iv h = record { iv = h; src = lit< tt; dst = lit< tt; tpdu = all_of (λ x. x < 2 ^ 8) (0x7f ∷ []) (lit< tt, tt) }
 
-control_lower : ReadsLower true (0x7f ∷ []) (Control 0x7f [])
+pub control_lower : ReadsLower true (0x7f ∷ []) (Control 0x7f [])
 unfolding lower_text
 control_lower = record { kind = refl; fits = (lit< tt, lit≤ tt); text = refl }
 
 zero_of : (e : Entry) → e.bearer ≡ 0 → AllByRecursion (λ (x : Entry). x.bearer ≡ 0) (e ∷ [])
 zero_of e h = (h, tt)
 
-nothing_drawn : (over next : List StoreRecord) (l : Life) → draws (shown l) ≡ [] → ((k : ℕ) → draws (shown_by l k) ≡ []) → IsDrawn over next l
+pub nothing_drawn : (over next : List StoreRecord) (l : Life) → draws (shown l) ≡ [] → ((k : ℕ) → draws (shown_by l k) ≡ []) → IsDrawn over next l
 nothing_drawn over next l e f = record {
   seq = rw e (all_of (λ (p : Pair). p.seq < 2 ^ 24) [] tt);
   from = rw e (all_of (λ (p : Pair). (config_of over).mark ≤ word p) [] tt);
@@ -99,11 +99,11 @@ nothing_drawn over next l e f = record {
   rise = λ k. rw (f k) (pairs_from_apart (λ p q. word p < word q) [] tt);
 }
 
-no_sends : (k : ℕ) → list_at {A = Sent} ([] ∷ []) k ≡ []
+pub no_sends : (k : ℕ) → list_at {A = Sent} ([] ∷ []) k ≡ []
 no_sends zero = refl
 no_sends (suc k) = refl
 
-twice : (n : Name) → AtMostOnce (n ∷ n ∷ []) → ⊥
+pub twice : (n : Name) → AtMostOnce (n ∷ n ∷ []) → ⊥
 twice n h = h 0 1 n (lit< tt) (lit< tt) refl
 
 -- A life with that message alone, under the IV Index 5.

@@ -1,6 +1,6 @@
 -- The jobs of an entry: a PDU that goes on is none of this node's, and a first segment is the first job of a `begin` entry alone.
 use Rattle.std.proofs.Common.{add-one, ne_eqb, zero, suc, ◌≡◌, ℕ, ◌-◌, ◌/◌, ◌^◌, ◌<◌, Bool, true, false, cond, not, ◌&&◌, ◌||◌, eqb, ltb, leb, List, [], ◌∷◌, ◌++◌, map, refl, ap, sym, subst, ◌∙◌, arith, Option, Some, None, length}
-use Rattle.std.specs.Bool.{⊤, xor}
+use Rattle.std.specs.Bool.{⊤}
 use Rattle.std.specs.List.{All, AllByRecursion, flat_map, list_any, range_with_len}
 use Rattle.std.specs.Option.{option_map, option_map_or, option_to_list, unwrap_or}
 use Rattle.std.proofs.lemmas.List.Elements.{recursion_from_All, All-from_recursion, All-contains}
@@ -25,7 +25,7 @@ use Rattle.run_definitions.specs.Answers.{answer_of, config_before, is_before_ca
 use Rattle.run_definitions.specs.Config.{Config, config_of, is_element}
 use Rattle.run_definitions.specs.Handling.{AreHandled, Handles, past_of, records_left}
 use Rattle.run_definitions.specs.History.{Insight, OfBeacon, OfNothing, OfPdu, Opening, Past, Reading, Told, now_of}
-use Rattle.run_definitions.specs.Jobs.{ack_asked, ack_job, ack_jobs, beacon_jobs, beacons_due, begin_jobs, block_asked, element_address, first_net, first_round_job, is_refreshed, reply_ttl, jobs_of, message_jobs, pdu_jobs, raw_jobs, refresh_jobs, relay_jobs, segment_numbers, send_jobs, send_keys, sent_job, tick_jobs, under}
+use Rattle.run_definitions.specs.Jobs.{ack_asked, ack_job, ack_jobs, beacon_jobs, beacons_due, begin_jobs, block_asked, element_address, first_net, first_round_job, is_moved, is_refreshed, reply_ttl, jobs_of, message_jobs, pdu_jobs, raw_jobs, refresh_jobs, relay_jobs, segment_numbers, send_jobs, send_keys, sent_job, tick_jobs, under}
 use Rattle.run_definitions.specs.Layers.{Layers}
 use Rattle.run_definitions.specs.Readings.{IsReading, Sees, sees_pdu, sees_beacon, sees_nothing}
 use Rattle.run_safety.specs.Safety.{AreSafe, IsFitJob}
@@ -235,7 +235,8 @@ fine_pdu layers safe own c past OfNothing answer h k = no_job
 
 -- a tick
 fine_due : (own c : Config) (past : Past) (ticks : ℕ) → AllFine own (beacons_due past c ticks)
-fine_due own c past ticks = fine_pick own (◌||◌ (◌||◌ (ltb (now_of past.told / 1000) (later past ticks / 1000)) (not (eqb (config_before past).iv.current c.iv.current))) (xor (config_before past).iv.progress c.iv.progress)) _ _ (fine_beacons own c) no_job
+fine_due own c past ticks =
+    fine_pick own (ltb (now_of past.told / 1000) (later past ticks / 1000) || is_moved (config_before past).iv c.iv) _ _ (fine_beacons own c) no_job
 
 fine_tick : (layers : Layers) → AreSafe layers → (own c : Config) (past : Past) (ticks : ℕ) → AllByRecursion (HeardFits own) past.told → AllFine own (tick_jobs layers past c ticks)
 fine_tick layers safe own c past ticks h =

@@ -21,15 +21,16 @@ use Rattle.run_safety.specs.Safety.{AreSafe}
 use Rattle.run_definitions.specs.Stores.{filled, records_after}
 use Rattle.run_definitions.specs.Uses.{AtMostOnce, NoReuse, delivered, uses}
 
--- the rules that may be changed: how entries are handled, what is left, and what is drawn
+-- the rules that may be changed: how entries are handled, in which order bearers work, what is left, and what is drawn
 pub record Rules : Type 1 where
   pub are_handled : Layers → List StoreRecord → List Told → List Told → Type 0
+  pub is_ordered : List Step → Life → Type 0
   pub is_alike : List StoreRecord → List StoreRecord → Type 0
   pub is_drawn : List StoreRecord → List StoreRecord → Life → Type 0
 
 -- as they are
 abbrev pub all_rules : Rules
-all_rules = record { are_handled = AreHandled; is_alike = IsAlike; is_drawn = IsDrawn }
+all_rules = record { are_handled = AreHandled; is_ordered = IsOrdered; is_alike = IsAlike; is_drawn = IsDrawn }
 
 -- a run by these rules, and by all the others as they are
 
@@ -46,7 +47,7 @@ pub record LifeBy (rules : Rules) (layers : Layers) (plan : List Step) (over : L
   pub entries : map (λ t. t.entry) told ≡ l.entries
   pub handled : rules.are_handled layers over [] told
   pub numbers : (k : ℕ) → IsNumbered l k
-  pub order : is_on l.opened ≡ true → IsOrdered plan l
+  pub order : is_on l.opened ≡ true → rules.is_ordered plan l
   pub leaves : LeavesBy rules layers plan l (past_at_end layers over l told) next
   pub drawn : rules.is_drawn over next l
   pub spent : All (λ s. IsSpentRight (config_of next).mark s.outcome) (shown l)
@@ -99,6 +100,10 @@ pub record DrawsTwice (over next : List StoreRecord) (l : Life) : Type 0 where
   pub below : All (λ p. word p < (config_of next).mark) (draws (shown l))
   pub rise : (k : ℕ) → AllPairs (λ p q. word p < word q) (draws (shown_by l k))
 
+-- without the order of a bearer's work: the first segment of a message may go without the line that sealed the message
+abbrev pub IsInAnyOrder : List Step → Life → Type 0
+IsInAnyOrder plan l = ⊤
+
 -- without the replay list in what is left: a power cut forgets what was accepted
 pub record SaysTheSame (a b : List StoreRecord) : Type 0 where
   pub config : config_of a ≡ config_of b
@@ -122,11 +127,17 @@ AreHandledButStep layers records before (t ∷ ts) =
     × HandlesButStep layers (past_of before t) t
     × AreHandledButStep layers (records_after layers (past_of before t) t) (before ++ t ∷ []) ts
 
+-- by all rules, but with layers that aren't safe: they may let a PDU of the node's own go on
+abbrev pub ReusesUnsafely : Type 0
+ReusesUnsafely = (layers : Layers) × (s : Script) × (r : Run) × RunOf layers s r × (NoReuse (uses r) → ⊥)
+
 -- what each rule is needed for
 pub record AreNeeded : Type 0 where
   pub bound : Reuses (record all_rules { is_drawn = DrawsWithoutBound })
   pub from : Reuses (record all_rules { is_drawn = DrawsFromAnywhere })
   pub below : Reuses (record all_rules { is_drawn = DrawsUnreserved })
   pub once : Reuses (record all_rules { is_drawn = DrawsTwice })
+  pub order : Reuses (record all_rules { is_ordered = IsInAnyOrder })
   pub replay_list : Repeats (record all_rules { is_alike = SaysTheSame })
+  pub safe_layers : ReusesUnsafely
   pub iv_table : Repeats (record all_rules { are_handled = AreHandledButStep })
