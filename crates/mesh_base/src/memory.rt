@@ -146,6 +146,7 @@ impl Sink for MemSink {
 
         // It fails at exactly the calls of its list and those that lack memory, and else takes the whole piece.
         ensures fails { IsErr result ↔ (Contains self.old.failing (one_more self.old.calls) ⊎ IsTrue self.new.lacked_memory) }
+        ensures listed { Contains self.old.failing (one_more self.old.calls) → self.new.lacked_memory ≡ false }
         ensures ok { IfOk result (λ n. n ≡ length bytes.now) }
         ensures calls { self.new.calls ≡ one_more self.old.calls }
         ensures faults { self.new.faults ≡ (if is_err result then one_more self.old.faults else self.old.faults) }
