@@ -18,11 +18,11 @@ use Rattle.run_safety.proofs.Lists.{every_append, every_back, every_front, sub_a
 use Rattle.run_safety.proofs.Lives.{left_in_range}
 use Rattle.run_safety.proofs.Rising.{Later}
 use Rattle.run_safety.proofs.Sending.{JobsFit, entries_fit}
-use Rattle.run_safety.proofs.Walking.{EntryFits, LinesFit, ShownFits, TaskFits, no_lines, plain, walk}
+use Rattle.run_safety.proofs.Walking.{EntryFits, LinesFit, ShownFits, TaskFits, no_lines, plain, tags_of, walk}
 
 lines_append : (own : Config) (xs ys : List Shown) → LinesFit own None xs → LinesFit own None ys → LinesFit own None (xs ++ ys)
 lines_append own xs ys h k = record {
-  sub = rw (flat_map-append, filter_map-append, flat_map-append) (sub_append h.sub k.sub);
+  sub = rw (flat_map-append (λ (x : Shown). tags_of x.outcome) xs ys, filter_map-append, flat_map-append) (sub_append h.sub k.sub);
   shown = every_append (ShownFits own) xs ys h.shown k.shown;
 }
 

@@ -35,7 +35,7 @@ filled_is (suc n) records =
     (fill_of (config_of records) ∷ rest, e ∙ append_assoc records (fill_of (config_of records) ∷ []) rest)
 
 joined : (r fills t stored rest l : List StoreRecord) → l ≡ (t ++ stored) ++ rest → t ≡ r ++ fills → l ≡ r ++ (fills ++ (stored ++ rest))
-joined r fills t stored rest l e g = rw (e, g, append_assoc, append_assoc) refl
+joined r fills t stored rest l e g = rw (e, g, append_assoc r fills stored, append_assoc r (fills ++ stored) rest, append_assoc fills stored rest) refl
 
 pub left_is : (layers : Layers) (records : List StoreRecord) (before ts : List Told) → AreHandled layers records before ts
     → (rest : List StoreRecord) × (records_left layers records before ts ≡ records ++ rest)

@@ -1,60 +1,44 @@
 -- The records that show that the replay list and the table of the IV Index are needed: one control message is accepted in two lives.
-use Rattle.std.proofs.Common.{◌≡◌, ◌≢◌, ℕ, zero, suc, length, ◌+◌, ◌*◌, ◌^◌, ◌<◌, ◌≤◌, lit<, lit≤, inl, inr, get_or, Bool, true, false, eqb, List, [], ◌∷◌, ◌++◌, map, refl, ap, sym, ◌∙◌, arith, ne_eqb, append-nil, Option, Some, None}
-use Rattle.std.specs.Bool.{⊤}
-use Rattle.std.specs.List.{All, AllByRecursion, AllPairs, filter}
+use Rattle.std.proofs.Common.{◌≡◌, ◌≢◌, ℕ, zero, suc, ◌+◌, ◌^◌, ◌<◌, ◌≤◌, lit<, lit≤, inl, true, List, [], ◌∷◌, ◌++◌, refl, sym, arith, append-nil, Some, None}
+use Rattle.std.specs.List.{AllByRecursion}
 use Rattle.std.proofs.lemmas.Bool.{true≢false}
-use Rattle.layer_definitions.specs.IvIndex.{iv_due}
 use Rattle.layer_definitions.specs.Network.{net_text}
 use Rattle.mesh_base.specs.IvState.{transmit_of}
-use Rattle.mesh_base.specs.declared.iv_state.IvState.{IvState}
 use Rattle.mesh_base.specs.declared.pair.Pair.{Pair}
-use Rattle.mesh_types.specs.declared.answers.Answer.{Answer}
 use Rattle.mesh_types.specs.declared.answers.Answer.TheVariants as A
 use Rattle.mesh_types.specs.declared.events.Event.{Event}
 use Rattle.mesh_types.specs.declared.events.Event.TheVariants as E
 use Rattle.mesh_types.specs.declared.history.Entry.{Entry}
 use Rattle.mesh_types.specs.declared.history.Sent.{Sent}
-use Rattle.mesh_types.specs.declared.jobs.Job.{Job}
-use Rattle.mesh_types.specs.declared.jobs.Job.TheVariants as J
-use Rattle.mesh_types.specs.declared.lines.Outcome.TheVariants as O
 use Rattle.mesh_types.specs.declared.records.StoreRecord.{StoreRecord}
 use Rattle.mesh_types.specs.declared.records.StoreRecord.TheVariants as R
 use Rattle.mesh_types.specs.declared.report.End.TheVariants as F
 use Rattle.mesh_types.specs.declared.report.Opened.TheVariants as W
 use Rattle.run_definitions.specs.Answers.{answer_of}
 use Rattle.run_definitions.specs.Config.{changed, config_of}
-use Rattle.run_definitions.specs.Handling.{AreHandled, Handles, past_of}
-use Rattle.run_definitions.specs.History.{OfNothing, Past, Told}
+use Rattle.run_definitions.specs.Handling.{AreHandled, past_of}
+use Rattle.run_definitions.specs.History.{Told}
 use Rattle.run_definitions.specs.Jobs.{jobs_of}
-use Rattle.run_definitions.specs.Lines.{shows_ctl}
-use Rattle.run_safety.specs.Needed.{DrawsFromAnywhere, DrawsTwice, DrawsUnreserved, DrawsWithoutBound, LeavesBy, LifeBy, Reuses, Rules, RunBy, all_rules}
-use Rattle.run_definitions.specs.Order.{Does, IsOrdered, Part, Placed, Step, Walks, ends, handle, handles, of_bearer, phase, placed_from, stops, whole, writes}
+use Rattle.run_safety.specs.Needed.{LeavesBy, LifeBy, Rules, all_rules}
+use Rattle.run_definitions.specs.Order.{Does, IsOrdered, Part, Step, ends, handles, phase, placed_from, stops, whole}
 use Rattle.run_definitions.specs.Pairs.{word}
 use Rattle.run_definitions.specs.Ranges.{IsInRange}
-use Rattle.run_definitions.specs.Readings.{sees_nothing}
-use Rattle.run_definitions.specs.Record.{Life, LifeOver, Run, Shown, list_at, shown, shown_by}
-use Rattle.run_definitions.specs.RunOf.{IsNumbered, IsSpentRight, Opens, Provisioning, Script, draws, no_record, opens, past_at_end, provisioned}
-use Rattle.run_definitions.specs.Seals.{own_fields}
+use Rattle.run_definitions.specs.Record.{Life, Run, Shown, list_at, shown, shown_by}
+use Rattle.run_definitions.specs.RunOf.{IsNumbered, IsSpentRight, Script, draws, no_record, past_at_end}
 use Rattle.run_definitions.specs.Stores.{stores}
-use Rattle.run_definitions.specs.Uses.{NoReuse, Use, seals_of, uses}
-use Rattle.run_safety.specs.WrittenRun.{address, dev_key, material, net_key, node, opened_state, pair, quiet_layers}
+use Rattle.run_safety.specs.WrittenRun.{address, material, node, opened_state, pair, quiet_layers}
 use Rattle.run_safety.proofs.Lists.{pairs_from_apart}
 use Rattle.run_safety.proofs.WrittenRun.{all_of, dev_key_is, net_key_is, others_none, others_placed, quiet_safe}
-use Rattle.layer_definitions.specs.Beacon.{BeaconSource, ReadsBeacon, beacon_text}
 use Rattle.layer_definitions.specs.Lower.{ReadsLower, lower_text}
-use Rattle.layer_definitions.specs.Network.{HasPdu, IsInWidths, Reads}
-use Rattle.mesh_base.specs.declared.beacon.Beacon.{Beacon}
+use Rattle.layer_definitions.specs.Network.{HasPdu, IsInWidths}
 use Rattle.mesh_base.specs.declared.fields.NetFields.{NetFields}
-use Rattle.mesh_base.specs.declared.iv_state.IvStep.TheVariants as I
 use Rattle.mesh_base.specs.declared.lower.Lower.TheVariants.{Control}
 use Rattle.mesh_base.specs.declared.pair.Name.{Name}
-use Rattle.mesh_types.specs.declared.answers.KeyStep.TheVariants as S
-use Rattle.run_definitions.specs.Entries.{entry_of}
-use Rattle.run_definitions.specs.History.{Insight, OfBeacon, OfPdu}
-use Rattle.run_safety.specs.Needed.{AreHandledButStep, HandlesButStep, Repeats, SaysTheSame}
-use Rattle.run_definitions.specs.Readings.{IsBeacon, IsReading, Sees, sees_beacon, sees_pdu}
-use Rattle.run_definitions.specs.RunOf.{IsAlike, IsDrawn}
-use Rattle.run_definitions.specs.Uses.{AtMostOnce, delivered}
+use Rattle.run_definitions.specs.History.{Insight, OfPdu}
+use Rattle.run_safety.specs.Needed.{Repeats, SaysTheSame}
+use Rattle.run_definitions.specs.Readings.{IsReading, sees_pdu}
+use Rattle.run_definitions.specs.RunOf.{IsDrawn}
+use Rattle.run_definitions.specs.Uses.{AtMostOnce}
 use Rattle.run_safety.specs.WrittenRun.{key_heard}
 use Rattle.run_safety.proofs.NeededDraws.{first_list, first_opens, mark}
 use Rattle.run_safety.proofs.WrittenRun.{ivi, material_nid}

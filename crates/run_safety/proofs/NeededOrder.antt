@@ -1,45 +1,31 @@
 -- The record that shows that the order of a bearer's work is needed: two messages that nothing sealed begin under one pair.
-use Rattle.std.proofs.Common.{◌≡◌, ◌≢◌, ℕ, zero, suc, length, ◌+◌, ◌*◌, ◌^◌, ◌<◌, ◌≤◌, lit<, lit≤, get_or, Bool, true, false, eqb, List, [], ◌∷◌, ◌++◌, map, refl, ap, sym, ◌∙◌, arith, ne_eqb, append-nil, Option, Some, None}
-use Rattle.std.specs.Bool.{⊤}
-use Rattle.std.specs.List.{All, AllByRecursion, AllPairs, filter}
+use Rattle.std.proofs.Common.{◌≡◌, ℕ, zero, suc, ◌+◌, lit<, lit≤, get_or, true, false, List, [], ◌∷◌, refl, ap, arith}
+use Rattle.std.specs.List.{AllByRecursion}
 use Rattle.std.proofs.lemmas.Bool.{true≢false}
-use Rattle.layer_definitions.specs.IvIndex.{iv_due}
-use Rattle.layer_definitions.specs.Network.{net_text}
 use Rattle.mesh_base.specs.IvState.{transmit_of}
-use Rattle.mesh_base.specs.declared.iv_state.IvState.{IvState}
-use Rattle.mesh_base.specs.declared.pair.Pair.{Pair}
-use Rattle.mesh_types.specs.declared.answers.Answer.{Answer}
 use Rattle.mesh_types.specs.declared.answers.Answer.TheVariants as A
-use Rattle.mesh_types.specs.declared.events.Event.{Event}
 use Rattle.mesh_types.specs.declared.events.Event.TheVariants as E
 use Rattle.mesh_types.specs.declared.history.Entry.{Entry}
 use Rattle.mesh_types.specs.declared.history.Sent.{Sent}
 use Rattle.mesh_types.specs.declared.jobs.Job.{Job}
 use Rattle.mesh_types.specs.declared.jobs.Job.TheVariants as J
 use Rattle.mesh_types.specs.declared.lines.Outcome.TheVariants as O
-use Rattle.mesh_types.specs.declared.records.StoreRecord.{StoreRecord}
-use Rattle.mesh_types.specs.declared.records.StoreRecord.TheVariants as R
 use Rattle.mesh_types.specs.declared.report.End.TheVariants as F
 use Rattle.mesh_types.specs.declared.report.Opened.TheVariants as W
 use Rattle.run_definitions.specs.Answers.{answer_of}
 use Rattle.run_definitions.specs.Config.{changed, config_of}
-use Rattle.run_definitions.specs.Handling.{AreHandled, Handles, past_of}
-use Rattle.run_definitions.specs.History.{OfNothing, Past, Told}
+use Rattle.run_definitions.specs.Handling.{AreHandled}
+use Rattle.run_definitions.specs.History.{OfNothing, Told}
 use Rattle.run_definitions.specs.Jobs.{jobs_of}
-use Rattle.run_definitions.specs.Lines.{shows_ctl}
-use Rattle.run_safety.specs.Needed.{DrawsFromAnywhere, DrawsTwice, DrawsUnreserved, DrawsWithoutBound, LeavesBy, LifeBy, Reuses, Rules, RunBy, all_rules}
-use Rattle.run_definitions.specs.Order.{Does, IsOrdered, Part, Placed, Step, Walks, ends, handle, handles, of_bearer, phase, placed_from, stops, whole, writes}
-use Rattle.run_definitions.specs.Pairs.{word}
+use Rattle.run_safety.specs.Needed.{LeavesBy, LifeBy, Reuses, Rules, all_rules}
 use Rattle.run_definitions.specs.Ranges.{IsInRange}
 use Rattle.run_definitions.specs.Readings.{sees_nothing}
-use Rattle.run_definitions.specs.Record.{Life, LifeOver, Run, Shown, list_at, shown, shown_by}
-use Rattle.run_definitions.specs.RunOf.{IsNumbered, IsSpentRight, Opens, Provisioning, Script, draws, no_record, opens, past_at_end, provisioned}
-use Rattle.run_definitions.specs.Seals.{own_fields}
+use Rattle.run_definitions.specs.Record.{Life, Run, Shown, shown, shown_by}
+use Rattle.run_definitions.specs.RunOf.{IsNumbered, IsSpentRight, Script, draws, no_record, past_at_end}
 use Rattle.run_definitions.specs.Stores.{stores}
-use Rattle.run_definitions.specs.Uses.{NoReuse, Use, seals_of, uses}
-use Rattle.run_safety.specs.WrittenRun.{address, dev_key, material, net_key, node, opened_state, pair, quiet_layers}
-use Rattle.run_safety.proofs.Lists.{pairs_from_apart}
-use Rattle.run_safety.proofs.WrittenRun.{all_of, dev_key_is, net_key_is, others_none, others_placed, quiet_safe}
+use Rattle.run_definitions.specs.Uses.{seals_of, uses}
+use Rattle.run_safety.specs.WrittenRun.{address, material, node, opened_state, pair, quiet_layers}
+use Rattle.run_safety.proofs.WrittenRun.{all_of, dev_key_is, net_key_is, others_none, quiet_safe}
 use Rattle.layer_definitions.specs.Lower.{lower_text, segment}
 use Rattle.run_safety.specs.Needed.{IsInAnyOrder}
 use Rattle.run_safety.proofs.NeededDraws.{Clash, first_list, first_opens, mark, some_use}

@@ -1,6 +1,5 @@
 -- The written run is a run of its script.
-use Rattle.std.proofs.Common.{◌≡◌, ℕ, ◌≢◌, zero, suc, length, ◌+◌, ◌*◌, get_or, ◌/◌, ◌%◌, ◌^◌, ◌<◌, ◌≤◌, lit<, lit≤, inl, inr, Bool, true, false, eqb, List, [], ◌∷◌, ◌++◌, map, refl, ap, sym, arith, ne_eqb, append-nil, Option, Some, None}
-use Rattle.std.specs.Bool.{⊤}
+use Rattle.std.proofs.Common.{◌≡◌, ℕ, ◌≢◌, zero, suc, length, ◌+◌, ◌*◌, get_or, ◌/◌, ◌%◌, ◌^◌, ◌<◌, ◌≤◌, lit<, lit≤, inl, true, false, eqb, List, [], ◌∷◌, ◌++◌, map, refl, sym, arith, ne_eqb, append-nil, Some, None}
 use Rattle.cipher_definitions.specs.Octets.{xor_lists, blocks, whole_block, whole_blocks}
 use Rattle.cipher_definitions.specs.Aes.{times_x, times_low_bits, inverse_from, inverse, affine, sub_octet, sub_octets, shift_rows, mixed, mix_columns, round, last_round, rounds, turned_word, words_after, next_key, keys_from, round_keys, cipher, aes, chained}
 use Rattle.cipher_definitions.specs.Ccm.{additional_blocks, ccm_tag, stream, ccm_text, ccm_mic}
@@ -10,8 +9,8 @@ use Rattle.std.proofs.lemmas.Bool.{true≢false}
 use Rattle.std.proofs.lemmas.List.Elements.{All-from_recursion}
 use Rattle.cipher_definitions.specs.Kdf.{k2, k2_number, master_credentials}
 use Rattle.layer_definitions.specs.KeyRefresh.{master_material}
-use Rattle.layer_definitions.specs.Lower.{ReadsLower, lower_text, seq_auth}
-use Rattle.layer_definitions.specs.Network.{HasPdu, IsInWidths, Reads, ReadsUnder, net_text}
+use Rattle.layer_definitions.specs.Lower.{ReadsLower, lower_text}
+use Rattle.layer_definitions.specs.Network.{HasPdu, IsInWidths, net_text}
 use Rattle.mesh_base.specs.IvState.{transmit_of}
 use Rattle.mesh_base.specs.declared.fields.NetFields.{NetFields}
 use Rattle.mesh_base.specs.declared.fields.NetMaterial.{NetMaterial}

@@ -1,13 +1,12 @@
 -- Rules that are easy to lose, and what happens without them: for each there is a record that keeps all other rules of a run and isn't
 -- safe.
 use Rattle.std.specs.Prelude.{◌≡◌, ◌≢◌, ℕ, ◌^◌, ◌<◌, ◌≤◌, true, false, List, [], ◌∷◌, ◌++◌, map, All, AllPairs, ⊤}
-use Rattle.mesh_base.specs.declared.pair.Pair.{Pair}
 use Rattle.mesh_types.specs.declared.answers.Answer.{Answer}
 use Rattle.mesh_types.specs.declared.answers.Answer.TheVariants as A
 use Rattle.mesh_types.specs.declared.records.StoreRecord.{StoreRecord}
 use Rattle.run_definitions.specs.Answers.{answer_of}
 use Rattle.run_definitions.specs.Config.{config_of}
-use Rattle.run_definitions.specs.Handling.{AreHandled, past_of, records_left}
+use Rattle.run_definitions.specs.Handling.{AreHandled, past_of}
 use Rattle.run_definitions.specs.History.{Past, Told}
 use Rattle.run_definitions.specs.Jobs.{jobs_of}
 use Rattle.run_definitions.specs.Layers.{Layers}
@@ -16,7 +15,7 @@ use Rattle.run_definitions.specs.Pairs.{word}
 use Rattle.run_definitions.specs.Ranges.{IsInRange}
 use Rattle.run_definitions.specs.Readings.{Sees}
 use Rattle.run_definitions.specs.Record.{Life, LifeOver, Run, first_over, shown, shown_by}
-use Rattle.run_definitions.specs.RunOf.{IsAlike, IsDrawn, IsIdle, IsNumbered, IsSpentRight, Leaves, LifeOf, Opens, Outlasts, RunOf, Script, draws, is_on, past_at_end, provisioned}
+use Rattle.run_definitions.specs.RunOf.{IsAlike, IsDrawn, IsIdle, IsNumbered, IsSpentRight, Opens, Outlasts, RunOf, Script, draws, is_on, past_at_end, provisioned}
 use Rattle.run_safety.specs.Safety.{AreSafe}
 use Rattle.run_definitions.specs.Stores.{filled, records_after}
 use Rattle.run_definitions.specs.Uses.{AtMostOnce, NoReuse, delivered, uses}

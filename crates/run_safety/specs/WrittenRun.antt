@@ -1,6 +1,6 @@
 -- A run, written down: a message is delivered, a PDU of another node goes on, numbers are reserved, and a message of twelve octets goes
 -- out as a long one; after its first segment power is cut. It shows that the rules of a run don't exclude each other.
-use Rattle.std.specs.Prelude.{◌≡◌, ℕ, ◌+◌, ◌*◌, ◌^◌, Bool, true, false, List, [], ◌∷◌, ◌++◌, Some, None, replicate}
+use Rattle.std.specs.Prelude.{ℕ, ◌+◌, ◌*◌, ◌^◌, Bool, true, false, List, [], ◌∷◌, ◌++◌, None, replicate}
 use Rattle.layer_definitions.specs.KeyRefresh.{master_material}
 use Rattle.layer_definitions.specs.Lower.{lower_text, segment}
 use Rattle.layer_definitions.specs.Network.{net_text}
@@ -9,10 +9,7 @@ use Rattle.mesh_base.specs.declared.fields.Heard.{Heard}
 use Rattle.mesh_base.specs.declared.fields.NetFields.{NetFields}
 use Rattle.mesh_base.specs.declared.fields.NetMaterial.{NetMaterial}
 use Rattle.mesh_base.specs.declared.iv_state.IvState.{IvState}
-use Rattle.mesh_base.specs.declared.keys.UpperKey.{UpperKey}
 use Rattle.mesh_base.specs.declared.keys.UpperKey.TheVariants as U
-use Rattle.mesh_base.specs.declared.lower.Lower.{Lower}
-use Rattle.mesh_base.specs.declared.lower.Lower.TheVariants.{Access, Control}
 use Rattle.mesh_base.specs.declared.pair.Name.{Name}
 use Rattle.mesh_base.specs.declared.pair.Pair.{Pair}
 use Rattle.mesh_types.specs.declared.answers.Answer.TheVariants as A
@@ -29,10 +26,9 @@ use Rattle.mesh_types.specs.declared.records.StoreRecord.{StoreRecord}
 use Rattle.mesh_types.specs.declared.records.StoreRecord.TheVariants as R
 use Rattle.mesh_types.specs.declared.report.End.TheVariants as F
 use Rattle.mesh_types.specs.declared.report.Opened.TheVariants as W
-use Rattle.run_definitions.specs.History.{Insight, OfNothing, OfPdu, Opening, Reading}
 use Rattle.run_definitions.specs.Layers.{Layers}
 use Rattle.run_definitions.specs.Order.{Step, phase}
-use Rattle.run_definitions.specs.Record.{Life, LifeOver, Run}
+use Rattle.run_definitions.specs.Record.{Life, Run}
 use Rattle.run_definitions.specs.RunOf.{Provisioning, RunOf, Script, provisioned}
 use Rattle.run_safety.specs.Safety.{AreSafe}
 use Rattle.run_definitions.specs.Seals.{own_fields}
