@@ -1,0 +1,117 @@
+// The journal: which bank counts, how many of its slots are used, and whether a write failed.
+ghost use Rattle.std.specs.Prelude.{◌≡◌, ℕ, ◌+◌, ◌*◌, ◌<◌, ◌≤◌, true, false, Err, IsTrue, IsOk, IfOk, OnOk, OnErr};
+ghost use Rattle.flash_model.specs.Chip.{Keeps, LeavesOnly, Stays};
+ghost use Rattle.layer_definitions.specs.Slots.{gated, text_at, recovered};
+ghost use Rattle.slot_journal.specs.Tie.{IsJournalOf, IsAppended, with_last};
+
+use crate::text::{gated_slot, read_slot, write_slot};
+use flash_model::{Flash, FlashFailed};
+use mesh_base::slot::Slot;
+use std::marker::Model;
+use thiserror::Error;
+
+/// Slots of a bank that hold records: all but its header.
+const ROOM: u32 = 1023;
+
+/// Slots of a bank.
+pub const BANK_SLOTS: u32 = 1024;
+
+/// Why a slot wasn't appended.
+#[derive(Clone, Copy, Debug, PartialEq, Eq, Error)]
+pub enum AppendFault {
+    /// An earlier write failed: mount the flash again.
+    #[error("an earlier write to the journal failed")]
+    Closed,
+    /// The bank has no slot left.
+    #[error("all {used} slots of the bank are used")]
+    Full { used: u32 },
+    /// The flash failed in this call. The journal is closed from then on.
+    #[error("the flash failed")]
+    Flash,
+}
+
+impl From<FlashFailed> for AppendFault {
+    ghost use Rattle.std.specs.Prelude.{◌≡◌};
+    ghost use Rattle.slot_journal.specs.declared.journal.AppendFault.TheVariants.{Flash};
+
+    ghost from_gives = { λ _ e. e ≡ Flash };
+
+    fn from(_: FlashFailed) -> Self {
+        AppendFault::Flash
+    }
+}
+
+/// A journal on a flash. The flash stays with the caller, and is passed to each call.
+#[derive(Debug, Drop)]
+pub struct Journal {
+    pub(crate) bank: u32,
+    pub(crate) used: u32,
+    pub(crate) closed: bool,
+}
+
+impl Model for Journal {
+    ghost use Rattle.std.specs.Prelude.{◌≤◌};
+    ghost use Rattle.slot_journal.specs.View.{JournalView};
+
+    ghost Value = { JournalView };
+
+    ghost view = { λ j. record { bank = j.bank; used = j.used; closed = j.closed } };
+
+    ghost invariant = { λ j. (j.bank ≤ 1) × (j.used ≤ 1023) };
+}
+
+impl Journal {
+    /// How many slots are used, up to the last that has an octet other than ff.
+    pub fn used(&self) -> u32
+        ensures { result ≡ self.now.used }
+    {
+        self.used
+    }
+
+    /// What slot `n` holds, from 1 to `used`. It is nothing where the slot's gate isn't 00: a cut left it torn.
+    pub fn slot<F: Flash>(&self, flash: &mut F, n: u32) -> Result<Option<Slot>, FlashFailed>
+        requires some { 0 < n }
+        requires within { n ≤ self.now.used }
+
+        ensures value { IfOk result (λ slot. slot ≡ gated (text_at (F.chip flash.old).now (1024 * self.now.bank + n))) }
+        ensures stays { IsTrue (F.chip flash.old).honest → Stays (F.chip flash.old) (F.chip flash.new) }
+
+        // of every flash, honest or not
+        ensures cause { OnErr result ((F.chip flash.old).faults < (F.chip flash.new).faults) }
+        ensures sure { IsTrue (F.chip flash.old).sure → IsOk result }
+        ensures same { Keeps (F.chip flash.old) (F.chip flash.new) }
+    {
+        let text = read_slot(flash, BANK_SLOTS * self.bank + n)?;
+        Ok(gated_slot(&text))
+    }
+
+    /// Appends a slot. At `Ok` it is durable. In every image that a cut at any moment leaves, the slots are those of before,
+    /// or these with the new one last.
+    pub fn append<F: Flash>(&mut self, flash: &mut F, item: &Slot) -> Result<(), AppendFault>
+        ensures closed { self.old.closed ≡ true → (result ≡ Err AppendFault.Closed) × (self.new ≡ self.old) × (flash.new ≡ flash.old) }
+        ensures full { self.old.closed ≡ false → self.old.used ≡ 1023 → (result ≡ Err (AppendFault.Full 1023)) × (self.new ≡ self.old) × (flash.new ≡ flash.old) }
+        ensures cause { self.old.closed ≡ false → self.old.used < 1023 → OnErr result ((result ≡ Err AppendFault.Flash) × (self.new ≡ record self.old { closed = true }) × ((F.chip flash.old).faults < (F.chip flash.new).faults)) }
+        ensures ok { OnOk result (self.new ≡ record self.old { used = self.old.used + 1 }) }
+
+        // Of a journal of this flash.
+        ensures kept { IsJournalOf (F.chip flash.old) self.old → OnOk result (IsJournalOf (F.chip flash.new) self.new) }
+        ensures durable { IsJournalOf (F.chip flash.old) self.old → OnOk result (recovered (F.chip flash.new).now ≡ with_last item.now (recovered (F.chip flash.old).now)) }
+        ensures any_moment { IsJournalOf (F.chip flash.old) self.old → LeavesOnly (F.chip flash.old) (F.chip flash.new) (IsAppended (recovered (F.chip flash.old).now) item.now) }
+
+        // of every flash, honest or not
+        ensures sure { IsTrue (F.chip flash.old).sure → self.old.closed ≡ false → self.old.used < 1023 → IsOk result }
+        ensures same { Keeps (F.chip flash.old) (F.chip flash.new) }
+    {
+        if self.closed {
+            return Err(AppendFault::Closed);
+        }
+        if self.used == ROOM {
+            return Err(AppendFault::Full { used: self.used });
+        }
+        self.closed = true;
+        write_slot(flash, BANK_SLOTS * self.bank + (self.used + 1), item)?;
+        self.closed = false;
+        self.used += 1;
+        Ok(())
+    }
+}

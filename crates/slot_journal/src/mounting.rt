@@ -1,0 +1,82 @@
+// A journal is found again on its flash.
+ghost use Rattle.std.specs.Prelude.{◌≡◌, ℕ, ◌<◌, ◌≤◌, Some, IsTrue, IsOk, IfOk, IfErr, OnErr};
+ghost use Rattle.flash_model.specs.Chip.{IsFresh, Keeps, Stays};
+ghost use Rattle.layer_definitions.specs.Slots.{slots_to, recovered};
+ghost use Rattle.slot_journal.specs.Headers.{IsTidy};
+ghost use Rattle.slot_journal.specs.Tie.{IsJournalOf, IsMounted, IsUsed};
+ghost use Rattle.slot_journal.specs.Causes.{IsMountCause};
+
+use crate::header::choose;
+use crate::journal::{BANK_SLOTS, Journal};
+use crate::text::{is_blank, read_slot};
+use flash_model::{Flash, FlashFailed};
+use thiserror::Error;
+
+/// Why no journal was mounted.
+#[derive(Clone, Copy, Debug, PartialEq, Eq, Error)]
+pub enum NoMount {
+    /// The flash failed in this call.
+    #[error("the flash failed")]
+    Flash,
+    /// No bank has a sound header.
+    #[error("no bank has a sound header")]
+    NoBank,
+}
+
+impl From<FlashFailed> for NoMount {
+    ghost use Rattle.std.specs.Prelude.{◌≡◌};
+    ghost use Rattle.slot_journal.specs.declared.mounting.NoMount.TheVariants.{Flash};
+
+    ghost from_gives = { λ _ e. e ≡ Flash };
+
+    fn from(_: FlashFailed) -> Self {
+        NoMount::Flash
+    }
+}
+
+impl Journal {
+    /// Finds the journal on a flash. It writes nothing.
+    pub fn mount<F: Flash>(flash: &mut F) -> Result<Self, NoMount>
+        ensures cause { IfErr result (IsMountCause (F.chip flash.old) (F.chip flash.new)) }
+        ensures mounted { IsTrue (F.chip flash.old).honest → IfOk result (IsMounted (F.chip flash.old).now) }
+        ensures value { IsTrue (F.chip flash.old).honest → IfOk result (λ j. recovered (F.chip flash.old).now ≡ Some (slots_to (F.chip flash.old).now j.bank j.used)) }
+        ensures kept { IsFresh (F.chip flash.old) → IsTidy (F.chip flash.old).now → IfOk result (IsJournalOf (F.chip flash.new)) }
+        ensures stays { IsTrue (F.chip flash.old).honest → Stays (F.chip flash.old) (F.chip flash.new) }
+
+        // of every flash, honest or not
+        ensures sure { IsTrue (F.chip flash.old).sure → IfErr result (λ e. e ≡ NoMount.NoBank) }
+        ensures same { Keeps (F.chip flash.old) (F.chip flash.new) }
+    {
+        let first = read_slot(flash, 0)?;
+        let second = read_slot(flash, BANK_SLOTS)?;
+        let Some(bank) = choose(&first, &second) else {
+            return Err(NoMount::NoBank);
+        };
+        let used = count_used(flash, bank)?;
+        Ok(Journal {
+            bank,
+            used,
+            closed: false,
+        })
+    }
+}
+
+// The number of the last slot of a bank that has an octet other than ff, and 0 where there is none.
+fn count_used<F: Flash>(flash: &mut F, bank: u32) -> Result<u32, FlashFailed>
+    requires { bank ≤ 1 }
+    ensures few { IfOk result (λ used. used ≤ 1023) }
+    ensures value { IsTrue (F.chip flash.old).honest → IfOk result (IsUsed (F.chip flash.old).now bank) }
+    ensures stays { IsTrue (F.chip flash.old).honest → Stays (F.chip flash.old) (F.chip flash.new) }
+    ensures cause { OnErr result ((F.chip flash.old).faults < (F.chip flash.new).faults) }
+    ensures sure { IsTrue (F.chip flash.old).sure → IsOk result }
+    ensures same { Keeps (F.chip flash.old) (F.chip flash.new) }
+{
+    let mut used = 0;
+    for n in 1..BANK_SLOTS {
+        let text = read_slot(flash, BANK_SLOTS * bank + n)?;
+        if !is_blank(&text) {
+            used = n;
+        }
+    }
+    Ok(used)
+}

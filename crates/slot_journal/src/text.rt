@@ -1,0 +1,82 @@
+// One slot, written and read.
+ghost use Rattle.std.specs.Prelude.{◌≡◌, ℕ, ◌+◌, ◌*◌, ◌<◌, ◌↔◌, [], ◌∷◌, ◌++◌, IsTrue, IsOk, IfOk, OnOk, OnErr};
+ghost use Rattle.flash_model.specs.Chip.{IsFresh, Keeps, LeavesOnly, Stays};
+ghost use Rattle.slot_journal.specs.Slots.{IsWritten, IsSlotWrite};
+ghost use Rattle.layer_definitions.specs.Slots.{gated, text_at, text_of, blank_text};
+
+use flash_model::{Flash, FlashFailed};
+use mesh_base::slot::Slot;
+
+/// Octets of a slot.
+pub const SLOT_OCTETS: usize = 32;
+
+const FRONT_OCTETS: usize = 31;
+
+/// Writes slot number `n` of the flash.
+pub fn write_slot<F: Flash>(flash: &mut F, n: u32, slot: &Slot) -> Result<(), FlashFailed>
+    requires { n < 2048 }
+    ensures fresh { IsFresh (F.chip flash.old) → OnOk result (IsFresh (F.chip flash.new)) }
+    ensures written { IsFresh (F.chip flash.old) → text_at (F.chip flash.old).now n ≡ blank_text → OnOk result (IsWritten n (text_of slot.now) (F.chip flash.old).now (F.chip flash.new).now) }
+    ensures any_moment { IsFresh (F.chip flash.old) → text_at (F.chip flash.old).now n ≡ blank_text → LeavesOnly (F.chip flash.old) (F.chip flash.new) (IsSlotWrite n (text_of slot.now) (F.chip flash.old).now) }
+    ensures cause { OnErr result ((F.chip flash.old).faults < (F.chip flash.new).faults) }
+    ensures sure { IsTrue (F.chip flash.old).sure → IsOk result }
+    ensures same { Keeps (F.chip flash.old) (F.chip flash.new) }
+{
+    let mut front = [slot.kind; FRONT_OCTETS];
+    front[1..].copy_from_slice(&slot.body);
+    write_front(flash, n, &front)
+}
+
+// First all but the gate, and then the gate: so a slot that a cut leaves torn never counts.
+fn write_front<F: Flash>(
+    flash: &mut F,
+    n: u32,
+    front: &[u8; FRONT_OCTETS],
+) -> Result<(), FlashFailed>
+    requires { n < 2048 }
+    ensures fresh { IsFresh (F.chip flash.old) → OnOk result (IsFresh (F.chip flash.new)) }
+    ensures written { IsFresh (F.chip flash.old) → text_at (F.chip flash.old).now n ≡ blank_text → OnOk result (IsWritten n (front.now ++ 0 ∷ []) (F.chip flash.old).now (F.chip flash.new).now) }
+    ensures any_moment { IsFresh (F.chip flash.old) → text_at (F.chip flash.old).now n ≡ blank_text → LeavesOnly (F.chip flash.old) (F.chip flash.new) (IsSlotWrite n (front.now ++ 0 ∷ []) (F.chip flash.old).now) }
+    ensures cause { OnErr result ((F.chip flash.old).faults < (F.chip flash.new).faults) }
+    ensures sure { IsTrue (F.chip flash.old).sure → IsOk result }
+    ensures same { Keeps (F.chip flash.old) (F.chip flash.new) }
+{
+    flash.program(32 * n, front)?;
+    flash.program(32 * n + 31, &[0])
+}
+
+/// Reads the octets of slot number `n` of the flash.
+pub fn read_slot<F: Flash>(flash: &mut F, n: u32) -> Result<[u8; SLOT_OCTETS], FlashFailed>
+    requires { n < 2048 }
+    ensures value { IfOk result (λ text. text ≡ text_at (F.chip flash.old).now n) }
+    ensures stays { IsTrue (F.chip flash.old).honest → Stays (F.chip flash.old) (F.chip flash.new) }
+    ensures cause { OnErr result ((F.chip flash.old).faults < (F.chip flash.new).faults) }
+    ensures sure { IsTrue (F.chip flash.old).sure → IsOk result }
+    ensures same { Keeps (F.chip flash.old) (F.chip flash.new) }
+{
+    let mut text = [0; SLOT_OCTETS];
+    flash.read(32 * n, &mut text)?;
+    Ok(text)
+}
+
+/// Whether all octets of a slot are ff.
+pub fn is_blank(text: &[u8; SLOT_OCTETS]) -> bool
+    ensures { IsTrue result ↔ (text.now ≡ blank_text) }
+{
+    *text == [0xff; SLOT_OCTETS]
+}
+
+/// What the octets of a slot hold: nothing where the gate isn't 00.
+pub fn gated_slot(text: &[u8; SLOT_OCTETS]) -> Option<Slot>
+    ensures { result ≡ gated text.now }
+{
+    if text[31] != 0 {
+        return None;
+    }
+    let mut body = [0; 30];
+    body.copy_from_slice(&text[1..31]);
+    Some(Slot {
+        kind: text[0],
+        body,
+    })
+}
