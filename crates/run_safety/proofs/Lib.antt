@@ -17,5 +17,7 @@ pub mod NeededBound
 pub mod NeededNames
 pub mod NeededTable
 pub mod NeededOrder
+pub mod NeededJobs
+pub mod NeededMark
 pub mod NeededLayers
 pub mod Needed

@@ -10,7 +10,9 @@ use Rattle.run_safety.proofs.NeededBound.{bound_needed}
 use Rattle.run_safety.proofs.NeededDraws.{below_needed, from_needed}
 use Rattle.run_safety.proofs.NeededNames.{replay_list_needed}
 use Rattle.run_safety.proofs.NeededOnce.{once_needed}
-use Rattle.run_safety.proofs.NeededOrder.{order_needed}
+use Rattle.run_safety.proofs.NeededOrder.{idle_needed, order_needed}
+use Rattle.run_safety.proofs.NeededJobs.{jobs_needed}
+use Rattle.run_safety.proofs.NeededMark.{mark_needed, outlasts_needed}
 use Rattle.run_safety.proofs.NeededLayers.{safe_layers_needed}
 use Rattle.run_safety.proofs.NeededTable.{iv_table_needed}
 
@@ -45,6 +47,10 @@ are_needed = record {
   below = below_needed;
   once = once_needed;
   order = order_needed;
+  idle = idle_needed;
+  jobs = jobs_needed;
+  outlasts = outlasts_needed;
+  mark = mark_needed;
   replay_list = replay_list_needed;
   safe_layers = safe_layers_needed;
   iv_table = iv_table_needed;

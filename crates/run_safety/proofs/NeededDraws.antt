@@ -78,7 +78,7 @@ no_second k = ne_eqb 1 (suc (suc k)) (λ e. absurd (omega (arith, e)))
 abbrev pub mark : ℕ
 mark = 5 * 2 ^ 25
 
-abbrev numbers : ℕ → StoreRecord
+abbrev pub numbers : ℕ → StoreRecord
 numbers reserved = R.Numbers 5 false (mark + reserved) 0 192
 
 abbrev pub first_list : List StoreRecord
@@ -90,10 +90,10 @@ second_list = first_list ++ numbers 256 ∷ []
 abbrev third_list : List StoreRecord
 third_list = second_list ++ numbers 512 ∷ []
 
-abbrev plan : ℕ → List Step
+abbrev pub plan : ℕ → List Step
 plan octet = phase ((raw_event octet ∷ []) ∷ []) ∷ []
 
-abbrev life : ℕ → Pair → ℕ → Life
+abbrev pub life : ℕ → Pair → ℕ → Life
 life from p octet = record {
   opened = W.On opened_state from;
   entries = raw_entry 0 1 0 octet ∷ [];
@@ -118,7 +118,7 @@ does_one : (p : Pair) (octet k : ℕ) → Does ((raw_event octet ∷ []) ∷ [])
 does_one p octet zero = walk_one p octet
 does_one p octet (suc k) = rw (others_placed k 0 (raw_entry 0 1 0 octet ∷ []) (one_bearer 1 0 octet)) stops
 
-ordered : (from : ℕ) (p : Pair) (octet : ℕ) → IsOrdered (plan octet) (life from p octet)
+pub ordered : (from : ℕ) (p : Pair) (octet : ℕ) → IsOrdered (plan octet) (life from p octet)
 ordered from p octet = record {
   parts = part p octet ∷ [];
   entries = refl;
@@ -126,7 +126,7 @@ ordered from p octet = record {
   phases = whole (does_one p octet) ends;
 }
 
-numbered : (from : ℕ) (p : Pair) (octet k : ℕ) → IsNumbered (life from p octet) k
+pub numbered : (from : ℕ) (p : Pair) (octet k : ℕ) → IsNumbered (life from p octet) k
 numbered from p octet zero = refl
 numbered from p octet (suc k) = rw (others_none k (raw_entry 0 1 0 octet ∷ []) (one_bearer 1 0 octet)) refl
 
@@ -159,10 +159,10 @@ second_range = (
   ),
 )
 
-abbrev first_told : ℕ → Told
+abbrev pub first_told : ℕ → Told
 first_told octet = record { entry = raw_entry 0 1 0 octet; insight = OfNothing; records = first_list }
 
-first_handled : (octet : ℕ) → AreHandled quiet_layers first_list [] (first_told octet ∷ [])
+pub first_handled : (octet : ℕ) → AreHandled quiet_layers first_list [] (first_told octet ∷ [])
 unfolding changed answer_of stores jobs_of transmit_of
 first_handled octet = (refl, record { sees = sees_nothing refl; answer = refl; jobs = refl }, tt)
 
@@ -239,14 +239,14 @@ clash : (p : Pair) → Clash (uses (run p))
 unfolding changed seals_of
 clash p h = other_text _ _ refl refl (h 0 1 some_use (lit< tt) (lit< tt) refl refl)
 
-rises : (from : ℕ) (p : Pair) (octet k : ℕ) → AllPairs (λ p q. word p < word q) (draws (shown_by (life from p octet) k))
+pub rises : (from : ℕ) (p : Pair) (octet k : ℕ) → AllPairs (λ p q. word p < word q) (draws (shown_by (life from p octet) k))
 rises from p octet zero = pairs_from_apart (λ p q. word p < word q) (p ∷ []) (tt, tt)
 rises from p octet (suc k) = pairs_from_apart (λ p q. word p < word q) [] tt
 
-once : (p : Pair) → AllPairs (λ p q. word p ≢ word q) (p ∷ [])
+pub once : (p : Pair) → AllPairs (λ p q. word p ≢ word q) (p ∷ [])
 once p = pairs_from_apart (λ p q. word p ≢ word q) (p ∷ []) (tt, tt)
 
-each : (P : Pair → Type 0) (p : Pair) → P p → All P (p ∷ [])
+pub each : (P : Pair → Type 0) (p : Pair) → P p → All P (p ∷ [])
 each P p h = all_of P (p ∷ []) (h, tt)
 
 -- the second life draws what the first one drew

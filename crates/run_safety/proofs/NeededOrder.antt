@@ -1,5 +1,6 @@
--- The record that shows that the order of a bearer's work is needed: two messages that nothing sealed begin under one pair.
-use Rattle.std.proofs.Common.{◌≡◌, ℕ, zero, suc, ◌+◌, lit<, lit≤, get_or, true, false, List, [], ◌∷◌, refl, ap, arith}
+-- The records that show that the order of a bearer's work is needed, and that a life that isn't run does nothing: two messages that
+-- nothing sealed begin under one pair.
+use Rattle.std.proofs.Common.{◌≡◌, ℕ, zero, suc, ◌+◌, lit<, lit≤, get_or, true, false, List, [], ◌∷◌, refl, ap, sym, arith}
 use Rattle.std.specs.List.{AllByRecursion}
 use Rattle.std.proofs.lemmas.Bool.{true≢false}
 use Rattle.mesh_base.specs.IvState.{transmit_of}
@@ -10,7 +11,9 @@ use Rattle.mesh_types.specs.declared.history.Sent.{Sent}
 use Rattle.mesh_types.specs.declared.jobs.Job.{Job}
 use Rattle.mesh_types.specs.declared.jobs.Job.TheVariants as J
 use Rattle.mesh_types.specs.declared.lines.Outcome.TheVariants as O
+use Rattle.mesh_types.specs.declared.report.End.{End}
 use Rattle.mesh_types.specs.declared.report.End.TheVariants as F
+use Rattle.mesh_types.specs.declared.report.Opened.{Opened}
 use Rattle.mesh_types.specs.declared.report.Opened.TheVariants as W
 use Rattle.run_definitions.specs.Answers.{answer_of}
 use Rattle.run_definitions.specs.Config.{changed, config_of}
@@ -21,13 +24,14 @@ use Rattle.run_safety.specs.Needed.{LeavesBy, LifeBy, Reuses, Rules, all_rules}
 use Rattle.run_definitions.specs.Ranges.{IsInRange}
 use Rattle.run_definitions.specs.Readings.{sees_nothing}
 use Rattle.run_definitions.specs.Record.{Life, Run, Shown, shown, shown_by}
-use Rattle.run_definitions.specs.RunOf.{IsNumbered, IsSpentRight, Script, draws, no_record, past_at_end}
+use Rattle.run_definitions.specs.Order.{IsOrdered, Step}
+use Rattle.run_definitions.specs.RunOf.{IsIdle, IsNumbered, IsSpentRight, Opens, Script, cut_at_start, draws, is_on, no_record, past_at_end}
 use Rattle.run_definitions.specs.Stores.{stores}
 use Rattle.run_definitions.specs.Uses.{seals_of, uses}
 use Rattle.run_safety.specs.WrittenRun.{address, material, node, opened_state, pair, quiet_layers}
 use Rattle.run_safety.proofs.WrittenRun.{all_of, dev_key_is, net_key_is, others_none, quiet_safe}
 use Rattle.layer_definitions.specs.Lower.{lower_text, segment}
-use Rattle.run_safety.specs.Needed.{IsInAnyOrder}
+use Rattle.run_safety.specs.Needed.{IsInAnyOrder, MayWork}
 use Rattle.run_safety.proofs.NeededDraws.{Clash, first_list, first_opens, mark, some_use}
 use Rattle.run_safety.proofs.NeededNames.{nothing_drawn}
 
@@ -55,8 +59,8 @@ entries = begin_entry 1 5 ∷ begin_entry 2 6 ∷ []
 abbrev line : ℕ → Sent
 line entry = record { entry = entry; job = 0; outcome = O.Seg (pair 0) 7 (address 0x1201) (address 3) 0 0 0 [] }
 
-abbrev life : Life
-life = record { opened = W.On opened_state (mark + 0); entries = entries; refills = 0; sends = (line 0 ∷ line 1 ∷ []) ∷ []; end = F.Ended }
+abbrev life : Opened → End → Life
+life opened end = record { opened = opened; entries = entries; refills = 0; sends = (line 0 ∷ line 1 ∷ []) ∷ []; end = end }
 
 abbrev told : List Told
 told =
@@ -68,12 +72,9 @@ handled : AreHandled quiet_layers first_list [] told
 unfolding changed answer_of stores jobs_of transmit_of
 handled = (refl, record { sees = sees_nothing refl; answer = refl; jobs = refl }, (refl, record { sees = sees_nothing refl; answer = refl; jobs = refl }, tt))
 
-numbered : (k : ℕ) → IsNumbered life k
-numbered zero = refl
-numbered (suc k) = rw (others_none k entries (refl, (refl, tt))) refl
-
-abbrev any_order : Rules
-any_order = record all_rules { is_ordered = IsInAnyOrder }
+numbered : (opened : Opened) (end : End) (k : ℕ) → IsNumbered (life opened end) k
+numbered opened end zero = refl
+numbered opened end (suc k) = rw (others_none k entries (refl, (refl, tt))) refl
 
 pub ranges : AllByRecursion IsInRange first_list
 unfolding transmit_of
@@ -85,37 +86,63 @@ ranges = (
   ),
 )
 
-leaves : LeavesBy any_order quiet_layers [] life (past_at_end quiet_layers first_list life told) first_list
+-- by all rules but for these two
+abbrev rules : (Life → Type 0) → (List Step → Life → Type 0) → Rules
+rules is_idle is_ordered = record all_rules { is_idle = is_idle; is_ordered = is_ordered }
+
+leaves : (is_idle : Life → Type 0) (is_ordered : List Step → Life → Type 0) (opened : Opened) (end : End)
+    → LeavesBy (rules is_idle is_ordered) quiet_layers [] (life opened end) (past_at_end quiet_layers first_list (life opened end) told) first_list
 unfolding changed stores
-leaves = record { more = []; outlasts = no_record; ranges = all_of IsInRange first_list ranges; alike = record { config = refl; entries = λ src. refl } }
+leaves is_idle is_ordered opened end = record { more = []; outlasts = no_record; ranges = all_of IsInRange first_list ranges; alike = record { config = refl; entries = λ src. refl } }
 
-draws_none : (k : ℕ) → draws (shown_by life k) ≡ []
-draws_none zero = refl
-draws_none (suc k) = refl
+draws_none : (opened : Opened) (end : End) (k : ℕ) → draws (shown_by (life opened end) k) ≡ []
+draws_none opened end zero = refl
+draws_none opened end (suc k) = refl
 
-life_by : LifeBy any_order quiet_layers [] first_list life first_list
-life_by = record {
-  opening = first_opens (pair 0) 0x7f;
-  idle = λ e. absurd (true≢false e);
+life_by : (is_idle : Life → Type 0) (is_ordered : List Step → Life → Type 0) (opened : Opened) (end : End)
+    → Opens (config_of first_list) opened end
+    → (is_on opened ≡ false → is_idle (life opened end))
+    → (is_on opened ≡ true → is_ordered [] (life opened end))
+    → LifeBy (rules is_idle is_ordered) quiet_layers [] first_list (life opened end) first_list
+life_by is_idle is_ordered opened end opening idle order = record {
+  opening = opening;
+  idle = idle;
   told = told;
   entries = refl;
   handled = handled;
-  numbers = numbered;
-  order = λ e. tt;
-  leaves = leaves;
-  drawn = nothing_drawn first_list first_list life refl draws_none;
-  spent = all_of (λ (s : Shown). IsSpentRight (config_of first_list).mark s.outcome) (shown life) (tt, (tt, tt));
+  numbers = numbered opened end;
+  order = order;
+  leaves = leaves is_idle is_ordered opened end;
+  drawn = nothing_drawn first_list first_list (life opened end) refl (draws_none opened end);
+  spent = all_of (λ (s : Shown). IsSpentRight (config_of first_list).mark s.outcome) (shown (life opened end)) (tt, (tt, tt));
 }
 
 abbrev script : Script
 script = record { node = node; lives = [] ∷ [] }
 
-abbrev run : Run
-run = record { lives = record { over = first_list; life = life } ∷ []; last = first_list }
+abbrev run : Opened → End → Run
+run opened end = record { lives = record { over = first_list; life = life opened end } ∷ []; last = first_list }
 
-clash : Clash (uses run)
+clash : (opened : Opened) (end : End) → Clash (uses (run opened end))
 unfolding changed seals_of lower_text
-clash h = let e : 5 ≡ 6 = ap (λ l. get_or l 10 0) (h 0 1 some_use (lit< tt) (lit< tt) refl refl) in absurd (omega (arith, e))
+clash opened end h = let e : 5 ≡ 6 = ap (λ l. get_or l 10 0) (h 0 1 some_use (lit< tt) (lit< tt) refl refl) in absurd (omega (arith, e))
 
 pub order_needed : Reuses (record all_rules { is_ordered = IsInAnyOrder })
-order_needed = (quiet_layers, script, run, quiet_safe, record { first = refl; lives = (life_by, tt) }, clash)
+order_needed = (
+  quiet_layers,
+  script,
+  run (W.On opened_state (mark + 0)) F.Ended,
+  quiet_safe,
+  record { first = refl; lives = (life_by IsIdle IsInAnyOrder (W.On opened_state (mark + 0)) F.Ended (first_opens (pair 0) 0x7f) (λ e. absurd (true≢false e)) (λ e. tt), tt) },
+  clash (W.On opened_state (mark + 0)) F.Ended,
+)
+
+pub idle_needed : Reuses (record all_rules { is_idle = MayWork })
+idle_needed = (
+  quiet_layers,
+  script,
+  run W.CutAtStart (F.Cut 12),
+  quiet_safe,
+  record { first = refl; lives = (life_by MayWork IsOrdered W.CutAtStart (F.Cut 12) cut_at_start (λ e. tt) (λ e. absurd (true≢false (sym e))), tt) },
+  clash W.CutAtStart (F.Cut 12),
+)

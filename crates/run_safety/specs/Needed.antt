@@ -6,6 +6,7 @@ use Rattle.mesh_types.specs.declared.answers.Answer.TheVariants as A
 use Rattle.mesh_types.specs.declared.records.StoreRecord.{StoreRecord}
 use Rattle.run_definitions.specs.Answers.{answer_of}
 use Rattle.run_definitions.specs.Config.{config_of}
+use Rattle.run_definitions.specs.Entries.{entry_of}
 use Rattle.run_definitions.specs.Handling.{AreHandled, past_of}
 use Rattle.run_definitions.specs.History.{Past, Told}
 use Rattle.run_definitions.specs.Jobs.{jobs_of}
@@ -20,28 +21,38 @@ use Rattle.run_safety.specs.Safety.{AreSafe}
 use Rattle.run_definitions.specs.Stores.{filled, records_after}
 use Rattle.run_definitions.specs.Uses.{AtMostOnce, NoReuse, delivered, uses}
 
--- the rules that may be changed: how entries are handled, in which order bearers work, what is left, and what is drawn
+-- the rules that may be changed: that a life that isn't run does nothing, how entries are handled, in which order bearers work, what
+-- outlasts a cut, what the next life opens over, and what is drawn
 pub record Rules : Type 1 where
+  pub is_idle : Life → Type 0
   pub are_handled : Layers → List StoreRecord → List Told → List Told → Type 0
   pub is_ordered : List Step → Life → Type 0
+  pub does_outlast : Layers → List Step → Life → Past → List StoreRecord → Type 0
   pub is_alike : List StoreRecord → List StoreRecord → Type 0
   pub is_drawn : List StoreRecord → List StoreRecord → Life → Type 0
 
 -- as they are
 abbrev pub all_rules : Rules
-all_rules = record { are_handled = AreHandled; is_ordered = IsOrdered; is_alike = IsAlike; is_drawn = IsDrawn }
+all_rules = record {
+  is_idle = IsIdle;
+  are_handled = AreHandled;
+  is_ordered = IsOrdered;
+  does_outlast = λ layers plan l past more. Outlasts layers plan l past more;
+  is_alike = IsAlike;
+  is_drawn = IsDrawn;
+}
 
 -- a run by these rules, and by all the others as they are
 
 pub record LeavesBy (rules : Rules) (layers : Layers) (plan : List Step) (l : Life) (past : Past) (next : List StoreRecord) : Type 0 where
   pub more : List StoreRecord
-  pub outlasts : Outlasts layers plan l past more
+  pub outlasts : rules.does_outlast layers plan l past more
   pub ranges : All IsInRange (past.records ++ more)
   pub alike : rules.is_alike next (past.records ++ more)
 
 pub record LifeBy (rules : Rules) (layers : Layers) (plan : List Step) (over : List StoreRecord) (l : Life) (next : List StoreRecord) : Type 0 where
   pub opening : Opens (config_of over) l.opened l.end
-  pub idle : is_on l.opened ≡ false → IsIdle l
+  pub idle : is_on l.opened ≡ false → rules.is_idle l
   pub told : List Told
   pub entries : map (λ t. t.entry) told ≡ l.entries
   pub handled : rules.are_handled layers over [] told
@@ -103,6 +114,30 @@ pub record DrawsTwice (over next : List StoreRecord) (l : Life) : Type 0 where
 abbrev pub IsInAnyOrder : List Step → Life → Type 0
 IsInAnyOrder plan l = ⊤
 
+-- without that a life that isn't run does nothing: what it does has no order
+abbrev pub MayWork : Life → Type 0
+MayWork l = ⊤
+
+-- without the jobs of an entry: it may let PDUs of the node's own go on
+pub record HandlesButJobs (layers : Layers) (past : Past) (t : Told) : Type 0 where
+  pub sees : Sees layers past t.entry.event t.insight
+  pub answer : t.entry.answer ≡ answer_of layers past t.entry.event t.insight
+
+abbrev pub AreHandledButJobs : Layers → List StoreRecord → List Told → List Told → Type 0
+AreHandledButJobs layers records before [] = ⊤
+AreHandledButJobs layers records before (t ∷ ts) =
+    (t.records ≡ filled t.entry.fills records)
+    × HandlesButJobs layers (past_of before t) t
+    × AreHandledButJobs layers (records_after layers (past_of before t) t) (before ++ t ∷ []) ts
+
+-- without a rule on what outlasts a cut: a mark may outlast it that is lower than the one before
+abbrev pub OutlastsAnything : Layers → List Step → Life → Past → List StoreRecord → Type 0
+OutlastsAnything layers plan l past more = ⊤
+
+-- without the mark in what is left: the next life may draw again what was drawn
+pub record HasTheSameEntries (a b : List StoreRecord) : Type 0 where
+  pub entries : (src : ℕ) → entry_of a src ≡ entry_of b src
+
 -- without the replay list in what is left: a power cut forgets what was accepted
 pub record SaysTheSame (a b : List StoreRecord) : Type 0 where
   pub config : config_of a ≡ config_of b
@@ -137,6 +172,10 @@ pub record AreNeeded : Type 0 where
   pub below : Reuses (record all_rules { is_drawn = DrawsUnreserved })
   pub once : Reuses (record all_rules { is_drawn = DrawsTwice })
   pub order : Reuses (record all_rules { is_ordered = IsInAnyOrder })
+  pub idle : Reuses (record all_rules { is_idle = MayWork })
+  pub jobs : Reuses (record all_rules { are_handled = AreHandledButJobs })
+  pub outlasts : Reuses (record all_rules { does_outlast = OutlastsAnything })
+  pub mark : Reuses (record all_rules { is_alike = HasTheSameEntries })
   pub replay_list : Repeats (record all_rules { is_alike = SaysTheSame })
   pub safe_layers : ReusesUnsafely
   pub iv_table : Repeats (record all_rules { are_handled = AreHandledButStep })

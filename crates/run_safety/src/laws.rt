@@ -29,9 +29,10 @@ pub fn a_run_exists()
     ensures written { IsWritten }
 {}
 
-/// What is easy to lose is needed: without the bound on SEQ, the mark that a life opens with, the mark that it leaves, the rule that no two
-/// lines draw one pair, the order of a bearer's work, the replay list in what a life leaves, the table of the IV Index, or safe layers,
-/// some record that keeps all other rules seals two plaintexts under one key and nonce, or delivers a message twice.
+/// The rules are needed: without the bound on SEQ, the mark that a life opens with, the mark that it leaves, the rule that no two lines
+/// draw one pair, the order of a bearer's work, the idleness of a life that isn't run, the jobs of an entry, the rule on what outlasts a
+/// cut, the mark or the replay list in what the next life opens over, the table of the IV Index, or safe layers, some record that keeps
+/// all other rules seals two plaintexts under one key and nonce, or delivers a message twice.
 pub fn rules_are_needed()
     ensures needed { AreNeeded }
     ensures by_all { IsRunByAll }
