@@ -1,5 +1,5 @@
-//! The plain types that a run of a node is told in, below all crates that work with them, so that the definitions of a run
-//! can name them.
+//! The plain types that a run of a node is told in, below all crates that work with them, so that the definitions of
+//! a run can name them.
 //!
 //! - `events`: what happens to a node
 //! - `answers`: what it answers to an event

@@ -4,8 +4,8 @@
 use mesh_base::address::Address;
 use mesh_base::pair::Name;
 
-/// One record of the store. A key that an op doesn't need is zeros; an address that an op doesn't need is written as zeros and read as
-/// anything.
+/// One record of the store. A key that an op doesn't need is zeros; an address that an op doesn't need is written as
+/// zeros and read as anything.
 #[derive(Clone, Copy, Debug, PartialEq, Eq)]
 pub enum StoreRecord {
     /// What the node is.

@@ -1,5 +1,5 @@
--- The answer to an event, after what stands before it. For a network PDU heard it is the first row of a table that holds; the rows come
--- in four groups, and each group has no answer where none of its rows holds.
+-- The answer to an event, after what stands before it. For a network PDU heard it is the first row of a table that
+-- holds; the rows come in four groups, and each group has no answer where none of its rows holds.
 use Rattle.std.specs.Prelude.{ℕ, ◌+◌, ◌-◌, ◌^◌, ◌==◌, ◌&&◌, ◌||◌, not, nat_lt, nat_le, min, Bool, true, false, if◌then◌else◌, List, length, take, drop, Option, Some, None, is_some, is_none, unwrap_or}
 use Rattle.std.specs.List.{list_any, filter_map}
 use Rattle.std.specs.Option.{option_map, option_or, option_to_list}
@@ -40,7 +40,8 @@ config_before past = config_of past.records
 abbrev pub is_unicast : Address → Bool
 is_unicast a = nat_le 1 a.0 && nat_lt a.0 0x8000
 
--- the addresses of this node: its elements', all-nodes, all-friends and all-relays where it is one, and the groups of subscriptions
+-- the addresses of this node: its elements', all-nodes, all-friends and all-relays where it is one, and the groups of
+-- subscriptions
 abbrev pub is_mine : Config → Address → Bool
 is_mine c a =
     is_element c a.0
@@ -174,8 +175,8 @@ pdu_answer layers past _ = A.Unread
 
 -- The other events.
 
--- The step of a beacon in the Key Refresh phase of its network key: under the new key, flag 1 in phase 1 begins phase 2, and flag 0 in
--- phase 1 or 2 ends the Key Refresh.
+-- The step of a beacon in the Key Refresh phase of its network key: under the new key, flag 1 in phase 1 begins phase
+-- 2, and flag 0 in phase 1 or 2 ends the Key Refresh.
 abbrev pub key_step : Option NetKeyRow → Beacon → KeyStep
 key_step None b = S.Same
 key_step (Some r) b =

@@ -1,5 +1,6 @@
--- What the records of a store say of the node, one change for each record, on plain sets: a set of keys as the list of its rows by
--- index, a set of bindings or subscriptions as the list of its members in the order in which they came.
+-- What the records of a store say of the node, one change for each record, on plain sets: a set of keys as the list
+-- of its rows by index, a set of bindings or subscriptions as the list of its members in the order in which they
+-- came.
 use Rattle.std.specs.Prelude.{ℕ, ◌+◌, ◌/◌, ◌%◌, ◌==◌, ◌&&◌, not, nat_lt, nat_le, Bool, true, false, if◌then◌else◌, List, [], ◌∷◌, ◌++◌, Some, None, unwrap_or, map, fold, filter, replicate}
 use Rattle.std.specs.List.{list_any}
 use Rattle.mesh_base.specs.declared.address.Address.{Address}
@@ -10,7 +11,8 @@ use Rattle.mesh_types.specs.declared.records.StoreRecord.{StoreRecord}
 use Rattle.mesh_types.specs.declared.records.StoreRecord.TheVariants as R
 
 pub record Config : Type 0 where
-  -- identity: the first element's address, the number of elements, which is 0 before there is an Identity, and the device key
+  -- identity: the first element's address, the number of elements, which is 0 before there is an Identity, and the
+  -- device key
   pub unicast : Address
   pub elements : ℕ
   pub dev_key : List ℕ
@@ -151,8 +153,8 @@ subs_after op element model address subs =
     else if op == 4 then subs_without element model subs ++ (element, model, address) ∷ []
     else subs
 
--- One record's change. Feature 1 is beacon, 2 Default TTL, 3 friend, 4 relay in the high octet and its retransmissions in the low one, and
--- 5 network transmit.
+-- One record's change. Feature 1 is beacon, 2 Default TTL, 3 friend, 4 relay in the high octet and its
+-- retransmissions in the low one, and 5 network transmit.
 unfoldable pub changed : Config → StoreRecord → Config
 changed c (R.Identity unicast elements dev_key) = record c { unicast = unicast; elements = elements; dev_key = dev_key }
 changed c (R.Numbers current progress mark hours since) =

@@ -26,8 +26,8 @@ abbrev pub unexpired : ℕ → Option Pair → Option Pair
 unexpired current None = None
 unexpired current (Some p) = if is_expired current p then None else Some p
 
--- The entry of a source: the greatest pair of its Replay records, or none where there is none or it is expired under the IV Index
--- that the whole list says.
+-- The entry of a source: the greatest pair of its Replay records, or none where there is none or it is expired under
+-- the IV Index that the whole list says.
 abbrev pub entry_of : List StoreRecord → ℕ → Option Pair
 entry_of records src = unexpired (config_of records).iv.current (kept_of records src)
 

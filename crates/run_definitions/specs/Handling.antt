@@ -9,7 +9,8 @@ use Rattle.run_definitions.specs.Layers.{Layers}
 use Rattle.run_definitions.specs.Readings.{Sees}
 use Rattle.run_definitions.specs.Stores.{filled, records_after}
 
--- The entry has the answer of its event, after what stands before it, and the jobs of that answer, which see the records after it.
+-- The entry has the answer of its event, after what stands before it, and the jobs of that answer, which see the
+-- records after it.
 pub record Handles (layers : Layers) (past : Past) (t : Told) : Type 0 where
   pub sees : Sees layers past t.entry.event t.insight
   pub answer : t.entry.answer ≡ answer_of layers past t.entry.event t.insight

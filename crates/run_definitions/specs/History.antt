@@ -20,8 +20,9 @@ pub record Opening : Type 0 where
   pub key : UpperKey
   pub payload : List ℕ
 
--- What the octets of an event are read as. Of a network PDU: its reading; the lower transport PDU in that; and, where it completes an
--- access message, how that opens. Of a beacon: the beacon. Where nothing reads there is none. Other events have no octets to be read.
+-- What the octets of an event are read as. Of a network PDU: its reading; the lower transport PDU in that; and, where
+-- it completes an access message, how that opens. Of a beacon: the beacon. Where nothing reads there is none. Other
+-- events have no octets to be read.
 pub data Insight : Type 0 where
   OfPdu : Option Reading → Option Lower → Option Opening → Insight
   OfBeacon : Option Beacon → Insight
@@ -33,8 +34,8 @@ pub record Told : Type 0 where
   pub insight : Insight
   pub records : List StoreRecord
 
--- What stands before an event: the entries of this life so far, and the records of the store, with the refills that were stored
--- since the last entry.
+-- What stands before an event: the entries of this life so far, and the records of the store, with the refills that
+-- were stored since the last entry.
 pub record Past : Type 0 where
   pub told : List Told
   pub records : List StoreRecord

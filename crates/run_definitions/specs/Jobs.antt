@@ -33,8 +33,8 @@ under c net job = option_to_list (option_map job (transmit_material c.nets net))
 
 -- The jobs of a network PDU heard.
 
--- A PDU goes on with one TTL less, where Relay is on, TTL is 2 or more and DST is no element's: also what was read by friendship
--- credentials goes on under the master ones.
+-- A PDU goes on with one TTL less, where Relay is on, TTL is 2 or more and DST is no element's: also what was read by
+-- friendship credentials goes on under the master ones.
 abbrev pub relay_jobs : Config → Reading → List Job
 relay_jobs c r =
     if c.relay == 1 && nat_le 2 r.fields.ttl && not (is_element c r.fields.dst.0)
@@ -51,7 +51,8 @@ segment_numbers (AccessPart akf aid szmic seq_zero seg_o seg_n piece) = Some (se
 segment_numbers (ControlPart opcode seq_zero seg_o seg_n piece) = Some (seq_zero, seg_n)
 segment_numbers _ = None
 
--- BlockAck of the acknowledgment that an answer asks for, if it asks for one, of a message whose last segment has number seg_n
+-- BlockAck of the acknowledgment that an answer asks for, if it asks for one, of a message whose last segment has
+-- number seg_n
 abbrev pub block_asked : Answer → ℕ → Option ℕ
 block_asked A.Again seg_n = Some (2 ^ (seg_n + 1) - 1)
 block_asked A.NoKey seg_n = Some (2 ^ (seg_n + 1) - 1)
@@ -102,7 +103,8 @@ pdu_jobs layers past c (OfPdu (Some r) low opening) answer =
     ++ refresh_jobs (config_before past) c
 pdu_jobs layers past c _ answer = []
 
--- The jobs of a tick event: acknowledgments, segments, and beacons where a multiple of 1000 ticks was passed or the IV state changed.
+-- The jobs of a tick event: acknowledgments, segments, and beacons where a multiple of 1000 ticks was passed or the
+-- IV state changed.
 
 abbrev pub is_moved : IvState → IvState → Bool
 is_moved s t = not (s.current == t.current) || (if s.progress then not t.progress else t.progress)

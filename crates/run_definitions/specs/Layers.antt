@@ -1,5 +1,5 @@
--- What the layers above the lower transport layer say of a life so far: one function for each question that an answer, a record or a
--- job asks of them. Here they are named; the definitions of the layers give them.
+-- What the layers above the lower transport layer say of a life so far: one function for each question that an
+-- answer, a record or a job asks of them. Here they are named; the definitions of the layers give them.
 use Rattle.std.specs.Prelude.{ℕ, Bool, List, Option}
 use Rattle.mesh_base.specs.declared.address.Address.{Address}
 use Rattle.mesh_base.specs.declared.fields.Heard.{Heard}
@@ -11,8 +11,8 @@ use Rattle.mesh_types.specs.declared.records.StoreRecord.{StoreRecord}
 use Rattle.run_definitions.specs.Config.{Config}
 use Rattle.run_definitions.specs.History.{Past, Reading}
 
--- an access message that was opened: its name and DST, the network key index and TTL that it was heard with, and the payload with the
--- key that opened it
+-- an access message that was opened: its name and DST, the network key index and TTL that it was heard with, and the
+-- payload with the key that opened it
 pub record AccessMessage : Type 0 where
   pub name : Name
   pub dst : Address
@@ -28,19 +28,21 @@ pub record ControlMessage : Type 0 where
   pub params : List ℕ
 
 pub record Layers : Type 0 where
-  -- Reassembly: the names of the messages in progress, in the order in which they began; whether a segment is at odds with the message
-  -- in progress under its name; how many pieces are missing after a segment, and the octets that all pieces make where none is; and the
-  -- acknowledgments that are due when so many ticks more have passed.
+  -- Reassembly: the names of the messages in progress, in the order in which they began; whether a segment is at odds
+  -- with the message in progress under its name; how many pieces are missing after a segment, and the octets that all
+  -- pieces make where none is; and the acknowledgments that are due when so many ticks more have passed.
   pub in_progress : Past → List Name
   pub conflicts : Past → Name → Reading → Lower → Bool
   pub missing : Past → Name → Lower → ℕ
   pub whole : Past → Name → Lower → List ℕ
   pub acks_due : Past → Config → ℕ → List Job
-  -- Own segmented messages: how many are unacknowledged, and the segments that are due when so many ticks more have passed.
+  -- Own segmented messages: how many are unacknowledged, and the segments that are due when so many ticks more have
+  -- passed.
   pub unacknowledged : Past → ℕ
   pub segments_due : Past → Config → ℕ → List Job
-  -- Friendship: the credentials that are heard, in the order of their offers; whether an address is one of a friendship that stands;
-  -- whether octets are noted as the answer to the Poll with this FSN of a Low Power node; and what a control message asks to be sent.
+  -- Friendship: the credentials that are heard, in the order of their offers; whether an address is one of a
+  -- friendship that stands; whether octets are noted as the answer to the Poll with this FSN of a Low Power node; and
+  -- what a control message asks to be sent.
   pub friend_keys : Past → List Heard
   pub is_befriended : Past → Address → Bool
   pub is_noted : Past → Address → Bool → Bool

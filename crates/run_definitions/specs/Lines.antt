@@ -37,8 +37,9 @@ is_drawing (J.Beacon octets) = false
 abbrev pub is_late : Pair → Pair → Bool
 is_late auth p = not (p.iv == auth.iv) || nat_lt (auth.seq + 8191) p.seq
 
--- A line shows the fields of its job and one pair. A payload of at most 11 octets goes unsegmented. The payload of the message that an
--- event asks for is the event's. Where a network PDU goes out, its octets are the text of these fields.
+-- A line shows the fields of its job and one pair. A payload of at most 11 octets goes unsegmented. The payload of
+-- the message that an event asks for is the event's. Where a network PDU goes out, its octets are the text of these
+-- fields.
 pub data Shows : Event → Job → Outcome → Type 0 where
   shows_ctl : {event : Event} {m : NetMaterial} {ttl : ℕ} {src dst : Address} {tpdu : List ℕ} {keep : Option (Address × Bool)} {pair : Pair}
       → Shows event (J.Control m ttl src dst tpdu keep) (O.Ctl pair ttl src dst tpdu (net_text m (own_fields pair true ttl src dst tpdu)))

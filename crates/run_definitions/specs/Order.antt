@@ -31,8 +31,8 @@ abbrev pub placed_from : ℕ → List Entry → List Placed
 placed_from n [] = []
 placed_from n (e ∷ es) = record { at = n; entry = e } ∷ placed_from (n + 1) es
 
--- What a bearer has to do next: to handle an event from outside; to have one that follows a line handled; to write the line of job j of
--- entry i, which is of this event.
+-- What a bearer has to do next: to handle an event from outside; to have one that follows a line handled; to write
+-- the line of job j of entry i, which is of this event.
 pub data Task : Type 0 where
   handle : Event → Task
   follow : Event → Task
@@ -45,8 +45,8 @@ write_tasks i j event (job ∷ jobs) = write i j event job ∷ write_tasks i (j 
 abbrev pub job_tasks : Placed → List Task
 job_tasks p = write_tasks p.at 0 p.entry.event p.entry.jobs
 
--- With these tasks a bearer makes these entries and these lines, each in its order, and the last tasks are left. The jobs of an entry
--- come before all else, and so does the event that follows a line.
+-- With these tasks a bearer makes these entries and these lines, each in its order, and the last tasks are left. The
+-- jobs of an entry come before all else, and so does the event that follows a line.
 pub data Walks : List Task → List Placed → List Sent → List Task → Type 0 where
   stops : {tasks : List Task} → Walks tasks [] [] tasks
   handles : {tasks : List Task} {es : List Placed} {ls : List Sent} {left : List Task} (p : Placed)
@@ -61,8 +61,8 @@ pub data Walks : List Task → List Placed → List Sent → List Task → Type 
       → Walks (map follow (after_line job outcome) ++ tasks) es ls left
       → Walks (write i j event job ∷ tasks) es (record { entry = i; job = j; outcome = outcome } ∷ ls) left
 
--- A life's plan: its phases, in which each bearer has a list of events, and which the bearers leave together; and where the flash is
--- set to fail.
+-- A life's plan: its phases, in which each bearer has a list of events, and which the bearers leave together; and
+-- where the flash is set to fail.
 pub data Step : Type 0 where
   arm : (calls mask : ℕ) → Step
   phase : List (List Event) → Step
@@ -87,8 +87,8 @@ of_bearer k ps = filter (λ p. p.entry.bearer == k) ps
 abbrev pub Does : List (List Event) → Part → ℕ → List Task → Type 0
 Does events part k left = Walks (map handle (list_at events k)) (of_bearer k part.entries) (list_at part.sends k) left
 
--- The parts of the phases: in each all bearers do all that they have. In a life that was cut the last part may be broken off, where each
--- bearer may leave something, and then nothing is done in a later phase.
+-- The parts of the phases: in each all bearers do all that they have. In a life that was cut the last part may be
+-- broken off, where each bearer may leave something, and then nothing is done in a later phase.
 pub data PartsOf : Bool → List (List (List Event)) → List Part → Type 0 where
   ends : {is_cut : Bool} → PartsOf is_cut [] []
   whole : {is_cut : Bool} {events : List (List Event)} {more : List (List (List Event))} {part : Part} {parts : List Part}

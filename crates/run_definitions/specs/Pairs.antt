@@ -12,7 +12,7 @@ is_newer p q = nat_lt q.iv p.iv || (q.iv == p.iv && nat_lt q.seq p.seq)
 abbrev pub newer_of : Pair → Pair → Pair
 newer_of p q = if is_newer q p then q else p
 
--- Whether a pair is expired under the known IV Index `current`: its IV Index plus one is below it, so that no PDU of this IV Index is
--- read any more.
+-- Whether a pair is expired under the known IV Index `current`: its IV Index plus one is below it, so that no PDU of
+-- this IV Index is read any more.
 abbrev pub is_expired : ℕ → Pair → Bool
 is_expired current p = nat_lt (p.iv + 1) current

@@ -21,7 +21,8 @@ pub record IsMark (s : IvState) (mark : ℕ) : Type 0 where
   pub most : seq ≤ 2 ^ 24
   pub block : seq % 256 ≡ 0
 
--- the values that a feature may be set to: 1 beacon, 2 Default TTL, 3 friend, 4 relay with its retransmissions, 5 network transmit
+-- the values that a feature may be set to: 1 beacon, 2 Default TTL, 3 friend, 4 relay with its retransmissions, 5
+-- network transmit
 abbrev pub is_feature : ℕ → ℕ → Bool
 is_feature which value =
     if which == 1 then nat_le value 1

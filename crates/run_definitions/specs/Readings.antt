@@ -1,4 +1,5 @@
--- What the octets of an event are read as, after what stands before it. Only sealing is defined: octets read as what seals to them.
+-- What the octets of an event are read as, after what stands before it. Only sealing is defined: octets read as what
+-- seals to them.
 use Rattle.std.specs.Prelude.{◌≡◌, ℕ, not, Bool, true, false, IsFalse, if◌then◌else◌, List, [], ◌∷◌, ◌++◌, Option, Some, None, MatchOption}
 use Rattle.std.specs.List.{slice_get}
 use Rattle.layer_definitions.specs.Beacon.{ReadsBeacon}
@@ -22,8 +23,8 @@ use Rattle.run_definitions.specs.Config.{Config}
 use Rattle.run_definitions.specs.History.{Reading, Opening, Insight, OfPdu, OfBeacon, OfNothing, Past}
 use Rattle.run_definitions.specs.Layers.{Layers}
 
--- The network layer: under the known IV Index, with the network keys by index, the old key before the new, and then with the credentials
--- of friendships.
+-- The network layer: under the known IV Index, with the network keys by index, the old key before the new, and then
+-- with the credentials of friendships.
 
 abbrev pub keys_heard : Layers → Past → List Heard
 keys_heard layers past = heard_keys (config_before past).nets ++ layers.friend_keys past

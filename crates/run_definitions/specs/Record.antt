@@ -10,8 +10,9 @@ use Rattle.mesh_types.specs.declared.records.StoreRecord.{StoreRecord}
 use Rattle.mesh_types.specs.declared.report.Opened.{Opened}
 use Rattle.mesh_types.specs.declared.report.End.{End}
 
--- One life, from power on to its end: how it opened, the entries in the order of the node's lock, the number of refills that were
--- stored after the last entry, the lines of each bearer in the order in which it did them, and how it ended.
+-- One life, from power on to its end: how it opened, the entries in the order of the node's lock, the number of
+-- refills that were stored after the last entry, the lines of each bearer in the order in which it did them, and how
+-- it ended.
 pub record Life : Type 0 where
   pub opened : Opened
   pub entries : List Entry

@@ -1,4 +1,5 @@
--- The text of a record in a slot, and the list of records that an image of the flash recovers. (The records are this project's own.)
+-- The text of a record in a slot, and the list of records that an image of the flash recovers. (The records are this
+-- project's own.)
 use Rattle.std.specs.Prelude.{◌≡◌, ℕ, ◌-◌, List, [], ◌∷◌, ◌++◌, length, replicate, map, Some, All, if◌then◌else◌}
 use Rattle.cipher_definitions.specs.Octets.{two_octets, three_octets, four_octets, octets_of}
 use Rattle.layer_definitions.specs.Slots.{recovered}

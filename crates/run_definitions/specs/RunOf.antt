@@ -29,8 +29,8 @@ use Rattle.run_definitions.specs.Readings.{Sees}
 use Rattle.run_definitions.specs.Record.{Life, LifeOver, Run, Shown, first_over, list_at, shown, shown_by}
 use Rattle.run_definitions.specs.Stores.{filled, fill_of, stores}
 
--- The opening of a life over records that say `c`: the flash may fail; else the life is `wasreset` where there was a Node Reset, and
--- where there was none it opens with the IV state and the mark.
+-- The opening of a life over records that say `c`: the flash may fail; else the life is `wasreset` where there was a
+-- Node Reset, and where there was none it opens with the IV state and the mark.
 pub data Opens (c : Config) : Opened → End → Type 0 where
   opens : {end : End} → c.reset ≡ false → Opens c (W.On c.iv c.mark) end
   was_reset : c.reset ≡ true → Opens c W.WasReset F.Ended
@@ -72,8 +72,9 @@ next_event plan l k = slice_get (plan_events plan k) (length (filter (λ e. is_o
 abbrev pub past_at_end : Layers → List StoreRecord → Life → List Told → Past
 past_at_end layers over l told = record { told = told; records = filled l.refills (records_left layers over [] told) }
 
--- What of the records in hand may outlast a cut: whole records from the front of those of a bearer's next event, or those of one
--- refill, all after the refills that were stored last. Of a life that was cut at its opening nothing does.
+-- What of the records in hand may outlast a cut: whole records from the front of those of a bearer's next event, or
+-- those of one refill, all after the refills that were stored last. Of a life that was cut at its opening nothing
+-- does.
 pub data Outlasts (layers : Layers) (plan : List Step) (l : Life) (past : Past) : List StoreRecord → Type 0 where
   no_record : Outlasts layers plan l past []
   of_event : (k n : ℕ) (event : Event) (insight : Insight)
@@ -95,8 +96,8 @@ pub record Leaves (layers : Layers) (plan : List Step) (l : Life) (past : Past) 
 abbrev pub draws : List Shown → List Pair
 draws lines = filter_map (λ s. drawn_of s.job s.outcome) lines
 
--- Each pair drawn has a SEQ below 2^24 and lies from the mark that the life opened with up to, and not at, the mark that it leaves; no
--- two lines draw one pair; and the pairs of a bearer rise.
+-- Each pair drawn has a SEQ below 2^24 and lies from the mark that the life opened with up to, and not at, the mark
+-- that it leaves; no two lines draw one pair; and the pairs of a bearer rise.
 pub record IsDrawn (over next : List StoreRecord) (l : Life) : Type 0 where
   pub seq : All (λ p. p.seq < 2 ^ 24) (draws (shown l))
   pub from : All (λ p. (config_of over).mark ≤ word p) (draws (shown l))

@@ -75,8 +75,8 @@ abbrev pub asked : Layers → Past → Option AccessMessage → List StoreRecord
 asked layers past None = []
 asked layers past (Some m) = option_to_list (layers.change past m)
 
--- What an event stores, by its answer. An accepted message is recorded before the change that it asks for; the phase of a network key
--- before the IV state of the same beacon.
+-- What an event stores, by its answer. An accepted message is recorded before the change that it asks for; the phase
+-- of a network key before the IV state of the same beacon.
 unfoldable pub stores : Layers → Past → Event → Insight → Answer → List StoreRecord
 stores layers past (E.Net octets) insight (A.Delivered name dst key payload) =
     R.Replay name ∷ asked layers past (message_of insight name dst)

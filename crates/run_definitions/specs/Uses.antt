@@ -69,8 +69,8 @@ abbrev pub message_uses : Job → Pair → ℕ → Address → Address → List 
 message_uses job pair ttl src dst payload =
     flat_map (λ key. network_uses job (message_fields key pair ttl src dst payload)) (option_to_list (upper_key_of job))
 
--- What a line of a job seals. A segmented message's payload is sealed in its `long` line; kept octets, a number that is spent or too
--- late and a beacon are no seals.
+-- What a line of a job seals. A segmented message's payload is sealed in its `long` line; kept octets, a number that
+-- is spent or too late and a beacon are no seals.
 unfoldable pub seals_of : Job → Outcome → List Use
 seals_of job (O.Ctl pair ttl src dst tpdu pdu) = network_uses job (own_fields pair true ttl src dst tpdu)
 seals_of job (O.Msg pair ttl src dst key payload pdu) = upper_uses job pair src dst payload ++ message_uses job pair ttl src dst payload

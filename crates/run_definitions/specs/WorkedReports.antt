@@ -1,4 +1,5 @@
--- Two reports, each as the text of its record: the second worked example of the report's format, and one of a life that power cut.
+-- Two reports, each as the text of its record: the second worked example of the report's format, and one of a life
+-- that power cut.
 use Rattle.std.specs.Prelude.{◌≡◌, ℕ, ◌*◌, ◌^◌, true, false, List, [], ◌∷◌, ◌++◌, None, codes, replicate}
 use Rattle.std.specs.List.{flat_map}
 use Rattle.mesh_base.specs.declared.address.Address.{Address}
@@ -98,7 +99,9 @@ request_lines first second = lines_text (
     ∷ codes "end"
     ∷ [])
 
--- A Poll is answered, and the answer is kept; a message of twelve octets goes out in two segments, and power is cut after the first.
+-- A Poll is answered, and the answer is kept; a message of twelve octets goes out in two segments, and power is cut
+-- after the first. A life follows that was cut at its opening, and one after a Node Reset. The report is shown without
+-- the octets of network PDUs, which are left out here.
 
 -- the node's Friend Update for the Low Power node 0201
 abbrev pub update : List ℕ
