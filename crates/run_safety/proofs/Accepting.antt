@@ -1,5 +1,5 @@
--- What the table of answers says of an accepted message: its IV Index is read, its name is newer than the entry of its source, and its
--- source is no element of this node.
+-- What the table of answers says of an accepted message: its IV Index is read, its name is newer than the entry of
+-- its source, and its source is no element of this node.
 use Rattle.std.proofs.Common.{◌≡◌, ℕ, ◌+◌, ◌⊎◌, Bool, true, false, cond, not, ◌&&◌, ◌||◌, eqb, ltb, leb, List, length, refl, ap, sym, subst, arith, Option, Some, None}
 use Rattle.std.specs.Option.{option_or, option_map, unwrap_or, is_some}
 use Rattle.std.specs.List.{list_any}

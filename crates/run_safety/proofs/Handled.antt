@@ -26,7 +26,8 @@ use Rattle.run_safety.specs.Safety.{AreSafe, IsChange}
 use Rattle.run_definitions.specs.Stores.{asked, fill_of, filled, hours_passed, hours_step, message_of, moved, phase_records, step_records, stores, tick_records}
 use Rattle.run_safety.proofs.Rising.{Rise, same, more, Rises, config_push, rise_after}
 
--- The mark of a list of records in range is at most the end of its transmit IV Index, and the known IV Index has 32 bits.
+-- The mark of a list of records in range is at most the end of its transmit IV Index, and the known IV Index has 32
+-- bits.
 
 pub record Marked (c : Config) : Type 0 where
   pub mark : c.mark ≤ transmit_of c.iv * 2 ^ 25 + 2 ^ 24

@@ -64,7 +64,8 @@ blocked_not_fresh past n b f = not_fresh n _ _ (blocked_entry n _ (kept_of past.
 abbrev pub InRange : List StoreRecord → Type 0
 InRange records = AllByRecursion IsInRange records
 
--- the records before the first of some entries, and those that it leaves, are in range if those that all of them leave are
+-- the records before the first of some entries, and those that it leaves, are in range if those that all of them
+-- leave are
 pub first_in_range : (layers : Layers) (records : List StoreRecord) (before : List Told) (t : Told) (ts : List Told)
     → AreHandled layers records before (t ∷ ts) → InRange (records_left layers records before (t ∷ ts)) → InRange (records_after layers (past_of before t) t)
 first_in_range layers records before t ts h r =

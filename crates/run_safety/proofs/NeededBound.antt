@@ -1,5 +1,5 @@
--- The record that shows that the bound on SEQ is needed: the transmit IV Index rises in a life, so that the word of SEQ 2^24 under the
--- old one lies between the marks.
+-- The record that shows that the bound on SEQ is needed: the transmit IV Index rises in a life, so that the word of
+-- SEQ 2^24 under the old one lies between the marks.
 use Rattle.std.proofs.Common.{◌≡◌, ◌≢◌, ℕ, zero, suc, ◌+◌, ◌*◌, ◌^◌, ◌<◌, ◌≤◌, lit<, lit≤, true, false, List, [], ◌∷◌, ◌++◌, refl, sym, arith, append-nil}
 use Rattle.std.specs.List.{AllByRecursion, AllPairs}
 use Rattle.std.proofs.lemmas.Bool.{true≢false}

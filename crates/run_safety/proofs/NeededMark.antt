@@ -1,5 +1,5 @@
--- The record that shows that the mark in what a life leaves is needed, and that not everything outlasts a cut: a life in which nothing
--- happens takes the mark back, and the life after it draws what was drawn before.
+-- The record that shows that the mark in what a life leaves is needed, and that not everything outlasts a cut: a life
+-- in which nothing happens takes the mark back, and the life after it draws what was drawn before.
 use Rattle.std.proofs.Common.{ℕ, ◌+◌, ◌^◌, ◌<◌, ◌≤◌, lit<, lit≤, List, [], ◌∷◌, ◌++◌, refl}
 use Rattle.std.specs.List.{AllByRecursion}
 use Rattle.std.proofs.lemmas.Bool.{true≢false}

@@ -1,4 +1,5 @@
--- The records that show that the replay list and the table of the IV Index are needed: one control message is accepted in two lives.
+-- The records that show that the replay list and the table of the IV Index are needed: one control message is
+-- accepted in two lives.
 use Rattle.std.proofs.Common.{◌≡◌, ◌≢◌, ℕ, zero, suc, ◌+◌, ◌^◌, ◌<◌, ◌≤◌, lit<, lit≤, inl, true, List, [], ◌∷◌, ◌++◌, refl, sym, arith, append-nil, Some, None}
 use Rattle.std.specs.List.{AllByRecursion}
 use Rattle.std.proofs.lemmas.Bool.{true≢false}

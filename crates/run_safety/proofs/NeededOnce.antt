@@ -1,4 +1,5 @@
--- The record that shows that a rule for the pairs of two bearers is needed: each has a control PDU, and both draw one pair.
+-- The record that shows that a rule for the pairs of two bearers is needed: each has a control PDU, and both draw one
+-- pair.
 use Rattle.std.proofs.Common.{◌≡◌, ℕ, zero, suc, ◌+◌, ◌^◌, ◌<◌, ◌≤◌, lit<, lit≤, eqb, List, [], ◌∷◌, refl, sym, append-nil}
 use Rattle.std.specs.List.{AllPairs, filter}
 use Rattle.std.proofs.lemmas.Bool.{true≢false}

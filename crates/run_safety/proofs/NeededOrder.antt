@@ -1,5 +1,5 @@
--- The records that show that the order of a bearer's work is needed, and that a life that isn't run does nothing: two messages that
--- nothing sealed begin under one pair.
+-- The records that show that the order of a bearer's work is needed, and that a life that isn't run does nothing: two
+-- messages that nothing sealed begin under one pair.
 use Rattle.std.proofs.Common.{◌≡◌, ℕ, zero, suc, ◌+◌, lit<, lit≤, get_or, true, false, List, [], ◌∷◌, refl, ap, sym, arith}
 use Rattle.std.specs.List.{AllByRecursion}
 use Rattle.std.proofs.lemmas.Bool.{true≢false}

@@ -1,5 +1,5 @@
--- The record that shows that the table of the IV Index is needed: where beacons may take any step, the known IV Index falls from one life
--- to the next, and a message of an IV Index that was expired is accepted again.
+-- The record that shows that the table of the IV Index is needed: where beacons may take any step, the known IV Index
+-- falls from one life to the next, and a message of an IV Index that was expired is accepted again.
 use Rattle.std.proofs.Common.{◌≡◌, ℕ, zero, suc, ◌+◌, lit<, lit≤, inr, Bool, true, false, cond, eqb, List, [], ◌∷◌, ◌++◌, refl, sym, arith, append-nil, Some, None}
 use Rattle.std.specs.List.{AllByRecursion}
 use Rattle.std.proofs.lemmas.Bool.{true≢false}
@@ -64,8 +64,8 @@ fall_entry number = record { bearer = 0; number = number; event = beacon_event 0
 abbrev any_step : Rules
 any_step = record all_rules { are_handled = AreHandledButStep }
 
--- The first life: the message under the IV Index 4, and a step to 6 in progress. What it leaves has no entry of the message, which is
--- expired.
+-- The first life: the message under the IV Index 4, and a step to 6 in progress. What it leaves has no entry of the
+-- message, which is expired.
 
 abbrev replay : StoreRecord
 replay = R.Replay (control_name 4)

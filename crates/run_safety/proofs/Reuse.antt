@@ -47,7 +47,8 @@ module _ (layers : Layers) (safe : AreSafe layers) (plan : List Step) (over : Li
   life_wide : AllByRecursion Wide (draws (shown l))
   life_wide = wide_below (config_of next) next_marked (draws (shown l)) (recursion_from_All _ (draws (shown l)) h.drawn.seq) (recursion_from_All _ (draws (shown l)) h.drawn.below)
 
--- The pairs of all lives: none stands twice, since each life draws from the mark that it opens with up to the mark that it leaves.
+-- The pairs of all lives: none stands twice, since each life draws from the mark that it opens with up to the mark
+-- that it leaves.
 
 pub record Drawn (lives : List LifeOver) (last : List StoreRecord) : Type 0 where
   pub wide : AllByRecursion Wide (all_draws lives)

@@ -1,4 +1,5 @@
--- The jobs of an entry: a PDU that goes on is none of this node's, and a first segment is the first job of a `begin` entry alone.
+-- The jobs of an entry: a PDU that goes on is none of this node's, and a first segment is the first job of a `begin`
+-- entry alone.
 use Rattle.std.proofs.Common.{add-one, ne_eqb, zero, suc, ◌≡◌, ℕ, ◌-◌, ◌/◌, ◌^◌, ◌<◌, Bool, true, false, cond, not, ◌&&◌, ◌||◌, eqb, ltb, leb, List, [], ◌∷◌, ◌++◌, map, refl, ap, sym, subst, ◌∙◌, arith, Option, Some, None, length}
 use Rattle.std.specs.Bool.{⊤}
 use Rattle.std.specs.List.{All, AllByRecursion, flat_map, list_any, range_with_len}

@@ -1,5 +1,5 @@
--- The lines of a bearer: each shows its job, and each pair that it seals with is one that it draws, where the first segment of a message
--- seals with the pair that the line before it drew.
+-- The lines of a bearer: each shows its job, and each pair that it seals with is one that it draws, where the first
+-- segment of a message seals with the pair that the line before it drew.
 use Rattle.std.proofs.Common.{◌≡◌, ℕ, ◌+◌, Bool, true, false, List, [], ◌∷◌, ◌++◌, map, length, refl, ap, sym, subst, ◌∙◌, append_assoc, length-append, Option, Some, None, IsTrue}
 use Rattle.std.specs.Bool.{⊤}
 use Rattle.std.specs.List.{AllByRecursion, cons_option, filter_map, flat_map, slice_get}

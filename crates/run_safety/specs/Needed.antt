@@ -1,5 +1,5 @@
--- Rules that are easy to lose, and what happens without them: for each there is a record that keeps all other rules of a run and isn't
--- safe.
+-- Rules that are easy to lose, and what happens without them: for each there is a record that keeps all other rules
+-- of a run and isn't safe.
 use Rattle.std.specs.Prelude.{◌≡◌, ◌≢◌, ℕ, ◌^◌, ◌<◌, ◌≤◌, true, false, List, [], ◌∷◌, ◌++◌, map, All, AllPairs, ⊤}
 use Rattle.mesh_types.specs.declared.answers.Answer.{Answer}
 use Rattle.mesh_types.specs.declared.answers.Answer.TheVariants as A
@@ -21,8 +21,8 @@ use Rattle.run_safety.specs.Safety.{AreSafe}
 use Rattle.run_definitions.specs.Stores.{filled, records_after}
 use Rattle.run_definitions.specs.Uses.{AtMostOnce, NoReuse, delivered, uses}
 
--- the rules that may be changed: that a life that isn't run does nothing, how entries are handled, in which order bearers work, what
--- outlasts a cut, what the next life opens over, and what is drawn
+-- the rules that may be changed: that a life that isn't run does nothing, how entries are handled, in which order
+-- bearers work, what outlasts a cut, what the next life opens over, and what is drawn
 pub record Rules : Type 1 where
   pub is_idle : Life → Type 0
   pub are_handled : Layers → List StoreRecord → List Told → List Told → Type 0
@@ -82,7 +82,8 @@ Reuses rules = (layers : Layers) × (s : Script) × (r : Run) × AreSafe layers 
 abbrev pub Repeats : Rules → Type 0
 Repeats rules = (layers : Layers) × (s : Script) × (r : Run) × AreSafe layers × RunBy rules layers s r × (AtMostOnce (delivered r) → ⊥)
 
--- without the bound on SEQ: the word behind the last SEQ of an IV Index may lie between the marks, and its nonce is that of SEQ 0
+-- without the bound on SEQ: the word behind the last SEQ of an IV Index may lie between the marks, and its nonce is
+-- that of SEQ 0
 pub record DrawsWithoutBound (over next : List StoreRecord) (l : Life) : Type 0 where
   pub from : All (λ p. (config_of over).mark ≤ word p) (draws (shown l))
   pub below : All (λ p. word p < (config_of next).mark) (draws (shown l))
@@ -142,8 +143,8 @@ pub record HasTheSameEntries (a b : List StoreRecord) : Type 0 where
 pub record SaysTheSame (a b : List StoreRecord) : Type 0 where
   pub config : config_of a ≡ config_of b
 
--- without the table of the IV Index, so that a beacon may take any step: where the known IV Index falls, a name comes back whose entry
--- was expired
+-- without the table of the IV Index, so that a beacon may take any step: where the known IV Index falls, a name comes
+-- back whose entry was expired
 
 abbrev pub IsAnswerButStep : Answer → Answer → Type 0
 IsAnswerButStep (A.Beacon index key iv) (A.Beacon index' key' iv') = (index ≡ index') × (key ≡ key')

@@ -1,4 +1,5 @@
--- What safety needs of the layers above. A node whose layers have these properties reuses no nonce and delivers nothing twice.
+-- What safety needs of the layers above. A node whose layers have these properties reuses no nonce and delivers
+-- nothing twice.
 use Rattle.std.specs.Prelude.{◌≡◌, ◌≢◌, ℕ, ◌≤◌, false, List, Option, Some, All, AllPairs, Contains, ⊤, IfSome}
 use Rattle.std.specs.List.{flat_map}
 use Rattle.mesh_base.specs.declared.fields.NetFields.{NetFields}
@@ -35,7 +36,8 @@ IsFitJob past (J.Relay material fields) = WasHeard past fields
 IsFitJob past (J.Segment material name ttl src dst seg_o seg_n tpdu first) = first ≡ false
 IsFitJob past _ = ⊤
 
--- A change of keys, bindings, subscriptions or features, or a Node Reset: neither the identity nor a number nor the replay list is in it.
+-- A change of keys, bindings, subscriptions or features, or a Node Reset: neither the identity nor a number nor the
+-- replay list is in it.
 abbrev pub IsChange : StoreRecord → Type 0
 IsChange (R.NetKey op index key) = ⊤
 IsChange (R.AppKey op net index key) = ⊤

@@ -1,5 +1,6 @@
--- A run, written down: a message is delivered, a PDU of another node goes on, numbers are reserved, and a message of twelve octets goes
--- out as a long one; after its first segment power is cut. It shows that the rules of a run don't exclude each other.
+-- A run, written down: a message is delivered, a PDU of another node goes on, numbers are reserved, and a message of
+-- twelve octets goes out as a long one; after its first segment power is cut. It shows that the rules of a run don't
+-- exclude each other.
 use Rattle.std.specs.Prelude.{ℕ, ◌+◌, ◌*◌, ◌^◌, Bool, true, false, List, [], ◌∷◌, ◌++◌, None, replicate}
 use Rattle.layer_definitions.specs.KeyRefresh.{master_material}
 use Rattle.layer_definitions.specs.Lower.{lower_text, segment}
@@ -75,8 +76,8 @@ material = master_material net_key
 abbrev pub key_heard : Heard
 key_heard = record { index = 0; lpn = None; fresh = false; material = material }
 
--- What is heard: an access message of three octets under the device key, of the node 0003; and a control message of another node to
--- another one.
+-- What is heard: an access message of three octets under the device key, of the node 0003; and a control message of
+-- another node to another one.
 
 abbrev pub asked : List ℕ
 asked = 0x80 ∷ 0x08 ∷ 0x00 ∷ []

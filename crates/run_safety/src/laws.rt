@@ -5,9 +5,9 @@ ghost use Rattle.run_safety.specs.Needed.{AreNeeded, IsRunByAll};
 ghost use Rattle.run_safety.specs.Safety.{DeliversOnce, DrawsApart, LivesKeep, ReusesNoNonce};
 ghost use Rattle.run_safety.specs.WrittenRun.{IsWritten};
 
-/// The law of every run: for all layers with the properties that `Safety` names, every script, and every record of a run of it, over
-/// all lives, bearers, refills and power cuts, no nonce of the node's own addresses seals two different plaintexts under one key, and
-/// no message is delivered twice.
+/// The law of every run: for all layers with the properties that `Safety` names, every script, and every record of a
+/// run of it, over all lives, bearers, refills and power cuts, no nonce of the node's own addresses seals two
+/// different plaintexts under one key, and no message is delivered twice.
 pub fn safety_law()
     ensures no_reuse { ReusesNoNonce }
     ensures at_most_once { DeliversOnce }
@@ -23,16 +23,17 @@ pub fn lives_law()
     ensures keeps { LivesKeep }
 {}
 
-/// The rules don't exclude each other: a record with a delivery, a PDU that goes on, a refill, a long message and a power cut is one of
-/// a run of its script.
+/// The rules don't exclude each other: a record with a delivery, a PDU that goes on, a refill, a long message and a
+/// power cut is one of a run of its script.
 pub fn a_run_exists()
     ensures written { IsWritten }
 {}
 
-/// The rules are needed: without the bound on SEQ, the mark that a life opens with, the mark that it leaves, the rule that no two lines
-/// draw one pair, the order of a bearer's work, the idleness of a life that isn't run, the jobs of an entry, the rule on what outlasts a
-/// cut, the mark or the replay list in what the next life opens over, the table of the IV Index, or safe layers, some record that keeps
-/// all other rules seals two plaintexts under one key and nonce, or delivers a message twice.
+/// The rules are needed: without the bound on SEQ, the mark that a life opens with, the mark that it leaves, the rule
+/// that no two lines draw one pair, the order of a bearer's work, the idleness of a life that isn't run, the jobs of
+/// an entry, the rule on what outlasts a cut, the mark or the replay list in what the next life opens over, the table
+/// of the IV Index, or safe layers, some record that keeps all other rules seals two plaintexts under one key and
+/// nonce, or delivers a message twice.
 pub fn rules_are_needed()
     ensures needed { AreNeeded }
     ensures by_all { IsRunByAll }

@@ -1,5 +1,6 @@
-//! The safety law: every run of a node seals no two plaintexts under one key and nonce of its own addresses, and delivers no message
-//! twice. It follows from the relation between a script and the record of a run alone, which `run_definitions` states.
+//! The safety law: every run of a node seals no two plaintexts under one key and nonce of its own addresses, and
+//! delivers no message twice. It follows from the relation between a script and the record of a run alone, which
+//! `run_definitions` states.
 //!
 //! - `Safety` (in `specs/`): what safety needs of the layers above the lower transport layer, and the laws
 //! - `WrittenRun`: a run of two lives, written out, that keeps all rules
