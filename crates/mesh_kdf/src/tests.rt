@@ -57,6 +57,14 @@ fn credentials(rt: HostRuntime) -> Result<(), Fail> {
             "9f589181a0f50de73c8070c7a6d27f46",
             "4c715bd4a64b938f99b453351653124f",
         ),
+        // Of eight octets the standard has no sample: this is from another implementation.
+        (
+            NETWORK_KEY,
+            "0102030405060708",
+            0x02,
+            "3c5286fc8f38d13b83e801d23fd928d2",
+            "838911895c5666998b40e602573eac72",
+        ),
         (
             NETWORK_KEY,
             "010203040506070809",
@@ -73,7 +81,7 @@ fn credentials(rt: HostRuntime) -> Result<(), Fail> {
         ),
     ] {
         let p = hex::decode(rt.alloc(), p)?;
-        assert!(rt; p.len() == 1 || p.len() == 9);
+        assert!(rt; p.len() >= 1 && p.len() <= 9);
         let derived = k2(&block(key)?, &p);
         assert_eq!(rt; derived.nid, nid);
         assert_eq!(rt; derived.encryption, block(encryption)?);
