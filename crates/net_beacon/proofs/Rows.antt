@@ -1,5 +1,5 @@
 -- The first key of a list that reads, by recursion on the list, and what a row put into rows by index changes of it.
-use Rattle.std.proofs.Common.{◌≡◌, ℕ, zero, suc, ◌+◌, ◌<◌, ◌≤◌, ◌⊎◌, inl, inr, Bool, true, false, nat_lt, List, [], ◌∷◌, ◌++◌, Option, Some, None, slice_get, refl, sym, ap, ◌∙◌, subst, arith, append-nil}
+use Rattle.std.proofs.Common.{◌≡◌, ℕ, zero, suc, ◌<◌, ◌≤◌, ◌⊎◌, inl, inr, Bool, true, false, nat_lt, List, [], ◌∷◌, ◌++◌, Option, Some, None, slice_get, refl, sym, ap, subst, arith, append-nil}
 use Rattle.std.specs.Prelude.{⊤, if◌then◌else◌, IfSome, IsNone}
 use Rattle.std.proofs.lemmas.Bool.Decides.{nat_tests}
 use Rattle.std.specs.Option.{option_or}
@@ -7,7 +7,7 @@ use Rattle.mesh_base.specs.declared.beacon.Beacon.{Beacon}
 use Rattle.mesh_base.specs.declared.keys.NetKeyRow.{NetKeyRow}
 use Rattle.layer_definitions.specs.Beacon.{BeaconSource, ReadsBeacon, ReadsBeaconUnder, beacon_of}
 use Rattle.layer_definitions.specs.KeyRefresh.{beacon_keys, keys_of}
-use Rattle.net_beacon.specs.Order.{put_row, put_rows, by_index, IsByIndexFrom, IsByIndex}
+use Rattle.net_beacon.specs.Order.{put_row, IsByIndexFrom, IsByIndex}
 use Rattle.net_beacon.specs.Reading.{IsAnswer, IsUnread}
 
 -- this key reads the octets as this beacon
@@ -231,9 +231,6 @@ changes r s o (Some b) None l u h = reading_of_first _ o b (put_only r s o b (fi
 changes r s o (Some b) (Some c) l u h = reading_of_first _ o b (put_before r s o b c (first_of_reading _ o b u) (first_of_reading _ o c h) l)
 
 -- Two keys of one row.
-
-pub first_of_two : (j k : BeaconSource) (o : List ℕ) (b : Beacon) → ReadsBeacon (j ∷ []) o b → ReadsBeacon (j ∷ k ∷ []) o b
-first_of_two j k o b h = reading_of_first _ o b (first_front (j ∷ []) (k ∷ []) o b (first_of_reading _ o b h))
 
 pub second_of_two : (j k : BeaconSource) (o : List ℕ) (b : Beacon) → IsUnread (j ∷ []) o → ReadsBeacon (k ∷ []) o b → ReadsBeacon (j ∷ k ∷ []) o b
 second_of_two j k o b u h = reading_of_first _ o b (first_back (j ∷ []) (k ∷ []) o b (nothing_of (j ∷ []) o u) (first_of_reading (k ∷ []) o b h))

@@ -38,7 +38,7 @@ fn fields(key: &[u8; 16], flags: u8, iv: u32) -> [u8; 13]
     octets
 }
 
-/// The octets of the beacon of a network key. Of the flags, bit 0 is Key Refresh and bit 1 is IV Update (section 3.9.3.1).
+/// The octets of the beacon of a network key. Of the flags, bit 0 is Key Refresh and bit 1 is IV Update.
 #[tactic(auto, unfolding(layer_definitions::specs::Beacon::beacon_text))]
 pub fn write(key: &[u8; 16], flags: u8, iv: u32) -> [u8; 22]
     ensures value { result ≡ beacon_text key.now flags iv }

@@ -1,5 +1,4 @@
-use Rattle.std.proofs.Common.{◌≡◌, refl, sym, ◌∙◌, arith}
-use Rattle.std.specs.Option.{option_or}
+use Rattle.std.proofs.Common.{◌≡◌, sym, ◌∙◌, arith}
 use Rattle.net_beacon.proofs.Rows.{answer_of, changes, IsBehind, row_keys, stays}
 use Rattle.net_beacon.proofs.reading.with_row.Goals as goal
 use Rattle.net_beacon.proofs.reading.with_row.Goals.{in_default-via-in-Some+else-first-row, in_default-via-in_default}
