@@ -1,0 +1,19 @@
+use Rattle.std.proofs.Common.{◌≡◌, ap, refl, sym, ◌∙◌, length, arith}
+use Rattle.layer_definitions.specs.Beacon.{beacon_text}
+use Rattle.net_beacon.proofs.Rows.{read_by_one, unread_by_one}
+use Rattle.net_beacon.proofs.Texts.{length-beacon_text, same_octets}
+use Rattle.net_beacon.proofs.reading.read_under.Goals as goal
+
+pub returns-then-bytes-ne22-clause-none : goal.returns-then-bytes-ne22-clause-none
+returns-then-bytes-ne22-clause-none c = λ _.
+    unread_by_one _ _ (λ f iv r. c.if-bytes-ne22.true (sym (ap (λ l. length l) r.text) ∙ length-beacon_text c.args.key.now f iv))
+
+pub returns-clause-some : goal.returns-clause-some
+returns-clause-some c =
+    let same : beacon_text c.args.key.now c.fields_of-flags.result.0 c.fields_of-flags.result.1 ≡ c.args.bytes.now =
+    sym c.write.ensures.value ∙ sym c.as_slice.ensures ∙ same_octets _ _ c.ne.result c.ne.ensures c.if-ne.false in
+    read_by_one _ _ _ (record {
+      flags = c.fields_of-flags.result.0;
+      reads = record { flags_width = omega (arith, c.fields_of-flags.type_inv); iv_width = omega (arith, c.fields_of-flags.type_inv); text = same };
+      beacon = refl;
+    })

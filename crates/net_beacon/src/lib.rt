@@ -1,0 +1,15 @@
+//! Secure Network beacons (Mesh Profile 1.0.1, section 3.9.3): [`write`] and [`read`].
+//!
+//! - `writing`: the octets of a beacon
+//! - `reading`: which key has a beacon with these octets, and what it says
+#![tactic(auto)]
+
+mod reading;
+mod writing;
+
+pub use mesh_base::beacon::Beacon;
+pub use reading::{Unread, beacon_law, read};
+pub use writing::write;
+
+#[cfg(test)]
+mod tests;
