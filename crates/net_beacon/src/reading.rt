@@ -1,7 +1,7 @@
 //! Which key has a beacon with given octets, and what the beacon says.
 #![tactic(auto)]
 
-ghost use Rattle.std.specs.Prelude.{◌≡◌, ℕ, ◌≤◌, ◌<◌, ◌^◌, ◌↔◌, List, [], ◌∷◌, length, false, true, IsErr, IsNone, IsTrue, IfOk, IfSome};
+ghost use Rattle.std.specs.Prelude.{◌≡◌, ℕ, ◌<◌, ◌^◌, ◌↔◌, List, [], ◌∷◌, length, IsErr, IsNone, IfOk, IfSome};
 ghost use Rattle.mesh_base.specs.declared.keys.NetKeyRow.{NetKeyRow};
 ghost use Rattle.layer_definitions.specs.Beacon.{beacon_text, ReadsBeacon, ReadsBeaconUnder};
 ghost use Rattle.layer_definitions.specs.KeyRefresh.{beacon_keys};
