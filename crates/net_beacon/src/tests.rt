@@ -45,9 +45,14 @@ fn standard_sample(rt: HostRuntime) {
     let rows = [row(0, KEY, None)];
     assert!(rt; read(&rows, &SAMPLE) == Ok(beacon(0, false)));
     for place in 0..22 {
-        let mut flipped = SAMPLE;
-        flipped[place] ^= 0x10;
-        assert!(rt; read(&rows, &flipped) == Err(Unread), "octet {place}");
+        for bit in [0x01, 0x02, 0x04, 0x08, 0x10, 0x20, 0x40, 0x80] {
+            let mut flipped = SAMPLE;
+            flipped[place] ^= bit;
+            assert!(rt;
+                read(&rows, &flipped) == Err(Unread),
+                "octet {place}, bit {bit}"
+            );
+        }
     }
     let mut longer = [0; 23];
     longer[..22].copy_from_slice(&SAMPLE);
