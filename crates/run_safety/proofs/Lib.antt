@@ -20,4 +20,12 @@ pub mod NeededOrder
 pub mod NeededJobs
 pub mod NeededMark
 pub mod NeededLayers
+pub mod NeededTold
+pub mod NeededSight
+pub mod NeededRecords
+pub mod NeededBefore
+pub mod NeededRanges
+pub mod NeededIvState
+pub mod NeededIdentity
+pub mod NeededParts
 pub mod Needed

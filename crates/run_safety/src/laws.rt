@@ -30,10 +30,12 @@ pub fn a_run_exists()
 {}
 
 /// The rules are needed: without the bound on SEQ, the mark that a life opens with, the mark that it leaves, the rule
-/// that no two lines draw one pair, the order of a bearer's work, the idleness of a life that isn't run, the jobs of
-/// an entry, the rule on what outlasts a cut, the mark or the replay list in what the next life opens over, the table
-/// of the IV Index, or safe layers, some record that keeps all other rules seals two plaintexts under one key and
-/// nonce, or delivers a message twice.
+/// that no two lines draw one pair, the order of a bearer's work, the lines or the entries that it is told of, the
+/// idleness of a life that isn't run, that its entries are told, the jobs of an entry, what its octets are read as, the
+/// table of the IV Index, the records or the entries before an entry, the rule on what outlasts a cut, the ranges of a
+/// record's fields, the mark, the IV state, the address, the number of elements or the replay list in what the next life
+/// opens over, or safe layers, some record that keeps all other rules seals two plaintexts under one key and nonce, or
+/// delivers a message twice.
 pub fn rules_are_needed()
     ensures needed { AreNeeded }
     ensures by_all { IsRunByAll }
