@@ -10,6 +10,7 @@ pub mod Walking
 pub mod LifeLines
 pub mod Nonces
 pub mod Reuse
+pub mod Enough
 pub mod WrittenRun
 pub mod NeededDraws
 pub mod NeededOnce

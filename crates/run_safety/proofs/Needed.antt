@@ -2,7 +2,8 @@
 use Rattle.std.proofs.Common.{List, [], ◌∷◌}
 use Rattle.mesh_types.specs.declared.records.StoreRecord.{StoreRecord}
 use Rattle.run_definitions.specs.Layers.{Layers}
-use Rattle.run_safety.specs.Needed.{AreNeeded, IsRunByAll, LifeBy, LivesBy, all_rules}
+use Rattle.run_safety.specs.Needed.{AreNeeded}
+use Rattle.run_safety.specs.Rules.{IsRunByAll, LifeBy, LivesBy, all_rules}
 use Rattle.run_definitions.specs.Order.{Step}
 use Rattle.run_definitions.specs.Record.{Life, LifeOver, first_over}
 use Rattle.run_definitions.specs.RunOf.{LifeOf, LivesOf}

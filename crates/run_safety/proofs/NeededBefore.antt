@@ -28,7 +28,8 @@ use Rattle.run_definitions.specs.Record.{Life, Run, Shown, list_at, shown, shown
 use Rattle.run_definitions.specs.RunOf.{IsNumbered, IsSpentRight, Script, draws, no_record, past_at_end}
 use Rattle.run_definitions.specs.Stores.{stores}
 use Rattle.run_definitions.specs.Uses.{seals_of, uses}
-use Rattle.run_safety.specs.Needed.{AreHandledAfterAny, LeavesBy, LifeBy, Reuses, Rules, all_rules}
+use Rattle.run_safety.specs.Needed.{AreHandledAfterAny, Reuses}
+use Rattle.run_safety.specs.Rules.{LeavesBy, LifeBy, Rules, all_rules}
 use Rattle.run_safety.specs.Safety.{AreSafe, IsFitJob}
 use Rattle.run_safety.specs.WrittenRun.{key_heard, material, node, opened_state, pair, quiet_layers}
 use Rattle.run_safety.proofs.NeededDraws.{Clash, first_list, first_opens, mark, other_text, some_use}

@@ -31,7 +31,8 @@ use Rattle.run_definitions.specs.Record.{Life, Run, Shown, list_at, shown, shown
 use Rattle.run_definitions.specs.RunOf.{IsNumbered, IsSpentRight, Opens, Provisioning, Script, draws, no_record, opens, past_at_end, provisioned}
 use Rattle.run_definitions.specs.Stores.{stores}
 use Rattle.run_definitions.specs.Uses.{NoReuse, seals_of, uses}
-use Rattle.run_safety.specs.Needed.{IsAlikeBut, LeavesBy, LifeBy, Reuses, Rules, RunBy, all_rules, without_elements, without_unicast}
+use Rattle.run_safety.specs.Needed.{IsAlikeBut, Reuses, without_elements, without_unicast}
+use Rattle.run_safety.specs.Rules.{LeavesBy, LifeBy, Rules, RunBy, all_rules}
 use Rattle.run_safety.specs.WrittenRun.{address, dev_key, key_heard, material, net_key, opened_state, pair, quiet_layers}
 use Rattle.run_safety.proofs.Lists.{every_front}
 use Rattle.run_safety.proofs.NeededDraws.{mark, some_use}

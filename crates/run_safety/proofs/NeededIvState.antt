@@ -30,7 +30,8 @@ use Rattle.run_definitions.specs.Readings.{IsBeacon, IsReading, sees_beacon, see
 use Rattle.run_definitions.specs.Record.{Life, Run, Shown, list_at, shown, shown_by}
 use Rattle.run_definitions.specs.RunOf.{IsNumbered, IsSpentRight, Script, draws, no_record, past_at_end}
 use Rattle.run_definitions.specs.Stores.{stores}
-use Rattle.run_safety.specs.Needed.{IsAlikeBut, LeavesBy, LifeBy, Repeats, Rules, all_rules, without_iv_state}
+use Rattle.run_safety.specs.Needed.{IsAlikeBut, Repeats, without_iv_state}
+use Rattle.run_safety.specs.Rules.{LeavesBy, LifeBy, Rules, all_rules}
 use Rattle.run_safety.specs.WrittenRun.{key_heard, material, net_key, node, opened_state, pair, quiet_layers}
 use Rattle.run_safety.proofs.NeededDraws.{first_list, first_opens, mark}
 use Rattle.run_safety.proofs.NeededNames.{control_entry, control_event, control_fields, control_insight, control_lower, control_name, has_pdu, in_widths, no_sends, nothing_drawn, twice}

@@ -23,7 +23,8 @@ use Rattle.run_definitions.specs.RunOf.{IsNumbered, IsSpentRight, Script, draws,
 use Rattle.run_definitions.specs.Seals.{own_fields}
 use Rattle.run_definitions.specs.Stores.{stores}
 use Rattle.run_definitions.specs.Uses.{seals_of, uses}
-use Rattle.run_safety.specs.Needed.{AreHandledSo, HandlesButJobs, LeavesBy, LifeBy, Reuses, Rules, all_rules}
+use Rattle.run_safety.specs.Needed.{AreHandledSo, HandlesButJobs, Reuses}
+use Rattle.run_safety.specs.Rules.{LeavesBy, LifeBy, Rules, all_rules}
 use Rattle.run_safety.specs.WrittenRun.{address, material, node, opened_state, pair, quiet_layers}
 use Rattle.run_safety.proofs.NeededDraws.{Clash, first_list, first_opens, mark, other_text, plan, raw_event, some_use}
 use Rattle.run_safety.proofs.NeededNames.{nothing_drawn}

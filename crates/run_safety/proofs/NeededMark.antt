@@ -18,7 +18,8 @@ use Rattle.run_definitions.specs.Record.{Life, Run, Shown, shown}
 use Rattle.run_definitions.specs.RunOf.{IsDrawn, IsSpentRight, Script, no_record, past_at_end}
 use Rattle.run_definitions.specs.Stores.{stores}
 use Rattle.run_definitions.specs.Uses.{seals_of, uses}
-use Rattle.run_safety.specs.Needed.{IsAlikeBut, LeavesBy, LifeBy, OutlastsAnything, Reuses, Rules, all_rules, without_mark}
+use Rattle.run_safety.specs.Needed.{IsAlikeBut, OutlastsAnything, Reuses, without_mark}
+use Rattle.run_safety.specs.Rules.{LeavesBy, LifeBy, Rules, all_rules}
 use Rattle.run_safety.specs.WrittenRun.{node, opened_state, pair, quiet_layers}
 use Rattle.run_safety.proofs.NeededDraws.{Clash, each, first_handled, first_list, first_opens, first_range, first_told, life, mark, numbered, numbers, once, ordered, other_text, plan, rises, second_list, second_opens, some_use}
 use Rattle.run_safety.proofs.NeededNames.{nothing_drawn}

@@ -19,7 +19,7 @@ use Rattle.run_definitions.specs.Config.{changed, config_of}
 use Rattle.run_definitions.specs.Handling.{AreHandled, past_of}
 use Rattle.run_definitions.specs.History.{Told}
 use Rattle.run_definitions.specs.Jobs.{jobs_of}
-use Rattle.run_safety.specs.Needed.{LeavesBy, LifeBy, Rules, all_rules}
+use Rattle.run_safety.specs.Rules.{LeavesBy, LifeBy, Rules, all_rules}
 use Rattle.run_definitions.specs.Order.{Does, IsOrdered, Part, Step, ends, handles, phase, placed_from, stops, whole}
 use Rattle.run_definitions.specs.Pairs.{word}
 use Rattle.run_definitions.specs.Ranges.{IsInRange}

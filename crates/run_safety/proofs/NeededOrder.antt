@@ -20,7 +20,8 @@ use Rattle.run_definitions.specs.Config.{changed, config_of}
 use Rattle.run_definitions.specs.Handling.{AreHandled}
 use Rattle.run_definitions.specs.History.{OfNothing, Told}
 use Rattle.run_definitions.specs.Jobs.{jobs_of}
-use Rattle.run_safety.specs.Needed.{LeavesBy, LifeBy, Reuses, Rules, all_rules}
+use Rattle.run_safety.specs.Needed.{Reuses}
+use Rattle.run_safety.specs.Rules.{LeavesBy, LifeBy, Rules, all_rules}
 use Rattle.run_definitions.specs.Ranges.{IsInRange}
 use Rattle.run_definitions.specs.Readings.{sees_nothing}
 use Rattle.run_definitions.specs.Record.{Life, Run, Shown, list_at, shown, shown_by}

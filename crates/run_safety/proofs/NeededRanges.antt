@@ -26,7 +26,8 @@ use Rattle.run_definitions.specs.Record.{Life, Run, Shown, list_at, shown, shown
 use Rattle.run_definitions.specs.RunOf.{IsDrawn, IsNumbered, IsSpentRight, Script, draws, no_record, past_at_end}
 use Rattle.run_definitions.specs.Stores.{fill_of, filled, stores}
 use Rattle.run_definitions.specs.Uses.{seals_of, uses}
-use Rattle.run_safety.specs.Needed.{HasAnyFields, LeavesBy, LifeBy, Reuses, Rules, all_rules}
+use Rattle.run_safety.specs.Needed.{HasAnyFields, Reuses}
+use Rattle.run_safety.specs.Rules.{LeavesBy, LifeBy, Rules, all_rules}
 use Rattle.run_safety.specs.WrittenRun.{node, opened_state, pair, quiet_layers}
 use Rattle.run_safety.proofs.Lists.{pairs_from_apart}
 use Rattle.run_safety.proofs.NeededDraws.{Clash, first_list, first_opens, mark, other_text, raw_entry, raw_event, raw_line, some_use}

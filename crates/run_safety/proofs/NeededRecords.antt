@@ -14,7 +14,8 @@ use Rattle.run_definitions.specs.Readings.{sees_pdu}
 use Rattle.run_definitions.specs.Record.{Run, Shown, shown}
 use Rattle.run_definitions.specs.RunOf.{IsSpentRight, Opens, Script, no_record, opens, past_at_end}
 use Rattle.run_definitions.specs.Stores.{stores}
-use Rattle.run_safety.specs.Needed.{AreHandledOverAny, LeavesBy, LifeBy, Repeats, Rules, all_rules}
+use Rattle.run_safety.specs.Needed.{AreHandledOverAny, Repeats}
+use Rattle.run_safety.specs.Rules.{LeavesBy, LifeBy, Rules, all_rules}
 use Rattle.run_safety.specs.WrittenRun.{node, quiet_layers}
 use Rattle.run_safety.proofs.NeededDraws.{first_list}
 use Rattle.run_safety.proofs.NeededNames.{at_end_range, control_lower, control_name, life, nothing_drawn, numbered, ordered, plan, reads, shows_nothing, told, twice}

@@ -12,7 +12,8 @@ use Rattle.run_definitions.specs.Ranges.{IsInRange}
 use Rattle.run_definitions.specs.Record.{Run, Shown, shown}
 use Rattle.run_definitions.specs.RunOf.{IsSpentRight, Script, no_record, past_at_end}
 use Rattle.run_definitions.specs.Stores.{stores}
-use Rattle.run_safety.specs.Needed.{AreHandledSo, HandlesButSight, LeavesBy, LifeBy, Repeats, Rules, all_rules}
+use Rattle.run_safety.specs.Needed.{AreHandledSo, HandlesButSight, Repeats}
+use Rattle.run_safety.specs.Rules.{LeavesBy, LifeBy, Rules, all_rules}
 use Rattle.run_safety.specs.WrittenRun.{node, pair, quiet_layers}
 use Rattle.run_safety.proofs.NeededDraws.{first_list, first_opens}
 use Rattle.run_safety.proofs.NeededNames.{at_end_range, control_name, life, nothing_drawn, numbered, ordered, plan, shows_nothing, told, twice}

@@ -6,7 +6,8 @@ use Rattle.run_definitions.specs.Config.{changed, config_of}
 use Rattle.run_definitions.specs.Ranges.{IsInRange}
 use Rattle.run_definitions.specs.Record.{Shown, shown}
 use Rattle.run_definitions.specs.RunOf.{IsSpentRight, no_record, past_at_end}
-use Rattle.run_safety.specs.Needed.{LeavesBy, LifeBy, Reuses, Rules, TellsAnything, all_rules}
+use Rattle.run_safety.specs.Needed.{Reuses, TellsAnything}
+use Rattle.run_safety.specs.Rules.{LeavesBy, LifeBy, Rules, all_rules}
 use Rattle.run_safety.specs.WrittenRun.{pair, quiet_layers}
 use Rattle.run_safety.proofs.NeededDraws.{first_list, first_opens, plan}
 use Rattle.run_safety.proofs.NeededJobs.{clash, draws_none, life, numbered, ordered, run, script}

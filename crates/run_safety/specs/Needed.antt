@@ -1,6 +1,6 @@
 -- Rules that are easy to lose, and what happens without them: for each there is a record that keeps all other rules
 -- of a run and isn't safe.
-use Rattle.std.specs.Prelude.{◌≡◌, ◌≢◌, ℕ, ◌^◌, ◌<◌, ◌≤◌, true, false, List, [], ◌∷◌, ◌++◌, map, All, AllPairs, ⊤}
+use Rattle.std.specs.Prelude.{◌≡◌, ◌≢◌, ℕ, ◌^◌, ◌<◌, ◌≤◌, false, List, [], ◌∷◌, ◌++◌, All, AllPairs, ⊤}
 use Rattle.std.specs.List.{flat_map}
 use Rattle.mesh_types.specs.declared.answers.Answer.{Answer}
 use Rattle.mesh_types.specs.declared.answers.Answer.TheVariants as A
@@ -8,82 +8,19 @@ use Rattle.mesh_types.specs.declared.records.StoreRecord.{StoreRecord}
 use Rattle.run_definitions.specs.Answers.{answer_of}
 use Rattle.run_definitions.specs.Config.{Config, config_of}
 use Rattle.run_definitions.specs.Entries.{entry_of}
-use Rattle.run_definitions.specs.Handling.{AreHandled, Handles, past_of}
+use Rattle.run_definitions.specs.Handling.{Handles, past_of}
 use Rattle.run_definitions.specs.History.{Past, Told}
 use Rattle.run_definitions.specs.Jobs.{jobs_of}
 use Rattle.run_definitions.specs.Layers.{Layers}
-use Rattle.run_definitions.specs.Order.{IsOrdered, Part, PartsOf, Step, is_cut, phases_of, placed_from}
+use Rattle.run_definitions.specs.Order.{Part, PartsOf, Step, is_cut, phases_of, placed_from}
 use Rattle.run_definitions.specs.Pairs.{word}
-use Rattle.run_definitions.specs.Ranges.{IsInRange}
 use Rattle.run_definitions.specs.Readings.{Sees}
-use Rattle.run_definitions.specs.Record.{Life, LifeOver, Run, first_over, list_at, shown, shown_by}
-use Rattle.run_definitions.specs.RunOf.{IsAlike, IsDrawn, IsIdle, IsNumbered, IsSpentRight, Opens, Outlasts, RunOf, Script, draws, is_on, past_at_end, provisioned}
+use Rattle.run_definitions.specs.Record.{Life, Run, list_at, shown, shown_by}
+use Rattle.run_definitions.specs.RunOf.{RunOf, Script, draws}
+use Rattle.run_safety.specs.Rules.{Rules, RunBy, all_rules}
 use Rattle.run_safety.specs.Safety.{AreSafe}
 use Rattle.run_definitions.specs.Stores.{filled, records_after}
 use Rattle.run_definitions.specs.Uses.{AtMostOnce, NoReuse, delivered, uses}
-
--- the entries of a life are those that are told
-abbrev pub AreTold : List Told → Life → Type 0
-AreTold told l = map (λ t. t.entry) told ≡ l.entries
-
--- the rules that may be changed: that a life that isn't run does nothing, that its entries are told, how they are
--- handled, in which order bearers work, what outlasts a cut, which records there are, what the next life opens over, and
--- what is drawn
-pub record Rules : Type 1 where
-  pub is_idle : Life → Type 0
-  pub are_told : List Told → Life → Type 0
-  pub are_handled : Layers → List StoreRecord → List Told → List Told → Type 0
-  pub is_ordered : List Step → Life → Type 0
-  pub does_outlast : Layers → List Step → Life → Past → List StoreRecord → Type 0
-  pub is_in_range : StoreRecord → Type 0
-  pub is_alike : List StoreRecord → List StoreRecord → Type 0
-  pub is_drawn : List StoreRecord → List StoreRecord → Life → Type 0
-
--- as they are
-abbrev pub all_rules : Rules
-all_rules = record {
-  is_idle = IsIdle;
-  are_told = AreTold;
-  are_handled = AreHandled;
-  is_ordered = IsOrdered;
-  does_outlast = λ layers plan l past more. Outlasts layers plan l past more;
-  is_in_range = IsInRange;
-  is_alike = IsAlike;
-  is_drawn = IsDrawn;
-}
-
--- a run by these rules, and by all the others as they are
-
-pub record LeavesBy (rules : Rules) (layers : Layers) (plan : List Step) (l : Life) (past : Past) (next : List StoreRecord) : Type 0 where
-  pub more : List StoreRecord
-  pub outlasts : rules.does_outlast layers plan l past more
-  pub ranges : All rules.is_in_range (past.records ++ more)
-  pub alike : rules.is_alike next (past.records ++ more)
-
-pub record LifeBy (rules : Rules) (layers : Layers) (plan : List Step) (over : List StoreRecord) (l : Life) (next : List StoreRecord) : Type 0 where
-  pub opening : Opens (config_of over) l.opened l.end
-  pub idle : is_on l.opened ≡ false → rules.is_idle l
-  pub told : List Told
-  pub entries : rules.are_told told l
-  pub handled : rules.are_handled layers over [] told
-  pub numbers : (k : ℕ) → IsNumbered l k
-  pub order : is_on l.opened ≡ true → rules.is_ordered plan l
-  pub leaves : LeavesBy rules layers plan l (past_at_end layers over l told) next
-  pub drawn : rules.is_drawn over next l
-  pub spent : All (λ s. IsSpentRight (config_of next).mark s.outcome) (shown l)
-
-abbrev pub LivesBy : Rules → Layers → List (List Step) → List LifeOver → List StoreRecord → Type 0
-LivesBy rules layers [] [] last = ⊤
-LivesBy rules layers (plan ∷ plans) (x ∷ xs) last = LifeBy rules layers plan x.over x.life (first_over xs last) × LivesBy rules layers plans xs last
-LivesBy rules layers _ _ last = ⊥
-
-pub record RunBy (rules : Rules) (layers : Layers) (s : Script) (r : Run) : Type 0 where
-  pub first : first_over r.lives r.last ≡ provisioned s.node
-  pub lives : LivesBy rules layers s.lives r.lives r.last
-
--- By all rules it is a run.
-abbrev pub IsRunByAll : Type 0
-IsRunByAll = (layers : Layers) (s : Script) (r : Run) → RunBy all_rules layers s r → RunOf layers s r
 
 -- there is a record by these rules that seals two plaintexts under one key and nonce, or delivers a message twice
 abbrev pub Reuses : Rules → Type 0

@@ -1,7 +1,8 @@
 //! Laws about the definitions. Each is the contract of a function that does nothing.
 #![tactic(auto)]
 
-ghost use Rattle.run_safety.specs.Needed.{AreNeeded, IsRunByAll};
+ghost use Rattle.run_safety.specs.Needed.{AreNeeded};
+ghost use Rattle.run_safety.specs.Rules.{DeliversOnceByEnough, IsRunByAll, IsRunByEnough, ReusesNoNonceByEnough};
 ghost use Rattle.run_safety.specs.Safety.{DeliversOnce, DrawsApart, LivesKeep, ReusesNoNonce};
 ghost use Rattle.run_safety.specs.WrittenRun.{IsWritten};
 
@@ -27,6 +28,16 @@ pub fn lives_law()
 /// power cut is one of a run of its script.
 pub fn a_run_exists()
     ensures written { IsWritten }
+{}
+
+/// Some rules are enough: no nonce seals two plaintexts under one key, and no message is delivered twice, whatever a run
+/// begins with, however a life opens, an entry is numbered and a line says that no number is left, in whatever order a
+/// bearer draws pairs, and whatever is in range, is left and outlasts a cut besides what `enough_rules` asks. Each run
+/// keeps these rules.
+pub fn rules_are_enough()
+    ensures no_reuse { ReusesNoNonceByEnough }
+    ensures at_most_once { DeliversOnceByEnough }
+    ensures by_enough { IsRunByEnough }
 {}
 
 /// The rules are needed: without the bound on SEQ, the mark that a life opens with, the mark that it leaves, the rule
