@@ -30,10 +30,12 @@ pub fn a_run_exists()
     ensures written { IsWritten }
 {}
 
-/// Some rules are enough: no nonce seals two plaintexts under one key, and no message is delivered twice, whatever a run
-/// begins with, however a life opens, an entry is numbered and a line says that no number is left, in whatever order a
-/// bearer draws pairs, and whatever is in range, is left and outlasts a cut besides what `enough_rules` asks. Each run
-/// keeps these rules.
+/// Some rules are enough: by them alone no nonce of the node's own addresses seals two different plaintexts under one
+/// key, and no message is delivered twice. They ask nothing of what a run begins with, how a life opens, how its entries
+/// are numbered, in which order a bearer draws its pairs, and when no number is left; of a life that isn't run only that
+/// it writes no line; of ranges only those of the known IV Index and of the mark; of what the next life opens over only
+/// the elements, the IV state, the mark and the replay list; and of what outlasts a cut only that an event stores it by
+/// its answer, or that it is a refill. Each run keeps these rules.
 pub fn rules_are_enough()
     ensures no_reuse { ReusesNoNonceByEnough }
     ensures at_most_once { DeliversOnceByEnough }
