@@ -21,33 +21,30 @@ use Rattle.run_definitions.specs.Answers.{answer_of, beacon_answer, config_befor
 use Rattle.run_definitions.specs.Config.{Config, changed, config_of, no_config}
 use Rattle.run_definitions.specs.History.{Insight, OfBeacon, OfNothing, OfPdu, Past}
 use Rattle.run_definitions.specs.Layers.{AccessMessage, Layers}
-use Rattle.run_definitions.specs.Ranges.{IsInRange, IsMark}
+use Rattle.run_safety.specs.Rules.{HasFitNumbers}
 use Rattle.run_safety.specs.Safety.{AreSafe, IsChange}
 use Rattle.run_definitions.specs.Stores.{asked, fill_of, filled, hours_passed, hours_step, message_of, moved, phase_records, step_records, stores, tick_records}
 use Rattle.run_safety.proofs.Rising.{Rise, same, more, Rises, config_push, rise_after}
 
--- The mark of a list of records in range is at most the end of its transmit IV Index, and the known IV Index has 32
+-- The mark of a list of records with fit numbers is at most the end of its transmit IV Index, and the known IV Index has 32
 -- bits.
 
 pub record Marked (c : Config) : Type 0 where
   pub mark : c.mark ≤ transmit_of c.iv * 2 ^ 25 + 2 ^ 24
   pub current : c.iv.current < 2 ^ 32
 
-marked_numbers : (c : Config) (s : IvState) (mark : ℕ) → IsMark s mark → s.current < 2 ^ 32 → Marked (record c { iv = s; mark = mark })
-marked_numbers c s mark h k = record { mark = omega (arith, h.word, h.most); current = k }
-
-marked_changed : (c : Config) (r : StoreRecord) → IsInRange r → Marked c → Marked (changed c r)
+marked_changed : (c : Config) (r : StoreRecord) → HasFitNumbers r → Marked c → Marked (changed c r)
 unfolding changed transmit_of
-marked_changed c (R.Numbers current progress mark hours since) h m = marked_numbers c _ mark h.2 h.0
+marked_changed c (R.Numbers current progress mark hours since) h m = record { mark = h.1; current = h.0 }
 marked_changed c (R.Hour hours since) h m = record { mark = m.mark; current = m.current }
 marked_changed c (R.Identity unicast elements dev_key) h m = record { mark = m.mark; current = m.current }
 marked_changed c _ h m = record { mark = m.mark; current = m.current }
 
-marked_all : (c : Config) (rs : List StoreRecord) → AllByRecursion IsInRange rs → Marked c → Marked (fold changed c rs)
+marked_all : (c : Config) (rs : List StoreRecord) → AllByRecursion HasFitNumbers rs → Marked c → Marked (fold changed c rs)
 marked_all c [] h m = m
 marked_all c (r ∷ rs) h m = marked_all (changed c r) rs h.1 (marked_changed c r h.0 m)
 
-pub marked : (records : List StoreRecord) → AllByRecursion IsInRange records → Marked (config_of records)
+pub marked : (records : List StoreRecord) → AllByRecursion HasFitNumbers records → Marked (config_of records)
 marked records h = marked_all no_config records h (record { mark = omega arith; current = omega arith })
 
 -- Steps of the IV Index.

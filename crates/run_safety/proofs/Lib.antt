@@ -10,6 +10,7 @@ pub mod Walking
 pub mod LifeLines
 pub mod Nonces
 pub mod Reuse
+pub mod Enough
 pub mod WrittenRun
 pub mod NeededDraws
 pub mod NeededOnce
@@ -20,4 +21,12 @@ pub mod NeededOrder
 pub mod NeededJobs
 pub mod NeededMark
 pub mod NeededLayers
+pub mod NeededTold
+pub mod NeededSight
+pub mod NeededRecords
+pub mod NeededBefore
+pub mod NeededRanges
+pub mod NeededIvState
+pub mod NeededIdentity
+pub mod NeededParts
 pub mod Needed

@@ -12,7 +12,8 @@ use Rattle.run_definitions.specs.History.{Told}
 use Rattle.run_definitions.specs.Layers.{Layers}
 use Rattle.run_definitions.specs.Order.{Does, IsOrdered, Part, PartsOf, Placed, Step, Task, broken, ends, handle, of_bearer, placed_from, whole}
 use Rattle.run_definitions.specs.Record.{Life, Shown, list_at, shown, shown_of}
-use Rattle.run_definitions.specs.RunOf.{LifeOf, is_on}
+use Rattle.run_definitions.specs.RunOf.{is_on}
+use Rattle.run_safety.specs.Rules.{LifeBy, enough_rules}
 use Rattle.run_safety.specs.Safety.{AreSafe}
 use Rattle.run_safety.proofs.Lists.{every_append, every_back, every_front, sub_append}
 use Rattle.run_safety.proofs.Lives.{left_in_range}
@@ -86,7 +87,7 @@ told_fit : (own : Config) (told : List Told) → AllByRecursion (λ (t : Told). 
 told_fit own [] h = tt
 told_fit own (t ∷ ts) h = (h.0, told_fit own ts h.1)
 
-module _ (layers : Layers) (safe : AreSafe layers) (plan : List Step) (over : List StoreRecord) (l : Life) (next : List StoreRecord) (h : LifeOf layers plan over l next)
+module _ (layers : Layers) (safe : AreSafe layers) (plan : List Step) (over : List StoreRecord) (l : Life) (next : List StoreRecord) (h : LifeBy enough_rules layers plan over l next)
     (own : Config) (later : Later own (config_of over)) where
   entries_fits : AllByRecursion (λ (e : Entry). JobsFit own e.event e.jobs) l.entries
   entries_fits =
@@ -101,7 +102,7 @@ module _ (layers : Layers) (safe : AreSafe layers) (plan : List Step) (over : Li
 
   each_lines : (b : Bool) → is_on l.opened ≡ b → (k : ℕ) → LinesFit own None (filter_map (shown_of l.entries) (list_at l.sends k))
   each_lines true e k = on_lines (h.order e) k
-  each_lines false e k = rw (h.idle e).sends (no_lines own None)
+  each_lines false e k = rw (h.idle e k) (no_lines own None)
 
   -- the lines of a life
   pub life_lines : LinesFit own None (shown l)

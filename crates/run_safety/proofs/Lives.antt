@@ -2,36 +2,37 @@
 use Rattle.std.proofs.Common.{◌≡◌, List, [], ◌∷◌, ◌++◌, map, refl, ap, sym, subst, ◌∙◌, append_assoc, append-nil}
 use Rattle.std.specs.List.{cons_option, filter_map, flat_map}
 use Rattle.std.proofs.lemmas.List.Elements.{recursion_from_All}
+use Rattle.mesh_base.specs.declared.iv_state.IvState.{IvState}
 use Rattle.mesh_base.specs.declared.pair.Name.{Name}
 use Rattle.mesh_types.specs.declared.history.Entry.{Entry}
 use Rattle.mesh_types.specs.declared.records.StoreRecord.{StoreRecord}
-use Rattle.run_definitions.specs.Config.{Config, config_of}
+use Rattle.run_definitions.specs.Config.{config_of}
 use Rattle.run_definitions.specs.Entries.{entry_of, kept_of}
 use Rattle.run_definitions.specs.Handling.{records_left}
 use Rattle.run_definitions.specs.History.{Past, Told}
 use Rattle.run_definitions.specs.Layers.{Layers}
 use Rattle.run_definitions.specs.Order.{Step}
-use Rattle.run_definitions.specs.Ranges.{IsInRange}
 use Rattle.run_definitions.specs.Record.{Life, LifeOver, first_over}
-use Rattle.run_definitions.specs.RunOf.{LifeOf, LivesOf, Outlasts, no_record, of_event, of_refill, past_at_end}
-use Rattle.run_safety.specs.Safety.{AreSafe, DeliversOnce}
+use Rattle.run_definitions.specs.RunOf.{past_at_end}
+use Rattle.run_safety.specs.Rules.{DeliversOnceByEnough, HasFitNumbers, LifeBy, LivesBy, MayOutlast, enough_rules, nothing_more, one_filled, some_stored}
+use Rattle.run_safety.specs.Safety.{AreSafe}
 use Rattle.run_definitions.specs.Stores.{filled}
 use Rattle.run_definitions.specs.Uses.{accepted, delivered, life_delivered}
 use Rattle.run_safety.proofs.Handled.{Marked, RiseAll, marked, rise_all, rise_filled, rise_take, rises_fill, stores_rise}
 use Rattle.run_safety.proofs.Lists.{every_front, every_map, pairs_from_apart}
 use Rattle.run_safety.proofs.Names.{AllBlocked, Differ, InRange, Once, blocked_all, filled_is, handled_rise, names, once_handled}
-use Rattle.run_safety.proofs.Rising.{Blocked, IsBlocked, Later, Rise, blocked_entry, entry_blocked, rise_after, rise_later}
+use Rattle.run_safety.proofs.Rising.{Blocked, IsBlocked, Later, Rise, blocked_entry, entry_blocked, later_after, later_kept, rise_after, rise_later}
 
 -- what outlasts a cut only rises, too
-outlasting_rises : (layers : Layers) → AreSafe layers → (plan : List Step) (l : Life) (past : Past) (more : List StoreRecord)
-    → Outlasts layers plan l past more → Marked (config_of past.records) → RiseAll (config_of past.records) more
-outlasting_rises layers safe plan l past _ no_record m = tt
-outlasting_rises layers safe plan l past _ (of_event k n event insight on cut next sees) m =
+outlasting_rises : (layers : Layers) → AreSafe layers → (past : Past) (more : List StoreRecord)
+    → MayOutlast layers past more → Marked (config_of past.records) → RiseAll (config_of past.records) more
+outlasting_rises layers safe past _ nothing_more m = tt
+outlasting_rises layers safe past _ (some_stored n event insight) m =
     rise_take n (config_of past.records) _ (stores_rise layers safe past event insight _ refl m)
-outlasting_rises layers safe plan l past _ (of_refill on cut) m = (rises_fill (config_of past.records), tt)
+outlasting_rises layers safe past _ one_filled m = (rises_fill (config_of past.records), tt)
 
 -- The parts of a life.
-module _ (layers : Layers) (safe : AreSafe layers) (plan : List Step) (over : List StoreRecord) (l : Life) (next : List StoreRecord) (h : LifeOf layers plan over l next) where
+module _ (layers : Layers) (safe : AreSafe layers) (plan : List Step) (over : List StoreRecord) (l : Life) (next : List StoreRecord) (h : LifeBy enough_rules layers plan over l next) where
   abbrev left : List StoreRecord
   left = records_left layers over [] h.told
 
@@ -39,32 +40,34 @@ module _ (layers : Layers) (safe : AreSafe layers) (plan : List Step) (over : Li
   at_end = filled l.refills left
 
   pub end_in_range : InRange (at_end ++ h.leaves.more)
-  end_in_range = recursion_from_All IsInRange (at_end ++ h.leaves.more) h.leaves.ranges
+  end_in_range = recursion_from_All HasFitNumbers (at_end ++ h.leaves.more) h.leaves.ranges
 
   filled_in_range : InRange at_end
-  filled_in_range = every_front IsInRange at_end h.leaves.more end_in_range
+  filled_in_range = every_front HasFitNumbers at_end h.leaves.more end_in_range
 
   pub left_in_range : InRange left
   left_in_range =
       let (rest, e) = filled_is l.refills left in
-      every_front IsInRange left rest (subst InRange e filled_in_range)
+      every_front HasFitNumbers left rest (subst InRange e filled_in_range)
 
   more_rise : Rise at_end (at_end ++ h.leaves.more)
-  more_rise = rise_all h.leaves.more at_end (outlasting_rises layers safe plan l (past_at_end layers over l h.told) h.leaves.more h.leaves.outlasts (marked at_end filled_in_range))
+  more_rise = rise_all h.leaves.more at_end (outlasting_rises layers safe (past_at_end layers over l h.told) h.leaves.more h.leaves.outlasts (marked at_end filled_in_range))
 
   pub life_rises : Rise over (at_end ++ h.leaves.more)
   life_rises = rise_after more_rise (rise_after (rise_filled l.refills left) (handled_rise layers safe over [] h.told h.handled left_in_range))
 
   -- what is left says nothing less
   pub life_later : Later (config_of over) (config_of next)
-  life_later = subst (Later (config_of over)) (sym h.leaves.alike.config) (rise_later life_rises)
+  life_later =
+      later_after (config_of over) (config_of (at_end ++ h.leaves.more)) (config_of next) (rise_later life_rises)
+      (later_kept _ _ h.leaves.alike.unicast h.leaves.alike.elements h.leaves.alike.iv h.leaves.alike.mark)
 
   still_blocked : (n : Name) → IsBlocked n (at_end ++ h.leaves.more) → IsBlocked n next
   still_blocked n b =
       let all : List StoreRecord = at_end ++ h.leaves.more in
       let by_entry : Blocked n (config_of all).iv.current (entry_of all n.src.0) = blocked_entry n _ (kept_of all n.src.0) b in
       let moved : Blocked n (config_of next).iv.current (entry_of all n.src.0) =
-      subst (λ (c : Config). Blocked n c.iv.current (entry_of all n.src.0)) (sym h.leaves.alike.config) by_entry in
+      subst (λ (s : IvState). Blocked n s.current (entry_of all n.src.0)) (sym h.leaves.alike.iv) by_entry in
       entry_blocked n _ (kept_of next n.src.0) (subst (Blocked n (config_of next).iv.current) (sym (h.leaves.alike.entries n.src.0)) moved)
 
   told_names : names h.told ≡ life_delivered l
@@ -86,7 +89,7 @@ module _ (layers : Layers) (safe : AreSafe layers) (plan : List Step) (over : Li
       })
 
 lives_differ : (layers : Layers) → AreSafe layers → (plans : List (List Step)) (lives : List LifeOver) (last : List StoreRecord) (ns : List Name)
-    → LivesOf layers plans lives last → Once ns (first_over lives last) → Differ (ns ++ flat_map (λ x. life_delivered x.life) lives)
+    → LivesBy enough_rules layers plans lives last → Once ns (first_over lives last) → Differ (ns ++ flat_map (λ x. life_delivered x.life) lives)
 lives_differ layers safe [] [] last ns h o = rw append-nil o.differ
 lives_differ layers safe [] (x ∷ xs) last ns h o = absurd h
 lives_differ layers safe (plan ∷ plans) [] last ns h o = absurd h
@@ -94,6 +97,6 @@ lives_differ layers safe (plan ∷ plans) (x ∷ xs) last ns h o =
     let one : Once (ns ++ life_delivered x.life) (first_over xs last) = life_once layers safe plan x.over x.life (first_over xs last) h.0 ns o in
     rw (← append_assoc) (lives_differ layers safe plans xs last (ns ++ life_delivered x.life) h.1 one)
 
-pub at_most_once : DeliversOnce
+pub at_most_once : DeliversOnceByEnough
 at_most_once layers safe s r h =
     pairs_from_apart _ (delivered r) (lives_differ layers safe s.lives r.lives r.last [] h.lives (record { differ = tt; blocked = tt }))

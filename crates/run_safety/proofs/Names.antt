@@ -16,8 +16,8 @@ use Rattle.run_definitions.specs.Handling.{AreHandled, Handles, past_of, records
 use Rattle.run_definitions.specs.History.{Insight, OfPdu, Past, Told}
 use Rattle.run_definitions.specs.Layers.{Layers}
 use Rattle.run_definitions.specs.Pairs.{is_expired, is_newer}
-use Rattle.run_definitions.specs.Ranges.{IsInRange}
 use Rattle.run_definitions.specs.Readings.{Sees, sees_pdu, sees_beacon, sees_nothing}
+use Rattle.run_safety.specs.Rules.{HasFitNumbers}
 use Rattle.run_safety.specs.Safety.{AreSafe}
 use Rattle.run_definitions.specs.Stores.{asked, filled, fill_of, message_of, records_after, stores}
 use Rattle.run_definitions.specs.Uses.{accepted}
@@ -59,10 +59,10 @@ not_fresh n c (Some p) (by_kept e) h k = not_replayed n p (is_newer n.pair p) e 
 pub blocked_not_fresh : (past : Past) (n : Name) → IsBlocked n past.records → Fresh past n → ⊥
 blocked_not_fresh past n b f = not_fresh n _ _ (blocked_entry n _ (kept_of past.records n.src.0) b) f.read f.newer
 
--- The records of a list of entries rise, if all of them are in range.
+-- The records of a list of entries rise, if the numbers of all of them are fit: in range.
 
 abbrev pub InRange : List StoreRecord → Type 0
-InRange records = AllByRecursion IsInRange records
+InRange records = AllByRecursion HasFitNumbers records
 
 -- the records before the first of some entries, and those that it leaves, are in range if those that all of them
 -- leave are
@@ -70,10 +70,10 @@ pub first_in_range : (layers : Layers) (records : List StoreRecord) (before : Li
     → AreHandled layers records before (t ∷ ts) → InRange (records_left layers records before (t ∷ ts)) → InRange (records_after layers (past_of before t) t)
 first_in_range layers records before t ts h r =
     let (rest, e) = left_is layers (records_after layers (past_of before t) t) (before ++ t ∷ []) ts h.2 in
-    every_front IsInRange (records_after layers (past_of before t) t) rest (subst InRange e r)
+    every_front HasFitNumbers (records_after layers (past_of before t) t) rest (subst InRange e r)
 
 pub before_in_range : (layers : Layers) (before : List Told) (t : Told) → InRange (records_after layers (past_of before t) t) → InRange t.records
-before_in_range layers before t r = every_front IsInRange t.records _ r
+before_in_range layers before t r = every_front HasFitNumbers t.records _ r
 
 pub entry_rise_all : (layers : Layers) → AreSafe layers → (before : List Told) (t : Told)
     → Handles layers (past_of before t) t → InRange (records_after layers (past_of before t) t)

@@ -2,7 +2,8 @@
 use Rattle.std.proofs.Common.{List, [], ◌∷◌}
 use Rattle.mesh_types.specs.declared.records.StoreRecord.{StoreRecord}
 use Rattle.run_definitions.specs.Layers.{Layers}
-use Rattle.run_safety.specs.Needed.{AreNeeded, IsRunByAll, LifeBy, LivesBy, all_rules}
+use Rattle.run_safety.specs.Needed.{AreNeeded}
+use Rattle.run_safety.specs.Rules.{IsRunByAll, LifeBy, LivesBy, all_rules}
 use Rattle.run_definitions.specs.Order.{Step}
 use Rattle.run_definitions.specs.Record.{Life, LifeOver, first_over}
 use Rattle.run_definitions.specs.RunOf.{LifeOf, LivesOf}
@@ -15,6 +16,14 @@ use Rattle.run_safety.proofs.NeededJobs.{jobs_needed}
 use Rattle.run_safety.proofs.NeededMark.{mark_needed, outlasts_needed}
 use Rattle.run_safety.proofs.NeededLayers.{safe_layers_needed}
 use Rattle.run_safety.proofs.NeededTable.{iv_table_needed}
+use Rattle.run_safety.proofs.NeededTold.{told_needed}
+use Rattle.run_safety.proofs.NeededSight.{sight_needed}
+use Rattle.run_safety.proofs.NeededRecords.{records_needed}
+use Rattle.run_safety.proofs.NeededBefore.{before_needed}
+use Rattle.run_safety.proofs.NeededRanges.{ranges_needed}
+use Rattle.run_safety.proofs.NeededIvState.{iv_state_needed}
+use Rattle.run_safety.proofs.NeededIdentity.{elements_needed, unicast_needed}
+use Rattle.run_safety.proofs.NeededParts.{history_needed, lines_needed}
 
 life_by_all : (layers : Layers) (plan : List Step) (over : List StoreRecord) (l : Life) (next : List StoreRecord) → LifeBy all_rules layers plan over l next → LifeOf layers plan over l next
 life_by_all layers plan over l next h = record {
@@ -47,11 +56,21 @@ are_needed = record {
   below = below_needed;
   once = once_needed;
   order = order_needed;
+  lines = lines_needed;
+  history = history_needed;
   idle = idle_needed;
+  told = told_needed;
   jobs = jobs_needed;
+  sight = sight_needed;
+  iv_table = iv_table_needed;
+  records = records_needed;
+  before = before_needed;
   outlasts = outlasts_needed;
+  ranges = ranges_needed;
   mark = mark_needed;
+  iv_state = iv_state_needed;
+  unicast = unicast_needed;
+  elements = elements_needed;
   replay_list = replay_list_needed;
   safe_layers = safe_layers_needed;
-  iv_table = iv_table_needed;
 }

@@ -21,7 +21,8 @@ use Rattle.run_definitions.specs.Handling.{AreHandled, Handles, past_of}
 use Rattle.run_definitions.specs.History.{OfNothing, Told}
 use Rattle.run_definitions.specs.Jobs.{jobs_of}
 use Rattle.run_definitions.specs.Lines.{shows_ctl}
-use Rattle.run_safety.specs.Needed.{DrawsWithoutBound, LeavesBy, LifeBy, Reuses, all_rules}
+use Rattle.run_safety.specs.Needed.{DrawsWithoutBound, Reuses}
+use Rattle.run_safety.specs.Rules.{LeavesBy, LifeBy, all_rules}
 use Rattle.run_definitions.specs.Order.{Does, IsOrdered, Part, Step, ends, handles, phase, placed_from, stops, whole, writes}
 use Rattle.run_definitions.specs.Pairs.{word}
 use Rattle.run_definitions.specs.Ranges.{IsInRange}

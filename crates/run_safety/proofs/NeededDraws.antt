@@ -23,7 +23,8 @@ use Rattle.run_definitions.specs.Handling.{AreHandled}
 use Rattle.run_definitions.specs.History.{OfNothing, Told}
 use Rattle.run_definitions.specs.Jobs.{jobs_of}
 use Rattle.run_definitions.specs.Lines.{shows_ctl}
-use Rattle.run_safety.specs.Needed.{DrawsFromAnywhere, DrawsUnreserved, LeavesBy, LifeBy, Reuses, Rules, RunBy, all_rules}
+use Rattle.run_safety.specs.Needed.{DrawsFromAnywhere, DrawsUnreserved, Reuses}
+use Rattle.run_safety.specs.Rules.{LeavesBy, LifeBy, Rules, RunBy, all_rules}
 use Rattle.run_definitions.specs.Order.{Does, IsOrdered, Part, Step, Walks, ends, handle, handles, phase, placed_from, stops, whole, writes}
 use Rattle.run_definitions.specs.Pairs.{word}
 use Rattle.run_definitions.specs.Ranges.{IsInRange}

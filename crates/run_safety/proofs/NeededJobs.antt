@@ -23,7 +23,8 @@ use Rattle.run_definitions.specs.RunOf.{IsNumbered, IsSpentRight, Script, draws,
 use Rattle.run_definitions.specs.Seals.{own_fields}
 use Rattle.run_definitions.specs.Stores.{stores}
 use Rattle.run_definitions.specs.Uses.{seals_of, uses}
-use Rattle.run_safety.specs.Needed.{AreHandledButJobs, LeavesBy, LifeBy, Reuses, Rules, all_rules}
+use Rattle.run_safety.specs.Needed.{AreHandledSo, HandlesButJobs, Reuses}
+use Rattle.run_safety.specs.Rules.{LeavesBy, LifeBy, Rules, all_rules}
 use Rattle.run_safety.specs.WrittenRun.{address, material, node, opened_state, pair, quiet_layers}
 use Rattle.run_safety.proofs.NeededDraws.{Clash, first_list, first_opens, mark, other_text, plan, raw_event, some_use}
 use Rattle.run_safety.proofs.NeededNames.{nothing_drawn}
@@ -49,7 +50,7 @@ line job octet = record {
 abbrev lines : List Sent
 lines = line 0 0x7f ∷ line 1 0x7e ∷ []
 
-abbrev life : Life
+abbrev pub life : Life
 life = record { opened = W.On opened_state (mark + 0); entries = entries; refills = 0; sends = lines ∷ []; end = F.Ended }
 
 abbrev told : List Told
@@ -62,13 +63,13 @@ told =
     ∷ []
 
 abbrev any_jobs : Rules
-any_jobs = record all_rules { are_handled = AreHandledButJobs }
+any_jobs = record all_rules { are_handled = AreHandledSo HandlesButJobs }
 
-handled : AreHandledButJobs quiet_layers first_list [] told
+handled : AreHandledSo HandlesButJobs quiet_layers first_list [] told
 unfolding changed answer_of
 handled = (refl, record { sees = sees_nothing refl; answer = refl }, tt)
 
-numbered : (k : ℕ) → IsNumbered life k
+pub numbered : (k : ℕ) → IsNumbered life k
 numbered zero = refl
 numbered (suc k) = rw (others_none k entries (refl, tt)) refl
 
@@ -81,14 +82,14 @@ does zero =
     (writes shows_relay (writes shows_relay stops))
 does (suc k) = rw (others_placed k 0 entries (refl, tt)) stops
 
-ordered : IsOrdered (plan 0x7f) life
+pub ordered : IsOrdered (plan 0x7f) life
 ordered = record { parts = part ∷ []; entries = refl; sends = λ k. sym (append-nil (list_at (lines ∷ []) k)); phases = whole does ends }
 
 leaves : LeavesBy any_jobs quiet_layers (plan 0x7f) life (past_at_end quiet_layers first_list life told) first_list
 unfolding changed stores
 leaves = record { more = []; outlasts = no_record; ranges = all_of IsInRange first_list ranges; alike = record { config = refl; entries = λ src. refl } }
 
-draws_none : (k : ℕ) → draws (shown_by life k) ≡ []
+pub draws_none : (k : ℕ) → draws (shown_by life k) ≡ []
 draws_none zero = refl
 draws_none (suc k) = refl
 
@@ -106,15 +107,15 @@ life_by = record {
   spent = all_of (λ (s : Shown). IsSpentRight (config_of first_list).mark s.outcome) (shown life) (tt, (tt, tt));
 }
 
-abbrev script : Script
+abbrev pub script : Script
 script = record { node = node; lives = plan 0x7f ∷ [] }
 
-abbrev run : Run
+abbrev pub run : Run
 run = record { lives = record { over = first_list; life = life } ∷ []; last = first_list }
 
-clash : Clash (uses run)
+pub clash : Clash (uses run)
 unfolding changed seals_of
 clash h = other_text _ _ refl refl (h 0 1 some_use (lit< tt) (lit< tt) refl refl)
 
-pub jobs_needed : Reuses (record all_rules { are_handled = AreHandledButJobs })
+pub jobs_needed : Reuses (record all_rules { are_handled = AreHandledSo HandlesButJobs })
 jobs_needed = (quiet_layers, script, run, quiet_safe, record { first = refl; lives = (life_by, tt) }, clash)

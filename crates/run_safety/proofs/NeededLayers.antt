@@ -36,7 +36,7 @@ use Rattle.run_safety.proofs.NeededDraws.{Clash, first_list, first_opens, mark, 
 use Rattle.run_safety.proofs.NeededNames.{nothing_drawn}
 use Rattle.run_safety.proofs.NeededOrder.{ranges}
 
-abbrev own_pdu : ℕ → NetFields
+abbrev pub own_pdu : ℕ → NetFields
 own_pdu octet = record { iv = 5; ctl = true; ttl = 1; seq = 0; src = address 0x1201; dst = address 0xfffd; tpdu = octet ∷ [] }
 
 abbrev unsafe_jobs : List Job

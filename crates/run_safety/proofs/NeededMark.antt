@@ -18,7 +18,8 @@ use Rattle.run_definitions.specs.Record.{Life, Run, Shown, shown}
 use Rattle.run_definitions.specs.RunOf.{IsDrawn, IsSpentRight, Script, no_record, past_at_end}
 use Rattle.run_definitions.specs.Stores.{stores}
 use Rattle.run_definitions.specs.Uses.{seals_of, uses}
-use Rattle.run_safety.specs.Needed.{HasTheSameEntries, LeavesBy, LifeBy, OutlastsAnything, Reuses, Rules, all_rules}
+use Rattle.run_safety.specs.Needed.{IsAlikeBut, OutlastsAnything, Reuses, without_mark}
+use Rattle.run_safety.specs.Rules.{LeavesBy, LifeBy, Rules, all_rules}
 use Rattle.run_safety.specs.WrittenRun.{node, opened_state, pair, quiet_layers}
 use Rattle.run_safety.proofs.NeededDraws.{Clash, each, first_handled, first_list, first_opens, first_range, first_told, life, mark, numbered, numbers, once, ordered, other_text, plan, rises, second_list, second_opens, some_use}
 use Rattle.run_safety.proofs.NeededNames.{nothing_drawn}
@@ -99,15 +100,15 @@ clash h = other_text _ _ refl refl (h 0 1 some_use (lit< tt) (lit< tt) refl refl
 -- where the mark isn't in what is left
 
 mark_leaves : (octet : ℕ)
-    → LeavesBy (rules (all_rules.does_outlast) HasTheSameEntries) quiet_layers (plan octet) (life (mark + 0) (pair 0) octet) (past_at_end quiet_layers first_list (life (mark + 0) (pair 0) octet) (first_told octet ∷ [])) second_list
+    → LeavesBy (rules all_rules.does_outlast (IsAlikeBut without_mark)) quiet_layers (plan octet) (life (mark + 0) (pair 0) octet) (past_at_end quiet_layers first_list (life (mark + 0) (pair 0) octet) (first_told octet ∷ [])) second_list
 unfolding changed stores transmit_of
-mark_leaves octet = record { more = []; outlasts = no_record; ranges = all_of IsInRange second_list first_range; alike = record { entries = λ src. refl } }
+mark_leaves octet = record { more = []; outlasts = no_record; ranges = all_of IsInRange second_list first_range; alike = record { config = refl; entries = λ src. refl } }
 
-mark_taken : LeavesBy (rules (all_rules.does_outlast) HasTheSameEntries) quiet_layers [] empty_life (past_at_end quiet_layers second_list empty_life []) first_list
+mark_taken : LeavesBy (rules all_rules.does_outlast (IsAlikeBut without_mark)) quiet_layers [] empty_life (past_at_end quiet_layers second_list empty_life []) first_list
 unfolding changed
-mark_taken = record { more = []; outlasts = no_record; ranges = all_of IsInRange second_list first_range; alike = record { entries = λ src. refl } }
+mark_taken = record { more = []; outlasts = no_record; ranges = all_of IsInRange second_list first_range; alike = record { config = refl; entries = λ src. refl } }
 
-pub mark_needed : Reuses (record all_rules { is_alike = HasTheSameEntries })
+pub mark_needed : Reuses (record all_rules { is_alike = IsAlikeBut without_mark })
 mark_needed = (
   quiet_layers,
   script,
@@ -116,8 +117,8 @@ mark_needed = (
   record {
     first = refl;
     lives = (
-      life_by all_rules.does_outlast HasTheSameEntries 0x7f (mark_leaves 0x7f),
-      (empty_by all_rules.does_outlast HasTheSameEntries mark_taken, (life_by all_rules.does_outlast HasTheSameEntries 0x7e (mark_leaves 0x7e), tt)),
+      life_by all_rules.does_outlast (IsAlikeBut without_mark) 0x7f (mark_leaves 0x7f),
+      (empty_by all_rules.does_outlast (IsAlikeBut without_mark) mark_taken, (life_by all_rules.does_outlast (IsAlikeBut without_mark) 0x7e (mark_leaves 0x7e), tt)),
     );
   },
   clash,

@@ -1,5 +1,4 @@
--- The records that show that the replay list and the table of the IV Index are needed: one control message is
--- accepted in two lives.
+-- The record that shows that the replay list in what is left is needed: one control message is accepted in two lives.
 use Rattle.std.proofs.Common.{◌≡◌, ◌≢◌, ℕ, zero, suc, ◌+◌, ◌^◌, ◌<◌, ◌≤◌, lit<, lit≤, inl, true, List, [], ◌∷◌, ◌++◌, refl, sym, arith, append-nil, Some, None}
 use Rattle.std.specs.List.{AllByRecursion}
 use Rattle.std.proofs.lemmas.Bool.{true≢false}
@@ -20,7 +19,7 @@ use Rattle.run_definitions.specs.Config.{changed, config_of}
 use Rattle.run_definitions.specs.Handling.{AreHandled, past_of}
 use Rattle.run_definitions.specs.History.{Told}
 use Rattle.run_definitions.specs.Jobs.{jobs_of}
-use Rattle.run_safety.specs.Needed.{LeavesBy, LifeBy, Rules, all_rules}
+use Rattle.run_safety.specs.Rules.{LeavesBy, LifeBy, Rules, all_rules}
 use Rattle.run_definitions.specs.Order.{Does, IsOrdered, Part, Step, ends, handles, phase, placed_from, stops, whole}
 use Rattle.run_definitions.specs.Pairs.{word}
 use Rattle.run_definitions.specs.Ranges.{IsInRange}
@@ -91,18 +90,18 @@ no_sends (suc k) = refl
 pub twice : (n : Name) → AtMostOnce (n ∷ n ∷ []) → ⊥
 twice n h = h 0 1 n (lit< tt) (lit< tt) refl
 
--- A life with that message alone, under the IV Index 5.
+-- A life with that message alone.
 
-abbrev life : Life
-life = record { opened = W.On opened_state (mark + 0); entries = control_entry 1 5 ∷ []; refills = 0; sends = [] ∷ []; end = F.Ended }
+abbrev pub life : ℕ → Life
+life iv = record { opened = W.On opened_state (mark + 0); entries = control_entry 1 iv ∷ []; refills = 0; sends = [] ∷ []; end = F.Ended }
 
-abbrev plan : List Step
-plan = phase ((control_event 5 ∷ []) ∷ []) ∷ []
+abbrev pub plan : ℕ → List Step
+plan iv = phase ((control_event iv ∷ []) ∷ []) ∷ []
 
-abbrev told : Told
-told = record { entry = control_entry 1 5; insight = control_insight 5; records = first_list }
+abbrev pub told : ℕ → Told
+told iv = record { entry = control_entry 1 iv; insight = control_insight iv; records = first_list }
 
-reads : IsReading quiet_layers (past_of [] told) (net_text material (control_fields 5)) (Some (record { fields = control_fields 5; by = key_heard }))
+pub reads : IsReading quiet_layers (past_of [] (told 5)) (net_text material (control_fields 5)) (Some (record { fields = control_fields 5; by = key_heard }))
 unfolding changed
 reads = (
   0,
@@ -113,67 +112,67 @@ reads = (
   },
 )
 
-handled : AreHandled quiet_layers first_list [] (told ∷ [])
+handled : AreHandled quiet_layers first_list [] (told 5 ∷ [])
 unfolding changed answer_of stores jobs_of
 handled = (refl, record { sees = sees_pdu refl reads control_lower refl; answer = refl; jobs = refl }, tt)
 
-abbrev part : Part
-part = record { entries = placed_from 0 (control_entry 1 5 ∷ []); sends = [] ∷ [] }
+abbrev part : ℕ → Part
+part iv = record { entries = placed_from 0 (control_entry 1 iv ∷ []); sends = [] ∷ [] }
 
-does : (k : ℕ) → Does ((control_event 5 ∷ []) ∷ []) part k []
-does zero = handles (record { at = 0; entry = control_entry 1 5 }) refl stops
-does (suc k) = rw (others_placed k 0 (control_entry 1 5 ∷ []) (refl, tt)) stops
+does : (iv k : ℕ) → Does ((control_event iv ∷ []) ∷ []) (part iv) k []
+does iv zero = handles (record { at = 0; entry = control_entry 1 iv }) refl stops
+does iv (suc k) = rw (others_placed k 0 (control_entry 1 iv ∷ []) (refl, tt)) stops
 
-ordered : IsOrdered plan life
-ordered = record { parts = part ∷ []; entries = refl; sends = λ k. sym (append-nil (list_at ([] ∷ []) k)); phases = whole does ends }
+pub ordered : (iv : ℕ) → IsOrdered (plan iv) (life iv)
+ordered iv = record { parts = part iv ∷ []; entries = refl; sends = λ k. sym (append-nil (list_at ([] ∷ []) k)); phases = whole (does iv) ends }
 
-numbered : (k : ℕ) → IsNumbered life k
-numbered zero = refl
-numbered (suc k) = rw (others_none k (control_entry 1 5 ∷ []) (refl, tt)) refl
+pub numbered : (iv k : ℕ) → IsNumbered (life iv) k
+numbered iv zero = refl
+numbered iv (suc k) = rw (others_none k (control_entry 1 iv ∷ []) (refl, tt)) refl
 
-shows_nothing : (k : ℕ) → draws (shown_by life k) ≡ []
-shows_nothing k = rw (no_sends k) refl
+pub shows_nothing : (iv k : ℕ) → draws (shown_by (life iv) k) ≡ []
+shows_nothing iv k = rw (no_sends k) refl
 
 abbrev forgetful : Rules
 forgetful = record all_rules { is_alike = SaysTheSame }
 
-at_end_range : AllByRecursion IsInRange (first_list ++ R.Replay (control_name 5) ∷ [])
+pub at_end_range : (iv : ℕ) → iv < 2 ^ 32 → AllByRecursion IsInRange (first_list ++ R.Replay (control_name iv) ∷ [])
 unfolding transmit_of
-at_end_range = (
+at_end_range iv h = (
   (lit≤ tt, lit≤ tt, lit≤ tt, lit≤ tt, dev_key_is),
   (
     (lit< tt, (λ e. lit< tt), record { seq = 0; word = refl; most = lit≤ tt; block = refl }, lit< tt, lit< tt),
     (
       (lit≤ tt, lit≤ tt, lit≤ tt, net_key_is),
-      ((lit< tt, lit< tt, lit< tt), tt),
+      ((lit< tt, h, lit< tt), tt),
     ),
   ),
 )
 
-leaves : LeavesBy forgetful quiet_layers plan life (past_at_end quiet_layers first_list life (told ∷ [])) first_list
+leaves : LeavesBy forgetful quiet_layers (plan 5) (life 5) (past_at_end quiet_layers first_list (life 5) (told 5 ∷ [])) first_list
 unfolding changed stores
-leaves = record { more = []; outlasts = no_record; ranges = all_of IsInRange (first_list ++ R.Replay (control_name 5) ∷ []) at_end_range; alike = record { config = refl } }
+leaves = record { more = []; outlasts = no_record; ranges = all_of IsInRange (first_list ++ R.Replay (control_name 5) ∷ []) (at_end_range 5 (lit< tt)); alike = record { config = refl } }
 
-life_by : LifeBy forgetful quiet_layers plan first_list life first_list
+life_by : LifeBy forgetful quiet_layers (plan 5) first_list (life 5) first_list
 life_by = record {
   opening = first_opens (pair 0) 0x7f;
   idle = λ e. absurd (true≢false e);
-  told = told ∷ [];
+  told = told 5 ∷ [];
   entries = refl;
   handled = handled;
-  numbers = numbered;
-  order = λ e. ordered;
+  numbers = numbered 5;
+  order = λ e. ordered 5;
   leaves = leaves;
-  drawn = nothing_drawn first_list first_list life refl shows_nothing;
-  spent = all_of (λ (s : Shown). IsSpentRight (config_of first_list).mark s.outcome) (shown life) tt;
+  drawn = nothing_drawn first_list first_list (life 5) refl (shows_nothing 5);
+  spent = all_of (λ (s : Shown). IsSpentRight (config_of first_list).mark s.outcome) (shown (life 5)) tt;
 }
 
 -- the same life twice
 abbrev script : Script
-script = record { node = node; lives = plan ∷ plan ∷ [] }
+script = record { node = node; lives = plan 5 ∷ plan 5 ∷ [] }
 
 abbrev run : Run
-run = record { lives = record { over = first_list; life = life } ∷ record { over = first_list; life = life } ∷ []; last = first_list }
+run = record { lives = record { over = first_list; life = life 5 } ∷ record { over = first_list; life = life 5 } ∷ []; last = first_list }
 
 pub replay_list_needed : Repeats (record all_rules { is_alike = SaysTheSame })
 replay_list_needed = (quiet_layers, script, run, quiet_safe, record { first = refl; lives = (life_by, (life_by, tt)) }, twice (control_name 5))

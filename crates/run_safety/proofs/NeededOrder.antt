@@ -1,6 +1,6 @@
 -- The records that show that the order of a bearer's work is needed, and that a life that isn't run does nothing: two
 -- messages that nothing sealed begin under one pair.
-use Rattle.std.proofs.Common.{◌≡◌, ℕ, zero, suc, ◌+◌, lit<, lit≤, get_or, true, false, List, [], ◌∷◌, refl, ap, sym, arith}
+use Rattle.std.proofs.Common.{◌≡◌, ℕ, zero, suc, ◌+◌, lit<, lit≤, get_or, true, false, List, [], ◌∷◌, refl, ap, sym, arith, append-nil}
 use Rattle.std.specs.List.{AllByRecursion}
 use Rattle.std.proofs.lemmas.Bool.{true≢false}
 use Rattle.mesh_base.specs.IvState.{transmit_of}
@@ -20,11 +20,12 @@ use Rattle.run_definitions.specs.Config.{changed, config_of}
 use Rattle.run_definitions.specs.Handling.{AreHandled}
 use Rattle.run_definitions.specs.History.{OfNothing, Told}
 use Rattle.run_definitions.specs.Jobs.{jobs_of}
-use Rattle.run_safety.specs.Needed.{LeavesBy, LifeBy, Reuses, Rules, all_rules}
+use Rattle.run_safety.specs.Needed.{Reuses}
+use Rattle.run_safety.specs.Rules.{LeavesBy, LifeBy, Rules, all_rules}
 use Rattle.run_definitions.specs.Ranges.{IsInRange}
 use Rattle.run_definitions.specs.Readings.{sees_nothing}
-use Rattle.run_definitions.specs.Record.{Life, Run, Shown, shown, shown_by}
-use Rattle.run_definitions.specs.Order.{IsOrdered, Step}
+use Rattle.run_definitions.specs.Record.{Life, Run, Shown, list_at, shown, shown_by}
+use Rattle.run_definitions.specs.Order.{IsOrdered, Part, Step, placed_from}
 use Rattle.run_definitions.specs.RunOf.{IsIdle, IsNumbered, IsSpentRight, Opens, Script, cut_at_start, draws, is_on, no_record, past_at_end}
 use Rattle.run_definitions.specs.Stores.{stores}
 use Rattle.run_definitions.specs.Uses.{seals_of, uses}
@@ -59,8 +60,14 @@ entries = begin_entry 1 5 ∷ begin_entry 2 6 ∷ []
 abbrev line : ℕ → Sent
 line entry = record { entry = entry; job = 0; outcome = O.Seg (pair 0) 7 (address 0x1201) (address 3) 0 0 0 [] }
 
+abbrev lines : List (List Sent)
+lines = (line 0 ∷ line 1 ∷ []) ∷ []
+
 abbrev life : Opened → End → Life
-life opened end = record { opened = opened; entries = entries; refills = 0; sends = (line 0 ∷ line 1 ∷ []) ∷ []; end = end }
+life opened end = record { opened = opened; entries = entries; refills = 0; sends = lines; end = end }
+
+abbrev part : Part
+part = record { entries = placed_from 0 entries; sends = lines }
 
 abbrev told : List Told
 told =
@@ -127,13 +134,16 @@ clash : (opened : Opened) (end : End) → Clash (uses (run opened end))
 unfolding changed seals_of lower_text
 clash opened end h = let e : 5 ≡ 6 = ap (λ l. get_or l 10 0) (h 0 1 some_use (lit< tt) (lit< tt) refl refl) in absurd (omega (arith, e))
 
+any_order : IsInAnyOrder [] (life (W.On opened_state (mark + 0)) F.Ended)
+any_order = record { parts = part ∷ []; entries = refl; sends = λ k. sym (append-nil (list_at lines k)) }
+
 pub order_needed : Reuses (record all_rules { is_ordered = IsInAnyOrder })
 order_needed = (
   quiet_layers,
   script,
   run (W.On opened_state (mark + 0)) F.Ended,
   quiet_safe,
-  record { first = refl; lives = (life_by IsIdle IsInAnyOrder (W.On opened_state (mark + 0)) F.Ended (first_opens (pair 0) 0x7f) (λ e. absurd (true≢false e)) (λ e. tt), tt) },
+  record { first = refl; lives = (life_by IsIdle IsInAnyOrder (W.On opened_state (mark + 0)) F.Ended (first_opens (pair 0) 0x7f) (λ e. absurd (true≢false e)) (λ e. any_order), tt) },
   clash (W.On opened_state (mark + 0)) F.Ended,
 )
 

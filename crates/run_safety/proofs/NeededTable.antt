@@ -19,7 +19,7 @@ use Rattle.run_definitions.specs.Config.{changed, config_of}
 use Rattle.run_definitions.specs.Handling.{past_of}
 use Rattle.run_definitions.specs.History.{Told}
 use Rattle.run_definitions.specs.Jobs.{jobs_of}
-use Rattle.run_safety.specs.Needed.{LeavesBy, LifeBy, Rules, all_rules}
+use Rattle.run_safety.specs.Rules.{LeavesBy, LifeBy, Rules, all_rules}
 use Rattle.run_definitions.specs.Order.{Does, IsOrdered, Part, ends, handles, phase, placed_from, stops, whole}
 use Rattle.run_definitions.specs.Ranges.{IsInRange}
 use Rattle.run_definitions.specs.Record.{Life, Run, Shown, list_at, shown, shown_by}
@@ -33,7 +33,7 @@ use Rattle.mesh_base.specs.declared.iv_state.IvStep.TheVariants as I
 use Rattle.mesh_types.specs.declared.answers.KeyStep.TheVariants as S
 use Rattle.run_definitions.specs.Entries.{entry_of}
 use Rattle.run_definitions.specs.History.{OfBeacon}
-use Rattle.run_safety.specs.Needed.{AreHandledButStep, HandlesButStep, Repeats}
+use Rattle.run_safety.specs.Needed.{AreHandledSo, HandlesButStep, Repeats}
 use Rattle.run_definitions.specs.Readings.{IsBeacon, IsReading, sees_beacon, sees_pdu}
 use Rattle.run_safety.specs.WrittenRun.{key_heard}
 use Rattle.run_safety.proofs.NeededDraws.{first_list, first_opens, mark}
@@ -62,7 +62,7 @@ abbrev fall_entry : ℕ → Entry
 fall_entry number = record { bearer = 0; number = number; event = beacon_event 0; fills = 0; answer = A.Beacon 0 S.Same (I.Finish opened_state); jobs = [] }
 
 abbrev any_step : Rules
-any_step = record all_rules { are_handled = AreHandledButStep }
+any_step = record all_rules { are_handled = AreHandledSo HandlesButStep }
 
 -- The first life: the message under the IV Index 4, and a step to 6 in progress. What it leaves has no entry of the
 -- message, which is expired.
@@ -122,7 +122,7 @@ begin_handled : HandlesButStep quiet_layers (past_of (message_told ∷ []) begin
 unfolding changed answer_of stores jobs_of
 begin_handled = record { sees = sees_beacon refl begin_reads; answer = (refl, refl); jobs = refl }
 
-first_handled : AreHandledButStep quiet_layers first_list [] (message_told ∷ begin_told ∷ [])
+first_handled : AreHandledSo HandlesButStep quiet_layers first_list [] (message_told ∷ begin_told ∷ [])
 unfolding changed stores
 first_handled = (refl, message_handled, (refl, begin_handled, tt))
 
@@ -249,7 +249,7 @@ again_handled : HandlesButStep quiet_layers (past_of (fall_told ∷ []) again_to
 unfolding changed answer_of stores jobs_of
 again_handled = record { sees = sees_pdu refl again_reads control_lower refl; answer = refl; jobs = refl }
 
-second_handled : AreHandledButStep quiet_layers first_left [] (fall_told ∷ again_told ∷ [])
+second_handled : AreHandledSo HandlesButStep quiet_layers first_left [] (fall_told ∷ again_told ∷ [])
 unfolding changed stores transmit_of
 second_handled = (refl, fall_handled, (refl, again_handled, tt))
 
@@ -317,5 +317,5 @@ script = record { node = node; lives = (phase first_events ∷ []) ∷ (phase se
 abbrev run : Run
 run = record { lives = record { over = first_list; life = first_life } ∷ record { over = first_left; life = second_life } ∷ []; last = second_left }
 
-pub iv_table_needed : Repeats (record all_rules { are_handled = AreHandledButStep })
+pub iv_table_needed : Repeats (record all_rules { are_handled = AreHandledSo HandlesButStep })
 iv_table_needed = (quiet_layers, script, run, quiet_safe, record { first = refl; lives = (first_by, (second_by, tt)) }, twice (control_name 4))

@@ -1,5 +1,5 @@
 -- No nonce of this node seals twice, over all lives.
-use Rattle.std.proofs.Common.{◌≡◌, ◌≢◌, ℕ, ◌+◌, ◌*◌, ◌^◌, ◌<◌, ◌≤◌, true, false, List, [], ◌∷◌, refl, ap, sym, subst, ◌∙◌, arith}
+use Rattle.std.proofs.Common.{◌≡◌, ◌≢◌, ℕ, ◌+◌, ◌*◌, ◌^◌, ◌<◌, ◌≤◌, true, false, List, [], ◌∷◌, refl, ap, sym, ◌∙◌, arith}
 use Rattle.std.specs.List.{AllByRecursion, flat_map}
 use Rattle.std.proofs.lemmas.Grind.{flat_map-append}
 use Rattle.std.proofs.lemmas.List.Elements.{recursion_from_All}
@@ -12,8 +12,9 @@ use Rattle.run_definitions.specs.Layers.{Layers}
 use Rattle.run_definitions.specs.Order.{Step}
 use Rattle.run_definitions.specs.Pairs.{word}
 use Rattle.run_definitions.specs.Record.{Life, LifeOver, first_over, shown}
-use Rattle.run_definitions.specs.RunOf.{LifeOf, LivesOf, draws}
-use Rattle.run_safety.specs.Safety.{AreSafe, DrawsApart, LivesKeep, ReusesNoNonce, all_draws}
+use Rattle.run_definitions.specs.RunOf.{draws}
+use Rattle.run_safety.specs.Rules.{LifeBy, LivesBy, ReusesNoNonceByEnough, enough_rules}
+use Rattle.run_safety.specs.Safety.{AreSafe, all_draws}
 use Rattle.run_definitions.specs.Uses.{Use, life_seals, node_of, uses}
 use Rattle.run_safety.proofs.Handled.{Marked, marked}
 use Rattle.run_safety.proofs.LifeLines.{life_lines}
@@ -35,14 +36,17 @@ transmit_up_to s = omega arith
 iv_below : (iv seq mark transmit current : ℕ) → iv * 2 ^ 25 + seq < mark → mark ≤ transmit * 2 ^ 25 + 2 ^ 24 → transmit ≤ current → current < 2 ^ 32 → iv < 2 ^ 32
 iv_below iv seq mark transmit current a b c d = omega arith
 
+marked_kept : (c d : Config) → d.iv ≡ c.iv → d.mark ≡ c.mark → Marked c → Marked d
+marked_kept c d e f m = record { mark = rw (e, f) m.mark; current = rw e m.current }
+
 wide_below : (c : Config) → Marked c → (ps : List Pair) → AllByRecursion (λ (p : Pair). p.seq < 2 ^ 24) ps → AllByRecursion (λ (p : Pair). word p < c.mark) ps → AllByRecursion Wide ps
 wide_below c m [] h k = tt
 wide_below c m (p ∷ ps) h k =
     (record { seq = h.0; iv = iv_below p.iv p.seq c.mark (transmit_of c.iv) c.iv.current k.0 m.mark (transmit_up_to c.iv) m.current }, wide_below c m ps h.1 k.1)
 
-module _ (layers : Layers) (safe : AreSafe layers) (plan : List Step) (over : List StoreRecord) (l : Life) (next : List StoreRecord) (h : LifeOf layers plan over l next) where
+module _ (layers : Layers) (safe : AreSafe layers) (plan : List Step) (over : List StoreRecord) (l : Life) (next : List StoreRecord) (h : LifeBy enough_rules layers plan over l next) where
   next_marked : Marked (config_of next)
-  next_marked = subst Marked (sym h.leaves.alike.config) (marked _ (end_in_range layers safe plan over l next h))
+  next_marked = marked_kept _ (config_of next) h.leaves.alike.iv h.leaves.alike.mark (marked _ (end_in_range layers safe plan over l next h))
 
   life_wide : AllByRecursion Wide (draws (shown l))
   life_wide = wide_below (config_of next) next_marked (draws (shown l)) (recursion_from_All _ (draws (shown l)) h.drawn.seq) (recursion_from_All _ (draws (shown l)) h.drawn.below)
@@ -61,7 +65,7 @@ apart_by_mark mark [] qs h k = tt
 apart_by_mark mark (p ∷ ps) qs h k =
     (every_map (λ (q : Pair). mark ≤ word q) (λ (q : Pair). word p ≢ word q) (λ q m e. let a : word p < mark = h.0 in omega arith) qs k, apart_by_mark mark ps qs h.1 k)
 
-pub lives_drawn : (layers : Layers) → AreSafe layers → (plans : List (List Step)) (lives : List LifeOver) (last : List StoreRecord) → LivesOf layers plans lives last → Drawn lives last
+pub lives_drawn : (layers : Layers) → AreSafe layers → (plans : List (List Step)) (lives : List LifeOver) (last : List StoreRecord) → LivesBy enough_rules layers plans lives last → Drawn lives last
 lives_drawn layers safe [] [] last h = record { wide = tt; from = tt; once = tt }
 lives_drawn layers safe [] (x ∷ xs) last h = absurd h
 lives_drawn layers safe (plan ∷ plans) [] last h = absurd h
@@ -90,7 +94,7 @@ record Sealed (own : Config) (lives : List LifeOver) : Type 0 where
   sub : Sub Tag (all_tags lives) (doubled (all_draws lives))
 
 lives_sealed : (layers : Layers) → AreSafe layers → (own : Config) (plans : List (List Step)) (lives : List LifeOver) (last : List StoreRecord)
-    → LivesOf layers plans lives last → Later own (config_of (first_over lives last)) → Sealed own lives
+    → LivesBy enough_rules layers plans lives last → Later own (config_of (first_over lives last)) → Sealed own lives
 lives_sealed layers safe own [] [] last h k = record { tagged = no_use; sub = no_part }
 lives_sealed layers safe own [] (x ∷ xs) last h k = absurd h
 lives_sealed layers safe own (plan ∷ plans) [] last h k = absurd h
@@ -123,18 +127,10 @@ doubled_apart (p ∷ ps) h =
 abbrev IsConsistent : Use → Use → Type 0
 IsConsistent u v = u.key ≡ v.key → u.nonce ≡ v.nonce → u.plain ≡ v.plain
 
-pub no_reuse : ReusesNoNonce
+pub no_reuse : ReusesNoNonceByEnough
 no_reuse layers safe s r h =
     let drawn : Drawn r.lives r.last = lives_drawn layers safe s.lives r.lives r.last h.lives in
     let sealed : Sealed (node_of r) r.lives = lives_sealed layers safe (node_of r) s.lives r.lives r.last h.lives (later_same (node_of r)) in
     let once : Apart (λ s t. s ≢ t) (all_tags r.lives) = apart_sub (λ s t. s ≢ t) sealed.sub (doubled_apart (all_draws r.lives) drawn.once) in
     let wide : AllByRecursion (λ (t : Tag). Wide t.pair) (all_tags r.lives) = every_sub (λ (t : Tag). Wide t.pair) sealed.sub (both_wide (all_draws r.lives) drawn.wide) in
     pairs_from_apart IsConsistent (uses r) (apart_map NoClash IsConsistent (λ u v clash key nonce. absurd (clash nonce)) (uses r) (no_clash (node_of r) sealed.tagged once wide))
-
-pub draws_apart : DrawsApart
-draws_apart layers safe s r h = pairs_from_apart _ (all_draws r.lives) (lives_drawn layers safe s.lives r.lives r.last h.lives).once
-
-pub lives_keep : LivesKeep
-lives_keep layers safe plan over l next h =
-    let later : Later (config_of over) (config_of next) = life_later layers safe plan over l next h in
-    record { mark = later.mark; current = later.current; unicast = later.unicast; elements = later.elements }

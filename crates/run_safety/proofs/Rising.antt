@@ -50,7 +50,7 @@ later_after c d e h k = record {
   mark = omega (arith, h.mark, k.mark);
 }
 
-later_kept : (c d : Config) → d.unicast ≡ c.unicast → d.elements ≡ c.elements → d.iv ≡ c.iv → d.mark ≡ c.mark → Later c d
+pub later_kept : (c d : Config) → d.unicast ≡ c.unicast → d.elements ≡ c.elements → d.iv ≡ c.iv → d.mark ≡ c.mark → Later c d
 later_kept c d u e i m = record {
   unicast = u;
   elements = e;

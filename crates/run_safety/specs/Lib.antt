@@ -1,3 +1,4 @@
 pub mod Safety
 pub mod WrittenRun
+pub mod Rules
 pub mod Needed

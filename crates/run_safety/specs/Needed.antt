@@ -1,79 +1,26 @@
 -- Rules that are easy to lose, and what happens without them: for each there is a record that keeps all other rules
 -- of a run and isn't safe.
-use Rattle.std.specs.Prelude.{◌≡◌, ◌≢◌, ℕ, ◌^◌, ◌<◌, ◌≤◌, true, false, List, [], ◌∷◌, ◌++◌, map, All, AllPairs, ⊤}
+use Rattle.std.specs.Prelude.{◌≡◌, ◌≢◌, ℕ, ◌^◌, ◌<◌, ◌≤◌, false, List, [], ◌∷◌, ◌++◌, All, AllPairs, ⊤}
+use Rattle.std.specs.List.{flat_map}
 use Rattle.mesh_types.specs.declared.answers.Answer.{Answer}
 use Rattle.mesh_types.specs.declared.answers.Answer.TheVariants as A
 use Rattle.mesh_types.specs.declared.records.StoreRecord.{StoreRecord}
 use Rattle.run_definitions.specs.Answers.{answer_of}
-use Rattle.run_definitions.specs.Config.{config_of}
+use Rattle.run_definitions.specs.Config.{Config, config_of}
 use Rattle.run_definitions.specs.Entries.{entry_of}
-use Rattle.run_definitions.specs.Handling.{AreHandled, past_of}
+use Rattle.run_definitions.specs.Handling.{Handles, past_of}
 use Rattle.run_definitions.specs.History.{Past, Told}
 use Rattle.run_definitions.specs.Jobs.{jobs_of}
 use Rattle.run_definitions.specs.Layers.{Layers}
-use Rattle.run_definitions.specs.Order.{IsOrdered, Step}
+use Rattle.run_definitions.specs.Order.{Part, PartsOf, Step, is_cut, phases_of, placed_from}
 use Rattle.run_definitions.specs.Pairs.{word}
-use Rattle.run_definitions.specs.Ranges.{IsInRange}
 use Rattle.run_definitions.specs.Readings.{Sees}
-use Rattle.run_definitions.specs.Record.{Life, LifeOver, Run, first_over, shown, shown_by}
-use Rattle.run_definitions.specs.RunOf.{IsAlike, IsDrawn, IsIdle, IsNumbered, IsSpentRight, Opens, Outlasts, RunOf, Script, draws, is_on, past_at_end, provisioned}
+use Rattle.run_definitions.specs.Record.{Life, Run, list_at, shown, shown_by}
+use Rattle.run_definitions.specs.RunOf.{RunOf, Script, draws}
+use Rattle.run_safety.specs.Rules.{Rules, RunBy, all_rules}
 use Rattle.run_safety.specs.Safety.{AreSafe}
 use Rattle.run_definitions.specs.Stores.{filled, records_after}
 use Rattle.run_definitions.specs.Uses.{AtMostOnce, NoReuse, delivered, uses}
-
--- the rules that may be changed: that a life that isn't run does nothing, how entries are handled, in which order
--- bearers work, what outlasts a cut, what the next life opens over, and what is drawn
-pub record Rules : Type 1 where
-  pub is_idle : Life → Type 0
-  pub are_handled : Layers → List StoreRecord → List Told → List Told → Type 0
-  pub is_ordered : List Step → Life → Type 0
-  pub does_outlast : Layers → List Step → Life → Past → List StoreRecord → Type 0
-  pub is_alike : List StoreRecord → List StoreRecord → Type 0
-  pub is_drawn : List StoreRecord → List StoreRecord → Life → Type 0
-
--- as they are
-abbrev pub all_rules : Rules
-all_rules = record {
-  is_idle = IsIdle;
-  are_handled = AreHandled;
-  is_ordered = IsOrdered;
-  does_outlast = λ layers plan l past more. Outlasts layers plan l past more;
-  is_alike = IsAlike;
-  is_drawn = IsDrawn;
-}
-
--- a run by these rules, and by all the others as they are
-
-pub record LeavesBy (rules : Rules) (layers : Layers) (plan : List Step) (l : Life) (past : Past) (next : List StoreRecord) : Type 0 where
-  pub more : List StoreRecord
-  pub outlasts : rules.does_outlast layers plan l past more
-  pub ranges : All IsInRange (past.records ++ more)
-  pub alike : rules.is_alike next (past.records ++ more)
-
-pub record LifeBy (rules : Rules) (layers : Layers) (plan : List Step) (over : List StoreRecord) (l : Life) (next : List StoreRecord) : Type 0 where
-  pub opening : Opens (config_of over) l.opened l.end
-  pub idle : is_on l.opened ≡ false → rules.is_idle l
-  pub told : List Told
-  pub entries : map (λ t. t.entry) told ≡ l.entries
-  pub handled : rules.are_handled layers over [] told
-  pub numbers : (k : ℕ) → IsNumbered l k
-  pub order : is_on l.opened ≡ true → rules.is_ordered plan l
-  pub leaves : LeavesBy rules layers plan l (past_at_end layers over l told) next
-  pub drawn : rules.is_drawn over next l
-  pub spent : All (λ s. IsSpentRight (config_of next).mark s.outcome) (shown l)
-
-abbrev pub LivesBy : Rules → Layers → List (List Step) → List LifeOver → List StoreRecord → Type 0
-LivesBy rules layers [] [] last = ⊤
-LivesBy rules layers (plan ∷ plans) (x ∷ xs) last = LifeBy rules layers plan x.over x.life (first_over xs last) × LivesBy rules layers plans xs last
-LivesBy rules layers _ _ last = ⊥
-
-pub record RunBy (rules : Rules) (layers : Layers) (s : Script) (r : Run) : Type 0 where
-  pub first : first_over r.lives r.last ≡ provisioned s.node
-  pub lives : LivesBy rules layers s.lives r.lives r.last
-
--- By all rules it is a run.
-abbrev pub IsRunByAll : Type 0
-IsRunByAll = (layers : Layers) (s : Script) (r : Run) → RunBy all_rules layers s r → RunOf layers s r
 
 -- there is a record by these rules that seals two plaintexts under one key and nonce, or delivers a message twice
 abbrev pub Reuses : Rules → Type 0
@@ -111,37 +58,49 @@ pub record DrawsTwice (over next : List StoreRecord) (l : Life) : Type 0 where
   pub below : All (λ p. word p < (config_of next).mark) (draws (shown l))
   pub rise : (k : ℕ) → AllPairs (λ p q. word p < word q) (draws (shown_by l k))
 
--- without the order of a bearer's work: the first segment of a message may go without the line that sealed the message
-abbrev pub IsInAnyOrder : List Step → Life → Type 0
-IsInAnyOrder plan l = ⊤
+-- Without the order of a bearer's work: the first segment of a message may go without the line that sealed the message.
+pub record IsInAnyOrder (plan : List Step) (l : Life) : Type 0 where
+  pub parts : List Part
+  pub entries : placed_from 0 l.entries ≡ flat_map (λ part. part.entries) parts
+  pub sends : (k : ℕ) → list_at l.sends k ≡ flat_map (λ part. list_at part.sends k) parts
+
+-- without that the lines of a life are those of its parts: they may be of no job
+pub record WritesAnything (plan : List Step) (l : Life) : Type 0 where
+  pub parts : List Part
+  pub entries : placed_from 0 l.entries ≡ flat_map (λ part. part.entries) parts
+  pub phases : PartsOf (is_cut l.end) (phases_of plan) parts
+
+-- without that the entries of a life are those of its parts: the lines may be of other jobs
+pub record WorksOnAnything (plan : List Step) (l : Life) : Type 0 where
+  pub parts : List Part
+  pub sends : (k : ℕ) → list_at l.sends k ≡ flat_map (λ part. list_at part.sends k) parts
+  pub phases : PartsOf (is_cut l.end) (phases_of plan) parts
 
 -- without that a life that isn't run does nothing: what it does has no order
 abbrev pub MayWork : Life → Type 0
 MayWork l = ⊤
+
+-- without that the entries of a life are told: none of them need be handled
+abbrev pub TellsAnything : List Told → Life → Type 0
+TellsAnything told l = ⊤
+
+-- entries that are handled so, each after those before it and over the records that these left
+abbrev pub AreHandledSo : (Layers → Past → Told → Type 0) → Layers → List StoreRecord → List Told → List Told → Type 0
+AreHandledSo handles layers records before [] = ⊤
+AreHandledSo handles layers records before (t ∷ ts) =
+    (t.records ≡ filled t.entry.fills records)
+    × handles layers (past_of before t) t
+    × AreHandledSo handles layers (records_after layers (past_of before t) t) (before ++ t ∷ []) ts
 
 -- without the jobs of an entry: it may let PDUs of the node's own go on
 pub record HandlesButJobs (layers : Layers) (past : Past) (t : Told) : Type 0 where
   pub sees : Sees layers past t.entry.event t.insight
   pub answer : t.entry.answer ≡ answer_of layers past t.entry.event t.insight
 
-abbrev pub AreHandledButJobs : Layers → List StoreRecord → List Told → List Told → Type 0
-AreHandledButJobs layers records before [] = ⊤
-AreHandledButJobs layers records before (t ∷ ts) =
-    (t.records ≡ filled t.entry.fills records)
-    × HandlesButJobs layers (past_of before t) t
-    × AreHandledButJobs layers (records_after layers (past_of before t) t) (before ++ t ∷ []) ts
-
--- without a rule on what outlasts a cut: a mark may outlast it that is lower than the one before
-abbrev pub OutlastsAnything : Layers → List Step → Life → Past → List StoreRecord → Type 0
-OutlastsAnything layers plan l past more = ⊤
-
--- without the mark in what is left: the next life may draw again what was drawn
-pub record HasTheSameEntries (a b : List StoreRecord) : Type 0 where
-  pub entries : (src : ℕ) → entry_of a src ≡ entry_of b src
-
--- without the replay list in what is left: a power cut forgets what was accepted
-pub record SaysTheSame (a b : List StoreRecord) : Type 0 where
-  pub config : config_of a ≡ config_of b
+-- without that octets are read as what they seal: a message of an IV Index that expired may be seen again and again
+pub record HandlesButSight (layers : Layers) (past : Past) (t : Told) : Type 0 where
+  pub answer : t.entry.answer ≡ answer_of layers past t.entry.event t.insight
+  pub jobs : t.entry.jobs ≡ jobs_of layers past (config_of (records_after layers past t)) t.entry.event t.insight t.entry.answer
 
 -- without the table of the IV Index, so that a beacon may take any step: where the known IV Index falls, a name comes
 -- back whose entry was expired
@@ -155,12 +114,52 @@ pub record HandlesButStep (layers : Layers) (past : Past) (t : Told) : Type 0 wh
   pub answer : IsAnswerButStep t.entry.answer (answer_of layers past t.entry.event t.insight)
   pub jobs : t.entry.jobs ≡ jobs_of layers past (config_of (records_after layers past t)) t.entry.event t.insight t.entry.answer
 
-abbrev pub AreHandledButStep : Layers → List StoreRecord → List Told → List Told → Type 0
-AreHandledButStep layers records before [] = ⊤
-AreHandledButStep layers records before (t ∷ ts) =
+-- without the records that the entries before have left: an entry may see a store that has forgotten what was accepted
+abbrev pub AreHandledOverAny : Layers → List StoreRecord → List Told → List Told → Type 0
+AreHandledOverAny layers records before [] = ⊤
+AreHandledOverAny layers records before (t ∷ ts) =
+    Handles layers (past_of before t) t × AreHandledOverAny layers (records_after layers (past_of before t) t) (before ++ t ∷ []) ts
+
+-- without the entries before: an entry may see a PDU of the node's own among what was heard, which a layer lets go on
+abbrev pub AreHandledAfterAny : Layers → List StoreRecord → List Told → List Told → Type 0
+AreHandledAfterAny layers records before [] = ⊤
+AreHandledAfterAny layers records before (t ∷ ts) =
     (t.records ≡ filled t.entry.fills records)
-    × HandlesButStep layers (past_of before t) t
-    × AreHandledButStep layers (records_after layers (past_of before t) t) (before ++ t ∷ []) ts
+    × ((heard : List Told) × Handles layers (past_of heard t) t)
+    × AreHandledAfterAny layers (records_after layers (past_of before t) t) (before ++ t ∷ []) ts
+
+-- without a rule on what outlasts a cut: a mark may outlast it that is lower than the one before
+abbrev pub OutlastsAnything : Layers → List Step → Life → Past → List StoreRecord → Type 0
+OutlastsAnything layers plan l past more = ⊤
+
+-- without the ranges of a record's fields: so many numbers may be reserved that an IV Index outgrows its 32 bits, and its
+-- nonce is that of a lower one
+abbrev pub HasAnyFields : StoreRecord → Type 0
+HasAnyFields r = ⊤
+
+-- with one thing left out of what the next life opens over
+pub record IsAlikeBut (without : Config → Config) (a b : List StoreRecord) : Type 0 where
+  pub config : without (config_of a) ≡ without (config_of b)
+  pub entries : (src : ℕ) → entry_of a src ≡ entry_of b src
+
+-- the mark: the next life may draw again what was drawn
+abbrev pub without_mark : Config → Config
+without_mark c = record c { mark = 0 }
+
+-- the IV state: where the known IV Index falls, a name comes back whose entry was expired
+abbrev pub without_iv_state : Config → Config
+without_iv_state c = record c { iv = record { current = 0; progress = false; hours = 0; since = 0 } }
+
+-- the address of the first element, or the number of elements: PDUs of what was an element go on
+abbrev pub without_unicast : Config → Config
+without_unicast c = record c { unicast = record { 0 = 0 } }
+
+abbrev pub without_elements : Config → Config
+without_elements c = record c { elements = 0 }
+
+-- without the replay list in what is left: a power cut forgets what was accepted
+pub record SaysTheSame (a b : List StoreRecord) : Type 0 where
+  pub config : config_of a ≡ config_of b
 
 -- by all rules, but with layers that aren't safe: they may let a PDU of the node's own go on
 abbrev pub ReusesUnsafely : Type 0
@@ -173,10 +172,20 @@ pub record AreNeeded : Type 0 where
   pub below : Reuses (record all_rules { is_drawn = DrawsUnreserved })
   pub once : Reuses (record all_rules { is_drawn = DrawsTwice })
   pub order : Reuses (record all_rules { is_ordered = IsInAnyOrder })
+  pub lines : Reuses (record all_rules { is_ordered = WritesAnything })
+  pub history : Reuses (record all_rules { is_ordered = WorksOnAnything })
   pub idle : Reuses (record all_rules { is_idle = MayWork })
-  pub jobs : Reuses (record all_rules { are_handled = AreHandledButJobs })
+  pub told : Reuses (record all_rules { are_told = TellsAnything })
+  pub jobs : Reuses (record all_rules { are_handled = AreHandledSo HandlesButJobs })
+  pub sight : Repeats (record all_rules { are_handled = AreHandledSo HandlesButSight })
+  pub iv_table : Repeats (record all_rules { are_handled = AreHandledSo HandlesButStep })
+  pub records : Repeats (record all_rules { are_handled = AreHandledOverAny })
+  pub before : Reuses (record all_rules { are_handled = AreHandledAfterAny })
   pub outlasts : Reuses (record all_rules { does_outlast = OutlastsAnything })
-  pub mark : Reuses (record all_rules { is_alike = HasTheSameEntries })
+  pub ranges : Reuses (record all_rules { is_in_range = HasAnyFields })
+  pub mark : Reuses (record all_rules { is_alike = IsAlikeBut without_mark })
+  pub iv_state : Repeats (record all_rules { is_alike = IsAlikeBut without_iv_state })
+  pub unicast : Reuses (record all_rules { is_alike = IsAlikeBut without_unicast })
+  pub elements : Reuses (record all_rules { is_alike = IsAlikeBut without_elements })
   pub replay_list : Repeats (record all_rules { is_alike = SaysTheSame })
   pub safe_layers : ReusesUnsafely
-  pub iv_table : Repeats (record all_rules { are_handled = AreHandledButStep })

@@ -4,7 +4,8 @@
 //!
 //! - `Safety` (in `specs/`): what safety needs of the layers above the lower transport layer, and the laws
 //! - `WrittenRun`: a run of two lives, written out, that keeps all rules
-//! - `Needed`: the rules of a run as fields, so that one of them can be dropped, and what each of them is needed for
+//! - `Rules`: the rules of a run as fields, so that one of them can be changed, and those that are enough
+//! - `Needed`: what each of them is needed for
 //! - `laws`: the laws, as contracts of functions that do nothing
 #![tactic(auto)]
 

@@ -1,5 +1,5 @@
-use Rattle.run_safety.proofs.Reuse as reuse
+use Rattle.run_safety.proofs.Enough as enough
 use Rattle.run_safety.proofs.laws.lives_law.Goals as goal
 
 pub returns : goal.returns
-returns c = record { keeps = reuse.lives_keep }
+returns c = record { keeps = enough.lives_keep }
