@@ -1,3 +1,4 @@
 pub mod NetworkLaws
 pub mod OctetLaws
 pub mod UpperLaws
+pub mod OrderLaws

@@ -15,6 +15,10 @@ use Rattle.mesh_base.specs.declared.keys.UpperKey.TheVariants.{App}
 
 -- Network keys.
 
+-- by what the rows of network keys are ordered
+abbrev pub net_index : NetKeyRow → ℕ
+net_index r = r.index
+
 -- the material of the master credentials of a network key (3.8.6.3.1)
 unfoldable pub master_material : List ℕ → NetMaterial
 master_material key = let k = master_credentials key in record { nid = k.nid; encryption = k.encryption; privacy = k.privacy }
@@ -53,6 +57,10 @@ abbrev pub own_beacon : IvState → NetKeyRow → List ℕ
 own_beacon s r = beacon_text (transmit_key r) ((if r.phase == 2 then 1 else 0) + (if s.progress then 2 else 0)) s.current
 
 -- Application keys.
+
+-- by what the rows of application keys are ordered
+abbrev pub app_index : AppKeyRow → ℕ
+app_index r = r.index
 
 abbrev pub app_key : ℕ → List ℕ → UpperKey
 app_key index key = App index (aid key) key
