@@ -2,3 +2,4 @@ pub mod NetworkLaws
 pub mod OctetLaws
 pub mod UpperLaws
 pub mod OrderLaws
+pub mod KeyLaws
