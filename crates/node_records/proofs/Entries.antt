@@ -38,8 +38,8 @@ raised lower current None (Some q) le e = sym (gone current q (later lower curre
 raised lower current (Some p) None le e = gone current p (later lower current p le (dead lower p e))
 raised lower current (Some p) (Some q) le e =
     elim (both_tests (is_expired lower p) (is_expired lower q) p q e) [
-      inl h ↦ gone current p (later lower current p le h.0) ∙ sym (gone current q (later lower current q le h.1))
-    | inr h ↦ ap (λ x. unexpired current (Some x)) h
+      | inl h ↦ gone current p (later lower current p le h.0) ∙ sym (gone current q (later lower current q le h.1))
+      | inr h ↦ ap (λ x. unexpired current (Some x)) h
     ]
 
 newer_live : (current : ℕ) (q p : Pair) → is_expired current q ≡ true → is_expired current p ≡ false → newer_of q p ≡ p
@@ -64,8 +64,8 @@ noted current None (Some q) p e = sym (above_expired current q p (dead current q
 noted current (Some q) None p e = above_expired current q p (dead current q e)
 noted current (Some r) (Some q) p e =
     elim (both_tests (is_expired current r) (is_expired current q) r q e) [
-      inl h ↦ above_expired current r p h.0 ∙ sym (above_expired current q p h.1)
-    | inr h ↦ ap (λ x. unexpired current (Some (newer_of x p))) h
+      | inl h ↦ above_expired current r p h.0 ∙ sym (above_expired current q p h.1)
+      | inr h ↦ ap (λ x. unexpired current (Some (newer_of x p))) h
     ]
 
 note_by : (b : Bool) (current : ℕ) (x y u v : Option Pair) → unexpired current x ≡ unexpired current y → unexpired current u ≡ unexpired current v

@@ -39,21 +39,21 @@ pub step_means : (records : List StoreRecord) (item : StoreRecord) (old new : Pe
 step_means records item old new later step means =
     let keeps : KeepsEntries old.iv.current old.replay new.replay item = step.replay means.apart in
     let config : config_in new ≡ config_of (records ++ item ∷ []) =
-        step.config ∙ ap (λ (c : Config). changed c item) means.config ∙ sym (config_push records item) in
+    step.config ∙ ap (λ (c : Config). changed c item) means.config ∙ sym (config_push records item) in
     let current : old.iv.current ≡ (config_of records).iv.current = ap (λ (c : Config). c.iv.current) means.config in
     let now : new.iv.current ≡ (config_of (records ++ item ∷ [])).iv.current = ap (λ (c : Config). c.iv.current) config in
     let least : old.iv.current ≤ new.iv.current =
-        subst (λ (c : Config). old.iv.current ≤ c.iv.current) (sym step.config) (current_later old item later) in
+    subst (λ (c : Config). old.iv.current ≤ c.iv.current) (sym step.config) (current_later old item later) in
     record {
       config = config;
       entries = λ src.
-        let same : unexpired old.iv.current (pair_of old.replay src) ≡ unexpired old.iv.current (kept_of records src) =
-            means.entries src ∙ ap (λ n. unexpired n (kept_of records src)) (sym current) in
-        let after : unexpired old.iv.current (pair_of new.replay src) ≡ unexpired old.iv.current (kept_after src (kept_of records src) item) =
-            keeps.entries src ∙ kept_more old.iv.current src (pair_of old.replay src) (kept_of records src) item same in
-        let pushed : unexpired old.iv.current (pair_of new.replay src) ≡ unexpired old.iv.current (kept_of (records ++ item ∷ []) src) =
-            after ∙ ap (unexpired old.iv.current) (sym (kept_push records item src)) in
-        raised old.iv.current new.iv.current (pair_of new.replay src) (kept_of (records ++ item ∷ []) src) least pushed
-        ∙ ap (λ n. unexpired n (kept_of (records ++ item ∷ []) src)) now;
+          let same : unexpired old.iv.current (pair_of old.replay src) ≡ unexpired old.iv.current (kept_of records src) =
+          means.entries src ∙ ap (λ n. unexpired n (kept_of records src)) (sym current) in
+          let after : unexpired old.iv.current (pair_of new.replay src) ≡ unexpired old.iv.current (kept_after src (kept_of records src) item) =
+          keeps.entries src ∙ kept_more old.iv.current src (pair_of old.replay src) (kept_of records src) item same in
+          let pushed : unexpired old.iv.current (pair_of new.replay src) ≡ unexpired old.iv.current (kept_of (records ++ item ∷ []) src) =
+          after ∙ ap (unexpired old.iv.current) (sym (kept_push records item src)) in
+          raised old.iv.current new.iv.current (pair_of new.replay src) (kept_of (records ++ item ∷ []) src) least pushed
+          ∙ ap (λ n. unexpired n (kept_of (records ++ item ∷ []) src)) now;
       apart = keeps.apart;
     }

@@ -26,7 +26,7 @@ put_net_insert (x ∷ xs) zero row d lt before here =
 put_net_insert (x ∷ xs) (suc i) row d lt before here =
     let first : x.index < row.index = before 0 (omega arith) in
     let rest : put_net row xs ≡ insert xs i row =
-        put_net_insert xs i row d (omega arith) (λ k h. before (suc k) (omega arith)) (λ h. here (omega arith)) in
+    put_net_insert xs i row d (omega arith) (λ k h. before (suc k) (omega arith)) (λ h. here (omega arith)) in
     grind (arith, nat_tests)
 
 pub put_app_set : (rows : List AppKeyRow) (i : ℕ) (row d : AppKeyRow)
@@ -50,5 +50,5 @@ put_app_insert (x ∷ xs) zero row d lt before here =
 put_app_insert (x ∷ xs) (suc i) row d lt before here =
     let first : x.index < row.index = before 0 (omega arith) in
     let rest : put_app row xs ≡ insert xs i row =
-        put_app_insert xs i row d (omega arith) (λ k h. before (suc k) (omega arith)) (λ h. here (omega arith)) in
+    put_app_insert xs i row d (omega arith) (λ k h. before (suc k) (omega arith)) (λ h. here (omega arith)) in
     grind (arith, nat_tests)

@@ -150,7 +150,7 @@ keeps_raised current rows i n d apart lt e newer =
       apart = same_row_apart rows i n d apart lt e;
       entries = λ src. ap (unexpired current) (same_row rows i n d src apart lt e
           ∙ raise_by (n.src.0 == src) (pair_of rows src) n.pair (get_or rows i d).pair
-              (λ t. subst (λ s. pair_of rows s ≡ Some (get_or rows i d).pair) (same_number n.src.0 src t) here) kept);
+          (λ t. subst (λ s. pair_of rows s ≡ Some (get_or rows i d).pair) (same_number n.src.0 src t) here) kept);
     }
 
 -- a name of a source without a row, behind the others
@@ -169,8 +169,8 @@ keeps_other current rows i n d apart lt none old =
     record {
       apart = other_row_apart rows i n d apart lt none;
       entries = λ src. ap (unexpired current) (other_row rows i n d src apart lt none)
-        ∙ replace_by (n.src.0 == src) ((get_or rows i d).src.0 == src) current (pair_of rows src) n.pair (get_or rows i d).pair
-            (λ t. subst (λ s. pair_of rows s ≡ None) (same_number n.src.0 src t) none)
-            (λ t. subst (λ s. pair_of rows s ≡ Some (get_or rows i d).pair) (same_number (get_or rows i d).src.0 src t) here)
-            old;
+          ∙ replace_by (n.src.0 == src) ((get_or rows i d).src.0 == src) current (pair_of rows src) n.pair (get_or rows i d).pair
+          (λ t. subst (λ s. pair_of rows s ≡ None) (same_number n.src.0 src t) none)
+          (λ t. subst (λ s. pair_of rows s ≡ Some (get_or rows i d).pair) (same_number (get_or rows i d).src.0 src t) here)
+          old;
     }

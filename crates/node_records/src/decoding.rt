@@ -1,7 +1,8 @@
 //! From a slot to its record.
 #![tactic(auto)]
 
-ghost use Rattle.std.specs.Prelude.{◌≡◌, ◌↔◌, ◌≤◌, length, IsTrue, IfOk, IfSome, OnErr, IfNone, IsErr};
+ghost use Rattle.std.specs.Prelude.{◌≡◌, ◌+◌, ◌*◌, ◌≤◌, ◌↔◌, take, drop, slice_index, IsTrue, IfOk, IsErr};
+ghost use Rattle.cipher_definitions.specs.Octets.{number_of};
 ghost use Rattle.mesh_base.specs.declared.slot.Slot.{Slot};
 ghost use Rattle.mesh_types.specs.declared.records.StoreRecord.{StoreRecord};
 ghost use Rattle.run_definitions.specs.Ranges.{IsInRange};
@@ -21,105 +22,157 @@ use thiserror::Error;
 #[error("no record has this text")]
 pub struct BadRecord;
 
+/// The number of two octets at a place.
+fn two_at(body: &[u8; 30], place: usize) -> u16
+    requires { place ≤ 28 }
+    ensures { result ≡ slice_index body.now place * 256 + slice_index body.now (place + 1) }
+{
+    BigEndian::read_u16(&body[place..])
+}
+
+/// The number of four octets at a place.
+fn four_at(body: &[u8; 30], place: usize) -> u32
+    requires { place ≤ 26 }
+    ensures { result ≡ (slice_index body.now place * 256 + slice_index body.now (place + 1)) * 65536
+        + (slice_index body.now (place + 2) * 256 + slice_index body.now (place + 2 + 1)) }
+{
+    BigEndian::read_u32(&body[place..])
+}
+
+/// The number of three octets from the sixth on.
+fn seq_at(body: &[u8; 30]) -> u32
+    ensures { result ≡ slice_index body.now 6 * 65536 + (slice_index body.now 7 * 256 + slice_index body.now 8) }
+{
+    BigEndian::read_u24(&body[6..])
+}
+
+/// The number of eight octets from the fifth on.
+fn mark_at(body: &[u8; 30]) -> u64
+    ensures { result ≡ number_of (take 8 (drop 5 body.now)) }
+{
+    BigEndian::read_u64(&body[5..])
+}
+
 /// The sixteen octets at a place.
 fn key_at(body: &[u8; 30], place: usize) -> [u8; 16]
     requires { place ≤ 14 }
+    ensures { result ≡ take 16 (drop place body.now) }
 {
     let mut key = [0; 16];
     key.copy_from_slice(&body[place..place + 16]);
     key
 }
 
-/// The fields of a record of kind 1.
-fn identity(body: &[u8; 30]) -> StoreRecord {
+/// The record of kind 1 whose text this is, if there is one.
+fn identity(body: &[u8; 30]) -> StoreRecord
+    ensures { (r : StoreRecord) → IsInRange r → record_text r ≡ record { kind = 1; body = body.now } → result ≡ r }
+{
     StoreRecord::Identity {
-        unicast: Address(BigEndian::read_u16(body)),
+        unicast: Address(two_at(body, 0)),
         elements: body[2],
         dev_key: key_at(body, 3),
     }
 }
 
-/// The fields of a record of kind 2.
-fn numbers(body: &[u8; 30]) -> StoreRecord {
+/// The record of kind 2 whose text this is, if there is one.
+fn numbers(body: &[u8; 30]) -> StoreRecord
+    ensures { (r : StoreRecord) → IsInRange r → record_text r ≡ record { kind = 2; body = body.now } → result ≡ r }
+{
     StoreRecord::Numbers {
-        current: BigEndian::read_u32(body),
+        current: four_at(body, 0),
         progress: body[4] == 1,
-        mark: BigEndian::read_u64(&body[5..]),
-        hours: BigEndian::read_u16(&body[13..]),
-        since: BigEndian::read_u16(&body[15..]),
+        mark: mark_at(body),
+        hours: two_at(body, 13),
+        since: two_at(body, 15),
     }
 }
 
-/// The fields of a record of kind 3.
-fn hour(body: &[u8; 30]) -> StoreRecord {
+/// The record of kind 3 whose text this is, if there is one.
+fn hour(body: &[u8; 30]) -> StoreRecord
+    ensures { (r : StoreRecord) → IsInRange r → record_text r ≡ record { kind = 3; body = body.now } → result ≡ r }
+{
     StoreRecord::Hour {
-        hours: BigEndian::read_u16(body),
-        since: BigEndian::read_u16(&body[2..]),
+        hours: two_at(body, 0),
+        since: two_at(body, 2),
     }
 }
 
-/// The fields of a record of kind 4.
-fn replay(body: &[u8; 30]) -> StoreRecord {
+/// The record of kind 4 whose text this is, if there is one.
+fn replay(body: &[u8; 30]) -> StoreRecord
+    ensures { (r : StoreRecord) → IsInRange r → record_text r ≡ record { kind = 4; body = body.now } → result ≡ r }
+{
     StoreRecord::Replay {
         name: Name {
-            src: Address(BigEndian::read_u16(body)),
+            src: Address(two_at(body, 0)),
             pair: Pair {
-                iv: BigEndian::read_u32(&body[2..]),
-                seq: BigEndian::read_u24(&body[6..]),
+                iv: four_at(body, 2),
+                seq: seq_at(body),
             },
         },
     }
 }
 
-/// The fields of a record of kind 5.
-fn net_key(body: &[u8; 30]) -> StoreRecord {
+/// The record of kind 5 whose text this is, if there is one.
+fn net_key(body: &[u8; 30]) -> StoreRecord
+    ensures { (r : StoreRecord) → IsInRange r → record_text r ≡ record { kind = 5; body = body.now } → result ≡ r }
+{
     StoreRecord::NetKey {
         op: body[0],
-        index: BigEndian::read_u16(&body[1..]),
+        index: two_at(body, 1),
         key: key_at(body, 3),
     }
 }
 
-/// The fields of a record of kind 6.
-fn app_key(body: &[u8; 30]) -> StoreRecord {
+/// The record of kind 6 whose text this is, if there is one.
+fn app_key(body: &[u8; 30]) -> StoreRecord
+    ensures { (r : StoreRecord) → IsInRange r → record_text r ≡ record { kind = 6; body = body.now } → result ≡ r }
+{
     StoreRecord::AppKey {
         op: body[0],
-        net: BigEndian::read_u16(&body[1..]),
-        index: BigEndian::read_u16(&body[3..]),
+        net: two_at(body, 1),
+        index: two_at(body, 3),
         key: key_at(body, 5),
     }
 }
 
-/// The fields of a record of kind 7.
-fn bind(body: &[u8; 30]) -> StoreRecord {
+/// The record of kind 7 whose text this is, if there is one.
+fn bind(body: &[u8; 30]) -> StoreRecord
+    ensures { (r : StoreRecord) → IsInRange r → record_text r ≡ record { kind = 7; body = body.now } → result ≡ r }
+{
     StoreRecord::Bind {
         op: body[0],
-        element: Address(BigEndian::read_u16(&body[1..])),
-        model: BigEndian::read_u16(&body[3..]),
-        app: BigEndian::read_u16(&body[5..]),
+        element: Address(two_at(body, 1)),
+        model: two_at(body, 3),
+        app: two_at(body, 5),
     }
 }
 
-/// The fields of a record of kind 8.
-fn subscribe(body: &[u8; 30]) -> StoreRecord {
+/// The record of kind 8 whose text this is, if there is one.
+fn subscribe(body: &[u8; 30]) -> StoreRecord
+    ensures { (r : StoreRecord) → IsInRange r → record_text r ≡ record { kind = 8; body = body.now } → result ≡ r }
+{
     StoreRecord::Subscribe {
         op: body[0],
-        element: Address(BigEndian::read_u16(&body[1..])),
-        model: BigEndian::read_u16(&body[3..]),
-        address: Address(BigEndian::read_u16(&body[5..])),
+        element: Address(two_at(body, 1)),
+        model: two_at(body, 3),
+        address: Address(two_at(body, 5)),
     }
 }
 
-/// The fields of a record of kind 9.
-fn feature(body: &[u8; 30]) -> StoreRecord {
+/// The record of kind 9 whose text this is, if there is one.
+fn feature(body: &[u8; 30]) -> StoreRecord
+    ensures { (r : StoreRecord) → IsInRange r → record_text r ≡ record { kind = 9; body = body.now } → result ≡ r }
+{
     StoreRecord::Feature {
         which: body[0],
-        value: BigEndian::read_u16(&body[1..]),
+        value: two_at(body, 1),
     }
 }
 
-/// The fields of the record that a slot was written from, if it was written from one.
-fn fields(slot: &Slot) -> Option<StoreRecord> {
+/// The record whose text this is, if there is one.
+fn fields(slot: &Slot) -> Option<StoreRecord>
+    ensures { (r : StoreRecord) → IsInRange r → record_text r ≡ slot.now → result ≡ Some r }
+{
     match slot.kind {
         1 => Some(identity(&slot.body)),
         2 => Some(numbers(&slot.body)),

@@ -51,6 +51,7 @@ fn four(number: u32) -> [u8; 4]
 }
 
 /// A number of 64 bits, high octet first.
+#[tactic(auto, unfolding(cipher_definitions::specs::Octets::octets_of))]
 fn eight(number: u64) -> [u8; 8]
     ensures { result ≡ octets_of 8 number }
 {
@@ -62,6 +63,7 @@ fn eight(number: u64) -> [u8; 8]
 /// The slot of a record: its kind, then its fields high octet first, and zeros.
 ///
 /// The fields are within their ranges.
+#[tactic(auto, unfolding(run_definitions::specs::Recovered::record_text))]
 pub fn encode(item: &StoreRecord) -> Slot
     requires { IsInRange item.now }
     ensures value { result ≡ record_text item.now }

@@ -1,7 +1,8 @@
 //! The tables of network keys and application keys.
 #![tactic(auto)]
 
-ghost use Rattle.std.specs.Prelude.{◌≡◌, ℕ, ◌<◌, ◌≤◌, ◌↔◌, length, map, slice_index_or, IsErr, OnOk, OnErr};
+ghost use Rattle.std.specs.Prelude.{◌≡◌, ℕ, ◌<◌, ◌≤◌, ◌↔◌, not, ◌==◌, length, filter, map, slice_index_or, IsErr, OnOk, OnErr};
+ghost use Rattle.std.specs.Bool.{OnTrue, OnFalse};
 ghost use Rattle.mesh_base.specs.declared.keys.AppKeyRow.{AppKeyRow};
 ghost use Rattle.mesh_base.specs.declared.keys.NetKeyRow.{NetKeyRow};
 ghost use Rattle.run_definitions.specs.Config.{put_net, put_app, finished_app, updated_app, nets_after, apps_after, apps_after_net};
@@ -39,28 +40,48 @@ fn app_place(rows: &[AppKeyRow], index: u16) -> usize
     rows.len()
 }
 
+/// Whether the network key at a place has this index.
+fn is_net_at(rows: &[NetKeyRow], place: usize, index: u16) -> bool
+    ensures yes { OnTrue result (place < length rows.now) }
+    ensures same { OnTrue result ((d : NetKeyRow) → (slice_index_or rows.now place d).index ≡ index) }
+    ensures no { OnFalse result ((d : NetKeyRow) → place < length rows.now → (slice_index_or rows.now place d).index ≡ index → ⊥) }
+{
+    place < rows.len() && rows[place].index == index
+}
+
 /// Puts a network key in its place by index, in place of one with its index.
 fn add_net(nets: &mut Table<NetKeyRow, 4>, row: NetKeyRow) -> Result<(), TooMany>
+    requires { length nets.old ≤ 4 }
     ensures ok { OnOk result (nets.new ≡ put_net row nets.old) }
     ensures full { IsErr result ↔ (4 < length (put_net row nets.old)) }
     ensures same { OnErr result (nets.new ≡ nets.old) }
 {
     let place = net_place(nets.as_slice(), row.index);
-    if place < nets.len() && nets.as_slice()[place].index == row.index {
+    if is_net_at(nets.as_slice(), place, row.index) {
         nets.set(place, row);
         return Ok(());
     }
     nets.insert(place, row)
 }
 
+/// Whether the application key at a place has this index.
+fn is_app_at(rows: &[AppKeyRow], place: usize, index: u16) -> bool
+    ensures yes { OnTrue result (place < length rows.now) }
+    ensures same { OnTrue result ((d : AppKeyRow) → (slice_index_or rows.now place d).index ≡ index) }
+    ensures no { OnFalse result ((d : AppKeyRow) → place < length rows.now → (slice_index_or rows.now place d).index ≡ index → ⊥) }
+{
+    place < rows.len() && rows[place].index == index
+}
+
 /// Puts an application key in its place by index, in place of one with its index.
 fn add_app(apps: &mut Table<AppKeyRow, 8>, row: AppKeyRow) -> Result<(), TooMany>
+    requires { length apps.old ≤ 8 }
     ensures ok { OnOk result (apps.new ≡ put_app row apps.old) }
     ensures full { IsErr result ↔ (8 < length (put_app row apps.old)) }
     ensures same { OnErr result (apps.new ≡ apps.old) }
 {
     let place = app_place(apps.as_slice(), row.index);
-    if place < apps.len() && apps.as_slice()[place].index == row.index {
+    if is_app_at(apps.as_slice(), place, row.index) {
         apps.set(place, row);
         return Ok(());
     }
@@ -102,13 +123,22 @@ fn change_nets(nets: &mut Table<NetKeyRow, 4>, op: u8, index: u16, key: &[u8; 16
     }
 }
 
+/// The network keys without the one of this index.
+fn drop_net(nets: &mut Table<NetKeyRow, 4>, index: u16)
+    ensures { nets.new ≡ filter (λ r. not (r.index == index)) nets.old }
+{
+    nets.retain(|row| row.index != index);
+}
+
 /// The network keys after a NetKey record; `TooMany` exactly where they would be more than 4.
+#[tactic(auto, using(crate::proofs::Changes::filter_few))]
 pub(crate) fn apply_to_nets(
     nets: &mut Table<NetKeyRow, 4>,
     op: u8,
     index: u16,
     key: &[u8; 16],
 ) -> Result<(), TooMany>
+    requires { length nets.old ≤ 4 }
     ensures ok { OnOk result (nets.new ≡ nets_after op index key.now nets.old) }
     ensures full { IsErr result ↔ (4 < length (nets_after op index key.now nets.old)) }
     ensures same { OnErr result (nets.new ≡ nets.old) }
@@ -128,7 +158,7 @@ pub(crate) fn apply_to_nets(
             Ok(())
         }
         5 => {
-            nets.retain(|row| row.index != index);
+            drop_net(nets, index);
             Ok(())
         }
         _ => Ok(()),
@@ -159,13 +189,20 @@ fn finish_apps(apps: &mut Table<AppKeyRow, 8>, net: u16)
     }
 }
 
+/// The application keys without those of a network key.
+fn drop_apps_of(apps: &mut Table<AppKeyRow, 8>, net: u16)
+    ensures { apps.new ≡ filter (λ r. not (r.net == net)) apps.old }
+{
+    apps.retain(|row| row.net != net);
+}
+
 /// The application keys after a NetKey record.
 pub(crate) fn apply_net_to_apps(apps: &mut Table<AppKeyRow, 8>, op: u8, net: u16)
     ensures { apps.new ≡ apps_after_net op net apps.old }
 {
     match op {
         4 => finish_apps(apps, net),
-        5 => apps.retain(|row| row.net != net),
+        5 => drop_apps_of(apps, net),
         _ => {}
     }
 }
@@ -193,7 +230,15 @@ fn update_apps(apps: &mut Table<AppKeyRow, 8>, index: u16, key: &[u8; 16])
     }
 }
 
+/// The application keys without the one of this index.
+fn drop_app(apps: &mut Table<AppKeyRow, 8>, index: u16)
+    ensures { apps.new ≡ filter (λ r. not (r.index == index)) apps.old }
+{
+    apps.retain(|row| row.index != index);
+}
+
 /// The application keys after an AppKey record; `TooMany` exactly where they would be more than 8.
+#[tactic(auto, using(crate::proofs::Changes::filter_few))]
 pub(crate) fn apply_to_apps(
     apps: &mut Table<AppKeyRow, 8>,
     op: u8,
@@ -201,6 +246,7 @@ pub(crate) fn apply_to_apps(
     index: u16,
     key: &[u8; 16],
 ) -> Result<(), TooMany>
+    requires { length apps.old ≤ 8 }
     ensures ok { OnOk result (apps.new ≡ apps_after op net index key.now apps.old) }
     ensures full { IsErr result ↔ (8 < length (apps_after op net index key.now apps.old)) }
     ensures same { OnErr result (apps.new ≡ apps.old) }
@@ -220,7 +266,7 @@ pub(crate) fn apply_to_apps(
             Ok(())
         }
         3 => {
-            apps.retain(|row| row.index != index);
+            drop_app(apps, index);
             Ok(())
         }
         _ => Ok(()),

@@ -1,9 +1,9 @@
 //! The table of the replay list.
 #![tactic(auto)]
 
-ghost use Rattle.std.specs.Prelude.{◌≡◌, ℕ, ◌<◌, ◌≤◌, ◌↔◌, false, true, None, length, slice_index_or, slice_set, IsErr, IfSome, IfNone, OnOk, OnErr};
+ghost use Rattle.std.specs.Prelude.{◌≡◌, ℕ, ◌<◌, ◌≤◌, ◌↔◌, false, true, None, length, slice_index_or, IsErr, IfSome, IfNone, OnOk, OnErr};
 ghost use Rattle.mesh_base.specs.declared.pair.Name.{Name};
-ghost use Rattle.mesh_types.specs.declared.records.StoreRecord.TheVariants.{Replay};
+ghost use Rattle.mesh_types.specs.declared.records.StoreRecord.TheVariants as R;
 ghost use Rattle.run_definitions.specs.Pairs.{is_newer, is_expired};
 ghost use Rattle.node_records.specs.Full.{IsReplayFull};
 ghost use Rattle.node_records.specs.Steps.{KeepsEntries};
@@ -55,10 +55,10 @@ fn first_expired(rows: &[Name], current: u32) -> Option<usize>
 }
 
 /// Puts a name into its source's row where it is above what stands there.
-fn raise(rows: &mut Table<Name, 64>, place: usize, name: &Name)
-    requires { place < length rows.old }
-    ensures above { (d : Name) → is_newer name.now.pair (slice_index_or rows.old place d).pair ≡ true → rows.new ≡ slice_set rows.old place name.now }
-    ensures same { (d : Name) → is_newer name.now.pair (slice_index_or rows.old place d).pair ≡ false → rows.new ≡ rows.old }
+fn raise(rows: &mut Table<Name, 64>, current: u32, place: usize, name: &Name)
+    requires within { place < length rows.old }
+    requires source { (d : Name) → (slice_index_or rows.old place d).src.0 ≡ name.now.src.0 }
+    ensures { IsApart rows.old → KeepsEntries current rows.old rows.new (R.Replay name.now) }
 {
     if is_above(&name.pair, &rows.as_slice()[place].pair) {
         rows.set(place, *name);
@@ -67,20 +67,21 @@ fn raise(rows: &mut Table<Name, 64>, place: usize, name: &Name)
 
 /// Puts the name of a source without a row behind the others, or in the place of the first that is expired where 64 are held.
 fn add_row(rows: &mut Table<Name, 64>, current: u32, name: &Name) -> Result<(), TooMany>
-    requires { pair_of rows.old name.now.src.0 ≡ None }
-    ensures ok { IsApart rows.old → OnOk result (KeepsEntries current rows.old rows.new (Replay name.now)) }
+    requires none { pair_of rows.old name.now.src.0 ≡ None }
+    requires most { length rows.old ≤ 64 }
+    ensures ok { IsApart rows.old → OnOk result (KeepsEntries current rows.old rows.new (R.Replay name.now)) }
     ensures full { IsErr result ↔ IsReplayFull current rows.old name.now.src.0 }
     ensures same { OnErr result (rows.new ≡ rows.old) }
 {
-    if rows.push(*name).is_ok() {
-        return Ok(());
-    }
-    match first_expired(rows.as_slice(), current) {
-        Some(place) => {
-            rows.set(place, *name);
-            Ok(())
-        }
-        None => Err(TooMany),
+    match rows.push(*name) {
+        Ok(()) => Ok(()),
+        Err(_) => match first_expired(rows.as_slice(), current) {
+            Some(place) => {
+                rows.set(place, *name);
+                Ok(())
+            }
+            None => Err(TooMany),
+        },
     }
 }
 
@@ -90,13 +91,14 @@ pub(crate) fn apply_to_replay(
     current: u32,
     name: &Name,
 ) -> Result<(), TooMany>
-    ensures ok { IsApart rows.old → OnOk result (KeepsEntries current rows.old rows.new (Replay name.now)) }
+    requires { length rows.old ≤ 64 }
+    ensures ok { IsApart rows.old → OnOk result (KeepsEntries current rows.old rows.new (R.Replay name.now)) }
     ensures full { IsErr result ↔ IsReplayFull current rows.old name.now.src.0 }
     ensures same { OnErr result (rows.new ≡ rows.old) }
 {
     match row_of(rows.as_slice(), name.src.0) {
         Some(place) => {
-            raise(rows, place, name);
+            raise(rows, current, place, name);
             Ok(())
         }
         None => add_row(rows, current, name),
