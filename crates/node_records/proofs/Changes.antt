@@ -56,11 +56,11 @@ nets_changed (suc (suc (suc (suc (suc op))))) index key rows least most = absurd
 -- a filter that keeps as many as there were keeps all
 pub filter_all : {A : Type 0} (p : A → Bool) (xs : List A) → length xs ≤ length (filter p xs) → filter p xs ≡ xs
 filter_all p [] h = refl
-filter_all p (x ∷ xs) h = by_test (p x) refl
+filter_all p (x ∷ xs) h = by_test (p x) refl (λ k. filter_all p xs k)
   where
-    by_test : (b : Bool) → p x ≡ b → filter p (x ∷ xs) ≡ x ∷ xs
-    by_test true e = rw e (ap (λ l. x ∷ l) (filter_all p xs (omega (arith, rw e at h))))
-    by_test false e = absurd (omega (arith, rw e at h, filter_few p xs))
+    by_test : (b : Bool) → p x ≡ b → (length xs ≤ length (filter p xs) → filter p xs ≡ xs) → filter p (x ∷ xs) ≡ x ∷ xs
+    by_test true e rest = rw e (ap (λ l. x ∷ l) (rest (omega (arith, rw e at h))))
+    by_test false e rest = absurd (omega (arith, rw e at h, filter_few p xs))
 
 -- one row more is refused exactly where it would be too many
 pub full_by : {T E : Type 0} (r : Result T E) (n m : ℕ) → (IsOk r ↔ (n < m)) → IsErr r ↔ (m < n + 1)

@@ -1,7 +1,7 @@
 //! From a slot to its record.
 #![tactic(auto)]
 
-ghost use Rattle.std.specs.Prelude.{◌≡◌, ◌+◌, ◌*◌, ◌≤◌, ◌↔◌, take, drop, slice_index, IsTrue, IfOk, IsErr};
+ghost use Rattle.std.specs.Prelude.{◌≡◌, ◌+◌, ◌*◌, ◌≤◌, ◌↔◌, length, take, drop, slice_index, IsTrue, IfOk, IsErr};
 ghost use Rattle.cipher_definitions.specs.Octets.{number_of};
 ghost use Rattle.mesh_base.specs.declared.slot.Slot.{Slot};
 ghost use Rattle.mesh_types.specs.declared.records.StoreRecord.{StoreRecord};
@@ -46,11 +46,19 @@ fn seq_at(body: &[u8; 30]) -> u32
     BigEndian::read_u24(&body[6..])
 }
 
+/// The number of the first eight octets.
+fn eight_of(octets: &[u8]) -> u64
+    requires { 8 ≤ length octets.now }
+    ensures { result ≡ number_of (take 8 octets.now) }
+{
+    BigEndian::read_u64(octets)
+}
+
 /// The number of eight octets from the fifth on.
 fn mark_at(body: &[u8; 30]) -> u64
     ensures { result ≡ number_of (take 8 (drop 5 body.now)) }
 {
-    BigEndian::read_u64(&body[5..])
+    eight_of(&body[5..])
 }
 
 /// The sixteen octets at a place.
