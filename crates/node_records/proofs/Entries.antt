@@ -25,7 +25,7 @@ gone_by false p e = cc
 pub gone : (current : ℕ) (p : Pair) → is_expired current p ≡ true → unexpired current (Some p) ≡ None
 gone current p h = gone_by (is_expired current p) p h
 
-dead : (current : ℕ) (p : Pair) → unexpired current (Some p) ≡ None → is_expired current p ≡ true
+pub dead : (current : ℕ) (p : Pair) → unexpired current (Some p) ≡ None → is_expired current p ≡ true
 dead current p h = none_test (is_expired current p) p h
 
 later : (lower current : ℕ) (p : Pair) → lower ≤ current → is_expired lower p ≡ true → is_expired current p ≡ true

@@ -5,7 +5,8 @@ use Rattle.mesh_base.specs.declared.pair.Name.{Name}
 use Rattle.mesh_types.specs.declared.records.StoreRecord.{StoreRecord}
 use Rattle.mesh_types.specs.declared.records.StoreRecord.TheVariants as R
 use Rattle.run_definitions.specs.Pairs.{is_expired}
-use Rattle.run_definitions.specs.Config.{nets_after, apps_after, binds_after, subs_after}
+use Rattle.run_definitions.specs.Config.{config_of, nets_after, apps_after, binds_after, subs_after}
+use Rattle.run_definitions.specs.Entries.{entry_of, has_room}
 use Rattle.node_records.specs.declared.persist.Persist.{Persist}
 use Rattle.node_records.specs.Tables.{pair_of}
 
@@ -33,3 +34,13 @@ held_for p (R.Bind op element model app) = length p.binds
 held_for p (R.Subscribe op element model address) = length p.subs
 held_for p (R.Replay name) = length p.replay
 held_for p _ = 0
+
+-- The same of the records that a value stands for: a table that they fill has no place for one more row, and a source without an entry
+-- has no room where 64 others have one.
+abbrev pub PassesLimit : List StoreRecord → StoreRecord → Type 0
+PassesLimit records (R.NetKey op index key) = 4 < length (nets_after op index key (config_of records).nets)
+PassesLimit records (R.AppKey op net index key) = 8 < length (apps_after op net index key (config_of records).apps)
+PassesLimit records (R.Bind op element model app) = 32 < length (binds_after op element model app (config_of records).binds)
+PassesLimit records (R.Subscribe op element model address) = 32 < length (subs_after op element model address (config_of records).subs)
+PassesLimit records (R.Replay name) = (entry_of records name.src.0 ≡ None) × (has_room records name.src.0 ≡ false)
+PassesLimit records _ = ⊥

@@ -4,7 +4,7 @@
 use crate::keys::{apply_net_to_apps, apply_to_apps, apply_to_nets};
 use crate::lists::{apply_app_to_binds, apply_net_to_binds, apply_to_binds, apply_to_subs};
 use crate::persist::Persist;
-use crate::replay::apply_to_replay;
+use crate::replay::{apply_to_replay, has_few_rows};
 use mesh_base::address::Address;
 use mesh_base::iv_state::IvState;
 use mesh_base::pair::Name;
@@ -24,7 +24,7 @@ impl Persist {
     ghost use Rattle.mesh_types.specs.declared.records.StoreRecord.{StoreRecord};
     ghost use Rattle.mesh_types.specs.declared.records.StoreRecord.TheVariants as R;
     ghost use Rattle.run_definitions.specs.Ranges.{IsInRange, is_feature};
-    ghost use Rattle.node_records.specs.Full.{IsFull, held_for};
+    ghost use Rattle.node_records.specs.Full.{IsFull, held_for, PassesLimit};
     ghost use Rattle.node_records.specs.Meaning.{IsMeaningOf, DoesNotFall};
     ghost use Rattle.node_records.specs.Steps.{IsStep};
 
@@ -213,8 +213,10 @@ impl Persist {
         ensures ok { OnOk result ((records : List StoreRecord) → IsMeaningOf records self.old → IsMeaningOf (records ++ item.now ∷ []) self.new) }
         ensures limit { IsErr result ↔ IsFull self.old item.now }
         ensures held { IfErr result (λ e. e.held ≡ held_for self.old item.now) }
+        ensures passes { (records : List StoreRecord) → IsMeaningOf records self.old → IsErr result ↔ PassesLimit records item.now }
         ensures same { OnErr result (self.new ≡ self.old) }
     {
+        has_few_rows(&self.replay);
         self.step(item)
     }
 }

@@ -13,6 +13,13 @@ use mesh_base::octets::TooMany;
 use mesh_base::pair::{Name, Pair};
 use mesh_base::table::Table;
 
+/// A replay list has at most 64 rows, since its table holds no more.
+pub(crate) fn has_few_rows(rows: &Table<Name, 64>)
+    ensures { length rows.now ≤ 64 }
+{
+    let _held = rows.len();
+}
+
 /// Whether a pair is above another, by the IV Index first.
 fn is_above(pair: &Pair, other: &Pair) -> bool
     ensures { result ≡ is_newer pair.now other.now }

@@ -1,7 +1,7 @@
 //! Each record's octets, the nearest texts that are no record, what each op changes, and the size of each table.
 #![tactic(auto)]
 
-ghost use Rattle.std.specs.Prelude.{OnFalse};
+ghost use Rattle.std.specs.Bool.{OnFalse};
 ghost use Rattle.node_records.specs.Meaning.{DoesNotFall};
 
 use crate::ranges::is_in_range;
