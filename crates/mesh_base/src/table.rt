@@ -1,7 +1,9 @@
 //! Lists of a bounded number of items, that take no memory.
 #![tactic(auto)]
 
-ghost use Rattle.std.specs.Prelude.{◌≡◌, ◌<◌, ◌≤◌, ◌↔◌, [], ◌∷◌, ◌++◌, length, slice_set, remove, IsTrue, IsOk, OnOk, OnErr};
+ghost use Rattle.std.specs.Prelude.{◌≡◌, ◌<◌, ◌≤◌, ◌↔◌, [], ◌∷◌, ◌++◌, length, slice_set, insert, remove, IsTrue, IsOk, OnOk, OnErr};
+ghost use Rattle.std.specs.List.Retain.{RetainsInTurn};
+ghost use Rattle.std.specs.Fn.{CalledAtMut};
 
 use crate::fields::Heard;
 use crate::keys::UpperKey;
@@ -73,6 +75,19 @@ impl<T: Copy, const N: usize> Table<T, N> {
         items[place] = item;
     }
 
+    /// Puts an item at a place, before those that stand there and behind it; `TooMany` exactly where there are N already.
+    pub fn insert(&mut self, place: usize, item: T) -> Result<(), TooMany>
+        requires { place ≤ length self.old }
+        ensures variant { IsOk result ↔ (length self.old < N) }
+        ensures ok { OnOk result (self.new ≡ insert self.old place item) }
+        ensures same { OnErr result (self.new ≡ self.old) }
+    {
+        match self.places.try_insert(place, item) {
+            Ok(()) => Ok(()),
+            Err(_) => Err(TooMany),
+        }
+    }
+
     /// The number of items.
     pub fn len(&self) -> usize
         ensures value { result ≡ length self.now }
@@ -113,5 +128,13 @@ impl<T: Copy + Default, const N: usize> Table<T, N> {
         let mut places = ArrayVec::new();
         let _ = places.try_extend_from_slice(self.places.as_slice());
         Table { places }
+    }
+
+    /// Keeps the items at which `keep` answers true, in their order.
+    pub fn retain<F: FnMut(&mut T) -> bool>(&mut self, keep: F)
+        requires { F.IsAlwaysCallable keep }
+        ensures filtered { RetainsInTurn (CalledAtMut F.FnMut) keep self.old self.new }
+    {
+        self.places.retain(keep);
     }
 }

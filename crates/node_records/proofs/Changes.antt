@@ -1,0 +1,77 @@
+-- A table changed row by row, and the sizes of tables that are changed or thinned.
+use Rattle.std.proofs.Common.{◌≡◌, ◌≢◌, ℕ, zero, suc, ◌+◌, ◌<◌, ◌≤◌, Bool, true, false, List, [], ◌∷◌, ◌++◌, length, get_or, take, drop, map, refl, ap, ◌∙◌, arith, add-one, set, insert, filter}
+use Rattle.std.specs.Prelude.{◌↔◌, Result, Ok, Err, IsOk, IsErr, OnErr}
+use Rattle.std.proofs.lemmas.Bool.Decides.{nat_tests}
+use Rattle.mesh_base.specs.declared.keys.NetKeyRow.{NetKeyRow}
+use Rattle.run_definitions.specs.Config.{nets_after}
+use Rattle.node_records.specs.Rows.{net_after}
+
+-- a table whose first i rows are changed
+abbrev pub changed_to : {A : Type 0} → (A → A) → List A → ℕ → List A
+changed_to f xs i = map f (take i xs) ++ drop i xs
+
+changed_next : {A : Type 0} (f : A → A) (xs : List A) (i : ℕ) (d : A) → i < length xs
+    → set (changed_to f xs i) i (f (get_or xs i d)) ≡ changed_to f xs (suc i)
+changed_next f [] i d lt = absurd (omega arith)
+changed_next f (x ∷ xs) zero d lt = refl
+changed_next f (x ∷ xs) (suc i) d lt = ap (λ l. f x ∷ l) (changed_next f xs i d (omega arith))
+
+pub changed_read : {A : Type 0} (f : A → A) (xs : List A) (i : ℕ) (d : A) → get_or (changed_to f xs i) i d ≡ get_or xs i d
+changed_read f [] zero d = refl
+changed_read f [] (suc i) d = refl
+changed_read f (x ∷ xs) zero d = refl
+changed_read f (x ∷ xs) (suc i) d = changed_read f xs i d
+
+-- the row at i is read where it stood, changed, and put back
+pub changed_more : {A : Type 0} (f : A → A) (xs seen ys : List A) (i : ℕ) (d : A) → i < length xs → ys ≡ changed_to f xs i → seen ≡ ys
+    → set ys i (f (get_or seen i d)) ≡ changed_to f xs (i + 1)
+changed_more f xs seen ys i d lt e s =
+    let read : get_or seen i d ≡ get_or xs i d = ap (λ zs. get_or zs i d) (s ∙ e) ∙ changed_read f xs i d in
+    rw (e, read, add-one) (changed_next f xs i d lt)
+
+pub changed_size : {A : Type 0} (f : A → A) (xs : List A) (i : ℕ) → length (changed_to f xs i) ≡ length xs
+changed_size f [] zero = refl
+changed_size f [] (suc i) = refl
+changed_size f (x ∷ xs) zero = refl
+changed_size f (x ∷ xs) (suc i) = ap (λ n. suc n) (changed_size f xs i)
+
+pub changed_all : {A : Type 0} (f : A → A) (xs : List A) → changed_to f xs (length xs) ≡ map f xs
+changed_all f [] = refl
+changed_all f (x ∷ xs) = ap (λ l. f x ∷ l) (changed_all f xs)
+
+pub filter_few : {A : Type 0} (p : A → Bool) (xs : List A) → length (filter p xs) ≤ length xs
+filter_few p [] = omega arith
+filter_few p (x ∷ xs) = let rest = filter_few p xs in grind (arith, nat_tests)
+
+-- the ops that change rows in their places
+pub nets_changed : (op index : ℕ) (key : List ℕ) (rows : List NetKeyRow) → 2 ≤ op → op ≤ 4
+    → map (net_after op index key) rows ≡ nets_after op index key rows
+nets_changed zero index key rows least most = absurd (omega arith)
+nets_changed (suc zero) index key rows least most = absurd (omega arith)
+nets_changed (suc (suc zero)) index key rows least most = refl
+nets_changed (suc (suc (suc zero))) index key rows least most = refl
+nets_changed (suc (suc (suc (suc zero)))) index key rows least most = refl
+nets_changed (suc (suc (suc (suc (suc op))))) index key rows least most = absurd (omega arith)
+
+-- a filter that keeps as many as there were keeps all
+pub filter_all : {A : Type 0} (p : A → Bool) (xs : List A) → length xs ≤ length (filter p xs) → filter p xs ≡ xs
+filter_all p [] h = refl
+filter_all p (x ∷ xs) h = by_test (p x) refl (λ k. filter_all p xs k)
+  where
+    by_test : (b : Bool) → p x ≡ b → (length xs ≤ length (filter p xs) → filter p xs ≡ xs) → filter p (x ∷ xs) ≡ x ∷ xs
+    by_test true e rest = rw e (ap (λ l. x ∷ l) (rest (omega (arith, rw e at h))))
+    by_test false e rest = absurd (omega (arith, rw e at h, filter_few p xs))
+
+-- one row more is refused exactly where it would be too many
+pub full_by : {T E : Type 0} (r : Result T E) (n m : ℕ) → (IsOk r ↔ (n < m)) → IsErr r ↔ (m < n + 1)
+full_by (Ok x) n m v = ((λ e. cc), (λ h. let f : n < m = v.0 refl in absurd (omega arith)))
+full_by (Err x) n m v = ((λ e. let g : n < m → ⊥ = (λ h. let b = v.1 h in cc) in omega arith), (λ h. refl))
+
+-- a refused row leaves a filtered table as it was before the filter, since that kept all
+pub kept_all : {A T E : Type 0} (r : Result T E) (p : A → Bool) (xs seen ys : List A) (m : ℕ) → seen ≡ filter p xs → length xs ≤ m
+    → (IsOk r ↔ (length seen < m)) → OnErr r (ys ≡ seen) → OnErr r (ys ≡ xs)
+kept_all (Ok x) p xs seen ys m e most v same = same
+kept_all (Err x) p xs seen ys m e most v same =
+    let g : length seen < m → ⊥ = (λ h. let b = v.1 h in cc) in
+    let all : length xs ≤ length (filter p xs) = omega (arith, ap length e) in
+    same ∙ e ∙ filter_all p xs all

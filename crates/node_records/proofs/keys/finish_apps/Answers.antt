@@ -1,0 +1,9 @@
+use Rattle.std.proofs.Common.{◌≡◌, ◌<◌, length, ap, ◌∙◌, arith}
+use Rattle.run_definitions.specs.Config.{finished_app}
+use Rattle.node_records.proofs.Changes.{changed_more}
+use Rattle.node_records.proofs.keys.finish_apps.Goals as goal
+
+pub loop-place-preserved : goal.loop-place-preserved
+loop-place-preserved c =
+    let below : c.loop-place.place < length c.args.apps.now = omega (arith, c.loop-place-test.true, c.len-place-end.ensures.value) in
+    rw (c.set.ensures.value, c.app_finished-row.ensures) (changed_more (finished_app c.args.net) c.args.apps.now c.as_slice.result.now c.loop-place.apps c.loop-place.place _ below c.loop-place.invariant c.as_slice.ensures.value)

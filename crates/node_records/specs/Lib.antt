@@ -1,0 +1,5 @@
+pub mod Full
+pub mod Meaning
+pub mod Rows
+pub mod Steps
+pub mod Tables
