@@ -25,6 +25,14 @@ fn acknowledgment_of(params: &[u8]) -> Acknowledgment
     }
 }
 
+// FSN, behind padding that isn't read.
+fn fsn_of(params: &[u8]) -> bool
+    requires { length params.now ≡ 1 }
+    ensures { ReadsControl 1 params.now (C.Poll result) }
+{
+    params[0] % 2 == 1
+}
+
 fn update_of(params: &[u8]) -> Update
     requires { length params.now ≡ 6 }
     ensures { ReadsControl 2 params.now (C.Update result) }
@@ -92,6 +100,14 @@ fn addresses_of(octets: &[u8]) -> AddressList
     addresses
 }
 
+// TransactionNumber, of a Friend Subscription List Confirm.
+fn transaction_of(params: &[u8]) -> u8
+    requires { length params.now ≡ 1 }
+    ensures { ReadsControl 9 params.now (C.ListConfirm result) }
+{
+    params[0]
+}
+
 // Of a Friend Subscription List Add or Remove.
 fn list_of(params: &[u8]) -> SubscriptionList
     requires least { 3 ≤ length params.now }
@@ -115,7 +131,7 @@ pub fn read_control(opcode: u8, params: &[u8]) -> ControlMsg
     match (opcode, params.len()) {
         (0x00, 6) => ControlMsg::Acknowledgment(acknowledgment_of(params)),
         (0x01, 1) => ControlMsg::Poll {
-            fsn: params[0] % 2 == 1,
+            fsn: fsn_of(params),
         },
         (0x02, 6) => ControlMsg::Update(update_of(params)),
         (0x03, 10) => ControlMsg::Request(request_of(params)),
@@ -125,7 +141,7 @@ pub fn read_control(opcode: u8, params: &[u8]) -> ControlMsg
         (0x07, 3 | 5 | 7 | 9 | 11) => ControlMsg::ListAdd(list_of(params)),
         (0x08, 3 | 5 | 7 | 9 | 11) => ControlMsg::ListRemove(list_of(params)),
         (0x09, 1) => ControlMsg::ListConfirm {
-            transaction: params[0],
+            transaction: transaction_of(params),
         },
         _ => ControlMsg::Other,
     }

@@ -6,6 +6,7 @@ ghost use Rattle.cipher_definitions.specs.Ccm.{Seals};
 ghost use Rattle.layer_definitions.specs.Upper.{IsUnopened, Opens, OpensUnder, key_octets, label_octets, upper_nonce};
 
 use crate::nonce::{label_of, mic_length, nonce, octets_of};
+use crate::sealing::buffer_of;
 use aes_block::Schedule;
 use aes_ccm::BadMic;
 use arrayvec::ArrayVec;
@@ -53,8 +54,7 @@ fn text_of(key: &UpperKey, f: &UpperFields, sealed: &[u8], mic: &[u8]) -> Option
         → Seals (key_octets key.now) (upper_nonce key.now f.now) (label_octets f.now) other sealed.now mic.now → ⊥ }
 {
     let schedule = Schedule::new(octets_of(key));
-    let mut text = ArrayVec::new();
-    let _ = text.try_extend_from_slice(sealed);
+    let mut text = buffer_of(sealed);
     match unseal_in_place(&schedule, &nonce(key, f), label_of(f), &mut text, mic) {
         Ok(()) => Some(text),
         Err(_) => None,

@@ -12,6 +12,16 @@ use mesh_base::keys::UpperKey;
 use mesh_base::octets::Octets;
 use mesh_base::upper::UpperFields;
 
+/// These octets, in a buffer of their own.
+pub(crate) fn buffer_of(octets: &[u8]) -> ArrayVec<u8, 380>
+    requires { length octets.now ≤ 380 }
+    ensures { result.items ≡ octets.now }
+{
+    let mut buffer = ArrayVec::new();
+    let _ = buffer.try_extend_from_slice(octets);
+    buffer
+}
+
 // Encrypts the octets of `text` in place, and writes their MIC.
 fn seal_in_place(
     schedule: &Schedule,
@@ -36,8 +46,7 @@ fn sealed_with(key: &UpperKey, f: &UpperFields, payload: &[u8], mic: &mut [u8]) 
     requires payload { length payload.now + length mic.old ≤ 384 }
     ensures { result ≡ upper_text key.now f.now payload.now }
 {
-    let mut text = ArrayVec::new();
-    let _ = text.try_extend_from_slice(payload);
+    let mut text = buffer_of(payload);
     seal_in_place(
         &Schedule::new(octets_of(key)),
         &nonce(key, f),
