@@ -1,10 +1,9 @@
 -- A control message is read back from its text, so octets read as one message at most.
-use Rattle.std.proofs.Common.{◌≡◌, ℕ, ◌+◌, ◌*◌, ◌/◌, ◌%◌, ◌^◌, ◌<◌, ◌≤◌, nat_le, Bool, true, false, List, [], ◌∷◌, ◌++◌, length, drop, map, refl, ap, ◌∙◌, sym, arith, zero-add}
+use Rattle.std.proofs.Common.{◌≡◌, ℕ, ◌+◌, ◌*◌, ◌/◌, ◌%◌, ◌^◌, ◌<◌, ◌≤◌, nat_le, Bool, true, false, List, [], ◌∷◌, length, drop, map, refl, ap, ◌∙◌, sym, arith, zero-add}
 use Rattle.std.specs.Prelude.{◌==◌, ◌&&◌, if◌then◌else◌, slice_index}
 use Rattle.std.proofs.lemmas.Bool.Decides.{nat_tests}
 use Rattle.std.proofs.lemmas.List.{length-map}
 use Rattle.std.proofs.lemmas.List.Elements.{All-head, All-tail}
-use Rattle.cipher_definitions.specs.Octets.{two_octets, three_octets, four_octets}
 use Rattle.mesh_base.specs.declared.address.Address.{Address}
 use Rattle.mesh_base.specs.declared.control.ControlMsg.{ControlMsg}
 use Rattle.mesh_base.specs.declared.control.ControlMsg.TheVariants.{Acknowledgment, Poll, Update, Request, Offer, Clear, ClearConfirm, ListAdd, ListRemove, ListConfirm, Other}
@@ -36,9 +35,9 @@ read_back t =
     else if slice_index t 0 == 1 then Poll (slice_index t 1 == 1)
     else if slice_index t 0 == 2 then Update (record { flags = slice_index t 1; iv = four_at t 2; more_data = slice_index t 6 })
     else if slice_index t 0 == 3 then
-        Request (record { criteria = slice_index t 1; receive_delay = slice_index t 2; poll_timeout = three_at t 3; previous = address_at t 6; elements = slice_index t 8; lpn_counter = two_at t 9 })
+    Request (record { criteria = slice_index t 1; receive_delay = slice_index t 2; poll_timeout = three_at t 3; previous = address_at t 6; elements = slice_index t 8; lpn_counter = two_at t 9 })
     else if slice_index t 0 == 4 then
-        Offer (record { receive_window = slice_index t 1; queue_size = slice_index t 2; subscription_list_size = slice_index t 3; rssi = slice_index t 4; friend_counter = two_at t 5 })
+    Offer (record { receive_window = slice_index t 1; queue_size = slice_index t 2; subscription_list_size = slice_index t 3; rssi = slice_index t 4; friend_counter = two_at t 5 })
     else if slice_index t 0 == 5 then Clear (record { lpn = address_at t 1; lpn_counter = two_at t 3 })
     else if slice_index t 0 == 6 then ClearConfirm (record { lpn = address_at t 1; lpn_counter = two_at t 3 })
     else if slice_index t 0 == 7 then ListAdd (record { transaction = slice_index t 1; addresses = addresses_back (drop 2 t) })
@@ -159,10 +158,11 @@ length-without_reserved (a ∷ b ∷ rest) = refl
 
 pub length-params_as_read : (opcode : ℕ) (params : List ℕ) → length (params_as_read opcode params) ≡ length params
 length-params_as_read opcode params =
-    elim (opcode == 0) as (λ b. length (if b then without_reserved params else if opcode == 1 then map (λ octet. octet % 2) params else params) ≡ length params)
-    [ true ↦ length-without_reserved params
-    | false ↦ elim (opcode == 1) as (λ b. length (if b then map (λ octet. octet % 2) params else params) ≡ length params)
-        [ true ↦ length-map params (λ octet. octet % 2) | false ↦ refl ] ]
+    elim (opcode == 0) as (λ b. length (if b then without_reserved params else if opcode == 1 then map (λ octet. octet % 2) params else params) ≡ length params) [
+      | true ↦ length-without_reserved params
+      | false ↦ elim (opcode == 1) as (λ b. length (if b then map (λ octet. octet % 2) params else params) ≡ length params)
+          [ true ↦ length-map params (λ octet. octet % 2) | false ↦ refl ]
+    ]
 
 list_row : (count : ℕ) → 1 ≤ count → count ≤ 5 → (nat_le 3 (1 + 2 * count) && nat_le (1 + 2 * count) 11 && (1 + 2 * count) % 2 == 1) ≡ true
 list_row count h k = grind (arith, nat_tests)
@@ -176,7 +176,7 @@ text_row (Request r) h = refl
 text_row (Offer o) h = refl
 text_row (Clear c) h = refl
 text_row (ClearConfirm c) h = refl
-text_row (ListAdd l) h = 
+text_row (ListAdd l) h =
     let count : length (drop 1 (control_text (ListAdd l))) ≡ 1 + 2 * length l.addresses = omega (arith, length-address_octets l.addresses) in
     rw count (list_row (length l.addresses) h.0 h.1)
 text_row (ListRemove l) h =

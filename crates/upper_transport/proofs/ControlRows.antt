@@ -5,7 +5,7 @@ use Rattle.std.proofs.lemmas.Bool.Decides.{nat_tests}
 use Rattle.std.proofs.lemmas.Grind.{flat_map-append}
 use Rattle.std.proofs.lemmas.List.{length-take}
 use Rattle.std.proofs.lemmas.List.FromFn.{fill_by_all}
-use Rattle.cipher_definitions.specs.Octets.{two_octets, three_octets, four_octets}
+use Rattle.cipher_definitions.specs.Octets.{two_octets, four_octets}
 use Rattle.mesh_base.specs.declared.address.Address.{Address}
 use Rattle.mesh_base.specs.declared.control.ControlMsg.{ControlMsg}
 use Rattle.mesh_base.specs.declared.control.ControlMsg.TheVariants as C

@@ -10,6 +10,8 @@
 #![tactic(auto)]
 
 mod control_reading;
+#[cfg(test)]
+mod control_tests;
 mod control_writing;
 mod laws;
 mod nonce;

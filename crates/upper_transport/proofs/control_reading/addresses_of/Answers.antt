@@ -1,10 +1,9 @@
 -- There is room for one more address, which is the two octets in front.
-use Rattle.std.proofs.Common.{◌≡◌, ◌+◌, ◌*◌, ◌<◌, ◌≤◌, ◌^◌, ◌∷◌, [], ◌++◌, length, drop, get_or, ap, ◌∙◌, arith, length-append, length-drop}
+use Rattle.std.proofs.Common.{◌≡◌, ◌+◌, ◌*◌, ◌<◌, ◌≤◌, ◌^◌, ◌∷◌, [], ◌++◌, length, drop, get_or, ◌∙◌, arith, length-append, length-drop}
 use Rattle.std.proofs.lemmas.List.{get_or-drop}
 use Rattle.std.proofs.lemmas.List.Elements.{All-push}
 use Rattle.mesh_base.specs.declared.address.Address.{Address}
-use Rattle.layer_definitions.specs.Control.{AreAddresses, address_octets}
-use Rattle.upper_transport.proofs.ControlRows.{AreOctets, addresses_turn, ok_then, two_front}
+use Rattle.upper_transport.proofs.ControlRows.{addresses_turn, ok_then, two_front}
 use Rattle.upper_transport.proofs.control_reading.addresses_of.Goals as goal
 
 pub loop-rest-preserved : goal.loop-rest-preserved

@@ -1,6 +1,5 @@
-use Rattle.std.proofs.Common.{◌≡◌, ◌-◌, drop, length, ◌∙◌, arith, length-drop}
+use Rattle.std.proofs.Common.{◌-◌, drop, length, ◌∙◌, arith, length-drop}
 use Rattle.std.proofs.lemmas.List.{take_all}
-use Rattle.layer_definitions.specs.Control.{address_octets}
 use Rattle.upper_transport.proofs.ControlRows.{reads_list_add, reads_list_remove}
 use Rattle.upper_transport.proofs.control_reading.list_of.Goals as goal
 

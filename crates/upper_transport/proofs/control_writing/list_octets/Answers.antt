@@ -1,5 +1,5 @@
 -- There is room for the two octets of one more address.
-use Rattle.std.proofs.Common.{◌≡◌, ap, arith, length, take}
+use Rattle.std.proofs.Common.{◌≡◌, ap, arith, length}
 use Rattle.upper_transport.proofs.ControlRows.{length-addresses-taken}
 use Rattle.upper_transport.proofs.control_writing.list_octets.Goals as goal
 

@@ -1,5 +1,5 @@
 -- The octets split into text and TransMIC. What opens is what was sealed.
-use Rattle.std.proofs.Common.{◌≡◌, ◌++◌, length, List, ℕ, refl, sym, ap, ◌∙◌, subst, arith}
+use Rattle.std.proofs.Common.{◌≡◌, ◌++◌, length, List, ℕ, refl, sym, ◌∙◌, subst, arith}
 use Rattle.std.proofs.lemmas.List.{take-append-drop}
 use Rattle.layer_definitions.specs.Upper.{OpensUnder, trans_mic_length}
 use Rattle.layer_definitions.proofs.UpperLaws.{length-opening, opens-from_seals, seals-from_opens}
