@@ -266,8 +266,8 @@ fn summed(octets: &[u8]) -> u32 {
 #[test]
 fn longest_payloads(rt: HostRuntime) {
     let mut payload = [0; 380];
-    for (i, octet) in payload.iter_mut().enumerate() {
-        *octet = (i % 251) as u8;
+    for i in 0..380 {
+        payload[i] = (i % 251) as u8;
     }
     let f = UpperFields {
         pair: Pair {
