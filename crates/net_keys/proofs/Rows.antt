@@ -125,7 +125,7 @@ both : (P : Heard → Type 0) (xs ys : List Heard) → ByRecursion P xs → ByRe
 both P [] ys a b = b
 both P (x ∷ xs) ys (p, a) b = (p, both P xs ys a b)
 
-of_rows : (P : Heard → Type 0) → IsOfKeys P → (rows : List NetKeyRow) → ByRecursion P (heard_keys rows)
+pub of_rows : (P : Heard → Type 0) → IsOfKeys P → (rows : List NetKeyRow) → ByRecursion P (heard_keys rows)
 of_rows P p [] = tt
 of_rows P p (r ∷ rows) = both P _ _ (of_row P p r.index r.key r.next) (of_rows P p rows)
 
