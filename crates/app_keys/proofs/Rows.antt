@@ -1,5 +1,5 @@
 -- Rows with the AIDs of their values.
-use Rattle.std.proofs.Common.{◌≡◌, ℕ, ◌+◌, ◌<◌, ◌≤◌, ◌^◌, Bool, true, false, cond, List, [], ◌∷◌, ◌++◌, length, take, get_or, map, Option, Some, None, refl, sym, ap, ◌∙◌, subst, arith, append-nil}
+use Rattle.std.proofs.Common.{◌≡◌, ℕ, ◌+◌, ◌<◌, ◌≤◌, Bool, true, false, cond, List, [], ◌∷◌, ◌++◌, length, take, get_or, map, Option, Some, None, refl, sym, ap, ◌∙◌, arith, append-nil}
 use Rattle.std.specs.Prelude.{◌==◌, ◌↔◌, ◌≢◌, if◌then◌else◌, unwrap_or, is_some, IsNone, IsSome, IfSome, filter, All}
 use Rattle.std.specs.List.{AllByRecursion as ByRecursion, find, flat_map}
 use Rattle.std.specs.Option.{option_and_then, option_map}
