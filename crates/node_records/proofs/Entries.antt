@@ -1,11 +1,11 @@
 -- What expires stays expired, and what is noted under an expired entry counts alone.
-use Rattle.std.proofs.Common.{◌≡◌, ◌⊎◌, inl, inr, ℕ, ◌+◌, ◌<◌, ◌≤◌, Bool, true, false, refl, ap, ◌∙◌, sym, arith}
-use Rattle.std.specs.Prelude.{◌==◌, if◌then◌else◌, nat_lt, Option, Some, None}
+use Rattle.std.proofs.Common.{◌≡◌, ◌⊎◌, inl, inr, ℕ, ◌≤◌, Bool, true, false, refl, ap, ◌∙◌, sym, arith}
+use Rattle.std.specs.Prelude.{◌==◌, if◌then◌else◌, Option, Some, None}
 use Rattle.std.proofs.lemmas.Bool.Decides.{nat_tests}
 use Rattle.mesh_base.specs.declared.pair.Pair.{Pair}
 use Rattle.mesh_types.specs.declared.records.StoreRecord.{StoreRecord}
 use Rattle.mesh_types.specs.declared.records.StoreRecord.TheVariants as R
-use Rattle.run_definitions.specs.Pairs.{is_newer, is_expired, newer_of}
+use Rattle.run_definitions.specs.Pairs.{is_expired, newer_of}
 use Rattle.run_definitions.specs.Entries.{greatest_with, kept_after, unexpired}
 
 none_test : (b : Bool) (p : Pair) → (if b then None else Some p) ≡ None → b ≡ true

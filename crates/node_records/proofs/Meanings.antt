@@ -1,14 +1,13 @@
 -- A value after a record is the meaning of the records with that one at their end.
-use Rattle.std.proofs.Common.{◌≡◌, ℕ, ◌≤◌, List, [], ◌∷◌, ◌++◌, fold, refl, ap, ◌∙◌, sym, subst, arith}
-use Rattle.std.specs.Prelude.{Option, None}
+use Rattle.std.proofs.Common.{◌≡◌, ℕ, ◌≤◌, List, [], ◌∷◌, ◌++◌, ap, ◌∙◌, sym, subst, arith}
+use Rattle.std.specs.Prelude.{None}
 use Rattle.std.proofs.lemmas.List.Sums.{fold-append}
-use Rattle.mesh_base.specs.declared.pair.Pair.{Pair}
 use Rattle.mesh_types.specs.declared.records.StoreRecord.{StoreRecord}
 use Rattle.mesh_types.specs.declared.records.StoreRecord.TheVariants as R
 use Rattle.run_definitions.specs.Config.{Config, no_config, changed, config_of}
-use Rattle.run_definitions.specs.Entries.{kept_after, kept_of, unexpired, entry_of}
+use Rattle.run_definitions.specs.Entries.{kept_after, kept_of, unexpired}
 use Rattle.node_records.specs.declared.persist.Persist.{Persist}
-use Rattle.node_records.specs.Tables.{config_in, pair_of, entry_in}
+use Rattle.node_records.specs.Tables.{config_in, pair_of}
 use Rattle.node_records.specs.Meaning.{IsMeaningOf, DoesNotFall}
 use Rattle.node_records.specs.Steps.{IsStep, KeepsEntries}
 use Rattle.node_records.proofs.Entries.{raised, kept_more}

@@ -1,7 +1,6 @@
 -- The replay list is full for a source exactly where 64 other sources have an entry, and it has none.
-use Rattle.std.proofs.Common.{◌≡◌, ◌≢◌, ℕ, suc, ◌+◌, ◌<◌, ◌≤◌, Bool, true, false, List, [], ◌∷◌, ◌++◌, length, filter, map, fold, refl, sym, ap, subst, ◌∙◌, arith}
+use Rattle.std.proofs.Common.{◌≡◌, ℕ, ◌<◌, ◌≤◌, Bool, true, false, List, [], ◌∷◌, length, filter, map, fold, refl, sym, ap, subst, ◌∙◌, arith}
 use Rattle.std.specs.Prelude.{◌==◌, ◌||◌, ◌&&◌, ◌↔◌, not, nat_lt, if◌then◌else◌, Option, Some, None, is_some, All}
-use Rattle.std.specs.List.{list_any}
 use Rattle.std.proofs.lemmas.Bool.Decides.{nat_tests}
 use Rattle.std.proofs.lemmas.List.{length-map}
 use Rattle.std.proofs.lemmas.List.Elements.{All-head, All-tail, All-cons}
@@ -13,11 +12,10 @@ use Rattle.run_definitions.specs.Pairs.{is_expired}
 use Rattle.run_definitions.specs.Config.{Config, config_of, nets_after, apps_after, binds_after, subs_after}
 use Rattle.run_definitions.specs.Entries.{greatest_with, kept_after, kept_of, unexpired, entry_of, sources_after, sources_of, others_held, has_room}
 use Rattle.node_records.specs.declared.persist.Persist.{Persist}
-use Rattle.node_records.specs.Tables.{config_in, pair_of, IsApart, entry_in}
+use Rattle.node_records.specs.Tables.{pair_of, IsApart, entry_in}
 use Rattle.node_records.specs.Full.{IsReplayFull, IsFull, PassesLimit}
 use Rattle.node_records.specs.Meaning.{IsMeaningOf}
-use Rattle.node_records.proofs.Changes.{filter_few, filter_all}
-use Rattle.node_records.proofs.Entries.{dead}
+use Rattle.node_records.proofs.Changes.{filter_few}
 use Rattle.node_records.proofs.Counts.{stands, AreApart, same_test, own_test, stands_filter, filter_stands, filter_apart, at_most}
 
 -- The sources of the records.

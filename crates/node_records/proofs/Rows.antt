@@ -1,13 +1,12 @@
 -- The rows of the replay list: one that is replaced, and one more.
-use Rattle.std.proofs.Common.{◌≡◌, ◌≢◌, ℕ, zero, suc, ◌+◌, ◌<◌, ◌≤◌, Bool, true, false, List, [], ◌∷◌, ◌++◌, length, get_or, set, refl, ap, ◌∙◌, sym, subst, arith}
+use Rattle.std.proofs.Common.{◌≡◌, ℕ, zero, suc, ◌<◌, Bool, true, false, List, [], ◌∷◌, ◌++◌, length, get_or, set, refl, ap, ◌∙◌, sym, subst, arith}
 use Rattle.std.specs.Prelude.{◌==◌, if◌then◌else◌, Option, Some, None}
 use Rattle.std.proofs.lemmas.Bool.Decides.{nat_tests}
 use Rattle.mesh_base.specs.declared.pair.Pair.{Pair}
 use Rattle.mesh_base.specs.declared.pair.Name.{Name}
-use Rattle.mesh_types.specs.declared.records.StoreRecord.{StoreRecord}
 use Rattle.mesh_types.specs.declared.records.StoreRecord.TheVariants as R
 use Rattle.run_definitions.specs.Pairs.{is_newer, is_expired, newer_of}
-use Rattle.run_definitions.specs.Entries.{greatest_with, kept_after, unexpired}
+use Rattle.run_definitions.specs.Entries.{greatest_with, unexpired}
 use Rattle.node_records.specs.Tables.{pair_of, IsApart}
 use Rattle.node_records.specs.Steps.{KeepsEntries}
 use Rattle.node_records.proofs.Entries.{gone}

@@ -23,10 +23,12 @@ impl Persist {
     ghost use Rattle.std.specs.Prelude.{◌≡◌, ◌≤◌, ◌↔◌, List, [], ◌∷◌, ◌++◌, IsTrue, IsErr, IfErr, OnOk, OnErr};
     ghost use Rattle.mesh_types.specs.declared.records.StoreRecord.{StoreRecord};
     ghost use Rattle.mesh_types.specs.declared.records.StoreRecord.TheVariants as R;
+    ghost use Rattle.run_definitions.specs.Config.{changed};
     ghost use Rattle.run_definitions.specs.Ranges.{IsInRange, is_feature};
     ghost use Rattle.node_records.specs.Full.{IsFull, held_for, PassesLimit};
     ghost use Rattle.node_records.specs.Meaning.{IsMeaningOf, DoesNotFall};
     ghost use Rattle.node_records.specs.Steps.{IsStep};
+    ghost use Rattle.node_records.specs.Tables.{config_in};
 
     /// A NetKey record.
     #[tactic(auto, unfolding(run_definitions::specs::Config::changed))]
@@ -211,6 +213,7 @@ impl Persist {
         requires in_range { IsInRange item.now }
         requires current { DoesNotFall self.old item.now }
         ensures ok { OnOk result ((records : List StoreRecord) → IsMeaningOf records self.old → IsMeaningOf (records ++ item.now ∷ []) self.new) }
+        ensures change { OnOk result (config_in self.new ≡ changed (config_in self.old) item.now) }
         ensures limit { IsErr result ↔ IsFull self.old item.now }
         ensures held { IfErr result (λ e. e.held ≡ held_for self.old item.now) }
         ensures passes { (records : List StoreRecord) → IsMeaningOf records self.old → IsErr result ↔ PassesLimit records item.now }

@@ -1,4 +1,4 @@
-use Rattle.std.proofs.Common.{◌≡◌, ◌≢◌, ℕ, ◌≤◌, refl, sym, ap, subst, arith}
+use Rattle.std.proofs.Common.{◌≡◌, refl, ap, arith}
 use Rattle.std.specs.Prelude.{Some}
 use Rattle.mesh_base.specs.declared.slot.Slot.{Slot}
 use Rattle.mesh_types.specs.declared.records.StoreRecord.{StoreRecord}

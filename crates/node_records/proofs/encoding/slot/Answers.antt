@@ -1,4 +1,4 @@
-use Rattle.std.proofs.Common.{length, replicate, ap, ◌++◌}
+use Rattle.std.proofs.Common.{length, ap, ◌++◌}
 use Rattle.std.proofs.lemmas.List.{drop-replicate}
 use Rattle.node_records.proofs.encoding.slot.Goals as goal
 

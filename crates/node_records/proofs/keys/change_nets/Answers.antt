@@ -1,6 +1,6 @@
 use Rattle.std.proofs.Common.{◌≡◌, ◌<◌, length, ap, ◌∙◌, arith}
 use Rattle.node_records.specs.Rows.{net_after}
-use Rattle.node_records.proofs.Changes.{changed_to, changed_more, changed_size, changed_all, nets_changed}
+use Rattle.node_records.proofs.Changes.{changed_to, changed_more, changed_all, nets_changed}
 use Rattle.node_records.proofs.keys.change_nets.Goals as goal
 
 pub loop-place-preserved : goal.loop-place-preserved

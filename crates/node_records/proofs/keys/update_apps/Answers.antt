@@ -1,4 +1,4 @@
-use Rattle.std.proofs.Common.{◌≡◌, ◌<◌, length, ap, ◌∙◌, arith}
+use Rattle.std.proofs.Common.{◌<◌, length, arith}
 use Rattle.run_definitions.specs.Config.{updated_app}
 use Rattle.node_records.proofs.Changes.{changed_more}
 use Rattle.node_records.proofs.keys.update_apps.Goals as goal

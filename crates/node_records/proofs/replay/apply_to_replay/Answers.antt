@@ -1,4 +1,3 @@
-use Rattle.std.proofs.Common.{◌≡◌}
 use Rattle.node_records.proofs.Rows.{none_from, none_at}
 use Rattle.node_records.proofs.replay.apply_to_replay.Goals as goal
 

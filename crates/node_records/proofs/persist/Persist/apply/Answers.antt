@@ -10,3 +10,6 @@ returns-clause-ok c =
 pub returns-clause-passes : goal.returns-clause-passes
 returns-clause-passes c =
     λ records means. passes records c.args.self.now c.args.item.now c.step.ensures.limit c.has_few_rows.ensures means
+
+pub returns-clause-change : goal.returns-clause-change
+returns-clause-change c = on_ok_weaker c.step.result (λ step. step.config) c.step.ensures.ok
