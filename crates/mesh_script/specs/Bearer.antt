@@ -41,11 +41,14 @@ net_fields ws =
     Some (record { iv = iv; ctl = ctl; ttl = ttl; seq = seq; src = src; dst = dst; tpdu = tpdu })
 
 -- `b0 peer NET IV CTL TTL SEQ SRC DST TPDU`: NET is a network key
+unfoldable pub peer_fields : List (List ℕ) → Option PeerLine
+peer_fields ws =
+    key_word (piece_at ws 2) >>= λ net_key.
+    net_fields ws >>= λ fields.
+    Some (record { net_key = net_key; fields = fields })
+
 unfoldable pub peer_line : List (List ℕ) → Option PeerLine
-peer_line ws =
-    if length ws == 10
-    then key_word (piece_at ws 2) >>= λ net_key. net_fields ws >>= λ fields. Some (record { net_key = net_key; fields = fields })
-    else None
+peer_line ws = if length ws == 10 then peer_fields ws else None
 
 -- `dev:KEY` or `app:KEY`
 unfoldable pub talk_key_word : List ℕ → Option TalkKey

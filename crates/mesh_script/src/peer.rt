@@ -3,7 +3,7 @@
 
 ghost use Rattle.std.specs.Prelude.{◌≡◌, length, map, IfSome};
 ghost use Rattle.layer_definitions.specs.Network.{HasPdu};
-ghost use Rattle.mesh_script.specs.Bearer.{net_fields, peer_line};
+ghost use Rattle.mesh_script.specs.Bearer.{net_fields, peer_fields, peer_line};
 ghost use Rattle.mesh_script.specs.Ranges.{IsPeer};
 
 use crate::digits::{address, bit, key, number, tpdu, ttl};
@@ -43,16 +43,26 @@ fn net_fields(words: &[&[u8]]) -> Option<NetFields>
     })
 }
 
+#[tactic(auto, unfolding(crate::specs::Bearer::peer_fields))]
+fn peer_fields(words: &[&[u8]]) -> Option<PeerLine>
+    requires { length words.now ≡ 10 }
+    ensures value { result ≡ peer_fields (map (λ w. w.now) words.now) }
+    ensures ranges { IfSome result IsPeer }
+{
+    let net_key = key(piece(words, 2))?;
+    let fields = net_fields(words)?;
+    Some(PeerLine { net_key, fields })
+}
+
 /// The line `peer` of these words; None where they are no such line.
 #[tactic(auto, unfolding(crate::specs::Bearer::peer_line))]
 pub fn peer_line(words: &[&[u8]]) -> Option<PeerLine>
     ensures value { result ≡ peer_line (map (λ w. w.now) words.now) }
     ensures ranges { IfSome result IsPeer }
 {
-    if words.len() != 10 {
-        return None;
+    if words.len() == 10 {
+        peer_fields(words)
+    } else {
+        None
     }
-    let net_key = key(piece(words, 2))?;
-    let fields = net_fields(words)?;
-    Some(PeerLine { net_key, fields })
 }
