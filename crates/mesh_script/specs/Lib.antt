@@ -1,4 +1,5 @@
 pub mod Digits
-pub mod Raw
-pub mod Script
 pub mod Words
+pub mod Ranges
+pub mod Bearer
+pub mod Script

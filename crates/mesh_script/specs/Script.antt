@@ -3,11 +3,11 @@ use Rattle.std.specs.Prelude.{ℕ, ◌-◌, ◌==◌, ◌&&◌, not, nat_le, nat
 use Rattle.std.specs.Str.{bytes_eq}
 use Rattle.std.specs.List.{list_any}
 use Rattle.std.specs.Char.{is_ascii_uppercase}
-use Rattle.mesh_script.specs.Digits.{◌>>=◌, number_word, key_word, tpdu_word}
+use Rattle.mesh_script.specs.Bearer.{bearer_line}
+use Rattle.mesh_script.specs.Digits.{◌>>=◌, number_word, key_word}
 use Rattle.mesh_script.specs.Words.{pieces, piece_at}
-use Rattle.mesh_script.specs.declared.grammar.ProvisionLine.{ProvisionLine}
-use Rattle.mesh_script.specs.declared.grammar.RawLine.{RawLine}
 use Rattle.mesh_script.specs.declared.grammar.Script.{Script}
+use Rattle.mesh_script.specs.declared.provision.ProvisionLine.{ProvisionLine}
 
 -- `provision UNICAST 1 IV 00 NETIDX NETKEY DEVKEY`: a unicast address, one element, Normal Operation and no Key Refresh
 unfoldable pub provision_fields : List (List ℕ) → Option ProvisionLine
@@ -27,23 +27,6 @@ provision_line ws =
     then provision_fields ws
     else None
 
--- `b0 raw DST TTL TPDU`: DST isn't 0000, TTL is at most 7f
-unfoldable pub raw_fields : List (List ℕ) → Option RawLine
-raw_fields ws =
-    number_word 4 (piece_at ws 2) >>= λ dst.
-    number_word 2 (piece_at ws 3) >>= λ ttl.
-    tpdu_word (piece_at ws 4) >>= λ tpdu.
-    if nat_le 1 dst && nat_lt ttl 0x80
-    then Some (record { dst = record { 0 = dst }; ttl = ttl; tpdu = tpdu })
-    else None
-
-unfoldable pub raw_line : List ℕ → Option RawLine
-raw_line line =
-    let ws = pieces 32 line in
-    if (length ws == 5) && bytes_eq (piece_at ws 0) (codes "b0") && bytes_eq (piece_at ws 1) (codes "raw")
-    then raw_fields ws
-    else None
-
 -- each of them read, or nothing where one can't be
 unfoldable pub each_read : {A B : Type 0} → (A → Option B) → List A → Option (List B)
 each_read f [] = Some []
@@ -53,7 +36,7 @@ each_read f (x ∷ xs) = f x >>= λ y. each_read f xs >>= λ ys. Some (y ∷ ys)
 unfoldable pub script_fields : List (List ℕ) → Option Script
 script_fields ps =
     provision_line (pieces 32 (piece_at ps 0)) >>= λ provision.
-    each_read raw_line (slice_range ps 2 (length ps - 1)) >>= λ lines.
+    each_read bearer_line (slice_range ps 2 (length ps - 1)) >>= λ lines.
     Some (record { provision = provision; lines = lines })
 
 -- The lines of a text, and the empty piece behind its last LF: the node's data, the line `life`, and at most 4,096 lines of the

@@ -26,6 +26,7 @@ pub fn push_answer(text: &mut LineText, answer: &Answer) -> Result<(), AllocErro
         Answer::Own => text.push(b" own"),
         Answer::Cached => text.push(b" cached"),
         Answer::NotMine => text.push(b" notmine"),
+        Answer::Unbuilt => text.push(b" unbuilt"),
         Answer::Malformed => text.push(b" malformed"),
         Answer::Again => text.push(b" again"),
         Answer::Replay { kept } => push_replay(text, *kept),

@@ -55,6 +55,8 @@ pub enum Answer {
     Cached,
     /// DST isn't one of the node's addresses or groups.
     NotMine,
+    /// A segment of a message: the first bit of the transport PDU is 1. Segments are not read yet.
+    Unbuilt,
     /// No lower transport PDU has this text.
     Malformed,
     /// A segment of a message that was accepted in this life.
@@ -161,6 +163,7 @@ impl Answer {
             Answer::Own => Answer::Own,
             Answer::Cached => Answer::Cached,
             Answer::NotMine => Answer::NotMine,
+            Answer::Unbuilt => Answer::Unbuilt,
             Answer::Malformed => Answer::Malformed,
             Answer::Again => Answer::Again,
             Answer::Replay { kept } => Answer::Replay { kept: *kept },
