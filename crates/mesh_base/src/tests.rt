@@ -3,6 +3,7 @@
 #![tactic(auto)]
 
 use crate::address::{Address, AddressKind};
+use crate::address_list::AddressList;
 use crate::memory::{MemSink, MemSource, SureSink, SureSource};
 use crate::octets::{Octets, TooMany};
 use crate::outside::{Failed, Sink, Source};
@@ -35,6 +36,19 @@ fn octets_fill_up(rt: HostRuntime) {
     assert!(rt; octets.as_slice() == [1, 2, 3].as_slice());
     assert!(rt; Octets::<3>::of(&[1, 2, 3]) == Ok(octets.copied()));
     assert!(rt; Octets::<2>::of(&[1, 2, 3]).is_err());
+}
+
+#[test]
+fn addresses_fill_up(rt: HostRuntime) {
+    let five = [1, 2, 3, 4, 5].map(Address);
+    let mut list = AddressList::new();
+    for address in five {
+        assert!(rt; list.push(address) == Ok(()));
+    }
+    assert!(rt; list.push(Address(6)) == Err(TooMany));
+    assert!(rt; list.as_slice() == five.as_slice());
+    assert!(rt; AddressList::of(&five) == Ok(list.copied()));
+    assert!(rt; AddressList::of(&[Address(0); 6]).is_err());
 }
 
 #[test]
