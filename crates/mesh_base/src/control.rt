@@ -2,10 +2,10 @@
 #![tactic(auto)]
 
 use crate::address::Address;
-use crate::address_list::AddressList;
+use crate::table::Table;
 
 /// A control message, without the network PDU's fields.
-#[derive(Clone, Debug, Drop, PartialEq, Eq)]
+#[derive(Debug, Drop, PartialEq, Eq)]
 pub enum ControlMsg {
     /// Segment Acknowledgment, opcode 00 (section 3.5.2.3.1).
     Acknowledgment(Acknowledgment),
@@ -100,8 +100,11 @@ pub struct Clear {
     pub lpn_counter: u16,
 }
 
+/// The addresses that one control message has room for.
+pub type AddressList = Table<Address, 5>;
+
 /// Addresses that come to a Friend Subscription List, or go from it (sections 3.6.5.7 and 3.6.5.8).
-#[derive(Clone, Debug, Default, Drop, PartialEq, Eq)]
+#[derive(Debug, Default, Drop, PartialEq, Eq)]
 pub struct SubscriptionList {
     /// TransactionNumber, 8 bits.
     pub transaction: u8,

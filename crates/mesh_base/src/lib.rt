@@ -2,7 +2,6 @@
 //! from (`Source`) and where they go (`Sink`).
 //!
 //! - `address`: a 16-bit address and its kind
-//! - `address_list`: the addresses that one control message has room for
 //! - `octets`: a list of at most N octets
 //! - `pair`: an IV Index with a SEQ, and the name of a message
 //! - `fields`: the fields of a network PDU, and the material that seals it
@@ -20,7 +19,6 @@
 #![tactic(auto)]
 
 pub mod address;
-pub mod address_list;
 pub mod beacon;
 pub mod control;
 pub mod fields;

@@ -1,7 +1,7 @@
 //! Lists of a bounded number of items, that take no memory.
 #![tactic(auto)]
 
-ghost use Rattle.std.specs.Prelude.{◌≡◌, ◌<◌, ◌≤◌, ◌↔◌, [], ◌∷◌, ◌++◌, length, slice_set, insert, remove, IsTrue, IsOk, OnOk, OnErr};
+ghost use Rattle.std.specs.Prelude.{◌≡◌, ◌<◌, ◌≤◌, ◌↔◌, [], ◌∷◌, ◌++◌, length, slice_set, insert, remove, IsTrue, IsOk, IfOk, OnOk, OnErr};
 ghost use Rattle.std.specs.List.Retain.{RetainsInTurn};
 ghost use Rattle.std.specs.Fn.{CalledAtMut};
 
@@ -113,6 +113,18 @@ impl<T: Copy, const N: usize> Table<T, N> {
 }
 
 impl<T: Copy + Default, const N: usize> Table<T, N> {
+    /// These items; `TooMany` exactly where there are more than N.
+    pub fn of(items: &[T]) -> Result<Table<T, N>, TooMany>
+        ensures variant { IsOk result ↔ (length items.now ≤ N) }
+        ensures ok { IfOk result (λ t. t ≡ items.now) }
+    {
+        let mut places = ArrayVec::new();
+        match places.try_extend_from_slice(items) {
+            Ok(()) => Ok(Table { places }),
+            Err(_) => Err(TooMany),
+        }
+    }
+
     /// Takes the item at a place away; those behind it move up.
     pub fn remove(&mut self, place: usize)
         requires { place < length self.old }

@@ -53,6 +53,9 @@ fn tables_fill_up(rt: HostRuntime) {
     assert!(rt; table.len() == 1);
     assert!(rt; table.copied() == table);
     assert!(rt; table.as_slice() == &keys[2..]);
+    assert!(rt; Table::of(&keys[2..]) == Ok(table));
+    let all: Result<Table<UpperKey, 2>, TooMany> = Table::of(&keys);
+    assert!(rt; all == Err(TooMany));
 }
 
 #[test]

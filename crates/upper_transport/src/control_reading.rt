@@ -7,9 +7,8 @@ ghost use Rattle.layer_definitions.specs.Control.{AreAddresses, IsNoControl, Rea
 
 use byteorder::{BigEndian, ByteOrder};
 use mesh_base::address::Address;
-use mesh_base::address_list::AddressList;
 use mesh_base::control::{
-    Acknowledgment, Clear, ControlMsg, Offer, Request, SubscriptionList, Update,
+    Acknowledgment, AddressList, Clear, ControlMsg, Offer, Request, SubscriptionList, Update,
 };
 
 // OBO, SeqZero and two bits that aren't read; BlockAck.
