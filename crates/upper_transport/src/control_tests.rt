@@ -3,7 +3,9 @@
 
 use crate::{ControlMsg, read_control, write_control};
 use mesh_base::address::Address;
-use mesh_base::control::{Acknowledgment, AddressList, Clear, Offer, Request, SubscriptionList, Update};
+use mesh_base::control::{
+    Acknowledgment, AddressList, Clear, Offer, Request, SubscriptionList, Update,
+};
 use std::process::Abort;
 use std::test::Fail;
 
