@@ -68,6 +68,13 @@ impl Journal {
         self.used
     }
 
+    /// Whether an earlier write failed.
+    pub fn is_closed(&self) -> bool
+        ensures { result ≡ self.now.closed }
+    {
+        self.closed
+    }
+
     /// What slot `n` holds, from 1 to `used`. It is nothing where the slot's gate isn't 00: a cut left it torn.
     pub fn slot<F: Flash>(&self, flash: &mut F, n: u32) -> Result<Option<Slot>, FlashFailed>
         requires some { 0 < n }
