@@ -63,7 +63,8 @@ impl Model for Journal {
 impl Journal {
     /// How many slots are used, up to the last that has an octet other than ff.
     pub fn used(&self) -> u32
-        ensures { result ≡ self.now.used }
+        ensures value { result ≡ self.now.used }
+        ensures few { self.now.used ≤ 1023 }
     {
         self.used
     }

@@ -1,0 +1,9 @@
+pub mod Follows
+pub mod Found
+pub mod Made
+pub mod Mounts
+pub mod Orders
+pub mod Puts
+pub mod Room
+pub mod Sizes
+pub mod Takes
