@@ -166,3 +166,7 @@ said_read content bank used p value said = record {
   held = record { texts = value ∙ ap (λ (l : List Slot). Some l) said.read.texts; ranges = said.read.ranges };
   order = said.read.order;
 }
+
+-- a node that was reset is found as that alone
+pub only_reset : (content : List ℕ) (rs : List StoreRecord) (f : StoreFault) → IsRead content rs → (config_of rs).reset ≡ true → IsFoundAs content f → f ≡ F.WasReset
+only_reset content rs f read is found = found_once content f F.WasReset found (record { records = rs; read = read; reset = is })

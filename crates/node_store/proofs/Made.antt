@@ -60,13 +60,13 @@ module _ (p : Provisioning) where
   provisioned_order = (record { within = refl; rises = refl }, (record { within = refl; rises = ap not (le-ltb p.iv 0 (omega arith)) }, (record { within = refl; rises = refl }, tt)))
 
 -- what a cut leaves while they are written
-module _ (old new : Chip) (records : List StoreRecord) (ranges : All IsInRange records) where
+module _ (old new : Chip) (records : List StoreRecord) (ranges : All IsInRange records) (order : AreInOrder [] records) where
   pub made_leaves : LeavesOnly old new (IsFormatted (map record_text records)) → LeavesOnly old new (IsMade records)
   made_leaves leaves = leaves_weaker old new (IsFormatted (map record_text records)) (IsMade records) leaves
-      (λ c made. record { tidy = made.tidy; either = ⊎_elim (λ h. inl h) (λ h. inr (record { texts = h; ranges = ranges })) made.either })
+      (λ c made. record { tidy = made.tidy; either = ⊎_elim (λ h. inl h) (λ h. inr (record { held = record { texts = h; ranges = ranges }; order = order })) made.either })
 
-  pub made_read : AreInOrder [] records → recovered new.now ≡ Some (map record_text records) → IsRead new.now records
-  made_read order is = record { held = record { texts = is; ranges = ranges }; order = order }
+  pub made_read : recovered new.now ≡ Some (map record_text records) → IsRead new.now records
+  made_read is = record { held = record { texts = is; ranges = ranges }; order = order }
 
 -- the mark is a word of SEQ 0
 pub first_word : (s : IvState) (from transmit : ℕ) → from ≡ transmit → transmit ≡ transmit_of s → s.current < 2 ^ 32 → from * 33554432 % 18446744073709551616 ≡ transmit_of s * 2 ^ 25 + 0

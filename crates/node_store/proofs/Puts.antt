@@ -33,23 +33,30 @@ module _ (old : Chip) (store : StoreView) (records : List StoreRecord) (item : S
     ranges = All-push IsInRange records item tie.read.held.ranges range;
   }
 
-  put_leaves : (c : List ℕ) → IsAppended (recovered old.now) (record_text item) c → IsPut records item c
-  put_leaves c done = record {
+  read_more : Follows records item → (c : List ℕ) → recovered c ≡ with_last (record_text item) (recovered old.now) → IsRead c (records ++ item ∷ [])
+  read_more follows c is = record { held = recovered_more c is; order = in_order_push [] records item tie.read.order follows }
+
+  put_leaves : Follows records item → (c : List ℕ) → IsAppended (recovered old.now) (record_text item) c → IsPut records item c
+  put_leaves follows c done = record {
     tidy = done.tidy;
-    either = ⊎_elim (λ h. inl (record { texts = h ∙ tie.read.held.texts; ranges = tie.read.held.ranges })) (λ h. inr (recovered_more c h)) done.either;
+    either = ⊎_elim (λ h. inl (record { held = record { texts = h ∙ tie.read.held.texts; ranges = tie.read.held.ranges }; order = tie.read.order })) (λ h. inr (read_more follows c h)) done.either;
   }
 
-  pub put_any_moment : (new : Chip) → LeavesOnly old new (IsAppended (recovered old.now) (record_text item)) → LeavesOnly old new (IsPut records item)
-  put_any_moment new leaves = leaves_weaker old new (IsAppended (recovered old.now) (record_text item)) (IsPut records item) leaves put_leaves
+  -- a record that is put may follow
+  pub put_follows : length store.persist.replay ≤ 64 → (IsFull store.persist item → ⊥) → IsNotBelow store.persist item → Follows records item
+  put_follows few full rises = follows_of records store.persist tie.meaning few item full (not_below_current store.persist item rises)
+
+  pub put_any_moment : Follows records item → (new : Chip) → LeavesOnly old new (IsAppended (recovered old.now) (record_text item)) → LeavesOnly old new (IsPut records item)
+  put_any_moment follows new leaves = leaves_weaker old new (IsAppended (recovered old.now) (record_text item)) (IsPut records item) leaves (put_leaves follows)
 
   pub put_unchanged : IsOnlyNow old → LeavesOnly old old (IsPut records item)
   put_unchanged only = leaves_none old (IsPut records item) only
-      (λ c image. record { tidy = subst (λ (x : List ℕ). IsTidy x) (sym (tie.journal.fresh.only c image)) tie.journal.tidy; either = inl (subst (λ (x : List ℕ). IsRecovered x records) (sym (tie.journal.fresh.only c image)) tie.read.held) })
+      (λ c image. record { tidy = subst (λ (x : List ℕ). IsTidy x) (sym (tie.journal.fresh.only c image)) tie.journal.tidy; either = inl (subst (λ (x : List ℕ). IsRead x records) (sym (tie.journal.fresh.only c image)) tie.read) })
 
   from_mark : IsNotBelow store.persist item → (c : List ℕ) → IsPut records item c → HasMarkFrom store.persist.mark c
   from_mark rises c put found held = ⊎_elim
-      (λ h. subst (λ (l : List StoreRecord). store.persist.mark ≤ (config_of l).mark) (recovered_once c records found h held) (omega (arith, mark_before records store.persist tie.meaning)))
-      (λ h. subst (λ (l : List StoreRecord). store.persist.mark ≤ (config_of l).mark) (recovered_once c (records ++ item ∷ []) found h held) (mark_from records store.persist tie.meaning item rises))
+      (λ h. subst (λ (l : List StoreRecord). store.persist.mark ≤ (config_of l).mark) (recovered_once c records found h.held held) (omega (arith, mark_before records store.persist tie.meaning)))
+      (λ h. subst (λ (l : List StoreRecord). store.persist.mark ≤ (config_of l).mark) (recovered_once c (records ++ item ∷ []) found h.held held) (mark_from records store.persist tie.meaning item rises))
       put.either
 
   pub put_mark : IsNotBelow store.persist item → (new : Chip) → LeavesOnly old new (IsPut records item) → LeavesOnly old new (HasMarkFrom store.persist.mark)
@@ -57,24 +64,18 @@ module _ (old : Chip) (store : StoreView) (records : List StoreRecord) (item : S
 
   with_mark : IsNoNumbers item → (c : List ℕ) → IsPut records item c → HasMark store.persist.mark c
   with_mark none c put found held = ⊎_elim
-      (λ h. subst (λ (l : List StoreRecord). (config_of l).mark ≡ store.persist.mark) (recovered_once c records found h held) (sym (mark_before records store.persist tie.meaning)))
-      (λ h. subst (λ (l : List StoreRecord). (config_of l).mark ≡ store.persist.mark) (recovered_once c (records ++ item ∷ []) found h held) (mark_same records store.persist tie.meaning item none))
+      (λ h. subst (λ (l : List StoreRecord). (config_of l).mark ≡ store.persist.mark) (recovered_once c records found h.held held) (sym (mark_before records store.persist tie.meaning)))
+      (λ h. subst (λ (l : List StoreRecord). (config_of l).mark ≡ store.persist.mark) (recovered_once c (records ++ item ∷ []) found h.held held) (mark_same records store.persist tie.meaning item none))
       put.either
 
   pub put_same_mark : IsNoNumbers item → (new : Chip) → LeavesOnly old new (IsPut records item) → LeavesOnly old new (HasMark store.persist.mark)
   put_same_mark none new leaves = leaves_weaker old new (IsPut records item) (HasMark store.persist.mark) leaves (with_mark none)
 
   -- it is durable
-  pub put_read : length store.persist.replay ≤ 64 → (IsFull store.persist item → ⊥) → IsNotBelow store.persist item → (new : Chip) → recovered new.now ≡ with_last (record_text item) (recovered old.now) → IsRead new.now (records ++ item ∷ [])
-  put_read few full rises new is = record {
-    held = recovered_more new.now is;
-    order = in_order_push [] records item tie.read.order (follows_of records store.persist tie.meaning few item full (not_below_current store.persist item rises));
-  }
-
-  pub put_kept : length store.persist.replay ≤ 64 → (IsFull store.persist item → ⊥) → IsNotBelow store.persist item → (new : Chip) (after : StoreView)
+  pub put_kept : Follows records item → (new : Chip) (after : StoreView)
       → recovered new.now ≡ with_last (record_text item) (recovered old.now) → IsJournalOf new after.journal → IsMeaningOf (records ++ item ∷ []) after.persist
       → IsStoreOf new after (records ++ item ∷ [])
-  put_kept few full rises new after is journal meaning = record { journal = journal; read = put_read few full rises new is; meaning = meaning }
+  put_kept follows new after is journal meaning = record { journal = journal; read = read_more follows new.now is; meaning = meaning }
 
   pub put_durable : (new : Chip) → recovered new.now ≡ with_last (record_text item) (recovered old.now) → ((c : List ℕ) → new.images c → c ≡ new.now) → (c : List ℕ) → new.images c → IsRecovered c (records ++ item ∷ [])
   put_durable new is only c image = subst (λ (x : List ℕ). IsRecovered x (records ++ item ∷ [])) (sym (only c image)) (recovered_more new.now is)

@@ -20,15 +20,15 @@ pub record IsStoreOf (chip : Chip) (store : StoreView) (records : List StoreReco
   pub read : IsRead chip.now records
   pub meaning : IsMeaningOf records store.persist
 
--- the records of before, or these with the new one last
+-- the records of before, or these with the new one last; so it is mounted again
 pub record IsPut (records : List StoreRecord) (item : StoreRecord) (content : List ℕ) : Type 0 where
   pub tidy : IsTidy content
-  pub either : IsRecovered content records ⊎ IsRecovered content (records ++ item ∷ [])
+  pub either : IsRead content records ⊎ IsRead content (records ++ item ∷ [])
 
 -- nothing is recovered yet, or the records of provisioning
 pub record IsMade (records : List StoreRecord) (content : List ℕ) : Type 0 where
   pub tidy : IsTidy content
-  pub either : (recovered content ≡ None) ⊎ IsRecovered content records
+  pub either : (recovered content ≡ None) ⊎ IsRead content records
 
 -- the mark that is recovered is this or above
 abbrev pub HasMarkFrom : ℕ → List ℕ → Type 0

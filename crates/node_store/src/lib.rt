@@ -12,6 +12,7 @@
 //! with its number. A slot whose gate isn't 00 is passed over. A node that was reset isn't mounted again.
 #![tactic(auto)]
 
+pub mod laws;
 mod limits;
 mod mounting;
 mod provision;

@@ -1,5 +1,5 @@
 // A store is found again on its flash.
-ghost use Rattle.std.specs.Prelude.{◌≡◌, ◌↔◌, ◌⊎◌, ℕ, ◌+◌, ◌<◌, ◌≤◌, List, Err, IsTrue, IfOk, IfErr, OnOk, OnErr};
+ghost use Rattle.std.specs.Prelude.{◌≡◌, ◌↔◌, ◌⊎◌, ℕ, ◌+◌, ◌<◌, ◌≤◌, List, Err, false, IsTrue, IfOk, IfErr, OnOk, OnErr};
 ghost use Rattle.flash_model.specs.Chip.{IsFresh, Keeps, Stays};
 ghost use Rattle.mesh_types.specs.declared.records.StoreRecord.{StoreRecord};
 ghost use Rattle.node_records.specs.Meaning.{DoesNotFall};
@@ -74,6 +74,7 @@ impl Store {
         ensures stays { IsTrue (F.chip flash.old).honest → Stays (F.chip flash.old) (F.chip flash.new) }
 
         // of every flash, honest or not
+        ensures usable { IfOk result (λ s. s.journal.closed ≡ false) }
         ensures sure { IsTrue (F.chip flash.old).sure → IfErr result IsNotFlash }
         ensures same { Keeps (F.chip flash.old) (F.chip flash.new) }
     {

@@ -1,5 +1,5 @@
 // A node is provisioned: its first records are written onto an erased flash.
-ghost use Rattle.std.specs.Prelude.{◌≡◌, List, IsTrue, IfOk, IfErr, OnOk, ℕ, ◌*◌, ◌^◌, ◌<◌, All, map, slice_index};
+ghost use Rattle.std.specs.Prelude.{◌≡◌, List, false, IsTrue, IfOk, IfErr, OnOk, ℕ, ◌*◌, ◌^◌, ◌<◌, All, map, slice_index};
 ghost use Rattle.flash_model.specs.Chip.{IsFresh, Keeps, LeavesOnly, Stays};
 ghost use Rattle.node_records.specs.Meaning.{IsMeaningOf};
 ghost use Rattle.run_definitions.specs.Ranges.{IsInRange};
@@ -57,7 +57,7 @@ impl Store {
         ensures cause { IfErr result (IsFormatCause (F.chip flash.old) (F.chip flash.new)) }
         ensures erased { IsTrue (F.chip flash.old).honest → OnOk result (IsErased (F.chip flash.old).now) }
         ensures unchanged { IsTrue (F.chip flash.old).honest → ¬ IsErased (F.chip flash.old).now → Stays (F.chip flash.old) (F.chip flash.new) }
-        ensures value { IfOk result (λ s. IsMeaningOf (provisioned (provisioning p.now)) s.persist) }
+        ensures value { IfOk result (λ s. (s.journal ≡ record { bank = 0; used = 3; closed = false }) × IsMeaningOf (provisioned (provisioning p.now)) s.persist) }
         ensures kept { IsFresh (F.chip flash.old) → IfOk result (λ s. IsStoreOf (F.chip flash.new) s (provisioned (provisioning p.now))) }
         ensures durable { IsFresh (F.chip flash.old) → OnOk result ((c : List ℕ) → (F.chip flash.new).images c → IsRecovered c (provisioned (provisioning p.now))) }
         ensures any_moment { IsFresh (F.chip flash.old) → IsErased (F.chip flash.old).now → LeavesOnly (F.chip flash.old) (F.chip flash.new) (IsMade (provisioned (provisioning p.now))) }

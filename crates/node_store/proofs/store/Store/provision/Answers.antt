@@ -12,7 +12,7 @@ pub returns-in_err-journal-clause-any_moment : goal.returns-in_err-journal-claus
 returns-in_err-journal-clause-any_moment g c fresh erased =
     let old = g.F.Flash.chip c.args.flash.now in
     let new = g.F.Flash.chip c.format.new.flash in
-    made_leaves old new (provisioned (provisioning c.args.p.now)) c.first_slots.ensures.ranges
+    made_leaves old new (provisioned (provisioning c.args.p.now)) c.first_slots.ensures.ranges (provisioned_order (provisioning c.args.p.now))
     (subst (λ (l : List Slot). LeavesOnly old new (IsFormatted l)) c.first_slots.ensures.value (c.in_err-journal.ensures.any_moment fresh erased))
 
 pub returns-clause-kept : goal.returns-clause-kept
@@ -38,5 +38,5 @@ pub returns-clause-any_moment : goal.returns-clause-any_moment
 returns-clause-any_moment g c fresh erased =
     let old = g.F.Flash.chip c.args.flash.now in
     let new = g.F.Flash.chip c.format.new.flash in
-    made_leaves old new (provisioned (provisioning c.args.p.now)) c.first_slots.ensures.ranges
+    made_leaves old new (provisioned (provisioning c.args.p.now)) c.first_slots.ensures.ranges (provisioned_order (provisioning c.args.p.now))
     (subst (λ (l : List Slot). LeavesOnly old new (IsFormatted l)) c.first_slots.ensures.value (c.in_ok-journal.ensures.any_moment fresh erased))
