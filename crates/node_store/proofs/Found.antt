@@ -83,7 +83,7 @@ not_damaged content bank n slots rest rs damaged front read =
     let here : gated (text_at content (1024 * bank + (damaged.before + 1))) ≡ Some damaged.slot = subst (λ (x : ℕ). gated (text_at content (1024 * bank + x)) ≡ Some damaged.slot) damaged.number damaged.gate in
     let upto : slots_to content bank n ≡ slots_to content bank damaged.before ++ damaged.slot ∷ [] = ap (slots_to content bank) damaged.number ∙ slots_next content bank damaged.before (Some damaged.slot) here in
     let texts : map record_text rs ≡ map record_text damaged.records ++ damaged.slot ∷ rest =
-        sym read.texts ∙ front ∙ ap (λ (l : List Slot). l ++ rest) (upto ∙ ap (λ (l : List Slot). l ++ damaged.slot ∷ []) damaged.read.texts) ∙ append_assoc (map record_text damaged.records) (damaged.slot ∷ []) rest in
+    sym read.texts ∙ front ∙ ap (λ (l : List Slot). l ++ rest) (upto ∙ ap (λ (l : List Slot). l ++ damaged.slot ∷ []) damaged.read.texts) ∙ append_assoc (map record_text damaged.records) (damaged.slot ∷ []) rest in
     let split = splits_at rs damaged.records damaged.slot rest read.ranges damaged.read.ranges texts in
     let follows : Follows damaged.records split.item = in_order_at [] damaged.records split.more split.item (subst (λ (l : List StoreRecord). AreInOrder [] l) split.whole read.order) in
     damaged.none split.item split.range split.text follows
@@ -102,9 +102,9 @@ damaged_once content bank n m a b =
     elim (cases n m) as (λ s. n ≡ m) [
       | inl below ↦ absurd (not_before content bank n m a b below)
       | inr other ↦ elim other as (λ s. n ≡ m) [
-          | inl below ↦ absurd (not_before content bank m n b a below)
-          | inr same ↦ same
-        ]
+        | inl below ↦ absurd (not_before content bank m n b a below)
+        | inr same ↦ same
+      ]
     ]
 
 same_bank : (content : List ℕ) (a b : ℕ) → counting content ≡ Some a → counting content ≡ Some b → a ≡ b

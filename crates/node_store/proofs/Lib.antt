@@ -4,6 +4,5 @@ pub mod Made
 pub mod Mounts
 pub mod Orders
 pub mod Puts
-pub mod Room
 pub mod Sizes
 pub mod Takes

@@ -1,7 +1,6 @@
 -- The records of provisioning.
 use Rattle.std.proofs.Common.{◌≡◌, ◌⊎◌, inl, inr, ⊎_elim, ◌↔◌, ℕ, ◌+◌, ◌*◌, ◌^◌, ◌%◌, ◌<◌, ◌≤◌, List, [], ◌∷◌, ◌++◌, length, Bool, true, false, Some, None, refl, ap, sym, subst, ◌∙◌, arith}
-use Rattle.std.specs.Prelude.{All, map, not, Result, Ok, Err, IsErr, IsOk, OnOk, IsTrue}
-use Rattle.std.proofs.lemmas.Bool.{le-ltb}
+use Rattle.std.specs.Prelude.{All, map, Result, Ok, Err, IsErr, IsOk, OnOk, IsTrue}
 use Rattle.flash_model.specs.Chip.{Chip, IsFresh, LeavesOnly}
 use Rattle.flash_model.proofs.Leaves.{leaves_weaker}
 use Rattle.layer_definitions.specs.Slots.{recovered}
@@ -57,7 +56,13 @@ module _ (p : Provisioning) where
 
   pub provisioned_order : AreInOrder [] (provisioned p)
   unfolding changed
-  provisioned_order = (record { within = refl; rises = refl }, (record { within = refl; rises = ap not (le-ltb p.iv 0 (omega arith)) }, (record { within = refl; rises = refl }, tt)))
+  provisioned_order = (
+    record { within = λ h. h; rises = tt },
+    (
+      record { within = λ h. h; rises = omega arith },
+      (record { within = λ h. absurd (omega arith); rises = tt }, tt),
+    ),
+  )
 
 -- what a cut leaves while they are written
 module _ (old new : Chip) (records : List StoreRecord) (ranges : All IsInRange records) (order : AreInOrder [] records) where

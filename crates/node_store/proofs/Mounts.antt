@@ -112,10 +112,11 @@ journal_stays mid new journal keeps stays tie = record {
 
 pub mount_kept : (old mid new : Chip) (journal : JournalView) (p : Persist) → Keeps mid new → Stays old mid → Stays mid new → IsJournalOf mid journal → IsMounted old.now (record { journal = journal; persist = p })
     → (records : List StoreRecord) × IsStoreOf new (record { journal = journal; persist = p }) records
-mount_kept old mid new journal p keeps first second tie mounted =
-    ( mounted.records,
-      record {
-        journal = journal_stays mid new journal keeps second tie;
-        read = subst (λ (c : List ℕ). IsRead c mounted.records) (sym (second.now ∙ first.now)) mounted.read;
-        meaning = mounted.meaning;
-      } )
+mount_kept old mid new journal p keeps first second tie mounted = (
+  mounted.records,
+  record {
+    journal = journal_stays mid new journal keeps second tie;
+    read = subst (λ (c : List ℕ). IsRead c mounted.records) (sym (second.now ∙ first.now)) mounted.read;
+    meaning = mounted.meaning;
+  },
+)

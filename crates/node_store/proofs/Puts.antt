@@ -9,7 +9,7 @@ use Rattle.layer_definitions.specs.Slots.{recovered}
 use Rattle.mesh_base.specs.declared.slot.Slot.{Slot}
 use Rattle.mesh_types.specs.declared.records.StoreRecord.{StoreRecord}
 use Rattle.node_records.specs.declared.persist.Persist.{Persist}
-use Rattle.node_records.specs.Full.{IsFull}
+use Rattle.node_records.specs.Full.{PassesLimit}
 use Rattle.node_records.specs.Meaning.{IsMeaningOf}
 use Rattle.run_definitions.specs.Config.{config_of}
 use Rattle.run_definitions.specs.Ranges.{IsInRange}
@@ -22,7 +22,7 @@ use Rattle.node_store.specs.Mounted.{IsRead}
 use Rattle.node_store.specs.Order.{AreInOrder, Follows}
 use Rattle.node_store.specs.Tie.{HasMark, HasMarkFrom, IsNoNumbers, IsNotBelow, IsPut, IsStoreOf}
 use Rattle.node_store.specs.View.{StoreView}
-use Rattle.node_store.proofs.Follows.{follows_of, mark_before, mark_from, mark_same, not_below_current}
+use Rattle.node_store.proofs.Follows.{mark_before, mark_from, mark_same, not_below_current, rises_of}
 use Rattle.node_store.proofs.Orders.{in_order_push}
 
 module _ (old : Chip) (store : StoreView) (records : List StoreRecord) (item : StoreRecord) (tie : IsStoreOf old store records) (range : IsInRange item) where
@@ -43,8 +43,8 @@ module _ (old : Chip) (store : StoreView) (records : List StoreRecord) (item : S
   }
 
   -- a record that is put may follow
-  pub put_follows : length store.persist.replay ≤ 64 → (IsFull store.persist item → ⊥) → IsNotBelow store.persist item → Follows records item
-  put_follows few full rises = follows_of records store.persist tie.meaning few item full (not_below_current store.persist item rises)
+  pub put_follows : (PassesLimit records item → ⊥) → IsNotBelow store.persist item → Follows records item
+  put_follows within rises = record { within = within; rises = rises_of records store.persist tie.meaning item (not_below_current store.persist item rises) }
 
   pub put_any_moment : Follows records item → (new : Chip) → LeavesOnly old new (IsAppended (recovered old.now) (record_text item)) → LeavesOnly old new (IsPut records item)
   put_any_moment follows new leaves = leaves_weaker old new (IsAppended (recovered old.now) (record_text item)) (IsPut records item) leaves (put_leaves follows)

@@ -102,9 +102,10 @@ module _ (element : Address) (model : ℕ) (address : Address) (rows : List (Add
       let rest = subs_without element model rows in
       let most : length rest ≤ length rows = filter_most (λ s. not (s.0.0 == element.0 && s.1 == model)) rows in
       let count : length rest ≡ other_count element model rows = length-filter (λ s. not (s.0.0 == element.0 && s.1 == model)) rows in
-      let long : length (rest ++ (element, model, address) ∷ []) ≡ length rest + 1 = length-append rest ((element, model, address) ∷ []) in
-      ( (λ h. let e : other_count element model rows ≡ 32 = eqb-true (other_count element model rows) 32 h in omega (arith, e, count, long)),
-        (λ h. eq-eqb (other_count element model rows) 32 (omega (arith, h, count, long, most, few))) )
+      let long : length (rest ++ (element, model, address) ∷ []) ≡ length rest + 1 = length-append rest ((element, model, address) ∷ []) in (
+        (λ h. let e : other_count element model rows ≡ 32 = eqb-true (other_count element model rows) 32 h in omega (arith, e, count, long)),
+        (λ h. eq-eqb (other_count element model rows) 32 (omega (arith, h, count, long, most, few))),
+      )
 
   subs_rest : (b1 b2 b3 b4 : Bool) (grown other none last : List (Address × ℕ × Address)) → b1 ≡ false → b4 ≡ false → length other ≤ 32 → length none ≤ 32
       → length (if b1 then grown else (if b2 then other else (if b3 then none else (if b4 then last else rows)))) ≤ 32
@@ -173,10 +174,11 @@ module _ (current src : ℕ) where
       λ i. (not (other.0 i) && not (here i)) && rest i
 
   pub replay_pass : (rows : List Name) → IsTrue (passes_replay current src rows) ↔ IsReplayFull current rows src
-  replay_pass rows =
-      ( (λ h. let whole = split_and (length rows == 64) (is_taken_up current src rows) h in
-            record { none = none_taken rows whole.1; held = eqb-true (length rows) 64 whole.0; live = all_live rows whole.1 }),
-        (λ full. λ i. eq-eqb (length rows) 64 full.held i && taken_up rows full.none full.live i) )
+  replay_pass rows = (
+    (λ h. let whole = split_and (length rows == 64) (is_taken_up current src rows) h in
+        record { none = none_taken rows whole.1; held = eqb-true (length rows) 64 whole.0; live = all_live rows whole.1 }),
+    (λ full. λ i. eq-eqb (length rows) 64 full.held i && taken_up rows full.none full.live i),
+  )
 
 -- The rows stand by index: those below the index are passed over.
 module _ (index : ℕ) where

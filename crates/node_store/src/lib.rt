@@ -17,6 +17,8 @@ mod limits;
 mod mounting;
 mod provision;
 mod store;
+#[cfg(test)]
+mod tests;
 
 pub use mounting::StoreFault;
 pub use node_records::Persist;

@@ -1,8 +1,10 @@
 // Whether the table that a record adds to has a place for it. A store asks before it writes.
-ghost use Rattle.std.specs.Prelude.{◌≡◌, ◌≤◌, ◌↔◌, Some, None, if◌then◌else◌, IsSome, IfSome, length};
+ghost use Rattle.std.specs.Prelude.{◌≡◌, ◌≤◌, ◌↔◌, List, Some, None, if◌then◌else◌, IsSome, IfSome, length};
 ghost use Rattle.std.specs.List.{list_any};
 ghost use Rattle.run_definitions.specs.Config.{is_bind, is_sub};
-ghost use Rattle.node_records.specs.Full.{IsFull, held_for};
+ghost use Rattle.node_records.specs.Full.{IsFull, PassesLimit, held_for};
+ghost use Rattle.node_records.specs.Meaning.{IsMeaningOf};
+ghost use Rattle.mesh_types.specs.declared.records.StoreRecord.{StoreRecord};
 ghost use Rattle.node_store.specs.Rows as table;
 
 use mesh_base::address::Address;
@@ -13,13 +15,27 @@ use node_records::Persist;
 
 /// Rows of each table at most.
 const NETS: usize = 4;
+
 const APPS: usize = 8;
+
 const BINDS: usize = 32;
+
 const SUBS: usize = 32;
+
 const REPLAY: usize = 64;
 
 /// The number of rows of the table that a record would add to, where it is full.
 pub fn limit(persist: &Persist, item: &StoreRecord) -> Option<u32>
+    ensures full { IsSome result ↔ IsFull persist.now item.now }
+    ensures held { IfSome result (λ held. held ≡ held_for persist.now item.now) }
+    ensures passes { (records : List StoreRecord) → IsMeaningOf records persist.now → IsSome result ↔ PassesLimit records item.now }
+{
+    rows_are_few(persist);
+    limit_of(persist, item)
+}
+
+/// The same, table by table.
+fn limit_of(persist: &Persist, item: &StoreRecord) -> Option<u32>
     ensures full { IsSome result ↔ IsFull persist.now item.now }
     ensures held { IfSome result (λ held. held ≡ held_for persist.now item.now) }
 {
@@ -73,7 +89,7 @@ fn held_where(full: bool, held: usize) -> Option<u32>
 }
 
 /// What the type of a replay list says of its length, as a clause that a proof can cite.
-pub fn rows_are_few(persist: &Persist)
+fn rows_are_few(persist: &Persist)
     ensures { length persist.now.replay ≤ 64 }
 {
     let _ = persist.replay.len();
@@ -134,8 +150,7 @@ fn passes_binds(
 fn has_bind(rows: &[(Address, u16, u16)], element: Address, model: u16, app: u16) -> bool
     ensures { result ≡ list_any (is_bind element model app) rows.now }
 {
-    rows.iter()
-        .any(|row| row.0.0 == element.0 && row.1 == model && row.2 == app)
+    rows.iter().any(|row| row.0.0 == element.0 && row.1 == model && row.2 == app)
 }
 
 /// Whether a Subscribe record would add a 33rd row. One that takes the place of all of its model adds to those of the others.
@@ -156,8 +171,7 @@ fn passes_subs(
 fn has_sub(rows: &[(Address, u16, Address)], element: Address, model: u16, address: Address) -> bool
     ensures { result ≡ list_any (is_sub element model address) rows.now }
 {
-    rows.iter()
-        .any(|row| row.0.0 == element.0 && row.1 == model && row.2.0 == address.0)
+    rows.iter().any(|row| row.0.0 == element.0 && row.1 == model && row.2.0 == address.0)
 }
 
 /// How many subscriptions are not of this model.
@@ -180,6 +194,5 @@ fn passes_replay(rows: &[Name], current: u32, src: u16) -> bool
 fn is_used_up(rows: &[Name], current: u32, src: u16) -> bool
     ensures { result ≡ table.is_taken_up current src rows.now }
 {
-    rows.iter()
-        .all(|row| row.src.0 != src && u64::from(row.pair.iv) + 1 >= u64::from(current))
+    rows.iter().all(|row| row.src.0 != src && u64::from(row.pair.iv) + 1 >= u64::from(current))
 }

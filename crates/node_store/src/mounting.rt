@@ -9,7 +9,6 @@ ghost use Rattle.node_store.specs.Causes.{IsFoundAs, IsNotFlash, IsReadCause, Is
 ghost use Rattle.node_store.specs.Mounted.{AreSaid, IsMounted, IsRefused, IsTaken};
 ghost use Rattle.node_store.specs.Tie.{IsStoreOf};
 
-use crate::limits::rows_are_few;
 use crate::store::Store;
 use flash_model::{Flash, FlashFailed};
 use mesh_base::slot::Slot;
@@ -136,7 +135,6 @@ fn take(persist: &mut Persist, n: u32, slot: &Slot) -> Result<(), StoreFault>
     if !rises(persist, &item) {
         return Err(damaged);
     }
-    rows_are_few(persist);
     match persist.apply(&item) {
         Ok(()) => Ok(()),
         Err(_) => Err(damaged),

@@ -4,12 +4,13 @@ ghost use Rattle.flash_model.specs.Chip.{Keeps, LeavesOnly};
 ghost use Rattle.mesh_types.specs.declared.records.StoreRecord.{StoreRecord};
 ghost use Rattle.node_records.specs.Meaning.{IsMeaningOf};
 ghost use Rattle.node_records.specs.Full.{IsFull, held_for};
-ghost use Rattle.run_definitions.specs.Config.{config_of};
+ghost use Rattle.node_records.specs.Tables.{config_in};
+ghost use Rattle.run_definitions.specs.Config.{changed};
 ghost use Rattle.run_definitions.specs.Ranges.{IsInRange};
 ghost use Rattle.run_definitions.specs.Recovered.{IsRecovered};
 ghost use Rattle.node_store.specs.Tie.{HasMark, HasMarkFrom, IsNoNumbers, IsNotBelow, IsPut, IsStoreOf};
 
-use crate::limits::{limit, rows_are_few};
+use crate::limits::limit;
 use flash_model::Flash;
 use mesh_types::records::StoreRecord;
 use node_records::{Persist, encode};
@@ -94,6 +95,7 @@ impl Store {
         ensures full { self.old.journal.closed ≡ false → ¬ IsFull self.old.persist item.now → self.old.journal.used ≡ 1023 → (result ≡ Err (PutFault.Full 1023)) × (self.new ≡ self.old) × (flash.new ≡ flash.old) }
         ensures cause { self.old.journal.closed ≡ false → ¬ IsFull self.old.persist item.now → self.old.journal.used < 1023 → OnErr result ((result ≡ Err PutFault.Flash) × (self.new ≡ record self.old { journal = record self.old.journal { closed = true } }) × ((F.chip flash.old).faults < (F.chip flash.new).faults)) }
         ensures ok { OnOk result (self.new.journal ≡ record self.old.journal { used = self.old.journal.used + 1 }) }
+        ensures change { OnOk result (config_in self.new.persist ≡ changed (config_in self.old.persist) item.now) }
         ensures value { OnOk result ((records : List StoreRecord) → IsMeaningOf records self.old.persist → IsMeaningOf (records ++ item.now ∷ []) self.new.persist) }
 
         // Of a store of this flash.
@@ -110,7 +112,6 @@ impl Store {
         if self.journal.is_closed() {
             return Err(PutFault::Closed);
         }
-        rows_are_few(&self.persist);
         if let Some(held) = limit(&self.persist, item) {
             return Err(PutFault::Limit { held });
         }

@@ -19,7 +19,7 @@ unwrap-requires-3 c =
     let one = applied c.apply.result _ _ c.apply.ensures.ok c.apply.ensures.limit (λ full. subst (λ (r : StoreRecord). IsFull c.new-persist.result r) c.identity.ensures.value full) in
     let two = applied c.apply-2.result _ _ c.apply-2.ensures.ok c.apply-2.ensures.limit (λ full. subst (λ (r : StoreRecord). IsFull c.apply.new.self r) c.numbers.ensures.value full) in
     let said : IsMeaningOf (first p ∷ second p ∷ []) c.apply-2.new.self = subst (λ (r : StoreRecord). IsMeaningOf (first p ∷ r ∷ []) c.apply-2.new.self) c.numbers.ensures.value
-        (subst (λ (r : StoreRecord). IsMeaningOf (r ∷ c.numbers.result ∷ []) c.apply-2.new.self) c.identity.ensures.value (two (c.identity.result ∷ []) (one [] c.new-persist.ensures.value))) in
+    (subst (λ (r : StoreRecord). IsMeaningOf (r ∷ c.numbers.result ∷ []) c.apply-2.new.self) c.identity.ensures.value (two (c.identity.result ∷ []) (one [] c.new-persist.ensures.value))) in
     applied_ok c.apply-3.result _ c.apply-3.ensures.limit (λ full. key_fits p c.apply-2.new.self said (subst (λ (r : StoreRecord). IsFull c.apply-2.new.self r) c.net_key.ensures.value full))
 
 pub returns : goal.returns
@@ -28,6 +28,6 @@ returns c =
     let one = applied c.apply.result _ _ c.apply.ensures.ok c.apply.ensures.limit (λ full. subst (λ (r : StoreRecord). IsFull c.new-persist.result r) c.identity.ensures.value full) in
     let two = applied c.apply-2.result _ _ c.apply-2.ensures.ok c.apply-2.ensures.limit (λ full. subst (λ (r : StoreRecord). IsFull c.apply.new.self r) c.numbers.ensures.value full) in
     let said : IsMeaningOf (first p ∷ second p ∷ []) c.apply-2.new.self = subst (λ (r : StoreRecord). IsMeaningOf (first p ∷ r ∷ []) c.apply-2.new.self) c.numbers.ensures.value
-        (subst (λ (r : StoreRecord). IsMeaningOf (r ∷ c.numbers.result ∷ []) c.apply-2.new.self) c.identity.ensures.value (two (c.identity.result ∷ []) (one [] c.new-persist.ensures.value))) in
+    (subst (λ (r : StoreRecord). IsMeaningOf (r ∷ c.numbers.result ∷ []) c.apply-2.new.self) c.identity.ensures.value (two (c.identity.result ∷ []) (one [] c.new-persist.ensures.value))) in
     let three = applied c.apply-3.result _ _ c.apply-3.ensures.ok c.apply-3.ensures.limit (λ full. key_fits p c.apply-2.new.self said (subst (λ (r : StoreRecord). IsFull c.apply-2.new.self r) c.net_key.ensures.value full)) in
     subst (λ (r : StoreRecord). IsMeaningOf (first p ∷ second p ∷ r ∷ []) c.apply-3.new.self) c.net_key.ensures.value (three (first p ∷ second p ∷ []) said)

@@ -1,8 +1,8 @@
-use Rattle.std.proofs.Common.{ℕ, ◌≤◌, length, List, [], ◌∷◌, ◌++◌, ◌≡◌, Option, sym, subst, ap, ◌∙◌, true≢false}
+use Rattle.std.proofs.Common.{ℕ, List, [], ◌∷◌, ◌++◌, ◌≡◌, Option, sym, subst, ap, ◌∙◌, true≢false}
 use Rattle.flash_model.specs.Chip.{LeavesOnly}
 use Rattle.layer_definitions.specs.Slots.{recovered}
 use Rattle.mesh_base.specs.declared.slot.Slot.{Slot}
-use Rattle.node_records.specs.Full.{IsFull}
+use Rattle.node_records.specs.Full.{IsFull, PassesLimit}
 use Rattle.slot_journal.specs.Tie.{IsAppended, with_last}
 use Rattle.node_store.specs.Tie.{IsNotBelow, IsPut, IsStoreOf}
 use Rattle.node_store.specs.View.{StoreView}
@@ -42,11 +42,10 @@ returns-in_err-append-clause-any_moment g c records tie =
     let new = g.F.Flash.chip c.append.new.flash in
     let inside : StoreView = record { journal = c.self.inside.journal; persist = c.self.inside.persist } in
     let here : IsStoreOf old inside records = subst (λ (v : StoreView). IsStoreOf old v records) (sym c.self.view_is) tie in
-    let few : length c.args.self.now.persist.replay ≤ 64 = subst (λ (v : StoreView). length v.persist.replay ≤ 64) c.self.view_is c.rows_are_few.ensures in
-    let full : IsFull c.args.self.now.persist c.args.item.now → ⊥ = λ f. true≢false (sym (c.in_default.ensures.full.1 (subst (λ (v : StoreView). IsFull v.persist c.args.item.now) (sym c.self.view_is) f))) in
-    let follows = put_follows old c.args.self.now records c.args.item.now tie c.requires.range few full c.requires.rises in
+    let within : PassesLimit records c.args.item.now → ⊥ = λ passes. true≢false (sym ((c.in_default.ensures.passes records here.meaning).1 passes)) in
+    let follows = put_follows old c.args.self.now records c.args.item.now tie c.requires.range within c.requires.rises in
     let leaves : LeavesOnly old new (IsPut records c.args.item.now) = put_any_moment old c.args.self.now records c.args.item.now tie c.requires.range follows new
-        (subst (λ (s : Slot). LeavesOnly old new (IsAppended (recovered old.now) s)) c.encode.ensures.value (c.in_err-append.ensures.any_moment here.journal)) in
+    (subst (λ (s : Slot). LeavesOnly old new (IsAppended (recovered old.now) s)) c.encode.ensures.value (c.in_err-append.ensures.any_moment here.journal)) in
     leaves
 
 pub returns-in_err-append-clause-mark : goal.returns-in_err-append-clause-mark
@@ -55,11 +54,10 @@ returns-in_err-append-clause-mark g c records tie =
     let new = g.F.Flash.chip c.append.new.flash in
     let inside : StoreView = record { journal = c.self.inside.journal; persist = c.self.inside.persist } in
     let here : IsStoreOf old inside records = subst (λ (v : StoreView). IsStoreOf old v records) (sym c.self.view_is) tie in
-    let few : length c.args.self.now.persist.replay ≤ 64 = subst (λ (v : StoreView). length v.persist.replay ≤ 64) c.self.view_is c.rows_are_few.ensures in
-    let full : IsFull c.args.self.now.persist c.args.item.now → ⊥ = λ f. true≢false (sym (c.in_default.ensures.full.1 (subst (λ (v : StoreView). IsFull v.persist c.args.item.now) (sym c.self.view_is) f))) in
-    let follows = put_follows old c.args.self.now records c.args.item.now tie c.requires.range few full c.requires.rises in
+    let within : PassesLimit records c.args.item.now → ⊥ = λ passes. true≢false (sym ((c.in_default.ensures.passes records here.meaning).1 passes)) in
+    let follows = put_follows old c.args.self.now records c.args.item.now tie c.requires.range within c.requires.rises in
     let leaves : LeavesOnly old new (IsPut records c.args.item.now) = put_any_moment old c.args.self.now records c.args.item.now tie c.requires.range follows new
-        (subst (λ (s : Slot). LeavesOnly old new (IsAppended (recovered old.now) s)) c.encode.ensures.value (c.in_err-append.ensures.any_moment here.journal)) in
+    (subst (λ (s : Slot). LeavesOnly old new (IsAppended (recovered old.now) s)) c.encode.ensures.value (c.in_err-append.ensures.any_moment here.journal)) in
     put_mark old c.args.self.now records c.args.item.now tie c.requires.range c.requires.rises new leaves
 
 pub returns-in_err-append-clause-same_mark : goal.returns-in_err-append-clause-same_mark
@@ -68,11 +66,10 @@ returns-in_err-append-clause-same_mark g c records tie none =
     let new = g.F.Flash.chip c.append.new.flash in
     let inside : StoreView = record { journal = c.self.inside.journal; persist = c.self.inside.persist } in
     let here : IsStoreOf old inside records = subst (λ (v : StoreView). IsStoreOf old v records) (sym c.self.view_is) tie in
-    let few : length c.args.self.now.persist.replay ≤ 64 = subst (λ (v : StoreView). length v.persist.replay ≤ 64) c.self.view_is c.rows_are_few.ensures in
-    let full : IsFull c.args.self.now.persist c.args.item.now → ⊥ = λ f. true≢false (sym (c.in_default.ensures.full.1 (subst (λ (v : StoreView). IsFull v.persist c.args.item.now) (sym c.self.view_is) f))) in
-    let follows = put_follows old c.args.self.now records c.args.item.now tie c.requires.range few full c.requires.rises in
+    let within : PassesLimit records c.args.item.now → ⊥ = λ passes. true≢false (sym ((c.in_default.ensures.passes records here.meaning).1 passes)) in
+    let follows = put_follows old c.args.self.now records c.args.item.now tie c.requires.range within c.requires.rises in
     let leaves : LeavesOnly old new (IsPut records c.args.item.now) = put_any_moment old c.args.self.now records c.args.item.now tie c.requires.range follows new
-        (subst (λ (s : Slot). LeavesOnly old new (IsAppended (recovered old.now) s)) c.encode.ensures.value (c.in_err-append.ensures.any_moment here.journal)) in
+    (subst (λ (s : Slot). LeavesOnly old new (IsAppended (recovered old.now) s)) c.encode.ensures.value (c.in_err-append.ensures.any_moment here.journal)) in
     put_same_mark old c.args.self.now records c.args.item.now tie c.requires.range none new leaves
 
 pub returns-clause-any_moment : goal.returns-clause-any_moment
@@ -81,11 +78,10 @@ returns-clause-any_moment g c records tie =
     let new = g.F.Flash.chip c.append.new.flash in
     let inside : StoreView = record { journal = c.self.inside.journal; persist = c.self.inside.persist } in
     let here : IsStoreOf old inside records = subst (λ (v : StoreView). IsStoreOf old v records) (sym c.self.view_is) tie in
-    let few : length c.args.self.now.persist.replay ≤ 64 = subst (λ (v : StoreView). length v.persist.replay ≤ 64) c.self.view_is c.rows_are_few.ensures in
-    let full : IsFull c.args.self.now.persist c.args.item.now → ⊥ = λ f. true≢false (sym (c.in_default.ensures.full.1 (subst (λ (v : StoreView). IsFull v.persist c.args.item.now) (sym c.self.view_is) f))) in
-    let follows = put_follows old c.args.self.now records c.args.item.now tie c.requires.range few full c.requires.rises in
+    let within : PassesLimit records c.args.item.now → ⊥ = λ passes. true≢false (sym ((c.in_default.ensures.passes records here.meaning).1 passes)) in
+    let follows = put_follows old c.args.self.now records c.args.item.now tie c.requires.range within c.requires.rises in
     let leaves : LeavesOnly old new (IsPut records c.args.item.now) = put_any_moment old c.args.self.now records c.args.item.now tie c.requires.range follows new
-        (subst (λ (s : Slot). LeavesOnly old new (IsAppended (recovered old.now) s)) c.encode.ensures.value (c.in_ok-append.ensures.any_moment here.journal)) in
+    (subst (λ (s : Slot). LeavesOnly old new (IsAppended (recovered old.now) s)) c.encode.ensures.value (c.in_ok-append.ensures.any_moment here.journal)) in
     leaves
 
 pub returns-clause-mark : goal.returns-clause-mark
@@ -94,11 +90,10 @@ returns-clause-mark g c records tie =
     let new = g.F.Flash.chip c.append.new.flash in
     let inside : StoreView = record { journal = c.self.inside.journal; persist = c.self.inside.persist } in
     let here : IsStoreOf old inside records = subst (λ (v : StoreView). IsStoreOf old v records) (sym c.self.view_is) tie in
-    let few : length c.args.self.now.persist.replay ≤ 64 = subst (λ (v : StoreView). length v.persist.replay ≤ 64) c.self.view_is c.rows_are_few.ensures in
-    let full : IsFull c.args.self.now.persist c.args.item.now → ⊥ = λ f. true≢false (sym (c.in_default.ensures.full.1 (subst (λ (v : StoreView). IsFull v.persist c.args.item.now) (sym c.self.view_is) f))) in
-    let follows = put_follows old c.args.self.now records c.args.item.now tie c.requires.range few full c.requires.rises in
+    let within : PassesLimit records c.args.item.now → ⊥ = λ passes. true≢false (sym ((c.in_default.ensures.passes records here.meaning).1 passes)) in
+    let follows = put_follows old c.args.self.now records c.args.item.now tie c.requires.range within c.requires.rises in
     let leaves : LeavesOnly old new (IsPut records c.args.item.now) = put_any_moment old c.args.self.now records c.args.item.now tie c.requires.range follows new
-        (subst (λ (s : Slot). LeavesOnly old new (IsAppended (recovered old.now) s)) c.encode.ensures.value (c.in_ok-append.ensures.any_moment here.journal)) in
+    (subst (λ (s : Slot). LeavesOnly old new (IsAppended (recovered old.now) s)) c.encode.ensures.value (c.in_ok-append.ensures.any_moment here.journal)) in
     put_mark old c.args.self.now records c.args.item.now tie c.requires.range c.requires.rises new leaves
 
 pub returns-clause-same_mark : goal.returns-clause-same_mark
@@ -107,11 +102,10 @@ returns-clause-same_mark g c records tie none =
     let new = g.F.Flash.chip c.append.new.flash in
     let inside : StoreView = record { journal = c.self.inside.journal; persist = c.self.inside.persist } in
     let here : IsStoreOf old inside records = subst (λ (v : StoreView). IsStoreOf old v records) (sym c.self.view_is) tie in
-    let few : length c.args.self.now.persist.replay ≤ 64 = subst (λ (v : StoreView). length v.persist.replay ≤ 64) c.self.view_is c.rows_are_few.ensures in
-    let full : IsFull c.args.self.now.persist c.args.item.now → ⊥ = λ f. true≢false (sym (c.in_default.ensures.full.1 (subst (λ (v : StoreView). IsFull v.persist c.args.item.now) (sym c.self.view_is) f))) in
-    let follows = put_follows old c.args.self.now records c.args.item.now tie c.requires.range few full c.requires.rises in
+    let within : PassesLimit records c.args.item.now → ⊥ = λ passes. true≢false (sym ((c.in_default.ensures.passes records here.meaning).1 passes)) in
+    let follows = put_follows old c.args.self.now records c.args.item.now tie c.requires.range within c.requires.rises in
     let leaves : LeavesOnly old new (IsPut records c.args.item.now) = put_any_moment old c.args.self.now records c.args.item.now tie c.requires.range follows new
-        (subst (λ (s : Slot). LeavesOnly old new (IsAppended (recovered old.now) s)) c.encode.ensures.value (c.in_ok-append.ensures.any_moment here.journal)) in
+    (subst (λ (s : Slot). LeavesOnly old new (IsAppended (recovered old.now) s)) c.encode.ensures.value (c.in_ok-append.ensures.any_moment here.journal)) in
     put_same_mark old c.args.self.now records c.args.item.now tie c.requires.range none new leaves
 
 pub returns-clause-kept : goal.returns-clause-kept
@@ -123,7 +117,8 @@ returns-clause-kept g c records tie =
     let full : IsFull inside.persist c.args.item.now → ⊥ = λ f. true≢false (sym (c.in_default.ensures.full.1 f)) in
     let rises : IsNotBelow inside.persist c.args.item.now = subst (λ (v : StoreView). IsNotBelow v.persist c.args.item.now) (sym c.self.view_is) c.requires.rises in
     let applied_to = applied c.apply.result _ _ c.apply.ensures.ok c.apply.ensures.limit full in
-    let follows = put_follows old inside records c.args.item.now here c.requires.range c.rows_are_few.ensures full rises in
+    let within : PassesLimit records c.args.item.now → ⊥ = λ passes. true≢false (sym ((c.in_default.ensures.passes records here.meaning).1 passes)) in
+    let follows = put_follows old inside records c.args.item.now here c.requires.range within rises in
     put_kept old inside records c.args.item.now here c.requires.range follows new (record { journal = c.append.new.self; persist = c.apply.new.self })
     (c.in_ok-append.ensures.durable here.journal ∙ ap (λ (s : Slot). with_last s (recovered old.now)) c.encode.ensures.value)
     (c.in_ok-append.ensures.kept here.journal) (applied_to records here.meaning)
