@@ -63,9 +63,17 @@ impl Model for Journal {
 impl Journal {
     /// How many slots are used, up to the last that has an octet other than ff.
     pub fn used(&self) -> u32
-        ensures { result ≡ self.now.used }
+        ensures value { result ≡ self.now.used }
+        ensures few { self.now.used ≤ 1023 }
     {
         self.used
+    }
+
+    /// Whether an earlier write failed.
+    pub fn is_closed(&self) -> bool
+        ensures { result ≡ self.now.closed }
+    {
+        self.closed
     }
 
     /// What slot `n` holds, from 1 to `used`. It is nothing where the slot's gate isn't 00: a cut left it torn.

@@ -1,5 +1,5 @@
 // A journal is found again on its flash.
-ghost use Rattle.std.specs.Prelude.{◌≡◌, ℕ, ◌<◌, ◌≤◌, Some, IsTrue, IsOk, IfOk, IfErr, OnErr};
+ghost use Rattle.std.specs.Prelude.{◌≡◌, ℕ, ◌<◌, ◌≤◌, false, Some, IsTrue, IsOk, IfOk, IfErr, OnErr};
 ghost use Rattle.flash_model.specs.Chip.{IsFresh, Keeps, Stays};
 ghost use Rattle.layer_definitions.specs.Slots.{slots_to, recovered};
 ghost use Rattle.slot_journal.specs.Headers.{IsTidy};
@@ -44,6 +44,7 @@ impl Journal {
         ensures stays { IsTrue (F.chip flash.old).honest → Stays (F.chip flash.old) (F.chip flash.new) }
 
         // of every flash, honest or not
+        ensures usable { IfOk result (λ j. j.closed ≡ false) }
         ensures sure { IsTrue (F.chip flash.old).sure → IfErr result (λ e. e ≡ NoMount.NoBank) }
         ensures same { Keeps (F.chip flash.old) (F.chip flash.new) }
     {

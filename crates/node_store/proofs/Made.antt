@@ -1,0 +1,82 @@
+-- The records of provisioning.
+use Rattle.std.proofs.Common.{◌≡◌, ◌⊎◌, inl, inr, ⊎_elim, ◌↔◌, ℕ, ◌+◌, ◌*◌, ◌^◌, ◌%◌, ◌<◌, ◌≤◌, List, [], ◌∷◌, ◌++◌, length, Bool, true, false, Some, None, refl, ap, sym, subst, ◌∙◌, arith}
+use Rattle.std.specs.Prelude.{All, map, Result, Ok, Err, IsErr, IsOk, OnOk, IsTrue}
+use Rattle.flash_model.specs.Chip.{Chip, IsFresh, LeavesOnly}
+use Rattle.flash_model.proofs.Leaves.{leaves_weaker}
+use Rattle.layer_definitions.specs.Slots.{recovered}
+use Rattle.mesh_base.specs.IvState.{transmit_of}
+use Rattle.mesh_base.specs.declared.iv_state.IvState.{IvState}
+use Rattle.mesh_base.specs.declared.keys.NetKeyRow.{NetKeyRow}
+use Rattle.mesh_base.specs.declared.slot.Slot.{Slot}
+use Rattle.mesh_types.specs.declared.records.StoreRecord.{StoreRecord}
+use Rattle.mesh_types.specs.declared.records.StoreRecord.TheVariants as R
+use Rattle.node_records.specs.declared.persist.Persist.{Persist}
+use Rattle.node_records.specs.Full.{IsFull}
+use Rattle.node_records.specs.Meaning.{IsMeaningOf}
+use Rattle.run_definitions.specs.Config.{Config, changed, config_of, nets_after}
+use Rattle.run_definitions.specs.Ranges.{IsInRange, IsMark}
+use Rattle.run_definitions.specs.Recovered.{record_text, IsRecovered}
+use Rattle.run_definitions.specs.RunOf.{Provisioning, first_state, provisioned}
+use Rattle.slot_journal.specs.Format.{IsFormatted}
+use Rattle.slot_journal.specs.Tie.{IsJournalOf}
+use Rattle.node_store.specs.Mounted.{IsRead}
+use Rattle.node_store.specs.Order.{AreInOrder, Follows}
+use Rattle.node_store.specs.Tie.{IsMade, IsStoreOf}
+use Rattle.node_store.specs.View.{StoreView}
+
+-- a record that passes no limit is applied
+module _ {E : Type 0} where
+  pub applied : (r : Result (Unit {0}) E) (P Full : Type 0) → OnOk r P → IsErr r ↔ Full → (Full → ⊥) → P
+  applied (Ok x) P Full ok limit not_full = ok
+  applied (Err e) P Full ok limit not_full = absurd (not_full (limit.0 refl))
+
+  pub applied_ok : (r : Result (Unit {0}) E) (Full : Type 0) → IsErr r ↔ Full → (Full → ⊥) → IsOk r
+  applied_ok (Ok x) Full limit not_full = refl
+  applied_ok (Err e) Full limit not_full = absurd (not_full (limit.0 refl))
+
+module _ (p : Provisioning) where
+  abbrev pub first : StoreRecord
+  first = R.Identity p.unicast p.elements p.dev_key
+
+  abbrev pub second : StoreRecord
+  second = R.Numbers p.iv p.in_progress (transmit_of (first_state p) * 2 ^ 25) 0 192
+
+  pub first_current : (q : Persist) → IsMeaningOf (first ∷ []) q → q.iv.current ≤ p.iv
+  unfolding changed
+  first_current q meaning = let e : q.iv.current ≡ 0 = ap (λ (c : Config). c.iv.current) meaning.config in omega arith
+
+  pub no_nets : (q : Persist) → IsMeaningOf (first ∷ second ∷ []) q → q.nets ≡ []
+  unfolding changed
+  no_nets q meaning = ap (λ (c : Config). c.nets) meaning.config
+
+  pub key_fits : (q : Persist) → IsMeaningOf (first ∷ second ∷ []) q → IsFull q (R.NetKey 1 p.net_index p.net_key) → ⊥
+  key_fits q meaning full =
+      let more : 4 < length (nets_after 1 p.net_index p.net_key []) = subst (λ (l : List NetKeyRow). 4 < length (nets_after 1 p.net_index p.net_key l)) (no_nets q meaning) full in
+      absurd (omega arith)
+
+  pub provisioned_order : AreInOrder [] (provisioned p)
+  unfolding changed
+  provisioned_order = (
+    record { within = λ h. h; rises = tt },
+    (
+      record { within = λ h. h; rises = omega arith },
+      (record { within = λ h. absurd (omega arith); rises = tt }, tt),
+    ),
+  )
+
+-- what a cut leaves while they are written
+module _ (old new : Chip) (records : List StoreRecord) (ranges : All IsInRange records) (order : AreInOrder [] records) where
+  pub made_leaves : LeavesOnly old new (IsFormatted (map record_text records)) → LeavesOnly old new (IsMade records)
+  made_leaves leaves = leaves_weaker old new (IsFormatted (map record_text records)) (IsMade records) leaves
+      (λ c made. record { tidy = made.tidy; either = ⊎_elim (λ h. inl h) (λ h. inr (record { held = record { texts = h; ranges = ranges }; order = order })) made.either })
+
+  pub made_read : recovered new.now ≡ Some (map record_text records) → IsRead new.now records
+  made_read is = record { held = record { texts = is; ranges = ranges }; order = order }
+
+-- the mark is a word of SEQ 0
+pub first_word : (s : IvState) (from transmit : ℕ) → from ≡ transmit → transmit ≡ transmit_of s → s.current < 2 ^ 32 → from * 33554432 % 18446744073709551616 ≡ transmit_of s * 2 ^ 25 + 0
+unfolding transmit_of
+first_word s from transmit a b c = omega arith
+
+pub first_mark : (s : IvState) (from transmit : ℕ) → from ≡ transmit → transmit ≡ transmit_of s → s.current < 2 ^ 32 → IsMark s (from * 33554432 % 18446744073709551616)
+first_mark s from transmit a b c = record { seq = 0; word = first_word s from transmit a b c; most = omega arith; block = refl }

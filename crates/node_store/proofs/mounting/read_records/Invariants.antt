@@ -1,0 +1,11 @@
+use Rattle.std.specs.Prelude.{IsTrue}
+use Rattle.flash_model.specs.Chip.{Keeps, Stays}
+use Rattle.node_store.specs.Mounted.{AreSaid}
+use Rattle.node_store.proofs.mounting.read_records.Given as goal
+
+abbrev pub invariant-loop-k : goal.invariant-loop-k
+invariant-loop-k g l = record {
+  keeps : Keeps (g.F.Flash.chip l.initial.flash) (g.F.Flash.chip l.flash);
+  stays : IsTrue (g.F.Flash.chip l.initial.flash).honest → Stays (g.F.Flash.chip l.initial.flash) (g.F.Flash.chip l.flash);
+  said : IsTrue (g.F.Flash.chip l.initial.flash).honest → AreSaid (g.F.Flash.chip l.initial.flash).now l.journal.bank l.k l.persist;
+}

@@ -1,0 +1,8 @@
+pub mod Causes
+pub mod Faults
+pub mod Mounted
+pub mod Order
+pub mod Provisioning
+pub mod Rows
+pub mod Tie
+pub mod View

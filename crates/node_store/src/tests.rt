@@ -1,0 +1,323 @@
+//! A node that is provisioned, its octets on the flash, what a cut leaves, and what mounting refuses.
+#![tactic(auto)]
+
+ghost use Rattle.std.specs.Prelude.{◌<◌, ◌≤◌, ◌^◌, length};
+ghost use Rattle.node_store.specs.Provisioning.{IsProvision};
+
+use super::*;
+use flash_model::{Bench, Flash, FlashFailed, MemFlash};
+use mesh_base::address::Address;
+use mesh_base::iv_state::IvState;
+use mesh_base::pair::{Name, Pair};
+use mesh_base::slot::Slot;
+use mesh_types::records::StoreRecord;
+use slot_journal::{FormatFault, Journal, NoMount};
+use std::alloc::Global;
+use std::test::Fail;
+
+const MASKS: [u8; 6] = [0x00, 0xff, 0xf0, 0x0f, 0x55, 0xaa];
+
+const NET_KEY: [u8; 16] = [
+    0x7d, 0xd7, 0x36, 0x4c, 0xd8, 0x42, 0xad, 0x18, 0xc1, 0x7c, 0x2b, 0x82, 0x0c, 0x84, 0xc3, 0xd6,
+];
+
+const DEV_KEY: [u8; 16] = [
+    0x9d, 0x6d, 0xd0, 0xe9, 0x6e, 0xb2, 0x5d, 0xc1, 0x9a, 0x40, 0xed, 0x99, 0x14, 0xf8, 0xf0, 0x3f,
+];
+
+// Kind f0, format 01, generation 1 and its complement, zeros, and the gate.
+const HEADER: [u8; 32] = [
+    0xf0, 0x01, 0, 0, 0, 1, 0xff, 0xff, 0xff, 0xfe, 0, 0, 0, 0, 0, 0, 0, 0, 0, 0, 0, 0, 0, 0, 0, 0,
+    0, 0, 0, 0, 0, 0,
+];
+
+// The known IV Index, Normal Operation, the mark, no hours, 192 hours since the last IV Index Recovery.
+const NUMBERS: [u8; 32] = [
+    0x02, 0x12, 0x34, 0x56, 0x78, 0, 0x00, 0x24, 0x68, 0xac, 0xf0, 0, 0, 0, 0, 0, 0x00, 0xc0, 0, 0,
+    0, 0, 0, 0, 0, 0, 0, 0, 0, 0, 0, 0,
+];
+
+// SRC, IV Index and SEQ of a message.
+const REPLAY: [u8; 32] = [
+    0x04, 0x00, 0x03, 0x12, 0x34, 0x56, 0x78, 0x31, 0x29, 0xab, 0, 0, 0, 0, 0, 0, 0, 0, 0, 0, 0, 0,
+    0, 0, 0, 0, 0, 0, 0, 0, 0, 0,
+];
+
+fn node() -> Provision
+    ensures { IsProvision result }
+{
+    Provision {
+        unicast: Address(0x1201),
+        elements: 1,
+        iv: 0x12345678,
+        flags: 0,
+        net_index: 0,
+        net_key: NET_KEY,
+        dev_key: DEV_KEY,
+    }
+}
+
+/// Puts the Replay record of a message.
+fn hear<F: Flash>(store: &mut Store, flash: &mut F, src: u16, seq: u32) -> Result<(), PutFault>
+    requires { seq < 2 ^ 24 }
+{
+    let name = Name {
+        src: Address(src),
+        pair: Pair {
+            iv: 0x12345678,
+            seq,
+        },
+    };
+    store.put(flash, &StoreRecord::Replay { name })
+}
+
+fn octets<F: Flash>(flash: &mut F, n: u32) -> Result<[u8; 32], FlashFailed>
+    requires { n < 2048 }
+{
+    let mut text = [0; 32];
+    flash.read(32 * n, &mut text)?;
+    Ok(text)
+}
+
+#[test]
+fn the_octets_of_a_node(rt: HostRuntime) -> Result<(), Fail> {
+    let mut flash = MemFlash::new(rt.alloc())?;
+    let mut store = Store::provision(&mut flash, &node())?;
+    assert_eq!(rt; flash.changes(), 8);
+    assert_eq!(rt; octets(&mut flash, 0)?, HEADER);
+    assert_eq!(rt; octets(&mut flash, 2)?, NUMBERS);
+    hear(&mut store, &mut flash, 0x0003, 0x3129ab)?;
+    assert_eq!(rt; flash.changes(), 10);
+    assert_eq!(rt; octets(&mut flash, 4)?, REPLAY);
+    assert_eq!(rt; store.used(), 4);
+    Ok(())
+}
+
+#[test]
+fn a_torn_put(rt: HostRuntime) -> Result<(), Fail> {
+    let mut flash = MemFlash::new(rt.alloc())?;
+    let mut store = Store::provision(&mut flash, &node())?;
+    flash.power_cycle();
+    flash.arm(0, 0xf0);
+    assert_eq!(rt;
+        hear(&mut store, &mut flash, 0x0003, 0x3129ab),
+        Err(PutFault::Flash)
+    );
+    assert_eq!(rt;
+        hear(&mut store, &mut flash, 0x0003, 0x3129ab),
+        Err(PutFault::Closed)
+    );
+    flash.power_cycle();
+    let torn = octets(&mut flash, 4)?;
+    assert_eq!(rt; torn[0], 0x0f);
+    assert_eq!(rt; torn[31], 0xff);
+    let mut found = Store::mount(&mut flash)?;
+    assert_eq!(rt; found.used(), 4);
+    assert!(rt; *found.persist() == *store.persist());
+    assert_eq!(rt; found.persist().unicast, Address(0x1201));
+    assert_eq!(rt; found.persist().elements, 1);
+    assert_eq!(rt; found.persist().dev_key, DEV_KEY);
+    assert_eq!(rt;
+        found.persist().iv,
+        IvState {
+            current: 0x12345678,
+            progress: false,
+            hours: 0,
+            since: 192,
+        }
+    );
+    assert_eq!(rt; found.persist().mark, 0x2468acf0000000);
+    assert_eq!(rt; found.persist().nets.len(), 1);
+    assert_eq!(rt; found.persist().replay.len(), 0);
+    hear(&mut found, &mut flash, 0x0003, 0x3129ab)?;
+    assert_eq!(rt; octets(&mut flash, 5)?, REPLAY);
+    Ok(())
+}
+
+#[test]
+fn no_node(rt: HostRuntime) -> Result<(), Fail> {
+    let mut flash = MemFlash::new(rt.alloc())?;
+    assert_eq!(rt; Journal::mount(&mut flash).err(), Some(NoMount::NoBank));
+    assert_eq!(rt; Store::mount(&mut flash).err(), Some(StoreFault::NoNode));
+    flash.program(5, &[0x00])?;
+    assert_eq!(rt;
+        Store::provision(&mut flash, &node()).err(),
+        Some(FormatFault::NotErased { at: 5 })
+    );
+    Ok(())
+}
+
+// Eight program calls. Only a whole last one, the header's gate, leaves a node.
+#[test]
+fn a_cut_while_a_node_is_provisioned(rt: HostRuntime) -> Result<(), Fail> {
+    for calls in 0..8 {
+        for mask in MASKS {
+            let mut flash = MemFlash::new(rt.alloc())?;
+            flash.arm(calls, mask);
+            assert_eq!(rt;
+                Store::provision(&mut flash, &node()).err(),
+                Some(FormatFault::Flash)
+            );
+            flash.power_cycle();
+            let found = Store::mount(&mut flash);
+            if calls == 7 && mask == 0xff {
+                assert_eq!(rt; found?.used(), 3);
+            } else {
+                assert_eq!(rt; found.err(), Some(StoreFault::NoNode));
+            }
+        }
+    }
+    Ok(())
+}
+
+// Two program calls. Only a whole second one leaves the record.
+#[test]
+fn a_cut_while_a_record_is_put(rt: HostRuntime) -> Result<(), Fail> {
+    for calls in 0..2 {
+        for mask in MASKS {
+            let mut flash = MemFlash::new(rt.alloc())?;
+            let mut store = Store::provision(&mut flash, &node())?;
+            flash.power_cycle();
+            flash.arm(calls, mask);
+            assert_eq!(rt;
+                hear(&mut store, &mut flash, 0x0003, 0x3129ab),
+                Err(PutFault::Flash)
+            );
+            flash.power_cycle();
+            let found = Store::mount(&mut flash)?;
+            let rows = if calls == 1 && mask == 0xff { 1 } else { 0 };
+            assert_eq!(rt; found.persist().replay.len(), rows);
+        }
+    }
+    Ok(())
+}
+
+#[test]
+fn a_full_replay_list_and_a_full_bank(rt: HostRuntime) -> Result<(), Fail> {
+    let mut flash = MemFlash::new(rt.alloc())?;
+    let mut store = Store::provision(&mut flash, &node())?;
+    for src in 0x0101..0x0141 {
+        hear(&mut store, &mut flash, src, 1)?;
+    }
+    assert_eq!(rt;
+        hear(&mut store, &mut flash, 0x0141, 1),
+        Err(PutFault::Limit { held: 64 })
+    );
+    for seq in 0..956 {
+        hear(&mut store, &mut flash, 0x0101, seq)?;
+    }
+    assert_eq!(rt; store.used(), 1023);
+    assert_eq!(rt;
+        hear(&mut store, &mut flash, 0x0141, 1),
+        Err(PutFault::Limit { held: 64 })
+    );
+    assert_eq!(rt;
+        hear(&mut store, &mut flash, 0x0101, 956),
+        Err(PutFault::Full { used: 1023 })
+    );
+    let found = Store::mount(&mut flash)?;
+    assert!(rt; *found.persist() == *store.persist());
+    Ok(())
+}
+
+/// A slot of a kind with these octets, and zeros.
+fn slot(kind: u8, front: &[u8]) -> Slot {
+    let mut body = [0; 30];
+    for (place, octet) in front.iter().enumerate() {
+        if place < 30 {
+            body[place] = *octet;
+        }
+    }
+    Slot { kind, body }
+}
+
+/// A Numbers record in Normal Operation whose mark has this SEQ.
+fn numbers(current: u32, seq: u16) -> Slot {
+    let [a, b, c, d] = current.to_be_bytes();
+    let mark = u64::from(current) * (1 << 25) + u64::from(seq);
+    let [e, f, g, h, i, j, k, l] = mark.to_be_bytes();
+    slot(2, &[a, b, c, d, 0, e, f, g, h, i, j, k, l])
+}
+
+fn net_key(index: u8) -> Slot {
+    slot(5, &[1, 0, index])
+}
+
+fn app_key(index: u8) -> Slot {
+    slot(6, &[1, 0, 0, 0, index])
+}
+
+fn bind(app: u8) -> Slot {
+    slot(7, &[1, 0x12, 0x01, 0x10, 0x00, 0, app])
+}
+
+fn subscribe(group: u8) -> Slot {
+    slot(8, &[1, 0x12, 0x01, 0x10, 0x00, 0xc0, group])
+}
+
+fn heard(src: u8) -> Slot {
+    slot(4, &[0x01, src, 0x12, 0x34, 0x56, 0x78, 0, 0, 1])
+}
+
+const RESET: Slot = Slot {
+    kind: 10,
+    body: [0; 30],
+};
+
+/// What a flash with these slots is refused as.
+fn refusal(alloc: Global, slots: &[Slot]) -> Result<Option<StoreFault>, Fail>
+    requires { length slots.now ≤ 512 }
+{
+    let mut flash = MemFlash::new(alloc)?;
+    Journal::format(&mut flash, slots)?;
+    Ok(Store::mount(&mut flash).err())
+}
+
+#[test]
+fn what_is_damaged(rt: HostRuntime) -> Result<(), Fail> {
+    let first = numbers(0x12345678, 0);
+    let unknown = slot(11, &[]);
+    let at = |slot| Some(StoreFault::Damaged { slot });
+    let cases = [
+        ([first, net_key(0), RESET], Some(StoreFault::WasReset)),
+        ([RESET, first, net_key(0)], Some(StoreFault::WasReset)),
+        ([first, unknown, RESET], at(2)),
+        ([RESET, first, unknown], at(3)),
+        ([unknown, unknown, first], at(1)),
+        ([first, slot(4, &[0, 3]), slot(5, &[6])], at(3)),
+        ([first, numbers(0x12345677, 0), first], at(2)),
+        ([first, numbers(0x12345679, 0), first], at(3)),
+        ([numbers(0x12345678, 256), first, first], None),
+        ([first, first, numbers(0x12345678, 255)], at(3)),
+    ];
+    for (slots, want) in cases {
+        assert_eq!(rt; refusal(rt.alloc(), &slots)?, want);
+    }
+    Ok(())
+}
+
+// The first record that passes a limit is the damaged one.
+#[test]
+fn what_passes_a_limit(rt: HostRuntime) -> Result<(), Fail> {
+    let at = |slot| Some(StoreFault::Damaged { slot });
+    let kinds = [
+        (net_key as fn(u8) -> Slot, 4),
+        (app_key, 8),
+        (bind, 32),
+        (subscribe, 32),
+        (heard, 64),
+    ];
+    for (kind, most) in kinds {
+        let mut slots = Vec::new(rt.alloc());
+        slots.push(numbers(0x12345678, 0))?;
+        for n in 0..most {
+            slots.push(kind(n))?;
+        }
+        assert!(rt; slots.len() <= 511);
+        assert_eq!(rt; refusal(rt.alloc(), &slots)?, None);
+        slots.push(kind(most))?;
+        assert!(rt; slots.len() <= 511);
+        assert_eq!(rt; refusal(rt.alloc(), &slots)?, at(u32::from(most) + 2));
+    }
+    Ok(())
+}
