@@ -19,7 +19,8 @@ fn list(transaction: u8, addresses: &[Address]) -> SubscriptionList {
     }
 }
 
-// Messages and their octets: the standard's samples (section 8.3) and octets put together by its tables.
+// Messages and their octets: a Segment Acknowledgment and a Friend Request of the standard's samples (section 8.3), and octets put together
+// by its tables.
 fn rows() -> [(ControlMsg, &'static [u8]); 15] {
     let five = [
         Address(0xc000),

@@ -69,8 +69,8 @@ const SHORT: Sample = Sample {
     upper: b"\x5a\x8b\xde\x6d\x91\x06\xea\x07\x8a",
 };
 
-// Messages 6, 16, 18, 23 and 24 of section 8.3 of the standard, and fields at the edges of their widths as another implementation seals
-// them.
+// Messages 6 and 18 of section 8.3 of the standard; then messages under a label, with a long TransMIC and at the edges of the widths, as
+// another implementation of AES-CCM seals them.
 const SAMPLES: [Sample; 7] = [
     Sample {
         key: DEVICE,
