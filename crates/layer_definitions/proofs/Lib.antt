@@ -1,3 +1,5 @@
 pub mod NetworkLaws
 pub mod OctetLaws
 pub mod UpperLaws
+pub mod OrderLaws
+pub mod KeyLaws

@@ -3,7 +3,7 @@
 use Rattle.std.specs.Prelude.{ℕ, ◌+◌, ◌==◌, Bool, true, false, if◌then◌else◌, List, [], ◌∷◌, Option, Some, None, unwrap_or, option_and_then, map, filter}
 use Rattle.std.specs.List.{flat_map, find}
 use Rattle.std.specs.Option.{option_map}
-use Rattle.cipher_definitions.specs.Kdf.{master_credentials, aid}
+use Rattle.cipher_definitions.specs.Kdf.{master_credentials, friendship_credentials, aid}
 use Rattle.layer_definitions.specs.Beacon.{BeaconSource, beacon_text}
 use Rattle.mesh_base.specs.declared.fields.Heard.{Heard}
 use Rattle.mesh_base.specs.declared.fields.NetMaterial.{NetMaterial}
@@ -15,9 +15,18 @@ use Rattle.mesh_base.specs.declared.keys.UpperKey.TheVariants.{App}
 
 -- Network keys.
 
+-- by what the rows of network keys are ordered
+abbrev pub net_index : NetKeyRow → ℕ
+net_index r = r.index
+
 -- the material of the master credentials of a network key (3.8.6.3.1)
 unfoldable pub master_material : List ℕ → NetMaterial
 master_material key = let k = master_credentials key in record { nid = k.nid; encryption = k.encryption; privacy = k.privacy }
+
+-- the material of the friendship credentials of a network key (3.8.6.3.1)
+unfoldable pub friendship_material : List ℕ → ℕ → ℕ → ℕ → ℕ → NetMaterial
+friendship_material key lpn friend lpn_counter friend_counter =
+    let k = friendship_credentials key lpn friend lpn_counter friend_counter in record { nid = k.nid; encryption = k.encryption; privacy = k.privacy }
 
 -- the master credentials of a key are heard
 abbrev pub heard_key : ℕ → Bool → List ℕ → Heard
@@ -53,6 +62,10 @@ abbrev pub own_beacon : IvState → NetKeyRow → List ℕ
 own_beacon s r = beacon_text (transmit_key r) ((if r.phase == 2 then 1 else 0) + (if s.progress then 2 else 0)) s.current
 
 -- Application keys.
+
+-- by what the rows of application keys are ordered
+abbrev pub app_index : AppKeyRow → ℕ
+app_index r = r.index
 
 abbrev pub app_key : ℕ → List ℕ → UpperKey
 app_key index key = App index (aid key) key

@@ -5,3 +5,4 @@ pub mod Lower
 pub mod Beacon
 pub mod KeyRefresh
 pub mod Slots
+pub mod Order

@@ -14,6 +14,7 @@
 //! - `outside`: the traits `Source` and `Sink`
 //! - `memory`: sources and sinks in memory, failing at chosen calls or never
 //! - `standard`: the source and the sink over std's readers and writers
+//! - `table`: a list of at most N items
 #![tactic(auto)]
 
 pub mod address;
@@ -28,6 +29,7 @@ pub mod outside;
 pub mod pair;
 pub mod slot;
 pub mod standard;
+pub mod table;
 #[cfg(test)]
 mod tests;
 pub mod upper;

@@ -3,10 +3,12 @@
 #![tactic(auto)]
 
 use crate::address::{Address, AddressKind};
+use crate::keys::UpperKey;
 use crate::memory::{MemSink, MemSource, SureSink, SureSource};
 use crate::octets::{Octets, TooMany};
 use crate::outside::{Failed, Sink, Source};
 use crate::standard::{StdSink, StdSource};
+use crate::table::Table;
 use std::io::{self, Read, Write};
 
 #[test]
@@ -35,6 +37,22 @@ fn octets_fill_up(rt: HostRuntime) {
     assert!(rt; octets.as_slice() == [1, 2, 3].as_slice());
     assert!(rt; Octets::<3>::of(&[1, 2, 3]) == Ok(octets.copied()));
     assert!(rt; Octets::<2>::of(&[1, 2, 3]).is_err());
+}
+
+#[test]
+fn tables_fill_up(rt: HostRuntime) {
+    let mut table: Table<UpperKey, 2> = Table::default();
+    assert!(rt; table.is_empty());
+    let keys = [1, 2, 3].map(|octet| UpperKey::Device([octet; 16]));
+    assert!(rt; table.push(keys[0]) == Ok(()));
+    assert!(rt; table.push(keys[1]) == Ok(()));
+    assert!(rt; table.push(keys[2]) == Err(TooMany));
+    assert!(rt; table.as_slice() == &keys[..2]);
+    table.set(1, keys[2]);
+    table.remove(0);
+    assert!(rt; table.len() == 1);
+    assert!(rt; table.copied() == table);
+    assert!(rt; table.as_slice() == &keys[2..]);
 }
 
 #[test]

@@ -6,8 +6,8 @@ use Rattle.std.specs.Option.{option_or}
 use Rattle.mesh_base.specs.declared.beacon.Beacon.{Beacon}
 use Rattle.mesh_base.specs.declared.keys.NetKeyRow.{NetKeyRow}
 use Rattle.layer_definitions.specs.Beacon.{BeaconSource, ReadsBeacon, ReadsBeaconUnder, beacon_of}
-use Rattle.layer_definitions.specs.KeyRefresh.{beacon_keys, keys_of}
-use Rattle.net_beacon.specs.Order.{put_row, IsByIndexFrom, IsByIndex}
+use Rattle.layer_definitions.specs.KeyRefresh.{beacon_keys, keys_of, net_index}
+use Rattle.layer_definitions.specs.Order.{put_row, IsByIndexFrom, IsByIndex}
 use Rattle.net_beacon.specs.Reading.{IsAnswer, IsUnread}
 
 -- this key reads the octets as this beacon
@@ -121,59 +121,59 @@ row_index r o b h = keys_index r.index r.key r.next o b h
 
 -- What a row put in changes.
 
-put_unread : (r : NetKeyRow) (s : List NetKeyRow) (o : List ℕ) (b : Beacon) → Nothing (row_keys r) o → First (beacon_keys s) o b → First (beacon_keys (put_row r s)) o b
+put_unread : (r : NetKeyRow) (s : List NetKeyRow) (o : List ℕ) (b : Beacon) → Nothing (row_keys r) o → First (beacon_keys s) o b → First (beacon_keys (put_row net_index r s)) o b
 unfolding put_row
 put_unread r [] o b n h = absurd h
 put_unread r (x ∷ xs) o b n h = either (λ a. put_unread r xs o b n a) (nat_lt r.index x.index)
   where
-    behind : (First (beacon_keys xs) o b → First (beacon_keys (put_row r xs)) o b) → Split (row_keys x) (beacon_keys xs) o b → First (beacon_keys (x ∷ put_row r xs)) o b
-    behind next (inl a) = rw (one_row x (put_row r xs)) (first_front (row_keys x) _ o b a)
-    behind next (inr (m, a)) = rw (one_row x (put_row r xs)) (first_back (row_keys x) _ o b m (next a))
+    behind : (First (beacon_keys xs) o b → First (beacon_keys (put_row net_index r xs)) o b) → Split (row_keys x) (beacon_keys xs) o b → First (beacon_keys (x ∷ put_row net_index r xs)) o b
+    behind next (inl a) = rw (one_row x (put_row net_index r xs)) (first_front (row_keys x) _ o b a)
+    behind next (inr (m, a)) = rw (one_row x (put_row net_index r xs)) (first_back (row_keys x) _ o b m (next a))
 
-    either : (First (beacon_keys xs) o b → First (beacon_keys (put_row r xs)) o b) → (t : Bool) → First (beacon_keys (if t then r ∷ x ∷ xs else x ∷ put_row r xs)) o b
+    either : (First (beacon_keys xs) o b → First (beacon_keys (put_row net_index r xs)) o b) → (t : Bool) → First (beacon_keys (if t then r ∷ x ∷ xs else x ∷ put_row net_index r xs)) o b
     either next true = rw (one_row r (x ∷ xs)) (first_back (row_keys r) _ o b n h)
     either next false = behind next (first_split (row_keys x) (beacon_keys xs) o b (subst (λ l. First l o b) (one_row x xs) h))
 
-put_nothing : (r : NetKeyRow) (s : List NetKeyRow) (o : List ℕ) → Nothing (row_keys r) o → Nothing (beacon_keys s) o → Nothing (beacon_keys (put_row r s)) o
+put_nothing : (r : NetKeyRow) (s : List NetKeyRow) (o : List ℕ) → Nothing (row_keys r) o → Nothing (beacon_keys s) o → Nothing (beacon_keys (put_row net_index r s)) o
 unfolding put_row
 put_nothing r [] o n h = rw (one_row r []) (nothing_both (row_keys r) [] o n tt)
 put_nothing r (x ∷ xs) o n h = either (λ a. put_nothing r xs o n a) (nat_lt r.index x.index)
   where
-    behind : (Nothing (beacon_keys xs) o → Nothing (beacon_keys (put_row r xs)) o) → Nothing (row_keys x) o × Nothing (beacon_keys xs) o → Nothing (beacon_keys (x ∷ put_row r xs)) o
-    behind next (m, a) = rw (one_row x (put_row r xs)) (nothing_both (row_keys x) _ o m (next a))
+    behind : (Nothing (beacon_keys xs) o → Nothing (beacon_keys (put_row net_index r xs)) o) → Nothing (row_keys x) o × Nothing (beacon_keys xs) o → Nothing (beacon_keys (x ∷ put_row net_index r xs)) o
+    behind next (m, a) = rw (one_row x (put_row net_index r xs)) (nothing_both (row_keys x) _ o m (next a))
 
-    either : (Nothing (beacon_keys xs) o → Nothing (beacon_keys (put_row r xs)) o) → (t : Bool) → Nothing (beacon_keys (if t then r ∷ x ∷ xs else x ∷ put_row r xs)) o
+    either : (Nothing (beacon_keys xs) o → Nothing (beacon_keys (put_row net_index r xs)) o) → (t : Bool) → Nothing (beacon_keys (if t then r ∷ x ∷ xs else x ∷ put_row net_index r xs)) o
     either next true = rw (one_row r (x ∷ xs)) (nothing_both (row_keys r) _ o n h)
     either next false = behind next (nothing_back (row_keys x) (beacon_keys xs) o (subst (λ l. Nothing l o) (one_row x xs) h))
 
-put_only : (r : NetKeyRow) (s : List NetKeyRow) (o : List ℕ) (b : Beacon) → First (row_keys r) o b → Nothing (beacon_keys s) o → First (beacon_keys (put_row r s)) o b
+put_only : (r : NetKeyRow) (s : List NetKeyRow) (o : List ℕ) (b : Beacon) → First (row_keys r) o b → Nothing (beacon_keys s) o → First (beacon_keys (put_row net_index r s)) o b
 unfolding put_row
 put_only r [] o b f h = rw (one_row r []) (first_front (row_keys r) [] o b f)
 put_only r (x ∷ xs) o b f h = either (λ a. put_only r xs o b f a) (nat_lt r.index x.index)
   where
-    behind : (Nothing (beacon_keys xs) o → First (beacon_keys (put_row r xs)) o b) → Nothing (row_keys x) o × Nothing (beacon_keys xs) o → First (beacon_keys (x ∷ put_row r xs)) o b
-    behind next (m, a) = rw (one_row x (put_row r xs)) (first_back (row_keys x) _ o b m (next a))
+    behind : (Nothing (beacon_keys xs) o → First (beacon_keys (put_row net_index r xs)) o b) → Nothing (row_keys x) o × Nothing (beacon_keys xs) o → First (beacon_keys (x ∷ put_row net_index r xs)) o b
+    behind next (m, a) = rw (one_row x (put_row net_index r xs)) (first_back (row_keys x) _ o b m (next a))
 
-    either : (Nothing (beacon_keys xs) o → First (beacon_keys (put_row r xs)) o b) → (t : Bool) → First (beacon_keys (if t then r ∷ x ∷ xs else x ∷ put_row r xs)) o b
+    either : (Nothing (beacon_keys xs) o → First (beacon_keys (put_row net_index r xs)) o b) → (t : Bool) → First (beacon_keys (if t then r ∷ x ∷ xs else x ∷ put_row net_index r xs)) o b
     either next true = rw (one_row r (x ∷ xs)) (first_front (row_keys r) _ o b f)
     either next false = behind next (nothing_back (row_keys x) (beacon_keys xs) o (subst (λ l. Nothing l o) (one_row x xs) h))
 
 -- a row of a smaller index than that of the answer is tried before it
 put_before : (r : NetKeyRow) (s : List NetKeyRow) (o : List ℕ) (b c : Beacon) → First (row_keys r) o b → First (beacon_keys s) o c → r.index < c.index
-    → First (beacon_keys (put_row r s)) o b
+    → First (beacon_keys (put_row net_index r s)) o b
 unfolding put_row
 put_before r [] o b c f h l = absurd h
 put_before r (x ∷ xs) o b c f h l = either (λ a. put_before r xs o b c f a l) (nat_lt r.index x.index) refl
   where
-    behind : (First (beacon_keys xs) o c → First (beacon_keys (put_row r xs)) o b) → nat_lt r.index x.index ≡ false → Split (row_keys x) (beacon_keys xs) o c → First (beacon_keys (x ∷ put_row r xs)) o b
+    behind : (First (beacon_keys xs) o c → First (beacon_keys (put_row net_index r xs)) o b) → nat_lt r.index x.index ≡ false → Split (row_keys x) (beacon_keys xs) o c → First (beacon_keys (x ∷ put_row net_index r xs)) o b
     behind next e (inl a) = absurd (let i = row_index x o c a in grind (arith, nat_tests))
-    behind next e (inr (m, a)) = rw (one_row x (put_row r xs)) (first_back (row_keys x) _ o b m (next a))
+    behind next e (inr (m, a)) = rw (one_row x (put_row net_index r xs)) (first_back (row_keys x) _ o b m (next a))
 
-    either : (First (beacon_keys xs) o c → First (beacon_keys (put_row r xs)) o b) → (t : Bool) → nat_lt r.index x.index ≡ t → First (beacon_keys (if t then r ∷ x ∷ xs else x ∷ put_row r xs)) o b
+    either : (First (beacon_keys xs) o c → First (beacon_keys (put_row net_index r xs)) o b) → (t : Bool) → nat_lt r.index x.index ≡ t → First (beacon_keys (if t then r ∷ x ∷ xs else x ∷ put_row net_index r xs)) o b
     either next true e = rw (one_row r (x ∷ xs)) (first_front (row_keys r) _ o b f)
     either next false e = behind next e (first_split (row_keys x) (beacon_keys xs) o c (subst (λ l. First l o c) (one_row x xs) h))
 
-index_least : (n : ℕ) (s : List NetKeyRow) (o : List ℕ) (c : Beacon) → IsByIndexFrom n s → First (beacon_keys s) o c → n ≤ c.index
+index_least : (n : ℕ) (s : List NetKeyRow) (o : List ℕ) (c : Beacon) → IsByIndexFrom net_index n s → First (beacon_keys s) o c → n ≤ c.index
 unfolding IsByIndexFrom
 index_least n [] o c i h = absurd h
 index_least n (x ∷ xs) o c (l, i) h = parts (λ a. index_least x.index xs o c i a) (first_split (row_keys x) (beacon_keys xs) o c (subst (λ l. First l o c) (one_row x xs) h))
@@ -183,39 +183,27 @@ index_least n (x ∷ xs) o c (l, i) h = parts (λ a. index_least x.index xs o c 
     parts next (inr (m, a)) = omega (arith, l, next a)
 
 -- a row of no smaller index is tried behind it
-put_behind : (n : ℕ) (r : NetKeyRow) (s : List NetKeyRow) (o : List ℕ) (c : Beacon) → IsByIndexFrom n s → First (beacon_keys s) o c → c.index ≤ r.index
-    → First (beacon_keys (put_row r s)) o c
+put_behind : (n : ℕ) (r : NetKeyRow) (s : List NetKeyRow) (o : List ℕ) (c : Beacon) → IsByIndexFrom net_index n s → First (beacon_keys s) o c → c.index ≤ r.index
+    → First (beacon_keys (put_row net_index r s)) o c
 unfolding put_row IsByIndexFrom
 put_behind n r [] o c i h l = absurd h
 put_behind n r (x ∷ xs) o c (m, i) h l = either (λ a. put_behind x.index r xs o c i a l) (nat_lt r.index x.index) refl
   where
-    behind : (First (beacon_keys xs) o c → First (beacon_keys (put_row r xs)) o c) → Split (row_keys x) (beacon_keys xs) o c → First (beacon_keys (x ∷ put_row r xs)) o c
-    behind next (inl a) = rw (one_row x (put_row r xs)) (first_front (row_keys x) _ o c a)
-    behind next (inr (u, a)) = rw (one_row x (put_row r xs)) (first_back (row_keys x) _ o c u (next a))
+    behind : (First (beacon_keys xs) o c → First (beacon_keys (put_row net_index r xs)) o c) → Split (row_keys x) (beacon_keys xs) o c → First (beacon_keys (x ∷ put_row net_index r xs)) o c
+    behind next (inl a) = rw (one_row x (put_row net_index r xs)) (first_front (row_keys x) _ o c a)
+    behind next (inr (u, a)) = rw (one_row x (put_row net_index r xs)) (first_back (row_keys x) _ o c u (next a))
 
     least : x.index ≤ c.index
     least = index_least x.index (x ∷ xs) o c (omega arith, i) h
 
-    either : (First (beacon_keys xs) o c → First (beacon_keys (put_row r xs)) o c) → (t : Bool) → nat_lt r.index x.index ≡ t → First (beacon_keys (if t then r ∷ x ∷ xs else x ∷ put_row r xs)) o c
+    either : (First (beacon_keys xs) o c → First (beacon_keys (put_row net_index r xs)) o c) → (t : Bool) → nat_lt r.index x.index ≡ t → First (beacon_keys (if t then r ∷ x ∷ xs else x ∷ put_row net_index r xs)) o c
     either next true e = absurd (let k = least in grind (arith, nat_tests))
     either next false e = behind next (first_split (row_keys x) (beacon_keys xs) o c (subst (λ l. First l o c) (one_row x xs) h))
 
-put_in_order : (n : ℕ) (r : NetKeyRow) (s : List NetKeyRow) → n ≤ r.index → IsByIndexFrom n s → IsByIndexFrom n (put_row r s)
-unfolding put_row IsByIndexFrom
-put_in_order n r [] l i = (l, tt)
-put_in_order n r (x ∷ xs) l (m, i) = either (λ k. put_in_order x.index r xs k i) (nat_lt r.index x.index) refl
-  where
-    either : (x.index ≤ r.index → IsByIndexFrom x.index (put_row r xs)) → (t : Bool) → nat_lt r.index x.index ≡ t → IsByIndexFrom n (if t then r ∷ x ∷ xs else x ∷ put_row r xs)
-    either next true e = (l, (grind (arith, nat_tests), i))
-    either next false e = (m, next (grind (arith, nat_tests)))
-
-pub stays_by_index : (r : NetKeyRow) (s : List NetKeyRow) → IsByIndex s → IsByIndex (put_row r s)
-stays_by_index r s i = put_in_order 0 r s (omega arith) i
-
 -- The answer for rows and one more.
 
-pub stays : (r : NetKeyRow) (s : List NetKeyRow) (o : List ℕ) (c : Beacon) → IsByIndex s → c.index ≤ r.index → ReadsBeacon (beacon_keys s) o c
-    → ReadsBeacon (beacon_keys (put_row r s)) o c
+pub stays : (r : NetKeyRow) (s : List NetKeyRow) (o : List ℕ) (c : Beacon) → IsByIndex net_index s → c.index ≤ r.index → ReadsBeacon (beacon_keys s) o c
+    → ReadsBeacon (beacon_keys (put_row net_index r s)) o c
 stays r s o c i l h = reading_of_first _ o c (put_behind 0 r s o c i (first_of_reading _ o c h) l)
 
 -- the answer so far, if there is one, is of a row behind this one
@@ -224,7 +212,7 @@ IsBehind r None = ⊤
 IsBehind r (Some c) = r.index < c.index
 
 pub changes : (r : NetKeyRow) (s : List NetKeyRow) (o : List ℕ) (mine old : Option Beacon) → IsBehind r old → IsAnswer (row_keys r) o mine → IsAnswer (beacon_keys s) o old
-    → IsAnswer (beacon_keys (put_row r s)) o (option_or mine old)
+    → IsAnswer (beacon_keys (put_row net_index r s)) o (option_or mine old)
 changes r s o None None l u h = unread_of _ o (put_nothing r s o (nothing_of _ o u) (nothing_of _ o h))
 changes r s o None (Some c) l u h = reading_of_first _ o c (put_unread r s o c (nothing_of _ o u) (first_of_reading _ o c h))
 changes r s o (Some b) None l u h = reading_of_first _ o b (put_only r s o b (first_of_reading _ o b u) (nothing_of _ o h))

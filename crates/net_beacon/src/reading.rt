@@ -4,8 +4,8 @@
 ghost use Rattle.std.specs.Prelude.{◌≡◌, ℕ, ◌<◌, ◌^◌, ◌↔◌, List, [], ◌∷◌, length, IsErr, IsNone, IfOk, IfSome};
 ghost use Rattle.mesh_base.specs.declared.keys.NetKeyRow.{NetKeyRow};
 ghost use Rattle.layer_definitions.specs.Beacon.{beacon_text, ReadsBeacon, ReadsBeaconUnder};
-ghost use Rattle.layer_definitions.specs.KeyRefresh.{beacon_keys};
-ghost use Rattle.net_beacon.specs.Order.{by_index, IsByIndex, put_row};
+ghost use Rattle.layer_definitions.specs.KeyRefresh.{beacon_keys, net_index};
+ghost use Rattle.layer_definitions.specs.Order.{by_index, IsByIndex, put_row};
 ghost use Rattle.net_beacon.specs.Reading.{IsAnswer, IsUnread};
 
 use crate::writing::write;
@@ -62,7 +62,7 @@ fn read_row(row: &NetKeyRow, bytes: &[u8]) -> Option<Beacon>
 
 /// The answer for some rows and for one behind them, from the answer for these rows.
 fn with_row(answer: Option<Beacon>, row: &NetKeyRow, bytes: &[u8]) -> Option<Beacon>
-    ensures { (rows : List NetKeyRow) → IsByIndex rows → IsAnswer (beacon_keys rows) bytes.now answer → IsAnswer (beacon_keys (put_row row.now rows)) bytes.now result }
+    ensures { (rows : List NetKeyRow) → IsByIndex net_index rows → IsAnswer (beacon_keys rows) bytes.now answer → IsAnswer (beacon_keys (put_row net_index row.now rows)) bytes.now result }
 {
     match answer {
         Some(first) if first.index <= row.index => answer,
@@ -74,8 +74,8 @@ fn with_row(answer: Option<Beacon>, row: &NetKeyRow, bytes: &[u8]) -> Option<Bea
 /// by index of its row, of rows with one index by their order, and of a row the old key before the new one. `Unread` comes
 /// exactly where no key has a beacon with these octets.
 pub fn read(rows: &[NetKeyRow], bytes: &[u8]) -> Result<Beacon, Unread>
-    ensures ok { IfOk result (ReadsBeacon (beacon_keys (by_index rows.now)) bytes.now) }
-    ensures unread { IsErr result ↔ IsUnread (beacon_keys (by_index rows.now)) bytes.now }
+    ensures ok { IfOk result (ReadsBeacon (beacon_keys (by_index net_index rows.now)) bytes.now) }
+    ensures unread { IsErr result ↔ IsUnread (beacon_keys (by_index net_index rows.now)) bytes.now }
 {
     let mut answer = None;
     for row in rows {
@@ -89,5 +89,5 @@ pub fn read(rows: &[NetKeyRow], bytes: &[u8]) -> Result<Beacon, Unread>
 pub fn beacon_law()
     ensures one { (key octets : List ℕ) (f g iv other : ℕ) → ReadsBeaconUnder key octets f iv → ReadsBeaconUnder key octets g other → (f ≡ g) × (iv ≡ other) }
     ensures itself { (key : List ℕ) (flags iv : ℕ) → flags < 2 ^ 8 → iv < 2 ^ 32 → ReadsBeaconUnder key (beacon_text key flags iv) flags iv }
-    ensures order { (rows : List NetKeyRow) → IsByIndex rows → by_index rows ≡ rows }
+    ensures order { (rows : List NetKeyRow) → IsByIndex net_index rows → by_index net_index rows ≡ rows }
 {}

@@ -1,0 +1,17 @@
+//! The network keys of a node (Mesh Profile 1.0.1, sections 3.8.6.3 and 3.10.4): under which material network PDUs may be heard
+//! and are sent. The material is derived once, when the keys are given, and not for each PDU.
+//!
+//! - `keys`: the keys by index, and what is heard and sent under them
+//! - `held`: a key with its material
+//! - `credentials`: the material of master and friendship credentials
+#![tactic(auto)]
+
+mod credentials;
+mod held;
+mod keys;
+
+pub use credentials::friendship;
+pub use keys::NetKeys;
+
+#[cfg(test)]
+mod tests;

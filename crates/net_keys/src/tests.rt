@@ -1,0 +1,2 @@
+//! Samples of the standard.
+#![tactic(auto)]
