@@ -1,3 +1,4 @@
+pub mod ControlLaws
 pub mod NetworkLaws
 pub mod OctetLaws
 pub mod UpperLaws

@@ -3,6 +3,7 @@ pub mod Upper
 pub mod IvIndex
 pub mod Lower
 pub mod Beacon
+pub mod Control
 pub mod KeyRefresh
 pub mod Slots
 pub mod Order

@@ -48,3 +48,7 @@ pub record Opens (keys : List UpperKey) (f : UpperFields) (upper : List ℕ) (pl
   pub key_is : slice_get keys place ≡ Some key
   pub opens : OpensUnder key f upper payload
   pub first : (k : ℕ) (earlier : UpperKey) (other : List ℕ) → k < place → slice_get keys k ≡ Some earlier → OpensUnder earlier f upper other → ⊥
+
+-- Under no key of the list do the octets open to anything.
+abbrev pub IsUnopened : List UpperKey → UpperFields → List ℕ → Type 0
+IsUnopened keys f upper = (k : ℕ) (key : UpperKey) (payload : List ℕ) → slice_get keys k ≡ Some key → OpensUnder key f upper payload → ⊥

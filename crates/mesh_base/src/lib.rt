@@ -2,6 +2,7 @@
 //! from (`Source`) and where they go (`Sink`).
 //!
 //! - `address`: a 16-bit address and its kind
+//! - `address_list`: the addresses that one control message has room for
 //! - `octets`: a list of at most N octets
 //! - `pair`: an IV Index with a SEQ, and the name of a message
 //! - `fields`: the fields of a network PDU, and the material that seals it
@@ -9,6 +10,7 @@
 //! - `iv_state`: the state of the IV Index and the steps that it takes
 //! - `lower`: the four kinds of lower transport PDU
 //! - `beacon`: what a Secure Network beacon says
+//! - `control`: the control messages of the transport layers
 //! - `upper`: what seals an access message besides its key
 //! - `slot`: one record of the flash
 //! - `outside`: the traits `Source` and `Sink`
@@ -18,7 +20,9 @@
 #![tactic(auto)]
 
 pub mod address;
+pub mod address_list;
 pub mod beacon;
+pub mod control;
 pub mod fields;
 pub mod iv_state;
 pub mod keys;

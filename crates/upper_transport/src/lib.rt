@@ -1,0 +1,30 @@
+//! The upper transport layer's PDUs (Mesh Profile 1.0.1, section 3.6): access messages sealed and opened under application and device
+//! keys, and the octets of control messages both ways.
+//!
+//! - `nonce`: what an access message is sealed with
+//! - `sealing`: from an access payload to octets
+//! - `opening`: from octets to an access payload, under the first key that opens them
+//! - `control_reading`: from octets to a control message
+//! - `control_writing`: from a control message to octets
+//! - `laws`: octets have one reading
+#![tactic(auto)]
+
+mod control_reading;
+#[cfg(test)]
+mod control_tests;
+mod control_writing;
+mod laws;
+mod nonce;
+mod opening;
+mod sealing;
+#[cfg(test)]
+mod tests;
+
+pub use control_reading::read_control;
+pub use control_writing::write_control;
+pub use laws::{control_law, upper_law};
+pub use mesh_base::control::ControlMsg;
+pub use mesh_base::keys::UpperKey;
+pub use mesh_base::upper::UpperFields;
+pub use opening::{NoKey, Opened, unseal_access};
+pub use sealing::seal_access;
