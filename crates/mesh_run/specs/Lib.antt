@@ -1,4 +1,7 @@
 pub mod Octets
-pub mod Ran
-pub mod Status
+pub mod Lines
+pub mod Hearing
 pub mod Told
+pub mod Ran
+pub mod Laws
+pub mod Status
