@@ -4,4 +4,7 @@ pub mod Hearing
 pub mod Told
 pub mod Ran
 pub mod Laws
+pub mod Replay
+pub mod Node
+pub mod Lived
 pub mod Status

@@ -110,13 +110,24 @@ outcome_of p seq l =
 abbrev pub sent_of : ProvisionLine → ℕ → ℕ → RawLine → Sent
 sent_of p i seq l = record { entry = i; job = 0; outcome = outcome_of p seq l }
 
--- the lines of the jobs of lines, the first of which has its entry at place i: each `raw` line takes the next number
+-- the line of the job of a line, if it has a job
+abbrev pub sents_of : ProvisionLine → ℕ → ℕ → BearerLine → List Sent
+sents_of p i seq (B.Raw l) = sent_of p i seq l ∷ []
+sents_of p i seq (B.Net octets) = []
+sents_of p i seq (B.Peer l) = []
+sents_of p i seq (B.Talk l) = []
+
+-- the number of the next line of a job
+abbrev pub next_seq : ℕ → BearerLine → ℕ
+next_seq seq (B.Raw l) = seq + 1
+next_seq seq (B.Net octets) = seq
+next_seq seq (B.Peer l) = seq
+next_seq seq (B.Talk l) = seq
+
+-- the lines of the jobs of lines, the first of which has its entry at place i, under numbers from seq on
 unfoldable pub sents_from : ProvisionLine → ℕ → ℕ → List BearerLine → List Sent
 sents_from p i seq [] = []
-sents_from p i seq (B.Raw l ∷ ls) = sent_of p i seq l ∷ sents_from p (i + 1) (seq + 1) ls
-sents_from p i seq (B.Net octets ∷ ls) = sents_from p (i + 1) seq ls
-sents_from p i seq (B.Peer l ∷ ls) = sents_from p (i + 1) seq ls
-sents_from p i seq (B.Talk l ∷ ls) = sents_from p (i + 1) seq ls
+sents_from p i seq (l ∷ ls) = sents_of p i seq l ++ sents_from p (i + 1) (next_seq seq l) ls
 
 -- The record.
 

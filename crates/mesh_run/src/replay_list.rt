@@ -1,0 +1,91 @@
+//! The replay list in memory: a fixed table with the latest name of each source.
+#![tactic(auto)]
+
+ghost use Rattle.std.specs.Prelude.{◌≡◌, ◌≤◌, ◌||◌, ◌++◌, ◌∷◌, [], false, length, List, is_some};
+ghost use Rattle.std.specs.List.{position_or_len};
+ghost use Rattle.mesh_types.specs.declared.records.StoreRecord.{StoreRecord};
+ghost use Rattle.mesh_types.specs.declared.records.StoreRecord.TheVariants as R;
+ghost use Rattle.run_definitions.specs.Entries.{entry_of, has_room, others_held};
+ghost use Rattle.mesh_run.specs.Replay.{has_place, is_of, kept_in, with_name, IsAcceptable, StandsFor};
+
+use mesh_base::address::Address;
+use mesh_base::pair::{Name, Pair};
+use mesh_base::table::Table;
+use std::marker::Model;
+
+/// How many sources the list has places for.
+pub const PLACES: usize = 64;
+
+/// The names accepted last, one for each source, at most 64. A clause sees the list of them.
+#[derive(Debug, Drop)]
+pub struct ReplayList {
+    names: Table<Name, 64>,
+}
+
+impl Model for ReplayList {
+    ghost use Rattle.std.specs.Prelude.{List};
+    ghost use Rattle.mesh_base.specs.declared.pair.Name.{Name};
+
+    ghost Value = { List Name };
+
+    ghost view = { λ l. l.names };
+}
+
+impl ReplayList {
+    /// The list of a node that has accepted nothing.
+    pub fn new() -> ReplayList
+        ensures value { result ≡ [] }
+    {
+        ReplayList {
+            names: Table::new(),
+        }
+    }
+
+    // The place of the name of a source, or the number of names where it has none.
+    fn place_of(&self, src: Address) -> usize
+        ensures value { result ≡ position_or_len (is_of src.0) self.now }
+        ensures bound { result ≤ length self.now }
+    {
+        let names = self.names.as_slice();
+        for (i, name) in names.iter().enumerate() {
+            if name.src.0 == src.0 {
+                return i;
+            }
+        }
+        names.len()
+    }
+
+    /// The entry of a source: the pair of the message that was accepted last, of those that count.
+    pub fn entry(&self, src: Address) -> Option<Pair>
+        ensures value { result ≡ kept_in self.now src.0 }
+        ensures entry { (records : List StoreRecord) → StandsFor self.now records → result ≡ entry_of records src.0 }
+    {
+        let names = self.names.as_slice();
+        match names.get(self.place_of(src)) {
+            Some(name) => Some(name.pair),
+            None => None,
+        }
+    }
+
+    /// Whether a source has an entry, or there is a place for one.
+    pub fn has_place(&self, src: Address) -> bool
+        ensures value { result ≡ has_place self.now src.0 }
+        ensures room { (records : List StoreRecord) → StandsFor self.now records → result ≡ (is_some (entry_of records src.0) || has_room records src.0) }
+        ensures full { (records : List StoreRecord) → StandsFor self.now records → result ≡ false → others_held records src.0 ≡ 64 }
+    {
+        self.entry(src).is_some() || self.names.len() < PLACES
+    }
+
+    /// Puts a name in the place of the one of its source, or else behind the others. Where there is no place for it, nothing changes; so
+    /// the caller asks `has_place` first.
+    pub fn accept(&mut self, name: &Name)
+        ensures stands { (records : List StoreRecord) → StandsFor self.old records → IsAcceptable records name.now → StandsFor self.new (records ++ R.Replay name.now ∷ []) }
+    {
+        let place = self.place_of(name.src);
+        if place < self.names.len() {
+            self.names.set(place, *name);
+        } else {
+            let _ = self.names.push(*name);
+        }
+    }
+}
