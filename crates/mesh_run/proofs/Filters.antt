@@ -12,10 +12,10 @@ some_is : {A : Type 0} {a b : A} → Some a ≡ Some b → a ≡ b
 some_is e = cc
 
 later : {A : Type 0} (Q : A → Type 0) (z : A) (zs : List A) (x : A) → FirstOf A Q zs x → (Q z → ⊥) → FirstOf A Q (z ∷ zs) x
-later {A} Q z zs x r no = record { place = suc r.place; there = r.there; first = before }
+later {A} Q z zs x r not_here = record { place = suc r.place; there = r.there; first = before }
   where
     before : (k : ℕ) (y : A) → k < suc r.place → slice_get (z ∷ zs) k ≡ Some y → Q y → ⊥
-    before zero y lt f q = no (subst Q (sym (some_is f)) q)
+    before zero y lt f q = not_here (subst Q (sym (some_is f)) q)
     before (suc k) y lt f q = r.first k y (omega arith) f q
 
 pub first_of_filter : {A : Type 0} (p : A → Bool) (Q : A → Type 0) → ((x : A) → Q x → p x ≡ true) → (xs : List A) (place : ℕ) (x : A)

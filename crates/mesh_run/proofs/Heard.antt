@@ -19,15 +19,17 @@ use Rattle.mesh_base.specs.declared.upper.UpperFields.{UpperFields}
 use Rattle.mesh_script.specs.declared.provision.ProvisionLine.{ProvisionLine}
 use Rattle.mesh_types.specs.declared.answers.Answer.{Answer}
 use Rattle.mesh_types.specs.declared.answers.Answer.TheVariants as A
+use Rattle.mesh_types.specs.declared.events.Event.TheVariants as E
 use Rattle.mesh_types.specs.declared.records.StoreRecord.{StoreRecord}
 use Rattle.mesh_types.specs.declared.records.StoreRecord.TheVariants as R
 use Rattle.run_definitions.specs.Answers.{config_before, is_again, is_mine, is_segment, is_unicast, lower_answer, message_name, name_of, named_answer, opened_answer, placed_answer, replayed, transport_answer, whole_answer}
 use Rattle.run_definitions.specs.Config.{Config, changed, config_of, is_element}
 use Rattle.run_definitions.specs.Entries.{entry_of, has_room, others_held}
 use Rattle.run_definitions.specs.History.{Opening, OfPdu, Past, Reading}
-use Rattle.run_definitions.specs.Readings.{IsLowerPdu, IsOpened, IsOpenedUnder, IsOpening, IsOpeningOf, IsReading}
+use Rattle.run_definitions.specs.Readings.{IsLowerPdu, IsOpened, IsOpenedUnder, IsOpening, IsOpeningOf, IsReading, fields_heard, keys_tried}
 use Rattle.run_definitions.specs.Uses.{accepted}
-use Rattle.mesh_run.specs.Hearing.{Hears, IsLowerHeard, has_seg, heard_answer, network_row, no_layers, remembered}
+use Rattle.mesh_run.specs.Hearing.{Hears, IsLowerHeard, sees_pdu, has_seg, heard_answer, network_row, no_layers, remembered}
+use Rattle.mesh_run.specs.Lived.{SeesAs}
 use Rattle.mesh_run.specs.Node.{AnswersAs, IsNodeOf, LowerAs, OpensAs, ReadAs, TransportAs, WholeAs, first_config, net_rows}
 use Rattle.mesh_run.specs.Replay.{IsAcceptable, StandsFor}
 use Rattle.mesh_run.specs.declared.node.Node.{Node}
@@ -226,10 +228,16 @@ placed_is past n a b e full = placed_pick (entry_of past.records n.src.0) (has_r
 
 -- A whole message.
 
-pub opened_some : (keys : List UpperKey) (f : UpperFields) (upper : List ℕ) (at : ℕ) (payload : List ℕ) (key : UpperKey) → Opens keys f upper at payload → key ≡ get_or keys at key
-    → IsOpenedUnder keys f upper (Some (record { key = key; payload = payload }))
-opened_some keys f upper at payload key o e =
-    (at, slice_get-get_or keys at key (slice_get_within keys at o.key o.key_is) ∙ ap Some (sym e), o)
+opened_some : (keys : List UpperKey) (f : UpperFields) (upper : List ℕ) (at : ℕ) (payload : List ℕ) (d : UpperKey) → Opens keys f upper at payload
+    → IsOpenedUnder keys f upper (Some (record { key = get_or keys at d; payload = payload }))
+opened_some keys f upper at payload d o = (at, slice_get-get_or keys at d (slice_get_within keys at o.key o.key_is), o)
+
+pub opens_some : (c : Config) (r : Reading) (akf : Bool) (aid : ℕ) (upper : List ℕ) (at : ℕ) (payload : List ℕ) (d : UpperKey) (keys slice others : List UpperKey) (n : Name)
+    → keys ≡ keys_tried c r akf aid → slice ≡ keys → others ≡ keys → n ≡ name_of r.fields
+    → Opens slice (record { pair = n.pair; src = r.fields.src; dst = r.fields.dst; long_mic = false; label = None }) upper at payload
+    → OpensAs c r akf aid upper (Some (record { key = get_or others at d; payload = payload }))
+opens_some c r akf aid upper at payload d keys slice others n e f g h o =
+    rw (g, e) (opened_some (keys_tried c r akf aid) (fields_heard r (name_of r.fields) false) upper at payload d (rw (f, e, h) at o))
 
 before_config : (past : Past) (n : Node) (r : Reading) (akf : Bool) (aid : ℕ) (upper : List ℕ) (opening : Option Opening) → IsNodeOf n past.records
     → OpensAs (first_config n.provision) r akf aid upper opening → IsOpened no_layers past r (name_of r.fields) (Access akf aid upper) opening
@@ -254,10 +262,18 @@ remembers past octets n replay answer name h a e f =
     let more : IsNodeOf (record n { replay = replay }) (past.records ++ R.Replay name ∷ []) = record {
       config = config_push past.records name ∙ h.config;
       net_keys = h.net_keys;
-      app_keys = h.app_keys;
       replay = f past.records h.replay ok;
     } in
     subst (λ o. IsNodeOf (record n { replay = replay }) (past.records ++ option_to_list (option_map R.Replay o))) (sym e) more
 
 pub remembers_nothing : (past : Past) (n : Node) (answer : Answer) → IsNodeOf n past.records → accepted answer ≡ None → IsNodeOf n (past.records ++ remembered answer)
 remembers_nothing past n answer h e = subst (λ o. IsNodeOf n (past.records ++ option_to_list (option_map R.Replay o))) (sym e) (rw (append-nil past.records) h)
+
+-- Of an event.
+
+pub seen : (past : Past) (octets heard : List ℕ) (answer : Answer) → heard ≡ octets → AnswersAs past heard answer → SeesAs past (E.Net octets) answer
+seen past octets heard answer e a = record {
+  insight = OfPdu a.reading a.low a.opening;
+  sees = sees_pdu (subst (λ x. Hears past x a.reading a.low a.opening) e a.hears);
+  answer_is = a.answer_is;
+}

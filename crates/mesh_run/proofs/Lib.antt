@@ -10,3 +10,5 @@ pub mod Safety
 pub mod Told
 pub mod Runs
 pub mod OneReport
+pub mod First
+pub mod Lengths

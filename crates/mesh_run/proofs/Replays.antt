@@ -1,6 +1,6 @@
 -- The replay list in memory answers as the records do, and does so with one name more.
 use Rattle.std.proofs.Common.{◌≡◌, ℕ, ◌+◌, ◌<◌, ◌≤◌, Bool, true, false, cond, not, ◌&&◌, ◌||◌, eqb, ltb, List, [], ◌∷◌, ◌++◌, length, get_or, refl, sym, ap, subst, ◌∙◌, arith, length-append, Option, Some, None}
-use Rattle.std.specs.Prelude.{IsTrue, slice_set, nat_lt}
+use Rattle.std.specs.Prelude.{IsOk, IsTrue, OnOk, Result, Ok, Err, slice_set, nat_lt}
 use Rattle.std.specs.List.{filter, find, list_any, position_or_len, slice_get}
 use Rattle.std.specs.Option.{is_none, is_some, option_map, option_or}
 use Rattle.std.proofs.lemmas.Bool.Decides.{nat_tests}
@@ -193,3 +193,28 @@ stands_with names records n h a = record {
   count = count_with names records n h;
   live = λ src p e. rw (config_push records n) (live_with _ (eqb n.src.0 src) n.pair (kept_of records src) p a.live (h.live src) (sym (kept_with names records n src h a) ∙ e));
 }
+
+-- What the code does is this.
+
+pub set_is : (names : List Name) (n : Name) (place : ℕ) → place ≡ place_of names n.src.0 → place < length names → slice_set names place n ≡ with_name names n
+set_is names n place e lt =
+    let there : ltb (place_of names n.src.0) (length names) ≡ true = grind (arith, nat_tests) in
+    ap (λ k. slice_set names k n) e ∙ sym (ap (λ b. cond b (slice_set names (place_of names n.src.0) n) (names ++ n ∷ [])) there)
+
+pub push_is : (names : List Name) (n : Name) (place : ℕ) → place ≡ place_of names n.src.0 → length names ≤ place → names ++ n ∷ [] ≡ with_name names n
+push_is names n place e le =
+    let nowhere : ltb (place_of names n.src.0) (length names) ≡ false = grind (arith, nat_tests) in
+    sym (ap (λ b. cond b (slice_set names (place_of names n.src.0) n) (names ++ n ∷ [])) nowhere)
+
+-- where a name may be accepted and its source has none, there is a place
+pub push_room : (names : List Name) (records : List StoreRecord) (n : Name) (place : ℕ) → StandsFor names records → IsAcceptable records n
+    → place ≡ place_of names n.src.0 → length names ≤ place → length names < 64
+push_room names records n place h a e le =
+    let none : kept_in names n.src.0 ≡ None = kept_nowhere names n.src.0 (omega (arith, e)) in
+    let room : has_place names n.src.0 ≡ true = place_is names records n.src.0 h ∙ a.place in
+    let short : ltb (length names) 64 ≡ true = rw none at room in
+    grind (arith, nat_tests)
+
+pub on_ok : {A E : Type 0} (r : Result A E) (P : Type 0) → IsOk r → OnOk r P → P
+on_ok (Ok x) P h p = p
+on_ok (Err x) P h p = absurd h

@@ -40,7 +40,7 @@ told_count p before (x ∷ xs) [] h = absurd h
 
 -- the line of one entry more
 entries_push : (n : ℕ) (es : List Entry) (e : Entry) → entry_lines n (es ++ e ∷ []) ≡ entry_lines n es ++ L.Entry (n + length es) e.bearer e.number (kind_of e.event) e.answer ∷ []
-entries_push n [] e = refl
+entries_push n [] e = ap (λ k. L.Entry k e.bearer e.number (kind_of e.event) e.answer ∷ []) (omega arith)
 entries_push n (x ∷ xs) e =
     let count : n + 1 + length xs ≡ n + suc (length xs) = omega arith in
     ap (λ l. L.Entry n x.bearer x.number (kind_of x.event) x.answer ∷ l) (entries_push (n + 1) xs e ∙ ap (λ k. entry_lines (n + 1) xs ++ L.Entry k e.bearer e.number (kind_of e.event) e.answer ∷ []) count)
@@ -94,7 +94,7 @@ one_told p ls n m before after more l place kind answer h sees stands provision 
       node = rw (records_push p h.told t, same) (stands (past_over p h.told) h.node);
       provision = provision ∙ h.provision;
       lines =
-          w ∙ ap (λ v. after ++ v ∷ []) line ∙ ap (λ v. v ++ _ ∷ []) h.lines ∙ append_assoc before _ _
+          w ∙ ap (λ v. after ++ v ∷ []) line ∙ ap (λ v. v ++ L.Entry (1 + length (map (λ (t : Told). t.entry) h.told)) 0 (length h.told + 1) (kind_of (event_of l)) t.entry.answer ∷ []) h.lines ∙ append_assoc before _ _
           ∙ ap (λ v. before ++ v) (sym (ap (λ v. entry_lines 1 v) (map-append (λ (t : Told). t.entry) h.told (t ∷ [])) ∙ entries_push 1 (map (λ (t : Told). t.entry) h.told) t.entry));
     }
 

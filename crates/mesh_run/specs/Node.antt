@@ -29,7 +29,6 @@ net_rows p = record { index = p.net_index; phase = 0; key = p.net_key; next = No
 pub record IsNodeOf (n : Node) (records : List StoreRecord) : Type 0 where
   pub config : config_of records ≡ first_config n.provision
   pub net_keys : n.net_keys ≡ net_rows n.provision
-  pub app_keys : n.app_keys ≡ []
   pub replay : StandsFor n.replay records
 
 -- The answers, from the top of the table of answers to its last rows. Each says what is read from its layer on, and that the answer is

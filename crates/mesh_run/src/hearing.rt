@@ -111,17 +111,14 @@ impl Node {
         }
     }
 
-    /// The keys that may have sealed an access message: the device key where DST is unicast, or the application keys of the network key
-    /// that have this AID.
-    fn keys_tried(&self, r: &NetReading, akf: bool, aid: u8) -> UpperKeys
-        requires keys { self.now.app_keys ≡ [] }
-        ensures value { result ≡ keys_tried (first_config self.now.provision) (reading_of r.now) akf aid }
+    /// The keys that may have sealed an access message: the device key, where it is one sealed with a device key and DST is unicast. The
+    /// node has no application keys.
+    #[tactic(auto, unfolding(run_definitions::specs::Config::changed))]
+    fn keys_tried(&self, r: &NetReading, akf: bool) -> UpperKeys
+        ensures value { (aid : ℕ) → result ≡ keys_tried (first_config self.now.provision) (reading_of r.now) akf aid }
     {
-        if akf {
-            return self.app_keys.candidates(r.by.index, aid);
-        }
         let mut keys = UpperKeys::new();
-        if is_unicast(r.fields.dst) {
+        if !akf && is_unicast(r.fields.dst) {
             let _ = keys.push(UpperKey::Device(self.provision.dev_key));
         }
         keys
@@ -129,11 +126,10 @@ impl Node {
 
     /// What an upper transport PDU opens to, under the first of the keys that opens it.
     fn opened(&self, r: &NetReading, akf: bool, aid: u8, upper: &[u8]) -> Option<Opened>
-        requires keys { self.now.app_keys ≡ [] }
-        requires upper { length upper.now ≤ 15 }
+        requires { length upper.now ≤ 15 }
         ensures value { OpensAs (first_config self.now.provision) (reading_of r.now) akf aid upper.now (option_map opening_of result) }
     {
-        let keys = self.keys_tried(r, akf, aid);
+        let keys = self.keys_tried(r, akf);
         let fields = UpperFields {
             pair: name_of(&r.fields).pair,
             src: r.fields.src,

@@ -9,7 +9,6 @@ ghost use Rattle.mesh_run.specs.Node.{first_config, net_rows, IsNodeOf};
 ghost use Rattle.mesh_run.specs.Told.{first_records};
 
 use crate::replay_list::ReplayList;
-use app_keys::AppKeys;
 use mesh_base::address::Address;
 use mesh_base::fields::NetMaterial;
 use mesh_base::keys::NetKeyRow;
@@ -23,8 +22,6 @@ pub struct Node {
     pub provision: ProvisionLine,
     /// Its network keys, with their material.
     pub net_keys: NetKeys,
-    /// Its application keys, with their AIDs.
-    pub app_keys: AppKeys,
     /// The latest name of each source.
     pub replay: ReplayList,
 }
@@ -44,7 +41,6 @@ impl Node {
         Node {
             provision: *provision,
             net_keys: NetKeys::derive(&[row]),
-            app_keys: AppKeys::derive(&[], &[row]),
             replay: ReplayList::new(),
         }
     }

@@ -63,6 +63,7 @@ fn upper_key(key: &TalkKey) -> UpperKey
 }
 
 /// The unsegmented access PDU of an upper transport PDU of 5 to 15 octets.
+#[tactic(auto, unfolding(layer_definitions::specs::Lower::lower_text))]
 fn unsegmented(key: &UpperKey, upper: &[u8]) -> Octets<16>
     requires least { 5 ≤ length upper.now }
     requires most { length upper.now ≤ 15 }

@@ -31,6 +31,34 @@ impl Model for ReplayList {
     ghost view = { λ l. l.names };
 }
 
+// The pair of a name.
+fn pair_of(name: &Name) -> Pair
+    ensures { result ≡ name.now.pair }
+{
+    name.pair
+}
+
+// The pair of the name of a source.
+fn kept_in(names: &[Name], src: Address) -> Option<Pair>
+    ensures value { result ≡ kept_in names.now src.0 }
+{
+    names
+        .iter()
+        .find(|name| name.src.0 == src.0)
+        .map(pair_of)
+}
+
+// The place of the name of a source, or the number of names where it has none.
+fn place_in(names: &[Name], src: Address) -> usize
+    ensures value { result ≡ position_or_len (is_of src.0) names.now }
+    ensures bound { result ≤ length names.now }
+{
+    names
+        .iter()
+        .position(|name| name.src.0 == src.0)
+        .unwrap_or(names.len())
+}
+
 impl ReplayList {
     /// The list of a node that has accepted nothing.
     pub fn new() -> ReplayList
@@ -41,30 +69,12 @@ impl ReplayList {
         }
     }
 
-    // The place of the name of a source, or the number of names where it has none.
-    fn place_of(&self, src: Address) -> usize
-        ensures value { result ≡ position_or_len (is_of src.0) self.now }
-        ensures bound { result ≤ length self.now }
-    {
-        let names = self.names.as_slice();
-        for (i, name) in names.iter().enumerate() {
-            if name.src.0 == src.0 {
-                return i;
-            }
-        }
-        names.len()
-    }
-
     /// The entry of a source: the pair of the message that was accepted last, of those that count.
     pub fn entry(&self, src: Address) -> Option<Pair>
         ensures value { result ≡ kept_in self.now src.0 }
         ensures entry { (records : List StoreRecord) → StandsFor self.now records → result ≡ entry_of records src.0 }
     {
-        let names = self.names.as_slice();
-        match names.get(self.place_of(src)) {
-            Some(name) => Some(name.pair),
-            None => None,
-        }
+        kept_in(self.names.as_slice(), src)
     }
 
     /// Whether a source has an entry, or there is a place for one.
@@ -81,7 +91,7 @@ impl ReplayList {
     pub fn accept(&mut self, name: &Name)
         ensures stands { (records : List StoreRecord) → StandsFor self.old records → IsAcceptable records name.now → StandsFor self.new (records ++ R.Replay name.now ∷ []) }
     {
-        let place = self.place_of(name.src);
+        let place = place_in(self.names.as_slice(), name.src);
         if place < self.names.len() {
             self.names.set(place, *name);
         } else {

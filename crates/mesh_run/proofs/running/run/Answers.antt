@@ -1,5 +1,6 @@
-use Rattle.std.proofs.Common.{sym, ◌∙◌, ap}
+use Rattle.std.proofs.Common.{sym, ◌∙◌, ap, subst}
 use Rattle.mesh_script.specs.Script.{script_of}
+use Rattle.mesh_run.specs.Lived.{HasLines}
 use Rattle.mesh_run.proofs.Runs.{front_of_none, whole_run, front_of_run}
 use Rattle.mesh_run.proofs.running.run.Goals as goal
 
@@ -20,7 +21,7 @@ returns-in-Ok-write_report-clause-done g c = λ _.
       end = c.in-Ok.ensures.end;
       script = sym c.in-Ok-Some.field-0-is ∙ c.in-Ok-Some.ensures.value ∙ ap script_of c.as_slice.ensures.value;
     })
-    (c.as_slice-2.ensures.value ∙ c.in-Ok-life_lines.ensures.value) c.in-Ok-life_lines.ensures.bound c.in-Ok-write_report.ensures.ok
+    (subst (HasLines c.in-Ok-Some.script) (sym c.as_slice-2.ensures.value) c.in-Ok-life_lines.ensures.value) c.in-Ok-life_lines.ensures.bound c.in-Ok-write_report.ensures.ok
 
 pub returns-in-Err-Fault-write_report-clause-front : goal.returns-in-Err-Fault-write_report-clause-front
 returns-in-Err-Fault-write_report-clause-front g c = λ _.
@@ -30,7 +31,7 @@ returns-in-Err-Fault-write_report-clause-front g c = λ _.
       end = c.in-Ok.ensures.end;
       script = sym c.in-Ok-Some.field-0-is ∙ c.in-Ok-Some.ensures.value ∙ ap script_of c.as_slice.ensures.value;
     })
-    (c.as_slice-2.ensures.value ∙ c.in-Ok-life_lines.ensures.value) c.in-Err-Fault-write_report.ensures.err
+    (subst (HasLines c.in-Ok-Some.script) (sym c.as_slice-2.ensures.value) c.in-Ok-life_lines.ensures.value) c.in-Err-Fault-write_report.ensures.err
 
 pub returns-clause-front : goal.returns-clause-front
 returns-clause-front g c = λ _.
@@ -40,4 +41,4 @@ returns-clause-front g c = λ _.
       end = c.in-Ok.ensures.end;
       script = sym c.in-Ok-Some.field-0-is ∙ c.in-Ok-Some.ensures.value ∙ ap script_of c.as_slice.ensures.value;
     })
-    (c.as_slice-2.ensures.value ∙ c.in-Ok-life_lines.ensures.value) c.in-Err-Memory-write_report.ensures.err
+    (subst (HasLines c.in-Ok-Some.script) (sym c.as_slice-2.ensures.value) c.in-Ok-life_lines.ensures.value) c.in-Err-Memory-write_report.ensures.err
