@@ -1,15 +1,13 @@
 -- Rows with the material of their keys.
-use Rattle.std.proofs.Common.{◌≡◌, ℕ, suc, ◌+◌, ◌<◌, ◌≤◌, ◌^◌, Bool, true, false, not, nat_lt, cond, List, [], ◌∷◌, ◌++◌, length, take, get_or, map, Option, Some, None, refl, sym, ap, ◌∙◌, subst, arith, append-nil}
+use Rattle.std.proofs.Common.{◌≡◌, ℕ, ◌+◌, ◌<◌, ◌≤◌, ◌^◌, Bool, true, false, cond, List, [], ◌∷◌, ◌++◌, length, take, get_or, map, Option, Some, None, refl, sym, ap, ◌∙◌, arith, append-nil}
 use Rattle.std.specs.Prelude.{◌==◌, ◌↔◌, ◌≢◌, if◌then◌else◌, unwrap_or, is_some, IsNone, IfSome, filter, All}
 use Rattle.std.specs.List.{AllByRecursion as ByRecursion, find, flat_map}
 use Rattle.std.specs.Option.{option_map}
 use Rattle.std.proofs.lemmas.List.{length-map, length-take-le, take_all, take_more}
 use Rattle.std.proofs.lemmas.Grind.{flat_map-append}
 use Rattle.std.proofs.lemmas.List.Elements.{All-filter, All-from_recursion, filter-append, recursion_from_All}
-use Rattle.std.proofs.lemmas.List.Sums.{prefix_len-le-length}
 use Rattle.std.proofs.lemmas.Bool.Decides.{nat_tests}
 use Rattle.mesh_base.specs.declared.fields.Heard.{Heard}
-use Rattle.mesh_base.specs.declared.fields.NetMaterial.{NetMaterial}
 use Rattle.mesh_base.specs.declared.keys.NetKeyRow.{NetKeyRow}
 use Rattle.layer_definitions.specs.KeyRefresh.{heard_key, heard_keys, keys_of, master_material, net_index, net_row, transmit_key, transmit_material}
 use Rattle.layer_definitions.specs.Order.{by_index, LacksIndex, put_row}
@@ -127,7 +125,7 @@ both : (P : Heard → Type 0) (xs ys : List Heard) → ByRecursion P xs → ByRe
 both P [] ys a b = b
 both P (x ∷ xs) ys (p, a) b = (p, both P xs ys a b)
 
-of_rows : (P : Heard → Type 0) → IsOfKeys P → (rows : List NetKeyRow) → ByRecursion P (heard_keys rows)
+pub of_rows : (P : Heard → Type 0) → IsOfKeys P → (rows : List NetKeyRow) → ByRecursion P (heard_keys rows)
 of_rows P p [] = tt
 of_rows P p (r ∷ rows) = both P _ _ (of_row P p r.index r.key r.next) (of_rows P p rows)
 

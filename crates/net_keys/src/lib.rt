@@ -4,14 +4,17 @@
 //! - `keys`: the keys by index, and what is heard and sent under them
 //! - `held`: a key with its material
 //! - `credentials`: the material of master and friendship credentials
+//! - `laws`: why the keys that have a PDU's NID suffice to read it
 #![tactic(auto)]
 
 mod credentials;
 mod held;
 mod keys;
+mod laws;
 
 pub use credentials::friendship;
 pub use keys::NetKeys;
+pub use laws::candidates_law;
 
 #[cfg(test)]
 mod tests;

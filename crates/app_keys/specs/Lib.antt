@@ -1,0 +1,2 @@
+pub mod AppRows
+pub mod Held
