@@ -28,6 +28,7 @@ const LABEL: [u8; 16] = [
     0xf4, 0xa0, 0x02, 0xc7, 0xfb, 0x1e, 0x4c, 0xa0, 0xa4, 0x69, 0xa0, 0x21, 0xde, 0x0d, 0xb8, 0x75,
 ];
 
+#[derive(Clone, Copy)]
 struct Sample {
     key: UpperKey,
     seq: u32,
@@ -262,36 +263,51 @@ fn summed(octets: &[u8]) -> u32 {
     sum
 }
 
+// 380 octets, each of which its neighbours differ from.
+fn long_payload() -> [u8; 380] {
+    let mut payload = [0; 380];
+    for i in 0..380 {
+        payload[i] = (i % 251) as u8;
+    }
+    payload
+}
+
+// What the longest payloads are sealed with.
+const LONGEST: Sample = Sample {
+    seq: 0x010203,
+    src: 0x0405,
+    dst: 0xc607,
+    iv: 0x08090a0b,
+    ..SHORT
+};
+
 // The longest payloads; the sums are those of what another implementation seals them to.
 #[test]
-fn longest_payloads(rt: HostRuntime) {
-    let mut payload = [0; 380];
-    for (i, octet) in payload.iter_mut().enumerate() {
-        *octet = (i % 251) as u8;
-    }
+fn longest_payload(rt: HostRuntime) {
     let f = UpperFields {
-        pair: Pair {
-            iv: 0x08090a0b,
-            seq: 0x010203,
-        },
-        src: Address(0x0405),
-        dst: Address(0xc607),
         long_mic: false,
-        label: None,
+        ..LONGEST.fields()
     };
+    let payload = long_payload();
     let upper = seal_access(&APP, &f, &payload);
     assert_eq!(rt; summed(upper.as_slice()), 0x26319369);
     match unseal_access(&[DEVICE, APP], &f, upper.as_slice()) {
-        Ok(opened) => assert!(rt;
-            opened.at == 1 && opened.payload.as_slice() == payload.as_slice()
-        ),
+        Ok(opened) => {
+            assert!(rt; opened.at == 1 && opened.payload.as_slice() == payload.as_slice());
+        }
         Err(NoKey) => assert!(rt; false, "the second key opens it"),
     }
-    let long = UpperFields {
+}
+
+#[test]
+fn longest_payload_with_a_long_mic(rt: HostRuntime) {
+    let f = UpperFields {
         dst: Address(0x0607),
         long_mic: true,
-        ..f
+        ..LONGEST.fields()
     };
-    let upper = seal_access(&DEVICE, &long, &payload[..376]);
+    let payload = long_payload();
+    let (front, _) = payload.split_at(376);
+    let upper = seal_access(&DEVICE, &f, front);
     assert_eq!(rt; summed(upper.as_slice()), 0xeb8d9c0d);
 }
