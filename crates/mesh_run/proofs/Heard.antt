@@ -261,7 +261,7 @@ remembers past octets n replay answer name h a e f =
     let ok : IsAcceptable past.records name = accepts past octets a.reading a.low a.opening name a.hears.reads (ap accepted (sym a.answer_is) ∙ e) in
     let more : IsNodeOf (record n { replay = replay }) (past.records ++ R.Replay name ∷ []) = record {
       config = config_push past.records name ∙ h.config;
-      net_keys = h.net_keys;
+      keys = record { nets = h.keys.nets; apps = h.keys.apps };
       replay = f past.records h.replay ok;
     } in
     subst (λ o. IsNodeOf (record n { replay = replay }) (past.records ++ option_to_list (option_map R.Replay o))) (sym e) more

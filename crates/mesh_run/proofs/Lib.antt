@@ -2,8 +2,7 @@ pub mod Written
 pub mod Records
 pub mod Replays
 pub mod Accepting
-pub mod Filters
-pub mod Keys
+pub mod Candidates
 pub mod Heard
 pub mod Once
 pub mod Safety

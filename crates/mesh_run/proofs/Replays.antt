@@ -1,7 +1,7 @@
 -- The replay list in memory answers as the records do, and does so with one name more.
 use Rattle.std.proofs.Common.{◌≡◌, ℕ, ◌+◌, ◌<◌, ◌≤◌, Bool, true, false, cond, not, ◌&&◌, ◌||◌, eqb, ltb, List, [], ◌∷◌, ◌++◌, length, get_or, refl, sym, ap, subst, ◌∙◌, arith, length-append, Option, Some, None}
 use Rattle.std.specs.Prelude.{IsOk, IsTrue, OnOk, Result, Ok, Err, slice_set, nat_lt}
-use Rattle.std.specs.List.{filter, find, list_any, position_or_len, slice_get}
+use Rattle.std.specs.List.{filter, find, list_any, position, position_or_len, slice_get}
 use Rattle.std.specs.Option.{is_none, is_some, option_map, option_or}
 use Rattle.std.proofs.lemmas.Bool.Decides.{nat_tests}
 use Rattle.std.proofs.lemmas.List.{length-set}
@@ -84,7 +84,7 @@ full_is names records src h most f = either (kept_in names src) refl
 
 -- With a name more.
 
-abbrev pub place_of : List Name → ℕ → ℕ
+abbrev place_of : List Name → ℕ → ℕ
 place_of names src = position_or_len (is_of src) names
 
 -- where a source has a name, and where it has none
@@ -196,25 +196,57 @@ stands_with names records n h a = record {
 
 -- What the code does is this.
 
-pub set_is : (names : List Name) (n : Name) (place : ℕ) → place ≡ place_of names n.src.0 → place < length names → slice_set names place n ≡ with_name names n
+set_is : (names : List Name) (n : Name) (place : ℕ) → place ≡ place_of names n.src.0 → place < length names → slice_set names place n ≡ with_name names n
 set_is names n place e lt =
     let there : ltb (place_of names n.src.0) (length names) ≡ true = grind (arith, nat_tests) in
     ap (λ k. slice_set names k n) e ∙ sym (ap (λ b. cond b (slice_set names (place_of names n.src.0) n) (names ++ n ∷ [])) there)
 
-pub push_is : (names : List Name) (n : Name) (place : ℕ) → place ≡ place_of names n.src.0 → length names ≤ place → names ++ n ∷ [] ≡ with_name names n
-push_is names n place e le =
+push_is : (names : List Name) (n : Name) → length names ≤ place_of names n.src.0 → names ++ n ∷ [] ≡ with_name names n
+push_is names n le =
     let nowhere : ltb (place_of names n.src.0) (length names) ≡ false = grind (arith, nat_tests) in
     sym (ap (λ b. cond b (slice_set names (place_of names n.src.0) n) (names ++ n ∷ [])) nowhere)
 
--- where a name may be accepted and its source has none, there is a place
-pub push_room : (names : List Name) (records : List StoreRecord) (n : Name) (place : ℕ) → StandsFor names records → IsAcceptable records n
-    → place ≡ place_of names n.src.0 → length names ≤ place → length names < 64
-push_room names records n place h a e le =
-    let none : kept_in names n.src.0 ≡ None = kept_nowhere names n.src.0 (omega (arith, e)) in
+-- where the source has a name
+pub found_place : (names : List Name) (n : Name) (place : ℕ) → position (is_of n.src.0) names ≡ Some place → (place ≡ place_of names n.src.0) × (place < length names)
+found_place names n place e = either (ltb (place_of names n.src.0) (length names)) refl e
+  where
+    either : (b : Bool) → ltb (place_of names n.src.0) (length names) ≡ b → cond b (Some (place_of names n.src.0)) None ≡ Some place
+        → (place ≡ place_of names n.src.0) × (place < length names)
+    either true f e =
+        let same : place_of names n.src.0 ≡ place = cc in
+        let lt : place_of names n.src.0 < length names = grind (arith, nat_tests) in
+        (sym same, omega arith)
+    either false f e = absurd cc
+
+pub stands_set : (names : List Name) (records : List StoreRecord) (n : Name) (place : ℕ) (new : List Name) → position (is_of n.src.0) names ≡ Some place → new ≡ slice_set names place n
+    → StandsFor names records → IsAcceptable records n → StandsFor new (records ++ R.Replay n ∷ [])
+stands_set names records n place new e w h a =
+    let (at, lt) = found_place names n place e in
+    subst (λ x. StandsFor x (records ++ R.Replay n ∷ [])) (sym (w ∙ set_is names n place at lt)) (stands_with names records n h a)
+
+-- where it has none, and so there is a place
+no_place : (names : List Name) (n : Name) → position (is_of n.src.0) names ≡ None → length names ≤ place_of names n.src.0
+no_place names n e = either (ltb (place_of names n.src.0) (length names)) refl e
+  where
+    either : (b : Bool) → ltb (place_of names n.src.0) (length names) ≡ b → cond b (Some (place_of names n.src.0)) None ≡ None → length names ≤ place_of names n.src.0
+    either true f e = absurd cc
+    either false f e = grind (arith, nat_tests)
+
+push_room : (names : List Name) (records : List StoreRecord) (n : Name) → StandsFor names records → IsAcceptable records n
+    → length names ≤ place_of names n.src.0 → length names < 64
+push_room names records n h a le =
+    let none : kept_in names n.src.0 ≡ None = kept_nowhere names n.src.0 le in
     let room : has_place names n.src.0 ≡ true = place_is names records n.src.0 h ∙ a.place in
     let short : ltb (length names) 64 ≡ true = rw none at room in
     grind (arith, nat_tests)
 
-pub on_ok : {A E : Type 0} (r : Result A E) (P : Type 0) → IsOk r → OnOk r P → P
+on_ok : {A E : Type 0} (r : Result A E) (P : Type 0) → IsOk r → OnOk r P → P
 on_ok (Ok x) P h p = p
-on_ok (Err x) P h p = absurd h
+on_ok (Err x) P h p = absurd (let e : false ≡ true = h in cc)
+
+pub stands_push : {A E : Type 0} (names : List Name) (records : List StoreRecord) (n : Name) (new : List Name) (r : Result A E) → position (is_of n.src.0) names ≡ None
+    → (length names < 64 → IsOk r) → OnOk r (new ≡ names ++ n ∷ []) → StandsFor names records → IsAcceptable records n → StandsFor new (records ++ R.Replay n ∷ [])
+stands_push names records n new r e variant ok h a =
+    let le : length names ≤ place_of names n.src.0 = no_place names n e in
+    let w : new ≡ names ++ n ∷ [] = on_ok r (new ≡ names ++ n ∷ []) (variant (push_room names records n h a le)) ok in
+    subst (λ x. StandsFor x (records ++ R.Replay n ∷ [])) (sym (w ∙ push_is names n le)) (stands_with names records n h a)

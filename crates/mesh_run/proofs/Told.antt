@@ -1,6 +1,6 @@
 -- The entries of a life one after another, and the lines of its jobs.
 use Rattle.std.proofs.Common.{◌≡◌, ℕ, zero, suc, ◌+◌, ◌<◌, ◌≤◌, true, List, [], ◌∷◌, ◌++◌, length, take, drop, get_or, map, refl, sym, ap, subst, ◌∙◌, append_assoc, append-nil, length-append, arith}
-use Rattle.std.proofs.lemmas.List.{at_drop_more, at_drop_all, length-map, map-append}
+use Rattle.std.proofs.lemmas.List.{at_drop_more, at_drop_all, length-map, length-take-le, map-append, take_more}
 use Rattle.mesh_script.specs.declared.bearer.BearerLine.{BearerLine}
 use Rattle.mesh_script.specs.declared.bearer.BearerLine.TheVariants as B
 use Rattle.mesh_script.specs.declared.grammar.Script.{Script}
@@ -19,7 +19,7 @@ use Rattle.run_definitions.specs.Report.{bearer_lines, entry_lines, life_lines, 
 use Rattle.mesh_run.specs.Hearing.{Sees, answer_to, remembered}
 use Rattle.mesh_run.specs.Lines.{event_of}
 use Rattle.mesh_run.specs.Lived.{HasEntries, HasLines, SeesAs}
-use Rattle.mesh_run.specs.Node.{IsNodeOf, net_rows}
+use Rattle.mesh_run.specs.Node.{HasKeys, IsNodeOf}
 use Rattle.mesh_run.specs.Told.{AreTold, IsTold, entry_of, first_records, jobs_of, life_of, next_seq, opened_over, past_over, records_over, sents_from, sents_of}
 use Rattle.mesh_run.specs.declared.node.Node.{Node}
 use Rattle.mesh_run.proofs.Once.{records_push}
@@ -65,8 +65,8 @@ none_told p n lines e h = record {
   lines = sym (append-nil lines);
 }
 
-pub keys_are : (p : ProvisionLine) (ls : List BearerLine) (n : Node) (before after : List ReportLine) → SoFar p ls n before after → n.net_keys ≡ net_rows n.provision
-keys_are p ls n before after h = h.node.net_keys
+pub keys_are : (p : ProvisionLine) (ls : List BearerLine) (n : Node) (before after : List ReportLine) → SoFar p ls n before after → HasKeys n
+keys_are p ls n before after h = h.node.keys
 
 told_of : ProvisionLine → List Told → BearerLine → Insight → Told
 told_of p before l insight = record { entry = entry_of p before l insight; insight = insight; records = records_over p before }
@@ -97,6 +97,18 @@ one_told p ls n m before after more l place kind answer h sees stands provision 
           w ∙ ap (λ v. after ++ v ∷ []) line ∙ ap (λ v. v ++ L.Entry (1 + length (map (λ (t : Told). t.entry) h.told)) 0 (length h.told + 1) (kind_of (event_of l)) t.entry.answer ∷ []) h.lines ∙ append_assoc before _ _
           ∙ ap (λ v. before ++ v) (sym (ap (λ v. entry_lines 1 v) (map-append (λ (t : Told). t.entry) h.told (t ∷ [])) ∙ entries_push 1 (map (λ (t : Told). t.entry) h.told) t.entry));
     }
+
+-- the same of the line at a place
+pub next_told : (p : ProvisionLine) (ls : List BearerLine) (i : ℕ) (n m : Node) (before after more : List ReportLine) (line : BearerLine) (kind : Kind) (answer : Answer)
+    → i < length ls → line ≡ get_or ls i line → SoFar p (take i ls) n before after
+    → ((past : Past) → IsNodeOf n past.records → SeesAs past (event_of line) answer)
+    → ((past : Past) → IsNodeOf n past.records → IsNodeOf m (past.records ++ remembered answer))
+    → m.provision ≡ n.provision → kind ≡ kind_of (event_of line) → more ≡ after ++ L.Entry (i + 1) 0 (i + 1) kind answer ∷ []
+    → SoFar p (take (i + 1) ls) m before more
+next_told p ls i n m before after more line kind answer lt is h sees stands provision k w =
+    let next : take (i + 1) ls ≡ take i ls ++ line ∷ [] = take_more ls i line lt ∙ ap (λ x. take i ls ++ x ∷ []) (sym is) in
+    subst (λ xs. SoFar p xs m before more) (sym next)
+    (one_told p (take i ls) n m before after more line i kind answer h sees stands provision (length-take-le i ls (omega arith)) k w)
 
 -- all of them
 pub all_told : (p : ProvisionLine) (ls : List BearerLine) (n : Node) (before after : List ReportLine) → SoFar p ls n before after → HasEntries p ls before after
@@ -133,7 +145,7 @@ seq_most seq i (B.Peer l) h = omega arith
 seq_most seq i (B.Talk l) h = omega arith
 
 -- The life.
-pub life_is : (s : Script) (opening : ReportLine) (first second third : List ReportLine) → opening ≡ opened_line 1 (opened_over (first_records s.provision))
+life_is : (s : Script) (opening : ReportLine) (first second third : List ReportLine) → opening ≡ opened_line 1 (opened_over (first_records s.provision))
     → HasEntries s.provision s.lines (opening ∷ []) first → second ≡ first ++ bearer_lines true 0 (sents_from s.provision 0 0 s.lines) → third ≡ second ++ L.End ∷ []
     → HasLines s third
 unfolding life_lines life_of
@@ -147,3 +159,12 @@ life_is s opening first second third e h f g = record {
       g ∙ ap (λ (v : List ReportLine). v ++ L.End ∷ []) (f ∙ ap (λ (v : List ReportLine). v ++ sends) (h.lines ∙ ap (λ (o : ReportLine). o ∷ entries) e))
       ∙ ap (λ (v : List ReportLine). ((opened ∷ entries) ++ v) ++ L.End ∷ []) (sym (append-nil sends));
 }
+
+pub life_of_parts : (s : Script) (p : ProvisionLine) (ls : List BearerLine) (opening : ReportLine) (start pushed first second third : List ReportLine)
+    → p ≡ s.provision → ls ≡ s.lines → start ≡ [] → pushed ≡ start ++ opening ∷ [] → opening ≡ opened_line 1 (opened_over (first_records s.provision))
+    → HasEntries p ls pushed first → second ≡ first ++ bearer_lines true 0 (sents_from s.provision 0 0 ls) → third ≡ second ++ L.End ∷ [] → HasLines s third
+life_of_parts s p ls opening start pushed first second third ep el es eo e h f g =
+    let pushed_is : pushed ≡ opening ∷ [] = eo ∙ ap (λ (xs : List ReportLine). xs ++ opening ∷ []) es in
+    let entries : HasEntries s.provision s.lines (opening ∷ []) first =
+    subst (λ x. HasEntries x s.lines (opening ∷ []) first) ep (subst (λ x. HasEntries p x (opening ∷ []) first) el (subst (λ x. HasEntries p ls x first) pushed_is h)) in
+    life_is s opening first second third e entries (f ∙ ap (λ x. first ++ bearer_lines true 0 (sents_from s.provision 0 0 x)) el) g

@@ -24,11 +24,16 @@ first_config p = config_of (first_records p)
 abbrev pub net_rows : ProvisionLine → List NetKeyRow
 net_rows p = record { index = p.net_index; phase = 0; key = p.net_key; next = None } ∷ []
 
+-- its keys are those of provisioning
+pub record HasKeys (n : Node) : Type 0 where
+  pub nets : n.net_keys ≡ net_rows n.provision
+  pub apps : n.app_keys.apps ≡ []
+
 -- The node stands for these records: they say of it what provisioning does, its keys are those of provisioning, and its replay list is
 -- that of the records.
 pub record IsNodeOf (n : Node) (records : List StoreRecord) : Type 0 where
   pub config : config_of records ≡ first_config n.provision
-  pub net_keys : n.net_keys ≡ net_rows n.provision
+  pub keys : HasKeys n
   pub replay : StandsFor n.replay records
 
 -- The answers, from the top of the table of answers to its last rows. Each says what is read from its layer on, and that the answer is

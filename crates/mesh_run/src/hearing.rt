@@ -1,7 +1,7 @@
 //! The answer to a network PDU heard, layer by layer.
 #![tactic(auto)]
 
-ghost use Rattle.std.specs.Prelude.{◌≡◌, ◌==◌, ◌≤◌, ◌%◌, ◌^◌, ◌++◌, ℕ, false, List, [], IfSome, IsNone, length, slice_index};
+ghost use Rattle.std.specs.Prelude.{◌≡◌, ◌==◌, ◌≤◌, ◌%◌, ◌^◌, ◌++◌, ℕ, false, List, IfSome, IsNone, length, slice_index};
 ghost use Rattle.std.specs.Option.{option_map};
 ghost use Rattle.layer_definitions.specs.KeyRefresh.{heard_keys};
 ghost use Rattle.layer_definitions.specs.Network.{IsUnread, Reads};
@@ -13,7 +13,7 @@ ghost use Rattle.run_definitions.specs.History.{Past};
 ghost use Rattle.run_definitions.specs.Readings.{keys_tried};
 ghost use Rattle.run_definitions.specs.Uses.{accepted};
 ghost use Rattle.mesh_run.specs.Hearing.{has_seg, network_row, remembered};
-ghost use Rattle.mesh_run.specs.Node.{first_config, net_rows, opening_of, reading_of, AnswersAs, IsNodeOf, LowerAs, OpensAs, ReadAs, TransportAs, WholeAs};
+ghost use Rattle.mesh_run.specs.Node.{first_config, net_rows, opening_of, reading_of, AnswersAs, HasKeys, IsNodeOf, LowerAs, OpensAs, ReadAs, TransportAs, WholeAs};
 
 use crate::node::{Node, is_unicast};
 use lower_transport::Lower;
@@ -24,6 +24,7 @@ use mesh_base::pair::{Name, Pair};
 use mesh_base::table::UpperKeys;
 use mesh_base::upper::UpperFields;
 use mesh_types::answers::{Answer, KeyName};
+use net_keys::candidates_law;
 use network_layer::NetReading;
 use upper_transport::unseal_access;
 
@@ -83,10 +84,11 @@ fn accepted(answer: &Answer) -> Option<Name>
 impl Node {
     /// What octets read as, under the keys whose NID they have.
     fn reading(&self, octets: &[u8]) -> Option<NetReading>
-        requires keys { self.now.net_keys ≡ net_rows self.now.provision }
+        requires keys { HasKeys self.now }
         ensures some { IfSome result (λ r. (place : ℕ) × Reads (heard_keys (net_rows self.now.provision)) self.now.provision.iv octets.now r.fields place r.by) }
         ensures none { IsNone result → IsUnread (heard_keys (net_rows self.now.provision)) self.now.provision.iv octets.now }
     {
+        candidates_law();
         let keys = self.net_keys.candidates(nid_of(octets));
         match network_layer::read(keys.as_slice(), self.provision.iv, octets) {
             Ok(reading) => Some(reading),
@@ -111,14 +113,18 @@ impl Node {
         }
     }
 
-    /// The keys that may have sealed an access message: the device key, where it is one sealed with a device key and DST is unicast. The
-    /// node has no application keys.
+    /// The keys that may have sealed an access message: the application keys of the network key that have this AID, or the device key
+    /// where DST is unicast.
     #[tactic(auto, unfolding(run_definitions::specs::Config::changed))]
-    fn keys_tried(&self, r: &NetReading, akf: bool) -> UpperKeys
-        ensures value { (aid : ℕ) → result ≡ keys_tried (first_config self.now.provision) (reading_of r.now) akf aid }
+    fn keys_tried(&self, r: &NetReading, akf: bool, aid: u8) -> UpperKeys
+        requires keys { HasKeys self.now }
+        ensures value { result ≡ keys_tried (first_config self.now.provision) (reading_of r.now) akf aid }
     {
+        if akf {
+            return self.app_keys.candidates(r.by.index, aid);
+        }
         let mut keys = UpperKeys::new();
-        if !akf && is_unicast(r.fields.dst) {
+        if is_unicast(r.fields.dst) {
             let _ = keys.push(UpperKey::Device(self.provision.dev_key));
         }
         keys
@@ -126,10 +132,11 @@ impl Node {
 
     /// What an upper transport PDU opens to, under the first of the keys that opens it.
     fn opened(&self, r: &NetReading, akf: bool, aid: u8, upper: &[u8]) -> Option<Opened>
-        requires { length upper.now ≤ 15 }
+        requires keys { HasKeys self.now }
+        requires upper { length upper.now ≤ 15 }
         ensures value { OpensAs (first_config self.now.provision) (reading_of r.now) akf aid upper.now (option_map opening_of result) }
     {
-        let keys = self.keys_tried(r, akf);
+        let keys = self.keys_tried(r, akf, aid);
         let fields = UpperFields {
             pair: name_of(&r.fields).pair,
             src: r.fields.src,
@@ -159,6 +166,7 @@ impl Node {
 
     /// The answer to a whole access message.
     fn access_answer(&self, r: &NetReading, akf: bool, aid: u8, upper: &[u8]) -> Answer
+        requires keys { HasKeys self.now }
         requires upper { length upper.now ≤ 15 }
         ensures value { (past : Past) → IsNodeOf self.now past.records → WholeAs past (reading_of r.now) (Access akf aid upper.now) result }
     {
@@ -198,6 +206,7 @@ impl Node {
 
     /// The answer to a message that is no replay. It is whole, since it came in no segment.
     fn whole_answer(&self, r: &NetReading, low: &Lower) -> Answer
+        requires keys { HasKeys self.now }
         requires whole { is_segment low.now ≡ false }
         ensures value { (past : Past) → IsNodeOf self.now past.records → WholeAs past (reading_of r.now) low.now result }
     {
@@ -224,6 +233,7 @@ impl Node {
 
     /// The answer to a message that came in no segment.
     fn lower_answer(&self, r: &NetReading, low: &Lower) -> Answer
+        requires keys { HasKeys self.now }
         requires whole { is_segment low.now ≡ false }
         ensures value { (past : Past) → IsNodeOf self.now past.records → LowerAs past (reading_of r.now) low.now result }
     {
@@ -235,6 +245,7 @@ impl Node {
 
     /// The answer from the lower transport layer on.
     fn transport_answer(&self, r: &NetReading) -> Answer
+        requires keys { HasKeys self.now }
         requires whole { has_seg r.now.fields.tpdu ≡ false }
         ensures value { (past : Past) → IsNodeOf self.now past.records → TransportAs past (reading_of r.now) result }
     {
@@ -246,6 +257,7 @@ impl Node {
 
     /// The answer to a PDU that reads.
     fn reading_answer(&self, r: &NetReading) -> Answer
+        requires keys { HasKeys self.now }
         ensures value { (past : Past) → IsNodeOf self.now past.records → ReadAs past (reading_of r.now) result }
     {
         match self.network_row(&r.fields) {
@@ -256,7 +268,7 @@ impl Node {
 
     /// The answer to octets heard as a network PDU.
     fn answer(&self, octets: &[u8]) -> Answer
-        requires keys { self.now.net_keys ≡ net_rows self.now.provision }
+        requires keys { HasKeys self.now }
         ensures value { (past : Past) → IsNodeOf self.now past.records → AnswersAs past octets.now result }
     {
         match self.reading(octets) {
@@ -277,7 +289,7 @@ impl Node {
 
     /// The answer to octets heard as a network PDU; an accepted message is remembered.
     pub fn hear(&mut self, octets: &[u8]) -> Answer
-        requires keys { self.old.net_keys ≡ net_rows self.old.provision }
+        requires keys { HasKeys self.old }
         ensures answers { (past : Past) → IsNodeOf self.old past.records → AnswersAs past octets.now result }
         ensures stands { (past : Past) → IsNodeOf self.old past.records → IsNodeOf self.new (past.records ++ remembered result) }
         ensures provision { self.new.provision ≡ self.old.provision }

@@ -11,7 +11,7 @@ ghost use Rattle.run_definitions.specs.Report.{opened_line, bearer_lines};
 ghost use Rattle.mesh_run.specs.Hearing.{remembered};
 ghost use Rattle.mesh_run.specs.Lines.{event_of};
 ghost use Rattle.mesh_run.specs.Lived.{HasEntries, HasLines, SeesAs};
-ghost use Rattle.mesh_run.specs.Node.{net_rows, IsNodeOf};
+ghost use Rattle.mesh_run.specs.Node.{HasKeys, IsNodeOf};
 ghost use Rattle.mesh_run.specs.Told.{first_records, next_seq, opened_over, outcome_of, sents_from, sents_of};
 
 use crate::node::Node;
@@ -58,7 +58,7 @@ fn kind_of(line: &BearerLine) -> Kind
 
 /// The answer to the event of a line; an accepted message is remembered.
 fn answer_to(node: &mut Node, line: &BearerLine) -> Answer
-    requires keys { node.old.net_keys ≡ net_rows node.old.provision }
+    requires keys { HasKeys node.old }
     requires ranges { IsBearerLine line.now }
     ensures answers { (past : Past) → IsNodeOf node.old past.records → SeesAs past (event_of line.now) result }
     ensures stands { (past : Past) → IsNodeOf node.old past.records → IsNodeOf node.new (past.records ++ remembered result) }

@@ -5,10 +5,11 @@ ghost use Rattle.std.specs.Prelude.{◌≡◌, ◌<◌, ◌^◌};
 ghost use Rattle.layer_definitions.specs.KeyRefresh.{master_material};
 ghost use Rattle.run_definitions.specs.Answers.{is_mine, is_unicast};
 ghost use Rattle.run_definitions.specs.Config.{is_element};
-ghost use Rattle.mesh_run.specs.Node.{first_config, net_rows, IsNodeOf};
+ghost use Rattle.mesh_run.specs.Node.{first_config, HasKeys, IsNodeOf};
 ghost use Rattle.mesh_run.specs.Told.{first_records};
 
 use crate::replay_list::ReplayList;
+use app_keys::AppKeys;
 use mesh_base::address::Address;
 use mesh_base::fields::NetMaterial;
 use mesh_base::keys::NetKeyRow;
@@ -22,6 +23,8 @@ pub struct Node {
     pub provision: ProvisionLine,
     /// Its network keys, with their material.
     pub net_keys: NetKeys,
+    /// Its application keys, with their AIDs.
+    pub app_keys: AppKeys,
     /// The latest name of each source.
     pub replay: ReplayList,
 }
@@ -41,13 +44,14 @@ impl Node {
         Node {
             provision: *provision,
             net_keys: NetKeys::derive(&[row]),
+            app_keys: AppKeys::derive(&[], &[row]),
             replay: ReplayList::new(),
         }
     }
 
     /// The material that seals what the node sends.
     pub fn material(&self) -> NetMaterial
-        requires keys { self.now.net_keys ≡ net_rows self.now.provision }
+        requires keys { HasKeys self.now }
         ensures value { result ≡ master_material self.now.provision.net_key }
         ensures width { result.nid < 2 ^ 7 }
     {

@@ -1,12 +1,13 @@
 //! The replay list in memory: a fixed table with the latest name of each source.
 #![tactic(auto)]
 
-ghost use Rattle.std.specs.Prelude.{◌≡◌, ◌≤◌, ◌||◌, ◌++◌, ◌∷◌, [], false, length, List, is_some};
-ghost use Rattle.std.specs.List.{position_or_len};
+ghost use Rattle.std.specs.Prelude.{◌≡◌, ◌==◌, ◌||◌, ◌++◌, ◌∷◌, [], false, List, is_some};
+ghost use Rattle.std.specs.List.{position};
+ghost use Rattle.mesh_base.specs.declared.pair.Name.{Name};
 ghost use Rattle.mesh_types.specs.declared.records.StoreRecord.{StoreRecord};
 ghost use Rattle.mesh_types.specs.declared.records.StoreRecord.TheVariants as R;
 ghost use Rattle.run_definitions.specs.Entries.{entry_of, has_room, others_held};
-ghost use Rattle.mesh_run.specs.Replay.{has_place, is_of, kept_in, with_name, IsAcceptable, StandsFor};
+ghost use Rattle.mesh_run.specs.Replay.{has_place, kept_in, IsAcceptable, StandsFor};
 
 use mesh_base::address::Address;
 use mesh_base::pair::{Name, Pair};
@@ -48,15 +49,11 @@ fn kept_in(names: &[Name], src: Address) -> Option<Pair>
         .map(pair_of)
 }
 
-// The place of the name of a source, or the number of names where it has none.
-fn place_in(names: &[Name], src: Address) -> usize
-    ensures value { result ≡ position_or_len (is_of src.0) names.now }
-    ensures bound { result ≤ length names.now }
+// The place of the name of a source.
+fn place_in(names: &[Name], src: Address) -> Option<usize>
+    ensures value { result ≡ position (λ (n : Name). n.src.0 == src.0) names.now }
 {
-    names
-        .iter()
-        .position(|name| name.src.0 == src.0)
-        .unwrap_or(names.len())
+    names.iter().position(|name| name.src.0 == src.0)
 }
 
 impl ReplayList {
@@ -91,11 +88,11 @@ impl ReplayList {
     pub fn accept(&mut self, name: &Name)
         ensures stands { (records : List StoreRecord) → StandsFor self.old records → IsAcceptable records name.now → StandsFor self.new (records ++ R.Replay name.now ∷ []) }
     {
-        let place = place_in(self.names.as_slice(), name.src);
-        if place < self.names.len() {
-            self.names.set(place, *name);
-        } else {
-            let _ = self.names.push(*name);
+        match place_in(self.names.as_slice(), name.src) {
+            Some(place) => self.names.set(place, *name),
+            None => {
+                let _ = self.names.push(*name);
+            }
         }
     }
 }

@@ -8,7 +8,7 @@ use Rattle.mesh_run.proofs.node.Node.transport_answer.Goals as goal
 pub lower_answer-requires : goal.lower_answer-requires
 lower_answer-requires c =
     let reads = subst (λ octets. ReadsLower c.args.r.now.fields.ctl octets c.in-Ok.low) c.as_slice.ensures.value c.in-Ok.ensures.ok in
-    record { whole = not_segment c.args.r.now.fields.ctl c.args.r.now.fields.tpdu c.in-Ok.low c.requires.whole reads }
+    record { keys = c.requires.keys; whole = not_segment c.args.r.now.fields.ctl c.args.r.now.fields.tpdu c.in-Ok.low c.requires.whole reads }
 
 pub returns-in-Ok : goal.returns-in-Ok
 returns-in-Ok c =
