@@ -52,14 +52,17 @@ pub whole_run : (left after old new : Option (List ℕ)) (text : List ℕ) (s : 
 whole_run None after old new text s lines h e b w = tt
 whole_run (Some xs) after old new text s lines h e b w =
     let same : xs ≡ text = all_read (Some xs) after text h.read h.end in
-    let run : IsRunOf s (run_of s e.told) = is_run s lines e in
-    (s, rw same (sym h.script), record {
-      run = run_of s e.told;
-      is_run = run;
-      report = rw (report_is s e.told lines e.lines_are) at w;
-      no_reuse = no_reuse s (run_of s e.told) b run;
-      at_most_once = delivers_once s (run_of s e.told) run;
-    })
+    let run : IsRunOf s (run_of s e.told) = is_run s lines e in (
+      s,
+      rw same (sym h.script),
+      record {
+        run = run_of s e.told;
+        is_run = run;
+        report = rw (report_is s e.told lines e.lines_are) at w;
+        no_reuse = no_reuse s (run_of s e.told) b run;
+        at_most_once = delivers_once s (run_of s e.told) run;
+      },
+    )
 
 -- a front of the report was written
 pub front_of_run : (left after old new : Option (List ℕ)) (text : List ℕ) (s : Script) (lines : List ReportLine) → Says left after text s

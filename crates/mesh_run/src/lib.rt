@@ -20,6 +20,8 @@ mod reading;
 mod replay_list;
 mod running;
 mod status;
+#[cfg(test)]
+mod tests;
 
 pub use crate::laws::hearing_law;
 pub use crate::running::run;

@@ -43,10 +43,7 @@ fn pair_of(name: &Name) -> Pair
 fn kept_in(names: &[Name], src: Address) -> Option<Pair>
     ensures value { result ≡ kept_in names.now src.0 }
 {
-    names
-        .iter()
-        .find(|name| name.src.0 == src.0)
-        .map(pair_of)
+    names.iter().find(|name| name.src.0 == src.0).map(pair_of)
 }
 
 // The place of the name of a source.
