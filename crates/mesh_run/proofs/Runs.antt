@@ -67,10 +67,14 @@ whole_run (Some xs) after old new text s lines h e b w =
 -- a front of the report was written
 pub front_of_run : (left after old new : Option (List ℕ)) (text : List ℕ) (s : Script) (lines : List ReportLine) → Says left after text s
     → HasLines s lines → WritesFront old new (flat_map line_text lines)
-    → IfSome left (λ text. WritesOf (script_of text) old new)
+    → IfSome left (λ text. (s : Script) × (script_of text ≡ Some s) × RanUpTo s old new)
 front_of_run None after old new text s lines h e w = tt
 front_of_run (Some xs) after old new text s lines h e w =
     let same : xs ≡ text = all_read (Some xs) after text h.read h.end in
-    let script : script_of xs ≡ Some s = ap script_of same ∙ sym h.script in
-    let ran : RanUpTo s old new = record { run = run_of s e.told; is_run = is_run s lines e; front = rw (report_is s e.told lines e.lines_are) at w } in
-    subst (λ o. WritesOf o old new) (sym script) (inr ran)
+    (s, rw same (sym h.script), record { run = run_of s e.told; is_run = is_run s lines e; front = rw (report_is s e.told lines e.lines_are) at w })
+
+-- so that is what was written when memory ran out
+pub front_of_memory : (left old new : Option (List ℕ)) → IfSome left (λ text. (s : Script) × (script_of text ≡ Some s) × RanUpTo s old new)
+    → IfSome left (λ text. WritesOf (script_of text) old new)
+front_of_memory None old new h = tt
+front_of_memory (Some text) old new (s, script, ran) = subst (λ o. WritesOf o old new) (sym script) (inr ran)

@@ -53,10 +53,10 @@ fn hears<R: Abort + AllocGlobal>(
         "provision 1201 1 {iv} 00 000 7dd7364cd842ad18c17c2b820c84c3d6 9d6dd0e96eb25dc19a40ed9914f8f03f\nlife\n"
     )?;
     let mut report = format!(in alloc; "life 1 {iv} n {iv} 000000\n")?;
-    let mut number = 0;
-    for (word, rest, answer) in lines {
-        number += 1;
-        let key = match *word {
+    for i in 0..lines.len() {
+        let (word, rest, answer) = lines[i];
+        let number = i + 1;
+        let key = match word {
             "net" => "",
             _ => " 7dd7364cd842ad18c17c2b820c84c3d6",
         };
