@@ -1,4 +1,13 @@
-pub mod Lines
-pub mod Runs
-pub mod Safety
 pub mod Written
+pub mod Records
+pub mod Replays
+pub mod Accepting
+pub mod Candidates
+pub mod Heard
+pub mod Once
+pub mod Safety
+pub mod Told
+pub mod Runs
+pub mod OneReport
+pub mod First
+pub mod Lengths

@@ -1,4 +1,10 @@
 pub mod Octets
-pub mod Ran
-pub mod Status
+pub mod Lines
+pub mod Hearing
 pub mod Told
+pub mod Ran
+pub mod Laws
+pub mod Replay
+pub mod Node
+pub mod Lived
+pub mod Status

@@ -6,10 +6,9 @@ ghost use Rattle.std.specs.Io.KnownBytes.{IsAtEnd};
 ghost use Rattle.mesh_base.specs.Outside.{Rose, Grows};
 ghost use Rattle.mesh_script.specs.Script.{script_of};
 ghost use Rattle.mesh_script.specs.declared.grammar.Script.{Script};
-ghost use Rattle.mesh_run.specs.Octets.{ReadsMoreThan, WritesFront};
+ghost use Rattle.mesh_run.specs.Octets.{ReadsMoreThan};
 ghost use Rattle.mesh_run.specs.Status.{is_command, due, IsDue};
-ghost use Rattle.mesh_run.specs.Told.{report_of};
-ghost use Rattle.mesh_run.specs.Ran.{Ran};
+ghost use Rattle.mesh_run.specs.Ran.{Ran, RanUpTo, WritesOf};
 
 use crate::life::life_lines;
 use crate::printing::{WriteStop, write_report};
@@ -46,9 +45,10 @@ pub fn run<S: Source, K: Sink>(
     // Where nothing fails, it is the one that the octets of the source ask for.
     ensures status { IsTrue (is_command (map (λ w. w.now) words.now)) → IfSome (S.left source.old) (λ text. IsDue result (due text)) }
 
-    // What is written is the report, or a front of it.
+    // What is written is the report of a record of a run of the script, or a front of it.
     ensures done { result ≡ Status.Done → IfSome (S.left source.old) (λ text. (s : Script) × (script_of text ≡ Some s) × Ran s (K.held sink.old) (K.held sink.new)) }
-    ensures front { (result ≡ Status.WriteFault) ⊎ (result ≡ Status.Memory) → IfSome (S.left source.old) (λ text. WritesFront (K.held sink.old) (K.held sink.new) (report_of text)) }
+    ensures front { result ≡ Status.WriteFault → IfSome (S.left source.old) (λ text. (s : Script) × (script_of text ≡ Some s) × RanUpTo s (K.held sink.old) (K.held sink.new)) }
+    ensures memory { result ≡ Status.Memory → IfSome (S.left source.old) (λ text. WritesOf (script_of text) (K.held sink.old) (K.held sink.new)) }
     ensures nothing_written { (result ≡ Status.Usage) ⊎ (result ≡ Status.ReadFault) ⊎ (result ≡ Status.TooLong) ⊎ (result ≡ Status.NotBuilt) → K.held sink.new ≡ K.held sink.old }
 
     // What is read is all that there was.

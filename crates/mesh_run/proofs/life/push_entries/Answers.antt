@@ -1,9 +1,8 @@
-use Rattle.std.proofs.Common.{arith}
-use Rattle.mesh_run.proofs.Lines.{line_more, line_end, entry_more, entry_end}
+use Rattle.mesh_run.proofs.Told.{next_told}
 use Rattle.mesh_run.proofs.life.push_entries.Goals as goal
 
 pub loop-i-preserved : goal.loop-i-preserved
-loop-i-preserved c = λ p. line_more _ _ _ _ _ _ c.in_ok-push.ensures.items (entry_more p c.args.lines.now c.loop-i.i c.loop-i-test.true) (c.loop-i.invariant p)
-
-pub returns : goal.returns
-returns c = record { ok = λ p. line_end _ _ _ (entry_end p c.args.lines.now c.loop-i.i (omega arith)) (c.loop-i.invariant p) }
+loop-i-preserved c =
+    next_told c.args.node.now.provision c.args.lines.now c.loop-i.i c.loop-i.node c.answer_to-answer.new.node c.args.out.now.items c.loop-i.out.items c.push.new.self.items c.index-lines-i.result
+    c.kind_of.result c.answer_to-answer.result c.loop-i-test.true c.index-lines-i.is c.loop-i.invariant c.answer_to-answer.ensures.answers c.answer_to-answer.ensures.stands
+    c.answer_to-answer.ensures.provision c.kind_of.ensures.value c.in_ok-push.ensures.items

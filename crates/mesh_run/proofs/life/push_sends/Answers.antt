@@ -1,15 +1,13 @@
-use Rattle.std.proofs.Common.{arith}
-use Rattle.mesh_run.proofs.Lines.{line_more, line_end, sent_step, sent_end}
+use Rattle.std.proofs.Common.{◌≤◌, ◌+◌, ℕ, arith, sym, subst}
+use Rattle.mesh_run.proofs.Told.{sent_all, sent_more, seq_most}
 use Rattle.mesh_run.proofs.life.push_sends.Goals as goal
 
-pub loop-line-preserved : goal.loop-line-preserved
-loop-line-preserved c = record {
-  lines = line_more _ _ _ _ _ _ c.in_ok-push.ensures.items
-      (sent_step c.args.provision.now c.args.lines.now c.loop-line.line-index c.loop-line.seq c.line-item.result c.outcome.result
-      c.loop-line-test.true c.loop-line.invariant.number c.line-item.is c.outcome.ensures.value)
-      c.loop-line.invariant.lines;
-  number = omega arith;
+pub loop-i-preserved : goal.loop-i-preserved
+loop-i-preserved c = record {
+  lines = sent_more c.args.provision.now c.args.lines.now c.loop-i.i c.loop-i.seq c.in_ok-seq.seq c.index-lines-i.result c.loop-i.out.items c.push_sent.new.out.items _
+      c.loop-i-test.true c.index-lines-i.is c.in_ok-seq.ensures.lines c.in_ok-seq.ensures.next c.loop-i.invariant.lines;
+  number = subst (λ (n : ℕ). n ≤ c.loop-i.i + 1) (sym c.in_ok-seq.ensures.next) (seq_most c.loop-i.seq c.loop-i.i c.index-lines-i.result c.loop-i.invariant.number);
 }
 
 pub returns : goal.returns
-returns c = record { ok = line_end _ _ _ (sent_end c.args.provision.now c.args.lines.now c.loop-line.line-index (omega arith)) c.loop-line.invariant.lines }
+returns c = record { ok = sent_all c.args.provision.now c.args.lines.now c.loop-i.i c.loop-i.seq c.loop-i.out.items _ (omega arith) c.loop-i.invariant.lines }

@@ -1,10 +1,11 @@
-use Rattle.std.proofs.Common.{◌≡◌, ◌++◌, true, drop}
+use Rattle.std.proofs.Common.{◌≡◌, ◌≤◌, ◌++◌, true}
 use Rattle.run_definitions.specs.Report.{bearer_lines}
-use Rattle.mesh_run.specs.Told.{sent_of, placed}
+use Rattle.mesh_run.specs.Told.{sents_from}
+use Rattle.mesh_run.proofs.Told.{left_lines}
 use Rattle.mesh_run.proofs.life.push_sends.Given as goal
 
-abbrev pub invariant-loop-line : goal.invariant-loop-line
-invariant-loop-line l = record {
-  lines : l.out.items ++ bearer_lines true 0 (placed (sent_of l.provision) l.line-index (drop l.line-index l.lines)) ≡ l.fn.out.items ++ bearer_lines true 0 (placed (sent_of l.provision) 0 l.lines);
-  number : l.seq ≡ l.line-index;
+abbrev pub invariant-loop-i : goal.invariant-loop-i
+invariant-loop-i l = record {
+  lines : l.out.items ++ left_lines l.provision l.i l.seq l.lines ≡ l.fn.out.items ++ bearer_lines true 0 (sents_from l.provision 0 0 l.lines);
+  number : l.seq ≤ l.i;
 }
