@@ -2,47 +2,29 @@
 #![tactic(auto)]
 
 ghost use Rattle.std.specs.Prelude.{◌≡◌, ◌+◌, ◌<◌, ◌≤◌, ◌^◌, length, IsFalse};
-ghost use Rattle.layer_definitions.specs.KeyRefresh.{master_material};
 ghost use Rattle.layer_definitions.specs.Upper.{upper_text};
 ghost use Rattle.mesh_script.specs.Ranges.{IsPeer, IsTalk};
 ghost use Rattle.run_definitions.specs.Seals.{access_tpdu, aid_of_key, is_app_key, own_upper};
 ghost use Rattle.mesh_run.specs.Lines.{peer_text, talk_fields, talk_key, talk_text};
 
 use lower_transport::Lower;
-use mesh_base::fields::{NetFields, NetMaterial};
+use mesh_base::fields::NetFields;
 use mesh_base::keys::UpperKey;
 use mesh_base::octets::Octets;
 use mesh_base::pair::Pair;
 use mesh_base::upper::UpperFields;
-use mesh_kdf::{K2, k2, k4};
+use mesh_kdf::k4;
 use mesh_script::{PeerLine, TalkKey, TalkLine};
+use net_keys::master;
 use network_layer::seal;
 use upper_transport::seal_access;
-
-/// The master credentials of a network key (Mesh Profile 1.0.1, section 3.8.6.3.1).
-#[tactic(auto, unfolding(cipher_definitions::specs::Kdf::master_credentials, layer_definitions::specs::KeyRefresh::master_material))]
-fn master_material(net_key: &[u8; 16]) -> NetMaterial
-    ensures value { result ≡ master_material net_key.now }
-    ensures width { result.nid < 2 ^ 7 }
-{
-    let K2 {
-        nid,
-        encryption,
-        privacy,
-    } = k2(net_key, &[0]);
-    NetMaterial {
-        nid,
-        encryption,
-        privacy,
-    }
-}
 
 /// The octets that the node hears of a line `peer`.
 pub fn peer_octets(line: &PeerLine) -> Octets<29>
     requires ranges { IsPeer line.now }
     ensures value { result ≡ peer_text line.now }
 {
-    seal(&master_material(&line.net_key), &line.fields)
+    seal(&master(&line.net_key), &line.fields)
 }
 
 /// The key that a line `talk` seals its payload with. Its index here is 0, and in no octet.
@@ -120,5 +102,5 @@ pub fn talk_octets(line: &TalkLine) -> Octets<29>
         dst: line.dst,
         tpdu: talk_tpdu(line),
     };
-    seal(&master_material(&line.net_key), &fields)
+    seal(&master(&line.net_key), &fields)
 }

@@ -10,10 +10,12 @@ use mesh_base::address::Address;
 use mesh_base::fields::NetMaterial;
 use mesh_kdf::{K2, k2};
 
-/// The material of the master credentials of a network key (section 3.8.6.3.1).
+/// The material of the master credentials of a network key (section 3.8.6.3.1). NID is below 128. What a node holds is derived by
+/// [`crate::NetKeys::derive`]; this is for a key that it doesn't hold.
 #[tactic(auto, unfolding(cipher_definitions::specs::Kdf::master_credentials, layer_definitions::specs::KeyRefresh::master_material))]
-pub(crate) fn master(key: &[u8; 16]) -> NetMaterial
+pub fn master(key: &[u8; 16]) -> NetMaterial
     ensures value { result ≡ master_material key.now }
+    ensures nid { result.nid < 2 ^ 7 }
 {
     let K2 {
         nid,

@@ -12,7 +12,7 @@ mod held;
 mod keys;
 mod laws;
 
-pub use credentials::friendship;
+pub use credentials::{friendship, master};
 pub use keys::NetKeys;
 pub use laws::candidates_law;
 
