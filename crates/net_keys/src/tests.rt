@@ -12,7 +12,7 @@ use std::test::Fail;
 // The network key of the Mesh Profile's sample data, section 8.2.
 const KEY: &str = "7dd7364cd842ad18c17c2b820c84c3d6";
 
-// The key of the sample of k2, section 8.1.3.
+// The key of the standard's sample of k2.
 const OTHER: &str = "f7a2a44f8e8a8029064f173ddc1e2b00";
 
 // A key whose NID is that of the first one.
@@ -55,7 +55,7 @@ fn heard(index: u16, fresh: bool, material: NetMaterial) -> Heard {
     }
 }
 
-// Friendship credentials: section 8.2.4 of the standard, and the sample of k2 in section 8.1.3, whose P has this form.
+// Friendship credentials: the standard's sample, and its sample of k2, whose P has this form.
 #[test]
 fn friendship_samples(rt: HostRuntime) -> Result<(), Fail> {
     for (key, lpn, friend, counters, nid, encryption, privacy) in [
