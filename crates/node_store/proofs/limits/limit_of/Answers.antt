@@ -3,7 +3,6 @@ use Rattle.std.specs.Prelude.{IsSome}
 use Rattle.mesh_base.specs.declared.address.Address.{Address}
 use Rattle.mesh_base.specs.declared.keys.NetKeyRow.{NetKeyRow}
 use Rattle.mesh_base.specs.declared.keys.AppKeyRow.{AppKeyRow}
-use Rattle.mesh_base.specs.declared.pair.Name.{Name}
 use Rattle.mesh_types.specs.declared.records.StoreRecord.{StoreRecord}
 use Rattle.node_records.specs.Full.{IsFull}
 use Rattle.node_store.specs.Rows.{passes_nets as is_passes_nets, passes_apps as is_passes_apps, passes_binds as is_passes_binds, passes_subs as is_passes_subs, passes_replay as is_passes_replay}
