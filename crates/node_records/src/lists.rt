@@ -17,7 +17,7 @@ type Bind = (Address, u16, u16);
 type Sub = (Address, u16, Address);
 
 /// Whether a binding is among these.
-fn has_bind(binds: &[Bind], element: Address, model: u16, app: u16) -> bool
+pub(crate) fn has_bind(binds: &[Bind], element: Address, model: u16, app: u16) -> bool
     ensures { result ≡ list_any (is_bind element model app) binds.now }
 {
     binds.iter().any(|bind| bind.0.0 == element.0 && bind.1 == model && bind.2 == app)
@@ -31,7 +31,7 @@ fn has_app(apps: &[AppKeyRow], net: u16, index: u16) -> bool
 }
 
 /// Whether a subscription is among these.
-fn has_sub(subs: &[Sub], element: Address, model: u16, address: Address) -> bool
+pub(crate) fn has_sub(subs: &[Sub], element: Address, model: u16, address: Address) -> bool
     ensures { result ≡ list_any (is_sub element model address) subs.now }
 {
     subs.iter().any(|sub| sub.0.0 == element.0 && sub.1 == model && sub.2.0 == address.0)

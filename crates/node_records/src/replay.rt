@@ -28,7 +28,7 @@ fn is_above(pair: &Pair, other: &Pair) -> bool
 }
 
 /// Whether no PDU of a pair's IV Index is read any more.
-fn is_old(current: u32, pair: &Pair) -> bool
+pub(crate) fn is_old(current: u32, pair: &Pair) -> bool
     ensures { result ≡ is_expired current pair.now }
 {
     u64::from(pair.iv) + 1 < u64::from(current)
