@@ -6,23 +6,12 @@ ghost use Rattle.node_records.specs.Growth as table;
 
 use crate::applying::Limit;
 use crate::lists::{has_bind, has_sub};
-use crate::persist::Persist;
+use crate::persist::{APPS, BINDS, NETS, Persist, REPLAY, SUBS};
 use crate::replay::{has_few_rows, is_old};
 use mesh_base::address::Address;
 use mesh_base::keys::{AppKeyRow, NetKeyRow};
 use mesh_base::pair::Name;
 use mesh_types::records::StoreRecord;
-
-/// Rows of each table at most.
-const NETS: usize = 4;
-
-const APPS: usize = 8;
-
-const BINDS: usize = 32;
-
-const SUBS: usize = 32;
-
-const REPLAY: usize = 64;
 
 impl Persist {
     ghost use Rattle.std.specs.Prelude.{◌≡◌, ◌↔◌, List, IsErr, IfErr};

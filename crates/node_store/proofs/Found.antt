@@ -1,6 +1,6 @@
 -- What the slots of a bank are read as, one slot after another.
 use Rattle.std.proofs.Common.{◌≡◌, ◌⊎◌, inl, inr, ℕ, zero, suc, ◌+◌, ◌*◌, ◌-◌, ◌<◌, ◌≤◌, List, [], ◌∷◌, ◌++◌, Option, Some, None, refl, ap, sym, subst, ◌∙◌, arith, append_assoc, add-one, true≢false}
-use Rattle.std.specs.Prelude.{All, map, option_map, option_to_list, true, false}
+use Rattle.std.specs.Prelude.{map, option_map, option_to_list, true, false}
 use Rattle.std.proofs.lemmas.List.{append-nil, map-append}
 use Rattle.std.proofs.lemmas.List.Elements.{All-nil, All-push}
 use Rattle.mesh_base.specs.declared.slot.Slot.{Slot}
@@ -10,10 +10,10 @@ use Rattle.node_records.specs.declared.persist.Persist.{Persist}
 use Rattle.node_records.specs.Meaning.{IsMeaningOf}
 use Rattle.run_definitions.specs.Config.{config_of}
 use Rattle.run_definitions.specs.Ranges.{IsInRange}
-use Rattle.run_definitions.specs.Recovered.{record_text, IsRecovered}
+use Rattle.run_definitions.specs.Recovered.{record_text}
 use Rattle.node_store.specs.declared.mounting.StoreFault.{StoreFault}
 use Rattle.node_store.specs.declared.mounting.StoreFault.TheVariants as F
-use Rattle.node_store.specs.Causes.{IsDamagedAt, IsFoundAs, IsReset}
+use Rattle.node_store.specs.Causes.{IsDamagedAt, IsFoundAs}
 use Rattle.node_store.specs.Mounted.{AreRead, AreSaid, IsDamaged, IsRead, IsRefused, IsTaken}
 use Rattle.node_store.specs.Order.{Follows, AreInOrder}
 use Rattle.run_definitions.proofs.Texts.{recovered_once}

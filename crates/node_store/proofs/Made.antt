@@ -1,28 +1,25 @@
 -- The records of provisioning.
-use Rattle.std.proofs.Common.{◌≡◌, ◌⊎◌, inl, inr, ⊎_elim, ◌↔◌, ℕ, ◌+◌, ◌*◌, ◌^◌, ◌%◌, ◌<◌, ◌≤◌, List, [], ◌∷◌, ◌++◌, length, Bool, true, false, Some, None, refl, ap, sym, subst, ◌∙◌, arith}
-use Rattle.std.specs.Prelude.{All, map, Result, Ok, Err, IsErr, IsOk, OnOk, IsTrue}
-use Rattle.flash_model.specs.Chip.{Chip, IsFresh, LeavesOnly}
+use Rattle.std.proofs.Common.{◌≡◌, inl, inr, ⊎_elim, ◌↔◌, ℕ, ◌+◌, ◌*◌, ◌^◌, ◌%◌, ◌<◌, ◌≤◌, List, [], ◌∷◌, length, Some, refl, ap, subst, arith}
+use Rattle.std.specs.Prelude.{All, map, Result, Ok, Err, IsErr, IsOk, OnOk}
+use Rattle.flash_model.specs.Chip.{Chip, LeavesOnly}
 use Rattle.flash_model.proofs.Leaves.{leaves_weaker}
 use Rattle.layer_definitions.specs.Slots.{recovered}
 use Rattle.mesh_base.specs.IvState.{transmit_of}
 use Rattle.mesh_base.specs.declared.iv_state.IvState.{IvState}
 use Rattle.mesh_base.specs.declared.keys.NetKeyRow.{NetKeyRow}
-use Rattle.mesh_base.specs.declared.slot.Slot.{Slot}
 use Rattle.mesh_types.specs.declared.records.StoreRecord.{StoreRecord}
 use Rattle.mesh_types.specs.declared.records.StoreRecord.TheVariants as R
 use Rattle.node_records.specs.declared.persist.Persist.{Persist}
 use Rattle.node_records.specs.Full.{IsFull}
 use Rattle.node_records.specs.Meaning.{IsMeaningOf}
-use Rattle.run_definitions.specs.Config.{Config, changed, config_of, nets_after}
+use Rattle.run_definitions.specs.Config.{Config, changed, nets_after}
 use Rattle.run_definitions.specs.Ranges.{IsInRange, IsMark}
-use Rattle.run_definitions.specs.Recovered.{record_text, IsRecovered}
+use Rattle.run_definitions.specs.Recovered.{record_text}
 use Rattle.run_definitions.specs.RunOf.{Provisioning, first_state, provisioned}
 use Rattle.slot_journal.specs.Format.{IsFormatted}
-use Rattle.slot_journal.specs.Tie.{IsJournalOf}
 use Rattle.node_store.specs.Mounted.{IsRead}
-use Rattle.node_store.specs.Order.{AreInOrder, Follows}
-use Rattle.node_store.specs.Tie.{IsMade, IsStoreOf}
-use Rattle.node_store.specs.View.{StoreView}
+use Rattle.node_store.specs.Order.{AreInOrder}
+use Rattle.node_store.specs.Tie.{IsMade}
 
 -- a record that passes no limit is applied
 module _ {E : Type 0} where

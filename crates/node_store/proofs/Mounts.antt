@@ -1,7 +1,7 @@
 -- A mount, over the chip before and after.
-use Rattle.std.proofs.Common.{◌≡◌, ◌⊎◌, inl, inr, ℕ, ◌+◌, ◌*◌, ◌<◌, ◌≤◌, List, [], ◌∷◌, ◌++◌, Bool, true, false, Option, Some, None, refl, ap, sym, subst, ◌∙◌, arith}
+use Rattle.std.proofs.Common.{◌≡◌, ◌⊎◌, inl, inr, ℕ, ◌+◌, ◌*◌, ◌≤◌, List, true, false, Some, None, refl, ap, sym, subst, ◌∙◌, arith}
 use Rattle.std.specs.Prelude.{IsErrAnd, IsTrue, Result, Ok, Err, OnOk}
-use Rattle.flash_model.specs.Chip.{Chip, IsFresh, Keeps, Stays}
+use Rattle.flash_model.specs.Chip.{Chip, Keeps, Stays}
 use Rattle.layer_definitions.specs.Slots.{counting, gated, recovered, slots_to, text_at}
 use Rattle.mesh_base.specs.declared.slot.Slot.{Slot}
 use Rattle.mesh_types.specs.declared.records.StoreRecord.{StoreRecord}

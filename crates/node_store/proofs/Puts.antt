@@ -1,14 +1,11 @@
 -- A put, over the chip before and after.
-use Rattle.std.proofs.Common.{◌≡◌, ◌⊎◌, inl, inr, ⊎_elim, ℕ, ◌<◌, ◌≤◌, List, [], ◌∷◌, ◌++◌, length, Some, refl, ap, sym, subst, ◌∙◌, arith}
-use Rattle.std.specs.Prelude.{map}
+use Rattle.std.proofs.Common.{◌≡◌, inl, inr, ⊎_elim, ℕ, ◌≤◌, List, [], ◌∷◌, ◌++◌, Some, ap, sym, subst, ◌∙◌, arith}
 use Rattle.std.proofs.lemmas.List.{map-append}
 use Rattle.std.proofs.lemmas.List.Elements.{All-push}
 use Rattle.flash_model.specs.Chip.{Chip, LeavesOnly}
 use Rattle.flash_model.proofs.Leaves.{IsOnlyNow, leaves_none, leaves_weaker}
 use Rattle.layer_definitions.specs.Slots.{recovered}
-use Rattle.mesh_base.specs.declared.slot.Slot.{Slot}
 use Rattle.mesh_types.specs.declared.records.StoreRecord.{StoreRecord}
-use Rattle.node_records.specs.declared.persist.Persist.{Persist}
 use Rattle.node_records.specs.Full.{PassesLimit}
 use Rattle.node_records.specs.Meaning.{IsMeaningOf}
 use Rattle.run_definitions.specs.Config.{config_of}
@@ -17,9 +14,8 @@ use Rattle.run_definitions.specs.Recovered.{record_text, IsRecovered}
 use Rattle.run_definitions.proofs.Texts.{recovered_once}
 use Rattle.slot_journal.specs.Headers.{IsTidy}
 use Rattle.slot_journal.specs.Tie.{IsAppended, IsJournalOf, with_last}
-use Rattle.slot_journal.specs.View.{JournalView}
 use Rattle.node_store.specs.Mounted.{IsRead}
-use Rattle.node_store.specs.Order.{AreInOrder, Follows}
+use Rattle.node_store.specs.Order.{Follows}
 use Rattle.node_store.specs.Tie.{HasMark, HasMarkFrom, IsNoNumbers, IsNotBelow, IsPut, IsStoreOf}
 use Rattle.node_store.specs.View.{StoreView}
 use Rattle.node_store.proofs.Follows.{mark_before, mark_from, mark_same, not_below_current, rises_of}

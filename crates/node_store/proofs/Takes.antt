@@ -1,5 +1,5 @@
 -- Records that a value takes, and records that it refuses.
-use Rattle.std.proofs.Common.{◌≡◌, ℕ, List, sym, subst, ◌∙◌}
+use Rattle.std.proofs.Common.{◌≡◌, List, sym, subst, ◌∙◌}
 use Rattle.mesh_base.specs.declared.slot.Slot.{Slot}
 use Rattle.mesh_types.specs.declared.records.StoreRecord.{StoreRecord}
 use Rattle.node_records.specs.declared.persist.Persist.{Persist}

@@ -1,5 +1,5 @@
 -- What a node is provisioned with (Mesh Profile 1.0.1, section 5.4.2.5).
-use Rattle.std.specs.Prelude.{ℕ, ◌+◌, ◌^◌, ◌≤◌, ◌==◌, ◌/◌, ◌%◌, IsTrue}
+use Rattle.std.specs.Prelude.{ℕ, ◌+◌, ◌^◌, ◌≤◌, ◌==◌, ◌/◌, ◌%◌}
 use Rattle.node_store.specs.declared.provision.Provision.{Provision}
 use Rattle.mesh_base.specs.IvState.{HasTransmit}
 use Rattle.mesh_base.specs.declared.iv_state.IvState.{IvState}

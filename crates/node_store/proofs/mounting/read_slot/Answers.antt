@@ -1,5 +1,5 @@
-use Rattle.std.proofs.Common.{ℕ, List, Option, Some, sym, ◌≡◌, ◌∙◌}
-use Rattle.node_store.proofs.Mounts.{on_ok, slot_gap, slot_taken, slot_refused}
+use Rattle.std.proofs.Common.{sym, ◌∙◌}
+use Rattle.node_store.proofs.Mounts.{on_ok, slot_gap, slot_taken}
 use Rattle.node_store.proofs.mounting.read_slot.Goals as goal
 
 pub returns-in_default-clause-value : goal.returns-in_default-clause-value

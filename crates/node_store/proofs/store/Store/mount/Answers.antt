@@ -1,9 +1,7 @@
-use Rattle.std.proofs.Common.{◌≡◌, ◌⊎◌, inl, inr, ⊎_elim, ap, ◌∙◌}
-use Rattle.std.specs.Prelude.{Result, Err}
-use Rattle.node_store.specs.declared.mounting.StoreFault.{StoreFault}
+use Rattle.std.proofs.Common.{◌≡◌, inl, inr, ⊎_elim, ap, ◌∙◌}
+use Rattle.std.specs.Prelude.{Err}
 use Rattle.node_store.specs.declared.mounting.StoreFault.TheVariants as F
 use Rattle.node_store.specs.Causes.{IsStoreCause}
-use Rattle.node_store.specs.View.{StoreView}
 use Rattle.node_store.proofs.Mounts.{err_of, exact_cause, mount_kept, none_found, store_cause, store_mounted, was_reset}
 use Rattle.node_store.proofs.store.Store.mount.Goals as goal
 

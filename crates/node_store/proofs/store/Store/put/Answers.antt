@@ -1,4 +1,4 @@
-use Rattle.std.proofs.Common.{ℕ, List, [], ◌∷◌, ◌++◌, ◌≡◌, Option, sym, subst, ap, ◌∙◌, true≢false}
+use Rattle.std.proofs.Common.{sym, subst, ap, ◌∙◌, true≢false}
 use Rattle.flash_model.specs.Chip.{LeavesOnly}
 use Rattle.layer_definitions.specs.Slots.{recovered}
 use Rattle.mesh_base.specs.declared.slot.Slot.{Slot}
