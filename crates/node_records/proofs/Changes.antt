@@ -1,6 +1,6 @@
 -- A table changed row by row, and the sizes of tables that are changed or thinned.
 use Rattle.std.proofs.Common.{◌≡◌, ℕ, zero, suc, ◌+◌, ◌<◌, ◌≤◌, Bool, true, false, List, [], ◌∷◌, ◌++◌, length, get_or, take, drop, map, refl, ap, ◌∙◌, arith, add-one, set, filter}
-use Rattle.std.specs.Prelude.{◌↔◌, Result, Ok, Err, IsOk, IsErr, OnErr}
+use Rattle.std.specs.Prelude.{Result, Ok, Err, IsOk, OnOk}
 use Rattle.std.proofs.lemmas.Bool.Decides.{nat_tests}
 use Rattle.mesh_base.specs.declared.keys.NetKeyRow.{NetKeyRow}
 use Rattle.run_definitions.specs.Config.{nets_after}
@@ -53,25 +53,7 @@ nets_changed (suc (suc (suc zero))) index key rows least most = refl
 nets_changed (suc (suc (suc (suc zero)))) index key rows least most = refl
 nets_changed (suc (suc (suc (suc (suc op))))) index key rows least most = absurd (omega arith)
 
--- a filter that keeps as many as there were keeps all
-pub filter_all : {A : Type 0} (p : A → Bool) (xs : List A) → length xs ≤ length (filter p xs) → filter p xs ≡ xs
-filter_all p [] h = refl
-filter_all p (x ∷ xs) h = by_test (p x) refl (λ k. filter_all p xs k)
-  where
-    by_test : (b : Bool) → p x ≡ b → (length xs ≤ length (filter p xs) → filter p xs ≡ xs) → filter p (x ∷ xs) ≡ x ∷ xs
-    by_test true e rest = rw e (ap (λ l. x ∷ l) (rest (omega (arith, rw e at h))))
-    by_test false e rest = absurd (omega (arith, rw e at h, filter_few p xs))
-
--- one row more is refused exactly where it would be too many
-pub full_by : {T E : Type 0} (r : Result T E) (n m : ℕ) → (IsOk r ↔ (n < m)) → IsErr r ↔ (m < n + 1)
-full_by (Ok x) n m v = ((λ e. cc), (λ h. let f : n < m = v.0 refl in absurd (omega arith)))
-full_by (Err x) n m v = ((λ e. let g : n < m → ⊥ = (λ h. let b = v.1 h in cc) in omega arith), (λ h. refl))
-
--- a refused row leaves a filtered table as it was before the filter, since that kept all
-pub kept_all : {A T E : Type 0} (r : Result T E) (p : A → Bool) (xs seen ys : List A) (m : ℕ) → seen ≡ filter p xs → length xs ≤ m
-    → (IsOk r ↔ (length seen < m)) → OnErr r (ys ≡ seen) → OnErr r (ys ≡ xs)
-kept_all (Ok x) p xs seen ys m e most v same = same
-kept_all (Err x) p xs seen ys m e most v same =
-    let g : length seen < m → ⊥ = (λ h. let b = v.1 h in cc) in
-    let all : length xs ≤ length (filter p xs) = omega (arith, ap length e) in
-    same ∙ e ∙ filter_all p xs all
+-- what holds where a row was taken, of a row that was
+pub taken : {T E : Type 0} (r : Result T E) (P : Type 0) → IsOk r → OnOk r P → P
+taken (Ok x) P ok h = h
+taken (Err e) P ok h = absurd (cc)

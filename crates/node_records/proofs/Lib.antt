@@ -6,3 +6,4 @@ pub mod Meanings
 pub mod Places
 pub mod Room
 pub mod Rows
+pub mod Sizes

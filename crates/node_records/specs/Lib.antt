@@ -1,4 +1,5 @@
 pub mod Full
+pub mod Growth
 pub mod Meaning
 pub mod Rows
 pub mod Steps

@@ -4,10 +4,8 @@
 use crate::keys::{apply_net_to_apps, apply_to_apps, apply_to_nets};
 use crate::lists::{apply_app_to_binds, apply_net_to_binds, apply_to_binds, apply_to_subs};
 use crate::persist::Persist;
-use crate::replay::{apply_to_replay, has_few_rows};
-use mesh_base::address::Address;
+use crate::replay::apply_to_replay;
 use mesh_base::iv_state::IvState;
-use mesh_base::pair::Name;
 use mesh_types::records::StoreRecord;
 use thiserror::Error;
 
@@ -30,88 +28,25 @@ impl Persist {
     ghost use Rattle.node_records.specs.Steps.{IsStep};
     ghost use Rattle.node_records.specs.Tables.{config_in};
 
-    /// A NetKey record.
+    /// A NetKey record, for which there is a place.
     #[tactic(auto, unfolding(run_definitions::specs::Config::changed))]
-    fn apply_net_key(&mut self, op: u8, index: u16, key: &[u8; 16]) -> Result<(), Limit>
-        ensures ok { OnOk result (IsStep self.old (R.NetKey op index key.now) self.new) }
-        ensures limit { IsErr result ↔ IsFull self.old (R.NetKey op index key.now) }
-        ensures held { IfErr result (λ e. e.held ≡ held_for self.old (R.NetKey op index key.now)) }
-        ensures same { OnErr result (self.new ≡ self.old) }
+    fn apply_net_key(&mut self, op: u8, index: u16, key: &[u8; 16])
+        requires { ¬ IsFull self.old (R.NetKey op index key.now) }
+        ensures { IsStep self.old (R.NetKey op index key.now) self.new }
     {
-        let held = self.nets.len() as u32;
-        if apply_to_nets(&mut self.nets, op, index, key).is_err() {
-            return Err(Limit { held });
-        }
+        apply_to_nets(&mut self.nets, op, index, key);
         apply_net_to_binds(&mut self.binds, self.apps.as_slice(), op, index);
         apply_net_to_apps(&mut self.apps, op, index);
-        Ok(())
     }
 
-    /// An AppKey record.
+    /// An AppKey record, for which there is a place.
     #[tactic(auto, unfolding(run_definitions::specs::Config::changed))]
-    fn apply_app_key(&mut self, op: u8, net: u16, index: u16, key: &[u8; 16]) -> Result<(), Limit>
-        ensures ok { OnOk result (IsStep self.old (R.AppKey op net index key.now) self.new) }
-        ensures limit { IsErr result ↔ IsFull self.old (R.AppKey op net index key.now) }
-        ensures held { IfErr result (λ e. e.held ≡ held_for self.old (R.AppKey op net index key.now)) }
-        ensures same { OnErr result (self.new ≡ self.old) }
+    fn apply_app_key(&mut self, op: u8, net: u16, index: u16, key: &[u8; 16])
+        requires { ¬ IsFull self.old (R.AppKey op net index key.now) }
+        ensures { IsStep self.old (R.AppKey op net index key.now) self.new }
     {
-        let held = self.apps.len() as u32;
-        if apply_to_apps(&mut self.apps, op, net, index, key).is_err() {
-            return Err(Limit { held });
-        }
+        apply_to_apps(&mut self.apps, op, net, index, key);
         apply_app_to_binds(&mut self.binds, op, index);
-        Ok(())
-    }
-
-    /// A Bind record.
-    #[tactic(auto, unfolding(run_definitions::specs::Config::changed))]
-    fn apply_bind(&mut self, op: u8, element: Address, model: u16, app: u16) -> Result<(), Limit>
-        ensures ok { OnOk result (IsStep self.old (R.Bind op element model app) self.new) }
-        ensures limit { IsErr result ↔ IsFull self.old (R.Bind op element model app) }
-        ensures held { IfErr result (λ e. e.held ≡ held_for self.old (R.Bind op element model app)) }
-        ensures same { OnErr result (self.new ≡ self.old) }
-    {
-        let held = self.binds.len() as u32;
-        match apply_to_binds(&mut self.binds, op, element, model, app) {
-            Ok(()) => Ok(()),
-            Err(_) => Err(Limit { held }),
-        }
-    }
-
-    /// A Subscribe record.
-    #[tactic(auto, unfolding(run_definitions::specs::Config::changed))]
-    fn apply_subscribe(
-        &mut self,
-        op: u8,
-        element: Address,
-        model: u16,
-        address: Address,
-    ) -> Result<(), Limit>
-        ensures ok { OnOk result (IsStep self.old (R.Subscribe op element model address) self.new) }
-        ensures limit { IsErr result ↔ IsFull self.old (R.Subscribe op element model address) }
-        ensures held { IfErr result (λ e. e.held ≡ held_for self.old (R.Subscribe op element model address)) }
-        ensures same { OnErr result (self.new ≡ self.old) }
-    {
-        let held = self.subs.len() as u32;
-        match apply_to_subs(&mut self.subs, op, element, model, address) {
-            Ok(()) => Ok(()),
-            Err(_) => Err(Limit { held }),
-        }
-    }
-
-    /// A Replay record.
-    #[tactic(auto, unfolding(run_definitions::specs::Config::changed))]
-    fn apply_replay(&mut self, name: &Name) -> Result<(), Limit>
-        ensures ok { OnOk result (IsStep self.old (R.Replay name.now) self.new) }
-        ensures limit { IsErr result ↔ IsFull self.old (R.Replay name.now) }
-        ensures held { IfErr result (λ e. e.held ≡ held_for self.old (R.Replay name.now)) }
-        ensures same { OnErr result (self.new ≡ self.old) }
-    {
-        let held = self.replay.len() as u32;
-        match apply_to_replay(&mut self.replay, self.iv.current, name) {
-            Ok(()) => Ok(()),
-            Err(_) => Err(Limit { held }),
-        }
     }
 
     /// A Feature record.
@@ -133,14 +68,12 @@ impl Persist {
         }
     }
 
-    /// A record of any kind.
+    /// A record of any kind, for which there is a place.
     #[tactic(auto, unfolding(run_definitions::specs::Config::changed))]
-    fn step(&mut self, item: &StoreRecord) -> Result<(), Limit>
-        requires { IsInRange item.now }
-        ensures ok { OnOk result (IsStep self.old item.now self.new) }
-        ensures limit { IsErr result ↔ IsFull self.old item.now }
-        ensures held { IfErr result (λ e. e.held ≡ held_for self.old item.now) }
-        ensures same { OnErr result (self.new ≡ self.old) }
+    fn step(&mut self, item: &StoreRecord)
+        requires range { IsInRange item.now }
+        requires place { ¬ IsFull self.old item.now }
+        ensures { IsStep self.old item.now self.new }
     {
         match item {
             StoreRecord::Identity {
@@ -151,7 +84,6 @@ impl Persist {
                 self.unicast = *unicast;
                 self.elements = *elements;
                 self.dev_key = *dev_key;
-                Ok(())
             }
             StoreRecord::Numbers {
                 current,
@@ -167,14 +99,16 @@ impl Persist {
                     since: *since,
                 };
                 self.mark = *mark;
-                Ok(())
             }
             StoreRecord::Hour { hours, since } => {
                 self.iv.hours = *hours;
                 self.iv.since = *since;
-                Ok(())
             }
-            StoreRecord::Replay { name } => self.apply_replay(name),
+            StoreRecord::Replay { name } => apply_to_replay(
+                &mut self.replay,
+                self.iv.current,
+                name,
+            ),
             StoreRecord::NetKey { op, index, key } => self.apply_net_key(*op, *index, key),
             StoreRecord::AppKey {
                 op,
@@ -187,21 +121,15 @@ impl Persist {
                 element,
                 model,
                 app,
-            } => self.apply_bind(*op, *element, *model, *app),
+            } => apply_to_binds(&mut self.binds, *op, *element, *model, *app),
             StoreRecord::Subscribe {
                 op,
                 element,
                 model,
                 address,
-            } => self.apply_subscribe(*op, *element, *model, *address),
-            StoreRecord::Feature { which, value } => {
-                self.apply_feature(*which, *value);
-                Ok(())
-            }
-            StoreRecord::Reset => {
-                self.reset = true;
-                Ok(())
-            }
+            } => apply_to_subs(&mut self.subs, *op, *element, *model, *address),
+            StoreRecord::Feature { which, value } => self.apply_feature(*which, *value),
+            StoreRecord::Reset => self.reset = true,
         }
     }
 
@@ -219,7 +147,8 @@ impl Persist {
         ensures passes { (records : List StoreRecord) → IsMeaningOf records self.old → IsErr result ↔ PassesLimit records item.now }
         ensures same { OnErr result (self.new ≡ self.old) }
     {
-        has_few_rows(&self.replay);
-        self.step(item)
+        self.check(item)?;
+        self.step(item);
+        Ok(())
     }
 }

@@ -8,8 +8,8 @@ ghost use Rattle.mesh_base.specs.declared.keys.NetKeyRow.{NetKeyRow};
 ghost use Rattle.run_definitions.specs.Config.{put_net, put_app, finished_app, updated_app, nets_after, apps_after, apps_after_net};
 ghost use Rattle.node_records.specs.Rows.{net_after};
 
+use crate::persist::{APPS, NETS};
 use mesh_base::keys::{AppKeyRow, NetKeyRow};
-use mesh_base::octets::TooMany;
 use mesh_base::table::Table;
 
 /// The place of the first network key whose index isn't below this one.
@@ -50,18 +50,16 @@ fn is_net_at(rows: &[NetKeyRow], place: usize, index: u16) -> bool
 }
 
 /// Puts a network key in its place by index, in place of one with its index.
-fn add_net(nets: &mut Table<NetKeyRow, 4>, row: NetKeyRow) -> Result<(), TooMany>
-    requires { length nets.old ≤ 4 }
-    ensures ok { OnOk result (nets.new ≡ put_net row nets.old) }
-    ensures full { IsErr result ↔ (4 < length (put_net row nets.old)) }
-    ensures same { OnErr result (nets.new ≡ nets.old) }
+fn add_net(nets: &mut Table<NetKeyRow, NETS>, row: NetKeyRow)
+    requires { length (put_net row nets.old) ≤ 4 }
+    ensures { nets.new ≡ put_net row nets.old }
 {
     let place = net_place(nets.as_slice(), row.index);
     if is_net_at(nets.as_slice(), place, row.index) {
         nets.set(place, row);
-        return Ok(());
+        return;
     }
-    nets.insert(place, row)
+    nets.insert(place, row).unwrap();
 }
 
 /// Whether the application key at a place has this index.
@@ -74,18 +72,16 @@ fn is_app_at(rows: &[AppKeyRow], place: usize, index: u16) -> bool
 }
 
 /// Puts an application key in its place by index, in place of one with its index.
-fn add_app(apps: &mut Table<AppKeyRow, 8>, row: AppKeyRow) -> Result<(), TooMany>
-    requires { length apps.old ≤ 8 }
-    ensures ok { OnOk result (apps.new ≡ put_app row apps.old) }
-    ensures full { IsErr result ↔ (8 < length (put_app row apps.old)) }
-    ensures same { OnErr result (apps.new ≡ apps.old) }
+fn add_app(apps: &mut Table<AppKeyRow, APPS>, row: AppKeyRow)
+    requires { length (put_app row apps.old) ≤ 8 }
+    ensures { apps.new ≡ put_app row apps.old }
 {
     let place = app_place(apps.as_slice(), row.index);
     if is_app_at(apps.as_slice(), place, row.index) {
         apps.set(place, row);
-        return Ok(());
+        return;
     }
-    apps.insert(place, row)
+    apps.insert(place, row).unwrap();
 }
 
 /// A network key after op 2, 3 or 4 on this index.
@@ -112,7 +108,7 @@ fn net_with(row: NetKeyRow, op: u8, index: u16, key: &[u8; 16]) -> NetKeyRow
 }
 
 /// The network keys after op 2, 3 or 4 on this index.
-fn change_nets(nets: &mut Table<NetKeyRow, 4>, op: u8, index: u16, key: &[u8; 16])
+fn change_nets(nets: &mut Table<NetKeyRow, NETS>, op: u8, index: u16, key: &[u8; 16])
     requires least { 2 ≤ op }
     requires most { op ≤ 4 }
     ensures { nets.new ≡ nets_after op index key.now nets.old }
@@ -124,24 +120,16 @@ fn change_nets(nets: &mut Table<NetKeyRow, 4>, op: u8, index: u16, key: &[u8; 16
 }
 
 /// The network keys without the one of this index.
-fn drop_net(nets: &mut Table<NetKeyRow, 4>, index: u16)
+fn drop_net(nets: &mut Table<NetKeyRow, NETS>, index: u16)
     ensures { nets.new ≡ filter (λ r. not (r.index == index)) nets.old }
 {
     nets.retain(|row| row.index != index);
 }
 
-/// The network keys after a NetKey record; `TooMany` exactly where they would be more than 4.
-#[tactic(auto, using(crate::proofs::Changes::filter_few))]
-pub(crate) fn apply_to_nets(
-    nets: &mut Table<NetKeyRow, 4>,
-    op: u8,
-    index: u16,
-    key: &[u8; 16],
-) -> Result<(), TooMany>
-    requires { length nets.old ≤ 4 }
-    ensures ok { OnOk result (nets.new ≡ nets_after op index key.now nets.old) }
-    ensures full { IsErr result ↔ (4 < length (nets_after op index key.now nets.old)) }
-    ensures same { OnErr result (nets.new ≡ nets.old) }
+/// The network keys after a NetKey record, for which there is a place.
+pub(crate) fn apply_to_nets(nets: &mut Table<NetKeyRow, NETS>, op: u8, index: u16, key: &[u8; 16])
+    requires { length (nets_after op index key.now nets.old) ≤ 4 }
+    ensures { nets.new ≡ nets_after op index key.now nets.old }
 {
     match op {
         1 => add_net(
@@ -153,15 +141,9 @@ pub(crate) fn apply_to_nets(
                 next: None,
             },
         ),
-        2..=4 => {
-            change_nets(nets, op, index, key);
-            Ok(())
-        }
-        5 => {
-            drop_net(nets, index);
-            Ok(())
-        }
-        _ => Ok(()),
+        2..=4 => change_nets(nets, op, index, key),
+        5 => drop_net(nets, index),
+        _ => {}
     }
 }
 
@@ -180,7 +162,7 @@ fn app_finished(row: AppKeyRow, net: u16) -> AppKeyRow
 }
 
 /// The application keys after the end of their network key's refresh.
-fn finish_apps(apps: &mut Table<AppKeyRow, 8>, net: u16)
+fn finish_apps(apps: &mut Table<AppKeyRow, APPS>, net: u16)
     ensures { apps.new ≡ map (finished_app net) apps.old }
 {
     for place in 0..apps.len() {
@@ -190,14 +172,14 @@ fn finish_apps(apps: &mut Table<AppKeyRow, 8>, net: u16)
 }
 
 /// The application keys without those of a network key.
-fn drop_apps_of(apps: &mut Table<AppKeyRow, 8>, net: u16)
+fn drop_apps_of(apps: &mut Table<AppKeyRow, APPS>, net: u16)
     ensures { apps.new ≡ filter (λ r. not (r.net == net)) apps.old }
 {
     apps.retain(|row| row.net != net);
 }
 
 /// The application keys after a NetKey record.
-pub(crate) fn apply_net_to_apps(apps: &mut Table<AppKeyRow, 8>, op: u8, net: u16)
+pub(crate) fn apply_net_to_apps(apps: &mut Table<AppKeyRow, APPS>, op: u8, net: u16)
     ensures { apps.new ≡ apps_after_net op net apps.old }
 {
     match op {
@@ -221,7 +203,7 @@ fn app_updated(row: AppKeyRow, index: u16, key: &[u8; 16]) -> AppKeyRow
 }
 
 /// The application keys after an update of the one of this index.
-fn update_apps(apps: &mut Table<AppKeyRow, 8>, index: u16, key: &[u8; 16])
+fn update_apps(apps: &mut Table<AppKeyRow, APPS>, index: u16, key: &[u8; 16])
     ensures { apps.new ≡ map (updated_app index key.now) apps.old }
 {
     for place in 0..apps.len() {
@@ -231,25 +213,22 @@ fn update_apps(apps: &mut Table<AppKeyRow, 8>, index: u16, key: &[u8; 16])
 }
 
 /// The application keys without the one of this index.
-fn drop_app(apps: &mut Table<AppKeyRow, 8>, index: u16)
+fn drop_app(apps: &mut Table<AppKeyRow, APPS>, index: u16)
     ensures { apps.new ≡ filter (λ r. not (r.index == index)) apps.old }
 {
     apps.retain(|row| row.index != index);
 }
 
-/// The application keys after an AppKey record; `TooMany` exactly where they would be more than 8.
-#[tactic(auto, using(crate::proofs::Changes::filter_few))]
+/// The application keys after an AppKey record, for which there is a place.
 pub(crate) fn apply_to_apps(
-    apps: &mut Table<AppKeyRow, 8>,
+    apps: &mut Table<AppKeyRow, APPS>,
     op: u8,
     net: u16,
     index: u16,
     key: &[u8; 16],
-) -> Result<(), TooMany>
-    requires { length apps.old ≤ 8 }
-    ensures ok { OnOk result (apps.new ≡ apps_after op net index key.now apps.old) }
-    ensures full { IsErr result ↔ (8 < length (apps_after op net index key.now apps.old)) }
-    ensures same { OnErr result (apps.new ≡ apps.old) }
+)
+    requires { length (apps_after op net index key.now apps.old) ≤ 8 }
+    ensures { apps.new ≡ apps_after op net index key.now apps.old }
 {
     match op {
         1 => add_app(
@@ -261,14 +240,8 @@ pub(crate) fn apply_to_apps(
                 next: None,
             },
         ),
-        2 => {
-            update_apps(apps, index, key);
-            Ok(())
-        }
-        3 => {
-            drop_app(apps, index);
-            Ok(())
-        }
-        _ => Ok(()),
+        2 => update_apps(apps, index, key),
+        3 => drop_app(apps, index),
+        _ => {}
     }
 }

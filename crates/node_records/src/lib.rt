@@ -1,5 +1,6 @@
 //! The records of a node's store: the one text of each ([`encode`], [`decode`]), and the value that a list of records
-//! stands for ([`Persist`]), which [`Persist::apply`] changes record by record.
+//! stands for ([`Persist`]), which [`Persist::apply`] changes record by record and
+//! [`Persist::check`] asks before.
 //!
 //! - `encoding`: from a record to its slot
 //! - `decoding`: from a slot to its record
@@ -7,12 +8,14 @@
 //! - `persist`: the value
 //! - `applying`: what each record changes in it
 //! - `keys`, `lists`, `replay`: the changes of its tables
+//! - `limits`: whether a table has a place for what a record adds
 #![tactic(auto)]
 
 mod applying;
 mod decoding;
 mod encoding;
 mod keys;
+mod limits;
 mod lists;
 mod persist;
 mod ranges;

@@ -7,6 +7,21 @@ use mesh_base::keys::{AppKeyRow, NetKeyRow};
 use mesh_base::pair::Name;
 use mesh_base::table::Table;
 
+/// Network keys of a node at most.
+pub(crate) const NETS: usize = 4;
+
+/// Application keys at most.
+pub(crate) const APPS: usize = 8;
+
+/// Bindings at most.
+pub(crate) const BINDS: usize = 32;
+
+/// Subscriptions at most.
+pub(crate) const SUBS: usize = 32;
+
+/// Rows of the replay list at most.
+pub(crate) const REPLAY: usize = 64;
+
 /// What the records of a store say of the node.
 #[derive(Debug, Drop, PartialEq, Eq)]
 pub struct Persist {
@@ -35,15 +50,15 @@ pub struct Persist {
     /// Whether there was a Node Reset.
     pub reset: bool,
     /// The network keys, by index.
-    pub nets: Table<NetKeyRow, 4>,
+    pub nets: Table<NetKeyRow, NETS>,
     /// The application keys, by index.
-    pub apps: Table<AppKeyRow, 8>,
+    pub apps: Table<AppKeyRow, APPS>,
     /// Element, model and application key index of each binding.
-    pub binds: Table<(Address, u16, u16), 32>,
+    pub binds: Table<(Address, u16, u16), BINDS>,
     /// Element, model and address of each subscription.
-    pub subs: Table<(Address, u16, Address), 32>,
+    pub subs: Table<(Address, u16, Address), SUBS>,
     /// The replay list: the greatest pair accepted of each source.
-    pub replay: Table<Name, 64>,
+    pub replay: Table<Name, REPLAY>,
 }
 
 impl Persist {

@@ -9,12 +9,12 @@ ghost use Rattle.node_records.specs.Full.{IsReplayFull};
 ghost use Rattle.node_records.specs.Steps.{KeepsEntries};
 ghost use Rattle.node_records.specs.Tables.{pair_of, IsApart};
 
-use mesh_base::octets::TooMany;
+use crate::persist::REPLAY;
 use mesh_base::pair::{Name, Pair};
 use mesh_base::table::Table;
 
 /// A replay list has at most 64 rows, since its table holds no more.
-pub(crate) fn has_few_rows(rows: &Table<Name, 64>)
+pub(crate) fn has_few_rows(rows: &Table<Name, REPLAY>)
     ensures { length rows.now ≤ 64 }
 {
     let _held = rows.len();
@@ -28,7 +28,7 @@ fn is_above(pair: &Pair, other: &Pair) -> bool
 }
 
 /// Whether no PDU of a pair's IV Index is read any more.
-fn is_old(current: u32, pair: &Pair) -> bool
+pub(crate) fn is_old(current: u32, pair: &Pair) -> bool
     ensures { result ≡ is_expired current pair.now }
 {
     u64::from(pair.iv) + 1 < u64::from(current)
@@ -62,7 +62,7 @@ fn first_expired(rows: &[Name], current: u32) -> Option<usize>
 }
 
 /// Puts a name into its source's row where it is above what stands there.
-fn raise(rows: &mut Table<Name, 64>, current: u32, place: usize, name: &Name)
+fn raise(rows: &mut Table<Name, REPLAY>, current: u32, place: usize, name: &Name)
     requires within { place < length rows.old }
     requires source { (d : Name) → (slice_index_or rows.old place d).src.0 ≡ name.now.src.0 }
     ensures { IsApart rows.old → KeepsEntries current rows.old rows.new (R.Replay name.now) }
@@ -73,41 +73,29 @@ fn raise(rows: &mut Table<Name, 64>, current: u32, place: usize, name: &Name)
 }
 
 /// Puts the name of a source without a row behind the others, or in the place of the first that is expired where 64 are held.
-fn add_row(rows: &mut Table<Name, 64>, current: u32, name: &Name) -> Result<(), TooMany>
+fn add_row(rows: &mut Table<Name, REPLAY>, current: u32, name: &Name)
     requires none { pair_of rows.old name.now.src.0 ≡ None }
-    requires most { length rows.old ≤ 64 }
-    ensures ok { IsApart rows.old → OnOk result (KeepsEntries current rows.old rows.new (R.Replay name.now)) }
-    ensures full { IsErr result ↔ IsReplayFull current rows.old name.now.src.0 }
-    ensures same { OnErr result (rows.new ≡ rows.old) }
+    requires place { ¬ IsReplayFull current rows.old name.now.src.0 }
+    ensures { IsApart rows.old → KeepsEntries current rows.old rows.new (R.Replay name.now) }
 {
+    has_few_rows(rows);
     match rows.push(*name) {
-        Ok(()) => Ok(()),
-        Err(_) => match first_expired(rows.as_slice(), current) {
-            Some(place) => {
+        Ok(()) => {}
+        Err(_) => {
+            if let Some(place) = first_expired(rows.as_slice(), current) {
                 rows.set(place, *name);
-                Ok(())
             }
-            None => Err(TooMany),
-        },
+        }
     }
 }
 
-/// The replay list after a Replay record; `TooMany` exactly where the source has no row, 64 are held, and none is expired.
-pub(crate) fn apply_to_replay(
-    rows: &mut Table<Name, 64>,
-    current: u32,
-    name: &Name,
-) -> Result<(), TooMany>
-    requires { length rows.old ≤ 64 }
-    ensures ok { IsApart rows.old → OnOk result (KeepsEntries current rows.old rows.new (R.Replay name.now)) }
-    ensures full { IsErr result ↔ IsReplayFull current rows.old name.now.src.0 }
-    ensures same { OnErr result (rows.new ≡ rows.old) }
+/// The replay list after a Replay record, for which there is a place.
+pub(crate) fn apply_to_replay(rows: &mut Table<Name, REPLAY>, current: u32, name: &Name)
+    requires place { ¬ IsReplayFull current rows.old name.now.src.0 }
+    ensures { IsApart rows.old → KeepsEntries current rows.old rows.new (R.Replay name.now) }
 {
     match row_of(rows.as_slice(), name.src.0) {
-        Some(place) => {
-            raise(rows, current, place, name);
-            Ok(())
-        }
+        Some(place) => raise(rows, current, place, name),
         None => add_row(rows, current, name),
     }
 }

@@ -4,5 +4,4 @@ pub mod Made
 pub mod Mounts
 pub mod Orders
 pub mod Puts
-pub mod Sizes
 pub mod Takes

@@ -3,6 +3,5 @@ pub mod Faults
 pub mod Mounted
 pub mod Order
 pub mod Provisioning
-pub mod Rows
 pub mod Tie
 pub mod View

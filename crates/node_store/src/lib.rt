@@ -13,7 +13,6 @@
 #![tactic(auto)]
 
 pub mod laws;
-mod limits;
 mod mounting;
 mod provision;
 mod store;

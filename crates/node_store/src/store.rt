@@ -10,10 +10,9 @@ ghost use Rattle.run_definitions.specs.Ranges.{IsInRange};
 ghost use Rattle.run_definitions.specs.Recovered.{IsRecovered};
 ghost use Rattle.node_store.specs.Tie.{HasMark, HasMarkFrom, IsNoNumbers, IsNotBelow, IsPut, IsStoreOf};
 
-use crate::limits::limit;
 use flash_model::Flash;
 use mesh_types::records::StoreRecord;
-use node_records::{Persist, encode};
+use node_records::{Limit, Persist, encode};
 use slot_journal::{AppendFault, Journal};
 use std::marker::Model;
 use thiserror::Error;
@@ -47,6 +46,17 @@ impl From<AppendFault> for PutFault {
             AppendFault::Full { used } => PutFault::Full { used },
             AppendFault::Flash => PutFault::Flash,
         }
+    }
+}
+
+impl From<Limit> for PutFault {
+    ghost use Rattle.std.specs.Prelude.{◌≡◌};
+    ghost use Rattle.node_store.specs.declared.store.PutFault.TheVariants as Fault;
+
+    ghost from_gives = { λ limit e. e ≡ Fault.Limit limit.held };
+
+    fn from(limit: Limit) -> Self {
+        PutFault::Limit { held: limit.held }
     }
 }
 
@@ -112,9 +122,7 @@ impl Store {
         if self.journal.is_closed() {
             return Err(PutFault::Closed);
         }
-        if let Some(held) = limit(&self.persist, item) {
-            return Err(PutFault::Limit { held });
-        }
+        self.persist.check(item)?;
         self.journal.append(flash, &encode(item))?;
         self.persist.apply(item).unwrap();
         Ok(())

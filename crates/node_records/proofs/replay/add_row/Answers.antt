@@ -2,11 +2,11 @@ use Rattle.std.proofs.Common.{◌∙◌}
 use Rattle.node_records.proofs.Rows.{keeps_new, keeps_other}
 use Rattle.node_records.proofs.replay.add_row.Goals as goal
 
-pub returns-in-Ok-clause-ok : goal.returns-in-Ok-clause-ok
-returns-in-Ok-clause-ok c = λ apart. rw c.in-Ok.ensures.ok (keeps_new c.args.current c.args.rows.now c.args.name.now apart c.requires.none)
+pub returns-in-Ok : goal.returns-in-Ok
+returns-in-Ok c = λ apart. rw c.in-Ok.ensures.ok (keeps_new c.args.current c.args.rows.now c.args.name.now apart c.requires.none)
 
-pub returns-in-Some-clause-ok : goal.returns-in-Some-clause-ok
-returns-in-Some-clause-ok c = λ apart.
+pub returns-in-Some : goal.returns-in-Some
+returns-in-Some c = λ apart.
     let seen = c.as_slice.ensures.value ∙ c.in-Err.ensures.same in
     let some = rw seen at c.in-Some.ensures.some in
     rw (c.set.ensures.value, c.in-Err.ensures.same)

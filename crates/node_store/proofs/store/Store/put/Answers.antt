@@ -23,16 +23,16 @@ returns-then-is_closed-clause-same_mark g c records tie none =
     let old = g.F.Flash.chip c.args.flash.now in
     put_same_mark old c.args.self.now records c.args.item.now tie c.requires.range none old (put_unchanged old c.args.self.now records c.args.item.now tie c.requires.range (g.met.F.Flash.only_now c.args.flash.now))
 
-pub returns-in-Some-clause-any_moment : goal.returns-in-Some-clause-any_moment
-returns-in-Some-clause-any_moment g c records tie = put_unchanged (g.F.Flash.chip c.args.flash.now) c.args.self.now records c.args.item.now tie c.requires.range (g.met.F.Flash.only_now c.args.flash.now)
+pub returns-in_err-check-clause-any_moment : goal.returns-in_err-check-clause-any_moment
+returns-in_err-check-clause-any_moment g c records tie = put_unchanged (g.F.Flash.chip c.args.flash.now) c.args.self.now records c.args.item.now tie c.requires.range (g.met.F.Flash.only_now c.args.flash.now)
 
-pub returns-in-Some-clause-mark : goal.returns-in-Some-clause-mark
-returns-in-Some-clause-mark g c records tie =
+pub returns-in_err-check-clause-mark : goal.returns-in_err-check-clause-mark
+returns-in_err-check-clause-mark g c records tie =
     let old = g.F.Flash.chip c.args.flash.now in
     put_mark old c.args.self.now records c.args.item.now tie c.requires.range c.requires.rises old (put_unchanged old c.args.self.now records c.args.item.now tie c.requires.range (g.met.F.Flash.only_now c.args.flash.now))
 
-pub returns-in-Some-clause-same_mark : goal.returns-in-Some-clause-same_mark
-returns-in-Some-clause-same_mark g c records tie none =
+pub returns-in_err-check-clause-same_mark : goal.returns-in_err-check-clause-same_mark
+returns-in_err-check-clause-same_mark g c records tie none =
     let old = g.F.Flash.chip c.args.flash.now in
     put_same_mark old c.args.self.now records c.args.item.now tie c.requires.range none old (put_unchanged old c.args.self.now records c.args.item.now tie c.requires.range (g.met.F.Flash.only_now c.args.flash.now))
 
@@ -42,7 +42,7 @@ returns-in_err-append-clause-any_moment g c records tie =
     let new = g.F.Flash.chip c.append.new.flash in
     let inside : StoreView = record { journal = c.self.inside.journal; persist = c.self.inside.persist } in
     let here : IsStoreOf old inside records = subst (λ (v : StoreView). IsStoreOf old v records) (sym c.self.view_is) tie in
-    let within : PassesLimit records c.args.item.now → ⊥ = λ passes. true≢false (sym ((c.in_default.ensures.passes records here.meaning).1 passes)) in
+    let within : PassesLimit records c.args.item.now → ⊥ = λ passes. true≢false (sym ((c.in_ok-check.ensures.passes records here.meaning).1 passes)) in
     let follows = put_follows old c.args.self.now records c.args.item.now tie c.requires.range within c.requires.rises in
     let leaves : LeavesOnly old new (IsPut records c.args.item.now) = put_any_moment old c.args.self.now records c.args.item.now tie c.requires.range follows new
     (subst (λ (s : Slot). LeavesOnly old new (IsAppended (recovered old.now) s)) c.encode.ensures.value (c.in_err-append.ensures.any_moment here.journal)) in
@@ -54,7 +54,7 @@ returns-in_err-append-clause-mark g c records tie =
     let new = g.F.Flash.chip c.append.new.flash in
     let inside : StoreView = record { journal = c.self.inside.journal; persist = c.self.inside.persist } in
     let here : IsStoreOf old inside records = subst (λ (v : StoreView). IsStoreOf old v records) (sym c.self.view_is) tie in
-    let within : PassesLimit records c.args.item.now → ⊥ = λ passes. true≢false (sym ((c.in_default.ensures.passes records here.meaning).1 passes)) in
+    let within : PassesLimit records c.args.item.now → ⊥ = λ passes. true≢false (sym ((c.in_ok-check.ensures.passes records here.meaning).1 passes)) in
     let follows = put_follows old c.args.self.now records c.args.item.now tie c.requires.range within c.requires.rises in
     let leaves : LeavesOnly old new (IsPut records c.args.item.now) = put_any_moment old c.args.self.now records c.args.item.now tie c.requires.range follows new
     (subst (λ (s : Slot). LeavesOnly old new (IsAppended (recovered old.now) s)) c.encode.ensures.value (c.in_err-append.ensures.any_moment here.journal)) in
@@ -66,7 +66,7 @@ returns-in_err-append-clause-same_mark g c records tie none =
     let new = g.F.Flash.chip c.append.new.flash in
     let inside : StoreView = record { journal = c.self.inside.journal; persist = c.self.inside.persist } in
     let here : IsStoreOf old inside records = subst (λ (v : StoreView). IsStoreOf old v records) (sym c.self.view_is) tie in
-    let within : PassesLimit records c.args.item.now → ⊥ = λ passes. true≢false (sym ((c.in_default.ensures.passes records here.meaning).1 passes)) in
+    let within : PassesLimit records c.args.item.now → ⊥ = λ passes. true≢false (sym ((c.in_ok-check.ensures.passes records here.meaning).1 passes)) in
     let follows = put_follows old c.args.self.now records c.args.item.now tie c.requires.range within c.requires.rises in
     let leaves : LeavesOnly old new (IsPut records c.args.item.now) = put_any_moment old c.args.self.now records c.args.item.now tie c.requires.range follows new
     (subst (λ (s : Slot). LeavesOnly old new (IsAppended (recovered old.now) s)) c.encode.ensures.value (c.in_err-append.ensures.any_moment here.journal)) in
@@ -78,7 +78,7 @@ returns-clause-any_moment g c records tie =
     let new = g.F.Flash.chip c.append.new.flash in
     let inside : StoreView = record { journal = c.self.inside.journal; persist = c.self.inside.persist } in
     let here : IsStoreOf old inside records = subst (λ (v : StoreView). IsStoreOf old v records) (sym c.self.view_is) tie in
-    let within : PassesLimit records c.args.item.now → ⊥ = λ passes. true≢false (sym ((c.in_default.ensures.passes records here.meaning).1 passes)) in
+    let within : PassesLimit records c.args.item.now → ⊥ = λ passes. true≢false (sym ((c.in_ok-check.ensures.passes records here.meaning).1 passes)) in
     let follows = put_follows old c.args.self.now records c.args.item.now tie c.requires.range within c.requires.rises in
     let leaves : LeavesOnly old new (IsPut records c.args.item.now) = put_any_moment old c.args.self.now records c.args.item.now tie c.requires.range follows new
     (subst (λ (s : Slot). LeavesOnly old new (IsAppended (recovered old.now) s)) c.encode.ensures.value (c.in_ok-append.ensures.any_moment here.journal)) in
@@ -90,7 +90,7 @@ returns-clause-mark g c records tie =
     let new = g.F.Flash.chip c.append.new.flash in
     let inside : StoreView = record { journal = c.self.inside.journal; persist = c.self.inside.persist } in
     let here : IsStoreOf old inside records = subst (λ (v : StoreView). IsStoreOf old v records) (sym c.self.view_is) tie in
-    let within : PassesLimit records c.args.item.now → ⊥ = λ passes. true≢false (sym ((c.in_default.ensures.passes records here.meaning).1 passes)) in
+    let within : PassesLimit records c.args.item.now → ⊥ = λ passes. true≢false (sym ((c.in_ok-check.ensures.passes records here.meaning).1 passes)) in
     let follows = put_follows old c.args.self.now records c.args.item.now tie c.requires.range within c.requires.rises in
     let leaves : LeavesOnly old new (IsPut records c.args.item.now) = put_any_moment old c.args.self.now records c.args.item.now tie c.requires.range follows new
     (subst (λ (s : Slot). LeavesOnly old new (IsAppended (recovered old.now) s)) c.encode.ensures.value (c.in_ok-append.ensures.any_moment here.journal)) in
@@ -102,7 +102,7 @@ returns-clause-same_mark g c records tie none =
     let new = g.F.Flash.chip c.append.new.flash in
     let inside : StoreView = record { journal = c.self.inside.journal; persist = c.self.inside.persist } in
     let here : IsStoreOf old inside records = subst (λ (v : StoreView). IsStoreOf old v records) (sym c.self.view_is) tie in
-    let within : PassesLimit records c.args.item.now → ⊥ = λ passes. true≢false (sym ((c.in_default.ensures.passes records here.meaning).1 passes)) in
+    let within : PassesLimit records c.args.item.now → ⊥ = λ passes. true≢false (sym ((c.in_ok-check.ensures.passes records here.meaning).1 passes)) in
     let follows = put_follows old c.args.self.now records c.args.item.now tie c.requires.range within c.requires.rises in
     let leaves : LeavesOnly old new (IsPut records c.args.item.now) = put_any_moment old c.args.self.now records c.args.item.now tie c.requires.range follows new
     (subst (λ (s : Slot). LeavesOnly old new (IsAppended (recovered old.now) s)) c.encode.ensures.value (c.in_ok-append.ensures.any_moment here.journal)) in
@@ -114,10 +114,10 @@ returns-clause-kept g c records tie =
     let new = g.F.Flash.chip c.append.new.flash in
     let inside : StoreView = record { journal = c.self.inside.journal; persist = c.self.inside.persist } in
     let here : IsStoreOf old inside records = subst (λ (v : StoreView). IsStoreOf old v records) (sym c.self.view_is) tie in
-    let full : IsFull inside.persist c.args.item.now → ⊥ = λ f. true≢false (sym (c.in_default.ensures.full.1 f)) in
+    let full : IsFull inside.persist c.args.item.now → ⊥ = λ f. true≢false (sym (c.in_ok-check.ensures.limit.1 f)) in
     let rises : IsNotBelow inside.persist c.args.item.now = subst (λ (v : StoreView). IsNotBelow v.persist c.args.item.now) (sym c.self.view_is) c.requires.rises in
     let applied_to = applied c.apply.result _ _ c.apply.ensures.ok c.apply.ensures.limit full in
-    let within : PassesLimit records c.args.item.now → ⊥ = λ passes. true≢false (sym ((c.in_default.ensures.passes records here.meaning).1 passes)) in
+    let within : PassesLimit records c.args.item.now → ⊥ = λ passes. true≢false (sym ((c.in_ok-check.ensures.passes records here.meaning).1 passes)) in
     let follows = put_follows old inside records c.args.item.now here c.requires.range within rises in
     put_kept old inside records c.args.item.now here c.requires.range follows new (record { journal = c.append.new.self; persist = c.apply.new.self })
     (c.in_ok-append.ensures.durable here.journal ∙ ap (λ (s : Slot). with_last s (recovered old.now)) c.encode.ensures.value)

@@ -1,12 +1,11 @@
 -- When a record makes a table grow past its size.
 use Rattle.std.proofs.Common.{◌≡◌, ◌↔◌, ℕ, ◌+◌, ◌<◌, ◌≤◌, List, [], ◌∷◌, ◌++◌, length, get_or, drop, map, Bool, true, false, Option, Some, None, refl, ap, sym, subst, ◌∙◌, arith, true≢false, length-append, add-one, drop-cons}
-use Rattle.std.specs.Prelude.{◌==◌, ◌&&◌, ◌||◌, not, if◌then◌else◌, IsSome, IsTrue, All, filter}
+use Rattle.std.specs.Prelude.{◌==◌, ◌&&◌, ◌||◌, not, if◌then◌else◌, IsTrue, All, filter}
 use Rattle.std.specs.List.{list_any}
 use Rattle.std.proofs.lemmas.Bool.{eq-eqb, eqb-true}
 use Rattle.std.proofs.lemmas.Bool.Decides.{nat_tests}
 use Rattle.std.proofs.lemmas.List.{length-map}
 use Rattle.std.proofs.lemmas.List.Elements.{All-cons, All-head, All-nil, All-tail}
-use Rattle.std.proofs.lemmas.List.Filters.{length-filter_both}
 use Rattle.std.proofs.lemmas.List.Sums.{length-filter}
 use Rattle.mesh_base.specs.declared.address.Address.{Address}
 use Rattle.mesh_base.specs.declared.keys.NetKeyRow.{NetKeyRow}
@@ -16,7 +15,8 @@ use Rattle.run_definitions.specs.Config.{apps_after, binds_after, is_bind, is_su
 use Rattle.run_definitions.specs.Pairs.{is_expired}
 use Rattle.node_records.specs.Full.{IsReplayFull}
 use Rattle.node_records.specs.Tables.{pair_of}
-use Rattle.node_store.specs.Rows.{is_new_app, is_new_net, is_taken_up, other_count, passes_apps, passes_binds, passes_nets, passes_replay, passes_subs}
+use Rattle.node_records.proofs.Changes.{filter_few}
+use Rattle.node_records.specs.Growth.{is_new_app, is_new_net, is_taken_up, other_count, passes_apps, passes_binds, passes_nets, passes_replay, passes_subs}
 
 length_if : {A : Type 0} (b : Bool) (xs ys : List A) → length (if b then xs else ys) ≡ (if b then length xs else length ys)
 length_if true xs ys = refl
@@ -25,9 +25,6 @@ length_if false xs ys = refl
 if_most : (b : Bool) (x y n : ℕ) → x ≤ n → y ≤ n → (if b then x else y) ≤ n
 if_most true x y n h k = h
 if_most false x y n h k = k
-
-pub filter_most : {A : Type 0} (p : A → Bool) (xs : List A) → length (filter p xs) ≤ length xs
-filter_most p xs = omega (arith, length-filter_both p (λ x. not (p x)) (λ x. refl) xs)
 
 -- a table that grows only by this op, and then by one row that is new
 passes : (is_op new : Bool) (n max grown other : ℕ) → n ≤ max → grown ≡ (if new then n + 1 else n) → other ≤ n → IsTrue (is_op && n == max && new) ↔ (max < (if is_op then grown else other))
@@ -63,14 +60,14 @@ nets_pass op index key rows few =
     (len_if_most (op == 2) _ _ (length rows) (map_most _ rows)
     (len_if_most (op == 3) _ _ (length rows) (map_most _ rows)
     (len_if_most (op == 4) _ _ (length rows) (map_most _ rows)
-    (len_if_most (op == 5) _ _ (length rows) (filter_most _ rows) (omega arith)))))
+    (len_if_most (op == 5) _ _ (length rows) (filter_few _ rows) (omega arith)))))
 
 pub apps_pass : (op net index : ℕ) (key : List ℕ) (rows : List AppKeyRow) → length rows ≤ 8 → IsTrue (passes_apps op index rows) ↔ (8 < length (apps_after op net index key rows))
 apps_pass op net index key rows few =
     passes_list (op == 1) (is_new_app index rows) rows _ _ 8 few
     (put_app_length (record { net = net; index = index; key = key; next = None }) rows)
     (len_if_most (op == 2) _ _ (length rows) (map_most _ rows)
-    (len_if_most (op == 3) _ _ (length rows) (filter_most _ rows) (omega arith)))
+    (len_if_most (op == 3) _ _ (length rows) (filter_few _ rows) (omega arith)))
 
 -- a row that is put behind the others, unless it is there
 pushed_length : {A : Type 0} (there : Bool) (rows : List A) (x : A) → length (if there then rows else rows ++ x ∷ []) ≡ (if not there then length rows + 1 else length rows)
@@ -81,7 +78,7 @@ pub binds_pass : (op : ℕ) (element : Address) (model app : ℕ) (rows : List (
 binds_pass op element model app rows few =
     passes_list (op == 1) (not (list_any (is_bind element model app) rows)) rows _ _ 32 few
     (pushed_length (list_any (is_bind element model app) rows) rows (element, model, app))
-    (len_if_most (op == 2) _ _ (length rows) (filter_most _ rows) (omega arith))
+    (len_if_most (op == 2) _ _ (length rows) (filter_few _ rows) (omega arith))
 
 or_false : (b : Bool) → (b || false) ≡ b
 or_false true = refl
@@ -100,7 +97,7 @@ module _ (element : Address) (model : ℕ) (address : Address) (rows : List (Add
   subs_overwrite : Passes 4
   subs_overwrite =
       let rest = subs_without element model rows in
-      let most : length rest ≤ length rows = filter_most (λ s. not (s.0.0 == element.0 && s.1 == model)) rows in
+      let most : length rest ≤ length rows = filter_few (λ s. not (s.0.0 == element.0 && s.1 == model)) rows in
       let count : length rest ≡ other_count element model rows = length-filter (λ s. not (s.0.0 == element.0 && s.1 == model)) rows in
       let long : length (rest ++ (element, model, address) ∷ []) ≡ length rest + 1 = length-append rest ((element, model, address) ∷ []) in (
         (λ h. let e : other_count element model rows ≡ 32 = eqb-true (other_count element model rows) 32 h in omega (arith, e, count, long)),
@@ -123,8 +120,8 @@ module _ (element : Address) (model : ℕ) (address : Address) (rows : List (Add
   subs_else : (op : ℕ) → (op == 1) ≡ false → (op == 4) ≡ false → Passes op
   subs_else op a b = no_pass (op == 1) (op == 4) (length rows) (length (subs_after op element model address rows)) (not (list_any (is_sub element model address) rows)) a b
       (subs_rest (op == 1) (op == 2) (op == 3) (op == 4) _ _ _ _ a b
-      (let most : length (filter (λ s. not (is_sub element model address s)) rows) ≤ length rows = filter_most (λ s. not (is_sub element model address s)) rows in omega arith)
-      (let most : length (subs_without element model rows) ≤ length rows = filter_most (λ s. not (s.0.0 == element.0 && s.1 == model)) rows in omega arith))
+      (let most : length (filter (λ s. not (is_sub element model address s)) rows) ≤ length rows = filter_few (λ s. not (is_sub element model address s)) rows in omega arith)
+      (let most : length (subs_without element model rows) ≤ length rows = filter_few (λ s. not (s.0.0 == element.0 && s.1 == model)) rows in omega arith))
 
   by_four : (op : ℕ) (b : Bool) → (op == 4) ≡ b → (op == 1) ≡ false → Passes op
   by_four op true e a = subst (λ (o : ℕ). Passes o) (sym (eqb-true op 4 e)) subs_overwrite
@@ -195,6 +192,7 @@ module _ (index : ℕ) where
   app_there rows i d lt le = rw (drop-cons rows i d) (grind (arith, nat_tests))
 
 -- what is answered where a table is full
-pub held_full : {P : Type 0} (full passes : Bool) (held : ℕ) (result : Option ℕ) → result ≡ (if full then Some held else None) → full ≡ passes → IsTrue passes ↔ P → IsSome result ↔ P
-held_full {P} true passes held result is same h = (λ some. h.0 (sym same), λ p. subst (λ (o : Option ℕ). IsSome o) (sym is) refl)
-held_full {P} false passes held result is same h = (λ some. absurd (true≢false (sym (subst (λ (o : Option ℕ). IsSome o) is some))), λ p. absurd (true≢false (sym (h.1 p) ∙ sym same)))
+pub held_full : {B P : Type 0} (full passes : Bool) → B ↔ IsTrue full → full ≡ passes → IsTrue passes ↔ P → B ↔ P
+held_full {B} full passes answer same h =
+    let tested : B ↔ IsTrue passes = subst (λ (b : Bool). B ↔ IsTrue b) same answer in
+    ((λ b. h.0 (tested.0 b)), (λ p. tested.1 (h.1 p)))
