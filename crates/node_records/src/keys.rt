@@ -1,7 +1,7 @@
 //! The tables of network keys and application keys.
 #![tactic(auto)]
 
-ghost use Rattle.std.specs.Prelude.{◌≡◌, ℕ, ◌<◌, ◌≤◌, ◌↔◌, not, ◌==◌, length, filter, map, slice_index_or, IsErr, OnOk, OnErr};
+ghost use Rattle.std.specs.Prelude.{◌≡◌, ℕ, ◌<◌, ◌≤◌, not, ◌==◌, length, filter, map, slice_index_or};
 ghost use Rattle.std.specs.Bool.{OnTrue, OnFalse};
 ghost use Rattle.mesh_base.specs.declared.keys.AppKeyRow.{AppKeyRow};
 ghost use Rattle.mesh_base.specs.declared.keys.NetKeyRow.{NetKeyRow};

@@ -1,7 +1,7 @@
 //! The tables of bindings and of subscriptions.
 #![tactic(auto)]
 
-ghost use Rattle.std.specs.Prelude.{◌≡◌, ◌<◌, ◌≤◌, ◌==◌, ◌&&◌, ◌↔◌, not, length, filter, IsErr, OnOk, OnErr};
+ghost use Rattle.std.specs.Prelude.{◌≡◌, ◌<◌, ◌≤◌, ◌==◌, ◌&&◌, not, length, filter};
 ghost use Rattle.std.specs.List.{list_any};
 ghost use Rattle.run_definitions.specs.Config.{is_bind, is_sub, binds_after, binds_after_net, binds_after_app, subs_without, subs_after};
 

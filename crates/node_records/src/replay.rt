@@ -1,7 +1,7 @@
 //! The table of the replay list.
 #![tactic(auto)]
 
-ghost use Rattle.std.specs.Prelude.{◌≡◌, ℕ, ◌<◌, ◌≤◌, ◌↔◌, false, true, None, length, slice_index_or, IsErr, IfSome, IfNone, OnOk, OnErr};
+ghost use Rattle.std.specs.Prelude.{◌≡◌, ℕ, ◌<◌, ◌≤◌, false, true, None, length, slice_index_or, IfSome, IfNone};
 ghost use Rattle.mesh_base.specs.declared.pair.Name.{Name};
 ghost use Rattle.mesh_types.specs.declared.records.StoreRecord.TheVariants as R;
 ghost use Rattle.run_definitions.specs.Pairs.{is_newer, is_expired};

@@ -79,12 +79,14 @@ fn falls(p: &Persist, item: &StoreRecord) -> bool
     }
 }
 
-/// What `apply` answers; None where it may not be called.
+/// What `check` and then `apply` answer; None where `apply` may not be called, or where they differ.
 fn put(p: &mut Persist, item: StoreRecord) -> Option<Result<(), Limit>> {
     if !is_in_range(&item) || falls(p, &item) {
         return None;
     }
-    Some(p.apply(&item))
+    let asked = p.check(&item);
+    let answer = p.apply(&item);
+    if asked == answer { Some(answer) } else { None }
 }
 
 fn net_key(op: u8, index: u16, key: [u8; 16]) -> StoreRecord {
