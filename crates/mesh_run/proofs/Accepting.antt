@@ -13,13 +13,13 @@ use Rattle.mesh_types.specs.declared.answers.Answer.{Answer}
 use Rattle.mesh_types.specs.declared.answers.Answer.TheVariants as A
 use Rattle.layer_definitions.specs.Lower.{seq_auth}
 use Rattle.run_definitions.specs.Answers.{config_before, is_again, is_mine, is_segment, is_unicast, lower_answer, message_name, message_pair, named_answer, opened_answer, pair_of, placed_answer, replayed, segment_answer, transport_answer, whole_answer}
-use Rattle.run_definitions.specs.Config.{Config, config_of, is_element}
-use Rattle.run_definitions.specs.Entries.{entry_of, has_room, others_held}
+use Rattle.run_definitions.specs.Config.{Config, is_element}
+use Rattle.run_definitions.specs.Entries.{entry_of, has_room}
 use Rattle.run_definitions.specs.History.{Opening, OfPdu, Past, Reading}
 use Rattle.run_definitions.specs.Pairs.{is_expired}
 use Rattle.run_definitions.specs.Readings.{IsReading}
 use Rattle.run_definitions.specs.Uses.{accepted}
-use Rattle.mesh_run.specs.Hearing.{Hears, has_seg, heard_answer, network_row, no_layers}
+use Rattle.mesh_run.specs.Hearing.{has_seg, heard_answer, network_row, no_layers}
 use Rattle.mesh_run.specs.Replay.{IsAcceptable}
 
 pub some_is : {A : Type 0} {a b : A} → Some a ≡ Some b → a ≡ b

@@ -1,9 +1,7 @@
 -- The node as it opens over the records of provisioning.
-use Rattle.std.proofs.Common.{◌≡◌, ℕ, List, [], refl, sym, ap, subst, ◌∙◌, Option, Some, None}
+use Rattle.std.proofs.Common.{◌≡◌, [], refl, sym, ap, subst, ◌∙◌}
 use Rattle.layer_definitions.specs.KeyRefresh.{app_index, net_index}
 use Rattle.layer_definitions.specs.Order.{by_index, put_row, put_rows}
-use Rattle.mesh_base.specs.declared.pair.Name.{Name}
-use Rattle.mesh_base.specs.declared.pair.Pair.{Pair}
 use Rattle.mesh_script.specs.declared.provision.ProvisionLine.{ProvisionLine}
 use Rattle.run_definitions.specs.Config.{config_of}
 use Rattle.mesh_run.specs.Node.{IsNodeOf, net_rows}

@@ -1,11 +1,11 @@
 -- From what each layer's function does to the answer of the whole table.
-use Rattle.std.proofs.Common.{◌≡◌, ℕ, ◌+◌, ◌*◌, ◌/◌, ◌%◌, ◌^◌, ◌<◌, ◌≤◌, Bool, true, false, cond, not, ◌&&◌, ◌||◌, eqb, leb, List, [], ◌∷◌, ◌++◌, refl, ap, sym, subst, ◌∙◌, get_or, arith, append-nil, Option, Some, None}
+use Rattle.std.proofs.Common.{◌≡◌, ℕ, ◌+◌, ◌*◌, ◌/◌, ◌%◌, ◌^◌, ◌<◌, Bool, true, false, cond, not, ◌&&◌, ◌||◌, eqb, List, [], ◌∷◌, ◌++◌, refl, ap, sym, subst, ◌∙◌, get_or, arith, append-nil, Option, Some, None}
 use Rattle.std.specs.Prelude.{MatchOption, slice_index}
 use Rattle.std.specs.Option.{is_none, is_some, option_map, option_or, option_to_list, unwrap_or}
 use Rattle.std.proofs.lemmas.Bool.Decides.{nat_tests}
 use Rattle.std.proofs.lemmas.Option.{slice_get-get_or, slice_get_within}
 use Rattle.layer_definitions.specs.KeyRefresh.{heard_keys}
-use Rattle.layer_definitions.specs.Lower.{ReadsLower, akf_and_aid, as_read, lower_text, without_aid}
+use Rattle.layer_definitions.specs.Lower.{ReadsLower, akf_and_aid, as_read, lower_text}
 use Rattle.layer_definitions.specs.Network.{IsUnread, Reads}
 use Rattle.layer_definitions.specs.Upper.{Opens}
 use Rattle.mesh_base.specs.declared.fields.Heard.{Heard}
@@ -22,13 +22,13 @@ use Rattle.mesh_types.specs.declared.answers.Answer.TheVariants as A
 use Rattle.mesh_types.specs.declared.events.Event.TheVariants as E
 use Rattle.mesh_types.specs.declared.records.StoreRecord.{StoreRecord}
 use Rattle.mesh_types.specs.declared.records.StoreRecord.TheVariants as R
-use Rattle.run_definitions.specs.Answers.{config_before, is_again, is_mine, is_segment, is_unicast, lower_answer, message_name, name_of, named_answer, opened_answer, placed_answer, replayed, transport_answer, whole_answer}
-use Rattle.run_definitions.specs.Config.{Config, changed, config_of, is_element}
+use Rattle.run_definitions.specs.Answers.{config_before, is_mine, is_segment, is_unicast, lower_answer, message_name, name_of, named_answer, opened_answer, placed_answer, replayed, transport_answer, whole_answer}
+use Rattle.run_definitions.specs.Config.{Config, changed, is_element}
 use Rattle.run_definitions.specs.Entries.{entry_of, has_room, others_held}
 use Rattle.run_definitions.specs.History.{Opening, OfPdu, Past, Reading}
-use Rattle.run_definitions.specs.Readings.{IsLowerPdu, IsOpened, IsOpenedUnder, IsOpening, IsOpeningOf, IsReading, fields_heard, keys_tried}
+use Rattle.run_definitions.specs.Readings.{IsLowerPdu, IsOpened, IsOpenedUnder, IsOpeningOf, fields_heard, keys_tried}
 use Rattle.run_definitions.specs.Uses.{accepted}
-use Rattle.mesh_run.specs.Hearing.{Hears, IsLowerHeard, sees_pdu, has_seg, heard_answer, network_row, no_layers, remembered}
+use Rattle.mesh_run.specs.Hearing.{Hears, sees_pdu, has_seg, network_row, no_layers, remembered}
 use Rattle.mesh_run.specs.Lived.{SeesAs}
 use Rattle.mesh_run.specs.Node.{AnswersAs, IsNodeOf, LowerAs, OpensAs, ReadAs, TransportAs, WholeAs, first_config, net_rows}
 use Rattle.mesh_run.specs.Replay.{IsAcceptable, StandsFor}

@@ -1,9 +1,8 @@
 -- No message is delivered twice: each accepted name is newer than the pair of its source, which it becomes.
 use Rattle.std.proofs.Common.{◌≡◌, ◌≢◌, ℕ, Bool, true, false, cond, eq-eqb, List, [], ◌∷◌, ◌++◌, refl, ap, sym, subst, ◌∙◌, append_assoc, append-nil, Option, Some, None}
-use Rattle.std.specs.Prelude.{All, AllPairs}
+use Rattle.std.specs.Prelude.{All}
 use Rattle.std.specs.List.{filter_map, flat_map}
 use Rattle.std.specs.Option.{option_map, option_to_list}
-use Rattle.std.proofs.lemmas.List.{map-append}
 use Rattle.std.proofs.lemmas.List.Elements.{All-nil, All-push, filter_map-append}
 use Rattle.std.proofs.lemmas.List.Quantifiers.{all_pairs_push}
 use Rattle.std.proofs.lemmas.Grind.{flat_map-append}
@@ -14,19 +13,17 @@ use Rattle.mesh_base.specs.declared.pair.Pair.{Pair}
 use Rattle.mesh_script.specs.declared.bearer.BearerLine.{BearerLine}
 use Rattle.mesh_script.specs.declared.grammar.Script.{Script}
 use Rattle.mesh_script.specs.declared.provision.ProvisionLine.{ProvisionLine}
-use Rattle.mesh_types.specs.declared.answers.Answer.{Answer}
 use Rattle.mesh_types.specs.declared.answers.Answer.TheVariants as A
 use Rattle.mesh_types.specs.declared.events.Event.{Event}
-use Rattle.mesh_types.specs.declared.events.Event.TheVariants as E
 use Rattle.mesh_types.specs.declared.records.StoreRecord.{StoreRecord}
 use Rattle.mesh_types.specs.declared.records.StoreRecord.TheVariants as R
 use Rattle.run_definitions.specs.Answers.{replayed}
 use Rattle.run_definitions.specs.Config.{config_of}
-use Rattle.run_definitions.specs.Entries.{entry_of, greatest_with, kept_of, unexpired}
-use Rattle.run_definitions.specs.History.{Insight, OfPdu, OfNothing, Past, Told}
+use Rattle.run_definitions.specs.Entries.{greatest_with, kept_of, unexpired}
+use Rattle.run_definitions.specs.History.{Insight, Past, Told}
 use Rattle.run_definitions.specs.Pairs.{is_expired, is_newer, newer_of}
 use Rattle.run_definitions.specs.Record.{Run}
-use Rattle.run_definitions.specs.Uses.{AtMostOnce, accepted, delivered, life_delivered}
+use Rattle.run_definitions.specs.Uses.{AtMostOnce, accepted, delivered}
 use Rattle.mesh_run.specs.Hearing.{Sees, sees_pdu, sees_nothing, answer_to, remembered}
 use Rattle.mesh_run.specs.Replay.{IsAcceptable}
 use Rattle.mesh_run.specs.Told.{AreTold, IsRunOf, IsTold, first_records, life_of, past_over, records_over, run_of}

@@ -13,7 +13,6 @@ use Rattle.mesh_base.specs.declared.lower.Lower.TheVariants.{Access, Control, Ac
 use Rattle.mesh_base.specs.declared.pair.Name.{Name}
 use Rattle.mesh_base.specs.declared.upper.UpperFields.{UpperFields}
 use Rattle.mesh_script.specs.declared.bearer.BearerLine.{BearerLine}
-use Rattle.mesh_script.specs.declared.grammar.Script.{Script}
 use Rattle.mesh_script.specs.declared.provision.ProvisionLine.{ProvisionLine}
 use Rattle.mesh_types.specs.declared.answers.Answer.{Answer}
 use Rattle.mesh_types.specs.declared.events.Event.{Event}
@@ -24,13 +23,12 @@ use Rattle.network_layer.specs.Laws.{HaveOneReading}
 use Rattle.run_definitions.specs.Answers.{config_before, lower_answer, message_name}
 use Rattle.run_definitions.specs.History.{Insight, OfPdu, OfNothing, Opening, Past, Reading, Told}
 use Rattle.run_definitions.specs.Readings.{IsLowerPdu, IsOpened, IsOpenedUnder, IsOpening, IsOpeningOf, IsReading}
-use Rattle.run_definitions.specs.Record.{Run}
 use Rattle.run_definitions.specs.Report.{report_text}
 use Rattle.upper_transport.specs.Laws.{HaveOneOpening}
 use Rattle.mesh_run.specs.Hearing.{Hears, IsLowerHeard, Sees, sees_pdu, sees_nothing, network_row, no_layers}
 use Rattle.mesh_run.specs.Laws.{HaveOneReport}
 use Rattle.mesh_run.specs.Lines.{event_of}
-use Rattle.mesh_run.specs.Told.{AreTold, IsRunOf, IsTold, entry_of, past_over, run_of}
+use Rattle.mesh_run.specs.Told.{AreTold, IsTold, entry_of, past_over, run_of}
 
 some_is : {A : Type 0} {a b : A} → Some a ≡ Some b → a ≡ b
 some_is e = cc

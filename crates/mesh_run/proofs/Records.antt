@@ -8,7 +8,7 @@ use Rattle.mesh_base.specs.declared.pair.Name.{Name}
 use Rattle.mesh_base.specs.declared.pair.Pair.{Pair}
 use Rattle.mesh_types.specs.declared.records.StoreRecord.{StoreRecord}
 use Rattle.mesh_types.specs.declared.records.StoreRecord.TheVariants as R
-use Rattle.run_definitions.specs.Config.{Config, changed, config_of, no_config}
+use Rattle.run_definitions.specs.Config.{changed, config_of, no_config}
 use Rattle.run_definitions.specs.Entries.{greatest_with, kept_after, kept_of, sources_after, sources_of}
 
 pub config_push : (records : List StoreRecord) (n : Name) → config_of (records ++ R.Replay n ∷ []) ≡ config_of records

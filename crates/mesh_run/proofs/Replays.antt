@@ -1,8 +1,8 @@
 -- The replay list in memory answers as the records do, and does so with one name more.
 use Rattle.std.proofs.Common.{◌≡◌, ℕ, ◌+◌, ◌<◌, ◌≤◌, Bool, true, false, cond, not, ◌&&◌, ◌||◌, eqb, ltb, List, [], ◌∷◌, ◌++◌, length, get_or, refl, sym, ap, subst, ◌∙◌, arith, length-append, Option, Some, None}
-use Rattle.std.specs.Prelude.{IsOk, IsTrue, OnOk, Result, Ok, Err, slice_set, nat_lt}
-use Rattle.std.specs.List.{filter, find, list_any, position, position_or_len, slice_get}
-use Rattle.std.specs.Option.{is_none, is_some, option_map, option_or}
+use Rattle.std.specs.Prelude.{IsOk, OnOk, Result, Ok, Err, slice_set}
+use Rattle.std.specs.List.{filter, find, position, position_or_len}
+use Rattle.std.specs.Option.{is_some, option_map, option_or}
 use Rattle.std.proofs.lemmas.Bool.Decides.{nat_tests}
 use Rattle.std.proofs.lemmas.List.{length-set}
 use Rattle.std.proofs.lemmas.List.Folds.{find_at, find-append, find-set, find_past}
@@ -15,8 +15,8 @@ use Rattle.mesh_types.specs.declared.records.StoreRecord.{StoreRecord}
 use Rattle.mesh_types.specs.declared.records.StoreRecord.TheVariants as R
 use Rattle.run_definitions.specs.Answers.{replayed}
 use Rattle.run_definitions.specs.Config.{config_of}
-use Rattle.run_definitions.specs.Entries.{entry_of, greatest_with, has_room, kept_of, others_held, sources_after, sources_of, unexpired}
-use Rattle.run_definitions.specs.Pairs.{is_expired, is_newer, newer_of}
+use Rattle.run_definitions.specs.Entries.{entry_of, greatest_with, has_room, kept_of, others_held, sources_of, unexpired}
+use Rattle.run_definitions.specs.Pairs.{is_expired, is_newer}
 use Rattle.mesh_run.specs.Replay.{has_place, is_of, kept_in, with_name, IsAcceptable, StandsFor}
 use Rattle.mesh_run.proofs.Records.{config_push, is_among, kept_push, listed, sources_push}
 

@@ -1,8 +1,7 @@
 -- No two seals of a run have one key and nonce and different plaintexts, since no two of its `raw` lines have one number.
-use Rattle.std.proofs.Common.{◌≡◌, ℕ, zero, suc, ◌+◌, ◌/◌, ◌%◌, ◌^◌, ◌<◌, ◌≤◌, List, [], ◌∷◌, ◌++◌, length, get_or, map, Some, refl, sym, ap, ◌∙◌, append_assoc, append-nil, length-append, arith}
+use Rattle.std.proofs.Common.{◌≡◌, ℕ, zero, suc, ◌+◌, ◌/◌, ◌%◌, ◌^◌, ◌<◌, ◌≤◌, List, [], ◌∷◌, ◌++◌, length, get_or, map, Some, refl, ap, ◌∙◌, append_assoc, append-nil, length-append, arith}
 use Rattle.std.specs.Prelude.{All}
 use Rattle.std.specs.List.{slice_get, filter_map, flat_map}
-use Rattle.std.proofs.lemmas.List.{map-append}
 use Rattle.std.proofs.lemmas.List.Elements.{All-cons, All-nil}
 use Rattle.std.proofs.lemmas.List.Kept.{AllPairs-cons, AllPairs-filter}
 use Rattle.mesh_script.specs.declared.bearer.BearerLine.{BearerLine}
@@ -16,7 +15,7 @@ use Rattle.run_definitions.specs.Record.{Run, shown_of}
 use Rattle.run_definitions.specs.Uses.{Use, NoReuse, uses, seals_of, network_use, life_seals, node_of, nonce_source}
 use Rattle.run_definitions.specs.Config.{is_element}
 use Rattle.layer_definitions.specs.KeyRefresh.{master_material}
-use Rattle.mesh_run.specs.Told.{AreTold, IsRunOf, IsTold, entry_of, fields_of, job_of, jobs_of, life_of, run_of, sent_of, sents_from}
+use Rattle.mesh_run.specs.Told.{AreTold, IsRunOf, IsTold, entry_of, fields_of, life_of, run_of, sents_from}
 
 -- the seal of a `raw` line
 abbrev seal_of : ProvisionLine → ℕ → RawLine → Use

@@ -1,5 +1,5 @@
 -- The entries of a life one after another, and the lines of its jobs.
-use Rattle.std.proofs.Common.{◌≡◌, ℕ, zero, suc, ◌+◌, ◌<◌, ◌≤◌, true, List, [], ◌∷◌, ◌++◌, length, take, drop, get_or, map, refl, sym, ap, subst, ◌∙◌, append_assoc, append-nil, length-append, arith}
+use Rattle.std.proofs.Common.{◌≡◌, ℕ, suc, ◌+◌, ◌<◌, ◌≤◌, true, List, [], ◌∷◌, ◌++◌, length, take, drop, get_or, map, refl, sym, ap, subst, ◌∙◌, append_assoc, append-nil, arith}
 use Rattle.std.proofs.lemmas.List.{at_drop_more, at_drop_all, length-map, length-take-le, map-append, take_more}
 use Rattle.mesh_script.specs.declared.bearer.BearerLine.{BearerLine}
 use Rattle.mesh_script.specs.declared.bearer.BearerLine.TheVariants as B
@@ -7,20 +7,18 @@ use Rattle.mesh_script.specs.declared.grammar.Script.{Script}
 use Rattle.mesh_script.specs.declared.provision.ProvisionLine.{ProvisionLine}
 use Rattle.mesh_types.specs.Kind.{kind_of}
 use Rattle.mesh_types.specs.declared.answers.Answer.{Answer}
-use Rattle.mesh_types.specs.declared.events.Event.{Event}
 use Rattle.mesh_types.specs.declared.events.Kind.{Kind}
 use Rattle.mesh_types.specs.declared.history.Entry.{Entry}
 use Rattle.mesh_types.specs.declared.history.Sent.{Sent}
 use Rattle.mesh_types.specs.declared.report.ReportLine.{ReportLine}
 use Rattle.mesh_types.specs.declared.report.ReportLine.TheVariants as L
-use Rattle.mesh_types.specs.declared.report.End.TheVariants as F
 use Rattle.run_definitions.specs.History.{Insight, Past, Told}
 use Rattle.run_definitions.specs.Report.{bearer_lines, entry_lines, life_lines, opened_line}
-use Rattle.mesh_run.specs.Hearing.{Sees, answer_to, remembered}
+use Rattle.mesh_run.specs.Hearing.{remembered}
 use Rattle.mesh_run.specs.Lines.{event_of}
 use Rattle.mesh_run.specs.Lived.{HasEntries, HasLines, SeesAs}
 use Rattle.mesh_run.specs.Node.{HasKeys, IsNodeOf}
-use Rattle.mesh_run.specs.Told.{AreTold, IsTold, entry_of, first_records, jobs_of, life_of, next_seq, opened_over, past_over, records_over, sents_from, sents_of}
+use Rattle.mesh_run.specs.Told.{AreTold, IsTold, entry_of, first_records, life_of, next_seq, opened_over, past_over, records_over, sents_from, sents_of}
 use Rattle.mesh_run.specs.declared.node.Node.{Node}
 use Rattle.mesh_run.proofs.Once.{records_push}
 

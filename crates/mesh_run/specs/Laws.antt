@@ -1,5 +1,5 @@
 -- What is true of every record of a run.
-use Rattle.std.specs.Prelude.{◌≡◌, ℕ, ◌≤◌, true, length}
+use Rattle.std.specs.Prelude.{◌≡◌, ◌≤◌, true, length}
 use Rattle.mesh_script.specs.declared.grammar.Script.{Script}
 use Rattle.run_definitions.specs.Record.{Run}
 use Rattle.run_definitions.specs.Report.{report_text}

@@ -1,5 +1,5 @@
 -- What the lines of a report show of a life.
-use Rattle.std.specs.Prelude.{◌≡◌, ℕ, true, List, [], ◌++◌, map}
+use Rattle.std.specs.Prelude.{◌≡◌, true, List, [], ◌++◌, map}
 use Rattle.mesh_script.specs.declared.bearer.BearerLine.{BearerLine}
 use Rattle.mesh_script.specs.declared.grammar.Script.{Script}
 use Rattle.mesh_script.specs.declared.provision.ProvisionLine.{ProvisionLine}

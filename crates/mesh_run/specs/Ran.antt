@@ -1,5 +1,5 @@
 -- What a whole run leaves.
-use Rattle.std.specs.Prelude.{◌≡◌, ◌⊎◌, ℕ, true, List, [], Option, Some, None}
+use Rattle.std.specs.Prelude.{◌≡◌, ◌⊎◌, ℕ, true, List, Option, Some, None}
 use Rattle.mesh_base.specs.Outside.{Grows}
 use Rattle.mesh_script.specs.declared.grammar.Script.{Script}
 use Rattle.run_definitions.specs.Record.{Run}

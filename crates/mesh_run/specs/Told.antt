@@ -5,8 +5,6 @@ use Rattle.std.specs.List.{flat_map}
 use Rattle.layer_definitions.specs.KeyRefresh.{master_material}
 use Rattle.layer_definitions.specs.Network.{net_text}
 use Rattle.mesh_base.specs.declared.fields.NetFields.{NetFields}
-use Rattle.mesh_types.specs.declared.events.Event.{Event}
-use Rattle.mesh_types.specs.declared.events.Event.TheVariants as E
 use Rattle.mesh_types.specs.declared.history.Entry.{Entry}
 use Rattle.mesh_types.specs.declared.history.Sent.{Sent}
 use Rattle.mesh_types.specs.declared.jobs.Job.{Job}

@@ -1,6 +1,5 @@
-use Rattle.std.proofs.Common.{◌≡◌, ◌∙◌, List, refl, ap, subst}
+use Rattle.std.proofs.Common.{◌≡◌, refl, subst}
 use Rattle.layer_definitions.specs.Network.{IsUnread, Reads}
-use Rattle.mesh_base.specs.declared.fields.Heard.{Heard}
 use Rattle.net_keys.specs.Laws.{keys_with_nid_of}
 use Rattle.mesh_run.specs.Node.{net_rows}
 use Rattle.mesh_run.proofs.Candidates.{candidates_are}

@@ -1,6 +1,5 @@
-use Rattle.std.proofs.Common.{◌≡◌, false, subst}
+use Rattle.std.proofs.Common.{subst}
 use Rattle.layer_definitions.specs.Lower.{ReadsLower}
-use Rattle.run_definitions.specs.Answers.{is_segment}
 use Rattle.mesh_run.specs.Node.{reading_of}
 use Rattle.mesh_run.proofs.Heard.{not_segment, transport_lower}
 use Rattle.mesh_run.proofs.node.Node.transport_answer.Goals as goal

@@ -1,4 +1,4 @@
-use Rattle.std.proofs.Common.{◌≡◌, ◌<◌, ◌++◌, ◌∷◌, [], ◌∙◌, List, length, sym, subst, ap, arith, Option, Some, None}
+use Rattle.std.proofs.Common.{◌≡◌, ◌<◌, ◌++◌, ◌∷◌, [], ◌∙◌, List, length, sym, subst, ap, arith, Some, None}
 use Rattle.std.specs.Prelude.{OnOk, slice_set}
 use Rattle.std.specs.List.{position}
 use Rattle.mesh_base.specs.declared.pair.Name.{Name}
