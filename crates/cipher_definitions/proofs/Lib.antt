@@ -3,3 +3,4 @@ pub mod Sums
 pub mod Lengths
 pub mod Sealing
 pub mod Blocks
+pub mod Octets

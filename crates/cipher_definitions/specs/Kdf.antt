@@ -1,6 +1,6 @@
 -- The key derivations of the Mesh Profile 1.0.1. Section numbers are the profile's, and keys are
 -- lists of 16 octets.
-use Rattle.std.specs.Prelude.{ℕ, ◌/◌, ◌%◌, ◌^◌, List, [], ◌∷◌, ◌++◌, replicate, codes}
+use Rattle.std.specs.Prelude.{ℕ, ◌+◌, ◌/◌, ◌%◌, ◌^◌, List, [], ◌∷◌, ◌++◌, replicate, codes}
 use Rattle.cipher_definitions.specs.Octets.{two_octets, octets_of, number_of}
 use Rattle.cipher_definitions.specs.Cmac.{cmac}
 
@@ -79,3 +79,7 @@ friendship_parameter lpn friend lpn_counter friend_counter =
 unfoldable pub friendship_credentials : List ℕ → ℕ → ℕ → ℕ → ℕ → K2Value
 friendship_credentials net_key lpn friend lpn_counter friend_counter =
     k2 net_key (friendship_parameter lpn friend lpn_counter friend_counter)
+
+-- the virtual address of a label: the bits 10, and the last 14 bits of AES-CMAC of the label under the s1 of "vtad" (3.4.2.3)
+unfoldable pub virtual_address : List ℕ → ℕ
+virtual_address label = 2 ^ 15 + number_of (cmac (s1 (codes "vtad")) label) % 2 ^ 14

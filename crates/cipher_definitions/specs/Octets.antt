@@ -1,6 +1,6 @@
 -- Octets of numbers, sums of lists of octets, and blocks of 16 octets. An octet is a number below
 -- 256, and the octets of a number stand high octet first.
-use Rattle.std.specs.Prelude.{ℕ, zero, suc, ◌+◌, ◌-◌, ◌*◌, ◌/◌, ◌%◌, ◌^◌, List, [], ◌∷◌, ◌++◌, length, take, drop, map, replicate, bit_xor}
+use Rattle.std.specs.Prelude.{ℕ, zero, suc, ◌+◌, ◌-◌, ◌*◌, ◌/◌, ◌%◌, ◌^◌, List, [], ◌∷◌, ◌++◌, length, take, drop, map, replicate, bit_xor, slice_index}
 
 -- the low two octets of a number
 abbrev pub two_octets : ℕ → List ℕ
@@ -13,6 +13,16 @@ three_octets n = n / 65536 % 256 ∷ n / 256 % 256 ∷ n % 256 ∷ []
 -- the low four octets of a number
 abbrev pub four_octets : ℕ → List ℕ
 four_octets n = n / 16777216 % 256 ∷ n / 65536 % 256 ∷ n / 256 % 256 ∷ n % 256 ∷ []
+
+-- the numbers that two, three and four octets at a place make
+abbrev pub two_at : List ℕ → ℕ → ℕ
+two_at b i = slice_index b i * 256 + slice_index b (i + 1)
+
+abbrev pub three_at : List ℕ → ℕ → ℕ
+three_at b i = slice_index b i * 65536 + two_at b (i + 1)
+
+abbrev pub four_at : List ℕ → ℕ → ℕ
+four_at b i = two_at b i * 65536 + two_at b (i + 2)
 
 -- the low k octets of a number
 unfoldable pub octets_of : ℕ → ℕ → List ℕ

@@ -4,58 +4,14 @@ use Rattle.std.specs.Prelude.{◌==◌, ◌&&◌, if◌then◌else◌, slice_ind
 use Rattle.std.proofs.lemmas.Bool.Decides.{nat_tests}
 use Rattle.std.proofs.lemmas.List.{length-map}
 use Rattle.std.proofs.lemmas.List.Elements.{All-head, All-tail}
+use Rattle.cipher_definitions.specs.Octets.{four_at, three_at, two_at}
+use Rattle.cipher_definitions.proofs.Octets.{bit_back, four_back, three_back, two_back}
 use Rattle.mesh_base.specs.declared.address.Address.{Address}
 use Rattle.mesh_base.specs.declared.control.ControlMsg.{ControlMsg}
 use Rattle.mesh_base.specs.declared.control.ControlMsg.TheVariants.{Acknowledgment, Poll, Update, Request, Offer, Clear, ClearConfirm, ListAdd, ListRemove, ListConfirm, Other}
 use Rattle.layer_definitions.specs.Control.{AreAddresses, FitsControl, IsControlInWidths, ReadsControl, address_octets, control_text, is_other, params_as_read, without_reserved}
+use Rattle.layer_definitions.specs.ControlReading.{addresses_back, control_of, has_row, read_back}
 use Rattle.layer_definitions.specs.Lower.{acknowledgment, lower_text}
-
--- the numbers that octets of a text make
-abbrev two_at : List ℕ → ℕ → ℕ
-two_at t i = slice_index t i * 256 + slice_index t (i + 1)
-
-abbrev three_at : List ℕ → ℕ → ℕ
-three_at t i = slice_index t i * 65536 + two_at t (i + 1)
-
-abbrev four_at : List ℕ → ℕ → ℕ
-four_at t i = two_at t i * 65536 + two_at t (i + 2)
-
-abbrev address_at : List ℕ → ℕ → Address
-address_at t i = record { 0 = two_at t i }
-
-abbrev addresses_back : List ℕ → List Address
-addresses_back [] = []
-addresses_back (a ∷ []) = []
-addresses_back (a ∷ b ∷ rest) = record { 0 = a * 256 + b } ∷ addresses_back rest
-
--- the message whose text this is
-abbrev read_back : List ℕ → ControlMsg
-read_back t =
-    if slice_index t 0 == 0 then Acknowledgment (record { obo = nat_le (2 ^ 15) (two_at t 1); seq_zero = two_at t 1 % 2 ^ 15 / 2 ^ 2; block_ack = four_at t 3 })
-    else if slice_index t 0 == 1 then Poll (slice_index t 1 == 1)
-    else if slice_index t 0 == 2 then Update (record { flags = slice_index t 1; iv = four_at t 2; more_data = slice_index t 6 })
-    else if slice_index t 0 == 3 then
-    Request (record { criteria = slice_index t 1; receive_delay = slice_index t 2; poll_timeout = three_at t 3; previous = address_at t 6; elements = slice_index t 8; lpn_counter = two_at t 9 })
-    else if slice_index t 0 == 4 then
-    Offer (record { receive_window = slice_index t 1; queue_size = slice_index t 2; subscription_list_size = slice_index t 3; rssi = slice_index t 4; friend_counter = two_at t 5 })
-    else if slice_index t 0 == 5 then Clear (record { lpn = address_at t 1; lpn_counter = two_at t 3 })
-    else if slice_index t 0 == 6 then ClearConfirm (record { lpn = address_at t 1; lpn_counter = two_at t 3 })
-    else if slice_index t 0 == 7 then ListAdd (record { transaction = slice_index t 1; addresses = addresses_back (drop 2 t) })
-    else if slice_index t 0 == 8 then ListRemove (record { transaction = slice_index t 1; addresses = addresses_back (drop 2 t) })
-    else ListConfirm (slice_index t 1)
-
-two_back : (n : ℕ) → n < 2 ^ 16 → n / 256 % 256 * 256 + n % 256 ≡ n
-two_back n h = omega arith
-
-three_back : (n : ℕ) → n < 2 ^ 24 → n / 65536 % 256 * 65536 + (n / 256 % 256 * 256 + n % 256) ≡ n
-three_back n h = omega arith
-
-four_back : (n : ℕ) → n < 2 ^ 32 → (n / 16777216 % 256 * 256 + n / 65536 % 256) * 65536 + (n / 256 % 256 * 256 + n % 256) ≡ n
-four_back n h = omega arith
-
-bit_back : (b : Bool) → (if b then 1 else 0) == 1 ≡ b
-bit_back true = refl
-bit_back false = refl
 
 obo_back : (obo : Bool) (seq_zero : ℕ) → seq_zero < 2 ^ 13 → nat_le (2 ^ 15) ((if obo then 2 ^ 15 else 0) + seq_zero * 2 ^ 2) ≡ obo
 obo_back true seq_zero h = grind (arith, nat_tests)
@@ -132,21 +88,6 @@ acknowledgment-same seq_zero block_ack = rw (zero-add (seq_zero * 4)) refl
 
 -- How many octets of parameters an opcode has.
 
--- whether an opcode has a message with so many
-abbrev pub has_row : ℕ → ℕ → Bool
-has_row opcode count =
-    if opcode == 0 then count == 6
-    else if opcode == 1 then count == 1
-    else if opcode == 2 then count == 6
-    else if opcode == 3 then count == 10
-    else if opcode == 4 then count == 6
-    else if opcode == 5 then count == 4
-    else if opcode == 6 then count == 4
-    else if opcode == 7 then nat_le 3 count && nat_le count 11 && count % 2 == 1
-    else if opcode == 8 then nat_le 3 count && nat_le count 11 && count % 2 == 1
-    else if opcode == 9 then count == 1
-    else false
-
 pub length-address_octets : (addresses : List Address) → length (address_octets addresses) ≡ 2 * length addresses
 length-address_octets [] = refl
 length-address_octets (a ∷ rest) = omega (arith, length-address_octets rest)
@@ -205,3 +146,8 @@ fits-not-other (ListAdd l) h = refl
 fits-not-other (ListRemove l) h = refl
 fits-not-other (ListConfirm transaction) h = refl
 fits-not-other Other h = absurd (cc)
+
+-- the message that the octets read as is the one that stands in them
+pub control_of_reading : (opcode : ℕ) (params : List ℕ) (m : ControlMsg) → ReadsControl opcode params m → control_of opcode params ≡ m
+control_of_reading opcode params m r =
+    rw (reading-row opcode params m r) (ap read_back (sym r.text) ∙ text_back m r.fits r.in_widths)

@@ -37,25 +37,3 @@ three_octets-injective a b h k e =
     let middle : a / 256 % 256 ≡ b / 256 % 256 = ap (λ l. get_or l 1 0) e in
     let low : a % 256 ≡ b % 256 = ap (λ l. get_or l 2 0) e in
     omega arith
-
--- octets of a number that they make
-pub two_octets-of : (n a b : ℕ) → a < 256 → b < 256 → n ≡ a * 256 + b → two_octets n ≡ a ∷ b ∷ []
-two_octets-of n a b ha hb e =
-    let high : n / 256 % 256 ≡ a = omega arith in
-    let low : n % 256 ≡ b = omega arith in
-    rw (high, low) refl
-
-pub three_octets-of : (n a b c : ℕ) → a < 256 → b < 256 → c < 256 → n ≡ a * 65536 + (b * 256 + c) → three_octets n ≡ a ∷ b ∷ c ∷ []
-three_octets-of n a b c ha hb hc e =
-    let high : n / 65536 % 256 ≡ a = omega arith in
-    let middle : n / 256 % 256 ≡ b = omega arith in
-    let low : n % 256 ≡ c = omega arith in
-    rw (high, middle, low) refl
-
-pub four_octets-of : (n a b c d : ℕ) → a < 256 → b < 256 → c < 256 → d < 256 → n ≡ a * 16777216 + (b * 65536 + (c * 256 + d)) → four_octets n ≡ a ∷ b ∷ c ∷ d ∷ []
-four_octets-of n a b c d ha hb hc hd e =
-    let first : n / 16777216 % 256 ≡ a = omega arith in
-    let second : n / 65536 % 256 ≡ b = omega arith in
-    let third : n / 256 % 256 ≡ c = omega arith in
-    let fourth : n % 256 ≡ d = omega arith in
-    rw (first, second, third, fourth) refl

@@ -1,6 +1,6 @@
 -- Which keys a node hears and sends with, by the phase of the Key Refresh of each network key (Mesh Profile 1.0.1, section 3.10.4). The
 -- lists of rows are given by index.
-use Rattle.std.specs.Prelude.{ℕ, ◌+◌, ◌==◌, Bool, true, false, if◌then◌else◌, List, [], ◌∷◌, Option, Some, None, unwrap_or, option_and_then, map, filter}
+use Rattle.std.specs.Prelude.{ℕ, ◌+◌, ◌==◌, Bool, true, false, if◌then◌else◌, List, [], ◌∷◌, Option, Some, None, unwrap_or, option_and_then, map, filter, All, IsSome}
 use Rattle.std.specs.List.{flat_map, find}
 use Rattle.std.specs.Option.{option_map}
 use Rattle.cipher_definitions.specs.Kdf.{master_credentials, friendship_credentials, aid}
@@ -87,3 +87,8 @@ transmit_value r net = if net.phase == 2 then unwrap_or r.next r.key else r.key
 abbrev pub transmit_app : List AppKeyRow → List NetKeyRow → ℕ → Option (ℕ × UpperKey)
 transmit_app rows nets index =
     option_and_then (λ r. option_map (λ net. (r.net, app_key index (transmit_value r net))) (net_row nets r.net)) (app_row rows index)
+
+-- Each application key is bound to a network key that is held (3.8.6.2). A node meets this by what it stores: an application key is added
+-- only for a network key that is held, and goes with it.
+abbrev pub AreBound : List AppKeyRow → List NetKeyRow → Type 0
+AreBound apps nets = All (λ (r : AppKeyRow). IsSome (net_row nets r.net)) apps

@@ -4,6 +4,7 @@ pub mod IvIndex
 pub mod Lower
 pub mod Beacon
 pub mod Control
+pub mod ControlReading
 pub mod KeyRefresh
-pub mod Slots
+pub mod Labels
 pub mod Order

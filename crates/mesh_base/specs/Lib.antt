@@ -2,3 +2,6 @@ pub mod Address
 pub mod IvState
 pub mod Memory
 pub mod Outside
+pub mod Pairs
+pub mod Pieces
+pub mod Safety

@@ -9,18 +9,20 @@ pub record Script : Type 0 where
   pub calls : ℕ
   pub faults : ℕ
 
--- A sink that fails at the calls of a list: the octets that it holds, and the rest as for a source. It also fails where it finds no
--- memory, and tells whether the last call did.
+-- A sink that fails at the calls of a list: the octets that it holds, the pieces that it was offered, and the rest as for a source. It
+-- also fails where it finds no memory, and tells whether the last call did.
 pub record Ledger : Type 0 where
   pub octets : List ℕ
+  pub pieces : List (List ℕ)
   pub failing : List ℕ
   pub calls : ℕ
   pub faults : ℕ
   pub lacked_memory : Bool
 
--- A sink that never fails: for how many octets it has room, and what it holds as long as that fits.
+-- A sink that never fails: for how many octets it has room, the pieces that it was offered, and what it holds as long as that fits.
 pub record Shelf : Type 0 where
   pub room : ℕ
+  pub pieces : List (List ℕ)
   pub held : Option (List ℕ)
 
 -- bs behind what is held, where that fits into the room

@@ -9,9 +9,9 @@ one_more n = min (n + 1) (2 ^ 64 - 1)
 abbrev pub Rose : ℕ → ℕ → Type 0
 Rose before now = one_more before ≤ now
 
--- The octets that are held grow by bs, where they are told. A sink may stop telling what it holds, and then never tells it again:
--- so where the octets are told in the end, they were told all along.
-abbrev pub Grows : Option (List ℕ) → Option (List ℕ) → List ℕ → Type 0
-Grows held None bs = ⊤
+-- What is told grows by bs: the octets that a sink holds, or the pieces that it was offered. A sink may stop telling, and then never
+-- tells again: so where it tells in the end, it told all along.
+abbrev pub Grows : {X : Type 0} → Option (List X) → Option (List X) → List X → Type 0
+Grows told None bs = ⊤
 Grows None (Some ys) bs = ⊥
 Grows (Some xs) (Some ys) bs = ys ≡ xs ++ bs

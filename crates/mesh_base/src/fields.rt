@@ -3,9 +3,11 @@
 
 use crate::address::Address;
 use crate::octets::Octets;
+use std::fmt;
+use std::fmt::{Debug, Formatter};
 
 /// What seals and opens network PDUs: derived from a network key by k2 (section 3.8.6.3.1).
-#[derive(Clone, Copy, Debug, Default, PartialEq, Eq)]
+#[derive(Clone, Copy, Default, PartialEq, Eq)]
 pub struct NetMaterial {
     /// NID, below 128.
     pub nid: u8,
@@ -13,6 +15,15 @@ pub struct NetMaterial {
     pub encryption: [u8; 16],
     /// The PrivacyKey.
     pub privacy: [u8; 16],
+}
+
+/// Without the keys, which are secret.
+impl Debug for NetMaterial {
+    fn fmt<W: fmt::Write>(&self, f: &mut Formatter<W>) -> fmt::Result {
+        f.debug_struct("NetMaterial")
+            .field("nid", &self.nid)
+            .finish_non_exhaustive()
+    }
 }
 
 /// Network material under which a PDU may be heard, and whose it is.

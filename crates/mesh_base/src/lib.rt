@@ -3,7 +3,7 @@
 //!
 //! - `address`: a 16-bit address and its kind
 //! - `octets`: a list of at most N octets
-//! - `pair`: an IV Index with a SEQ, and the name of a message
+//! - `pair`: an IV Index with a SEQ, their order, and the name of a message
 //! - `fields`: the fields of a network PDU, and the material that seals it
 //! - `keys`: network, application and device keys as the node holds them
 //! - `iv_state`: the state of the IV Index and the steps that it takes
@@ -29,6 +29,7 @@ pub mod memory;
 pub mod octets;
 pub mod outside;
 pub mod pair;
+mod pieces;
 pub mod slot;
 pub mod standard;
 pub mod table;

@@ -2,12 +2,13 @@
 //! fails.
 #![tactic(auto)]
 
-ghost use Rattle.std.specs.Prelude.{◌≡◌, ℕ, ◌+◌, ◌<◌, ◌≤◌, ◌↔◌, ◌⊎◌, List, [], length, take, min, Contains, Some, None, IsOk, IsErr, IfOk, IfSome, OnErr, IsTrue, false, MatchOption, is_err, if◌then◌else◌};
+ghost use Rattle.std.specs.Prelude.{◌≡◌, ℕ, ◌+◌, ◌<◌, ◌≤◌, ◌↔◌, ◌⊎◌, List, [], ◌∷◌, ◌++◌, length, take, min, Contains, Some, None, IsOk, IsErr, IfOk, IfSome, OnOk, OnErr, IsTrue, false, MatchOption, is_err, if◌then◌else◌};
 ghost use Rattle.std.specs.Io.KnownBytes.{Consumes, IsAtEnd};
 ghost use Rattle.mesh_base.specs.Outside.{Rose, Grows, one_more};
 ghost use Rattle.mesh_base.specs.Memory.{Script, Ledger, Shelf, shelved};
 
 use crate::outside::{Failed, Sink, Source};
+use crate::pieces::PieceLog;
 use std::alloc::{AllocError, Global};
 use std::marker::Model;
 
@@ -55,7 +56,8 @@ impl Source for MemSource<'_> {
         ensures octets { IfOk result (λ n. Consumes (Some self.old.octets) (Some self.new.octets) (take n buf.new)) }
         ensures end { IfOk result (λ n. IfSome (Some self.old.octets) (λ xs. (n ≡ 0) ↔ (xs ≡ []))) }
         ensures at_end { IfOk result (λ n. n ≡ 0 → IsAtEnd (Some self.new.octets)) }
-        ensures same { OnErr result (Some self.new.octets ≡ Some self.old.octets) }
+        ensures unchanged { OnErr result (Some self.new.octets ≡ Some self.old.octets) }
+        ensures faultless { OnOk result (self.new.faults ≡ self.old.faults) }
         ensures cause { OnErr result (Rose self.old.faults self.new.faults) }
         ensures later { self.old.faults ≤ self.new.faults }
 
@@ -83,6 +85,7 @@ impl Source for MemSource<'_> {
 #[derive(Drop)]
 pub struct MemSink {
     held: Vec<u8>,
+    offered: PieceLog,
     failing: Vec<u32>,
     calls: u64,
     faults: u64,
@@ -92,7 +95,7 @@ pub struct MemSink {
 impl Model for MemSink {
     ghost Value = { Ledger };
 
-    ghost view = { λ s. record { octets = s.held.items; failing = s.failing.items; calls = s.calls; faults = s.faults; lacked_memory = s.lacked_memory } };
+    ghost view = { λ s. record { octets = s.held.items; pieces = s.offered; failing = s.failing.items; calls = s.calls; faults = s.faults; lacked_memory = s.lacked_memory } };
 }
 
 impl MemSink {
@@ -100,6 +103,7 @@ impl MemSink {
     /// there may be no memory.
     pub fn new(alloc: Global, failing: &[u32]) -> Result<MemSink, AllocError>
         ensures octets { IfOk result (λ s. s.octets ≡ []) }
+        ensures pieces { IfOk result (λ s. s.pieces ≡ []) }
         ensures failing { IfOk result (λ s. s.failing ≡ failing.now) }
         ensures calls { IfOk result (λ s. s.calls ≡ 0) }
         ensures faults { IfOk result (λ s. s.faults ≡ 0) }
@@ -109,6 +113,7 @@ impl MemSink {
         list.extend_from_slice(failing)?;
         Ok(MemSink {
             held: Vec::new(alloc),
+            offered: PieceLog::new(alloc)?,
             failing: list,
             calls: 0,
             faults: 0,
@@ -134,13 +139,17 @@ impl MemSink {
 impl Sink for MemSink {
     ghost held = { λ s. Some s.octets };
 
+    ghost pieces = { λ s. Some s.pieces };
+
     ghost faults = { λ s. s.faults };
 
     fn write(&mut self, bytes: &[u8]) -> Result<usize, Failed>
         ensures bound { IfOk result (λ n. n ≤ length bytes.now) }
         ensures some { IfOk result (λ n. 0 < length bytes.now → 0 < n) }
         ensures octets { IfOk result (λ n. Grows (Some self.old.octets) (Some self.new.octets) (take n bytes.now)) }
-        ensures same { OnErr result ((Some self.new.octets) ≡ (Some self.old.octets)) }
+        ensures unchanged { OnErr result ((Some self.new.octets) ≡ (Some self.old.octets)) }
+        ensures offered { Grows (Some self.old.pieces) (Some self.new.pieces) (bytes.now ∷ []) }
+        ensures faultless { OnOk result (self.new.faults ≡ self.old.faults) }
         ensures cause { OnErr result (Rose self.old.faults self.new.faults) }
         ensures later { self.old.faults ≤ self.new.faults }
 
@@ -152,6 +161,7 @@ impl Sink for MemSink {
         ensures faults { self.new.faults ≡ (if is_err result then one_more self.old.faults else self.old.faults) }
         ensures failing { self.new.failing ≡ self.old.failing }
     {
+        self.offered.note(bytes);
         self.calls = self.calls.saturating_add(1);
         if is_listed(self.failing.as_slice(), self.calls) {
             self.faults = self.faults.saturating_add(1);
@@ -200,7 +210,8 @@ impl Source for SureSource<'_> {
         ensures octets { IfOk result (λ n. Consumes (Some self.old) (Some self.new) (take n buf.new)) }
         ensures end { IfOk result (λ n. IfSome (Some self.old) (λ xs. (n ≡ 0) ↔ (xs ≡ []))) }
         ensures at_end { IfOk result (λ n. n ≡ 0 → IsAtEnd (Some self.new)) }
-        ensures same { OnErr result (Some self.new ≡ Some self.old) }
+        ensures unchanged { OnErr result (Some self.new ≡ Some self.old) }
+        ensures faultless { OnOk result (◌≡◌ {A = ℕ} 0 0) }
         ensures cause { OnErr result (Rose 0 0) }
         ensures later { 0 ≤ 0 }
 
@@ -216,10 +227,11 @@ impl Source for SureSource<'_> {
 }
 
 /// A sink into memory, that never fails. It has room for a number of octets; what is written past that it takes too, but it then
-/// keeps nothing and no longer tells what was written.
+/// keeps nothing and no longer tells what was written. The pieces that it was offered it tells all along.
 #[derive(Drop)]
 pub struct SureSink {
     held: Vec<u8>,
+    offered: PieceLog,
     room: u32,
     overflowed: bool,
 }
@@ -230,7 +242,7 @@ impl Model for SureSink {
 
     ghost Value = { Shelf };
 
-    ghost view = { λ s. record { room = s.room; held = if s.overflowed then None else Some s.held.items } };
+    ghost view = { λ s. record { room = s.room; pieces = s.offered; held = if s.overflowed then None else Some s.held.items } };
 
     ghost invariant = { λ s. (s.room ≤ vec_capacity s.held) × (vec_len s.held ≤ s.room) };
 }
@@ -239,11 +251,13 @@ impl SureSink {
     /// An empty sink with room for `room` octets, for which there may be no memory.
     pub fn new(alloc: Global, room: u32) -> Result<SureSink, AllocError>
         ensures room { IfOk result (λ s. s.room ≡ room) }
+        ensures pieces { IfOk result (λ s. s.pieces ≡ []) }
         ensures held { IfOk result (λ s. s.held ≡ Some []) }
     {
         let held = Vec::with_capacity(alloc, room as usize)?;
         Ok(SureSink {
             held,
+            offered: PieceLog::new(alloc)?,
             room,
             overflowed: false,
         })
@@ -264,6 +278,8 @@ impl SureSink {
 impl Sink for SureSink {
     ghost held = { λ s. s.held };
 
+    ghost pieces = { λ s. Some s.pieces };
+
     ghost faults = { λ _. 0 };
 
     #[tactic(auto, unfolding(crate::specs::Memory::shelved))]
@@ -271,7 +287,9 @@ impl Sink for SureSink {
         ensures bound { IfOk result (λ n. n ≤ length bytes.now) }
         ensures some { IfOk result (λ n. 0 < length bytes.now → 0 < n) }
         ensures octets { IfOk result (λ n. Grows self.old.held self.new.held (take n bytes.now)) }
-        ensures same { OnErr result (self.new.held ≡ self.old.held) }
+        ensures unchanged { OnErr result (self.new.held ≡ self.old.held) }
+        ensures offered { Grows (Some self.old.pieces) (Some self.new.pieces) (bytes.now ∷ []) }
+        ensures faultless { OnOk result (◌≡◌ {A = ℕ} 0 0) }
         ensures cause { OnErr result (Rose 0 0) }
         ensures later { 0 ≤ 0 }
 
@@ -280,6 +298,7 @@ impl Sink for SureSink {
         ensures kept { self.new.held ≡ shelved self.old.room self.old.held bytes.now }
         ensures room { self.new.room ≡ self.old.room }
     {
+        self.offered.note(bytes);
         if self.overflowed {
             return Ok(bytes.len());
         }

@@ -73,7 +73,7 @@ impl<const N: usize> Octets<N> {
     pub fn push(&mut self, b: u8) -> Result<(), TooMany>
         ensures variant { IsOk result ↔ (length self.old < N) }
         ensures ok { OnOk result (self.new ≡ self.old ++ b ∷ []) }
-        ensures same { OnErr result (self.new ≡ self.old) }
+        ensures unchanged { OnErr result (self.new ≡ self.old) }
     {
         match self.bytes.try_push(b) {
             Ok(()) => Ok(()),

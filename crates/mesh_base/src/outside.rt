@@ -2,7 +2,7 @@
 //! and memory alike, whatever fails.
 #![tactic(auto)]
 
-ghost use Rattle.std.specs.Prelude.{◌≡◌, ℕ, ◌<◌, ◌≤◌, ◌↔◌, List, [], length, take, Option, IfOk, IfSome, OnErr};
+ghost use Rattle.std.specs.Prelude.{◌≡◌, ℕ, ◌<◌, ◌≤◌, ◌↔◌, List, [], ◌∷◌, length, take, Option, IfOk, IfSome, OnOk, OnErr};
 ghost use Rattle.std.specs.Io.KnownBytes.{Consumes, IsAtEnd};
 ghost use Rattle.mesh_base.specs.Outside.{Rose, Grows};
 
@@ -29,17 +29,21 @@ pub trait Source {
         ensures octets { IfOk result (λ n. Consumes (left self.old) (left self.new) (take n buf.new)) }
         ensures end { IfOk result (λ n. IfSome (left self.old) (λ xs. (n ≡ 0) ↔ (xs ≡ []))) }
         ensures at_end { IfOk result (λ n. n ≡ 0 → IsAtEnd (left self.new)) }
-        ensures same { OnErr result (left self.new ≡ left self.old) }
+        ensures unchanged { OnErr result (left self.new ≡ left self.old) }
 
-        // A fault raises the count, which never falls.
+        // A fault raises the count, and so isn't swallowed: Ok leaves it.
+        ensures faultless { OnOk result (faults self.new ≡ faults self.old) }
         ensures cause { OnErr result (Rose (faults self.old) (faults self.new)) }
         ensures later { faults self.old ≤ faults self.new };
 }
 
-/// Where octets go.
+/// Where octets go. Each call of `write` offers it a piece, of which it takes a front.
 pub trait Sink {
     // The octets that it took, where they are told, as in memory.
     ghost held: { Self → Option (List ℕ) };
+
+    // The pieces that it was offered, one for each call of `write`, in their order, where they are told, as in memory.
+    ghost pieces: { Self → Option (List (List ℕ)) };
 
     // How many calls failed.
     ghost faults: { Self → ℕ };
@@ -49,9 +53,13 @@ pub trait Sink {
         ensures bound { IfOk result (λ n. n ≤ length bytes.now) }
         ensures some { IfOk result (λ n. 0 < length bytes.now → 0 < n) }
         ensures octets { IfOk result (λ n. Grows (held self.old) (held self.new) (take n bytes.now)) }
-        ensures same { OnErr result (held self.new ≡ held self.old) }
+        ensures unchanged { OnErr result (held self.new ≡ held self.old) }
 
-        // A fault raises the count, which never falls.
+        // Ok or not, the piece was offered.
+        ensures offered { Grows (pieces self.old) (pieces self.new) (bytes.now ∷ []) }
+
+        // A fault raises the count, and so isn't swallowed: Ok leaves it.
+        ensures faultless { OnOk result (faults self.new ≡ faults self.old) }
         ensures cause { OnErr result (Rose (faults self.old) (faults self.new)) }
         ensures later { faults self.old ≤ faults self.new };
 }

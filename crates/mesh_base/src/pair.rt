@@ -1,6 +1,10 @@
 //! What a nonce is made of: an IV Index with a SEQ; and the name of a message.
 #![tactic(auto)]
 
+ghost use Rattle.std.specs.Prelude.{◌≡◌, ◌<◌, ◌≤◌, ◌↔◌, ◌⊎◌, true, false};
+ghost use Rattle.mesh_base.specs.declared.pair.Pair.{Pair};
+ghost use Rattle.mesh_base.specs.Pairs.{is_newer, word, IsPair};
+
 use crate::address::Address;
 
 /// An IV Index and a sequence number (Mesh Profile 1.0.1, section 3.8.3). Pairs are ordered by the IV Index first.
@@ -21,3 +25,13 @@ pub struct Name {
     /// The pair, or SeqAuth.
     pub pair: Pair,
 }
+
+/// The order of pairs is that of their words, as long as both are within their widths; what isn't newer is that pair or below it; and
+/// order passes on from pair to pair.
+pub fn order_law()
+    ensures words { (p q : Pair) → IsPair p → IsPair q → (is_newer p q ≡ true) ↔ (word q < word p) }
+    ensures one_word { (p q : Pair) → IsPair p → IsPair q → word p ≡ word q → p ≡ q }
+    ensures up_to { (p q : Pair) → (is_newer p q ≡ false) ↔ ((p.iv < q.iv) ⊎ ((p.iv ≡ q.iv) × (p.seq ≤ q.seq))) }
+    ensures newer { (p q r : Pair) → is_newer p q ≡ true → is_newer q r ≡ true → is_newer p r ≡ true }
+    ensures not_newer { (p q r : Pair) → is_newer p q ≡ false → is_newer q r ≡ false → is_newer p r ≡ false }
+{}

@@ -2,7 +2,7 @@
 //! them to what lies above, and count std's errors.
 #![tactic(auto)]
 
-ghost use Rattle.std.specs.Prelude.{◌≡◌, ℕ, ◌<◌, ◌≤◌, ◌↔◌, [], None, length, take, IfOk, IfSome, OnErr, is_err, if◌then◌else◌};
+ghost use Rattle.std.specs.Prelude.{◌≡◌, ℕ, ◌<◌, ◌≤◌, ◌↔◌, [], ◌∷◌, None, length, take, IfOk, IfSome, OnOk, OnErr, is_err, if◌then◌else◌};
 ghost use Rattle.std.specs.Io.KnownBytes.{Consumes, IsAtEnd, ReadConsumes, WriteAppends};
 ghost use Rattle.mesh_base.specs.Outside.{Rose, Grows, one_more};
 
@@ -37,6 +37,7 @@ impl<R: Read> Source for StdSource<R> {
         requires { 0 < length buf.old }
 
         ensures bound { IfOk result (λ n. n ≤ length buf.new) }
+        ensures faultless { OnOk result (self.new.faults ≡ self.old.faults) }
         ensures cause { OnErr result (Rose self.old.faults self.new.faults) }
         ensures later { self.old.faults ≤ self.new.faults }
 
@@ -76,12 +77,15 @@ impl<W: Write> StdSink<W> {
 impl<W: Write> Sink for StdSink<W> {
     ghost held = { λ _. None };
 
+    ghost pieces = { λ _. None };
+
     ghost faults = { λ s. s.faults };
 
     /// A writer that takes nothing of a piece counts as failed, since the caller would offer it again forever.
     fn write(&mut self, bytes: &[u8]) -> Result<usize, Failed>
         ensures bound { IfOk result (λ n. n ≤ length bytes.now) }
         ensures some { IfOk result (λ n. 0 < length bytes.now → 0 < n) }
+        ensures faultless { OnOk result (self.new.faults ≡ self.old.faults) }
         ensures cause { OnErr result (Rose self.old.faults self.new.faults) }
         ensures later { self.old.faults ≤ self.new.faults }
 

@@ -58,7 +58,7 @@ impl<T: Copy, const N: usize> Table<T, N> {
     pub fn push(&mut self, item: T) -> Result<(), TooMany>
         ensures variant { IsOk result ↔ (length self.old < N) }
         ensures ok { OnOk result (self.new ≡ self.old ++ item ∷ []) }
-        ensures same { OnErr result (self.new ≡ self.old) }
+        ensures unchanged { OnErr result (self.new ≡ self.old) }
     {
         match self.places.try_push(item) {
             Ok(()) => Ok(()),
@@ -80,7 +80,7 @@ impl<T: Copy, const N: usize> Table<T, N> {
         requires { place ≤ length self.old }
         ensures variant { IsOk result ↔ (length self.old < N) }
         ensures ok { OnOk result (self.new ≡ insert self.old place item) }
-        ensures same { OnErr result (self.new ≡ self.old) }
+        ensures unchanged { OnErr result (self.new ≡ self.old) }
     {
         match self.places.try_insert(place, item) {
             Ok(()) => Ok(()),

@@ -1,15 +1,18 @@
-//! What no clause says: that calls which may lack memory succeed, that the sources and sinks serve as their callers need them, and
-//! the edges of the standard's table of addresses.
+//! What no clause says: that calls which may lack memory succeed, that the sources and sinks serve as their callers need them,
+//! that no key is printed, and the edges of the standard's table of addresses.
 #![tactic(auto)]
 
 use crate::address::{Address, AddressKind};
-use crate::keys::UpperKey;
+use crate::fields::{Heard, NetMaterial};
+use crate::keys::{AppKeyRow, NetKeyRow, UpperKey};
 use crate::memory::{MemSink, MemSource, SureSink, SureSource};
 use crate::octets::{Octets, TooMany};
 use crate::outside::{Failed, Sink, Source};
+use crate::slot::Slot;
 use crate::standard::{StdSink, StdSource};
 use crate::table::Table;
 use std::io::{self, Read, Write};
+use std::test::Fail;
 
 #[test]
 fn kinds_of_addresses(rt: HostRuntime) {
@@ -91,21 +94,37 @@ fn sure_memory_takes_all(rt: HostRuntime) {
     assert!(rt; sink.octets().is_none());
 }
 
+/// A reader that fails at its first call, and gives the octet 7 at each later one.
 #[derive(Drop)]
-struct Broken;
+struct FailsFirst {
+    calls: u32,
+}
 
-impl Read for Broken {
-    fn read(&mut self, _buf: &mut [u8]) -> io::Result<usize> {
-        Err(io::ErrorKind::Other.into())
+impl Read for FailsFirst {
+    fn read(&mut self, buf: &mut [u8]) -> io::Result<usize> {
+        self.calls = self.calls.saturating_add(1);
+        if self.calls == 1 || buf.is_empty() {
+            return Err(io::ErrorKind::Other.into());
+        }
+        buf[0] = 7;
+        Ok(1)
     }
 }
 
+/// A writer that fails at its first call, takes nothing at its second, and one octet of a piece at each later one.
 #[derive(Drop)]
-struct Stuck;
+struct TakesLate {
+    calls: u32,
+}
 
-impl Write for Stuck {
-    fn write(&mut self, _buf: &[u8]) -> io::Result<usize> {
-        Ok(0)
+impl Write for TakesLate {
+    fn write(&mut self, buf: &[u8]) -> io::Result<usize> {
+        self.calls = self.calls.saturating_add(1);
+        match self.calls {
+            1 => Err(io::ErrorKind::Other.into()),
+            2 => Ok(0),
+            _ => Ok(buf.len().min(1)),
+        }
     }
 
     fn flush(&mut self) -> io::Result<()> {
@@ -121,15 +140,83 @@ fn std_is_passed_on(rt: HostRuntime) {
         assert!(rt; source.read(&mut buf) == want);
     }
     assert!(rt; source.faults == 0);
-    let mut broken = StdSource::new(Broken);
-    assert!(rt; broken.read(&mut buf) == Err(Failed));
-    assert!(rt; broken.faults == 1);
 
     let mut sink = StdSink::new(Vec::new(rt.alloc()));
     assert!(rt; sink.write(&[1, 2]) == Ok(2));
     assert!(rt; sink.inner.as_slice() == [1, 2].as_slice());
-    let mut stuck = StdSink::new(Stuck);
-    assert!(rt; stuck.write(&[]) == Ok(0));
-    assert!(rt; stuck.write(&[1]) == Err(Failed));
-    assert!(rt; stuck.faults == 1);
+    assert!(rt; sink.faults == 0);
+}
+
+#[test]
+fn std_errors_are_told_once(rt: HostRuntime) {
+    let mut source = StdSource::new(FailsFirst { calls: 0 });
+    let mut buf = [0; 2];
+    for (want, faults) in [(Err(Failed), 1), (Ok(1), 1), (Ok(1), 1)] {
+        assert!(rt; source.read(&mut buf) == want);
+        assert!(rt; source.faults == faults);
+    }
+    assert!(rt; buf.as_slice() == [7, 0].as_slice());
+
+    let mut sink = StdSink::new(TakesLate { calls: 0 });
+    for (want, faults) in [(Err(Failed), 1), (Err(Failed), 2), (Ok(1), 2), (Ok(1), 2)] {
+        assert!(rt; sink.write(&[8, 9]) == want);
+        assert!(rt; sink.faults == faults);
+    }
+    // A piece of no octets is taken whole.
+    assert!(rt; sink.write(&[]) == Ok(0));
+    assert!(rt; sink.faults == 2);
+}
+
+#[test]
+fn keys_are_not_printed(rt: HostRuntime) -> Result<(), Fail> {
+    let alloc = rt.alloc();
+    let key = [0xab; 16];
+    let material = NetMaterial {
+        nid: 5,
+        encryption: key,
+        privacy: key,
+    };
+    assert!(rt; format!(in alloc; "{material:?}")?.as_str() == "NetMaterial { nid: 5, .. }");
+    let device = UpperKey::Device(key);
+    assert!(rt; format!(in alloc; "{device:?}")?.as_str() == "Device(..)");
+    let app = UpperKey::App {
+        index: 3,
+        aid: 38,
+        key,
+    };
+    assert!(rt; format!(in alloc; "{app:?}")?.as_str() == "App { index: 3, aid: 38, .. }");
+    let net_row = NetKeyRow {
+        index: 1,
+        phase: 2,
+        key,
+        next: Some(key),
+    };
+    assert!(rt;
+        format!(in alloc; "{net_row:?}")?.as_str()
+            == "NetKeyRow { index: 1, phase: 2, updated: true, .. }"
+    );
+    let app_row = AppKeyRow {
+        net: 1,
+        index: 3,
+        key,
+        next: None,
+    };
+    assert!(rt;
+        format!(in alloc; "{app_row:?}")?.as_str()
+            == "AppKeyRow { net: 1, index: 3, updated: false, .. }"
+    );
+    let slot = Slot {
+        kind: 5,
+        body: [0xab; 30],
+    };
+    assert!(rt; format!(in alloc; "{slot:?}")?.as_str() == "Slot { kind: 5, .. }");
+    let heard = Heard {
+        material,
+        ..Heard::default()
+    };
+    let text = format!(in alloc; "{heard:?}")?;
+    assert!(rt; text.as_str().contains("NetMaterial { nid: 5, .. }"));
+    // 0xab is 171 in decimal.
+    assert!(rt; !text.as_str().contains("171"));
+    Ok(())
 }

@@ -4,9 +4,11 @@
 use mesh_base::address::Address;
 use mesh_base::octets::Octets;
 use mesh_base::pair::{Name, Pair};
+use std::fmt;
+use std::fmt::{Debug, Formatter};
 
 /// The key that an own access message is sealed under.
-#[derive(Clone, Copy, Debug, PartialEq, Eq)]
+#[derive(Clone, Copy, PartialEq, Eq)]
 pub enum SendKey {
     /// The node's own device key.
     Own,
@@ -16,8 +18,19 @@ pub enum SendKey {
     App(u16),
 }
 
+/// Without the device key of another node, which is secret.
+impl Debug for SendKey {
+    fn fmt<W: fmt::Write>(&self, f: &mut Formatter<W>) -> fmt::Result {
+        match self {
+            SendKey::Own => f.write_str("Own"),
+            SendKey::Other(_) => f.write_str("Other(..)"),
+            SendKey::App(index) => f.debug_tuple("App").field(index).finish(),
+        }
+    }
+}
+
 /// One event. The first five kinds come from outside; a `Begin` or `Kept` follows a line of one of the node's own jobs.
-#[derive(Debug, Drop, PartialEq, Eq)]
+#[derive(Clone, Debug, Drop, PartialEq, Eq)]
 pub enum Event {
     /// These octets were heard as a network PDU.
     Net(Octets<40>),
@@ -121,58 +134,6 @@ impl Event {
     pub fn copied(&self) -> Event
         ensures value { result ≡ self.now }
     {
-        match self {
-            Event::Net(octets) => Event::Net(octets.copied()),
-            Event::Bcn(octets) => Event::Bcn(octets.copied()),
-            Event::Send {
-                element,
-                dst,
-                ttl,
-                key,
-                payload,
-            } => Event::Send {
-                element: *element,
-                dst: *dst,
-                ttl: *ttl,
-                key: *key,
-                payload: payload.copied(),
-            },
-            Event::Raw { dst, ttl, tpdu } => Event::Raw {
-                dst: *dst,
-                ttl: *ttl,
-                tpdu: tpdu.copied(),
-            },
-            Event::Tick(ticks) => Event::Tick(*ticks),
-            Event::Begin {
-                pair,
-                dst,
-                src,
-                ttl,
-                net,
-                akf,
-                aid,
-                upper,
-            } => Event::Begin {
-                pair: *pair,
-                dst: *dst,
-                src: *src,
-                ttl: *ttl,
-                net: *net,
-                akf: *akf,
-                aid: *aid,
-                upper: upper.copied(),
-            },
-            Event::Kept {
-                lpn,
-                fsn,
-                name,
-                pdu,
-            } => Event::Kept {
-                lpn: *lpn,
-                fsn: *fsn,
-                name: *name,
-                pdu: pdu.copied(),
-            },
-        }
+        self.clone().unwrap()
     }
 }

@@ -11,7 +11,7 @@ use std::mem::size_of;
 const _: () = prove!(size_of::<Entry>() <= 24_000);
 
 /// An event that was handled under the node's lock.
-#[derive(Debug, Drop, PartialEq, Eq)]
+#[derive(Debug, Drop)]
 pub struct Entry {
     /// The bearer, 0 to 7.
     pub bearer: u8,
@@ -28,7 +28,7 @@ pub struct Entry {
 }
 
 /// A job that was done.
-#[derive(Debug, Drop, PartialEq, Eq)]
+#[derive(Debug, Drop)]
 pub struct Sent {
     /// The place of its entry in the life's history, from 0 on.
     pub entry: u32,

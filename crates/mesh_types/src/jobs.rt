@@ -1,18 +1,18 @@
 //! What a node is to send for an event.
 #![tactic(auto)]
 
-ghost use Rattle.std.specs.Prelude.{◌≡◌, ◌<◌, ◌≤◌, ◌↔◌, [], ◌∷◌, ◌++◌, length, IsTrue, IsOk, OnOk, OnErr};
+ghost use Rattle.std.specs.Prelude.{◌≡◌, ◌<◌, ◌≤◌, ◌↔◌, [], ◌∷◌, ◌++◌, length, IsTrue};
 
 use arrayvec::ArrayVec;
 use mesh_base::address::Address;
 use mesh_base::fields::{NetFields, NetMaterial};
 use mesh_base::keys::UpperKey;
-use mesh_base::octets::{Octets, TooMany};
+use mesh_base::octets::Octets;
 use mesh_base::pair::Name;
 use std::marker::Model;
 
 /// One job of an entry. Where it answers a Poll whose answer is to be kept, `keep` is the Low Power node and the FSN.
-#[derive(Debug, Drop, PartialEq, Eq)]
+#[derive(Clone, Debug, Drop, PartialEq, Eq)]
 pub enum Job {
     /// The network PDU of another node, with its own SRC, IV Index and SEQ.
     Relay {
@@ -119,102 +119,7 @@ impl Job {
     pub fn copied(&self) -> Job
         ensures value { result ≡ self.now }
     {
-        match self {
-            Job::Relay { material, fields } => Job::Relay {
-                material: *material,
-                fields: fields_copied(fields),
-            },
-            Job::Control {
-                material,
-                ttl,
-                src,
-                dst,
-                tpdu,
-                keep,
-            } => Job::Control {
-                material: *material,
-                ttl: *ttl,
-                src: *src,
-                dst: *dst,
-                tpdu: tpdu.copied(),
-                keep: *keep,
-            },
-            Job::Message {
-                net,
-                material,
-                key,
-                ttl,
-                src,
-                dst,
-                payload,
-                keep,
-            } => Job::Message {
-                net: *net,
-                material: *material,
-                key: *key,
-                ttl: *ttl,
-                src: *src,
-                dst: *dst,
-                payload: payload.copied(),
-                keep: *keep,
-            },
-            Job::Sent {
-                net,
-                material,
-                key,
-                ttl,
-                src,
-                dst,
-            } => Job::Sent {
-                net: *net,
-                material: *material,
-                key: *key,
-                ttl: *ttl,
-                src: *src,
-                dst: *dst,
-            },
-            Job::Segment {
-                material,
-                name,
-                ttl,
-                src,
-                dst,
-                seg_o,
-                seg_n,
-                tpdu,
-                first,
-            } => Job::Segment {
-                material: *material,
-                name: *name,
-                ttl: *ttl,
-                src: *src,
-                dst: *dst,
-                seg_o: *seg_o,
-                seg_n: *seg_n,
-                tpdu: tpdu.copied(),
-                first: *first,
-            },
-            Job::Repeat { name, pdu } => Job::Repeat {
-                name: *name,
-                pdu: pdu.copied(),
-            },
-            Job::Beacon(octets) => Job::Beacon(*octets),
-        }
-    }
-}
-
-// The same fields once more.
-fn fields_copied(f: &NetFields) -> NetFields
-    ensures { result ≡ f.now }
-{
-    NetFields {
-        iv: f.iv,
-        ctl: f.ctl,
-        ttl: f.ttl,
-        seq: f.seq,
-        src: f.src,
-        dst: f.dst,
-        tpdu: f.tpdu.copied(),
+        self.clone().unwrap()
     }
 }
 
@@ -245,16 +150,12 @@ impl Jobs {
         }
     }
 
-    /// Puts a job behind the others; `TooMany` exactly where there are 160 already.
-    pub fn push(&mut self, job: Job) -> Result<(), TooMany>
-        ensures variant { IsOk result ↔ (length self.old < 160) }
-        ensures ok { OnOk result (self.new ≡ self.old ++ job ∷ []) }
-        ensures same { OnErr result (self.new ≡ self.old) }
+    /// Puts a job behind the others, for which the caller has room.
+    pub fn push(&mut self, job: Job)
+        requires room { length self.old < 160 }
+        ensures value { self.new ≡ self.old ++ job ∷ [] }
     {
-        match self.table.try_push(job) {
-            Ok(()) => Ok(()),
-            Err(_) => Err(TooMany),
-        }
+        self.table.push(job);
     }
 
     /// The number of jobs.

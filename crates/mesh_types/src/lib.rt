@@ -6,7 +6,6 @@
 //! - `jobs`: what it is to send for an event
 //! - `lines`: what became of a job
 //! - `history`: the entries of a life and the lines of its bearers
-//! - `records`: the records of its store
 //! - `report`: the lines of the report
 #![tactic(auto)]
 
@@ -15,5 +14,4 @@ pub mod events;
 pub mod history;
 pub mod jobs;
 pub mod lines;
-pub mod records;
 pub mod report;

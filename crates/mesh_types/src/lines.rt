@@ -7,7 +7,7 @@ use mesh_base::octets::Octets;
 use mesh_base::pair::{Name, Pair};
 
 /// What became of a job, one variant for each result of the report.
-#[derive(Debug, Drop, PartialEq, Eq)]
+#[derive(Clone, Debug, Drop, PartialEq, Eq)]
 pub enum Outcome {
     /// A control PDU of this node went out.
     Ctl {
@@ -111,4 +111,15 @@ pub enum Outcome {
         /// The pair.
         pair: Pair,
     },
+}
+
+impl Outcome {
+    ghost use Rattle.std.specs.Prelude.{◌≡◌};
+
+    /// The same outcome once more. It takes no memory.
+    pub fn copied(&self) -> Outcome
+        ensures value { result ≡ self.now }
+    {
+        self.clone().unwrap()
+    }
 }

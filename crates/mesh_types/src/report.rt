@@ -30,7 +30,7 @@ pub enum End {
 }
 
 /// One line of the report.
-#[derive(Debug, Drop, PartialEq, Eq)]
+#[derive(Debug, Drop)]
 pub enum ReportLine {
     /// A life began.
     Opened {

@@ -7,11 +7,11 @@ use Rattle.layer_definitions.specs.Upper.{nonce_type}
 use Rattle.mesh_base.specs.declared.keys.UpperKey.{UpperKey}
 use Rattle.mesh_base.specs.declared.keys.UpperKey.TheVariants.{App, Device}
 use Rattle.mesh_base.specs.declared.pair.Pair.{Pair}
-use Rattle.mesh_world.specs.Pairs.{IsPair}
+use Rattle.mesh_base.specs.Pairs.{IsPair}
+use Rattle.mesh_base.specs.Safety.{NoReuse, Use}
 use Rattle.mesh_world.specs.World.{World, Layer, Sealing, HasNonce, IsOf, uses}
 use Rattle.mesh_world.specs.World.Layer.{Network, Upper}
 use Rattle.mesh_world.specs.Good.{IsGood}
-use Rattle.mesh_world.specs.Safety.{NoReuse, Use}
 
 -- the octets of a nonce at these places, as one number
 abbrev pub seq_in : List ℕ → ℕ

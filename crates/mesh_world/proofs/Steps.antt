@@ -6,11 +6,12 @@ use Rattle.std.proofs.lemmas.List.Quantifiers.{all_pairs_push}
 use Rattle.mesh_base.specs.declared.address.Address.{Address}
 use Rattle.mesh_base.specs.declared.pair.Pair.{Pair}
 use Rattle.mesh_base.specs.declared.pair.Name.{Name}
-use Rattle.mesh_world.specs.Pairs.{word, pair_of, IsPair}
+use Rattle.mesh_base.specs.Pairs.{word, pair_of, IsPair}
 use Rattle.mesh_world.specs.World.{World, Sealing, HasNonce, IsOf, IsAllowed, AreAllowed, after, after_all, WorldStep}
 use Rattle.mesh_world.specs.World.WorldStep.{Draw, Seal, Reserve, Publish, Advance, Accept, Expire, Deliver, Cut}
 use Rattle.mesh_world.specs.Good.{IsGood, IsSpent}
-use Rattle.mesh_world.proofs.Words.{word-pair_of, spent_later, spent_accepted, spent_expired, spent_refused, up_to_itself, spent_replaced, entry_at, IsSpentBy, IfSome-weaker}
+use Rattle.mesh_base.proofs.Pairs.{word-pair_of}
+use Rattle.mesh_world.proofs.Words.{spent_later, spent_accepted, spent_expired, spent_refused, up_to_itself, spent_replaced, entry_at, IsSpentBy, IfSome-weaker}
 
 module _ (w : World) (g : IsGood w) where
   draw : IsAllowed w Draw → IsGood (after w Draw)

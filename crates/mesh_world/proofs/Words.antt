@@ -2,14 +2,13 @@
 use Rattle.std.proofs.Common.{◌≡◌, ℕ, ◌+◌, ◌≤◌, ◌⊎◌, inl, inr, refl, arith, Bool, true, false, nat_eq, cond, Option, Some, None, IfSome, ap, subst}
 use Rattle.std.specs.Option.{IsSomeAnd}
 use Rattle.std.proofs.lemmas.Bool.{eqb-true, eq-eqb}
+use Rattle.std.proofs.lemmas.Bool.Decides.{nat_tests}
 use Rattle.mesh_base.specs.declared.address.Address.{Address}
 use Rattle.mesh_base.specs.declared.pair.Pair.{Pair}
 use Rattle.mesh_base.specs.declared.pair.Name.{Name}
-use Rattle.mesh_world.specs.Pairs.{word, pair_of, IsNewer, IsUpTo, IsExpired}
-use Rattle.mesh_world.specs.World.{entries_with}
-
-pub word-pair_of : (w : ℕ) → word (pair_of w) ≡ w
-word-pair_of w = omega arith
+use Rattle.mesh_base.proofs.Pairs.{expired_below, expired_later, not_newer_itself}
+use Rattle.mesh_world.specs.Good.{IsUpTo}
+use Rattle.mesh_world.specs.World.{entries_with, IsExpired, IsNewer}
 
 -- a pair is spent by an entry that its source has, or may have
 abbrev pub IsSpentBy : ℕ → Pair → Option Pair → Type 0
@@ -21,31 +20,31 @@ IsAbove c p e = IfSome e (λ kept. IsExpired c kept ⊎ IsNewer p kept)
 
 -- what is spent under one known IV Index is spent under a later one
 pub spent_later : (c d : ℕ) (e : Option Pair) (p : Pair) → c ≤ d → IsSpentBy c p e → IsSpentBy d p e
-spent_later c d e p h (inl x) = inl (omega arith)
+spent_later c d e p h (inl x) = inl (expired_later c d p h x)
 spent_later c d e p h (inr x) = inr x
 
 -- what an entry spends is spent by a pair that is accepted over it
 pub spent_accepted : (c : ℕ) (e : Option Pair) (p new : Pair) → IsAbove c new e → IsSpentBy c p e → IsSpentBy c p (Some new)
 spent_accepted c e p new h (inl x) = inl x
 spent_accepted c None p new h (inr x) = elim x [ ]
-spent_accepted c (Some kept) p new (inl gone) (inr x) = inl (grind arith)
-spent_accepted c (Some kept) p new (inr newer) (inr x) = inr (grind arith)
+spent_accepted c (Some kept) p new (inl gone) (inr x) = inl (expired_below c p kept x gone)
+spent_accepted c (Some kept) p new (inr newer) (inr x) = inr (grind (arith, nat_tests))
 
 -- what an expired entry spends is expired
 pub spent_expired : (c : ℕ) (e : Option Pair) (p : Pair) → IsSomeAnd e (λ kept. IsExpired c kept) → IsSpentBy c p e → IsSpentBy c p None
 spent_expired c e p h (inl x) = inl x
 spent_expired c None p h (inr x) = elim x [ ]
-spent_expired c (Some kept) p h (inr x) = inl (grind arith)
+spent_expired c (Some kept) p h (inr x) = inl (expired_below c p kept x h)
 
 -- what is spent isn't accepted
 pub spent_refused : (c : ℕ) (e : Option Pair) (p : Pair) → (p.iv ≡ c) ⊎ (p.iv + 1 ≡ c) → IsAbove c p e → IsSpentBy c p e → ⊥
-spent_refused c e p h k (inl x) = grind arith
+spent_refused c e p h k (inl x) = grind (arith, nat_tests)
 spent_refused c None p h k (inr x) = elim x [ ]
-spent_refused c (Some kept) p h (inl gone) (inr x) = grind arith
-spent_refused c (Some kept) p h (inr newer) (inr x) = grind arith
+spent_refused c (Some kept) p h (inl gone) (inr x) = let gone' : IsExpired c p = expired_below c p kept x gone in grind (arith, nat_tests)
+spent_refused c (Some kept) p h (inr newer) (inr x) = grind (arith, nat_tests)
 
 pub up_to_itself : (p : Pair) → IsUpTo p p
-up_to_itself p = inr (refl, omega arith)
+up_to_itself = not_newer_itself
 
 -- what holds of both choices, each by its test, holds of the chosen one
 pub chosen : {X : Type 0} (P : X → Type 0) (b : Bool) (x y : X) → (b ≡ true → P x) → (b ≡ false → P y) → P (cond b x y)

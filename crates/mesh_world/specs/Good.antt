@@ -1,9 +1,14 @@
 -- Good worlds: what each step keeps, and what makes a node safe.
-use Rattle.std.specs.Prelude.{◌≢◌, ◌<◌, ◌≤◌, ◌⊎◌, All, AllPairs, Contains, IfSome, IsSomeAnd}
+use Rattle.std.specs.Prelude.{◌≢◌, ◌<◌, ◌≤◌, ◌⊎◌, All, AllPairs, Contains, IfSome, IsSomeAnd, IsFalse}
 use Rattle.mesh_base.specs.declared.pair.Name.{Name}
-use Rattle.mesh_world.specs.Pairs.{word, IsPair, IsUpTo, IsExpired}
-use Rattle.mesh_world.specs.Safety.{AtMostOnce}
-use Rattle.mesh_world.specs.World.{World, HasNonce, IsOf}
+use Rattle.mesh_base.specs.declared.pair.Pair.{Pair}
+use Rattle.mesh_base.specs.Pairs.{word, IsPair, is_newer}
+use Rattle.mesh_base.specs.Safety.{AtMostOnce}
+use Rattle.mesh_world.specs.World.{World, HasNonce, IsExpired, IsOf}
+
+-- p is q or below it: p isn't newer
+abbrev pub IsUpTo : Pair → Pair → Type 0
+IsUpTo p q = IsFalse (is_newer p q)
 
 -- The message would not be accepted again: its pair is expired, or it is at most the entry of its source.
 abbrev pub IsSpent : World → Name → Type 0

@@ -1,6 +1,6 @@
 -- The world of steps: what a node has of its numbers, its seals and its messages, and the nine steps that change it.
 -- It knows nothing of threads, of flash or of any code.
-use Rattle.std.specs.Prelude.{◌≡◌, ℕ, ◌+◌, ◌*◌, ◌^◌, ◌<◌, ◌≤◌, ◌⊎◌, ◌==◌, max, if◌then◌else◌, List, [], ◌∷◌, ◌++◌, map, All, Contains, Option, Some, None, IfSome, IsSomeAnd, ⊤}
+use Rattle.std.specs.Prelude.{◌≡◌, ℕ, ◌+◌, ◌*◌, ◌^◌, ◌<◌, ◌≤◌, ◌⊎◌, ◌==◌, max, if◌then◌else◌, List, [], ◌∷◌, ◌++◌, map, All, Contains, Option, Some, None, IfSome, IsSomeAnd, IsTrue, ⊤}
 use Rattle.layer_definitions.specs.Network.{network_nonce}
 use Rattle.layer_definitions.specs.Upper.{upper_nonce}
 use Rattle.mesh_base.specs.declared.address.Address.{Address}
@@ -9,8 +9,8 @@ use Rattle.mesh_base.specs.declared.keys.UpperKey.{UpperKey}
 use Rattle.mesh_base.specs.declared.pair.Name.{Name}
 use Rattle.mesh_base.specs.declared.pair.Pair.{Pair}
 use Rattle.mesh_base.specs.declared.upper.UpperFields.{UpperFields}
-use Rattle.mesh_world.specs.Pairs.{pair_of, IsPair, IsNewer, IsExpired}
-use Rattle.mesh_world.specs.Safety.{Use}
+use Rattle.mesh_base.specs.Pairs.{pair_of, IsPair, is_newer, is_expired}
+use Rattle.mesh_base.specs.Safety.{Use}
 
 -- which layer seals: the network layer under a network nonce, or the upper transport layer under an application or a
 -- device nonce
@@ -86,6 +86,14 @@ IsUnused layer p seals = All (λ s. IsOf layer p s → ⊥) seals
 -- a PDU with this pair is read: its IV Index is the known one or the one before
 abbrev pub IsRead : World → Pair → Type 0
 IsRead w p = (p.iv ≡ w.current) ⊎ (p.iv + 1 ≡ w.current)
+
+-- p is newer than q
+abbrev pub IsNewer : Pair → Pair → Type 0
+IsNewer p q = IsTrue (is_newer p q)
+
+-- a pair is expired under the known IV Index `current`
+abbrev pub IsExpired : ℕ → Pair → Type 0
+IsExpired current p = IsTrue (is_expired current p)
 
 -- the source has no entry, an expired one, or one that this name is above
 abbrev pub IsAboveEntry : World → Name → Type 0

@@ -18,10 +18,10 @@
 
 ghost use Rattle.std.specs.Prelude.{◌≡◌, ℕ, ◌*◌, ◌+◌, ◌^◌, ◌<◌, ◌≤◌, ◌≢◌, [], All, Contains, List, None};
 ghost use Rattle.mesh_base.specs.declared.pair.Name.{Name};
+ghost use Rattle.mesh_base.specs.Pairs.{word};
+ghost use Rattle.mesh_base.specs.Safety.{AtMostOnce, NoReuse};
 ghost use Rattle.mesh_world.specs.Examples.{all_kinds, Breaks, draw_one, forget_one, hear_one, message, new_node, source};
 ghost use Rattle.mesh_world.specs.Good.{IsGood};
-ghost use Rattle.mesh_world.specs.Pairs.{word};
-ghost use Rattle.mesh_world.specs.Safety.{AtMostOnce, NoReuse};
 ghost use Rattle.mesh_world.specs.World.{after, after_all, AreAllowed, HasNonce, IsAllowed, IsUnused, provisioned, Sealing, uses, World, WorldStep};
 ghost use Rattle.mesh_world.specs.World.WorldStep.{Accept, Advance, Cut, Deliver, Draw, Expire, Publish, Reserve, Seal};
 
@@ -47,7 +47,7 @@ pub fn cut_law()
     ensures next { (w : World) → (after w (Cut w.kept)).next ≡ w.kept }
     ensures forgotten { (w : World) (mark : ℕ)
         → ((after w (Cut mark)).held ≡ []) × ((after w (Cut mark)).pending ≡ None) }
-    ensures same { (w : World) (mark : ℕ)
+    ensures frame { (w : World) (mark : ℕ)
         → after w (Cut mark) ≡ record w { next = mark; mark = mark; kept = mark; held = []; pending = None } }
 {}
 

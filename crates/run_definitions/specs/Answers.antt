@@ -3,6 +3,7 @@
 use Rattle.std.specs.Prelude.{ℕ, ◌+◌, ◌-◌, ◌^◌, ◌==◌, ◌&&◌, ◌||◌, not, nat_lt, nat_le, min, Bool, true, false, if◌then◌else◌, List, length, take, drop, Option, Some, None, is_some, is_none, unwrap_or}
 use Rattle.std.specs.List.{list_any, filter_map}
 use Rattle.std.specs.Option.{option_map, option_or, option_to_list}
+use Rattle.cipher_definitions.specs.Kdf.{virtual_address}
 use Rattle.layer_definitions.specs.IvIndex.{iv_next}
 use Rattle.layer_definitions.specs.KeyRefresh.{net_row, app_row}
 use Rattle.layer_definitions.specs.Lower.{seq_auth}
@@ -24,11 +25,11 @@ use Rattle.mesh_types.specs.declared.events.Event.{Event}
 use Rattle.mesh_types.specs.declared.events.Event.TheVariants as E
 use Rattle.mesh_types.specs.declared.events.SendKey.{SendKey}
 use Rattle.mesh_types.specs.declared.events.SendKey.TheVariants as K
-use Rattle.run_definitions.specs.Config.{Config, config_of, is_element}
-use Rattle.run_definitions.specs.Entries.{entry_of, others_held, has_room}
+use Rattle.store_definitions.specs.Config.{Config, config_of, is_element}
+use Rattle.store_definitions.specs.Entries.{entry_of, others_held, has_room}
 use Rattle.run_definitions.specs.History.{Reading, Opening, Insight, OfPdu, OfBeacon, Past, now_of}
 use Rattle.run_definitions.specs.Layers.{Layers}
-use Rattle.run_definitions.specs.Pairs.{is_newer}
+use Rattle.mesh_base.specs.Pairs.{is_newer}
 use Rattle.run_definitions.specs.Uses.{accepted}
 
 -- what the records before an event say
@@ -40,14 +41,20 @@ config_before past = config_of past.records
 abbrev pub is_unicast : Address → Bool
 is_unicast a = nat_le 1 a.0 && nat_lt a.0 0x8000
 
--- the addresses of this node: its elements', all-nodes, all-friends and all-relays where it is one, and the groups of subscriptions
+-- a group address (Mesh Profile 1.0.1, section 3.4.2.4)
+abbrev pub is_group : Address → Bool
+is_group a = nat_le 0xc000 a.0
+
+-- The addresses of this node: its elements', all-nodes, all-friends and all-relays where it is one, the groups of subscriptions, and the
+-- virtual addresses of the labels held.
 abbrev pub is_mine : Config → Address → Bool
 is_mine c a =
     is_element c a.0
     || a.0 == 0xffff
     || (a.0 == 0xfffd && c.friend == 1)
     || (a.0 == 0xfffe && c.relay == 1)
-    || list_any (λ s. s.2.0 == a.0) c.subs
+    || list_any (λ s. is_group s.2 && s.2.0 == a.0) c.subs
+    || list_any (λ l. virtual_address l.2 == a.0) c.labels
 
 -- the pair of a network PDU, and its name
 abbrev pub pair_of : NetFields → Pair

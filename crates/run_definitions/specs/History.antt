@@ -8,16 +8,17 @@ use Rattle.mesh_base.specs.declared.lower.Lower.{Lower}
 use Rattle.mesh_types.specs.declared.answers.Answer.{Answer}
 use Rattle.mesh_types.specs.declared.answers.Answer.TheVariants as A
 use Rattle.mesh_types.specs.declared.history.Entry.{Entry}
-use Rattle.mesh_types.specs.declared.records.StoreRecord.{StoreRecord}
+use Rattle.record_types.specs.declared.records.StoreRecord.{StoreRecord}
 
 -- the reading of a network PDU: its fields, and the material that it reads under
 pub record Reading : Type 0 where
   pub fields : NetFields
   pub by : Heard
 
--- the opening of an upper PDU: the payload, and the key that it opens under
+-- the opening of an upper PDU: the payload, the key that it opens under, and the label where DST is virtual
 pub record Opening : Type 0 where
   pub key : UpperKey
+  pub label : Option (List ℕ)
   pub payload : List ℕ
 
 -- What the octets of an event are read as. Of a network PDU: its reading; the lower transport PDU in that; and, where it completes an

@@ -22,7 +22,7 @@ use Rattle.mesh_types.specs.declared.events.SendKey.TheVariants as K
 use Rattle.mesh_types.specs.declared.jobs.Job.{Job}
 use Rattle.mesh_types.specs.declared.jobs.Job.TheVariants as J
 use Rattle.run_definitions.specs.Answers.{config_before, is_before_cache, is_unicast, later}
-use Rattle.run_definitions.specs.Config.{Config, is_element}
+use Rattle.store_definitions.specs.Config.{Config, is_element}
 use Rattle.run_definitions.specs.History.{Insight, OfPdu, Past, Reading, now_of}
 use Rattle.run_definitions.specs.Layers.{Layers}
 use Rattle.run_definitions.specs.Stores.{message_of}
@@ -102,7 +102,8 @@ pdu_jobs layers past c (OfPdu (Some r) low opening) answer =
     ++ refresh_jobs (config_before past) c
 pdu_jobs layers past c _ answer = []
 
--- The jobs of a tick event: acknowledgments, segments, and beacons where a multiple of 1000 ticks was passed or the IV state changed.
+-- The jobs of a tick event: acknowledgments, segments, beacons where a multiple of 1000 ticks was passed or the IV state changed, and what
+-- models publish, the heartbeat last.
 
 abbrev pub is_moved : IvState → IvState → Bool
 is_moved s t = not (s.current == t.current) || (if s.progress then not t.progress else t.progress)
@@ -112,7 +113,8 @@ beacons_due past c ticks =
     if nat_lt (now_of past.told / 1000) (later past ticks / 1000) || is_moved (config_before past).iv c.iv then beacon_jobs c else []
 
 abbrev pub tick_jobs : Layers → Past → Config → ℕ → List Job
-tick_jobs layers past c ticks = layers.acks_due past c ticks ++ layers.segments_due past c ticks ++ beacons_due past c ticks
+tick_jobs layers past c ticks =
+    layers.acks_due past c ticks ++ layers.segments_due past c ticks ++ beacons_due past c ticks ++ layers.published past c ticks
 
 -- The jobs of the node's own messages.
 
@@ -133,11 +135,14 @@ send_keys c (K.App index) = transmit_app c.apps c.nets index
 abbrev pub sent_job : Config → ℕ → Address → ℕ → ℕ × UpperKey → List Job
 sent_job c element dst ttl keys = under c keys.0 (λ m. J.Sent keys.0 m keys.1 ttl (element_address c element) dst)
 
--- a message of at most 11 octets to an address of a friendship is stored instead
+-- A message of this node whose payload goes unsegmented, to an address of a friendship, is stored for the Low Power node instead of being
+-- sent. Messages that the node is asked to send, replies and publications go by this one rule.
+abbrev pub unless_stored : Bool → List ℕ → List Job → List Job
+unless_stored is_befriended payload jobs = if is_befriended && nat_le (length payload) 11 then [] else jobs
+
 abbrev pub send_jobs : Layers → Past → Config → ℕ → Address → ℕ → SendKey → List ℕ → List Job
 send_jobs layers past c element dst ttl key payload =
-    if layers.is_befriended past dst && nat_le (length payload) 11 then []
-    else option_map_or (sent_job c element dst ttl) (send_keys c key) []
+    unless_stored (layers.is_befriended past dst) payload (option_map_or (sent_job c element dst ttl) (send_keys c key) [])
 
 -- a control PDU goes from the first element under the first network key
 abbrev pub raw_jobs : Config → Address → ℕ → List ℕ → List Job

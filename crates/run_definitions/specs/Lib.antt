@@ -1,13 +1,5 @@
-pub mod Record
-pub mod Text
-pub mod Report
-pub mod WorkedReports
-pub mod Pairs
-pub mod Config
-pub mod Entries
 pub mod Seals
 pub mod Uses
-pub mod Ranges
 pub mod History
 pub mod Layers
 pub mod Answers
@@ -18,4 +10,4 @@ pub mod Handling
 pub mod Lines
 pub mod Order
 pub mod RunOf
-pub mod Recovered
+pub mod Fit

@@ -10,7 +10,7 @@ use Rattle.mesh_types.specs.declared.lines.Outcome.{Outcome}
 use Rattle.mesh_types.specs.declared.report.End.{End}
 use Rattle.mesh_types.specs.declared.report.End.TheVariants as F
 use Rattle.run_definitions.specs.Lines.{Shows, after_line}
-use Rattle.run_definitions.specs.Record.{Life, list_at}
+use Rattle.report_definitions.specs.Record.{Life, list_at}
 
 -- whether an event comes from outside, and doesn't follow a line
 abbrev pub is_outside : Event → Bool

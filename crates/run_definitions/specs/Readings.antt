@@ -1,11 +1,12 @@
 -- What the octets of an event are read as, after what stands before it. Only sealing is defined: octets read as what seals to them.
-use Rattle.std.specs.Prelude.{◌≡◌, ℕ, not, Bool, true, false, IsFalse, if◌then◌else◌, List, [], ◌∷◌, ◌++◌, Option, Some, None, MatchOption}
+use Rattle.std.specs.Prelude.{◌≡◌, ℕ, not, Bool, true, false, IsFalse, if◌then◌else◌, List, [], ◌∷◌, ◌++◌, Option, Some, None, MatchOption, MatchBool, map}
 use Rattle.std.specs.List.{slice_get}
 use Rattle.layer_definitions.specs.Beacon.{ReadsBeacon}
 use Rattle.layer_definitions.specs.KeyRefresh.{heard_keys, beacon_keys, app_keys}
 use Rattle.layer_definitions.specs.Lower.{ReadsLower}
 use Rattle.layer_definitions.specs.Network.{Reads}
-use Rattle.layer_definitions.specs.Upper.{Opens, OpensUnder}
+use Rattle.layer_definitions.specs.Labels.{is_virtual, OpensLabel, IsLabelUnopened}
+use Rattle.layer_definitions.specs.Upper.{Opens, IsUnopened}
 use Rattle.mesh_base.specs.declared.beacon.Beacon.{Beacon}
 use Rattle.mesh_base.specs.declared.fields.Heard.{Heard}
 use Rattle.mesh_base.specs.declared.fields.NetFields.{NetFields}
@@ -18,7 +19,7 @@ use Rattle.mesh_base.specs.declared.upper.UpperFields.{UpperFields}
 use Rattle.mesh_types.specs.declared.events.Event.{Event}
 use Rattle.mesh_types.specs.declared.events.Event.TheVariants as E
 use Rattle.run_definitions.specs.Answers.{config_before, is_unicast, network_answer, lower_answer, message_name}
-use Rattle.run_definitions.specs.Config.{Config}
+use Rattle.store_definitions.specs.Config.{Config}
 use Rattle.run_definitions.specs.History.{Reading, Opening, Insight, OfPdu, OfBeacon, OfNothing, Past}
 use Rattle.run_definitions.specs.Layers.{Layers}
 
@@ -54,16 +55,31 @@ keys_tried c r false aid = if is_unicast r.fields.dst then U.Device c.dev_key �
 abbrev pub fields_heard : Reading → Name → Bool → UpperFields
 fields_heard r n szmic = record { pair = n.pair; src = r.fields.src; dst = r.fields.dst; long_mic = szmic; label = None }
 
+-- the labels that are tried, in the order held
+abbrev pub labels_tried : Config → List (List ℕ)
+labels_tried c = map (λ l. l.2) c.labels
+
+-- by a key alone
 abbrev pub IsOpenedUnder : List UpperKey → UpperFields → List ℕ → Option Opening → Type 0
-IsOpenedUnder keys f upper (Some o) = (place : ℕ) × (slice_get keys place ≡ Some o.key) × Opens keys f upper place o.payload
-IsOpenedUnder keys f upper None =
-    (place : ℕ) (key : UpperKey) (payload : List ℕ) → slice_get keys place ≡ Some key → OpensUnder key f upper payload → ⊥
+IsOpenedUnder keys f upper (Some o) = (place : ℕ) × (slice_get keys place ≡ Some o.key) × (o.label ≡ None) × Opens keys f upper place o.payload
+IsOpenedUnder keys f upper None = IsUnopened keys f upper
+
+-- by a label and a key, where DST is virtual
+abbrev pub IsOpenedByLabel : List UpperKey → List (List ℕ) → UpperFields → List ℕ → Option Opening → Type 0
+IsOpenedByLabel keys labels f upper (Some o) =
+    (at : ℕ) × (place : ℕ) × (slice_get keys place ≡ Some o.key) × (slice_get labels at ≡ o.label) × OpensLabel keys labels f upper at place o.payload
+IsOpenedByLabel keys labels f upper None = IsLabelUnopened keys labels f upper
+
+abbrev pub IsOpenedFor : Config → List UpperKey → UpperFields → List ℕ → Option Opening → Type 0
+IsOpenedFor c keys f upper opening =
+    MatchBool (is_virtual f.dst) (IsOpenedByLabel keys (labels_tried c) f upper opening) (IsOpenedUnder keys f upper opening)
 
 abbrev pub IsOpened : Layers → Past → Reading → Name → Lower → Option Opening → Type 0
 IsOpened layers past r n (Access akf aid upper) opening =
-    IsOpenedUnder (keys_tried (config_before past) r akf aid) (fields_heard r n false) upper opening
+    let c = config_before past in IsOpenedFor c (keys_tried c r akf aid) (fields_heard r n false) upper opening
 IsOpened layers past r n (AccessPart akf aid szmic seq_zero seg_o seg_n piece) opening =
-    IsOpenedUnder (keys_tried (config_before past) r akf aid) (fields_heard r n szmic)
+    let c = config_before past in
+    IsOpenedFor c (keys_tried c r akf aid) (fields_heard r n szmic)
     (layers.whole past n (AccessPart akf aid szmic seq_zero seg_o seg_n piece)) opening
 IsOpened layers past r n (Control opcode params) opening = opening ≡ None
 IsOpened layers past r n (ControlPart opcode seq_zero seg_o seg_n piece) opening = opening ≡ None

@@ -9,25 +9,27 @@ use Rattle.mesh_types.specs.declared.events.Event.{Event}
 use Rattle.mesh_types.specs.declared.history.Entry.{Entry}
 use Rattle.mesh_types.specs.declared.lines.Outcome.{Outcome}
 use Rattle.mesh_types.specs.declared.lines.Outcome.TheVariants as O
-use Rattle.mesh_types.specs.declared.records.StoreRecord.{StoreRecord}
-use Rattle.mesh_types.specs.declared.records.StoreRecord.TheVariants as R
+use Rattle.record_types.specs.declared.records.StoreRecord.{StoreRecord}
+use Rattle.record_types.specs.declared.records.StoreRecord.TheVariants as R
 use Rattle.mesh_types.specs.declared.report.End.{End}
 use Rattle.mesh_types.specs.declared.report.End.TheVariants as F
 use Rattle.mesh_types.specs.declared.report.Opened.{Opened}
 use Rattle.mesh_types.specs.declared.report.Opened.TheVariants as W
 use Rattle.run_definitions.specs.Answers.{answer_of}
-use Rattle.run_definitions.specs.Config.{Config, config_of}
-use Rattle.run_definitions.specs.Entries.{entry_of}
+use Rattle.store_definitions.specs.Alike.{IsAlike}
+use Rattle.store_definitions.specs.Config.{Config, config_of}
+use Rattle.store_definitions.specs.Numbers.{filled, fill_of}
+use Rattle.store_definitions.specs.Provisioning.{Provisioning, provisioned}
 use Rattle.run_definitions.specs.Handling.{AreHandled, records_left}
 use Rattle.run_definitions.specs.History.{Insight, Past, Told}
 use Rattle.run_definitions.specs.Layers.{Layers}
 use Rattle.run_definitions.specs.Lines.{drawn_of}
 use Rattle.run_definitions.specs.Order.{Step, IsOrdered, is_cut, is_outside, phases_of}
-use Rattle.run_definitions.specs.Pairs.{word}
-use Rattle.run_definitions.specs.Ranges.{IsInRange}
+use Rattle.mesh_base.specs.Pairs.{word}
+use Rattle.store_definitions.specs.Ranges.{IsInRange}
 use Rattle.run_definitions.specs.Readings.{Sees}
-use Rattle.run_definitions.specs.Record.{Life, LifeOver, Run, Shown, first_over, list_at, shown, shown_by}
-use Rattle.run_definitions.specs.Stores.{filled, fill_of, stores}
+use Rattle.report_definitions.specs.Record.{Life, LifeOver, Run, Shown, first_over, list_at, shown, shown_by}
+use Rattle.run_definitions.specs.Stores.{stores}
 
 -- The opening of a life over records that say `c`: the flash may fail; else the life is `wasreset` where there was a Node Reset, and
 -- where there was none it opens with the IV state and the mark.
@@ -55,11 +57,6 @@ abbrev pub IsNumbered : Life → ℕ → Type 0
 IsNumbered l k = map (λ e. e.number) (bearer_entries l k) ≡ range_with_len 1 (length (bearer_entries l k))
 
 -- The records that a life leaves.
-
--- two lists say the same of the node and have the same replay list
-pub record IsAlike (a b : List StoreRecord) : Type 0 where
-  pub config : config_of a ≡ config_of b
-  pub entries : (src : ℕ) → entry_of a src ≡ entry_of b src
 
 -- the events from outside that a bearer has in a life, and the one after those that it handled
 abbrev pub plan_events : List Step → ℕ → List Event
@@ -124,28 +121,6 @@ pub record LifeOf (layers : Layers) (plan : List Step) (over : List StoreRecord)
   pub spent : All (λ s. IsSpentRight (config_of next).mark s.outcome) (shown l)
 
 -- Runs.
-
--- what a node is provisioned with: FLAGS has IV Update in Progress in bit 1
-pub record Provisioning : Type 0 where
-  pub unicast : Address
-  pub elements : ℕ
-  pub iv : ℕ
-  pub in_progress : Bool
-  pub net_index : ℕ
-  pub net_key : List ℕ
-  pub dev_key : List ℕ
-
--- the IV state at provisioning: IV Index Recovery is allowed at once, and an IV Update in progress takes its time
-abbrev pub first_state : Provisioning → IvState
-first_state p = record { current = p.iv; progress = p.in_progress; hours = 0; since = 192 }
-
--- the records of provisioning
-abbrev pub provisioned : Provisioning → List StoreRecord
-provisioned p =
-    R.Identity p.unicast p.elements p.dev_key
-    ∷ R.Numbers p.iv p.in_progress (transmit_of (first_state p) * 2 ^ 25) 0 192
-    ∷ R.NetKey 1 p.net_index p.net_key
-    ∷ []
 
 -- a script: what the node is provisioned with, and the plan of each life
 pub record Script : Type 0 where

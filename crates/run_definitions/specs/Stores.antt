@@ -1,6 +1,6 @@
--- The records that an event stores, and those that a refill stores.
+-- The records that an event stores.
 use Rattle.std.specs.Prelude.{ℕ, ◌+◌, ◌-◌, ◌*◌, ◌/◌, ◌%◌, ◌^◌, ◌==◌, nat_lt, zero, suc, if◌then◌else◌, List, [], ◌∷◌, ◌++◌, Option, Some, None, replicate}
-use Rattle.std.specs.Option.{option_to_list}
+use Rattle.std.specs.Option.{option_map_or}
 use Rattle.layer_definitions.specs.IvIndex.{iv_hours}
 use Rattle.mesh_base.specs.IvState.{transmit_of}
 use Rattle.mesh_base.specs.declared.address.Address.{Address}
@@ -14,26 +14,13 @@ use Rattle.mesh_types.specs.declared.answers.KeyStep.{KeyStep}
 use Rattle.mesh_types.specs.declared.answers.KeyStep.TheVariants as S
 use Rattle.mesh_types.specs.declared.events.Event.{Event}
 use Rattle.mesh_types.specs.declared.events.Event.TheVariants as E
-use Rattle.mesh_types.specs.declared.records.StoreRecord.{StoreRecord}
-use Rattle.mesh_types.specs.declared.records.StoreRecord.TheVariants as R
+use Rattle.record_types.specs.declared.records.StoreRecord.{StoreRecord}
+use Rattle.record_types.specs.declared.records.StoreRecord.TheVariants as R
 use Rattle.run_definitions.specs.Answers.{config_before, is_busy, later}
-use Rattle.run_definitions.specs.Config.{Config, config_of}
+use Rattle.store_definitions.specs.Config.{Config}
+use Rattle.store_definitions.specs.Numbers.{moved}
 use Rattle.run_definitions.specs.History.{Insight, OfPdu, Past, Told, now_of}
 use Rattle.run_definitions.specs.Layers.{Layers, AccessMessage}
-
--- A refill reserves 256 numbers more, under the IV state as it is.
-abbrev pub fill_of : Config → StoreRecord
-fill_of c = R.Numbers c.iv.current c.iv.progress (c.mark + 256) c.iv.hours c.iv.since
-
--- the records with so many refills more
-abbrev pub filled : ℕ → List StoreRecord → List StoreRecord
-filled zero records = records
-filled (suc n) records = filled n (records ++ fill_of (config_of records) ∷ [])
-
--- The record of a new IV state. Where the transmit IV Index rises, SEQ starts at 0 under it; else the mark stays.
-abbrev pub moved : Config → IvState → StoreRecord
-moved c s =
-    R.Numbers s.current s.progress (if nat_lt (transmit_of c.iv) (transmit_of s) then transmit_of s * 2 ^ 25 else c.mark) s.hours s.since
 
 abbrev pub step_records : Config → IvStep → List StoreRecord
 step_records c (I.Ignore rule) = []
@@ -67,20 +54,19 @@ tick_records layers past ticks =
 -- the access message that a PDU completed, as it opened
 abbrev pub message_of : Insight → Name → Address → Option AccessMessage
 message_of (OfPdu (Some r) lower (Some o)) name dst =
-    Some (record { name = name; dst = dst; net = r.by.index; ttl = r.fields.ttl; key = o.key; payload = o.payload })
+    Some (record { name = name; dst = dst; net = r.by.index; ttl = r.fields.ttl; key = o.key; label = o.label; payload = o.payload })
 message_of _ name dst = None
 
--- the one record that an accepted message asks for, if any
+-- the records that an accepted message asks for
 abbrev pub asked : Layers → Past → Option AccessMessage → List StoreRecord
-asked layers past None = []
-asked layers past (Some m) = option_to_list (layers.change past m)
+asked layers past message = option_map_or (layers.changes past) message []
 
--- What an event stores, by its answer. An accepted message is recorded before the change that it asks for; the phase of a network key
+-- What an event stores, by its answer. An accepted message is recorded before what it asks for; the phase of a network key
 -- before the IV state of the same beacon.
 unfoldable pub stores : Layers → Past → Event → Insight → Answer → List StoreRecord
 stores layers past (E.Net octets) insight (A.Delivered name dst key payload) =
-    R.Replay name ∷ asked layers past (message_of insight name dst)
-stores layers past (E.Net octets) insight (A.Control name dst opcode params) = R.Replay name ∷ []
+    R.Replay name None ∷ asked layers past (message_of insight name dst)
+stores layers past (E.Net octets) insight (A.Control name dst opcode params) = R.Replay name None ∷ []
 stores layers past (E.Bcn octets) insight (A.Beacon index key iv) = phase_records index key ++ step_records (config_before past) iv
 stores layers past (E.Tick ticks) insight (A.Ticked now) = tick_records layers past ticks
 stores layers past _ insight _ = []

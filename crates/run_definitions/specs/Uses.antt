@@ -17,9 +17,9 @@ use Rattle.mesh_types.specs.declared.jobs.Job.TheVariants as J
 use Rattle.mesh_types.specs.declared.lines.Outcome.{Outcome}
 use Rattle.mesh_types.specs.declared.lines.Outcome.TheVariants as O
 -- a use of a key, and what safety means: of the uses of keys, and of the messages accepted
-pub use Rattle.mesh_world.specs.Safety.{Use, NoReuse, AtMostOnce}
-use Rattle.run_definitions.specs.Config.{Config, config_of, is_element}
-use Rattle.run_definitions.specs.Record.{Life, Run, first_over, shown}
+pub use Rattle.mesh_base.specs.Safety.{Use, NoReuse, AtMostOnce}
+use Rattle.store_definitions.specs.Config.{Config, config_of, is_element}
+use Rattle.report_definitions.specs.Record.{Life, Run, first_over, shown}
 use Rattle.run_definitions.specs.Seals.{own_fields, own_upper_fields, message_fields}
 
 -- The seals of a line.

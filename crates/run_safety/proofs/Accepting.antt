@@ -21,11 +21,11 @@ use Rattle.mesh_types.specs.declared.events.Event.TheVariants as E
 use Rattle.mesh_types.specs.declared.events.SendKey.{SendKey}
 use Rattle.mesh_types.specs.declared.events.SendKey.TheVariants as K
 use Rattle.run_definitions.specs.Answers.{answer_of, beacon_answer, begin_answer, config_before, later, is_again, is_cached, is_mine, is_name, is_segment, is_unicast, lower_answer, message_name, message_pair, named_answer, network_answer, opened_answer, pair_of, pdu_answer, placed_answer, replayed, segment_answer, send_answer, transport_answer, unless_reset, whole_answer}
-use Rattle.run_definitions.specs.Config.{is_element}
-use Rattle.run_definitions.specs.Entries.{entry_of}
+use Rattle.store_definitions.specs.Config.{is_element}
+use Rattle.store_definitions.specs.Entries.{entry_of}
 use Rattle.run_definitions.specs.History.{Insight, OfBeacon, OfNothing, OfPdu, Opening, Past, Reading}
 use Rattle.run_definitions.specs.Layers.{Layers}
-use Rattle.run_definitions.specs.Pairs.{is_expired, is_newer}
+use Rattle.mesh_base.specs.Pairs.{is_expired, is_newer}
 use Rattle.run_definitions.specs.Readings.{Sees, sees_pdu, sees_beacon, sees_nothing, IsReading}
 use Rattle.run_definitions.specs.Uses.{accepted}
 

@@ -2,15 +2,16 @@
 use Rattle.std.proofs.Common.{List, [], ◌∷◌, ap, arith}
 use Rattle.std.specs.List.{All}
 use Rattle.std.proofs.lemmas.List.Elements.{All-from_recursion, recursion_from_All}
-use Rattle.mesh_types.specs.declared.records.StoreRecord.{StoreRecord}
-use Rattle.mesh_types.specs.declared.records.StoreRecord.TheVariants as R
-use Rattle.run_definitions.specs.Config.{Config, config_of}
+use Rattle.record_types.specs.declared.records.StoreRecord.{StoreRecord}
+use Rattle.record_types.specs.declared.records.StoreRecord.TheVariants as R
+use Rattle.store_definitions.specs.Config.{Config, config_of}
 use Rattle.run_definitions.specs.History.{Past}
 use Rattle.run_definitions.specs.Layers.{Layers}
 use Rattle.run_definitions.specs.Order.{Step}
-use Rattle.run_definitions.specs.Ranges.{IsInRange}
-use Rattle.run_definitions.specs.Record.{Life, LifeOver, first_over}
-use Rattle.run_definitions.specs.RunOf.{IsAlike, LifeOf, LivesOf, Outlasts, no_record, of_event, of_refill}
+use Rattle.store_definitions.specs.Ranges.{IsInRange}
+use Rattle.report_definitions.specs.Record.{Life, LifeOver, first_over}
+use Rattle.run_definitions.specs.RunOf.{LifeOf, LivesOf, Outlasts, no_record, of_event, of_refill}
+use Rattle.store_definitions.specs.Alike.{IsAlike}
 use Rattle.run_safety.specs.Rules.{HasFitNumbers, IsRunByEnough, KeepsNode, LifeBy, LivesBy, MayOutlast, enough_rules, nothing_more, one_filled, some_stored}
 use Rattle.run_safety.specs.Safety.{DeliversOnce, DrawsApart, LivesKeep, ReusesNoNonce, all_draws}
 use Rattle.run_safety.proofs.Lists.{every_map, pairs_from_apart}

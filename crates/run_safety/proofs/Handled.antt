@@ -2,8 +2,8 @@
 use Rattle.std.proofs.Common.{◌≡◌, ℕ, zero, suc, ◌+◌, ◌*◌, ◌%◌, ◌^◌, ◌<◌, ◌≤◌, Bool, true, false, not, ◌&&◌, eqb, ltb, leb, cond, replicate, List, [], ◌∷◌, ◌++◌, refl, sym, subst, arith, append_assoc, append-nil, Option, Some, None, take}
 use Rattle.std.specs.Bool.{⊤}
 use Rattle.std.specs.List.{AllByRecursion, fold}
-use Rattle.std.specs.Option.{IfSome, option_to_list}
 use Rattle.std.proofs.lemmas.Bool.{ltb-false, ltb-true}
+use Rattle.std.proofs.lemmas.List.Elements.{recursion_from_All}
 use Rattle.layer_definitions.specs.IvIndex.{aged, iv_due, iv_hours, iv_next}
 use Rattle.mesh_base.specs.IvState.{transmit_of}
 use Rattle.mesh_base.specs.declared.iv_state.IvState.{IvState}
@@ -15,15 +15,16 @@ use Rattle.mesh_types.specs.declared.answers.KeyStep.{KeyStep}
 use Rattle.mesh_types.specs.declared.answers.KeyStep.TheVariants as S
 use Rattle.mesh_types.specs.declared.events.Event.{Event}
 use Rattle.mesh_types.specs.declared.events.Event.TheVariants as E
-use Rattle.mesh_types.specs.declared.records.StoreRecord.{StoreRecord}
-use Rattle.mesh_types.specs.declared.records.StoreRecord.TheVariants as R
+use Rattle.record_types.specs.declared.records.StoreRecord.{StoreRecord}
+use Rattle.record_types.specs.declared.records.StoreRecord.TheVariants as R
 use Rattle.run_definitions.specs.Answers.{answer_of, beacon_answer, config_before, is_busy}
-use Rattle.run_definitions.specs.Config.{Config, changed, config_of, no_config}
+use Rattle.store_definitions.specs.Config.{Config, changed, config_of, no_config}
 use Rattle.run_definitions.specs.History.{Insight, OfBeacon, OfNothing, OfPdu, Past}
 use Rattle.run_definitions.specs.Layers.{AccessMessage, Layers}
 use Rattle.run_safety.specs.Rules.{HasFitNumbers}
 use Rattle.run_safety.specs.Safety.{AreSafe, IsChange}
-use Rattle.run_definitions.specs.Stores.{asked, fill_of, filled, hours_passed, hours_step, message_of, moved, phase_records, step_records, stores, tick_records}
+use Rattle.run_definitions.specs.Stores.{asked, hours_passed, hours_step, message_of, phase_records, step_records, stores, tick_records}
+use Rattle.store_definitions.specs.Numbers.{fill_of, filled, moved}
 use Rattle.run_safety.proofs.Rising.{Rise, same, more, Rises, config_push, rise_after}
 
 -- The mark of a list of records with fit numbers is at most the end of its transmit IV Index, and the known IV Index has 32
@@ -184,13 +185,13 @@ change_rises c (R.Identity unicast elements dev_key) h = h
 change_rises c (R.Numbers current progress mark hours since) h = absurd h
 change_rises c _ h = tt
 
-changes_rise : (c : Config) (o : Option StoreRecord) → IfSome o IsChange → RiseAll c (option_to_list o)
-changes_rise c None h = tt
-changes_rise c (Some r) h = (change_rises c r h, tt)
+changes_rise : (c : Config) (rs : List StoreRecord) → AllByRecursion IsChange rs → RiseAll c rs
+changes_rise c [] h = tt
+changes_rise c (r ∷ rs) h = (change_rises c r h.0, changes_rise (changed c r) rs h.1)
 
 asked_rises : (layers : Layers) → AreSafe layers → (past : Past) (c : Config) (m : Option AccessMessage) → RiseAll c (asked layers past m)
 asked_rises layers safe past c None = tt
-asked_rises layers safe past c (Some m) = changes_rise c (layers.change past m) (safe.change past m)
+asked_rises layers safe past c (Some m) = changes_rise c (layers.changes past m) (recursion_from_All IsChange (layers.changes past m) (safe.changes past m))
 
 pub stores_rise : (layers : Layers) → AreSafe layers → (past : Past) (event : Event) (insight : Insight) (answer : Answer)
     → answer ≡ answer_of layers past event insight → Marked (config_before past) → RiseAll (config_before past) (stores layers past event insight answer)

@@ -1,5 +1,4 @@
 pub mod Lists
-pub mod Pairs
 pub mod Rising
 pub mod Handled
 pub mod Accepting

@@ -6,12 +6,12 @@ use Rattle.std.proofs.lemmas.List.Elements.{filter_map-append}
 use Rattle.mesh_types.specs.declared.events.Event.{Event}
 use Rattle.mesh_types.specs.declared.history.Entry.{Entry}
 use Rattle.mesh_types.specs.declared.history.Sent.{Sent}
-use Rattle.mesh_types.specs.declared.records.StoreRecord.{StoreRecord}
-use Rattle.run_definitions.specs.Config.{Config, config_of}
+use Rattle.record_types.specs.declared.records.StoreRecord.{StoreRecord}
+use Rattle.store_definitions.specs.Config.{Config, config_of}
 use Rattle.run_definitions.specs.History.{Told}
 use Rattle.run_definitions.specs.Layers.{Layers}
 use Rattle.run_definitions.specs.Order.{Does, IsOrdered, Part, PartsOf, Placed, Step, Task, broken, ends, handle, of_bearer, placed_from, whole}
-use Rattle.run_definitions.specs.Record.{Life, Shown, list_at, shown, shown_of}
+use Rattle.report_definitions.specs.Record.{Life, Shown, list_at, shown, shown_of}
 use Rattle.run_definitions.specs.RunOf.{is_on}
 use Rattle.run_safety.specs.Rules.{LifeBy, enough_rules}
 use Rattle.run_safety.specs.Safety.{AreSafe}

@@ -5,18 +5,18 @@ use Rattle.std.proofs.lemmas.List.Elements.{recursion_from_All}
 use Rattle.mesh_base.specs.declared.iv_state.IvState.{IvState}
 use Rattle.mesh_base.specs.declared.pair.Name.{Name}
 use Rattle.mesh_types.specs.declared.history.Entry.{Entry}
-use Rattle.mesh_types.specs.declared.records.StoreRecord.{StoreRecord}
-use Rattle.run_definitions.specs.Config.{config_of}
-use Rattle.run_definitions.specs.Entries.{entry_of, kept_of}
+use Rattle.record_types.specs.declared.records.StoreRecord.{StoreRecord}
+use Rattle.store_definitions.specs.Config.{config_of}
+use Rattle.store_definitions.specs.Entries.{entry_of, kept_of}
 use Rattle.run_definitions.specs.Handling.{records_left}
 use Rattle.run_definitions.specs.History.{Past, Told}
 use Rattle.run_definitions.specs.Layers.{Layers}
 use Rattle.run_definitions.specs.Order.{Step}
-use Rattle.run_definitions.specs.Record.{Life, LifeOver, first_over}
+use Rattle.report_definitions.specs.Record.{Life, LifeOver, first_over}
 use Rattle.run_definitions.specs.RunOf.{past_at_end}
 use Rattle.run_safety.specs.Rules.{DeliversOnceByEnough, HasFitNumbers, LifeBy, LivesBy, MayOutlast, enough_rules, nothing_more, one_filled, some_stored}
 use Rattle.run_safety.specs.Safety.{AreSafe}
-use Rattle.run_definitions.specs.Stores.{filled}
+use Rattle.store_definitions.specs.Numbers.{filled}
 use Rattle.run_definitions.specs.Uses.{accepted, delivered, life_delivered}
 use Rattle.run_safety.proofs.Handled.{Marked, RiseAll, marked, rise_all, rise_filled, rise_take, rises_fill, stores_rise}
 use Rattle.run_safety.proofs.Lists.{every_front, every_map, pairs_from_apart}

@@ -3,23 +3,24 @@ use Rattle.std.proofs.Common.{◌≡◌, ◌≢◌, ℕ, zero, suc, Bool, true, 
 use Rattle.std.specs.List.{AllByRecursion, cons_option, filter_map}
 use Rattle.mesh_base.specs.declared.pair.Name.{Name}
 use Rattle.mesh_base.specs.declared.pair.Pair.{Pair}
-use Rattle.mesh_types.specs.declared.records.StoreRecord.{StoreRecord}
-use Rattle.mesh_types.specs.declared.records.StoreRecord.TheVariants as R
+use Rattle.record_types.specs.declared.records.StoreRecord.{StoreRecord}
+use Rattle.record_types.specs.declared.records.StoreRecord.TheVariants as R
 use Rattle.mesh_types.specs.declared.answers.Answer.{Answer}
 use Rattle.mesh_types.specs.declared.answers.Answer.TheVariants as A
 use Rattle.mesh_types.specs.declared.events.Event.{Event}
 use Rattle.mesh_types.specs.declared.events.Event.TheVariants as E
 use Rattle.run_definitions.specs.Answers.{answer_of, replayed}
-use Rattle.run_definitions.specs.Config.{config_of}
-use Rattle.run_definitions.specs.Entries.{kept_of}
+use Rattle.store_definitions.specs.Config.{config_of}
+use Rattle.store_definitions.specs.Entries.{kept_of}
 use Rattle.run_definitions.specs.Handling.{AreHandled, Handles, past_of, records_left}
 use Rattle.run_definitions.specs.History.{Insight, OfPdu, Past, Told}
 use Rattle.run_definitions.specs.Layers.{Layers}
-use Rattle.run_definitions.specs.Pairs.{is_expired, is_newer}
+use Rattle.mesh_base.specs.Pairs.{is_expired, is_newer}
 use Rattle.run_definitions.specs.Readings.{Sees, sees_pdu, sees_beacon, sees_nothing}
 use Rattle.run_safety.specs.Rules.{HasFitNumbers}
 use Rattle.run_safety.specs.Safety.{AreSafe}
-use Rattle.run_definitions.specs.Stores.{asked, filled, fill_of, message_of, records_after, stores}
+use Rattle.run_definitions.specs.Stores.{asked, message_of, records_after, stores}
+use Rattle.store_definitions.specs.Numbers.{filled, fill_of}
 use Rattle.run_definitions.specs.Uses.{accepted}
 use Rattle.run_safety.proofs.Accepting.{Fresh, beacon_silent, fresh, nothing_accepted, nothing_silent, some_is, unless_silent}
 use Rattle.run_safety.proofs.Handled.{RiseAll, marked, rise_all, rise_filled, stores_rise}
@@ -120,17 +121,17 @@ pub record Once (ns : List Name) (records : List StoreRecord) : Type 0 where
 
 -- what an accepted message stores begins with its Replay record
 net_stores : (layers : Layers) (past : Past) (octets : List ℕ) (insight : Insight) (answer : Answer) (n : Name) → accepted answer ≡ Some n
-    → (rest : List StoreRecord) × (stores layers past (E.Net octets) insight answer ≡ R.Replay n ∷ rest)
+    → (rest : List StoreRecord) × (stores layers past (E.Net octets) insight answer ≡ R.Replay n None ∷ rest)
 unfolding stores
 net_stores layers past octets insight (A.Delivered name dst key payload) n a =
-    let same : name ≡ n = some_is a in (asked layers past (message_of insight name dst), ap (λ m. R.Replay m ∷ asked layers past (message_of insight name dst)) same)
+    let same : name ≡ n = some_is a in (asked layers past (message_of insight name dst), ap (λ m. R.Replay m None ∷ asked layers past (message_of insight name dst)) same)
 net_stores layers past octets insight (A.Control name dst opcode params) n a =
-    let same : name ≡ n = some_is a in ([], ap (λ m. R.Replay m ∷ []) same)
+    let same : name ≡ n = some_is a in ([], ap (λ m. R.Replay m None ∷ []) same)
 net_stores layers past octets insight _ n a = absurd cc
 
 accepted_stores : (layers : Layers) (past : Past) (event : Event) (insight : Insight) (answer : Answer) (n : Name)
     → Sees layers past event insight → answer ≡ answer_of layers past event insight → accepted answer ≡ Some n
-    → (rest : List StoreRecord) × (stores layers past event insight answer ≡ R.Replay n ∷ rest)
+    → (rest : List StoreRecord) × (stores layers past event insight answer ≡ R.Replay n None ∷ rest)
 unfolding answer_of
 accepted_stores layers past _ _ answer n (sees_pdu {octets = octets} {reading = reading} {low = low} {opening = opening} reset r l o) e a =
     net_stores layers past octets (OfPdu reading low opening) answer n a
@@ -140,20 +141,20 @@ accepted_stores layers past _ _ answer n (sees_nothing {event = event} h) e a =
     absurd (nothing_accepted _ n (nothing_silent layers past event) (ap accepted (sym e) ∙ a))
 
 -- so the name is blocked by what is stored
-blocked_stored : (records stored : List StoreRecord) (n : Name) (rest : List StoreRecord) → stored ≡ R.Replay n ∷ rest → RiseAll (config_of records) stored
+blocked_stored : (records stored : List StoreRecord) (n : Name) (rest : List StoreRecord) → stored ≡ R.Replay n None ∷ rest → RiseAll (config_of records) stored
     → IsBlocked n (records ++ stored)
 blocked_stored records stored n rest e r =
-    let rises : RiseAll (config_of records) (R.Replay n ∷ rest) = subst (RiseAll (config_of records)) e r in
-    let later : RiseAll (config_of (records ++ R.Replay n ∷ [])) rest = rw config_push rises.1 in
-    let b : IsBlocked n ((records ++ R.Replay n ∷ []) ++ rest) =
-    blocked_rise n (rise_all rest (records ++ R.Replay n ∷ []) later) (blocked_by_replay n records) in
-    subst (IsBlocked n) (append_assoc records (R.Replay n ∷ []) rest ∙ ap (λ l. records ++ l) (sym e)) b
+    let rises : RiseAll (config_of records) (R.Replay n None ∷ rest) = subst (RiseAll (config_of records)) e r in
+    let later : RiseAll (config_of (records ++ R.Replay n None ∷ [])) rest = rw config_push rises.1 in
+    let b : IsBlocked n ((records ++ R.Replay n None ∷ []) ++ rest) =
+    blocked_rise n (rise_all rest (records ++ R.Replay n None ∷ []) later) (blocked_by_replay n records) in
+    subst (IsBlocked n) (append_assoc records (R.Replay n None ∷ []) rest ∙ ap (λ l. records ++ l) (sym e)) b
 
 -- with an entry more
 once_named : (layers : Layers) (past : Past) (stored : List StoreRecord) (ns : List Name) (o : Option Name)
     → RiseAll (config_of past.records) stored
     → ((n : Name) → o ≡ Some n → Fresh past n)
-    → ((n : Name) → o ≡ Some n → (rest : List StoreRecord) × (stored ≡ R.Replay n ∷ rest))
+    → ((n : Name) → o ≡ Some n → (rest : List StoreRecord) × (stored ≡ R.Replay n None ∷ rest))
     → Once ns past.records → Once (ns ++ cons_option o []) (past.records ++ stored)
 once_named layers past stored ns None rise f g o =
     rw append-nil (record { differ = o.differ; blocked = blocked_all ns (rise_all stored past.records rise) o.blocked })

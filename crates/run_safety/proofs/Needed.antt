@@ -1,11 +1,11 @@
 -- What each rule is needed for.
 use Rattle.std.proofs.Common.{List, [], ◌∷◌}
-use Rattle.mesh_types.specs.declared.records.StoreRecord.{StoreRecord}
+use Rattle.record_types.specs.declared.records.StoreRecord.{StoreRecord}
 use Rattle.run_definitions.specs.Layers.{Layers}
 use Rattle.run_safety.specs.Needed.{AreNeeded}
 use Rattle.run_safety.specs.Rules.{IsRunByAll, LifeBy, LivesBy, all_rules}
 use Rattle.run_definitions.specs.Order.{Step}
-use Rattle.run_definitions.specs.Record.{Life, LifeOver, first_over}
+use Rattle.report_definitions.specs.Record.{Life, LifeOver, first_over}
 use Rattle.run_definitions.specs.RunOf.{LifeOf, LivesOf}
 use Rattle.run_safety.proofs.NeededBound.{bound_needed}
 use Rattle.run_safety.proofs.NeededDraws.{below_needed, from_needed}

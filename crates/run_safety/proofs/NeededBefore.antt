@@ -16,22 +16,22 @@ use Rattle.mesh_types.specs.declared.report.End.TheVariants as F
 use Rattle.mesh_types.specs.declared.report.Opened.TheVariants as W
 use Rattle.layer_definitions.specs.Network.{net_text}
 use Rattle.run_definitions.specs.Answers.{answer_of, is_before_cache}
-use Rattle.run_definitions.specs.Config.{changed, config_of}
+use Rattle.store_definitions.specs.Config.{changed, config_of}
 use Rattle.run_definitions.specs.History.{Insight, OfBeacon, OfNothing, OfPdu, Past, Told}
 use Rattle.run_definitions.specs.Jobs.{jobs_of}
-use Rattle.run_definitions.specs.Layers.{Layers}
+use Rattle.run_definitions.specs.Layers.{Layers, quiet_layers}
 use Rattle.run_definitions.specs.Lines.{shows_relay}
 use Rattle.run_definitions.specs.Order.{Does, IsOrdered, Part, Step, ends, handles, phase, placed_from, stops, whole, writes}
-use Rattle.run_definitions.specs.Ranges.{IsInRange}
+use Rattle.store_definitions.specs.Ranges.{IsInRange}
 use Rattle.run_definitions.specs.Readings.{sees_nothing}
-use Rattle.run_definitions.specs.Record.{Life, Run, Shown, list_at, shown, shown_by}
+use Rattle.report_definitions.specs.Record.{Life, Run, Shown, list_at, shown, shown_by}
 use Rattle.run_definitions.specs.RunOf.{IsNumbered, IsSpentRight, Script, draws, no_record, past_at_end}
 use Rattle.run_definitions.specs.Stores.{stores}
 use Rattle.run_definitions.specs.Uses.{seals_of, uses}
 use Rattle.run_safety.specs.Needed.{AreHandledAfterAny, Reuses}
 use Rattle.run_safety.specs.Rules.{LeavesBy, LifeBy, Rules, all_rules}
 use Rattle.run_safety.specs.Safety.{AreSafe, IsFitJob}
-use Rattle.run_safety.specs.WrittenRun.{key_heard, material, node, opened_state, pair, quiet_layers}
+use Rattle.run_safety.specs.WrittenRun.{key_heard, material, node, opened_state, pair}
 use Rattle.run_safety.proofs.NeededDraws.{Clash, first_list, first_opens, mark, other_text, some_use}
 use Rattle.run_safety.proofs.NeededLayers.{own_pdu}
 use Rattle.run_safety.proofs.NeededNames.{nothing_drawn}
@@ -57,7 +57,7 @@ contains_first x xs = (0, omega arith, refl)
 goes_on_fits : (past : Past) (t : Told) (insight : Insight) (b : Bool) → Contains past.told t → t.insight ≡ insight → is_before_cache t.entry.answer ≡ b
     → AllByRecursion (IsFitJob past) (goes_on insight b)
 goes_on_fits past t (OfPdu (Some r) low opening) false c e f =
-    (record { told = t; is_told = c; reading = r; low = low; opening = opening; read = e; passed = f; src = refl }, tt)
+    (record { told = t; is_told = c; reading = r; low = low; opening = opening; read = e; passed = f; fields = refl }, tt)
 goes_on_fits past t (OfPdu (Some r) low opening) true c e f = tt
 goes_on_fits past t (OfPdu None low opening) b c e f = tt
 goes_on_fits past t (OfBeacon beacon) b c e f = tt
@@ -73,7 +73,8 @@ passing_safe = record {
   segments_due = quiet_safe.segments_due;
   control_jobs = quiet_safe.control_jobs;
   replies = quiet_safe.replies;
-  change = quiet_safe.change;
+  published = quiet_safe.published;
+  changes = quiet_safe.changes;
 }
 
 -- what an entry may see before it: a PDU of the node's own that was heard

@@ -11,12 +11,12 @@ use Rattle.mesh_types.specs.declared.events.Event.{Event}
 use Rattle.mesh_types.specs.declared.events.Event.TheVariants as E
 use Rattle.mesh_types.specs.declared.history.Entry.{Entry}
 use Rattle.mesh_types.specs.declared.history.Sent.{Sent}
-use Rattle.mesh_types.specs.declared.records.StoreRecord.{StoreRecord}
-use Rattle.mesh_types.specs.declared.records.StoreRecord.TheVariants as R
+use Rattle.record_types.specs.declared.records.StoreRecord.{StoreRecord}
+use Rattle.record_types.specs.declared.records.StoreRecord.TheVariants as R
 use Rattle.mesh_types.specs.declared.report.End.TheVariants as F
 use Rattle.mesh_types.specs.declared.report.Opened.TheVariants as W
 use Rattle.run_definitions.specs.Answers.{answer_of}
-use Rattle.run_definitions.specs.Config.{changed, config_of}
+use Rattle.store_definitions.specs.Config.{changed, config_of}
 use Rattle.run_definitions.specs.Handling.{AreHandled, Handles, past_of}
 use Rattle.run_definitions.specs.History.{OfNothing, Told}
 use Rattle.run_definitions.specs.Jobs.{jobs_of}
@@ -24,14 +24,16 @@ use Rattle.run_definitions.specs.Lines.{shows_ctl}
 use Rattle.run_safety.specs.Needed.{DrawsWithoutBound, Reuses}
 use Rattle.run_safety.specs.Rules.{LeavesBy, LifeBy, all_rules}
 use Rattle.run_definitions.specs.Order.{Does, IsOrdered, Part, Step, ends, handles, phase, placed_from, stops, whole, writes}
-use Rattle.run_definitions.specs.Pairs.{word}
-use Rattle.run_definitions.specs.Ranges.{IsInRange}
+use Rattle.mesh_base.specs.Pairs.{word}
+use Rattle.store_definitions.specs.Ranges.{IsInRange}
 use Rattle.run_definitions.specs.Readings.{sees_nothing}
-use Rattle.run_definitions.specs.Record.{Life, Run, Shown, list_at, shown, shown_by}
-use Rattle.run_definitions.specs.RunOf.{IsNumbered, IsSpentRight, Opens, Provisioning, Script, draws, no_record, opens, past_at_end, provisioned}
+use Rattle.report_definitions.specs.Record.{Life, Run, Shown, list_at, shown, shown_by}
+use Rattle.run_definitions.specs.RunOf.{IsNumbered, IsSpentRight, Opens, Script, draws, no_record, opens, past_at_end}
+use Rattle.store_definitions.specs.Provisioning.{Provisioning, provisioned}
 use Rattle.run_definitions.specs.Stores.{stores}
 use Rattle.run_definitions.specs.Uses.{seals_of, uses}
-use Rattle.run_safety.specs.WrittenRun.{address, dev_key, net_key, pair, quiet_layers}
+use Rattle.run_definitions.specs.Layers.{quiet_layers}
+use Rattle.run_safety.specs.WrittenRun.{address, dev_key, net_key, pair}
 use Rattle.run_safety.proofs.Lists.{pairs_from_apart}
 use Rattle.run_safety.proofs.WrittenRun.{all_of, dev_key_is, net_key_is, others_none, others_placed, quiet_safe}
 use Rattle.run_safety.proofs.NeededDraws.{Clash, drawn_only, other_text, raw_entry, raw_event, raw_line, some_use}

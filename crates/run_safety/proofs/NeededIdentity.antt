@@ -13,27 +13,29 @@ use Rattle.mesh_types.specs.declared.history.Entry.{Entry}
 use Rattle.mesh_types.specs.declared.history.Sent.{Sent}
 use Rattle.mesh_types.specs.declared.jobs.Job.TheVariants as J
 use Rattle.mesh_types.specs.declared.lines.Outcome.TheVariants as O
-use Rattle.mesh_types.specs.declared.records.StoreRecord.{StoreRecord}
-use Rattle.mesh_types.specs.declared.records.StoreRecord.TheVariants as R
+use Rattle.record_types.specs.declared.records.StoreRecord.{StoreRecord}
+use Rattle.record_types.specs.declared.records.StoreRecord.TheVariants as R
 use Rattle.mesh_types.specs.declared.report.End.TheVariants as F
 use Rattle.mesh_types.specs.declared.report.Opened.TheVariants as W
 use Rattle.run_definitions.specs.Answers.{answer_of}
-use Rattle.run_definitions.specs.Config.{Config, changed, config_of}
-use Rattle.run_definitions.specs.Entries.{entry_of}
+use Rattle.store_definitions.specs.Config.{Config, changed, config_of}
+use Rattle.store_definitions.specs.Entries.{entry_of}
 use Rattle.run_definitions.specs.Handling.{AreHandled, past_of}
 use Rattle.run_definitions.specs.History.{OfPdu, Told}
 use Rattle.run_definitions.specs.Jobs.{jobs_of}
 use Rattle.run_definitions.specs.Lines.{shows_relay}
 use Rattle.run_definitions.specs.Order.{Does, IsOrdered, Part, Step, ends, handles, phase, placed_from, stops, whole, writes}
-use Rattle.run_definitions.specs.Ranges.{IsInRange}
+use Rattle.store_definitions.specs.Ranges.{IsInRange}
 use Rattle.run_definitions.specs.Readings.{IsReading, sees_pdu}
-use Rattle.run_definitions.specs.Record.{Life, Run, Shown, list_at, shown, shown_by}
-use Rattle.run_definitions.specs.RunOf.{IsNumbered, IsSpentRight, Opens, Provisioning, Script, draws, no_record, opens, past_at_end, provisioned}
+use Rattle.report_definitions.specs.Record.{Life, Run, Shown, list_at, shown, shown_by}
+use Rattle.run_definitions.specs.RunOf.{IsNumbered, IsSpentRight, Opens, Script, draws, no_record, opens, past_at_end}
+use Rattle.store_definitions.specs.Provisioning.{Provisioning, provisioned}
 use Rattle.run_definitions.specs.Stores.{stores}
 use Rattle.run_definitions.specs.Uses.{NoReuse, seals_of, uses}
 use Rattle.run_safety.specs.Needed.{IsAlikeBut, Reuses, without_elements, without_unicast}
 use Rattle.run_safety.specs.Rules.{LeavesBy, LifeBy, Rules, RunBy, all_rules}
-use Rattle.run_safety.specs.WrittenRun.{address, dev_key, key_heard, material, net_key, opened_state, pair, quiet_layers}
+use Rattle.run_definitions.specs.Layers.{quiet_layers}
+use Rattle.run_safety.specs.WrittenRun.{address, dev_key, key_heard, material, net_key, opened_state, pair}
 use Rattle.run_safety.proofs.Lists.{every_front}
 use Rattle.run_safety.proofs.NeededDraws.{mark, some_use}
 use Rattle.run_safety.proofs.NeededNames.{nothing_drawn}

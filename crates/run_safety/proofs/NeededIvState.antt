@@ -14,25 +14,26 @@ use Rattle.mesh_types.specs.declared.answers.KeyStep.TheVariants as S
 use Rattle.mesh_types.specs.declared.events.Event.{Event}
 use Rattle.mesh_types.specs.declared.events.Event.TheVariants as E
 use Rattle.mesh_types.specs.declared.history.Entry.{Entry}
-use Rattle.mesh_types.specs.declared.records.StoreRecord.{StoreRecord}
-use Rattle.mesh_types.specs.declared.records.StoreRecord.TheVariants as R
+use Rattle.record_types.specs.declared.records.StoreRecord.{StoreRecord}
+use Rattle.record_types.specs.declared.records.StoreRecord.TheVariants as R
 use Rattle.mesh_types.specs.declared.report.End.TheVariants as F
 use Rattle.mesh_types.specs.declared.report.Opened.TheVariants as W
 use Rattle.run_definitions.specs.Answers.{answer_of}
-use Rattle.run_definitions.specs.Config.{changed, config_of}
-use Rattle.run_definitions.specs.Entries.{entry_of, greatest_with, unexpired}
+use Rattle.store_definitions.specs.Config.{changed, config_of}
+use Rattle.store_definitions.specs.Entries.{entry_of, greatest_with, unexpired}
 use Rattle.run_definitions.specs.Handling.{AreHandled, Handles, past_of}
 use Rattle.run_definitions.specs.History.{OfBeacon, OfNothing, Told}
 use Rattle.run_definitions.specs.Jobs.{jobs_of}
 use Rattle.run_definitions.specs.Order.{Does, IsOrdered, Part, Step, ends, handles, phase, placed_from, stops, whole}
-use Rattle.run_definitions.specs.Ranges.{IsInRange}
+use Rattle.store_definitions.specs.Ranges.{IsInRange}
 use Rattle.run_definitions.specs.Readings.{IsBeacon, IsReading, sees_beacon, sees_nothing, sees_pdu}
-use Rattle.run_definitions.specs.Record.{Life, Run, Shown, list_at, shown, shown_by}
+use Rattle.report_definitions.specs.Record.{Life, Run, Shown, list_at, shown, shown_by}
 use Rattle.run_definitions.specs.RunOf.{IsNumbered, IsSpentRight, Script, draws, no_record, past_at_end}
 use Rattle.run_definitions.specs.Stores.{stores}
 use Rattle.run_safety.specs.Needed.{IsAlikeBut, Repeats, without_iv_state}
 use Rattle.run_safety.specs.Rules.{LeavesBy, LifeBy, Rules, all_rules}
-use Rattle.run_safety.specs.WrittenRun.{key_heard, material, net_key, node, opened_state, pair, quiet_layers}
+use Rattle.run_definitions.specs.Layers.{quiet_layers}
+use Rattle.run_safety.specs.WrittenRun.{key_heard, material, net_key, node, opened_state, pair}
 use Rattle.run_safety.proofs.NeededDraws.{first_list, first_opens, mark}
 use Rattle.run_safety.proofs.NeededNames.{control_entry, control_event, control_fields, control_insight, control_lower, control_name, has_pdu, in_widths, no_sends, nothing_drawn, twice}
 use Rattle.run_safety.proofs.WrittenRun.{all_of, dev_key_is, ivi, material_nid, net_key_is, others_none, others_placed, quiet_safe}
@@ -71,7 +72,7 @@ abbrev life : Life
 life = record { opened = W.On opened_state (mark + 0); entries = entries; refills = 0; sends = [] ∷ []; end = F.Ended }
 
 abbrev after_message : List StoreRecord
-after_message = first_list ++ R.Replay (control_name 4) ∷ []
+after_message = first_list ++ R.Replay (control_name 4) None ∷ []
 
 abbrev after_tick : List StoreRecord
 after_tick = after_message ++ R.Hour 96 288 ∷ []
@@ -166,7 +167,7 @@ ranges = (
     (
       (lit≤ tt, lit≤ tt, lit≤ tt, net_key_is),
       (
-        (lit< tt, lit< tt, lit< tt),
+        (record { src = lit< tt; iv = lit< tt; seq = lit< tt }, tt),
         (
           (lit< tt, lit< tt),
           ((lit< tt, (λ e. lit< tt), record { seq = 0; word = refl; most = lit≤ tt; block = refl }, lit< tt, lit< tt), tt),

@@ -12,20 +12,21 @@ use Rattle.mesh_types.specs.declared.lines.Outcome.TheVariants as O
 use Rattle.mesh_types.specs.declared.report.End.TheVariants as F
 use Rattle.mesh_types.specs.declared.report.Opened.TheVariants as W
 use Rattle.run_definitions.specs.Answers.{answer_of}
-use Rattle.run_definitions.specs.Config.{changed, config_of}
+use Rattle.store_definitions.specs.Config.{changed, config_of}
 use Rattle.run_definitions.specs.History.{OfNothing, Told}
 use Rattle.run_definitions.specs.Lines.{shows_relay}
 use Rattle.run_definitions.specs.Order.{Does, IsOrdered, Part, ends, handles, placed_from, stops, whole, writes}
-use Rattle.run_definitions.specs.Ranges.{IsInRange}
+use Rattle.store_definitions.specs.Ranges.{IsInRange}
 use Rattle.run_definitions.specs.Readings.{sees_nothing}
-use Rattle.run_definitions.specs.Record.{Life, Run, Shown, list_at, shown, shown_by}
+use Rattle.report_definitions.specs.Record.{Life, Run, Shown, list_at, shown, shown_by}
 use Rattle.run_definitions.specs.RunOf.{IsNumbered, IsSpentRight, Script, draws, no_record, past_at_end}
 use Rattle.run_definitions.specs.Seals.{own_fields}
 use Rattle.run_definitions.specs.Stores.{stores}
 use Rattle.run_definitions.specs.Uses.{seals_of, uses}
 use Rattle.run_safety.specs.Needed.{AreHandledSo, HandlesButJobs, Reuses}
 use Rattle.run_safety.specs.Rules.{LeavesBy, LifeBy, Rules, all_rules}
-use Rattle.run_safety.specs.WrittenRun.{address, material, node, opened_state, pair, quiet_layers}
+use Rattle.run_definitions.specs.Layers.{quiet_layers}
+use Rattle.run_safety.specs.WrittenRun.{address, material, node, opened_state, pair}
 use Rattle.run_safety.proofs.NeededDraws.{Clash, first_list, first_opens, mark, other_text, plan, raw_event, some_use}
 use Rattle.run_safety.proofs.NeededNames.{nothing_drawn}
 use Rattle.run_safety.proofs.NeededOrder.{ranges}

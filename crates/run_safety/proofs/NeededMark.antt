@@ -5,22 +5,22 @@ use Rattle.std.specs.List.{AllByRecursion}
 use Rattle.std.proofs.lemmas.Bool.{true≢false}
 use Rattle.mesh_base.specs.IvState.{transmit_of}
 use Rattle.mesh_base.specs.declared.pair.Pair.{Pair}
-use Rattle.mesh_types.specs.declared.records.StoreRecord.{StoreRecord}
+use Rattle.record_types.specs.declared.records.StoreRecord.{StoreRecord}
 use Rattle.mesh_types.specs.declared.report.End.TheVariants as F
 use Rattle.mesh_types.specs.declared.report.Opened.TheVariants as W
-use Rattle.run_definitions.specs.Config.{changed, config_of}
+use Rattle.store_definitions.specs.Config.{changed, config_of}
 use Rattle.run_definitions.specs.History.{Past}
-use Rattle.run_definitions.specs.Layers.{Layers}
+use Rattle.run_definitions.specs.Layers.{Layers, quiet_layers}
 use Rattle.run_definitions.specs.Order.{IsOrdered, Step, ends}
-use Rattle.run_definitions.specs.Pairs.{word}
-use Rattle.run_definitions.specs.Ranges.{IsInRange}
-use Rattle.run_definitions.specs.Record.{Life, Run, Shown, shown}
+use Rattle.mesh_base.specs.Pairs.{word}
+use Rattle.store_definitions.specs.Ranges.{IsInRange}
+use Rattle.report_definitions.specs.Record.{Life, Run, Shown, shown}
 use Rattle.run_definitions.specs.RunOf.{IsDrawn, IsSpentRight, Script, no_record, past_at_end}
 use Rattle.run_definitions.specs.Stores.{stores}
 use Rattle.run_definitions.specs.Uses.{seals_of, uses}
 use Rattle.run_safety.specs.Needed.{IsAlikeBut, OutlastsAnything, Reuses, without_mark}
 use Rattle.run_safety.specs.Rules.{LeavesBy, LifeBy, Rules, all_rules}
-use Rattle.run_safety.specs.WrittenRun.{node, opened_state, pair, quiet_layers}
+use Rattle.run_safety.specs.WrittenRun.{node, opened_state, pair}
 use Rattle.run_safety.proofs.NeededDraws.{Clash, each, first_handled, first_list, first_opens, first_range, first_told, life, mark, numbered, numbers, once, ordered, other_text, plan, rises, second_list, second_opens, some_use}
 use Rattle.run_safety.proofs.NeededNames.{nothing_drawn}
 use Rattle.run_safety.proofs.WrittenRun.{all_of, dev_key_is, net_key_is, quiet_safe}

@@ -10,23 +10,24 @@ use Rattle.mesh_types.specs.declared.events.Event.{Event}
 use Rattle.mesh_types.specs.declared.events.Event.TheVariants as E
 use Rattle.mesh_types.specs.declared.history.Entry.{Entry}
 use Rattle.mesh_types.specs.declared.history.Sent.{Sent}
-use Rattle.mesh_types.specs.declared.records.StoreRecord.{StoreRecord}
-use Rattle.mesh_types.specs.declared.records.StoreRecord.TheVariants as R
+use Rattle.record_types.specs.declared.records.StoreRecord.{StoreRecord}
+use Rattle.record_types.specs.declared.records.StoreRecord.TheVariants as R
 use Rattle.mesh_types.specs.declared.report.End.TheVariants as F
 use Rattle.mesh_types.specs.declared.report.Opened.TheVariants as W
 use Rattle.run_definitions.specs.Answers.{answer_of}
-use Rattle.run_definitions.specs.Config.{changed, config_of}
+use Rattle.store_definitions.specs.Config.{changed, config_of}
 use Rattle.run_definitions.specs.Handling.{AreHandled, past_of}
 use Rattle.run_definitions.specs.History.{Told}
 use Rattle.run_definitions.specs.Jobs.{jobs_of}
 use Rattle.run_safety.specs.Rules.{LeavesBy, LifeBy, Rules, all_rules}
 use Rattle.run_definitions.specs.Order.{Does, IsOrdered, Part, Step, ends, handles, phase, placed_from, stops, whole}
-use Rattle.run_definitions.specs.Pairs.{word}
-use Rattle.run_definitions.specs.Ranges.{IsInRange}
-use Rattle.run_definitions.specs.Record.{Life, Run, Shown, list_at, shown, shown_by}
+use Rattle.mesh_base.specs.Pairs.{word}
+use Rattle.store_definitions.specs.Ranges.{IsInRange}
+use Rattle.report_definitions.specs.Record.{Life, Run, Shown, list_at, shown, shown_by}
 use Rattle.run_definitions.specs.RunOf.{IsNumbered, IsSpentRight, Script, draws, no_record, past_at_end}
 use Rattle.run_definitions.specs.Stores.{stores}
-use Rattle.run_safety.specs.WrittenRun.{address, material, node, opened_state, pair, quiet_layers}
+use Rattle.run_definitions.specs.Layers.{quiet_layers}
+use Rattle.run_safety.specs.WrittenRun.{address, material, node, opened_state, pair}
 use Rattle.run_safety.proofs.Lists.{pairs_from_apart}
 use Rattle.run_safety.proofs.WrittenRun.{all_of, dev_key_is, net_key_is, others_none, others_placed, quiet_safe}
 use Rattle.layer_definitions.specs.Lower.{ReadsLower, lower_text}
@@ -136,7 +137,7 @@ shows_nothing iv k = rw (no_sends k) refl
 abbrev forgetful : Rules
 forgetful = record all_rules { is_alike = SaysTheSame }
 
-pub at_end_range : (iv : ℕ) → iv < 2 ^ 32 → AllByRecursion IsInRange (first_list ++ R.Replay (control_name iv) ∷ [])
+pub at_end_range : (iv : ℕ) → iv < 2 ^ 32 → AllByRecursion IsInRange (first_list ++ R.Replay (control_name iv) None ∷ [])
 unfolding transmit_of
 at_end_range iv h = (
   (lit≤ tt, lit≤ tt, lit≤ tt, lit≤ tt, dev_key_is),
@@ -144,14 +145,14 @@ at_end_range iv h = (
     (lit< tt, (λ e. lit< tt), record { seq = 0; word = refl; most = lit≤ tt; block = refl }, lit< tt, lit< tt),
     (
       (lit≤ tt, lit≤ tt, lit≤ tt, net_key_is),
-      ((lit< tt, h, lit< tt), tt),
+      ((record { src = lit< tt; iv = h; seq = lit< tt }, tt), tt),
     ),
   ),
 )
 
 leaves : LeavesBy forgetful quiet_layers (plan 5) (life 5) (past_at_end quiet_layers first_list (life 5) (told 5 ∷ [])) first_list
 unfolding changed stores
-leaves = record { more = []; outlasts = no_record; ranges = all_of IsInRange (first_list ++ R.Replay (control_name 5) ∷ []) (at_end_range 5 (lit< tt)); alike = record { config = refl } }
+leaves = record { more = []; outlasts = no_record; ranges = all_of IsInRange (first_list ++ R.Replay (control_name 5) None ∷ []) (at_end_range 5 (lit< tt)); alike = record { config = refl } }
 
 life_by : LifeBy forgetful quiet_layers (plan 5) first_list (life 5) first_list
 life_by = record {

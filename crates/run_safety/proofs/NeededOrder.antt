@@ -16,20 +16,21 @@ use Rattle.mesh_types.specs.declared.report.End.TheVariants as F
 use Rattle.mesh_types.specs.declared.report.Opened.{Opened}
 use Rattle.mesh_types.specs.declared.report.Opened.TheVariants as W
 use Rattle.run_definitions.specs.Answers.{answer_of}
-use Rattle.run_definitions.specs.Config.{changed, config_of}
+use Rattle.store_definitions.specs.Config.{changed, config_of}
 use Rattle.run_definitions.specs.Handling.{AreHandled}
 use Rattle.run_definitions.specs.History.{OfNothing, Told}
 use Rattle.run_definitions.specs.Jobs.{jobs_of}
 use Rattle.run_safety.specs.Needed.{Reuses}
 use Rattle.run_safety.specs.Rules.{LeavesBy, LifeBy, Rules, all_rules}
-use Rattle.run_definitions.specs.Ranges.{IsInRange}
+use Rattle.store_definitions.specs.Ranges.{IsInRange}
 use Rattle.run_definitions.specs.Readings.{sees_nothing}
-use Rattle.run_definitions.specs.Record.{Life, Run, Shown, list_at, shown, shown_by}
+use Rattle.report_definitions.specs.Record.{Life, Run, Shown, list_at, shown, shown_by}
 use Rattle.run_definitions.specs.Order.{IsOrdered, Part, Step, placed_from}
 use Rattle.run_definitions.specs.RunOf.{IsIdle, IsNumbered, IsSpentRight, Opens, Script, cut_at_start, draws, is_on, no_record, past_at_end}
 use Rattle.run_definitions.specs.Stores.{stores}
 use Rattle.run_definitions.specs.Uses.{seals_of, uses}
-use Rattle.run_safety.specs.WrittenRun.{address, material, node, opened_state, pair, quiet_layers}
+use Rattle.run_definitions.specs.Layers.{quiet_layers}
+use Rattle.run_safety.specs.WrittenRun.{address, material, node, opened_state, pair}
 use Rattle.run_safety.proofs.WrittenRun.{all_of, dev_key_is, net_key_is, others_none, quiet_safe}
 use Rattle.layer_definitions.specs.Lower.{lower_text, segment}
 use Rattle.run_safety.specs.Needed.{IsInAnyOrder, MayWork}

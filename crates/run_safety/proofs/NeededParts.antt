@@ -13,21 +13,22 @@ use Rattle.mesh_types.specs.declared.lines.Outcome.TheVariants as O
 use Rattle.mesh_types.specs.declared.report.End.TheVariants as F
 use Rattle.mesh_types.specs.declared.report.Opened.TheVariants as W
 use Rattle.run_definitions.specs.Answers.{answer_of}
-use Rattle.run_definitions.specs.Config.{changed, config_of}
+use Rattle.store_definitions.specs.Config.{changed, config_of}
 use Rattle.run_definitions.specs.Handling.{AreHandled}
 use Rattle.run_definitions.specs.History.{OfNothing, Told}
 use Rattle.run_definitions.specs.Jobs.{jobs_of}
 use Rattle.run_definitions.specs.Lines.{shows_ctl, shows_relay}
 use Rattle.run_definitions.specs.Order.{Does, Part, Step, ends, handles, phase, placed_from, stops, whole, writes}
-use Rattle.run_definitions.specs.Ranges.{IsInRange}
+use Rattle.store_definitions.specs.Ranges.{IsInRange}
 use Rattle.run_definitions.specs.Readings.{sees_nothing}
-use Rattle.run_definitions.specs.Record.{Life, Run, Shown, list_at, shown, shown_by}
+use Rattle.report_definitions.specs.Record.{Life, Run, Shown, list_at, shown, shown_by}
 use Rattle.run_definitions.specs.RunOf.{IsNumbered, IsSpentRight, Script, draws, no_record, past_at_end}
 use Rattle.run_definitions.specs.Stores.{stores}
 use Rattle.run_definitions.specs.Uses.{seals_of, uses}
 use Rattle.run_safety.specs.Needed.{Reuses, WorksOnAnything, WritesAnything}
 use Rattle.run_safety.specs.Rules.{LeavesBy, LifeBy, Rules, all_rules}
-use Rattle.run_safety.specs.WrittenRun.{material, node, opened_state, pair, quiet_layers}
+use Rattle.run_definitions.specs.Layers.{quiet_layers}
+use Rattle.run_safety.specs.WrittenRun.{material, node, opened_state, pair}
 use Rattle.run_safety.proofs.NeededDraws.{Clash, first_list, first_opens, mark, other_text, raw_entry, raw_event, raw_line, some_use}
 use Rattle.run_safety.proofs.NeededLayers.{own_pdu}
 use Rattle.run_safety.proofs.NeededNames.{nothing_drawn}

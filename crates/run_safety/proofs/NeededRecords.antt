@@ -1,22 +1,23 @@
 -- The record that shows that an entry is to see the records that were left: in the second life it sees those of
 -- provisioning, and accepts the message of the first life again.
-use Rattle.std.proofs.Common.{◌≡◌, lit<, List, [], ◌∷◌, ◌++◌, refl}
+use Rattle.std.proofs.Common.{None, ◌≡◌, lit<, List, [], ◌∷◌, ◌++◌, refl}
 use Rattle.std.proofs.lemmas.Bool.{true≢false}
 use Rattle.mesh_base.specs.IvState.{transmit_of}
-use Rattle.mesh_types.specs.declared.records.StoreRecord.{StoreRecord}
-use Rattle.mesh_types.specs.declared.records.StoreRecord.TheVariants as R
+use Rattle.record_types.specs.declared.records.StoreRecord.{StoreRecord}
+use Rattle.record_types.specs.declared.records.StoreRecord.TheVariants as R
 use Rattle.run_definitions.specs.Answers.{answer_of}
-use Rattle.run_definitions.specs.Config.{changed, config_of}
+use Rattle.store_definitions.specs.Config.{changed, config_of}
 use Rattle.run_definitions.specs.Handling.{Handles, past_of}
 use Rattle.run_definitions.specs.Jobs.{jobs_of}
-use Rattle.run_definitions.specs.Ranges.{IsInRange}
+use Rattle.store_definitions.specs.Ranges.{IsInRange}
 use Rattle.run_definitions.specs.Readings.{sees_pdu}
-use Rattle.run_definitions.specs.Record.{Run, Shown, shown}
+use Rattle.report_definitions.specs.Record.{Run, Shown, shown}
 use Rattle.run_definitions.specs.RunOf.{IsSpentRight, Opens, Script, no_record, opens, past_at_end}
 use Rattle.run_definitions.specs.Stores.{stores}
 use Rattle.run_safety.specs.Needed.{AreHandledOverAny, Repeats}
 use Rattle.run_safety.specs.Rules.{LeavesBy, LifeBy, Rules, all_rules}
-use Rattle.run_safety.specs.WrittenRun.{node, quiet_layers}
+use Rattle.run_definitions.specs.Layers.{quiet_layers}
+use Rattle.run_safety.specs.WrittenRun.{node}
 use Rattle.run_safety.proofs.NeededDraws.{first_list}
 use Rattle.run_safety.proofs.NeededNames.{at_end_range, control_lower, control_name, life, nothing_drawn, numbered, ordered, plan, reads, shows_nothing, told, twice}
 use Rattle.run_safety.proofs.WrittenRun.{all_of, quiet_safe}
@@ -26,7 +27,7 @@ any_records = record all_rules { are_handled = AreHandledOverAny }
 
 -- what both lives leave
 abbrev left : List StoreRecord
-left = first_list ++ R.Replay (control_name 5) ∷ []
+left = first_list ++ R.Replay (control_name 5) None ∷ []
 
 handled : Handles quiet_layers (past_of [] (told 5)) (told 5)
 unfolding changed answer_of stores jobs_of

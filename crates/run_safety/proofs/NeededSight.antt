@@ -2,19 +2,20 @@
 -- node reads any more, is seen in two lives, and accepted in both.
 use Rattle.std.proofs.Common.{◌≡◌, ℕ, lit<, Bool, true, false, cond, eqb, List, [], ◌∷◌, ◌++◌, refl, None}
 use Rattle.std.proofs.lemmas.Bool.{true≢false}
-use Rattle.mesh_types.specs.declared.records.StoreRecord.{StoreRecord}
-use Rattle.mesh_types.specs.declared.records.StoreRecord.TheVariants as R
+use Rattle.record_types.specs.declared.records.StoreRecord.{StoreRecord}
+use Rattle.record_types.specs.declared.records.StoreRecord.TheVariants as R
 use Rattle.run_definitions.specs.Answers.{answer_of}
-use Rattle.run_definitions.specs.Config.{changed, config_of}
-use Rattle.run_definitions.specs.Entries.{entry_of, greatest_with, unexpired}
+use Rattle.store_definitions.specs.Config.{changed, config_of}
+use Rattle.store_definitions.specs.Entries.{entry_of, greatest_with, unexpired}
 use Rattle.run_definitions.specs.Jobs.{jobs_of}
-use Rattle.run_definitions.specs.Ranges.{IsInRange}
-use Rattle.run_definitions.specs.Record.{Run, Shown, shown}
+use Rattle.store_definitions.specs.Ranges.{IsInRange}
+use Rattle.report_definitions.specs.Record.{Run, Shown, shown}
 use Rattle.run_definitions.specs.RunOf.{IsSpentRight, Script, no_record, past_at_end}
 use Rattle.run_definitions.specs.Stores.{stores}
 use Rattle.run_safety.specs.Needed.{AreHandledSo, HandlesButSight, Repeats}
 use Rattle.run_safety.specs.Rules.{LeavesBy, LifeBy, Rules, all_rules}
-use Rattle.run_safety.specs.WrittenRun.{node, pair, quiet_layers}
+use Rattle.run_definitions.specs.Layers.{quiet_layers}
+use Rattle.run_safety.specs.WrittenRun.{node, pair}
 use Rattle.run_safety.proofs.NeededDraws.{first_list, first_opens}
 use Rattle.run_safety.proofs.NeededNames.{at_end_range, control_name, life, nothing_drawn, numbered, ordered, plan, shows_nothing, told, twice}
 use Rattle.run_safety.proofs.WrittenRun.{all_of, quiet_safe}
@@ -27,7 +28,7 @@ unfolding changed answer_of stores jobs_of
 handled = (refl, record { answer = refl; jobs = refl }, tt)
 
 abbrev at_end : List StoreRecord
-at_end = first_list ++ R.Replay (control_name 3) ∷ []
+at_end = first_list ++ R.Replay (control_name 3) None ∷ []
 
 -- the message's entry is expired under 5
 expired_entry : (b : Bool) → None ≡ unexpired 5 (cond b (greatest_with None (control_name 3).pair) None)

@@ -10,35 +10,36 @@ use Rattle.mesh_types.specs.declared.answers.Answer.TheVariants as A
 use Rattle.mesh_types.specs.declared.events.Event.{Event}
 use Rattle.mesh_types.specs.declared.events.Event.TheVariants as E
 use Rattle.mesh_types.specs.declared.history.Entry.{Entry}
-use Rattle.mesh_types.specs.declared.records.StoreRecord.{StoreRecord}
-use Rattle.mesh_types.specs.declared.records.StoreRecord.TheVariants as R
+use Rattle.record_types.specs.declared.records.StoreRecord.{StoreRecord}
+use Rattle.record_types.specs.declared.records.StoreRecord.TheVariants as R
 use Rattle.mesh_types.specs.declared.report.End.TheVariants as F
 use Rattle.mesh_types.specs.declared.report.Opened.TheVariants as W
 use Rattle.run_definitions.specs.Answers.{answer_of}
-use Rattle.run_definitions.specs.Config.{changed, config_of}
+use Rattle.store_definitions.specs.Config.{changed, config_of}
 use Rattle.run_definitions.specs.Handling.{past_of}
 use Rattle.run_definitions.specs.History.{Told}
 use Rattle.run_definitions.specs.Jobs.{jobs_of}
 use Rattle.run_safety.specs.Rules.{LeavesBy, LifeBy, Rules, all_rules}
 use Rattle.run_definitions.specs.Order.{Does, IsOrdered, Part, ends, handles, phase, placed_from, stops, whole}
-use Rattle.run_definitions.specs.Ranges.{IsInRange}
-use Rattle.run_definitions.specs.Record.{Life, Run, Shown, list_at, shown, shown_by}
+use Rattle.store_definitions.specs.Ranges.{IsInRange}
+use Rattle.report_definitions.specs.Record.{Life, Run, Shown, list_at, shown, shown_by}
 use Rattle.run_definitions.specs.RunOf.{IsNumbered, IsSpentRight, Opens, Script, draws, no_record, opens, past_at_end}
 use Rattle.run_definitions.specs.Stores.{stores}
-use Rattle.run_safety.specs.WrittenRun.{material, net_key, node, opened_state, pair, quiet_layers}
+use Rattle.run_definitions.specs.Layers.{quiet_layers}
+use Rattle.run_safety.specs.WrittenRun.{material, net_key, node, opened_state, pair}
 use Rattle.run_safety.proofs.WrittenRun.{all_of, dev_key_is, net_key_is, others_none, others_placed, quiet_safe}
 use Rattle.layer_definitions.specs.Beacon.{BeaconSource, beacon_text}
 use Rattle.mesh_base.specs.declared.beacon.Beacon.{Beacon}
 use Rattle.mesh_base.specs.declared.iv_state.IvStep.TheVariants as I
 use Rattle.mesh_types.specs.declared.answers.KeyStep.TheVariants as S
-use Rattle.run_definitions.specs.Entries.{entry_of}
+use Rattle.store_definitions.specs.Entries.{entry_of}
 use Rattle.run_definitions.specs.History.{OfBeacon}
 use Rattle.run_safety.specs.Needed.{AreHandledSo, HandlesButStep, Repeats}
 use Rattle.run_definitions.specs.Readings.{IsBeacon, IsReading, sees_beacon, sees_pdu}
 use Rattle.run_safety.specs.WrittenRun.{key_heard}
 use Rattle.run_safety.proofs.NeededDraws.{first_list, first_opens, mark}
 use Rattle.run_safety.proofs.WrittenRun.{ivi, material_nid}
-use Rattle.run_definitions.specs.Entries.{greatest_with, unexpired}
+use Rattle.store_definitions.specs.Entries.{greatest_with, unexpired}
 use Rattle.run_safety.proofs.NeededNames.{control_entry, control_event, control_fields, control_insight, control_lower, control_name, has_pdu, in_widths, no_sends, nothing_drawn, twice}
 
 -- The beacons: one tells the IV Index 6 in progress, the other 6.
@@ -68,7 +69,7 @@ any_step = record all_rules { are_handled = AreHandledSo HandlesButStep }
 -- message, which is expired.
 
 abbrev replay : StoreRecord
-replay = R.Replay (control_name 4)
+replay = R.Replay (control_name 4) None
 
 abbrev begun : StoreRecord
 begun = R.Numbers 6 true mark 0 192
@@ -155,7 +156,7 @@ first_ranges = (
     (
       (lit≤ tt, lit≤ tt, lit≤ tt, net_key_is),
       (
-        (lit< tt, lit< tt, lit< tt),
+        (record { src = lit< tt; iv = lit< tt; seq = lit< tt }, tt),
         ((lit< tt, (λ e. lit< tt), record { seq = 0; word = refl; most = lit≤ tt; block = refl }, lit< tt, lit< tt), tt),
       ),
     ),
@@ -279,7 +280,7 @@ second_ranges = (
         (lit< tt, (λ e. lit< tt), record { seq = 0; word = refl; most = lit≤ tt; block = refl }, lit< tt, lit< tt),
         (
           (lit< tt, (λ e. lit< tt), record { seq = 0; word = refl; most = lit≤ tt; block = refl }, lit< tt, lit< tt),
-          ((lit< tt, lit< tt, lit< tt), tt),
+          ((record { src = lit< tt; iv = lit< tt; seq = lit< tt }, tt), tt),
         ),
       ),
     ),

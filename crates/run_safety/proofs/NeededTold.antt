@@ -2,13 +2,14 @@
 -- of the node's own go on under one pair.
 use Rattle.std.proofs.Common.{[], refl}
 use Rattle.std.proofs.lemmas.Bool.{true≢false}
-use Rattle.run_definitions.specs.Config.{changed, config_of}
-use Rattle.run_definitions.specs.Ranges.{IsInRange}
-use Rattle.run_definitions.specs.Record.{Shown, shown}
+use Rattle.store_definitions.specs.Config.{changed, config_of}
+use Rattle.store_definitions.specs.Ranges.{IsInRange}
+use Rattle.report_definitions.specs.Record.{Shown, shown}
 use Rattle.run_definitions.specs.RunOf.{IsSpentRight, no_record, past_at_end}
 use Rattle.run_safety.specs.Needed.{Reuses, TellsAnything}
 use Rattle.run_safety.specs.Rules.{LeavesBy, LifeBy, Rules, all_rules}
-use Rattle.run_safety.specs.WrittenRun.{pair, quiet_layers}
+use Rattle.run_definitions.specs.Layers.{quiet_layers}
+use Rattle.run_safety.specs.WrittenRun.{pair}
 use Rattle.run_safety.proofs.NeededDraws.{first_list, first_opens, plan}
 use Rattle.run_safety.proofs.NeededJobs.{clash, draws_none, life, numbered, ordered, run, script}
 use Rattle.run_safety.proofs.NeededNames.{nothing_drawn}

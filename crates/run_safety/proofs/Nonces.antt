@@ -12,9 +12,9 @@ use Rattle.mesh_base.specs.declared.pair.Pair.{Pair}
 use Rattle.mesh_types.specs.declared.events.Event.{Event}
 use Rattle.mesh_types.specs.declared.jobs.Job.{Job}
 use Rattle.mesh_types.specs.declared.lines.Outcome.{Outcome}
-use Rattle.run_definitions.specs.Config.{Config, is_element}
+use Rattle.store_definitions.specs.Config.{Config, is_element}
 use Rattle.run_definitions.specs.Lines.{Shows, shows_bcn, shows_ctl, shows_first, shows_late, shows_long, shows_msg, shows_relay, shows_rep, shows_seg, shows_sent, shows_sent_long, shows_spent}
-use Rattle.run_definitions.specs.Record.{Shown}
+use Rattle.report_definitions.specs.Record.{Shown}
 use Rattle.run_definitions.specs.Seals.{message_fields, own_fields, own_upper_fields}
 use Rattle.run_definitions.specs.Uses.{Use, network_use, nonce_source, seals_of}
 use Rattle.run_safety.proofs.Lists.{Apart}

@@ -6,12 +6,12 @@ use Rattle.std.proofs.lemmas.List.Elements.{recursion_from_All}
 use Rattle.mesh_base.specs.IvState.{transmit_of}
 use Rattle.mesh_base.specs.declared.iv_state.IvState.{IvState}
 use Rattle.mesh_base.specs.declared.pair.Pair.{Pair}
-use Rattle.mesh_types.specs.declared.records.StoreRecord.{StoreRecord}
-use Rattle.run_definitions.specs.Config.{Config, config_of}
+use Rattle.record_types.specs.declared.records.StoreRecord.{StoreRecord}
+use Rattle.store_definitions.specs.Config.{Config, config_of}
 use Rattle.run_definitions.specs.Layers.{Layers}
 use Rattle.run_definitions.specs.Order.{Step}
-use Rattle.run_definitions.specs.Pairs.{word}
-use Rattle.run_definitions.specs.Record.{Life, LifeOver, first_over, shown}
+use Rattle.mesh_base.specs.Pairs.{word}
+use Rattle.report_definitions.specs.Record.{Life, LifeOver, first_over, shown}
 use Rattle.run_definitions.specs.RunOf.{draws}
 use Rattle.run_safety.specs.Rules.{LifeBy, LivesBy, ReusesNoNonceByEnough, enough_rules}
 use Rattle.run_safety.specs.Safety.{AreSafe, all_draws}

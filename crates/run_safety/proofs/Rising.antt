@@ -1,15 +1,16 @@
 -- Records that only rise: none lowers the known IV Index or the mark, and none is an identity.
-use Rattle.std.proofs.Common.{eq-eqb, ◌≡◌, ℕ, ◌≤◌, Bool, true, false, cond, List, [], ◌∷◌, ◌++◌, refl, ap, ◌∙◌, arith, Option, Some, None}
+use Rattle.std.proofs.Common.{eq-eqb, eqb, ◌≡◌, ℕ, ◌≤◌, Bool, true, false, cond, List, [], ◌∷◌, ◌++◌, refl, ap, ◌∙◌, arith, Option, Some, None}
 use Rattle.std.specs.Bool.{⊤}
+use Rattle.std.specs.List.{fold}
 use Rattle.std.proofs.lemmas.Grind.{fold-append}
 use Rattle.mesh_base.specs.declared.pair.Name.{Name}
 use Rattle.mesh_base.specs.declared.pair.Pair.{Pair}
-use Rattle.mesh_types.specs.declared.records.StoreRecord.{StoreRecord}
-use Rattle.mesh_types.specs.declared.records.StoreRecord.TheVariants as R
-use Rattle.run_definitions.specs.Config.{Config, changed, config_of, no_config}
-use Rattle.run_definitions.specs.Entries.{greatest_with, kept_after, kept_of, unexpired}
-use Rattle.run_definitions.specs.Pairs.{is_expired, is_newer}
-use Rattle.run_safety.proofs.Pairs.{expired_below, expired_later, not_newer_left, not_newer_right, not_newer_itself}
+use Rattle.record_types.specs.declared.records.StoreRecord.{StoreRecord}
+use Rattle.record_types.specs.declared.records.StoreRecord.TheVariants as R
+use Rattle.store_definitions.specs.Config.{Config, changed, config_of, no_config}
+use Rattle.store_definitions.specs.Entries.{greatest_with, kept_after, kept_of, kept_with, names_in, unexpired}
+use Rattle.mesh_base.specs.Pairs.{is_expired, is_newer}
+use Rattle.mesh_base.proofs.Pairs.{expired_below, expired_later, not_newer_left, not_newer_right, not_newer_itself}
 
 pub config_push : (records : List StoreRecord) (r : StoreRecord) → config_of (records ++ r ∷ []) ≡ changed (config_of records) r
 config_push records r = fold-append changed no_config records (r ∷ [])
@@ -63,7 +64,7 @@ unfolding changed
 later_changed c (R.Identity unicast elements dev_key) h = absurd h
 later_changed c (R.Numbers current progress mark hours since) h = record { unicast = refl; elements = refl; current = h.0; mark = h.1 }
 later_changed c (R.Hour hours since) h = record { unicast = refl; elements = refl; current = omega arith; mark = omega arith }
-later_changed c (R.Replay name) h = later_same c
+later_changed c (R.Replay first second) h = later_same c
 later_changed c _ h = record { unicast = refl; elements = refl; current = omega arith; mark = omega arith }
 
 pub rise_later : {l m : List StoreRecord} → Rise l m → Later (config_of l) (config_of m)
@@ -92,9 +93,14 @@ blocked_pick : (n : Name) (c : ℕ) (b : Bool) (p q : Option Pair) → Blocked n
 blocked_pick n c true p q h k = h
 blocked_pick n c false p q h k = k
 
+-- names one after another
+blocked_names : (n : Name) (c : ℕ) (kept : Option Pair) (names : List Name) → Blocked n c kept → Blocked n c (fold (kept_with n.src.0) kept names)
+blocked_names n c kept [] h = h
+blocked_names n c kept (name ∷ names) h =
+    blocked_names n c (kept_with n.src.0 kept name) names (blocked_pick n c (eqb name.src.0 n.src.0) _ _ (blocked_with n c kept name.pair h) h)
+
 blocked_after : (n : Name) (c : ℕ) (kept : Option Pair) (r : StoreRecord) → Blocked n c kept → Blocked n c (kept_after n.src.0 kept r)
-blocked_after n c kept (R.Replay name) h = blocked_pick n c _ _ _ (blocked_with n c kept name.pair h) h
-blocked_after n c kept (R.Identity unicast elements dev_key) h = h
+blocked_after n c kept (R.Replay first second) h = blocked_names n c kept (names_in (R.Replay first second)) h
 blocked_after n c kept _ h = h
 
 pub blocked_rise : (n : Name) {l m : List StoreRecord} → Rise l m → IsBlocked n l → IsBlocked n m
@@ -109,7 +115,7 @@ blocked_by_itself n c None = by_kept (not_newer_itself n.pair)
 blocked_by_itself n c (Some q) = by_kept (not_newer_right q n.pair)
 
 -- an accepted name is blocked once its Replay record stands
-pub blocked_by_replay : (n : Name) (records : List StoreRecord) → IsBlocked n (records ++ R.Replay n ∷ [])
+pub blocked_by_replay : (n : Name) (records : List StoreRecord) → IsBlocked n (records ++ R.Replay n None ∷ [])
 blocked_by_replay n records = rw (kept_push, eq-eqb n.src.0 n.src.0 refl) (blocked_by_itself n _ (kept_of records n.src.0))
 
 blocked_unless : (n : Name) (c : ℕ) (p : Pair) → is_newer n.pair p ≡ false → (b : Bool) → is_expired c p ≡ b → Blocked n c (cond b None (Some p))

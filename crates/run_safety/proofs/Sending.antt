@@ -6,6 +6,7 @@ use Rattle.std.specs.List.{All, AllByRecursion, flat_map, list_any, range_with_l
 use Rattle.std.specs.Option.{option_map, option_map_or, option_to_list, unwrap_or}
 use Rattle.std.proofs.lemmas.List.Elements.{recursion_from_All, All-from_recursion, All-contains}
 use Rattle.mesh_base.specs.declared.address.Address.{Address}
+use Rattle.mesh_base.specs.declared.fields.NetFields.{NetFields}
 use Rattle.mesh_base.specs.declared.fields.NetMaterial.{NetMaterial}
 use Rattle.layer_definitions.specs.KeyRefresh.{own_beacon, transmit_material}
 use Rattle.layer_definitions.specs.Lower.{acknowledgment, last_segment, lower_text}
@@ -21,9 +22,9 @@ use Rattle.mesh_types.specs.declared.events.Event.TheVariants as E
 use Rattle.mesh_types.specs.declared.events.SendKey.{SendKey}
 use Rattle.mesh_types.specs.declared.jobs.Job.{Job}
 use Rattle.mesh_types.specs.declared.jobs.Job.TheVariants as J
-use Rattle.mesh_types.specs.declared.records.StoreRecord.{StoreRecord}
+use Rattle.record_types.specs.declared.records.StoreRecord.{StoreRecord}
 use Rattle.run_definitions.specs.Answers.{answer_of, config_before, is_before_cache, is_unicast, later, network_answer, pdu_answer, transport_answer, unless_reset}
-use Rattle.run_definitions.specs.Config.{Config, config_of, is_element}
+use Rattle.store_definitions.specs.Config.{Config, config_of, is_element}
 use Rattle.run_definitions.specs.Handling.{AreHandled, Handles, past_of, records_left}
 use Rattle.run_definitions.specs.History.{Insight, OfBeacon, OfNothing, OfPdu, Opening, Past, Reading, Told, now_of}
 use Rattle.run_definitions.specs.Jobs.{ack_asked, ack_job, ack_jobs, beacon_jobs, beacons_due, begin_jobs, block_asked, element_address, first_net, first_round_job, is_moved, is_refreshed, reply_ttl, jobs_of, message_jobs, pdu_jobs, raw_jobs, refresh_jobs, relay_jobs, segment_numbers, send_jobs, send_keys, sent_job, tick_jobs, under}
@@ -171,7 +172,7 @@ fine_beacons own c = fine_pick own (eqb c.beacon 1) _ _ (fine_map own c c.nets) 
 fit_fine : (own : Config) (past : Past) (job : Job) → AllByRecursion (HeardFits own) past.told → IsFitJob past job → Fine own job
 fit_fine own past (J.Relay material f) h k =
     let heard : HeardFits own k.told = All-contains (HeardFits own) past.told k.told (All-from_recursion (HeardFits own) past.told h) k.is_told in
-    rw k.src (heard k.reading k.low k.opening k.read k.passed)
+    rw (ap (λ (g : NetFields). g.src) k.fields) (heard k.reading k.low k.opening k.read k.passed)
 fit_fine own past (J.Segment material name ttl src dst seg_o seg_n tpdu first) h k = k
 fit_fine own past (J.Control material ttl src dst tpdu keep) h k = tt
 fit_fine own past (J.Message net material key ttl src dst payload keep) h k = tt
@@ -242,8 +243,10 @@ fine_due own c past ticks =
 fine_tick : (layers : Layers) → AreSafe layers → (own c : Config) (past : Past) (ticks : ℕ) → AllByRecursion (HeardFits own) past.told → AllFine own (tick_jobs layers past c ticks)
 fine_tick layers safe own c past ticks h =
     fine_append own _ _
+    (fine_append own _ _
     (fine_append own _ _ (fit_all own past _ h (safe.acks_due past c ticks)) (fit_all own past _ h (safe.segments_due past c ticks)))
-    (fine_due own c past ticks)
+    (fine_due own c past ticks))
+    (fit_all own past _ h (safe.published past c ticks))
 
 -- the node's own messages
 fine_sent : (own c : Config) (element : ℕ) (dst : Address) (ttl : ℕ) (keys : ℕ × UpperKey) → AllFine own (sent_job c element dst ttl keys)

@@ -14,10 +14,10 @@ use Rattle.mesh_types.specs.declared.jobs.Job.{Job}
 use Rattle.mesh_types.specs.declared.jobs.Job.TheVariants as J
 use Rattle.mesh_types.specs.declared.lines.Outcome.{Outcome}
 use Rattle.mesh_types.specs.declared.lines.Outcome.TheVariants as O
-use Rattle.run_definitions.specs.Config.{Config}
+use Rattle.store_definitions.specs.Config.{Config}
 use Rattle.run_definitions.specs.Lines.{Shows, shows_bcn, shows_ctl, shows_first, shows_late, shows_long, shows_msg, shows_relay, shows_rep, shows_seg, shows_sent, shows_sent_long, shows_spent, after_line, drawn_of, kept_events}
 use Rattle.run_definitions.specs.Order.{Placed, Task, Walks, follow, follows, handle, handles, is_outside, job_tasks, stops, write, write_tasks, writes}
-use Rattle.run_definitions.specs.Record.{Shown, shown_of}
+use Rattle.report_definitions.specs.Record.{Shown, shown_of}
 use Rattle.run_definitions.specs.RunOf.{draws}
 use Rattle.run_safety.proofs.Accepting.{some_is}
 use Rattle.run_safety.proofs.Lists.{Sub, kept_part, passed_part, every_append, sub_nothing}

@@ -24,25 +24,27 @@ use Rattle.mesh_types.specs.declared.events.Event.{Event}
 use Rattle.mesh_types.specs.declared.history.Entry.{Entry}
 use Rattle.mesh_types.specs.declared.jobs.Job.TheVariants as J
 use Rattle.mesh_types.specs.declared.lines.Outcome.TheVariants as O
-use Rattle.mesh_types.specs.declared.records.StoreRecord.{StoreRecord}
-use Rattle.mesh_types.specs.declared.records.StoreRecord.TheVariants as R
+use Rattle.record_types.specs.declared.records.StoreRecord.{StoreRecord}
+use Rattle.record_types.specs.declared.records.StoreRecord.TheVariants as R
 use Rattle.run_definitions.specs.Answers.{answer_of}
-use Rattle.run_definitions.specs.Config.{changed, config_of}
+use Rattle.store_definitions.specs.Config.{changed, config_of}
 use Rattle.run_definitions.specs.Handling.{AreHandled, Handles, past_of}
 use Rattle.run_definitions.specs.History.{Insight, OfNothing, OfPdu, Past, Told}
 use Rattle.run_definitions.specs.Jobs.{jobs_of}
 use Rattle.run_definitions.specs.Lines.{after_line, shows_first, shows_relay, shows_sent_long}
 use Rattle.run_definitions.specs.Order.{Does, IsOrdered, Part, Placed, Task, Walks, broken, follow, follows, handle, handles, of_bearer, placed_from, stops, write, writes}
-use Rattle.run_definitions.specs.Pairs.{word}
-use Rattle.run_definitions.specs.Ranges.{IsInRange, IsKey}
+use Rattle.mesh_base.specs.Pairs.{word}
+use Rattle.store_definitions.specs.Ranges.{IsInRange, IsKey}
 use Rattle.run_definitions.specs.Readings.{IsOpened, IsReading, Sees, sees_pdu, sees_nothing}
-use Rattle.run_definitions.specs.Record.{Shown, list_at, shown, shown_by}
-use Rattle.run_definitions.specs.RunOf.{IsDrawn, IsNumbered, IsSpentRight, Leaves, LifeOf, Opens, draws, no_record, opens, past_at_end, provisioned}
+use Rattle.report_definitions.specs.Record.{Shown, list_at, shown, shown_by}
+use Rattle.run_definitions.specs.RunOf.{IsDrawn, IsNumbered, IsSpentRight, Leaves, LifeOf, Opens, draws, no_record, opens, past_at_end}
+use Rattle.store_definitions.specs.Provisioning.{provisioned}
 use Rattle.run_safety.specs.Safety.{AreSafe}
 use Rattle.run_definitions.specs.Seals.{own_upper}
 use Rattle.run_definitions.specs.Stores.{stores}
 use Rattle.run_safety.proofs.Lists.{pairs_from_apart}
-use Rattle.run_safety.specs.WrittenRun.{IsWritten, address, asked, asked_event, asked_fields, asked_name, asked_upper, begin_event, dev_key, entries, key_heard, left, life, lines, material, net_key, node, pair, passing_event, passing_fields, plan, quiet_layers, said, said_event, said_segment, said_upper}
+use Rattle.run_definitions.specs.Layers.{quiet_layers}
+use Rattle.run_safety.specs.WrittenRun.{IsWritten, address, asked, asked_event, asked_fields, asked_name, asked_upper, begin_event, dev_key, entries, key_heard, left, life, lines, material, net_key, node, pair, passing_event, passing_fields, plan, said, said_event, said_segment, said_upper}
 
 abbrev asked_upper_fields : UpperFields
 asked_upper_fields = record { pair = pair 1; src = address 3; dst = address 0x1201; long_mic = false; label = None }
@@ -74,7 +76,8 @@ quiet_safe = record {
   segments_due = λ past c ticks. all_of _ [] tt;
   control_jobs = λ past c m. all_of _ [] tt;
   replies = λ past c m. all_of _ [] tt;
-  change = λ past m. tt;
+  published = λ past c ticks. all_of _ [] tt;
+  changes = λ past m. all_of _ [] tt;
 }
 
 -- What was read.
@@ -83,10 +86,10 @@ abbrev over : List StoreRecord
 over = provisioned node
 
 abbrev after_asked : List StoreRecord
-after_asked = over ++ R.Replay asked_name ∷ []
+after_asked = over ++ R.Replay asked_name None ∷ []
 
 abbrev asked_insight : Insight
-asked_insight = OfPdu (Some (record { fields = asked_fields; by = key_heard })) (Some (Access false 0 asked_upper)) (Some (record { key = U.Device dev_key; payload = asked }))
+asked_insight = OfPdu (Some (record { fields = asked_fields; by = key_heard })) (Some (Access false 0 asked_upper)) (Some (record { key = U.Device dev_key; label = None; payload = asked }))
 
 abbrev passing_insight : Insight
 passing_insight = OfPdu (Some (record { fields = passing_fields 2; by = key_heard })) None None
@@ -149,10 +152,11 @@ asked_lower : ReadsLower false (0 ∷ asked_upper) (Access false 0 asked_upper)
 unfolding lower_text
 asked_lower = record { kind = refl; fits = (lit< tt, λ e. refl, lit≤ tt, lit≤ tt); text = refl }
 
-asked_opening : IsOpened quiet_layers (past_of [] first_told) (record { fields = asked_fields; by = key_heard }) asked_name (Access false 0 asked_upper) (Some (record { key = U.Device dev_key; payload = asked }))
+asked_opening : IsOpened quiet_layers (past_of [] first_told) (record { fields = asked_fields; by = key_heard }) asked_name (Access false 0 asked_upper) (Some (record { key = U.Device dev_key; label = None; payload = asked }))
 unfolding changed
 asked_opening = (
   0,
+  refl,
   refl,
   record {
     key = U.Device dev_key;
@@ -292,7 +296,7 @@ left_ranges = (
     (
       (lit≤ tt, lit≤ tt, lit≤ tt, net_key_is),
       (
-        (lit< tt, lit< tt, lit< tt),
+        (record { src = lit< tt; iv = lit< tt; seq = lit< tt }, tt),
         ((lit< tt, (λ e. lit< tt), record { seq = 256; word = refl; most = lit≤ tt; block = refl }, lit< tt, lit< tt), tt),
       ),
     ),

@@ -4,22 +4,23 @@ use Rattle.std.specs.Prelude.{◌≡◌, ◌≢◌, ℕ, ◌^◌, ◌<◌, ◌�
 use Rattle.std.specs.List.{flat_map}
 use Rattle.mesh_types.specs.declared.answers.Answer.{Answer}
 use Rattle.mesh_types.specs.declared.answers.Answer.TheVariants as A
-use Rattle.mesh_types.specs.declared.records.StoreRecord.{StoreRecord}
+use Rattle.record_types.specs.declared.records.StoreRecord.{StoreRecord}
 use Rattle.run_definitions.specs.Answers.{answer_of}
-use Rattle.run_definitions.specs.Config.{Config, config_of}
-use Rattle.run_definitions.specs.Entries.{entry_of}
+use Rattle.store_definitions.specs.Config.{Config, config_of}
+use Rattle.store_definitions.specs.Entries.{entry_of}
 use Rattle.run_definitions.specs.Handling.{Handles, past_of}
 use Rattle.run_definitions.specs.History.{Past, Told}
 use Rattle.run_definitions.specs.Jobs.{jobs_of}
 use Rattle.run_definitions.specs.Layers.{Layers}
 use Rattle.run_definitions.specs.Order.{Part, PartsOf, Step, is_cut, phases_of, placed_from}
-use Rattle.run_definitions.specs.Pairs.{word}
+use Rattle.mesh_base.specs.Pairs.{word}
 use Rattle.run_definitions.specs.Readings.{Sees}
-use Rattle.run_definitions.specs.Record.{Life, Run, list_at, shown, shown_by}
+use Rattle.report_definitions.specs.Record.{Life, Run, list_at, shown, shown_by}
 use Rattle.run_definitions.specs.RunOf.{RunOf, Script, draws}
 use Rattle.run_safety.specs.Rules.{Rules, RunBy, all_rules}
 use Rattle.run_safety.specs.Safety.{AreSafe}
-use Rattle.run_definitions.specs.Stores.{filled, records_after}
+use Rattle.run_definitions.specs.Stores.{records_after}
+use Rattle.store_definitions.specs.Numbers.{filled}
 use Rattle.run_definitions.specs.Uses.{AtMostOnce, NoReuse, delivered, uses}
 
 -- there is a record by these rules that seals two plaintexts under one key and nonce, or delivers a message twice

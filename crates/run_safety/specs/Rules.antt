@@ -2,22 +2,25 @@
 use Rattle.std.specs.Prelude.{◌≡◌, ◌≢◌, ℕ, ◌+◌, ◌*◌, ◌^◌, ◌<◌, ◌≤◌, false, true, List, [], ◌∷◌, ◌++◌, map, take, All, AllPairs, ⊤}
 use Rattle.mesh_base.specs.IvState.{transmit_of}
 use Rattle.mesh_types.specs.declared.events.Event.{Event}
-use Rattle.mesh_types.specs.declared.records.StoreRecord.{StoreRecord}
-use Rattle.mesh_types.specs.declared.records.StoreRecord.TheVariants as R
+use Rattle.record_types.specs.declared.records.StoreRecord.{StoreRecord}
+use Rattle.record_types.specs.declared.records.StoreRecord.TheVariants as R
 use Rattle.mesh_types.specs.declared.report.End.{End}
 use Rattle.mesh_types.specs.declared.report.Opened.{Opened}
 use Rattle.run_definitions.specs.Answers.{answer_of}
-use Rattle.run_definitions.specs.Config.{Config, config_of}
-use Rattle.run_definitions.specs.Entries.{entry_of}
+use Rattle.store_definitions.specs.Config.{Config, config_of}
+use Rattle.store_definitions.specs.Entries.{entry_of}
 use Rattle.run_definitions.specs.Handling.{AreHandled}
 use Rattle.run_definitions.specs.History.{Insight, Past, Told}
 use Rattle.run_definitions.specs.Layers.{Layers}
 use Rattle.run_definitions.specs.Order.{IsOrdered, Step}
-use Rattle.run_definitions.specs.Pairs.{word}
-use Rattle.run_definitions.specs.Ranges.{IsInRange}
-use Rattle.run_definitions.specs.Record.{Life, LifeOver, Run, first_over, list_at, shown}
-use Rattle.run_definitions.specs.RunOf.{IsAlike, IsDrawn, IsIdle, IsNumbered, IsSpentRight, Opens, Outlasts, Provisioning, RunOf, Script, draws, is_on, past_at_end, provisioned}
-use Rattle.run_definitions.specs.Stores.{fill_of, stores}
+use Rattle.mesh_base.specs.Pairs.{word}
+use Rattle.store_definitions.specs.Ranges.{IsInRange}
+use Rattle.report_definitions.specs.Record.{Life, LifeOver, Run, first_over, list_at, shown}
+use Rattle.run_definitions.specs.RunOf.{IsDrawn, IsIdle, IsNumbered, IsSpentRight, Opens, Outlasts, RunOf, Script, draws, is_on, past_at_end}
+use Rattle.store_definitions.specs.Provisioning.{Provisioning, provisioned}
+use Rattle.store_definitions.specs.Alike.{IsAlike}
+use Rattle.run_definitions.specs.Stores.{stores}
+use Rattle.store_definitions.specs.Numbers.{fill_of}
 use Rattle.run_definitions.specs.Uses.{AtMostOnce, NoReuse, delivered, uses}
 use Rattle.run_safety.specs.Safety.{AreSafe}
 

@@ -23,34 +23,17 @@ use Rattle.mesh_types.specs.declared.history.Sent.{Sent}
 use Rattle.mesh_types.specs.declared.jobs.Job.{Job}
 use Rattle.mesh_types.specs.declared.jobs.Job.TheVariants as J
 use Rattle.mesh_types.specs.declared.lines.Outcome.TheVariants as O
-use Rattle.mesh_types.specs.declared.records.StoreRecord.{StoreRecord}
-use Rattle.mesh_types.specs.declared.records.StoreRecord.TheVariants as R
+use Rattle.record_types.specs.declared.records.StoreRecord.{StoreRecord}
+use Rattle.record_types.specs.declared.records.StoreRecord.TheVariants as R
 use Rattle.mesh_types.specs.declared.report.End.TheVariants as F
 use Rattle.mesh_types.specs.declared.report.Opened.TheVariants as W
-use Rattle.run_definitions.specs.Layers.{Layers}
+use Rattle.run_definitions.specs.Layers.{quiet_layers}
 use Rattle.run_definitions.specs.Order.{Step, phase}
-use Rattle.run_definitions.specs.Record.{Life, Run}
-use Rattle.run_definitions.specs.RunOf.{Provisioning, RunOf, Script, provisioned}
+use Rattle.report_definitions.specs.Record.{Life, Run}
+use Rattle.run_definitions.specs.RunOf.{RunOf, Script}
+use Rattle.store_definitions.specs.Provisioning.{Provisioning, provisioned}
 use Rattle.run_safety.specs.Safety.{AreSafe}
 use Rattle.run_definitions.specs.Seals.{own_fields}
-
--- layers that have nothing to say
-abbrev pub quiet_layers : Layers
-quiet_layers = record {
-  in_progress = λ past. [];
-  conflicts = λ past n r low. false;
-  missing = λ past n low. 0;
-  whole = λ past n low. [];
-  acks_due = λ past c ticks. [];
-  unacknowledged = λ past. 0;
-  segments_due = λ past c ticks. [];
-  friend_keys = λ past. [];
-  is_befriended = λ past a. false;
-  is_noted = λ past lpn fsn. false;
-  control_jobs = λ past c m. [];
-  change = λ past m. None;
-  replies = λ past c m. [];
-}
 
 abbrev pub address : ℕ → Address
 address n = record { 0 = n }
@@ -150,7 +133,7 @@ life = record { opened = W.On opened_state (5 * 2 ^ 25); entries = entries; refi
 
 -- what it leaves: the records of provisioning, the name of the message, and the numbers reserved
 abbrev pub left : List StoreRecord
-left = provisioned node ++ R.Replay asked_name ∷ R.Numbers 5 false (5 * 2 ^ 25 + 256) 0 192 ∷ []
+left = provisioned node ++ R.Replay asked_name None ∷ R.Numbers 5 false (5 * 2 ^ 25 + 256) 0 192 ∷ []
 
 abbrev pub plan : List Step
 plan = phase ((asked_event ∷ passing_event ∷ said_event ∷ []) ∷ []) ∷ []

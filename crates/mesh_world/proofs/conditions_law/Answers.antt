@@ -18,18 +18,18 @@ pub returns-clause-accept_above : goal.returns-clause-accept_above
 returns-clause-accept_above c = (((inl refl, tt), (refl, tt)), λ g. g.pending_new 0 message (lit< tt) refl)
 
 pub returns-clause-accept_read : goal.returns-clause-accept_read
-returns-clause-accept_read c = (((inl refl, tt), (refl, ((lit≤ tt, lit≤ tt), (lit< tt, tt)))), λ g. g.pending_new 0 message (lit< tt) refl)
+returns-clause-accept_read c = (((inl refl, tt), (refl, ((lit≤ tt, lit≤ tt), (refl, tt)))), λ g. g.pending_new 0 message (lit< tt) refl)
 
 pub returns-clause-expire : goal.returns-clause-expire
 returns-clause-expire c =
-    (((inl refl, tt), (refl, tt)), λ g. elim (g.delivered_spent 0 message (lit< tt)) [ inl expired ↦ omega arith | inr none ↦ elim none [ ] ])
+    (((inl refl, tt), (refl, tt)), λ g. elim (g.delivered_spent 0 message (lit< tt)) [ inl expired ↦ cc | inr none ↦ elim none [ ] ])
 
 pub returns-clause-deliver : goal.returns-clause-deliver
 returns-clause-deliver c = (((inl refl, tt), (refl, tt)), λ g. g.delivered_once 0 1 message (lit< tt) (lit< tt) refl)
 
 pub returns-clause-reserve_current : goal.returns-clause-reserve_current
 returns-clause-reserve_current c =
-    (((inl refl, tt), (refl, ((lit≤ tt, lit≤ tt), (lit< tt, tt)))), λ g. elim (g.delivered_spent 0 message (lit< tt)) [ inl expired ↦ omega arith | inr none ↦ elim none [ ] ])
+    (((inl refl, tt), (refl, ((lit≤ tt, lit≤ tt), (refl, tt)))), λ g. elim (g.delivered_spent 0 message (lit< tt)) [ inl expired ↦ cc | inr none ↦ elim none [ ] ])
 
 pub returns-clause-cut_kept : goal.returns-clause-cut_kept
 returns-clause-cut_kept c =

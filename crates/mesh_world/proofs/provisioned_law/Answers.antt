@@ -23,7 +23,7 @@ returns-clause-steps c =
             ((0, lit< tt, refl), All-nil of_network, (network_fields, refl, refl, refl)),
             (
               ((0, lit< tt, refl), All-cons of_upper network_seal [] (λ e. other_layer e.0) (All-nil of_upper), (Device [], upper_fields, refl, refl)),
-              ((inl refl, tt), (refl, ((lit≤ tt, lit≤ tt), (lit< tt, ((lit≤ tt, lit≤ tt), (lit≤ tt, (lit≤ tt, tt))))))),
+              ((inl refl, tt), (refl, ((lit≤ tt, lit≤ tt), (refl, ((lit≤ tt, lit≤ tt), (lit≤ tt, (lit≤ tt, tt))))))),
             ),
           ),
         ),

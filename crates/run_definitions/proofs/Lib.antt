@@ -1,2 +1,0 @@
-pub mod WorkedReports
-pub mod Texts

@@ -1,5 +1,0 @@
-use Rattle.run_definitions.proofs.WorkedReports as texts
-use Rattle.run_definitions.proofs.laws.worked_reports.Goals as goal
-
-pub returns : goal.returns
-returns c = record { reports = texts.worked_reports }

@@ -1,0 +1,10 @@
+pub mod Words
+pub mod Digits
+pub mod Forms
+pub mod Lives
+pub mod Lines
+pub mod Kinds
+pub mod Reading
+pub mod Ranges
+pub mod Events
+pub mod Phases

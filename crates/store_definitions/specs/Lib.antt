@@ -1,0 +1,9 @@
+pub mod Config
+pub mod Entries
+pub mod Ranges
+pub mod Recovered
+pub mod Numbers
+pub mod Provisioning
+pub mod Alike
+pub mod Following
+pub mod Node
