@@ -1,0 +1,6 @@
+pub mod Params
+pub mod Keys
+pub mod Models
+pub mod Features
+pub mod Publishing
+pub mod Answers

@@ -1,0 +1,58 @@
+//! Own messages of which segments are sent (Mesh Profile 1.0.1, section 3.5.3.2).
+#![tactic(auto)]
+
+use mesh_base::address::Address;
+use mesh_base::octets::Octets;
+use mesh_base::pair::Name;
+use mesh_base::table::Table;
+
+/// An own access message that is sent in segments.
+#[derive(Default, Drop)]
+pub struct Outgoing {
+    /// Its name: SRC with its SeqAuth.
+    pub name: Name,
+    /// DST.
+    pub dst: Address,
+    /// TTL, below 128.
+    pub ttl: u8,
+    /// The index of the network key, 12 bits.
+    pub net: u16,
+    /// Whether an application key sealed it; else a device key.
+    pub akf: bool,
+    /// AID, 6 bits; 0 with a device key.
+    pub aid: u8,
+    /// The upper transport PDU, 5 to 384 octets.
+    pub upper: Octets<384>,
+}
+
+/// Pieces of a message by their SegO, in ascending order.
+pub type PieceList = Table<u8, 32>;
+
+/// An own message with what is known of its segments.
+#[derive(Default, Drop)]
+pub struct Sending {
+    /// The message.
+    pub message: Outgoing,
+    /// SegO of each piece that isn't acknowledged.
+    pub left: PieceList,
+    /// How many rounds of its segments were sent.
+    pub rounds: u8,
+    /// When the next round is due, in ticks of 10 ms.
+    pub due: u64,
+}
+
+/// What an acknowledgment does.
+#[derive(Clone, Copy, Debug, PartialEq, Eq)]
+pub enum Acked {
+    /// It concerns no message that is held.
+    Stranger,
+    /// Pieces are left that aren't acknowledged.
+    Part,
+    /// Every piece is acknowledged, and the message isn't held any more.
+    Whole,
+    /// The receiver cancelled the message, which isn't held any more.
+    Cancelled,
+}
+
+/// Segments that are due: the name of a message, and a SegO; at most 32 of each of 4 messages.
+pub type DueList = Table<(Name, u8), 128>;
