@@ -1,6 +1,6 @@
 -- What a power cut leaves over several calls in a row: it begins, goes on, joins and weakens.
 use Rattle.std.proofs.Common.{◌⊎◌, ℕ, List, inl, inr, ⊎_elim, arith}
-use Rattle.flash_model.specs.Chip.{Chip, Elapses, LeavesOnly}
+use Rattle.flash_model.specs.Chip.{Chip, Elapses, LeavesOnly, Stays}
 
 -- what only_now says of a flash
 abbrev pub IsOnlyNow : Chip → Type 0
@@ -21,6 +21,10 @@ leaves_more old mid new allowed P so call all = record {
 -- the first call
 pub leaves_first : (old new : Chip) (allowed P : List ℕ → Type 0) → IsOnlyNow old → ((c : List ℕ) → old.images c → P c) → Elapses old new allowed → ((c : List ℕ) → allowed c → P c) → LeavesOnly old new P
 leaves_first old new allowed P only now call all = leaves_more old old new allowed P (leaves_none old P only now) call all
+
+-- calls that leave the content
+pub leaves_stays : (old new : Chip) (P : List ℕ → Type 0) → IsOnlyNow old → ((c : List ℕ) → old.images c → P c) → Stays old new → LeavesOnly old new P
+leaves_stays old new P only now stays = leaves_first old new old.images P only now stays.time now
 
 -- one run after another
 pub leaves_join : (old mid new : Chip) (P Q : List ℕ → Type 0) → LeavesOnly old mid P → LeavesOnly mid new Q → LeavesOnly old new (λ c. P c ⊎ Q c)

@@ -1,7 +1,7 @@
 -- Several calls that leave the content, and the identity of a flash, over all of them.
-use Rattle.std.proofs.Common.{◌≡◌, ◌⊎◌, ℕ, ◌≤◌, List, refl, ◌∙◌, inl, inr, ⊎_elim, arith}
-use Rattle.std.specs.Prelude.{IsTrue}
-use Rattle.flash_model.specs.Chip.{Chip, Elapses, Keeps, Stays}
+use Rattle.std.proofs.Common.{◌≡◌, ℕ, ◌+◌, ◌≤◌, refl, ◌∙◌, inl, inr, ⊎_elim, arith}
+use Rattle.flash_model.specs.Chip.{Chip, Keeps, Stays}
+use Rattle.flash_model.specs.Arming.{Begins, BeginsAtMost}
 
 pub keeps_none : (chip : Chip) → Keeps chip chip
 keeps_none chip = record { honest = refl; steady = refl; setting = refl; later = omega arith; sure = λ h. (h, refl) }
@@ -35,3 +35,13 @@ stays_more a b c first second = record {
     keeps = λ t d le since. second.time.keeps t d (omega (arith, first.time.later)) (first.time.keeps t d le since);
   };
 }
+
+-- program and erase calls, counted over several calls
+pub begins_none : (chip : Chip) → chip.changes ≤ 4294967295 → Begins 0 chip chip
+begins_none chip few = omega (arith, few)
+
+pub begins_more : (m n k : ℕ) (a b c : Chip) → k ≡ m + n → Begins m a b → Begins n b c → Begins k a c
+begins_more m n k a b c is first second = omega (arith, is, first, second)
+
+pub at_most_more : (m n k : ℕ) (a b c : Chip) → m + n ≤ k → BeginsAtMost m a b → BeginsAtMost n b c → BeginsAtMost k a c
+at_most_more m n k a b c is first second = omega (arith, is, first, second)

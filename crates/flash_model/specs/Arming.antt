@@ -1,7 +1,15 @@
 -- How a steady flash fails: at the call that an arm tears, and at each call from then on until the power cycle.
-use Rattle.std.specs.Prelude.{◌≡◌, ◌⊎◌, ℕ, ◌+◌, ◌-◌, ◌<◌, min, List, Bool, true, false, ◌==◌, nat_lt, Option, Some, None, Result, IsOk, IsErr, OnOk, IsTrue}
+use Rattle.std.specs.Prelude.{◌≡◌, ◌⊎◌, ℕ, ◌+◌, ◌-◌, ◌<◌, ◌≤◌, min, List, Bool, true, false, ◌==◌, nat_lt, Option, Some, None, Result, IsOk, IsErr, IsTrue}
 use Rattle.flash_model.specs.Octets.{IsMixed}
 use Rattle.flash_model.specs.Chip.{Chip, Arm}
+
+-- so many program and erase calls were begun between these two moments
+abbrev pub Begins : ℕ → Chip → Chip → Type 0
+Begins n old new = new.changes ≡ min (old.changes + n) 4294967295
+
+-- at most so many were
+abbrev pub BeginsAtMost : ℕ → Chip → Chip → Type 0
+BeginsAtMost n old new = new.changes ≤ old.changes + n
 
 -- it has failed since the last power cycle
 abbrev pub is_cut : Chip → Bool
@@ -26,9 +34,8 @@ module _ {T E : Type 0} where
   -- a program or erase call of a steady flash
   pub record ObeysArm (change : List ℕ → List ℕ) (old new : Chip) (result : Result T E) : Type 0 where
     pub course : Follows (is_cut old) (tearing old) change old.now new.now result
-    pub counted : new.changes ≡ min (old.changes + 1) 4294967295
+    pub counted : Begins 1 old new
     pub nearer : new.left ≡ old.left - 1
-    pub no_fault : OnOk result (new.faults ≡ old.faults)
 
   -- a read of a steady flash: it fails exactly after the cut
   pub record ObeysCut (old new : Chip) (result : Result T E) : Type 0 where
@@ -36,7 +43,6 @@ module _ {T E : Type 0} where
     pub whole : is_cut old ≡ false → IsOk result
     pub changes : new.changes ≡ old.changes
     pub left : new.left ≡ old.left
-    pub no_fault : OnOk result (new.faults ≡ old.faults)
 
 -- there is an arm, and its torn call was begun
 abbrev pub IsReached : Option Arm → ℕ → Type 0

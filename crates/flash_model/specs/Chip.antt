@@ -35,6 +35,8 @@ pub record Chip : Type 1 where
   pub changes : ℕ
   -- how many of them still come before the torn one
   pub left : ℕ
+  -- read calls begun since the last power cycle, at most ffffffff
+  pub reads : ℕ
 
 -- what a cut may leave within a call that is to change the content so
 abbrev pub Cut : (List ℕ → List ℕ) → (List ℕ → Type 0) → List ℕ → Type 0

@@ -18,8 +18,8 @@ left_of None = 0
 left_of (Some arm) = arm.left
 
 -- its one image is what it holds
-abbrev pub mem_chip : Past → List ℕ → ℕ → Option Armed → Chip
-mem_chip past octets changes arm = record {
+abbrev pub mem_chip : Past → List ℕ → ℕ → ℕ → Option Armed → Chip
+mem_chip past octets changes reads arm = record {
   now = octets;
   images = λ c. c ≡ octets;
   moment = length past.contents;
@@ -31,6 +31,7 @@ mem_chip past octets changes arm = record {
   setting = record { faults = past.cycled; arm = option_map arm_of arm };
   changes = changes;
   left = left_of arm;
+  reads = reads;
 }
 
 had_drop : (t : ℕ) (past : List (List ℕ)) (c : List ℕ) → HadBeen (drop t past) c → HadBeen past c
@@ -64,7 +65,7 @@ reached (Some arm) changes is = either _ _ is
         by_test false e h = inr (eqb-true b 4294967295 h)
 
 -- it has failed since the last power cycle only by an arm
-pub explained_by : (past : Past) (changes : ℕ) (arm : Option Armed) (octets : List ℕ) (failed : Bool)
-    → (failed ≡ false → past.faults ≡ past.cycled) → (failed ≡ true → (past.cycled < past.faults) × (is_reached_by arm changes ≡ true)) → IsExplained (mem_chip past octets changes arm)
-explained_by past changes arm octets false whole cut steady more = absurd (omega (arith, whole refl))
-explained_by past changes arm octets true whole cut steady more = reached arm changes (cut refl).1
+pub explained_by : (past : Past) (changes reads : ℕ) (arm : Option Armed) (octets : List ℕ) (failed : Bool)
+    → (failed ≡ false → past.faults ≡ past.cycled) → (failed ≡ true → (past.cycled < past.faults) × (is_reached_by arm changes ≡ true)) → IsExplained (mem_chip past octets changes reads arm)
+explained_by past changes reads arm octets false whole cut steady more = absurd (omega (arith, whole refl))
+explained_by past changes reads arm octets true whole cut steady more = reached arm changes (cut refl).1

@@ -4,11 +4,13 @@
 // Tearing: power that fails within such a call leaves each bit of the range as it was or as it was to be. What it left is
 // stable: it reads the same until the next program or erase.
 // Durability: what a call that returned Ok wrote is there in every image from then on.
+// Counting: a flash counts its faults, and since the last power cycle its program and erase calls, and its read calls. An Ok
+// leaves the count of faults, so no fault is swallowed.
 // So a caller that writes a record with its gate still ff, and clears the gate in a call of its own, finds the record whole
 // or its gate not 00, wherever power failed.
 //
 // That a chip is such a flash is the premise `honest`; a flash in memory is proved to be one.
-ghost use Rattle.std.specs.Prelude.{◌≡◌, ℕ, ◌+◌, ◌*◌, ◌%◌, ◌<◌, ◌≤◌, List, length, false, slice_range, IsTrue, IsOk, OnOk, OnErr, None, Some};
+ghost use Rattle.std.specs.Prelude.{◌≡◌, ℕ, ◌+◌, ◌*◌, ◌%◌, ◌<◌, ◌≤◌, List, length, min, false, slice_range, IsTrue, IsOk, OnOk, OnErr, None, Some};
 ghost use Rattle.flash_model.specs.Octets.{IsContent, programmed, erased};
 ghost use Rattle.flash_model.specs.Chip.{Chip, Elapses, IsCut, IsDone, IsFresh, Keeps, KeepsCount, Stays};
 ghost use Rattle.flash_model.specs.Arming.{IsExplained, ObeysArm, ObeysCut};
@@ -41,9 +43,11 @@ pub trait Flash {
         ensures stays { IsTrue (chip self.old).honest → Stays (chip self.old) (chip self.new) }
 
         // of every flash, honest or not
+        ensures reads { (chip self.new).reads ≡ min ((chip self.old).reads + 1) 4294967295 }
+        ensures no_fault { OnOk result ((chip self.new).faults ≡ (chip self.old).faults) }
         ensures cause { OnErr result ((chip self.old).faults < (chip self.new).faults) }
         ensures sure { IsTrue (chip self.old).sure → IsOk result }
-        ensures same { Keeps (chip self.old) (chip self.new) }
+        ensures frame { Keeps (chip self.old) (chip self.new) }
         ensures by_arm { IsTrue (chip self.old).steady → ObeysCut (chip self.old) (chip self.new) result };
 
     /// Programs octets from offset `at` on: each becomes old AND new. The range has at least one octet and lies in one sector.
@@ -56,9 +60,11 @@ pub trait Flash {
         ensures any_moment { IsTrue (chip self.old).honest → IsCut (programmed at bytes.now) (chip self.old) (chip self.new) }
 
         // of every flash, honest or not
+        ensures reads { (chip self.new).reads ≡ (chip self.old).reads }
+        ensures no_fault { OnOk result ((chip self.new).faults ≡ (chip self.old).faults) }
         ensures cause { OnErr result ((chip self.old).faults < (chip self.new).faults) }
         ensures sure { IsTrue (chip self.old).sure → IsOk result }
-        ensures same { Keeps (chip self.old) (chip self.new) }
+        ensures frame { Keeps (chip self.old) (chip self.new) }
         ensures by_arm { IsTrue (chip self.old).steady → ObeysArm (programmed at bytes.now) (chip self.old) (chip self.new) result };
 
     /// Erases a sector, 0 to 15: each of its octets becomes ff.
@@ -69,9 +75,11 @@ pub trait Flash {
         ensures any_moment { IsTrue (chip self.old).honest → IsCut (erased sector) (chip self.old) (chip self.new) }
 
         // of every flash, honest or not
+        ensures reads { (chip self.new).reads ≡ (chip self.old).reads }
+        ensures no_fault { OnOk result ((chip self.new).faults ≡ (chip self.old).faults) }
         ensures cause { OnErr result ((chip self.old).faults < (chip self.new).faults) }
         ensures sure { IsTrue (chip self.old).sure → IsOk result }
-        ensures same { Keeps (chip self.old) (chip self.new) }
+        ensures frame { Keeps (chip self.old) (chip self.new) }
         ensures by_arm { IsTrue (chip self.old).steady → ObeysArm (erased sector) (chip self.old) (chip self.new) result };
 
     // What is read of an honest flash is one of its images.
@@ -82,6 +90,9 @@ pub trait Flash {
 
     // This moment is one of those since an earlier one.
     ghost counts_now: { (f : Self) (t : ℕ) (c : List ℕ) → t ≤ (chip f).moment → (chip f).images c → (chip f).since t c };
+
+    // No more than ffffffff program and erase calls are counted.
+    ghost counted: { (f : Self) → (chip f).changes ≤ 4294967295 };
 
     // Since this moment there is no other.
     ghost only_now: { (f : Self) (c : List ℕ) → (chip f).since (chip f).moment c → (chip f).images c };
@@ -98,7 +109,8 @@ pub trait Bench: Flash + Send + Drop {
         ensures not_sure { (Self.chip self.new).sure ≡ false }
         ensures stays { IsTrue (Self.chip self.old).honest → Stays (Self.chip self.old) (Self.chip self.new) }
         ensures changes { (Self.chip self.new).changes ≡ (Self.chip self.old).changes }
-        ensures same { KeepsCount (Self.chip self.old) (Self.chip self.new) };
+        ensures reads { (Self.chip self.new).reads ≡ (Self.chip self.old).reads }
+        ensures frame { KeepsCount (Self.chip self.old) (Self.chip self.new) };
 
     /// Cuts power and gives it again. What is then read is one of the images from before, and the arm is gone.
     fn power_cycle(&mut self)
@@ -107,8 +119,9 @@ pub trait Bench: Flash + Send + Drop {
         ensures any_moment { IsTrue (Self.chip self.old).honest → Elapses (Self.chip self.old) (Self.chip self.new) (Self.chip self.old).images }
         ensures setting { (Self.chip self.new).setting ≡ record { faults = (Self.chip self.old).faults; arm = None } }
         ensures changes { (Self.chip self.new).changes ≡ 0 }
+        ensures reads { (Self.chip self.new).reads ≡ 0 }
         ensures sure { IsTrue (Self.chip self.old).steady → IsTrue (Self.chip self.new).sure }
-        ensures same { KeepsCount (Self.chip self.old) (Self.chip self.new) };
+        ensures frame { KeepsCount (Self.chip self.old) (Self.chip self.new) };
 
     /// How many program and erase calls were begun since the last power cycle. Once it is ffffffff it grows no more.
     fn changes(&self) -> u32

@@ -1,5 +1,5 @@
 // A flash in memory. Each call is done at once, so its one image is what it holds; an arm tears a call in the middle.
-ghost use Rattle.std.specs.Prelude.{◌≡◌, ℕ, ◌+◌, ◌<◌, List, min, true, false, IfOk, IsTrue, replicate, refl};
+ghost use Rattle.std.specs.Prelude.{◌≡◌, ℕ, ◌+◌, ◌<◌, ◌≤◌, List, min, true, false, IfOk, IsTrue, replicate, refl};
 ghost use Rattle.std.proofs.Common.{inl};
 ghost use Rattle.flash_model.specs.Octets.{IsContent};
 ghost use Rattle.flash_model.specs.Chip.{IsFresh};
@@ -19,6 +19,7 @@ pub struct MemFlash {
     octets: Vec<u8>,
     past: Recorder,
     changes: u32,
+    reads: u32,
     arm: Option<Armed>,
     failed: bool,
     ghost content: { IsContent octets.items },
@@ -26,6 +27,7 @@ pub struct MemFlash {
     ghost whole: { failed ≡ false → past.faults ≡ past.cycled },
     ghost cut: { failed ≡ true → (past.cycled < past.faults) × (is_reached_by arm changes ≡ true) },
     ghost ahead: { failed ≡ false → is_ahead arm changes ≡ true },
+    ghost few: { changes ≤ 4294967295 },
 }
 
 impl MemFlash {
@@ -37,6 +39,7 @@ impl MemFlash {
         ensures steady { IfOk result (λ m. IsTrue (⟦<MemFlash as Flash>⟧.chip m).steady) }
         ensures unarmed { IfOk result (λ m. (⟦<MemFlash as Flash>⟧.chip m).setting ≡ record { faults = (⟦<MemFlash as Flash>⟧.chip m).faults; arm = None }) }
         ensures changes { IfOk result (λ m. (⟦<MemFlash as Flash>⟧.chip m).changes ≡ 0) }
+        ensures reads { IfOk result (λ m. (⟦<MemFlash as Flash>⟧.chip m).reads ≡ 0) }
     {
         let octets = vec![in alloc; 0xff; FLASH_OCTETS as usize]?;
         let past = Recorder::new(alloc)?;
@@ -44,6 +47,7 @@ impl MemFlash {
             octets,
             past,
             changes: 0,
+            reads: 0,
             arm: None,
             failed: false,
         })
@@ -57,6 +61,7 @@ impl MemFlash {
         ensures changes { self.new.changes ≡ min (self.old.changes + 1) 4294967295 }
         ensures arm { self.new.arm ≡ nearer_arm self.old.arm }
         ensures failed { self.new.failed ≡ is_failing result }
+        ensures reads { self.new.reads ≡ self.old.reads }
     {
         let course = next_course(self.failed, self.arm);
         self.past.note(course.noted_as(), &self.octets);
@@ -68,7 +73,7 @@ impl MemFlash {
 }
 
 impl Flash for MemFlash {
-    ghost chip = { λ m. mem_chip m.past m.octets.items m.changes m.arm };
+    ghost chip = { λ m. mem_chip m.past m.octets.items m.changes m.reads m.arm };
 
     ghost reads_image = { λ m honest. refl };
 
@@ -76,9 +81,12 @@ impl Flash for MemFlash {
 
     ghost counts_now = { λ m t c le image. inl image };
 
+    ghost counted = { λ m. m.few };
+
     ghost only_now = { λ m c. only_octets m.octets.items m.past.contents c };
 
     fn read(&mut self, at: u32, buf: &mut [u8]) -> Result<(), FlashFailed> {
+        self.reads = self.reads.saturating_add(1);
         if self.failed {
             self.past.note(FAILED, &self.octets);
             return Err(FlashFailed);
@@ -119,7 +127,7 @@ impl Flash for MemFlash {
 }
 
 impl Bench for MemFlash {
-    ghost explained = { λ m. explained_by m.past m.changes m.arm m.octets.items m.failed m.whole m.cut };
+    ghost explained = { λ m. explained_by m.past m.changes m.reads m.arm m.octets.items m.failed m.whole m.cut };
 
     fn arm(&mut self, calls: u32, mask: u8) {
         self.arm = Some(Armed {
@@ -133,6 +141,7 @@ impl Bench for MemFlash {
     fn power_cycle(&mut self) {
         self.past.note(CYCLED, &self.octets);
         self.changes = 0;
+        self.reads = 0;
         self.arm = None;
         self.failed = false;
     }

@@ -1,6 +1,7 @@
 // Two calls in a row, over any flash: what a cut leaves at each moment of both.
-ghost use Rattle.std.specs.Prelude.{ℕ, ◌<◌, ◌≤◌, length, IsTrue, IsOk, OnOk, OnErr};
+ghost use Rattle.std.specs.Prelude.{◌≡◌, ℕ, ◌<◌, ◌≤◌, length, IsTrue, IsOk, OnOk, OnErr};
 ghost use Rattle.flash_model.specs.Chip.{IsDone, Keeps, LeavesOnly};
+ghost use Rattle.flash_model.specs.Arming.{Begins, BeginsAtMost};
 ghost use Rattle.flash_model.specs.Rewrite.{rewritten, IsRewrite};
 
 use crate::flash::{Flash, FlashFailed, SECTOR_OCTETS, SECTORS};
@@ -14,10 +15,16 @@ pub fn rewrite<F: Flash>(flash: &mut F, sector: u32, bytes: &[u8]) -> Result<(),
     ensures ok { IsTrue (F.chip flash.old).honest → OnOk result (IsDone (rewritten sector bytes.now) (F.chip flash.old) (F.chip flash.new)) }
     ensures any_moment { IsTrue (F.chip flash.old).honest → LeavesOnly (F.chip flash.old) (F.chip flash.new) (IsRewrite sector bytes.now (F.chip flash.old).images) }
 
+    // over a steady flash: two program and erase calls, and at most two where it fails
+    ensures calls { IsTrue (F.chip flash.old).steady → OnOk result (Begins 2 (F.chip flash.old) (F.chip flash.new)) }
+    ensures most_calls { IsTrue (F.chip flash.old).steady → BeginsAtMost 2 (F.chip flash.old) (F.chip flash.new) }
+
     // of every flash, honest or not
+    ensures reads { (F.chip flash.new).reads ≡ (F.chip flash.old).reads }
+    ensures no_fault { OnOk result ((F.chip flash.new).faults ≡ (F.chip flash.old).faults) }
     ensures cause { OnErr result ((F.chip flash.old).faults < (F.chip flash.new).faults) }
     ensures sure { IsTrue (F.chip flash.old).sure → IsOk result }
-    ensures same { Keeps (F.chip flash.old) (F.chip flash.new) }
+    ensures frame { Keeps (F.chip flash.old) (F.chip flash.new) }
 {
     flash.erase(sector)?;
     flash.program(SECTOR_OCTETS * sector, bytes)

@@ -1,22 +1,29 @@
 -- Each step keeps the running rule.
-use Rattle.std.proofs.Common.{◌≡◌, ◌≢◌, ◌⊎◌, ℕ, zero, suc, ◌+◌, ◌%◌, ◌<◌, ◌≤◌, Bool, true, false, true≢false, List, [], ◌∷◌, ◌++◌, set, refl, sym, ap, ◌∙◌, subst, ⊎_elim, inl, inr, arith}
+use Rattle.std.proofs.Common.{◌≡◌, ◌≢◌, ◌⊎◌, ℕ, zero, suc, ◌+◌, ◌-◌, ◌%◌, ◌<◌, ◌≤◌, Bool, true, false, true≢false, List, [], ◌∷◌, ◌++◌, set, refl, sym, ap, ◌∙◌, subst, ⊎_elim, inl, inr, arith}
 use Rattle.std.specs.Prelude.{◌==◌, ◌||◌, ◌&&◌, nat_le, nat_lt, ◌^◌, cond, max, slice_index, All, sum_by}
 use Rattle.std.proofs.lemmas.List.Sums.{sum_by-append, sum_by_push}
-use Rattle.std.proofs.lemmas.List.Elements.{All-append, All-push, All-nil}
+use Rattle.std.proofs.lemmas.List.Elements.{All-append, All-push, All-nil, All-tail, All-weaker}
 use mathlib.Core.Option.{some, none, some-ne-none, some-injective}
 use native.Mathlib.Decide.{dec_le, ℕ_discrete}
 use prog.Atomic.{either}
 use lib.ListN.{get_elem?}
 use Rattle.atomic_table.specs.Table.{Me, Act, keeps, step, stepped, Valid, carried_after, Allows, Splits, Joins, opening, Final, Seen}
-use Rattle.atomic_table.proofs.Lists.{at_set, at_snoc, set_again, exchanged}
+use Rattle.atomic_table.proofs.Lists.{at_set, at_snoc, exchanged}
+use Rattle.seq_word.specs.declared.looks.Look.{Look}
+use Rattle.seq_word.specs.declared.looks.Look.TheVariants as saw
 use Rattle.seq_word.specs.declared.rule.View.{View}
 use Rattle.seq_word.specs.Word.{IsWord}
-use Rattle.seq_word.specs.Rule.{times, once_below, gone, Fits, Stands, Ruled, nobody, first_keeper, split_off, both, seeing_mark, seeing_next, drawing, publishing, advancing, SeesMark, SeesNext, Draws, Publishes, Advances, DrawnOnce}
-use Rattle.seq_word.proofs.Sums.{sum_by_at, share_of_one, share_of_two, once_below-le, once_below_more, once_below-max, same-one}
+use Rattle.seq_word.specs.Rule.{times, once_below, passed_over, gone, IsWithin, Fits, Stands, Ruled, nobody, first_keeper, without_parts, first_drawer, part_of, keeping, split_off, both, seeing, drawing, publishing, advancing, IsLastSeen, SeesMark, SeesNext, Draws, Publishes, Advances, DrawnOnce}
+use Rattle.seq_word.proofs.Sums.{sum_by_at, share_of_one, share_of_two, share_alone, part_of-one, part_of-none, once_below-le, once_below_more, once_below-max, same-one}
 
-All-last : (P : ℕ → Type 0) (xs : List ℕ) (x : ℕ) → All P (xs ++ x ∷ []) → P x
-All-last P [] x h = h 0 0 (omega arith)
-All-last P (y ∷ ys) x h = All-last P ys x (λ i d l. h (suc i) d (omega arith))
+-- the last two of a list
+two_last : {X : Type 0} (P : X → Type 0) (xs : List X) (a b : X) → All P (xs ++ a ∷ b ∷ []) → P a × P b
+two_last P [] a b h = (h 0 a (omega arith), h 1 a (omega arith))
+two_last P (x ∷ xs) a b h = two_last P xs a b (All-tail P x (xs ++ a ∷ b ∷ []) h)
+
+within_later : (n m n' m' : ℕ) → n ≤ n' → m ≤ m' → (x : Look) → IsWithin n m x → IsWithin n' m' x
+within_later n m n' m' up up' (saw.Mark x) h = let le : x ≤ m = h in omega arith
+within_later n m n' m' up up' (saw.Counter x) h = let le : x ≤ n = h in omega arith
 
 -- what fits stays right where the words rise
 fits_later : (o n m k n' m' k' by : ℕ) (v : View) → Fits o n m k by v → n ≤ n' → m ≤ m' → (by ≡ k → (by ≡ k') × (m ≡ m')) → Fits o n' m' k' by v
@@ -25,18 +32,23 @@ fits_later o n m k n' m' k' by v h up up' keeper = record {
   drawn = λ i d l. omega (arith, h.drawn i d l);
   raised = λ i d l. omega (arith, h.raised i d l);
   noted = λ i d l. omega (arith, h.noted i d l);
-  marks = λ i d l. omega (arith, h.marks i d l);
-  nexts = λ i d l. omega (arith, h.nexts i d l);
+  looks = All-weaker (IsWithin n m) (IsWithin n' m') (within_later n m n' m' up up') v.looks h.looks;
   advances = λ i d l. omega (arith, h.advances i d l);
   keeps = λ is. let was = h.keeps is in let now = keeper was.0 in (now.0, was.1 ∙ now.1);
+  plain = h.plain;
+  idle = h.idle;
 }
+
+abbrev parts_of : View → ℕ
+parts_of v = v.parts
 
 -- One view changes, and the words rise or stay
 moves : (o n m k n' m' k' : ℕ) (views : List View) (id : ℕ) (v w : View) → Stands o n m k views → get_elem? views id ≡ some v
     → IsWord n' → IsWord m' → n ≤ n' → m ≤ m' → n' ≤ m' → ((j : ℕ) → j ≢ id → j ≡ k → (j ≡ k') × (m ≡ m'))
     → ((x : ℕ) → gone x w + once_below x n ≡ gone x v + once_below x n')
+    → w.draws ≡ v.draws → w.parts ≡ v.parts
     → Fits o n' m' k' id w → Stands o n' m' k' (set views id w)
-moves o n m k n' m' k' views id v w h at nw mw up up' order keeper goes fits = record {
+moves o n m k n' m' k' views id v w h at nw mw up up' order keeper goes same_kind same_parts fits = record {
   counter_word = nw;
   mark_word = mw;
   in_order = order;
@@ -47,7 +59,18 @@ moves o n m k n' m' k' views id v w h at nw mw up up' order keeper goes fits = r
       (λ (t : (j ≡ id) × (w ≡ u)). subst (λ (y : ℕ × View). Fits o n' m' k' y.0 y.1) (λ i. (sym t.0 i, t.1 i)) fits)
       (λ (t : (j ≢ id) × (get_elem? views j ≡ some u)). fits_later o n m k n' m' k' j u (h.each j u t.1) up up' (keeper j t.0))
       (at_set views id j w u e);
+  parts = omega (arith, h.parts, total);
+  lost = λ j u e is empty.
+      let short : sum_by parts_of views < 1024 =
+      ⊎_elim
+      (λ (t : (j ≡ id) × (w ≡ u)). h.lost id v at (sym same_kind ∙ ap (λ y. y.draws) t.1 ∙ is) (sym same_parts ∙ ap (λ y. y.parts) t.1 ∙ empty))
+      (λ (t : (j ≢ id) × (get_elem? views j ≡ some u)). h.lost j u t.1 is empty)
+      (at_set views id j w u e) in
+      omega (arith, short, total);
 }
+  where
+    total : sum_by parts_of (set views id w) ≡ sum_by parts_of views
+    total = omega (arith, sum_by_at parts_of views id v w at, same_parts)
 
 module _ {S : Type 0} (o slots id : ℕ) (me : Me S View) (f : ℕ → ℕ) (then : ℕ → Me S View → Type 0) where
   -- a step on the counter
@@ -66,84 +89,77 @@ module _ {S : Type 0} (o slots id : ℕ) (me : Me S View) (f : ℕ → ℕ) (the
       let P : List ℕ → Type 0 = λ ws. (w : View) × (a : Act S) × Valid s.homes me.1 a × Ruled o (stepped (record { words = ws; homes = s.homes; views = s.views }) 1 (f (slice_index ws 1)) id me.1 w a) × then (slice_index ws 1) (w, carried_after me.1 a) in
       subst P (sym h.words) (g.0, keeps, tt, record { next = h.next; mark = f h.mark; keeper = h.keeper; words = refl; stands = g.1 }, g.2)
 
-fits_seeing : (o n m k by : ℕ) (v : View) (seen : ℕ) → seen ≤ n → Fits o n m k by v → Fits o n m k by (seeing_next v seen)
-fits_seeing o n m k by v seen le fits = record {
+fits_seeing : (o n m k by : ℕ) (v : View) (look : Look) → IsWithin n m look → Fits o n m k by v → Fits o n m k by (seeing v look)
+fits_seeing o n m k by v look within fits = record {
   since = fits.since;
   drawn = fits.drawn;
   raised = fits.raised;
   noted = fits.noted;
-  marks = fits.marks;
-  nexts = All-push (λ x. x ≤ n) v.nexts seen fits.nexts le;
+  looks = All-push (IsWithin n m) v.looks look fits.looks within;
   advances = fits.advances;
   keeps = fits.keeps;
+  plain = fits.plain;
+  idle = fits.idle;
 }
 
 -- a look at either word
-looks : (o n m k : ℕ) (views : List View) (id : ℕ) (v w : View) → Stands o n m k views → get_elem? views id ≡ some v → ((x : ℕ) → gone x w ≡ gone x v) → Fits o n m k id w → Stands o n m k (set views id w)
-looks o n m k views id v w h at same fits =
-    moves o n m k n m k views id v w h at h.counter_word h.mark_word (omega arith) (omega arith) h.in_order (λ j apart e. (e, refl)) (λ x. omega (arith, same x)) fits
+looks : (o n m k : ℕ) (views : List View) (id : ℕ) (v : View) (look : Look) → Stands o n m k views → get_elem? views id ≡ some v → IsWithin n m look → Stands o n m k (set views id (seeing v look))
+looks o n m k views id v look h at within =
+    moves o n m k n m k views id v (seeing v look) h at h.counter_word h.mark_word (omega arith) (omega arith) h.in_order (λ j apart e. (e, refl)) (λ x. refl) refl refl (fits_seeing o n m k id v look within (h.each id v at))
 
 pub sees_mark : {S : Type 0} (o slots id : ℕ) (me : Me S View) → Allows (Ruled o) slots id me 1 (λ n. n) (SeesMark (step slots 1 0 0 none) me)
 sees_mark {S} o slots id me =
     goes_mark o slots id me (λ n. n) (SeesMark (step slots 1 0 0 none) me)
-    (λ n m k views h at.
-    let fits = h.each id me.0 at in
-    let w = seeing_mark me.0 m in (
-      w,
-      looks o n m k views id me.0 w h at (λ x. refl) (record {
-        since = fits.since;
-        drawn = fits.drawn;
-        raised = fits.raised;
-        noted = fits.noted;
-        marks = All-push (λ x. x ≤ m) me.0.marks m fits.marks (omega arith);
-        nexts = fits.nexts;
-        advances = fits.advances;
-        keeps = fits.keeps;
-      }),
-      refl,
-    ))
+    (λ n m k views h at. let same : m ≤ m = omega arith in (seeing me.0 (saw.Mark m), looks o n m k views id me.0 (saw.Mark m) h at same, refl))
 
 pub sees_next : {S : Type 0} (o slots id : ℕ) (me : Me S View) → Allows (Ruled o) slots id me 0 (λ n. n) (SeesNext (step slots 0 0 0 none) me)
 sees_next {S} o slots id me =
     goes_counter o slots id me (λ n. n) (SeesNext (step slots 0 0 0 none) me)
-    (λ n m k views h at.
-    let w = seeing_next me.0 n in
-    (w, looks o n m k views id me.0 w h at (λ x. refl) (fits_seeing o n m k id me.0 n (omega arith) (h.each id me.0 at)), (h.counter_word, refl)))
+    (λ n m k views h at. let same : n ≤ n = omega arith in (seeing me.0 (saw.Counter n), looks o n m k views id me.0 (saw.Counter n) h at same, (h.counter_word, refl)))
 
 -- the number n is drawn, and the counter raised to n + 1
-drawn_now : (o n m k : ℕ) (views : List View) (id : ℕ) (v : View) → Stands o n m k views → get_elem? views id ≡ some v → n < m → n % 2 ^ 25 < 2 ^ 24 → Stands o (n + 1) m k (set views id (drawing v n (n + 1)))
-drawn_now o n m k views id v h at below unspent =
+drawn_now : (o n m k : ℕ) (views : List View) (id : ℕ) (v : View) → Stands o n m k views → get_elem? views id ≡ some v → v.draws ≡ true → n < m → n % 2 ^ 25 < 2 ^ 24 → Stands o (n + 1) m k (set views id (drawing v n (n + 1)))
+drawn_now o n m k views id v h at is below unspent =
     let fits = h.each id v at in
     let later = fits_later o n m k (n + 1) m k id v fits (omega arith) (omega arith) (λ e. (e, refl)) in
     moves o n m k (n + 1) m k views id v (drawing v n (n + 1)) h at (omega (arith, h.counter_word), omega (arith, h.counter_word)) h.mark_word (omega arith) (omega arith) (omega arith) (λ j apart e. (e, refl))
     (λ x. omega (arith, sum_by_push (λ (y : ℕ). cond (y == x) 1 0) v.drawn n, once_below_more x n))
+    refl
+    refl
     (record {
       since = All-push (λ x. o ≤ x) v.drawn n fits.since h.opening;
       drawn = All-push (λ x. x < n + 1) v.drawn n later.drawn (omega arith);
       raised = All-push (λ x. x ≤ n + 1) v.raised (n + 1) later.raised (omega arith);
       noted = later.noted;
-      marks = later.marks;
-      nexts = later.nexts;
+      looks = later.looks;
       advances = later.advances;
       keeps = later.keeps;
+      plain = later.plain;
+      idle = λ off. absurd (true≢false (sym is ∙ off));
     })
 
 -- a draw from a number that the seat saw below the mark
-pub draws : {S : Type 0} (o slots id : ℕ) (me : Me S View) (marks : List ℕ) (old mark : ℕ) → me.0.marks ≡ marks ++ mark ∷ [] → old < mark → old % 2 ^ 25 < 2 ^ 24
+pub draws : {S : Type 0} (o slots id : ℕ) (me : Me S View) (earlier : List Look) (old mark : ℕ) → me.0.draws ≡ true → me.0.looks ≡ earlier ++ saw.Mark mark ∷ saw.Counter old ∷ [] → old < mark → old % 2 ^ 25 < 2 ^ 24
     → Allows (Ruled o) slots id me 0 (λ n. either (n == old) (old + 1) n) (Draws (step slots 0 old (old + 1) none) me)
-draws {S} o slots id me marks old mark last below unspent =
+draws {S} o slots id me earlier old mark is last below unspent =
     goes_counter o slots id me (λ n. either (n == old) (old + 1) n) (Draws (step slots 0 old (old + 1) none) me)
     (λ n m k views h at.
     let v = me.0 in
     let fits = h.each id v at in
-    let seen : mark ≤ m = All-last (λ x. x ≤ m) marks mark (subst (All (λ x. x ≤ m)) last fits.marks) in
+    let seen = two_last (IsWithin n m) earlier (saw.Mark mark) (saw.Counter old) (subst (All (IsWithin n m)) last fits.looks) in
+    let marked : mark ≤ m = seen.0 in
+    let counted : old ≤ n = seen.1 in
+    let from : IsLastSeen old v = record { earlier = earlier; mark = mark; looks = last; below = below } in
     let Goes : ℕ → Type 0 = λ n'. (w : View) × Stands o n' m k (set views id w) × Draws {S = S} (step slots 0 old (old + 1) none) me n (w, me.1) in
     exchanged n old (old + 1) Goes
     (λ e.
     let P : ℕ → Type 0 = λ n'. Stands o (n' + 1) m k (set views id (drawing v n (n' + 1))) in
-    (drawing v n (old + 1), subst P e (drawn_now o n m k views id v h at (omega arith) (subst (λ y. y % 2 ^ 25 < 2 ^ 24) (sym e) unspent)), ((λ _. (refl, fits.drawn, fits.noted)), (λ other. absurd (other e)))))
+    (drawing v n (old + 1), subst P e (drawn_now o n m k views id v h at is (omega arith) (subst (λ y. y % 2 ^ 25 < 2 ^ 24) (sym e) unspent)), (from, refl, (λ _. (refl, fits.drawn, fits.noted)), (λ other. absurd (other e)))))
     (λ other.
-    (seeing_next v n, looks o n m k views id v (seeing_next v n) h at (λ x. refl) (fits_seeing o n m k id v n (omega arith) fits), ((λ e. absurd (other e)), (λ _. refl)))))
+    (seeing v (saw.Counter n), looks o n m k views id v (saw.Counter n) h at (same n), (from, refl, (λ e. absurd (other e)), (λ _. (refl, omega (arith, counted, other)))))))
+  where
+    same : (n : ℕ) → n ≤ n
+    same n = omega arith
 
 -- the keeper publishes a higher mark
 pub publishes : {S : Type 0} (o slots id : ℕ) (me : Me S View) (mark : ℕ) → me.0.keeps ≡ true → me.0.mark ≤ mark → IsWord mark
@@ -156,15 +172,16 @@ publishes {S} o slots id me mark is up word =
     let keeper = fits.keeps is in
     let rises : m ≤ mark = omega (arith, keeper.1) in (
       publishing v mark,
-      moves o n m k n mark k views id v (publishing v mark) h at h.counter_word word (omega arith) rises (omega (arith, h.in_order)) (λ j apart e. absurd (apart (e ∙ sym keeper.0))) (λ x. refl) (record {
+      moves o n m k n mark k views id v (publishing v mark) h at h.counter_word word (omega arith) rises (omega (arith, h.in_order)) (λ j apart e. absurd (apart (e ∙ sym keeper.0))) (λ x. refl) refl refl (record {
         since = fits.since;
         drawn = fits.drawn;
         raised = fits.raised;
         noted = fits.noted;
-        marks = λ i d l. omega (arith, fits.marks i d l);
-        nexts = fits.nexts;
+        looks = All-weaker (IsWithin n m) (IsWithin n mark) (within_later n m n mark (omega arith) rises) v.looks fits.looks;
         advances = fits.advances;
         keeps = λ _. (keeper.0, refl);
+        plain = fits.plain;
+        idle = fits.idle;
       }),
       refl,
     ))
@@ -184,15 +201,18 @@ advances {S} o slots id me to is within word =
       advancing v n to,
       moves o n m k n' m k views id v (advancing v n to) h at (greater_word n to h.counter_word word) h.mark_word up (omega arith) (omega (arith, h.in_order, keeper.1)) (λ j apart e. (e, refl))
           (λ x. omega (arith, sum_by_push (λ (a : ℕ × ℕ). cond (nat_le a.0 x && nat_lt x a.1) 1 0) v.advances (n, to), once_below-max x n to))
+          refl
+          refl
           (record {
             since = later.since;
             drawn = later.drawn;
             raised = later.raised;
             noted = later.noted;
-            marks = later.marks;
-            nexts = later.nexts;
+            looks = later.looks;
             advances = All-push (λ a. a.1 ≤ n') v.advances (n, to) later.advances (omega arith);
             keeps = later.keeps;
+            plain = λ not. absurd (true≢false (sym is ∙ not));
+            idle = later.idle;
           }),
       refl,
     ))
@@ -213,10 +233,11 @@ fits_nobody o n m k by = record {
   drawn = All-nil (λ x. x < n);
   raised = All-nil (λ x. x ≤ n);
   noted = All-nil (λ x. x < n);
-  marks = All-nil (λ x. x ≤ m);
-  nexts = All-nil (λ x. x ≤ n);
+  looks = All-nil (IsWithin n m);
   advances = All-nil (λ a. a.1 ≤ n);
   keeps = λ e. absurd (off e);
+  plain = λ _. refl;
+  idle = λ _. refl;
 }
 
 -- the words at the start, with the keeper's seat
@@ -226,7 +247,7 @@ begins {S} next mark nw mw order = record {
   mark = mark;
   keeper = 0;
   words = refl;
-  stands = record { counter_word = nw; mark_word = mw; in_order = order; opening = omega arith; once = λ x. omega arith; each = first_only };
+  stands = record { counter_word = nw; mark_word = mw; in_order = order; opening = omega arith; once = λ x. omega arith; each = first_only; parts = omega arith; lost = none_draws };
 }
   where
     keeper_fits : Fits next next mark 0 0 (first_keeper mark)
@@ -235,43 +256,138 @@ begins {S} next mark nw mw order = record {
       drawn = none.drawn;
       raised = none.raised;
       noted = none.noted;
-      marks = none.marks;
-      nexts = none.nexts;
+      looks = none.looks;
       advances = none.advances;
       keeps = λ _. (refl, refl);
+      plain = λ _. refl;
+      idle = λ _. refl;
     }
 
     first_only : (by : ℕ) (v : View) → get_elem? (first_keeper mark ∷ []) by ≡ some v → Fits next next mark 0 by v
     first_only zero v e = subst (Fits next next mark 0 0) (some-injective _ _ e) keeper_fits
     first_only (suc by) v e = absurd (some-ne-none v (sym e))
 
--- a seat is split off
-pub splits : {S : Type 0} (o id : ℕ) (v : View) → Splits {S = S} (Ruled o) id v v (split_off v)
-splits {S} o id v s h at =
-    let st = h.stands in
-    let fits = st.each id v at in
-    let views' = s.views ++ split_off v ∷ [] in
-    let new_fits : (by : ℕ) → Fits o h.next h.mark h.keeper by (split_off v) = λ by.
-    let none = fits_nobody o h.next h.mark h.keeper by in
+    none_draws : (by : ℕ) (v : View) → get_elem? (first_keeper mark ∷ []) by ≡ some v → v.draws ≡ true → v.parts ≡ 0 → sum_by parts_of (first_keeper mark ∷ []) < 1024
+    none_draws zero v e is empty = let first : first_keeper mark ≡ v = some-injective _ _ e in absurd (off (ap (λ u. u.draws) first ∙ is))
+    none_draws (suc by) v e is empty = absurd (some-ne-none v (sym e))
+
+-- a seat is cut in two
+cuts : (o n m k : ℕ) (views : List View) (id : ℕ) (v u w : View) → Stands o n m k views → get_elem? views id ≡ some v
+    → ((x : ℕ) → gone x u + gone x w ≡ gone x v) → Fits o n m k id u → ((by : ℕ) → Fits o n m k by w)
+    → u.parts + w.parts ≤ v.parts
+    → (u.draws ≡ true → u.parts ≡ 0 → sum_by parts_of views + (u.parts + w.parts) < 1024 + v.parts)
+    → (w.draws ≡ true → w.parts ≡ 0 → sum_by parts_of views + (u.parts + w.parts) < 1024 + v.parts)
+    → Stands o n m k (set views id u ++ w ∷ [])
+cuts o n m k views id v u w h at goes left_fits right_fits within left_lost right_lost = record {
+  counter_word = h.counter_word;
+  mark_word = h.mark_word;
+  in_order = h.in_order;
+  opening = h.opening;
+  once = λ x. omega (arith, sum_by_at (gone x) views id v u at, sum_by_push (gone x) (set views id u) w, goes x, h.once x);
+  each = λ by z e.
+      ⊎_elim
+      (λ was. ⊎_elim
+      (λ (t : (by ≡ id) × (u ≡ z)). subst (λ (y : ℕ × View). Fits o n m k y.0 y.1) (λ i. (sym t.0 i, t.1 i)) left_fits)
+      (λ (t : (by ≢ id) × (get_elem? views by ≡ some z)). h.each by z t.1)
+      (at_set views id by u z was))
+      (λ new. subst (Fits o n m k by) new (right_fits by))
+      (at_snoc (set views id u) w z by e);
+  parts = omega (arith, total, h.parts, within);
+  lost = λ by z e is empty.
+      let short : sum_by parts_of views + (u.parts + w.parts) < 1024 + v.parts =
+      ⊎_elim
+      (λ was. ⊎_elim
+      (λ (t : (by ≡ id) × (u ≡ z)). left_lost (ap (λ y. y.draws) t.1 ∙ is) (ap (λ y. y.parts) t.1 ∙ empty))
+      (λ (t : (by ≢ id) × (get_elem? views by ≡ some z)). omega (arith, h.lost by z t.1 is empty, within))
+      (at_set views id by u z was))
+      (λ new. right_lost (ap (λ y. y.draws) new ∙ is) (ap (λ y. y.parts) new ∙ empty))
+      (at_snoc (set views id u) w z by e) in
+      omega (arith, short, total);
+}
+  where
+    total : sum_by parts_of (set views id u ++ w ∷ []) + v.parts ≡ sum_by parts_of views + (u.parts + w.parts)
+    total = omega (arith, sum_by_at parts_of views id v u at, sum_by_push parts_of (set views id u) w)
+
+-- a seat of a drawer, fresh but for what it notes
+fits_drawer : (o n m k by : ℕ) (parts : ℕ) (noted : List ℕ) → All (λ x. x < n) noted → Fits o n m k by (record nobody { draws = true; parts = parts; noted = noted })
+fits_drawer o n m k by parts noted below =
+    let none = fits_nobody o n m k by in
     record {
       since = none.since;
       drawn = none.drawn;
       raised = none.raised;
-      noted = All-append (λ x. x < h.next) v.noted v.drawn fits.noted fits.drawn;
-      marks = none.marks;
-      nexts = none.nexts;
+      noted = below;
+      looks = none.looks;
       advances = none.advances;
       keeps = none.keeps;
-    } in
-    let stands : Stands o h.next h.mark h.keeper views' = record {
-      counter_word = st.counter_word;
-      mark_word = st.mark_word;
-      in_order = st.in_order;
-      opening = st.opening;
-      once = λ x. omega (arith, sum_by_push (gone x) s.views (split_off v), st.once x);
-      each = λ by u e. ⊎_elim (λ was. st.each by u was) (λ new. subst (Fits o h.next h.mark h.keeper by) new (new_fits by)) (at_snoc s.views (split_off v) u by e);
-    } in
-    record { next = h.next; mark = h.mark; keeper = h.keeper; words = h.words; stands = subst (λ vs. Stands o h.next h.mark h.keeper (vs ++ split_off v ∷ [])) (sym (set_again s.views id v at)) stands }
+      plain = λ _. refl;
+      idle = λ _. refl;
+    }
+
+-- a view with other parts
+fits_parts : (o n m k by parts : ℕ) (v : View) → Fits o n m k by v → Fits o n m k by (record v { parts = parts })
+fits_parts o n m k by parts v fits = record {
+  since = fits.since;
+  drawn = fits.drawn;
+  raised = fits.raised;
+  noted = fits.noted;
+  looks = fits.looks;
+  advances = fits.advances;
+  keeps = fits.keeps;
+  plain = fits.plain;
+  idle = fits.idle;
+}
+
+few_or_more : (p : ℕ) → Dec (p ≤ 1) → (p ≤ 1) ⊎ (1 < p)
+few_or_more p (yes few) = inl few
+few_or_more p (no more) = inr (omega arith)
+
+-- a split of a seat with one part at most leaves fewer than 1,024
+part_lost : (total p : ℕ) → total ≤ 1024 → (p ≡ 0 → total < 1024) → p ≤ 1 → total + ((p - 1) + part_of p) < 1024 + p
+part_lost total zero most short few = let less = short refl in omega (arith, less, part_of-none 0 few)
+part_lost total (suc p) most short few = omega (arith, part_of-none (suc p) few)
+
+parts_split : (p : ℕ) → (p - 1) + part_of p ≤ p
+parts_split p = ⊎_elim (λ few. omega (arith, part_of-none p few)) (λ more. omega (arith, part_of-one p more)) (few_or_more p (dec_le p 1))
+
+-- a drawer's seat is split off a drawer's
+pub splits : {S : Type 0} (o id : ℕ) (v : View) → v.draws ≡ true → Splits {S = S} (Ruled o) id v (keeping v) (split_off v)
+splits {S} o id v is s h at =
+    let st = h.stands in
+    let fits = st.each id v at in
+    let lost : v.parts ≤ 1 → sum_by parts_of s.views + ((v.parts - 1) + part_of v.parts) < 1024 + v.parts = part_lost (sum_by parts_of s.views) v.parts st.parts (λ empty. st.lost id v at is empty) in
+    record {
+      next = h.next;
+      mark = h.mark;
+      keeper = h.keeper;
+      words = h.words;
+      stands = cuts o h.next h.mark h.keeper s.views id v (keeping v) (split_off v) st at
+          (λ x. omega arith)
+          (fits_parts o h.next h.mark h.keeper id (v.parts - 1) v fits)
+          (λ by. fits_drawer o h.next h.mark h.keeper by (part_of v.parts) (v.noted ++ v.drawn) (All-append (λ x. x < h.next) v.noted v.drawn fits.noted fits.drawn))
+          (parts_split v.parts)
+          (λ _ empty. let none_left : v.parts - 1 ≡ 0 = empty in lost (omega arith))
+          (λ _ empty. let none_left : part_of v.parts ≡ 0 = empty in ⊎_elim lost (λ more. absurd (omega (arith, none_left, part_of-one v.parts more))) (few_or_more v.parts (dec_le v.parts 1)));
+    }
+
+-- the first drawer's seat is split off the keeper's
+pub opens : {S : Type 0} (o id : ℕ) (v : View) → v.draws ≡ false → 0 < v.parts → Splits {S = S} (Ruled o) id v (without_parts v) (first_drawer v)
+opens {S} o id v not some_part s h at =
+    let st = h.stands in
+    let fits = st.each id v at in
+    record {
+      next = h.next;
+      mark = h.mark;
+      keeper = h.keeper;
+      words = h.words;
+      stands = cuts o h.next h.mark h.keeper s.views id v (without_parts v) (first_drawer v) st at
+          (λ x. omega arith)
+          (fits_parts o h.next h.mark h.keeper id 0 v fits)
+          (λ by. fits_drawer o h.next h.mark h.keeper by v.parts [] (All-nil (λ x. x < h.next)))
+          (omega arith)
+          (λ is _. absurd (true≢false (sym is ∙ not)))
+          (λ _ empty. absurd (omega (arith, empty, some_part)));
+    }
 
 -- a seat takes in another, as `both`
 glues : (o n m k k' : ℕ) (views : List View) (id other : ℕ) (v w : View) → Stands o n m k views → get_elem? views id ≡ some v → other ≢ id → get_elem? (set views id (both v w)) other ≡ some w
@@ -285,12 +401,17 @@ glues o n m k k' views id other v w h at apart there mine others =
       drawn = All-append (λ x. x < n) v.drawn w.drawn fits.drawn theirs.drawn;
       raised = All-append (λ x. x ≤ n) v.raised w.raised fits.raised theirs.raised;
       noted = All-append (λ x. x < n) v.noted w.noted fits.noted theirs.noted;
-      marks = All-append (λ x. x ≤ m) v.marks w.marks fits.marks theirs.marks;
-      nexts = All-append (λ x. x ≤ n) v.nexts w.nexts fits.nexts theirs.nexts;
+      looks = All-append (IsWithin n m) v.looks w.looks fits.looks theirs.looks;
       advances = All-append (λ a. a.1 ≤ n) v.advances w.advances fits.advances theirs.advances;
       keeps = mine;
+      plain = λ not. let each = neither v.keeps w.keeps not in no_more v.advances w.advances (fits.plain each.0) (theirs.plain each.1);
+      idle = λ not. let each = neither v.draws w.draws not in no_more v.drawn w.drawn (fits.idle each.0) (theirs.idle each.1);
     } in
     let views' = set views id (both v w) in
+    let before = ⊎_elim (λ (t : (other ≡ id) × (both v w ≡ w)). absurd (apart t.0)) (λ (t : (other ≢ id) × (get_elem? views other ≡ some w)). t.1) (at_set views id other (both v w) w there) in
+    let total : sum_by parts_of (set views' other nobody) ≡ sum_by parts_of views = omega (arith, sum_by_at parts_of views' other w nobody there, sum_by_at parts_of views id v (both v w) at) in
+    let one_lost : (v.draws || w.draws) ≡ true → v.parts + w.parts ≡ 0 → sum_by parts_of views < 1024 = λ is empty.
+    ⊎_elim (λ mine. h.lost id v at mine (omega arith)) (λ theirs. h.lost other w before theirs (omega arith)) (one_of v.draws w.draws is) in
     record {
       counter_word = h.counter_word;
       mark_word = h.mark_word;
@@ -306,7 +427,30 @@ glues o n m k k' views id other v w h at apart there mine others =
           (λ (t' : (j ≢ id) × (get_elem? views j ≡ some u)). fits_later o n m k n m k' j u (h.each j u t'.1) (omega arith) (omega arith) (λ e'. (others j t'.0 t.0 e', refl)))
           (at_set views id j (both v w) u t.1))
           (at_set views' other j nobody u e);
+      parts = omega (arith, total, h.parts);
+      lost = λ j u e is empty.
+          let short : sum_by parts_of views < 1024 =
+          ⊎_elim
+          (λ (t : (j ≡ other) × (nobody ≡ u)). absurd (off (ap (λ y. y.draws) t.1 ∙ is)))
+          (λ (t : (j ≢ other) × (get_elem? views' j ≡ some u)).
+          ⊎_elim
+          (λ (t' : (j ≡ id) × (both v w ≡ u)). one_lost (ap (λ y. y.draws) t'.1 ∙ is) (ap (λ y. y.parts) t'.1 ∙ empty))
+          (λ (t' : (j ≢ id) × (get_elem? views j ≡ some u)). h.lost j u t'.1 is empty)
+          (at_set views id j (both v w) u t.1))
+          (at_set views' other j nobody u e) in
+          omega (arith, short, total);
     }
+  where
+    neither : (a b : Bool) → (a || b) ≡ false → (a ≡ false) × (b ≡ false)
+    neither true b e = absurd (true≢false e)
+    neither false b e = (refl, e)
+
+    one_of : (a b : Bool) → (a || b) ≡ true → (a ≡ true) ⊎ (b ≡ true)
+    one_of true b e = inl refl
+    one_of false b e = inr e
+
+    no_more : {X : Type 0} (xs ys : List X) → xs ≡ [] → ys ≡ [] → xs ++ ys ≡ []
+    no_more xs ys a b = ap (λ l. l ++ ys) a ∙ b
 
 -- a seat that keeps the mark stays the keeper, and one that takes the keeper's seat in becomes the keeper
 joins_as : (o n m k : ℕ) (views : List View) (id other : ℕ) (v w : View) (b : Bool) → w.keeps ≡ b → Stands o n m k views → get_elem? views id ≡ some v → other ≢ id → get_elem? (set views id (both v w)) other ≡ some w
@@ -336,6 +480,28 @@ joins {S} o id v other w s h at apart there =
     let g = joins_as o h.next h.mark h.keeper s.views id other v w w.keeps refl h.stands at apart there in
     record { next = h.next; mark = h.mark; keeper = g.0; words = h.words; stands = g.1 }
 
+-- where the keeper's seat has all parts, nothing went by at another
+others_idle : (o n m k : ℕ) (views : List View) (id : ℕ) (v : View) → Stands o n m k views → get_elem? views id ≡ some v → v.keeps ≡ true → v.parts ≡ 1024
+    → (x by : ℕ) (u : View) → by ≢ id → get_elem? views by ≡ some u → gone x u ≡ 0
+others_idle o n m k views id v h at keeper whole x by u apart bt =
+    let fits = h.each by u bt in
+    let two = share_of_two parts_of views id by v u (λ e. apart (sym e)) at bt in
+    let empty : u.parts ≡ 0 = omega (arith, two, h.parts, whole) in
+    let idle : u.draws ≡ false = not_true u.draws (λ is. omega (arith, h.lost by u bt is empty, two, whole)) in
+    let plain : u.keeps ≡ false = not_true u.keeps (λ is. apart ((fits.keeps is).0 ∙ sym ((h.each id v at).keeps keeper).0)) in
+    ap (λ (p : List ℕ × List (ℕ × ℕ)). times x p.0 + passed_over x p.1) (λ i. (fits.idle idle i, fits.plain plain i))
+  where
+    not_true : (b : Bool) → (b ≡ true → ⊥) → b ≡ false
+    not_true true h = absurd (h refl)
+    not_true false h = refl
+
+pub both_keeps : (v w : View) → w.keeps ≡ true → (both v w).keeps ≡ true
+both_keeps v w is = ap (λ b. v.keeps || b) is ∙ any v.keeps
+  where
+    any : (b : Bool) → (b || true) ≡ true
+    any true = refl
+    any false = refl
+
 -- What a seat knows of the last words
 pub record Ends (o next mark : ℕ) (v : View) : Type 0 where
   pub counter_word : IsWord next
@@ -344,6 +510,7 @@ pub record Ends (o next mark : ℕ) (v : View) : Type 0 where
   pub opening : o ≤ next
   pub fits : (keeper : ℕ) × (by : ℕ) × Fits o next mark keeper by v
   pub once : (x : ℕ) → times x v.drawn ≤ 1
+  pub all : v.keeps ≡ true → v.parts ≡ 1024 → (x : ℕ) → gone x v + once_below x o ≡ once_below x next
 
 pub ends : {S : Type 0} (o id : ℕ) (v : View) (ws : List ℕ) (xs : List S) (next mark : ℕ) → Final (Seen (Ruled o) id v) ws xs → get_elem? ws 0 ≡ some next → get_elem? ws 1 ≡ some mark → Ends o next mark v
 ends {S} o id v ws xs next mark final at_0 at_1 =
@@ -361,6 +528,7 @@ ends {S} o id v ws xs next mark final at_0 at_1 =
       opening = st.opening;
       fits = (h.keeper, id, st.each id v at);
       once = λ x. omega (arith, share_of_one (gone x) s.views id v at, st.once x, once_below-le x h.next);
+      all = λ keeper whole x. omega (arith, st.once x, share_alone (gone x) s.views id v at (others_idle o h.next h.mark h.keeper s.views id v st at keeper whole x));
     } in
     subst (λ (y : ℕ × ℕ). Ends o y.0 y.1 v) (λ i. (counter i, bound i)) found
 

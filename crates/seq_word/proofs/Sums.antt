@@ -5,7 +5,7 @@ use Rattle.std.proofs.lemmas.List.Sums.{sum_by-cons}
 use Rattle.std.proofs.lemmas.Bool.Decides.{nat_tests}
 use mathlib.Core.Option.{some, some-ne-none, some-injective}
 use lib.ListN.{get_elem?}
-use Rattle.seq_word.specs.Rule.{times, once_below}
+use Rattle.seq_word.specs.Rule.{times, once_below, part_of}
 
 module _ {V : Type 0} (f : V → ℕ) where
   -- the sum after a change of one element
@@ -27,6 +27,25 @@ module _ {V : Type 0} (f : V → ℕ) where
   share_of_two (x ∷ xs) zero (suc j) v w apart at at' = omega (arith, share_of_one xs j w at', sum_by-cons f x xs, ap f (some-injective x v at))
   share_of_two (x ∷ xs) (suc i) zero v w apart at at' = omega (arith, share_of_one xs i v at, sum_by-cons f x xs, ap f (some-injective x w at'))
   share_of_two (x ∷ xs) (suc i) (suc j) v w apart at at' = omega (arith, share_of_two xs i j v w (λ e. apart (ap suc e)) at at', sum_by-cons f x xs)
+
+  sum_none : (xs : List V) → ((i : ℕ) (v : V) → get_elem? xs i ≡ some v → f v ≡ 0) → sum_by f xs ≡ 0
+  sum_none [] none = refl
+  sum_none (x ∷ xs) none = let first : f x ≡ 0 = none zero x refl in omega (arith, sum_none xs (λ i v at. none (suc i) v at), sum_by-cons f x xs)
+
+  -- one element has all, where no other has any
+  pub share_alone : (xs : List V) (i : ℕ) (v : V) → get_elem? xs i ≡ some v → ((j : ℕ) (w : V) → j ≢ i → get_elem? xs j ≡ some w → f w ≡ 0) → sum_by f xs ≡ f v
+  share_alone [] i v at none = absurd (some-ne-none v (sym at))
+  share_alone (x ∷ xs) zero v at none =
+      omega (arith, sum_by-cons f x xs, ap f (some-injective x v at), sum_none xs (λ j w bt. none (suc j) w (λ e. omega arith) bt))
+  share_alone (x ∷ xs) (suc i) v at none =
+      let first : f x ≡ 0 = none zero x (λ e. omega arith) refl in
+      omega (arith, sum_by-cons f x xs, share_alone xs i v at (λ j w apart bt. none (suc j) w (λ e. apart (omega arith)) bt))
+
+pub part_of-one : (n : ℕ) → 1 < n → part_of n ≡ 1
+part_of-one n more = grind (arith, nat_tests)
+
+pub part_of-none : (n : ℕ) → n ≤ 1 → part_of n ≡ 0
+part_of-none n few = grind (arith, nat_tests)
 
 pub once_below-le : (x n : ℕ) → once_below x n ≤ 1
 once_below-le x n = grind (arith, nat_tests)

@@ -1,9 +1,11 @@
 -- What the two words and the seats at them keep between any two atomic steps, and what each step does to the view of its seat.
 -- Word 0 is the counter: the next number to draw. Word 1 is the mark: no number at or above it is drawn.
-use Rattle.std.specs.Prelude.{◌≡◌, ◌≢◌, ℕ, ◌+◌, ◌<◌, ◌≤◌, ◌==◌, ◌&&◌, ◌||◌, nat_lt, nat_le, if◌then◌else◌, true, false, List, [], ◌∷◌, ◌++◌, All, slice_index, sum_by, count_by}
+use Rattle.std.specs.Prelude.{◌≡◌, ◌≢◌, ℕ, ◌+◌, ◌-◌, ◌<◌, ◌≤◌, ◌==◌, ◌&&◌, ◌||◌, nat_lt, nat_le, if◌then◌else◌, true, false, List, [], ◌∷◌, ◌++◌, All, slice_index, sum_by, count_by}
 use mathlib.Core.Option.{some}
 use lib.ListN.{get_elem?}
 use Rattle.atomic_table.specs.Table.{State, Me, Step}
+use Rattle.seq_word.specs.declared.looks.Look.{Look}
+use Rattle.seq_word.specs.declared.looks.Look.TheVariants as saw
 use Rattle.seq_word.specs.declared.rule.View.{View}
 use Rattle.seq_word.specs.Word.{IsWord}
 
@@ -23,7 +25,13 @@ passed_over x advances = count_by (λ a. nat_le a.0 x && nat_lt x a.1) advances
 abbrev pub gone : ℕ → View → ℕ
 gone x v = times x v.drawn + passed_over x v.advances
 
--- What holds of the view of the seat `by`, where the counter was opened at `opened` and is `next`, and the mark is `mark`, which the seat `keeper` keeps
+-- a look found at most the mark, or at most the counter
+abbrev pub IsWithin : ℕ → ℕ → Look → Type 0
+IsWithin next mark (saw.Mark found) = found ≤ mark
+IsWithin next mark (saw.Counter found) = found ≤ next
+
+-- What holds of the view of the seat `by`, where the counter was opened at `opened` and is `next`, and the mark is `mark`,
+-- which the seat `keeper` keeps
 pub record Fits (opened next mark keeper by : ℕ) (v : View) : Type 0 where
   -- each word drawn here is at least the opening, and below the counter
   pub since : All (λ x. opened ≤ x) v.drawn
@@ -33,12 +41,14 @@ pub record Fits (opened next mark keeper by : ℕ) (v : View) : Type 0 where
   -- each word that was drawn where this seat was split off is below the counter
   pub noted : All (λ x. x < next) v.noted
   -- each mark seen is at most the mark, and each word seen in the counter at most the counter
-  pub marks : All (λ x. x ≤ mark) v.marks
-  pub nexts : All (λ x. x ≤ next) v.nexts
+  pub looks : All (IsWithin next mark) v.looks
   -- the counter has not gone below where the keeper moved it to
   pub advances : All (λ a. a.1 ≤ next) v.advances
   -- only the keeper's seat keeps a mark, and that is the mark
   pub keeps : v.keeps ≡ true → (by ≡ keeper) × (v.mark ≡ mark)
+  -- no other seat has advanced the counter, and only a drawer's has drawn
+  pub plain : v.keeps ≡ false → v.advances ≡ []
+  pub idle : v.draws ≡ false → v.drawn ≡ []
 
 -- The running rule, of the two words as numbers and of all views
 pub record Stands (opened next mark keeper : ℕ) (views : List View) : Type 0 where
@@ -49,6 +59,9 @@ pub record Stands (opened next mark keeper : ℕ) (views : List View) : Type 0 w
   -- each word from the opening on and below the counter went by once, at one seat, and no other word did
   pub once : (x : ℕ) → sum_by (gone x) views + once_below x opened ≡ once_below x next
   pub each : (by : ℕ) (v : View) → get_elem? views by ≡ some v → Fits opened next mark keeper by v
+  -- the drawers' parts are 1,024 at most, and fewer where a drawer has none: one was lost, where a seat with one part was split
+  pub parts : sum_by (λ v. v.parts) views ≤ 1024
+  pub lost : (by : ℕ) (v : View) → get_elem? views by ≡ some v → v.draws ≡ true → v.parts ≡ 0 → sum_by (λ v. v.parts) views < 1024
 
 -- The running rule, which holds between any two atomic steps
 pub record Ruled {S : Type 0} (opened : ℕ) (s : State S View) : Type 0 where
@@ -60,15 +73,30 @@ pub record Ruled {S : Type 0} (opened : ℕ) (s : State S View) : Type 0 where
 
 -- A seat that knows nothing. A seat that was joined to another is left with this view
 abbrev pub nobody : View
-nobody = record { keeps = false; mark = 0; advances = []; drawn = []; raised = []; noted = []; marks = []; nexts = [] }
+nobody = record { keeps = false; mark = 0; advances = []; draws = false; parts = 0; drawn = []; raised = []; noted = []; looks = [] }
 
--- the keeper's seat at the start
+-- the keeper's seat at the start, with all parts
 abbrev pub first_keeper : ℕ → View
-first_keeper mark = record nobody { keeps = true; mark = mark }
+first_keeper mark = record nobody { keeps = true; mark = mark; parts = 1024 }
+
+-- and once it has handed them on, to the first drawer's seat
+abbrev pub without_parts : View → View
+without_parts v = record v { parts = 0 }
+
+abbrev pub first_drawer : View → View
+first_drawer v = record nobody { draws = true; parts = v.parts }
+
+-- the part that a split takes off so many: none of the last one, which is lost
+abbrev pub part_of : ℕ → ℕ
+part_of parts = if nat_lt 1 parts then 1 else 0
+
+-- what a drawer's seat keeps that is split
+abbrev pub keeping : View → View
+keeping v = record v { parts = v.parts - 1 }
 
 -- what a seat knows that is split off: all that was drawn at the other seat, or noted there, is noted
 abbrev pub split_off : View → View
-split_off v = record nobody { noted = v.noted ++ v.drawn }
+split_off v = record nobody { draws = true; parts = part_of v.parts; noted = v.noted ++ v.drawn }
 
 -- two seats as one, which keeps the mark where one of them did
 abbrev pub both : View → View → View
@@ -76,18 +104,16 @@ both v w = record {
   keeps = v.keeps || w.keeps;
   mark = if w.keeps then w.mark else v.mark;
   advances = v.advances ++ w.advances;
+  draws = v.draws || w.draws;
+  parts = v.parts + w.parts;
   drawn = v.drawn ++ w.drawn;
   raised = v.raised ++ w.raised;
   noted = v.noted ++ w.noted;
-  marks = v.marks ++ w.marks;
-  nexts = v.nexts ++ w.nexts;
+  looks = v.looks ++ w.looks;
 }
 
-abbrev pub seeing_mark : View → ℕ → View
-seeing_mark v mark = record v { marks = v.marks ++ mark ∷ [] }
-
-abbrev pub seeing_next : View → ℕ → View
-seeing_next v next = record v { nexts = v.nexts ++ next ∷ [] }
+abbrev pub seeing : View → Look → View
+seeing v look = record v { looks = v.looks ++ look ∷ [] }
 
 -- the number `word` is drawn, and the counter raised to `after`
 abbrev pub drawing : View → ℕ → ℕ → View
@@ -99,20 +125,29 @@ publishing v mark = record v { mark = mark }
 abbrev pub advancing : View → ℕ → ℕ → View
 advancing v from to = record v { advances = v.advances ++ (from, to) ∷ [] }
 
+-- The seat's last look was at the counter, where it found this word, and the one before at a mark above that
+pub record IsLastSeen (word : ℕ) (v : View) : Type 0 where
+  pub earlier : List Look
+  pub mark : ℕ
+  pub looks : v.looks ≡ earlier ++ saw.Mark mark ∷ saw.Counter word ∷ []
+  pub below : word < mark
+
 module _ {S : Type 0} where
   -- a load of the mark: it is noted as seen
   abbrev pub SeesMark : Step S → Me S View → ℕ → Me S View → Type 0
-  SeesMark st v found w = w ≡ (seeing_mark v.0 found, v.1)
+  SeesMark st v found w = w ≡ (seeing v.0 (saw.Mark found), v.1)
 
   -- a load of the counter: the word is noted as seen
   abbrev pub SeesNext : Step S → Me S View → ℕ → Me S View → Type 0
-  SeesNext st v found w = IsWord found × (w ≡ (seeing_next v.0 found, v.1))
+  SeesNext st v found w = IsWord found × (w ≡ (seeing v.0 (saw.Counter found), v.1))
 
-  -- A compare-exchange on the counter. Where it is won, the word found is drawn, above all that was drawn or noted at the seat. Else the word found is noted as seen
+  -- A compare-exchange on the counter, only from the word last seen there to the next. Where it is won, the word found is
+  -- drawn, above all that was drawn or noted at the seat. Else the word found, which is higher, is noted as seen
   abbrev pub Draws : Step S → Me S View → ℕ → Me S View → Type 0
   Draws st v found w =
-      (found ≡ st.first → (w ≡ (drawing v.0 found st.second, v.1)) × All (λ x. x < found) v.0.drawn × All (λ x. x < found) v.0.noted)
-      × (found ≢ st.first → w ≡ (seeing_next v.0 found, v.1))
+      IsLastSeen st.first v.0 × (st.second ≡ st.first + 1)
+      × (found ≡ st.first → (w ≡ (drawing v.0 found st.second, v.1)) × All (λ x. x < found) v.0.drawn × All (λ x. x < found) v.0.noted)
+      × (found ≢ st.first → (w ≡ (seeing v.0 (saw.Counter found), v.1)) × (st.first < found))
 
   -- a store on the mark: it is the keeper's mark
   abbrev pub Publishes : Step S → Me S View → ℕ → Me S View → Type 0
@@ -122,14 +157,20 @@ module _ {S : Type 0} where
   abbrev pub Advances : Step S → Me S View → ℕ → Me S View → Type 0
   Advances st v found w = w ≡ (advancing v.0 found st.first, v.1)
 
--- a seat that keeps the mark, and has drawn and seen nothing
+-- a seat that keeps the mark, has no parts, and has drawn and seen nothing
 pub record OnlyKeeps (v : View) : Type 0 where
   pub keeps : v.keeps ≡ true
+  pub parts : v.parts ≡ 0
   pub drawn : v.drawn ≡ []
   pub raised : v.raised ≡ []
   pub noted : v.noted ≡ []
-  pub marks : v.marks ≡ []
-  pub nexts : v.nexts ≡ []
+  pub looks : v.looks ≡ []
+
+-- a seat that draws, and has neither kept the mark nor advanced the counter
+pub record OnlyDraws (v : View) : Type 0 where
+  pub keeps : v.keeps ≡ false
+  pub draws : v.draws ≡ true
+  pub advances : v.advances ≡ []
 
 -- no two places of the drawn lists, of one seat or of two, hold one word
 abbrev pub DrawnOnce : List View → Type 0

@@ -1,7 +1,9 @@
 -- What contracts see of the two words and of the seats at them, and what one try to draw tells.
-use Rattle.std.specs.Prelude.{◌≡◌, ◌≢◌, ℕ, ◌+◌, ◌*◌, ◌^◌, ◌<◌, ◌≤◌, List, [], ◌∷◌, ◌++◌, All}
+use Rattle.std.specs.Prelude.{◌≡◌, ℕ, ◌+◌, ◌*◌, ◌^◌, ◌<◌, ◌≤◌, List, [], ◌∷◌, ◌++◌, All}
 use Rattle.atomic_table.specs.Seated.{TableId}
 use Rattle.mesh_base.specs.declared.pair.Pair.{Pair}
+use Rattle.seq_word.specs.declared.looks.Look.{Look}
+use Rattle.seq_word.specs.declared.looks.Look.TheVariants as saw
 use Rattle.seq_word.specs.declared.miss.Miss.{Miss}
 use Rattle.seq_word.specs.declared.miss.Miss.TheVariants as missed
 use Rattle.seq_word.specs.declared.miss.DrawStop.{DrawStop}
@@ -13,20 +15,23 @@ pub record NumbersView : Type 0 where
   pub which : TableId
   pub opened : ℕ
 
--- A seat that draws: at which words, the words that it drew, what each draw left in the counter, the words that were drawn before it was split off, and its looks at the mark and at the counter
+-- A seat that draws: at which words, the words that it drew, what each draw left in the counter, the words that were drawn
+-- before it was split off, its looks at the two words in their order, and its parts of the 1,024 that the drawers of these
+-- words have between them
 pub record DrawerView : Type 0 where
   pub which : TableId
   pub drawn : List ℕ
   pub raised : List ℕ
   pub noted : List ℕ
-  pub marks : List ℕ
-  pub nexts : List ℕ
+  pub looks : List Look
+  pub parts : ℕ
 
 -- a seat that has drawn and seen nothing, where these words had been drawn before it was split off
-abbrev pub fresh : TableId → List ℕ → DrawerView
-fresh which noted = record { which = which; drawn = []; raised = []; noted = noted; marks = []; nexts = [] }
+abbrev pub fresh : TableId → List ℕ → ℕ → DrawerView
+fresh which noted parts = record { which = which; drawn = []; raised = []; noted = noted; looks = []; parts = parts }
 
--- The keeper's seat: at which words, the mark, and of each advance the word that it found in the counter and the one that it moved the counter to
+-- The keeper's seat: at which words, the mark, and of each advance the word that it found in the counter and the one that it
+-- moved the counter to
 pub record KeeperView : Type 0 where
   pub which : TableId
   pub mark : ℕ
@@ -37,26 +42,30 @@ pub record ClosedView : Type 0 where
   pub next : ℕ
   pub mark : ℕ
   pub drawn : List ℕ
-  pub marks : List ℕ
-  pub nexts : List ℕ
+  pub looks : List Look
 
 -- the word is above all that was drawn at the seat, and all that had been drawn before it was split off
 abbrev pub IsAbove : DrawerView → ℕ → Type 0
 IsAbove v word = All (λ x. x < word) v.drawn × All (λ x. x < word) v.noted
 
+-- the list begins with these looks
+pub record IsPrefix (front list : List Look) : Type 0 where
+  pub rest : List Look
+  pub is : list ≡ front ++ rest
+
 -- A try that gave this pair: its look found the pair's word in the counter, below the mark that the look before had found
 pub record Finds (p : Pair) (v w : DrawerView) : Type 0 where
   pub mark : ℕ
-  pub marks : w.marks ≡ v.marks ++ mark ∷ []
-  pub nexts : w.nexts ≡ v.nexts ++ word_of p ∷ []
+  pub looks : w.looks ≡ v.looks ++ saw.Mark mark ∷ saw.Counter (word_of p) ∷ []
   pub below : word_of p < mark
 
 -- The cause of a miss, by the looks of the try: first at the mark, then at the counter, and where the exchange was lost what it found
 abbrev pub HasCause : Miss → DrawerView → DrawerView → Type 0
-HasCause (missed.Spent iv) v w = (mark : ℕ) × (w.marks ≡ v.marks ++ mark ∷ []) × (w.nexts ≡ v.nexts ++ (iv * 2 ^ 25 + 2 ^ 24) ∷ [])
-HasCause (missed.Dry next mark) v w = (w.marks ≡ v.marks ++ mark ∷ []) × (w.nexts ≡ v.nexts ++ next ∷ []) × (mark ≤ next) × (seq_of next < 2 ^ 24)
+HasCause (missed.Spent iv) v w = (mark : ℕ) × (w.looks ≡ v.looks ++ saw.Mark mark ∷ saw.Counter (iv * 2 ^ 25 + 2 ^ 24) ∷ [])
+HasCause (missed.Dry next mark) v w = (w.looks ≡ v.looks ++ saw.Mark mark ∷ saw.Counter next ∷ []) × (mark ≤ next) × (seq_of next < 2 ^ 24)
 HasCause (missed.Lost expected found) v w =
-    (mark : ℕ) × (w.marks ≡ v.marks ++ mark ∷ []) × (w.nexts ≡ (v.nexts ++ expected ∷ []) ++ found ∷ []) × (found ≢ expected) × (expected < mark) × (seq_of expected < 2 ^ 24)
+    (mark : ℕ) × (w.looks ≡ v.looks ++ saw.Mark mark ∷ saw.Counter expected ∷ saw.Counter found ∷ [])
+    × (expected < found) × (expected < mark) × (seq_of expected < 2 ^ 24)
 
 -- the seat has drawn nothing more, and still draws at the same words
 pub record SameDrawn (v w : DrawerView) : Type 0 where
@@ -64,6 +73,7 @@ pub record SameDrawn (v w : DrawerView) : Type 0 where
   pub drawn : w.drawn ≡ v.drawn
   pub raised : w.raised ≡ v.raised
   pub noted : w.noted ≡ v.noted
+  pub parts : w.parts ≡ v.parts
 
 -- between v and w these tries were lost, the latest first, and nothing else was done
 abbrev pub LostTries : List (ℕ × ℕ) → DrawerView → DrawerView → Type 0

@@ -25,8 +25,7 @@ impl Model for Closed {
       next = c.next;
       mark = c.mark;
       drawn = v.drawn;
-      marks = v.marks;
-      nexts = v.nexts;
+      looks = v.looks;
     } };
 }
 

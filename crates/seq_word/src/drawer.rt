@@ -6,13 +6,17 @@ use atomic_table::Seat;
 use std::marker::Model;
 
 /// A seat that draws, at the words that it was made with. It takes no memory. Hand each thread that draws a seat of its own.
+///
+/// A contract sees what was drawn here and what that left in the counter, what had been drawn where this seat was split
+/// off, the looks at the two words in their order, and its parts of the 1,024.
 #[derive(Drop)]
 pub struct Drawer {
     pub(crate) seat: Seat<u8, View>,
 }
 
 impl Model for Drawer {
-    ghost use Rattle.std.specs.Prelude.{◌≡◌, false, []};
+    ghost use Rattle.std.specs.Prelude.{◌≡◌, []};
+    ghost use Rattle.seq_word.specs.Rule.{OnlyDraws};
     ghost use Rattle.seq_word.specs.Seen.{DrawerView};
 
     ghost Value = { DrawerView };
@@ -22,10 +26,10 @@ impl Model for Drawer {
       drawn = v.drawn;
       raised = v.raised;
       noted = v.noted;
-      marks = v.marks;
-      nexts = v.nexts;
+      looks = v.looks;
+      parts = v.parts;
     } };
 
-    // It keeps no mark, has made no advance and holds no slot.
-    ghost invariant = { λ d. (d.seat.me.0.keeps ≡ false) × (d.seat.me.0.advances ≡ []) × (d.seat.me.1 ≡ []) };
+    // It draws, keeps no mark, has made no advance and holds no slot.
+    ghost invariant = { λ d. OnlyDraws d.seat.me.0 × (d.seat.me.1 ≡ []) };
 }

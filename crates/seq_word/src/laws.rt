@@ -1,12 +1,12 @@
 //! What follows from the rule of the two words, and of words and pairs.
 #![tactic(auto)]
 
-ghost use Rattle.std.specs.Prelude.{◌≡◌, ℕ, ◌<◌, ◌^◌};
+ghost use Rattle.std.specs.Prelude.{◌≡◌, ◌≢◌, ℕ, ◌<◌, ◌≤◌, ◌^◌, AllPairs, List};
 ghost use Rattle.atomic_table.specs.Table.{State};
 ghost use Rattle.mesh_base.specs.declared.pair.Pair.{Pair};
 ghost use Rattle.seq_word.specs.declared.rule.View.{View};
 ghost use Rattle.seq_word.specs.Word.{word_of, Precedes};
-ghost use Rattle.seq_word.specs.Rule.{Ruled, DrawnOnce, MarkIsKept};
+ghost use Rattle.seq_word.specs.Rule.{times, Ruled, DrawnOnce, MarkIsKept};
 
 /// Whatever the words and the seats are between two atomic steps, no two places of the drawn lists, of one seat or of two, hold
 /// one word.
@@ -18,6 +18,14 @@ pub fn drawn_once()
 /// and no other seat is the keeper's.
 pub fn mark_is_kept()
     ensures { (opened : ℕ) (s : State ℕ View) → Ruled opened s → MarkIsKept s }
+{}
+
+/// Where each word stands in a list at most once, by counting, the words at any two of its places differ. Counting doesn't see
+/// the order: so lists of drawn words may be put together in any order.
+pub fn distinct()
+    ensures value { (words : List ℕ) → ((x : ℕ) → times x words ≤ 1) → AllPairs (λ x y. x ≢ y) words }
+    ensures any_order { (drawn words : List ℕ) → ((x : ℕ) → times x words ≤ times x drawn) → ((x : ℕ) → times x drawn ≤ 1)
+        → AllPairs (λ x y. x ≢ y) words }
 {}
 
 /// Two pairs with one word are one pair.

@@ -3,10 +3,15 @@
 //!
 //! - `word`: an IV Index and a SEQ in one number
 //! - `rule`: what the words and the seats at them keep between any two atomic steps
+//! - `looks`: what a seat notes of what it saw
 //! - `miss`: why a draw gave no number
 //! - `drawer`, `keeper`, `closed`: a seat that draws, the one seat that moves the mark, and what the words held at the end
 //! - `numbers`: the two words, with all calls
 //! - `laws`: what follows from the rule
+//!
+//! The seats that draw have 1,024 parts between them, which contracts alone see. Where one seat has them all at the end,
+//! each word from the opening on and below the counter was drawn there or passed over: so `close` tells exactly which word
+//! the counter was.
 //!
 //! Not promised: that a draw succeeds in the end, that bearers draw in turn, that two threads run.
 #![tactic(auto)]
@@ -15,6 +20,7 @@ mod closed;
 mod drawer;
 mod keeper;
 pub mod laws;
+mod looks;
 mod miss;
 mod numbers;
 mod rule;
@@ -25,5 +31,6 @@ pub mod word;
 pub use closed::Closed;
 pub use drawer::Drawer;
 pub use keeper::Keeper;
+pub use looks::Look;
 pub use miss::{DrawStop, Miss};
 pub use numbers::Numbers;

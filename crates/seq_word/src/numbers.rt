@@ -1,17 +1,18 @@
 //! The two words, with all calls.
 #![tactic(auto)]
 
-ghost use Rattle.std.specs.Prelude.{◌≡◌, ◌≢◌, ℕ, ◌+◌, ◌*◌, ◌^◌, ◌<◌, ◌≤◌, [], ◌∷◌, ◌++◌, All, AllPairs, IfOk, IfErr, OnErr};
+ghost use Rattle.std.specs.Prelude.{◌≡◌, ◌≢◌, ℕ, ◌+◌, ◌-◌, ◌*◌, ◌^◌, ◌<◌, ◌≤◌, [], ◌∷◌, ◌++◌, All, AllPairs, IfOk, IfErr, OnErr};
 ghost use Rattle.seq_word.specs.Word.{word_of, seq_of, IsWord};
-ghost use Rattle.seq_word.specs.Rule.{times};
-ghost use Rattle.seq_word.specs.Seen.{fresh, IsAbove, Finds, HasCause, SameDrawn, AfterLost, miss_of};
+ghost use Rattle.seq_word.specs.declared.looks.Look.TheVariants as saw;
+ghost use Rattle.seq_word.specs.Rule.{IsWithin, part_of, times, once_below, passed_over};
+ghost use Rattle.seq_word.specs.Seen.{fresh, IsAbove, IsPrefix, Finds, HasCause, SameDrawn, AfterLost, miss_of};
 
 use crate::closed::Closed;
 use crate::drawer::Drawer;
 use crate::keeper::Keeper;
 use crate::miss::{DrawStop, Miss};
 use crate::rule::{
-    Advances, COUNTER, Draws, MARK, Opening, Publishes, Seats, SeesMark, SeesNext, Words,
+    Advances, COUNTER, Draws, MARK, Opening, Opens, Publishes, Seats, SeesMark, SeesNext, Words,
 };
 use crate::word::{SPENT_SEQ, WORDS_PER_IV, pair_of};
 use atomic_table::Table;
@@ -42,8 +43,8 @@ impl Model for Numbers {
     ghost invariant = { λ n. (n.table.shared.table_id.words ≡ 2) × (n.table.shared.table_id.slots ≡ 0) };
 }
 
-/// One look at both words.
-struct Look {
+/// What a look at both words found.
+struct Found {
     mark: u64,
     next: u64,
 }
@@ -62,27 +63,26 @@ impl Numbers {
 
         ensures opened { IfOk result (λ t. t.0.opened ≡ next) }
         ensures keeper { IfOk result (λ t. t.1 ≡ record { which = t.0.which; mark = mark; advances = [] }) }
-        ensures drawer { IfOk result (λ t. t.2 ≡ fresh t.0.which []) }
+        ensures drawer { IfOk result (λ t. t.2 ≡ fresh t.0.which [] 1024) }
     {
         let (table, mut seat) = Table::of_words(alloc, &[next, mark], &Opening { next, mark })?;
         let drawer = Drawer {
-            seat: table.shared.split_seat::<Seats>(&mut seat),
+            seat: table.shared.split_seat::<Opens>(&mut seat),
         };
         Ok((Numbers { table }, Keeper { seat }, drawer))
     }
 
     /// Looks at the mark, and then at the counter.
-    fn look(&self, d: &mut Drawer) -> Look
+    fn look(&self, d: &mut Drawer) -> Found
         requires made { d.old.which ≡ self.now.which }
 
         ensures word { IsWord result.next }
-        ensures marks { d.new.marks ≡ d.old.marks ++ result.mark ∷ [] }
-        ensures nexts { d.new.nexts ≡ d.old.nexts ++ result.next ∷ [] }
-        ensures same { SameDrawn d.old d.new }
+        ensures looks { d.new.looks ≡ d.old.looks ++ saw.Mark result.mark ∷ saw.Counter result.next ∷ [] }
+        ensures unchanged { SameDrawn d.old d.new }
     {
         let mark = self.table.shared.load::<SeesMark>(&mut d.seat, MARK);
         let next = self.table.shared.load::<SeesNext>(&mut d.seat, COUNTER);
-        Look { mark, next }
+        Found { mark, next }
     }
 
     /// Draws the next number, if no other seat comes between: a load of the mark, a load of the counter, and a compare-exchange on
@@ -91,7 +91,8 @@ impl Numbers {
     pub fn try_draw(&self, d: &mut Drawer) -> Result<Pair, Miss>
         requires made { d.old.which ≡ self.now.which }
 
-        ensures same { (d.new.which ≡ d.old.which) × (d.new.noted ≡ d.old.noted) }
+        ensures looks { IsPrefix d.old.looks d.new.looks }
+        ensures frame { (d.new.which ≡ d.old.which) × (d.new.noted ≡ d.old.noted) × (d.new.parts ≡ d.old.parts) }
 
         ensures drawn { IfOk result (λ p. d.new.drawn ≡ d.old.drawn ++ word_of p ∷ []) }
         ensures raised { IfOk result (λ p. d.new.raised ≡ d.old.raised ++ (word_of p + 1) ∷ []) }
@@ -102,7 +103,7 @@ impl Numbers {
         ensures err { OnErr result (SameDrawn d.old d.new) }
         ensures cause { IfErr result (λ e. HasCause e d.old d.new) }
     {
-        let Look { mark, next } = self.look(d);
+        let Found { mark, next } = self.look(d);
         let pair = pair_of(next);
         if pair.seq == SPENT_SEQ {
             return Err(Miss::Spent { iv: pair.iv });
@@ -125,7 +126,8 @@ impl Numbers {
     pub fn draw(&self, rt: &impl Wait, d: &mut Drawer) -> Result<Pair, DrawStop>
         requires made { d.old.which ≡ self.now.which }
 
-        ensures same { (d.new.which ≡ d.old.which) × (d.new.noted ≡ d.old.noted) }
+        ensures looks { IsPrefix d.old.looks d.new.looks }
+        ensures frame { (d.new.which ≡ d.old.which) × (d.new.noted ≡ d.old.noted) × (d.new.parts ≡ d.old.parts) }
 
         ensures drawn { IfOk result (λ p. d.new.drawn ≡ d.old.drawn ++ word_of p ∷ []) }
         ensures raised { IfOk result (λ p. d.new.raised ≡ d.old.raised ++ (word_of p + 1) ∷ []) }
@@ -153,7 +155,7 @@ impl Numbers {
         requires word { IsWord mark }
         requires up { k.old.mark ≤ mark }
 
-        ensures { k.new ≡ record k.old { mark = mark } }
+        ensures value { k.new ≡ record k.old { mark = mark } }
     {
         let words = &self.table.shared;
         words.store::<Publishes>(&mut k.seat, MARK, mark);
@@ -165,19 +167,20 @@ impl Numbers {
         requires marked { iv * 2 ^ 25 ≤ k.old.mark }
 
         ensures noted { (found : ℕ) × (k.new.advances ≡ k.old.advances ++ (found, iv * 2 ^ 25) ∷ []) }
-        ensures same { (k.new.which ≡ k.old.which) × (k.new.mark ≡ k.old.mark) }
+        ensures frame { (k.new.which ≡ k.old.which) × (k.new.mark ≡ k.old.mark) }
     {
         let to = u64::from(iv) * WORDS_PER_IV;
         let words = &self.table.shared;
         words.fetch_max::<Advances>(&mut k.seat, COUNTER, to);
     }
 
-    /// A new seat. What it draws is above all that this one has drawn so far.
+    /// A new seat. What it draws is above all that this one has drawn so far. It takes one of this one's parts. Where this
+    /// one has one part alone, that part is lost, and `close` can't tell any more that all seats were joined.
     pub fn split(&self, d: &mut Drawer) -> Drawer
         requires made { d.old.which ≡ self.now.which }
 
-        ensures same { d.new ≡ d.old }
-        ensures value { result ≡ fresh d.old.which (d.old.noted ++ d.old.drawn) }
+        ensures value { result ≡ fresh d.old.which (d.old.noted ++ d.old.drawn) (part_of d.old.parts) }
+        ensures frame { d.new ≡ record d.old { parts = d.old.parts - 1 } }
     {
         Drawer {
             seat: self.table.shared.split_seat::<Seats>(&mut d.seat),
@@ -193,8 +196,8 @@ impl Numbers {
         ensures drawn { d.new.drawn ≡ d.old.drawn ++ other.drawn }
         ensures raised { d.new.raised ≡ d.old.raised ++ other.raised }
         ensures noted { d.new.noted ≡ d.old.noted ++ other.noted }
-        ensures marks { d.new.marks ≡ d.old.marks ++ other.marks }
-        ensures nexts { d.new.nexts ≡ d.old.nexts ++ other.nexts }
+        ensures looks { d.new.looks ≡ d.old.looks ++ other.looks }
+        ensures parts { d.new.parts ≡ d.old.parts + other.parts }
     {
         let Drawer { seat } = other;
         self.table.shared.join_seat::<Seats>(&mut d.seat, seat);
@@ -206,7 +209,7 @@ impl Numbers {
         requires drawer_made { d.which ≡ self.which }
 
         ensures drawn { result.drawn ≡ d.drawn }
-        ensures looks { (result.marks ≡ d.marks) × (result.nexts ≡ d.nexts) }
+        ensures looks { result.looks ≡ d.looks }
 
         ensures words { IsWord result.next × IsWord result.mark }
         ensures order { (self.opened ≤ result.next) × (result.next ≤ result.mark) }
@@ -217,7 +220,11 @@ impl Numbers {
         ensures below { All (λ x. x < result.next) d.drawn }
         ensures once { (x : ℕ) → times x d.drawn ≤ 1 }
         ensures distinct { AllPairs (λ x y. x ≢ y) d.drawn }
-        ensures seen { All (λ x. x ≤ result.next) d.nexts × All (λ x. x ≤ result.mark) d.marks }
+        ensures seen { All (IsWithin result.next result.mark) d.looks }
+        // Where all seats were joined, each word from the opening on and below the next was drawn or passed over, once, and no
+        // other word was. So this says which word the next is.
+        ensures all { d.parts ≡ 1024 → (x : ℕ)
+            → times x d.drawn + passed_over x k.advances + once_below x self.opened ≡ once_below x result.next }
     {
         let Numbers { table } = self;
         let Keeper { seat: keeper } = k;

@@ -6,13 +6,14 @@
 //! |---|---|---|
 //! | a load of the mark | a drawer | the mark, among its looks |
 //! | a load of the counter | a drawer | the word, among its looks |
-//! | a compare-exchange on the counter, from the word last seen to the next | a drawer | won: the word as drawn, and what it left in the counter; lost: the word found, among its looks |
+//! | a compare-exchange on the counter, only from the word last seen there to the next | a drawer | won: the word as drawn, and what it left in the counter; lost: the word found, among its looks |
 //! | a store on the mark | the keeper | the mark as its own |
 //! | a fetch_max on the counter | the keeper | the word found, and the one moved to |
-//! | a split | a drawer, and at the start the keeper | nothing; the new seat notes all that was drawn here, or noted |
-//! | a join | a drawer | all that the other seat knows; at the end also the keeper's mark. The other seat is left knowing nothing |
+//! | a split | a drawer | it has one part less; the new seat has that, and notes all that was drawn here, or noted. At the start the keeper's seat hands all its parts to the first drawer |
+//! | a join | a drawer | all that the other seat knows, and its parts; at the end also the keeper's mark. The other seat is left knowing nothing |
 #![tactic(auto)]
 
+use crate::looks::Look;
 use atomic_table::{Join, Play, Split, Table, TableRule};
 use std::alloc::Global;
 use std::collections::LinkedList;
@@ -31,16 +32,18 @@ pub struct View {
     pub mark: u64,
     /// The keeper's advances: the word that each found in the counter, and the one that it moved the counter to.
     pub advances: LinkedList<(u64, u64)>,
+    /// Whether this is the seat of a drawer.
+    pub draws: bool,
+    /// Its parts of the 1,024 that all drawers have between them, as long as no part was lost.
+    pub parts: u64,
     /// The words that were drawn at this seat, in their order.
     pub drawn: LinkedList<u64>,
     /// What each of these draws left in the counter.
     pub raised: LinkedList<u64>,
     /// The words that had been drawn at the seat from which this one was split off, or were noted there.
     pub noted: LinkedList<u64>,
-    /// The looks at the mark.
-    pub marks: LinkedList<u64>,
-    /// The looks at the counter.
-    pub nexts: LinkedList<u64>,
+    /// The looks at the two words, in their order.
+    pub looks: LinkedList<Look>,
 }
 
 /// What the words are when the table is made.
@@ -111,13 +114,24 @@ impl Play<u8, View> for Advances {
     ghost then = { rule.Advances };
 }
 
-/// How seats are cut in two and put together.
+/// How the first drawer's seat is cut off the keeper's.
+pub struct Opens;
+
+impl Split<View> for Opens {
+    ghost use Rattle.seq_word.specs.Rule.{without_parts, first_drawer};
+
+    ghost left = { without_parts };
+
+    ghost right = { first_drawer };
+}
+
+/// How drawers' seats are cut in two and put together.
 pub struct Seats;
 
 impl Split<View> for Seats {
-    ghost use Rattle.seq_word.specs.Rule.{split_off};
+    ghost use Rattle.seq_word.specs.Rule.{keeping, split_off};
 
-    ghost left = { λ v. v };
+    ghost left = { keeping };
 
     ghost right = { split_off };
 }

@@ -1,4 +1,4 @@
-// The worked cases, and threads that draw at once. No clause can say which number `close` finds in the counter.
+// The worked cases, and threads that draw at once.
 ghost use Rattle.std.specs.Prelude.{◌≡◌, All, IfOk};
 
 use super::*;

@@ -1,15 +1,15 @@
 -- One slot more: what a cut leaves, and what the journal then knows.
-use Rattle.std.proofs.Common.{◌≡◌, ◌≢◌, ℕ, suc, ◌+◌, ◌-◌, ◌*◌, ◌<◌, ◌≤◌, List, ◌++◌, length, Some, None, sym, ap, ◌∙◌, subst, inl, inr, ⊎_elim, arith}
-use Rattle.std.specs.Prelude.{option_to_list, option_map}
+use Rattle.std.proofs.Common.{◌≡◌, ◌≢◌, ℕ, suc, ◌+◌, ◌-◌, ◌*◌, ◌<◌, ◌≤◌, List, [], ◌∷◌, ◌++◌, length, Some, None, sym, ap, ◌∙◌, subst, inl, inr, ⊎_elim, arith}
+use Rattle.std.specs.Prelude.{option_to_list}
 use Rattle.std.proofs.lemmas.List.{append-nil}
 use Rattle.mesh_base.specs.declared.slot.Slot.{Slot}
 use Rattle.flash_model.specs.Octets.{IsContent}
 use Rattle.slot_journal.specs.Slots.{IsElsewhere, IsWritten, IsSlotWrite}
-use Rattle.layer_definitions.specs.Slots.{text_at, text_of, blank_text, gate_of, gated, slots_to, slots_of, counting, counting_by, recovered}
+use Rattle.slot_definitions.specs.Slots.{text_at, text_of, blank_text, gate_of, format_of, gated, slots_to, slots_of, counting, counting_by, Held, held_by, recovered}
 use Rattle.slot_journal.specs.Headers.{IsSteady, IsTidy}
 use Rattle.slot_journal.specs.Tie.{IsUsed, IsAppended, with_last}
 use Rattle.slot_journal.proofs.Texts.{length_text}
-use Rattle.slot_journal.proofs.Listed.{slots_same, slots_blank, gated_none, gated_text}
+use Rattle.slot_definitions.proofs.SlotLaws.{slots_same, slots_blank, gated_none, gated_text, recovered_at}
 
 -- no header stands there
 is_no_header : (bank used b : ℕ) → used < 1023 → 1024 * b ≢ 1024 * bank + (used + 1)
@@ -17,9 +17,6 @@ is_no_header bank used b few e = omega arith
 
 pub same_counting : (c d : List ℕ) → text_at c 0 ≡ text_at d 0 → text_at c 1024 ≡ text_at d 1024 → counting c ≡ counting d
 same_counting c d first second = λ i. counting_by (first i) (second i)
-
-pub recovered_at : (c : List ℕ) (bank : ℕ) → counting c ≡ Some bank → recovered c ≡ Some (slots_of c bank)
-recovered_at c bank is = ap (option_map (slots_of c)) is
 
 module _ (old : List ℕ) (bank used : ℕ) (item : Slot) (tidy : IsTidy old) (low : bank ≤ 1) (counts : counting old ≡ Some bank) (known : IsUsed old bank used) (few : used < 1023) where
   abbrev place : ℕ
@@ -30,7 +27,7 @@ module _ (old : List ℕ) (bank used : ℕ) (item : Slot) (tidy : IsTidy old) (l
 
   -- content in which at most that slot differs
   module _ (c : List ℕ) (whole : IsContent c) (elsewhere : IsElsewhere place old c) where
-    header_same : (b : ℕ) → b ≤ 1 → text_at c (1024 * b) ≡ text_at old (1024 * b)
+    pub header_same : (b : ℕ) → b ≤ 1 → text_at c (1024 * b) ≡ text_at old (1024 * b)
     header_same b lb = elsewhere (1024 * b) (omega arith) (is_no_header bank used b few)
 
     pub tidy_after : IsTidy c
@@ -55,14 +52,19 @@ module _ (old : List ℕ) (bank used : ℕ) (item : Slot) (tidy : IsTidy old) (l
         let at : text_at c (1024 * bank + suc used) ≡ text_at c place = ap (λ k. text_at c (1024 * bank + k)) (sym next) in
         until ∙ ap (slots_to c bank) next ∙ (λ i. before i ++ option_to_list (gated (at i))) ∙ ap (λ (l : List Slot). l ++ option_to_list (gated (text_at c place))) (sym slots_old)
 
+    held_new : (slots : List Slot) → slots_of c bank ≡ slots → held_by c bank ≡ record { format = format_of (text_at old (1024 * bank)); slots = slots }
+    held_new slots are = λ i. record { format = format_of (header_same bank low i); slots = are i }
+
     pub closed_gate : gate_of (text_at c place) ≢ 0 → recovered c ≡ recovered old
     closed_gate not =
-        recovered_at c bank counts_after ∙ ap Some (slots_new ∙ ap (λ o. slots_of old bank ++ option_to_list o) (gated_none (text_at c place) not) ∙ append-nil (slots_of old bank)) ∙ sym (recovered_at old bank counts)
+        recovered_at c bank counts_after ∙ ap Some (held_new (slots_of old bank) (slots_new ∙ ap (λ o. slots_of old bank ++ option_to_list o) (gated_none (text_at c place) not) ∙ append-nil (slots_of old bank)))
+        ∙ sym (recovered_at old bank counts)
 
     pub open_gate : text_at c place ≡ text_of item → recovered c ≡ with_last item (recovered old)
     open_gate is =
         let size = sym (ap (λ (l : List ℕ). length l) is) ∙ length_text c place whole (omega arith) in
-        recovered_at c bank counts_after ∙ ap Some (slots_new ∙ ap (λ o. slots_of old bank ++ option_to_list o) (ap gated is ∙ gated_text item size)) ∙ ap (with_last item) (sym (recovered_at old bank counts))
+        recovered_at c bank counts_after ∙ ap Some (held_new (slots_of old bank ++ item ∷ []) (slots_new ∙ ap (λ o. slots_of old bank ++ option_to_list o) (ap gated is ∙ gated_text item size)))
+        ∙ ap (with_last item) (sym (recovered_at old bank counts))
 
   pub appended_torn : (c : List ℕ) → IsSlotWrite place (text_of item) old c → IsAppended (recovered old) item c
   appended_torn c write = record {

@@ -1,7 +1,10 @@
 pub mod Appends
+pub mod Compacts
 pub mod Counted
+pub mod Counts
+pub mod Erases
+pub mod Fills
 pub mod Formats
-pub mod Listed
 pub mod Steady
 pub mod Texts
 pub mod Ties

@@ -4,7 +4,7 @@ use Rattle.std.proofs.lemmas.Bool.{cases_lt}
 use Rattle.std.proofs.lemmas.List.{get_or-take, get_or-drop, get_or-replicate, length-replicate, ext_get_or}
 use Rattle.flash_model.specs.Octets.{IsContent}
 use Rattle.slot_journal.specs.Slots.{IsElsewhere}
-use Rattle.layer_definitions.specs.Slots.{text_at, blank_text}
+use Rattle.slot_definitions.specs.Slots.{text_at, blank_text}
 
 pub get_text : (c : List ℕ) (n k : ℕ) → k < 32 → get_or (text_at c n) k 0 ≡ get_or c (32 * n + k) 0
 get_text c n k lt =

@@ -11,7 +11,7 @@ use Rattle.flash_model.proofs.Changed.{programmed_below, programmed_above, progr
 use Rattle.flash_model.proofs.Mixed.{torn_same, torn_content, programmed_content}
 use Rattle.flash_model.proofs.Leaves.{IsOnlyNow, leaves_first, leaves_more}
 use Rattle.slot_journal.specs.Slots.{IsWritten, IsSlotWrite}
-use Rattle.layer_definitions.specs.Slots.{text_at, blank_text, gate_of}
+use Rattle.slot_definitions.specs.Slots.{text_at, blank_text, gate_of}
 use Rattle.slot_journal.proofs.Texts.{get_text, length_text, blank_octet, elsewhere_by}
 
 and_blank : (b : ℕ) → b < 256 → bit_and 255 b ≡ b

@@ -1,7 +1,7 @@
 -- What writing one slot leaves, and what a cut leaves of it.
 use Rattle.std.specs.Prelude.{◌≡◌, ◌≢◌, ◌⊎◌, ℕ, ◌<◌, List}
 use Rattle.flash_model.specs.Octets.{IsContent}
-use Rattle.layer_definitions.specs.Slots.{text_at, gate_of}
+use Rattle.slot_definitions.specs.Slots.{text_at, gate_of}
 
 -- no slot but n differs
 abbrev pub IsElsewhere : ℕ → List ℕ → List ℕ → Type 0

@@ -8,3 +8,7 @@ pub record JournalView : Type 0 where
   pub used : ℕ
   -- a write failed
   pub closed : Bool
+  -- the generation of its bank's header, below 2 ^ 32
+  pub generation : ℕ
+  -- the format of its bank's header, 1 or 2
+  pub version : ℕ

@@ -1,17 +1,22 @@
 // A blank flash becomes a journal: its items first, then the header of bank 0, so that nothing counts before all is there.
-ghost use Rattle.std.specs.Prelude.{◌≡◌, ℕ, ◌+◌, ◌<◌, ◌≤◌, List, length, false, Some, IsTrue, IsOk, IfOk, IfErr, OnOk, OnErr};
+ghost use Rattle.std.specs.Prelude.{◌≡◌, ◌⊎◌, ℕ, ◌+◌, ◌*◌, ◌<◌, ◌≤◌, List, length, false, Some, IsTrue, IsOk, IfOk, IfErr, OnOk, OnErr};
+ghost use Rattle.flash_model.specs.Arming.{Begins, BeginsAtMost};
 ghost use Rattle.flash_model.specs.Chip.{IsFresh, Keeps, LeavesOnly, Stays};
-ghost use Rattle.layer_definitions.specs.Slots.{recovered};
+ghost use Rattle.slot_definitions.specs.Slots.{recovered};
 ghost use Rattle.slot_journal.specs.Tie.{IsJournalOf};
-ghost use Rattle.slot_journal.specs.Format.{IsBare, IsErased, IsFilled, IsFirstSet, IsFormatted, IsScanned};
+ghost use Rattle.slot_journal.specs.Format.{IsErased, IsFirstSet, IsFormatted, IsScanned};
 ghost use Rattle.slot_journal.specs.Causes.{IsFormatCause, IsNotErased};
 
+use crate::filling::fill_bank;
 use crate::header::header;
 use crate::journal::{BANK_SLOTS, Journal};
 use crate::text::{SLOT_OCTETS, read_slot, write_slot};
 use flash_model::{Flash, FlashFailed};
 use mesh_base::slot::Slot;
 use thiserror::Error;
+
+/// The generation of a journal that is made.
+const GENERATION: u32 = 1;
 
 /// Why no journal was made.
 #[derive(Clone, Copy, Debug, PartialEq, Eq, Error)]
@@ -36,30 +41,39 @@ impl From<FlashFailed> for FormatFault {
 }
 
 impl Journal {
-    /// Writes a journal with these items onto an erased flash.
-    pub fn format<F: Flash>(flash: &mut F, items: &[Slot]) -> Result<Self, FormatFault>
-        requires { length items.now ≤ 512 }
+    /// Writes a journal with these items, at most 512, onto an erased flash: into bank 0, in format 1 or 2, with generation 1.
+    pub fn format<F: Flash>(flash: &mut F, items: &[Slot], format: u8) -> Result<Self, FormatFault>
+        requires few { length items.now ≤ 512 }
+        requires known { (format ≡ 1) ⊎ (format ≡ 2) }
+
         ensures cause { IfErr result (IsFormatCause (F.chip flash.old) (F.chip flash.new)) }
         ensures erased { IsTrue (F.chip flash.old).honest → OnOk result (IsErased (F.chip flash.old).now) }
         ensures unchanged { IsTrue (F.chip flash.old).honest → ¬ IsErased (F.chip flash.old).now → Stays (F.chip flash.old) (F.chip flash.new) }
-        ensures value { IfOk result (λ j. j ≡ record { bank = 0; used = length items.now; closed = false }) }
+        ensures value { IfOk result (λ j. j ≡ record { bank = 0; used = length items.now; closed = false; generation = 1; version = format }) }
         ensures kept { IsFresh (F.chip flash.old) → IfOk result (IsJournalOf (F.chip flash.new)) }
-        ensures durable { IsFresh (F.chip flash.old) → OnOk result (recovered (F.chip flash.new).now ≡ Some items.now) }
-        ensures any_moment { IsFresh (F.chip flash.old) → IsErased (F.chip flash.old).now → LeavesOnly (F.chip flash.old) (F.chip flash.new) (IsFormatted items.now) }
+        ensures durable { IsFresh (F.chip flash.old) → OnOk result (recovered (F.chip flash.new).now ≡ Some (record { format = format; slots = items.now })) }
+        ensures any_moment { IsFresh (F.chip flash.old) → IsErased (F.chip flash.old).now → LeavesOnly (F.chip flash.old) (F.chip flash.new) (IsFormatted format items.now) }
+
+        // over a steady flash: two program calls for each item and two for the header, and at most these where it fails
+        ensures calls { IsTrue (F.chip flash.old).steady → OnOk result (Begins (2 * length items.now + 2) (F.chip flash.old) (F.chip flash.new)) }
+        ensures most_calls { IsTrue (F.chip flash.old).steady → BeginsAtMost (2 * length items.now + 2) (F.chip flash.old) (F.chip flash.new) }
 
         // of every flash, honest or not
+        ensures no_fault { OnOk result ((F.chip flash.new).faults ≡ (F.chip flash.old).faults) }
         ensures sure { IsTrue (F.chip flash.old).sure → IfErr result IsNotErased }
-        ensures same { Keeps (F.chip flash.old) (F.chip flash.new) }
+        ensures frame { Keeps (F.chip flash.old) (F.chip flash.new) }
     {
         if let Some(at) = first_written(flash)? {
             return Err(FormatFault::NotErased { at });
         }
-        write_items(flash, items)?;
-        write_slot(flash, 0, &header(1))?;
+        fill_bank(flash, 0, items)?;
+        write_slot(flash, 0, &header(format, GENERATION))?;
         Ok(Journal {
             bank: 0,
             used: items.len() as u32,
             closed: false,
+            generation: GENERATION,
+            version: format,
         })
     }
 }
@@ -68,9 +82,11 @@ impl Journal {
 fn first_written<F: Flash>(flash: &mut F) -> Result<Option<u32>, FlashFailed>
     ensures value { IsTrue (F.chip flash.old).honest → IfOk result (IsScanned (F.chip flash.old).now) }
     ensures stays { IsTrue (F.chip flash.old).honest → Stays (F.chip flash.old) (F.chip flash.new) }
+    ensures calls { IsTrue (F.chip flash.old).steady → (F.chip flash.new).changes ≡ (F.chip flash.old).changes }
+    ensures no_fault { OnOk result ((F.chip flash.new).faults ≡ (F.chip flash.old).faults) }
     ensures cause { OnErr result ((F.chip flash.old).faults < (F.chip flash.new).faults) }
     ensures sure { IsTrue (F.chip flash.old).sure → IsOk result }
-    ensures same { Keeps (F.chip flash.old) (F.chip flash.new) }
+    ensures frame { Keeps (F.chip flash.old) (F.chip flash.new) }
 {
     for n in 0..2 * BANK_SLOTS {
         let text = read_slot(flash, n)?;
@@ -87,19 +103,4 @@ fn first_set(text: &[u8; SLOT_OCTETS]) -> Option<u32>
 {
     let k = text.iter().position(|octet| *octet != 0xff)?;
     Some(k as u32)
-}
-
-/// Writes items into the slots 1 on of an erased flash.
-fn write_items<F: Flash>(flash: &mut F, items: &[Slot]) -> Result<(), FlashFailed>
-    requires { length items.now ≤ 512 }
-    ensures filled { IsFresh (F.chip flash.old) → IsErased (F.chip flash.old).now → OnOk result (IsFilled items.now (length items.now) (F.chip flash.new)) }
-    ensures any_moment { IsFresh (F.chip flash.old) → IsErased (F.chip flash.old).now → LeavesOnly (F.chip flash.old) (F.chip flash.new) IsBare }
-    ensures cause { OnErr result ((F.chip flash.old).faults < (F.chip flash.new).faults) }
-    ensures sure { IsTrue (F.chip flash.old).sure → IsOk result }
-    ensures same { Keeps (F.chip flash.old) (F.chip flash.new) }
-{
-    for k in 0..items.len() {
-        write_slot(flash, k as u32 + 1, &items[k])?;
-    }
-    Ok(())
 }

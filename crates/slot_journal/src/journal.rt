@@ -1,7 +1,8 @@
 // The journal: which bank counts, how many of its slots are used, and whether a write failed.
-ghost use Rattle.std.specs.Prelude.{◌≡◌, ℕ, ◌+◌, ◌*◌, ◌<◌, ◌≤◌, true, false, Err, IsTrue, IsOk, IfOk, OnOk, OnErr};
+ghost use Rattle.std.specs.Prelude.{◌≡◌, ◌⊎◌, ℕ, ◌+◌, ◌*◌, ◌<◌, ◌≤◌, true, false, Err, IsTrue, IsOk, IfOk, OnOk, OnErr};
+ghost use Rattle.flash_model.specs.Arming.{Begins, BeginsAtMost};
 ghost use Rattle.flash_model.specs.Chip.{Keeps, LeavesOnly, Stays};
-ghost use Rattle.layer_definitions.specs.Slots.{gated, text_at, recovered};
+ghost use Rattle.slot_definitions.specs.Slots.{gated, text_at, recovered};
 ghost use Rattle.slot_journal.specs.Tie.{IsJournalOf, IsAppended, with_last};
 
 use crate::text::{gated_slot, read_slot, write_slot};
@@ -11,7 +12,7 @@ use std::marker::Model;
 use thiserror::Error;
 
 /// Slots of a bank that hold records: all but its header.
-const ROOM: u32 = 1023;
+pub const ROOM: u32 = 1023;
 
 /// Slots of a bank.
 pub const BANK_SLOTS: u32 = 1024;
@@ -47,17 +48,19 @@ pub struct Journal {
     pub(crate) bank: u32,
     pub(crate) used: u32,
     pub(crate) closed: bool,
+    pub(crate) generation: u32,
+    pub(crate) version: u8,
 }
 
 impl Model for Journal {
-    ghost use Rattle.std.specs.Prelude.{◌≤◌};
+    ghost use Rattle.std.specs.Prelude.{◌≡◌, ◌⊎◌, ◌≤◌};
     ghost use Rattle.slot_journal.specs.View.{JournalView};
 
     ghost Value = { JournalView };
 
-    ghost view = { λ j. record { bank = j.bank; used = j.used; closed = j.closed } };
+    ghost view = { λ j. record { bank = j.bank; used = j.used; closed = j.closed; generation = j.generation; version = j.version } };
 
-    ghost invariant = { λ j. (j.bank ≤ 1) × (j.used ≤ 1023) };
+    ghost invariant = { λ j. (j.bank ≤ 1) × (j.used ≤ 1023) × ((j.version ≡ 1) ⊎ (j.version ≡ 2)) };
 }
 
 impl Journal {
@@ -76,6 +79,14 @@ impl Journal {
         self.closed
     }
 
+    /// The format of the bank that counts, 1 or 2.
+    pub fn version(&self) -> u8
+        ensures value { result ≡ self.now.version }
+        ensures known { (self.now.version ≡ 1) ⊎ (self.now.version ≡ 2) }
+    {
+        self.version
+    }
+
     /// What slot `n` holds, from 1 to `used`. It is nothing where the slot's gate isn't 00: a cut left it torn.
     pub fn slot<F: Flash>(&self, flash: &mut F, n: u32) -> Result<Option<Slot>, FlashFailed>
         requires some { 0 < n }
@@ -84,17 +95,21 @@ impl Journal {
         ensures value { IfOk result (λ slot. slot ≡ gated (text_at (F.chip flash.old).now (1024 * self.now.bank + n))) }
         ensures stays { IsTrue (F.chip flash.old).honest → Stays (F.chip flash.old) (F.chip flash.new) }
 
+        // over a steady flash: it makes no program or erase call
+        ensures calls { IsTrue (F.chip flash.old).steady → (F.chip flash.new).changes ≡ (F.chip flash.old).changes }
+
         // of every flash, honest or not
+        ensures no_fault { OnOk result ((F.chip flash.new).faults ≡ (F.chip flash.old).faults) }
         ensures cause { OnErr result ((F.chip flash.old).faults < (F.chip flash.new).faults) }
         ensures sure { IsTrue (F.chip flash.old).sure → IsOk result }
-        ensures same { Keeps (F.chip flash.old) (F.chip flash.new) }
+        ensures frame { Keeps (F.chip flash.old) (F.chip flash.new) }
     {
         let text = read_slot(flash, BANK_SLOTS * self.bank + n)?;
         Ok(gated_slot(&text))
     }
 
-    /// Appends a slot. At `Ok` it is durable. In every image that a cut at any moment leaves, the slots are those of before,
-    /// or these with the new one last.
+    /// Appends a slot. At `Ok` it is durable. In every image that a cut at any moment leaves, what is held is that of
+    /// before, or this with the new slot last. It reads nothing.
     pub fn append<F: Flash>(&mut self, flash: &mut F, item: &Slot) -> Result<(), AppendFault>
         ensures closed { self.old.closed ≡ true → (result ≡ Err AppendFault.Closed) × (self.new ≡ self.old) × (flash.new ≡ flash.old) }
         ensures full { self.old.closed ≡ false → self.old.used ≡ 1023 → (result ≡ Err (AppendFault.Full 1023)) × (self.new ≡ self.old) × (flash.new ≡ flash.old) }
@@ -106,9 +121,15 @@ impl Journal {
         ensures durable { IsJournalOf (F.chip flash.old) self.old → OnOk result (recovered (F.chip flash.new).now ≡ with_last item.now (recovered (F.chip flash.old).now)) }
         ensures any_moment { IsJournalOf (F.chip flash.old) self.old → LeavesOnly (F.chip flash.old) (F.chip flash.new) (IsAppended (recovered (F.chip flash.old).now) item.now) }
 
+        // over a steady flash: two program calls, and at most two where it fails
+        ensures calls { IsTrue (F.chip flash.old).steady → OnOk result (Begins 2 (F.chip flash.old) (F.chip flash.new)) }
+        ensures most_calls { IsTrue (F.chip flash.old).steady → BeginsAtMost 2 (F.chip flash.old) (F.chip flash.new) }
+
         // of every flash, honest or not
+        ensures reads { (F.chip flash.new).reads ≡ (F.chip flash.old).reads }
+        ensures no_fault { OnOk result ((F.chip flash.new).faults ≡ (F.chip flash.old).faults) }
         ensures sure { IsTrue (F.chip flash.old).sure → self.old.closed ≡ false → self.old.used < 1023 → IsOk result }
-        ensures same { Keeps (F.chip flash.old) (F.chip flash.new) }
+        ensures frame { Keeps (F.chip flash.old) (F.chip flash.new) }
     {
         if self.closed {
             return Err(AppendFault::Closed);

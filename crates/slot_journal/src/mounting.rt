@@ -1,7 +1,7 @@
 // A journal is found again on its flash.
-ghost use Rattle.std.specs.Prelude.{◌≡◌, ℕ, ◌<◌, ◌≤◌, false, Some, IsTrue, IsOk, IfOk, IfErr, OnErr};
+ghost use Rattle.std.specs.Prelude.{◌≡◌, ℕ, ◌<◌, ◌≤◌, false, Some, IsTrue, IsOk, IfOk, IfErr, OnOk, OnErr};
 ghost use Rattle.flash_model.specs.Chip.{IsFresh, Keeps, Stays};
-ghost use Rattle.layer_definitions.specs.Slots.{slots_to, recovered};
+ghost use Rattle.slot_definitions.specs.Slots.{slots_to, recovered};
 ghost use Rattle.slot_journal.specs.Headers.{IsTidy};
 ghost use Rattle.slot_journal.specs.Tie.{IsJournalOf, IsMounted, IsUsed};
 ghost use Rattle.slot_journal.specs.Causes.{IsMountCause};
@@ -39,25 +39,31 @@ impl Journal {
     pub fn mount<F: Flash>(flash: &mut F) -> Result<Self, NoMount>
         ensures cause { IfErr result (IsMountCause (F.chip flash.old) (F.chip flash.new)) }
         ensures mounted { IsTrue (F.chip flash.old).honest → IfOk result (IsMounted (F.chip flash.old).now) }
-        ensures value { IsTrue (F.chip flash.old).honest → IfOk result (λ j. recovered (F.chip flash.old).now ≡ Some (slots_to (F.chip flash.old).now j.bank j.used)) }
+        ensures value { IsTrue (F.chip flash.old).honest → IfOk result (λ j. recovered (F.chip flash.old).now ≡ Some (record { format = j.version; slots = slots_to (F.chip flash.old).now j.bank j.used })) }
         ensures kept { IsFresh (F.chip flash.old) → IsTidy (F.chip flash.old).now → IfOk result (IsJournalOf (F.chip flash.new)) }
         ensures stays { IsTrue (F.chip flash.old).honest → Stays (F.chip flash.old) (F.chip flash.new) }
 
+        // over a steady flash: it makes no program or erase call
+        ensures calls { IsTrue (F.chip flash.old).steady → (F.chip flash.new).changes ≡ (F.chip flash.old).changes }
+
         // of every flash, honest or not
+        ensures no_fault { OnOk result ((F.chip flash.new).faults ≡ (F.chip flash.old).faults) }
         ensures usable { IfOk result (λ j. j.closed ≡ false) }
         ensures sure { IsTrue (F.chip flash.old).sure → IfErr result (λ e. e ≡ NoMount.NoBank) }
-        ensures same { Keeps (F.chip flash.old) (F.chip flash.new) }
+        ensures frame { Keeps (F.chip flash.old) (F.chip flash.new) }
     {
         let first = read_slot(flash, 0)?;
         let second = read_slot(flash, BANK_SLOTS)?;
-        let Some(bank) = choose(&first, &second) else {
+        let Some(counting) = choose(&first, &second) else {
             return Err(NoMount::NoBank);
         };
-        let used = count_used(flash, bank)?;
+        let used = count_used(flash, counting.bank)?;
         Ok(Journal {
-            bank,
+            bank: counting.bank,
             used,
             closed: false,
+            generation: counting.generation,
+            version: counting.format,
         })
     }
 }
@@ -68,9 +74,11 @@ fn count_used<F: Flash>(flash: &mut F, bank: u32) -> Result<u32, FlashFailed>
     ensures few { IfOk result (λ used. used ≤ 1023) }
     ensures value { IsTrue (F.chip flash.old).honest → IfOk result (IsUsed (F.chip flash.old).now bank) }
     ensures stays { IsTrue (F.chip flash.old).honest → Stays (F.chip flash.old) (F.chip flash.new) }
+    ensures calls { IsTrue (F.chip flash.old).steady → (F.chip flash.new).changes ≡ (F.chip flash.old).changes }
+    ensures no_fault { OnOk result ((F.chip flash.new).faults ≡ (F.chip flash.old).faults) }
     ensures cause { OnErr result ((F.chip flash.old).faults < (F.chip flash.new).faults) }
     ensures sure { IsTrue (F.chip flash.old).sure → IsOk result }
-    ensures same { Keeps (F.chip flash.old) (F.chip flash.new) }
+    ensures frame { Keeps (F.chip flash.old) (F.chip flash.new) }
 {
     let mut used = 0;
     for n in 1..BANK_SLOTS {

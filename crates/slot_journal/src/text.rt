@@ -1,8 +1,9 @@
 // One slot, written and read.
 ghost use Rattle.std.specs.Prelude.{◌≡◌, ℕ, ◌+◌, ◌*◌, ◌<◌, ◌↔◌, [], ◌∷◌, ◌++◌, IsTrue, IsOk, IfOk, OnOk, OnErr};
+ghost use Rattle.flash_model.specs.Arming.{Begins, BeginsAtMost};
 ghost use Rattle.flash_model.specs.Chip.{IsFresh, Keeps, LeavesOnly, Stays};
 ghost use Rattle.slot_journal.specs.Slots.{IsWritten, IsSlotWrite};
-ghost use Rattle.layer_definitions.specs.Slots.{gated, text_at, text_of, blank_text};
+ghost use Rattle.slot_definitions.specs.Slots.{gated, text_at, text_of, blank_text};
 
 use flash_model::{Flash, FlashFailed};
 use mesh_base::slot::Slot;
@@ -18,9 +19,13 @@ pub fn write_slot<F: Flash>(flash: &mut F, n: u32, slot: &Slot) -> Result<(), Fl
     ensures fresh { IsFresh (F.chip flash.old) → OnOk result (IsFresh (F.chip flash.new)) }
     ensures written { IsFresh (F.chip flash.old) → text_at (F.chip flash.old).now n ≡ blank_text → OnOk result (IsWritten n (text_of slot.now) (F.chip flash.old).now (F.chip flash.new).now) }
     ensures any_moment { IsFresh (F.chip flash.old) → text_at (F.chip flash.old).now n ≡ blank_text → LeavesOnly (F.chip flash.old) (F.chip flash.new) (IsSlotWrite n (text_of slot.now) (F.chip flash.old).now) }
+    ensures calls { IsTrue (F.chip flash.old).steady → OnOk result (Begins 2 (F.chip flash.old) (F.chip flash.new)) }
+    ensures most_calls { IsTrue (F.chip flash.old).steady → BeginsAtMost 2 (F.chip flash.old) (F.chip flash.new) }
+    ensures reads { (F.chip flash.new).reads ≡ (F.chip flash.old).reads }
+    ensures no_fault { OnOk result ((F.chip flash.new).faults ≡ (F.chip flash.old).faults) }
     ensures cause { OnErr result ((F.chip flash.old).faults < (F.chip flash.new).faults) }
     ensures sure { IsTrue (F.chip flash.old).sure → IsOk result }
-    ensures same { Keeps (F.chip flash.old) (F.chip flash.new) }
+    ensures frame { Keeps (F.chip flash.old) (F.chip flash.new) }
 {
     let mut front = [slot.kind; FRONT_OCTETS];
     front[1..].copy_from_slice(&slot.body);
@@ -37,9 +42,13 @@ fn write_front<F: Flash>(
     ensures fresh { IsFresh (F.chip flash.old) → OnOk result (IsFresh (F.chip flash.new)) }
     ensures written { IsFresh (F.chip flash.old) → text_at (F.chip flash.old).now n ≡ blank_text → OnOk result (IsWritten n (front.now ++ 0 ∷ []) (F.chip flash.old).now (F.chip flash.new).now) }
     ensures any_moment { IsFresh (F.chip flash.old) → text_at (F.chip flash.old).now n ≡ blank_text → LeavesOnly (F.chip flash.old) (F.chip flash.new) (IsSlotWrite n (front.now ++ 0 ∷ []) (F.chip flash.old).now) }
+    ensures calls { IsTrue (F.chip flash.old).steady → OnOk result (Begins 2 (F.chip flash.old) (F.chip flash.new)) }
+    ensures most_calls { IsTrue (F.chip flash.old).steady → BeginsAtMost 2 (F.chip flash.old) (F.chip flash.new) }
+    ensures reads { (F.chip flash.new).reads ≡ (F.chip flash.old).reads }
+    ensures no_fault { OnOk result ((F.chip flash.new).faults ≡ (F.chip flash.old).faults) }
     ensures cause { OnErr result ((F.chip flash.old).faults < (F.chip flash.new).faults) }
     ensures sure { IsTrue (F.chip flash.old).sure → IsOk result }
-    ensures same { Keeps (F.chip flash.old) (F.chip flash.new) }
+    ensures frame { Keeps (F.chip flash.old) (F.chip flash.new) }
 {
     flash.program(32 * n, front)?;
     flash.program(32 * n + 31, &[0])
@@ -50,9 +59,11 @@ pub fn read_slot<F: Flash>(flash: &mut F, n: u32) -> Result<[u8; SLOT_OCTETS], F
     requires { n < 2048 }
     ensures value { IfOk result (λ text. text ≡ text_at (F.chip flash.old).now n) }
     ensures stays { IsTrue (F.chip flash.old).honest → Stays (F.chip flash.old) (F.chip flash.new) }
+    ensures calls { IsTrue (F.chip flash.old).steady → (F.chip flash.new).changes ≡ (F.chip flash.old).changes }
+    ensures no_fault { OnOk result ((F.chip flash.new).faults ≡ (F.chip flash.old).faults) }
     ensures cause { OnErr result ((F.chip flash.old).faults < (F.chip flash.new).faults) }
     ensures sure { IsTrue (F.chip flash.old).sure → IsOk result }
-    ensures same { Keeps (F.chip flash.old) (F.chip flash.new) }
+    ensures frame { Keeps (F.chip flash.old) (F.chip flash.new) }
 {
     let mut text = [0; SLOT_OCTETS];
     flash.read(32 * n, &mut text)?;

@@ -13,11 +13,11 @@ use lib.ListN.{get_elem?}
 use Rattle.atomic_table.specs.Table.{Me, Act, keeps, takes, gives, Valid, carried_after, homes_after, put_back, stepped, step, Allows, Splits, Joins, opening}
 use Rattle.atomic_table.proofs.Lists.{set_else, set_again, exchanged, at_longer, at_snoc}
 use Rattle.turn_lock.specs.declared.view.View.{View}
-use Rattle.turn_lock.specs.Entries.{IsPrefix, IsLongerOf, StandFrom, entries_of, times_at, one_below}
+use Rattle.turn_lock.specs.Entries.{IsPrefix, IsLongerOf, StandFrom, added, entries_of, times_at, one_below}
 use Rattle.turn_lock.specs.Views.{starting, queueing, entering, adding, leaving, keeping, fresh, both, nobody, informed}
 use Rattle.turn_lock.specs.Rule.{has_ticket, Fits, IsHome, Stands, Ruled}
 use Rattle.turn_lock.specs.Plays.{TakesTicket, LooksAtServing, Counts, in_hand, PassesOn, IsTold}
-use Rattle.turn_lock.proofs.Places.{prefix_refl, prefix_trans, prefix_length, longer, stand_prefix, stand_added, times_append, times_placed, times_merge, stand_merge, whole_list}
+use Rattle.turn_lock.proofs.Places.{prefix_refl, prefix_trans, prefix_length, longer, stand_prefix, stand_added, times_append, times_placed, times_merge, stand_merge, whole_places, whole_list}
 use Rattle.turn_lock.proofs.Totals.{total_set, total_has, total_two, total_whole, each_set, each_snoc}
 
 -- 1 where the test is true, as `count_by` adds it
@@ -184,13 +184,14 @@ module _ {T E O : Type 0} (entries : T → List E) (origin : T → O) where
 
   -- a pass with all parts finds the entries of `start`, and then its own
   whole : (first : T) (t s : ℕ) (log : List E) (homes : List (maybe.Option (Option T))) (views : List (View T E)) (id : ℕ) (v : View T E) → Stands entries origin first t s log homes views → get_elem? views id ≡ some v
-      → v.parts ≡ 1024 → log ≡ entries first ++ entries_of v.own
+      → v.parts ≡ 1024 → (v.own ≡ added (entries first) log) × (log ≡ entries first ++ entries_of v.own)
   whole first t s log homes views id v h at all =
       let f = h.each id v at in
       let none_else : (p by : ℕ) (u : View T E) → get_elem? views by ≡ some u → u.parts ≡ 0 → times_at p u.own ≡ 0 = λ p by u bt z. ap (times_at p) ((h.each by u bt).gone z).2 in
       let places : (p : ℕ) → times_at p v.own + one_below p (length (entries first)) ≡ one_below p (length log) =
       λ p. omega (arith, h.places p, total_whole (λ u. times_at p u.own) (λ u. u.parts) views id v at (all ∙ sym h.parts) (none_else p)) in
-      whole_list (entries first) log v.own h.begins f.own places
+      let placed = whole_places (entries first) log v.own h.begins f.own places in
+      (placed, whole_list (entries first) log v.own h.begins placed)
 
   -- look at serving
   pub looks_at_serving : (first : T) (slots id : ℕ) (me : Me (Option T) (View T E)) → me.0.waits ≡ true → me.0.inside ≡ false
@@ -235,7 +236,8 @@ module _ {T E O : Type 0} (entries : T → List E) (origin : T → O) where
               began = let same : first ≡ y = cc in home.began ∙ ap origin same;
               seen = subst (λ l. IsPrefix v.seen l) (sym home.all) f.seen;
               own = subst (λ l. StandFrom 0 l v.own) (sym home.all) f.own;
-              whole = λ all. let same : first ≡ y = cc in home.all ∙ whole first t s log homes views id v h at all ∙ ap (λ z. entries z ++ entries_of v.own) same;
+              whole = λ all. let same : first ≡ y = cc in home.all ∙ (whole first t s log homes views id v h at all).1 ∙ ap (λ z. entries z ++ entries_of v.own) same;
+              places = λ all. let same : first ≡ y = cc in (whole first t s log homes views id v h at all).0 ∙ ap (λ z. added (entries z) log) same ∙ ap (added (entries y)) (sym home.all);
             },
           )),
           (λ ne. absurd (ne e)),

@@ -8,7 +8,7 @@ use Rattle.std.proofs.lemmas.Option.{slice_get_within}
 use Rattle.std.proofs.lemmas.Bool.Decides.{nat_tests}
 use mathlib.Core.Logic.{dite}
 use native.Mathlib.Decide.{dec_le, ℕ_discrete}
-use Rattle.turn_lock.specs.Entries.{IsPrefix, IsLongerOf, StandFrom, entries_of, times_at, put_in, merge, one_below}
+use Rattle.turn_lock.specs.Entries.{IsPrefix, IsLongerOf, StandFrom, added, entries_of, times_at, put_in, merge, one_below}
 
 above_test : (m n : ℕ) → nat_lt m n ≡ true → m + 1 ≤ n
 above_test m n e = grind (arith, nat_tests)
@@ -182,17 +182,20 @@ module _ {E : Type 0} where
       from_at xs n e h ∙ ap (λ k. e ∷ drop k (x ∷ xs)) next
 
   -- own entries that have each place from n on are all that stands from n on
-  all_from : (n : ℕ) (l : List E) (own : List (ℕ × E)) → n ≤ length l → StandFrom n l own → ((p : ℕ) → times_at p own + one_below p n ≡ one_below p (length l)) → drop n l ≡ entries_of own
-  all_from n l [] le h all = drop_all n l (one_here n (length l) (omega (arith, all n)))
-  all_from n l (x ∷ own) le h all =
+  placed_from : (n : ℕ) (l : List E) (own : List (ℕ × E)) → n ≤ length l → StandFrom n l own → ((p : ℕ) → times_at p own + one_below p n ≡ one_below p (length l)) → own ≡ enumerate_from n (drop n l)
+  placed_from n l [] le h all = sym (ap (enumerate_from n) (drop_all n l (one_here n (length l) (omega (arith, all n)))))
+  placed_from n l (x ∷ own) le h all =
       let within : x.0 < length l = slice_get_within l x.0 x.1 h.1 in
       let low : n ≤ x.0 = h.0 in
       let self : x.0 ≤ x.0 = omega arith in
       let not_above : n < x.0 → ⊥ = λ lt. omega (arith, all n, times_above n x.0 l (x ∷ own) (self, h.1, h.2) lt, none_here n, one_within n (length l) (omega arith)) in
       let same : x.0 ≡ n = omega (arith, not_above) in
-      let count = ap (λ (k : ℕ). one_below k n) (sym same) in
       let rest : (p : ℕ) → times_at p own + one_below p (x.0 + 1) ≡ one_below p (length l) = λ p. omega (arith, all p, times_cons p x own, one_more p x.0 x.1, ap (λ (k : ℕ). one_below p k) same) in
-      ap (λ k. drop k l) (sym same) ∙ from_at l x.0 x.1 h.1 ∙ ap (λ es. x.1 ∷ es) (all_from (x.0 + 1) l own (omega arith) h.2 rest)
+      ap (λ ys. x ∷ ys) (placed_from (x.0 + 1) l own (omega arith) h.2 rest) ∙ ap (enumerate_from x.0) (sym (from_at l x.0 x.1 h.1)) ∙ ap (λ k. enumerate_from k (drop k l)) same
+
+  entries_placed : (n : ℕ) (es : List E) → entries_of (enumerate_from n es) ≡ es
+  entries_placed n [] = refl
+  entries_placed n (e ∷ es) = ap (λ xs. e ∷ xs) (entries_placed (n + 1) es)
 
   -- where no entry has a place below n, they stand from n on
   stand_higher : (n m : ℕ) (l : List E) (own : List (ℕ × E)) → StandFrom m l own → ((p : ℕ) → p < n → times_at p own ≡ 0) → StandFrom n l own
@@ -201,13 +204,18 @@ module _ {E : Type 0} where
       let not_below : x.0 < n → ⊥ = λ lt. omega (arith, none x.0 lt, times_cons x.0 x own, here x) in
       (omega (arith, not_below), h.1, h.2)
 
-  -- own entries that have each place behind a front: the list is the front, and then they
-  pub whole_list : (front l : List E) (own : List (ℕ × E)) → IsPrefix front l → StandFrom 0 l own → ((p : ℕ) → times_at p own + one_below p (length front) ≡ one_below p (length l)) → l ≡ front ++ entries_of own
-  whole_list front l own a h all =
+  -- own entries that have each place behind a front are all that stands behind it
+  pub whole_places : (front l : List E) (own : List (ℕ × E)) → IsPrefix front l → StandFrom 0 l own → ((p : ℕ) → times_at p own + one_below p (length front) ≡ one_below p (length l)) → own ≡ added front l
+  whole_places front l own a h all =
       let n : ℕ = length front in
       let short : n ≤ length l = prefix_length front l a in
       let none : (p : ℕ) → p < n → times_at p own ≡ 0 = λ p lt. omega (arith, all p, one_within p n lt, one_within p (length l) (omega arith)) in
-      prefix_drop front l a ∙ ap (λ es. front ++ es) (all_from n l own short (stand_higher n 0 l own h none) all)
+      placed_from n l own short (stand_higher n 0 l own h none) all
+
+  -- and the list is the front, and then they
+  pub whole_list : (front l : List E) (own : List (ℕ × E)) → IsPrefix front l → own ≡ added front l → l ≡ front ++ entries_of own
+  whole_list front l own a e =
+      prefix_drop front l a ∙ ap (λ es. front ++ es) (sym (ap entries_of e ∙ entries_placed (length front) (drop (length front) l)))
 
   elsewhere : (p : ℕ) (x : ℕ × E) → x.0 ≢ p → one_at p x ≡ 0
   elsewhere p x apart = grind (arith, nat_tests)

@@ -1,6 +1,6 @@
 -- Lists of entries, and entries with the places at which they stand in such a list. Places are counted from 0.
 use Rattle.std.specs.Prelude.{◌≡◌, ℕ, ◌+◌, ◌≤◌, Bool, if◌then◌else◌, nat_lt, ◌==◌, List, [], ◌∷◌, ◌++◌, map, length, drop, Some, slice_get, ⊤, ◌⊎◌}
-use Rattle.std.specs.List.{count_by, enumerate_from, filter}
+use Rattle.std.specs.List.{All, Contains, count_by, enumerate_from, filter}
 
 module _ {E : Type 0} where
   -- the list begins with these entries
@@ -27,9 +27,9 @@ module _ {E : Type 0} where
   abbrev pub entries_of : List (ℕ × E) → List E
   entries_of own = map (λ x. x.1) own
 
-  -- the entries that pass a test, as one that tells which thread wrote them
-  abbrev pub kept : (E → Bool) → List (ℕ × E) → List E
-  kept keep own = filter keep (entries_of own)
+  -- each entry of the one list is an entry of the other, at the same place
+  pub record Holds (own all : List (ℕ × E)) : Type 0 where
+    pub has : (x : ℕ × E) → Contains own x → Contains all x
 
   -- how many of the entries have this place
   abbrev pub times_at : ℕ → List (ℕ × E) → ℕ
@@ -44,6 +44,17 @@ module _ {E : Type 0} where
   abbrev pub merge : List (ℕ × E) → List (ℕ × E) → List (ℕ × E)
   merge [] ys = ys
   merge (x ∷ xs) ys = put_in x (merge xs ys)
+
+-- the entries of any number of lists, in the order of their places
+abbrev pub merged : {E : Type 0} → List (ℕ × E) → List (List (ℕ × E)) → List (ℕ × E)
+merged xs [] = xs
+merged xs (ys ∷ rest) = merged (merge xs ys) rest
+
+-- Of these lists a test keeps something in one at most, and in that one it keeps `ys`. A test that tells which thread wrote an
+-- entry keeps something of the own entries of one pass alone.
+abbrev pub KeptOf : {A : Type 0} → (A → Bool) → List (List A) → List A → Type 0
+KeptOf keep [] ys = ys ≡ []
+KeptOf keep (x ∷ xs) ys = ((filter keep x ≡ ys) × All (λ z. filter keep z ≡ []) xs) ⊎ ((filter keep x ≡ []) × KeptOf keep xs ys)
 
 -- 1 where the number is below the bound, else 0
 abbrev pub one_below : ℕ → ℕ → ℕ

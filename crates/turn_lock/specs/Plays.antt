@@ -3,7 +3,7 @@
 use Rattle.std.specs.Prelude.{◌≡◌, ◌≢◌, ℕ, ◌<◌, ◌^◌, List, [], ◌∷◌, ◌++◌, length, Option, Some, None}
 use Rattle.atomic_table.specs.Table.{Me, Step, rest}
 use Rattle.turn_lock.specs.declared.view.View.{View}
-use Rattle.turn_lock.specs.Entries.{IsPrefix, IsLongerOf, StandFrom, entries_of}
+use Rattle.turn_lock.specs.Entries.{IsPrefix, IsLongerOf, StandFrom, added, entries_of}
 use Rattle.turn_lock.specs.Views.{queueing, entering, adding, leaving, informed}
 
 module _ {T E : Type 0} where
@@ -45,9 +45,11 @@ module _ {T E O : Type 0} (entries : T → List E) (origin : T → O) where
     pub seen : IsPrefix v.seen (entries value)
     pub own : StandFrom 0 (entries value) v.own
     pub whole : v.parts ≡ 1024 → entries value ≡ entries first ++ entries_of v.own
+    pub places : v.parts ≡ 1024 → v.own ≡ added (entries first) (entries value)
 
   -- the pass is inside where its ticket is served, and then it has the value
   abbrev pub LooksAtServing : Step (Option T) → Me (Option T) (View T E) → ℕ → Me (Option T) (View T E) → Type 0
   LooksAtServing step before found after =
-      (found ≡ before.0.ticket → (value : T) × (after ≡ (entering before.0 (entries value), (0, Some value) ∷ before.1)) × ((first : T) → before.0.first ≡ Some first → Finds before.0 first value))
+      (found ≡ before.0.ticket → (value : T) × (after ≡ (entering before.0 (entries value), (0, Some value) ∷ before.1))
+      × ((first : T) → before.0.first ≡ Some first → Finds before.0 first value))
       × (found ≢ before.0.ticket → after ≡ before)

@@ -1,16 +1,19 @@
 -- The rule of the lock: what is true between any two steps of any threads.
 --
--- Word 0 is the ticket word, the next ticket to be given. Word 1 is the serving word, the ticket whose turn it is. Word 2 is the count of the value's entries. Slot 0 is the value's home.
+-- Word 0 is the ticket word, the next ticket to be given. Word 1 is the serving word, the ticket whose turn it is. Word 2 is
+-- the count of the value's entries. Slot 0 is the value's home.
 --
 -- A pass takes steps of eight kinds, and each keeps the rule:
---   take a ticket          a compare-exchange on the ticket word, from the number expected to the next one; where it is lost, the pass tries again with the number found
+--   take a ticket          a compare-exchange on the ticket word, from the number expected to the next one; where it is lost,
+--                          the pass tries again with the number found
 --   look at serving        a load of the serving word; where the number is the pass's ticket, the pass is inside, and the slot is its own
 --   take the value out     an exchange of the slot, which changes no word and no view
 --   bring the value home   an exchange of the slot, likewise
 --   count the entries      a fetch_add on the count, by the number of entries added: they are the pass's own, and it has seen all
 --   pass on                a fetch_add of 1 on the serving word; the pass has no ticket and isn't inside, and the slot is home
 --   split                  a load of the ticket word; a new pass has one of the parts, and has seen what the pass has seen
---   join                   two loads of the ticket word; the pass has the parts and the own entries of both, and by the second load it has seen what either has seen
+--   join                   two loads of the ticket word; the pass has the parts and the own entries of both, and by the second
+--                          load it has seen what either has seen
 use Rattle.std.specs.Prelude.{◌≡◌, ℕ, ◌+◌, ◌^◌, ◌<◌, Bool, true, false, ◌&&◌, ◌==◌, List, [], ◌∷◌, length, Option, Some}
 use Rattle.std.specs.List.{sum_by, count_by}
 use mathlib.Core.Option.{some}
@@ -43,7 +46,8 @@ module _ {T E O : Type 0} (entries : T → List E) (origin : T → O) where
     pub began : origin value ≡ origin first
 
   -- `log` is the list of all entries: of those that were counted, where a pass is inside
-  pub record Stands (first : T) (ticket serving : ℕ) (log : List E) (homes : List (maybe.Option (Option T))) (views : List (View T E)) : Type 0 where
+  pub record Stands (first : T) (ticket serving : ℕ) (log : List E) (homes : List (maybe.Option (Option T)))
+      (views : List (View T E)) : Type 0 where
     pub ticket_word : ticket < 2 ^ 64
     pub count_word : length log < 2 ^ 64
     pub begins : IsPrefix (entries first) log

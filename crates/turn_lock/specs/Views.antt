@@ -24,7 +24,8 @@ pub record IsPassOf {T E : Type 0} (turn : TurnView T) (pass : PassView T E) : T
   pub which : pass.which ≡ turn.which
   pub first : pass.first ≡ Some turn.first
 
--- What a pass has at any time between two calls: some part of the lock; own entries that stand in what it has seen; a ticket exactly while it is inside, and then the slot, out of which the value was taken, and the number of entries that it found.
+-- What a pass has at any time between two calls: some part of the lock; own entries that stand in what it has seen; a ticket
+-- exactly while it is inside, and then the slot, out of which the value was taken, and the number of entries that it found.
 pub record IsAtRest {T E : Type 0} (me : Me (Option T) (View T E)) (count : ℕ) : Type 0 where
   pub parts : 0 < me.0.parts
   pub own : StandFrom 0 me.0.seen me.0.own
@@ -36,7 +37,16 @@ pub record IsAtRest {T E : Type 0} (me : Me (Option T) (View T E)) (count : ℕ)
 module _ {T E : Type 0} where
   -- the first pass, with all parts
   abbrev pub starting : T → List E → View T E
-  starting value entries = record { parts = 1024; waits = false; ticket = 0; inside = false; first = Some value; seen = entries; told = []; own = [] }
+  starting value entries = record {
+    parts = 1024;
+    waits = false;
+    ticket = 0;
+    inside = false;
+    first = Some value;
+    seen = entries;
+    told = [];
+    own = [];
+  }
 
   -- it takes a ticket
   abbrev pub queueing : View T E → ℕ → View T E

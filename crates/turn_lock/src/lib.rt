@@ -11,13 +11,15 @@
 //! - A pass with all parts finds the entries that the value began with, then its own, and no others.
 //! - Each value that is handed out has the origin of the one that was given to `start`.
 //!
-//! So a fact about one thread's calls on the value becomes a fact about all threads' calls; `gather` shows how.
+//! So a fact about one thread's calls on the value becomes a fact about all threads' calls: `laws` says what a test keeps of
+//! the entries of passes that were joined, and `gather` shows how.
 //!
 //! Not promised: that a turn comes, that threads take turns fairly, or that a thread runs. A pass that is dropped while it
 //! is inside leaves the lock shut for ever.
 #![tactic(auto)]
 
 pub mod gather;
+pub mod laws;
 mod logged;
 #[cfg(test)]
 mod tests;

@@ -248,7 +248,10 @@ fn split_and_joined(
     lock.join(&mut b, c);
     let mut d = lock.split(&mut b);
     take_turns(rt, &lock, &mut a, &mut b, &mut d, late);
-    Ok(gather(rt, lock, a, b, d))
+    let mut others = Vec::new(alloc);
+    others.push(b)?;
+    others.push(d)?;
+    Ok(gather(rt, lock, a, others))
 }
 
 #[test]

@@ -76,6 +76,7 @@ impl<T: Logged + Send + Drop> Turn<T> {
         ensures outside { IfOk result (λ r. r.1.inside ≡ false) }
         ensures seen { IfOk result (λ r. r.1.seen ≡ T.entries value) }
         ensures own { IfOk result (λ r. r.1.own ≡ []) }
+        ensures stands { IfOk result (λ r. StandFrom 0 r.1.seen r.1.own) }
     {
         let first = Snapshot::of(&value);
         let words = [0, 0, value.count()];
@@ -134,6 +135,7 @@ impl<T: Logged + Send + Drop> Turn<T> {
                 };
                 return value;
             }
+            // Else the thread whose turn it is might not run for long.
             thread::yield_now();
         }
         unreachable!()
@@ -148,7 +150,8 @@ impl<T: Logged + Send + Drop> Turn<T> {
         ensures seen { IsPrefix p.old.seen (T.entries result) }
         ensures stands { StandFrom 0 (T.entries result) p.old.own }
         ensures whole { p.old.parts ≡ 1024 → T.entries result ≡ T.entries self.now.first ++ entries_of p.old.own }
-        ensures same { p.new ≡ record p.old { inside = true; seen = T.entries result } }
+        ensures places { p.old.parts ≡ 1024 → p.old.own ≡ added (T.entries self.now.first) (T.entries result) }
+        ensures frame { p.new ≡ record p.old { inside = true; seen = T.entries result } }
     {
         let ticket = self.queue(rt, &mut p.seat);
         let value = self.take(rt, &mut p.seat, ticket);
@@ -165,7 +168,7 @@ impl<T: Logged + Send + Drop> Turn<T> {
         requires seen { IsPrefix p.old.seen (T.entries value) }
         ensures own { p.new.own ≡ p.old.own ++ added p.old.seen (T.entries value) }
         ensures stands { StandFrom 0 p.new.seen p.new.own }
-        ensures same { p.new ≡ record p.old { inside = false; seen = T.entries value; own = p.new.own } }
+        ensures frame { p.new ≡ record p.old { inside = false; seen = T.entries value; own = p.new.own } }
     {
         let more = value.count() - p.found;
         let table = &self.table.shared;
@@ -179,8 +182,9 @@ impl<T: Logged + Send + Drop> Turn<T> {
         requires pass { IsPassOf self.now p.old }
         requires outside { p.old.inside ≡ false }
         requires two { 1 < p.old.parts }
-        ensures new { result ≡ record p.old { parts = 1; own = [] } }
-        ensures same { p.new ≡ record p.old { parts = p.old.parts - 1 } }
+        ensures value { result ≡ record p.old { parts = 1; own = [] } }
+        ensures stands { StandFrom 0 p.new.seen p.new.own × StandFrom 0 result.seen result.own }
+        ensures frame { p.new ≡ record p.old { parts = p.old.parts - 1 } }
     {
         let seat = self.table.shared.split_seat::<Parts>(&mut p.seat);
         Pass { seat, found: 0 }
@@ -194,7 +198,8 @@ impl<T: Logged + Send + Drop> Turn<T> {
         ensures own { p.new.own ≡ merge p.old.own other.own }
         ensures seen { IsLongerOf p.old.seen other.seen p.new.seen }
         ensures stands { StandFrom 0 p.new.seen p.new.own }
-        ensures same { p.new ≡ record p.old { parts = p.old.parts + other.parts; seen = p.new.seen; own = p.new.own } }
+        ensures stood { StandFrom 0 p.old.seen p.old.own × StandFrom 0 other.seen other.own }
+        ensures frame { p.new ≡ record p.old { parts = p.old.parts + other.parts; seen = p.new.seen; own = p.new.own } }
     {
         let Pass {
             seat: other_seat,

@@ -1,5 +1,5 @@
 use Rattle.std.proofs.Common.{arith, ℕ, ◌≡◌, ◌+◌, ◌*◌, ◌∙◌, List, refl, sym, ap, subst, true≢false}
-use Rattle.layer_definitions.specs.Slots.{text_at}
+use Rattle.slot_definitions.specs.Slots.{text_at}
 use Rattle.slot_journal.specs.Tie.{IsUsedBelow}
 use Rattle.flash_model.proofs.Runs.{keeps_none, keeps_more, stays_none, stays_more}
 use Rattle.slot_journal.proofs.Counted.{below_none, below_used, below_blank, below_all}
@@ -10,6 +10,8 @@ pub loop-n-init : goal.loop-n-init
 loop-n-init g c = record {
   keeps = keeps_none _;
   stays = λ honest. stays_none _;
+  calls = λ steady. refl;
+  faults = refl;
   few = omega arith;
   below = λ honest. below_none _ c.args.bank;
 }
@@ -19,8 +21,10 @@ loop-n-preserved g c =
     let before = c.loop-n.invariant in
     let read = c.in_ok-text.ensures in
     record {
-      keeps = keeps_more _ _ _ before.keeps read.same;
+      keeps = keeps_more _ _ _ before.keeps read.frame;
       stays = λ honest. stays_more _ _ _ (before.stays honest) (read.stays (before.keeps.honest ∙ honest));
+      calls = λ steady. read.calls (before.keeps.steady ∙ steady) ∙ before.calls steady;
+      faults = read.no_fault ∙ before.faults;
       few = elim c.if-not-is_blank.branch [ then-not-is_blank w ↦ omega arith | else-not-is_blank w ↦ let few = before.few in omega arith ];
       below = λ honest.
           let start = (g.F.Flash.chip c.args.flash.now).now in
@@ -41,7 +45,9 @@ returns g c =
       few = omega arith;
       value = λ honest. below_all _ c.args.bank c.loop-n.n c.loop-n.used (omega arith) (before.below honest);
       stays = before.stays;
+      calls = before.calls;
+      no_fault = before.faults;
       cause = tt;
       sure = λ h. refl;
-      same = before.keeps;
+      frame = before.keeps;
     }

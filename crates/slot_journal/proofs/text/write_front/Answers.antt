@@ -18,7 +18,7 @@ returns-clause-written g c fresh blank =
     let new = g.F.Flash.chip c.program-2.new.self in
     let whole = laws.content c.args.flash.now old.moment old.now fresh.honest (laws.counts_now c.args.flash.now old.moment old.now (omega arith) (laws.reads_image c.args.flash.now fresh.honest)) in
     both_done_on old mid new c.args.n c.args.front.now fresh (laws.only_now c.args.flash.now) whole c.requires c.told-front c.fits-front blank
-    c.program-2.result (c.in_ok-program.ensures.ok fresh.honest) (c.program-2.ensures.ok (c.in_ok-program.ensures.same.honest ∙ fresh.honest))
+    c.program-2.result (c.in_ok-program.ensures.ok fresh.honest) (c.program-2.ensures.ok (c.in_ok-program.ensures.frame.honest ∙ fresh.honest))
 
 pub returns-clause-any_moment : goal.returns-clause-any_moment
 returns-clause-any_moment g c fresh blank =
@@ -28,4 +28,4 @@ returns-clause-any_moment g c fresh blank =
     let new = g.F.Flash.chip c.program-2.new.self in
     let whole = laws.content c.args.flash.now old.moment old.now fresh.honest (laws.counts_now c.args.flash.now old.moment old.now (omega arith) (laws.reads_image c.args.flash.now fresh.honest)) in
     both_leave old mid new c.args.n c.args.front.now fresh (laws.only_now c.args.flash.now) whole c.requires c.told-front c.fits-front blank
-    (c.in_ok-program.ensures.any_moment fresh.honest) (c.in_ok-program.ensures.ok fresh.honest) (c.program-2.ensures.any_moment (c.in_ok-program.ensures.same.honest ∙ fresh.honest))
+    (c.in_ok-program.ensures.any_moment fresh.honest) (c.in_ok-program.ensures.ok fresh.honest) (c.program-2.ensures.any_moment (c.in_ok-program.ensures.frame.honest ∙ fresh.honest))

@@ -1,4 +1,4 @@
-use Rattle.std.proofs.Common.{◌≡◌, ◌<◌, ◌∙◌, ◌++◌, ◌∷◌, [], List, ℕ, ap, sym, subst}
+use Rattle.std.proofs.Common.{◌≡◌, ◌<◌, ◌∙◌, ◌++◌, ◌∷◌, [], List, ℕ, ap, sym, subst, arith}
 use Rattle.flash_model.specs.declared.past.Past.{Past}
 use Rattle.flash_model.specs.Course.{call_of, is_failing, course_of}
 use Rattle.flash_model.specs.Past.{noted}
@@ -24,4 +24,5 @@ invariant_of-self c =
           let all = began_cut before.past found before.changes before.failed before.arm before.whole before.cut before.ahead (sym fails ∙ yes) in
           (subst (λ (p : Past). p.cycled < p.faults) (sym is) all.0, next_reached _ _ _ _ arm changes all.1);
       ahead = λ not. next_ahead _ _ _ _ arm changes (began_ahead before.past found before.changes before.failed before.arm before.ahead (sym fails ∙ not));
+      few = omega (arith, changes);
     }

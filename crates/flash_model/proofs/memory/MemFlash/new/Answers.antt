@@ -1,4 +1,4 @@
-use Rattle.std.proofs.Common.{◌≡◌, refl, sym, subst, true≢false}
+use Rattle.std.proofs.Common.{◌≡◌, refl, sym, subst, true≢false, arith}
 use Rattle.flash_model.specs.declared.past.Past.{Past}
 use Rattle.flash_model.specs.Past.{HadBeen}
 use Rattle.flash_model.proofs.Mixed.{blank_content}
@@ -13,6 +13,7 @@ invariant_of-result c =
       whole = λ not. subst (λ (p : Past). p.faults ≡ p.cycled) (sym begins) refl;
       cut = λ yes. absurd (true≢false (sym yes));
       ahead = λ not. refl;
+      few = omega arith;
     }
 
 pub returns-clause-erased : goal.returns-clause-erased

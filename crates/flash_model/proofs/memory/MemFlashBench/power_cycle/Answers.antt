@@ -1,4 +1,4 @@
-use Rattle.std.proofs.Common.{◌≡◌, ◌∙◌, ◌++◌, ◌∷◌, [], List, ℕ, ap, sym, refl, subst, true≢false, None}
+use Rattle.std.proofs.Common.{◌≡◌, ◌∙◌, ◌++◌, ◌∷◌, [], List, ℕ, ap, sym, refl, subst, true≢false, None, arith}
 use Rattle.flash_model.specs.declared.past.Past.{Past}
 use Rattle.flash_model.proofs.Moments.{contents_more, time_note}
 use Rattle.flash_model.proofs.memory.MemFlashBench.power_cycle.Goals as goal
@@ -13,9 +13,10 @@ invariant_of-self c =
       whole = λ not. subst (λ (p : Past). p.faults ≡ p.cycled) (sym c.note.ensures) refl;
       cut = λ yes. absurd (true≢false (sym yes));
       ahead = λ not. refl;
+      few = omega arith;
     }
 
 pub returns-clause-any_moment : goal.returns-clause-any_moment
 returns-clause-any_moment c honest =
-    time_note c.args.self.now.past c.note.new.self c.args.self.now.octets.items c.args.self.now.octets.items c.args.self.now.changes 0 c.args.self.now.arm None
+    time_note c.args.self.now.past c.note.new.self c.args.self.now.octets.items c.args.self.now.octets.items c.args.self.now.changes 0 c.args.self.now.reads 0 c.args.self.now.arm None
     (ap (λ (p : Past). p.contents) c.note.ensures ∙ ap (λ (l : List ℕ). c.args.self.now.past.contents ++ l ∷ []) c.deref.ensures.value) (λ d. d ≡ c.args.self.now.octets.items) refl

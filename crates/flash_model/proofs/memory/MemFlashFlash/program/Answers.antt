@@ -18,6 +18,7 @@ invariant_of-self c =
       whole = c.begin.new.self.whole;
       cut = c.begin.new.self.cut;
       ahead = c.begin.new.self.ahead;
+      few = c.begin.new.self.few;
     }
 
 pub invariant_of-self-in-Torn : goal.invariant_of-self-in-Torn
@@ -31,6 +32,7 @@ invariant_of-self-in-Torn c =
       whole = c.begin.new.self.whole;
       cut = c.begin.new.self.cut;
       ahead = c.begin.new.self.ahead;
+      few = c.begin.new.self.few;
     }
 
 pub returns-in-Whole-clause-ok : goal.returns-in-Whole-clause-ok
@@ -38,7 +40,7 @@ returns-in-Whole-clause-ok c honest =
     let old = c.args.self.now.octets.items in
     let change = programmed c.args.at c.args.bytes.now in
     let so = wrote 255 c.begin.new.self.octets.len change old c.begin.new.self.octets.items c.deref_mut.result.now c.program_octets.new.octets c.deref_mut.ensures.value (ap (λ v. v.items) c.begin.ensures.octets) c.deref_mut.ensures.len c.program_octets.ensures in
-    done_note c.args.self.now.past c.begin.new.self.past old _ c.args.self.now.changes c.begin.new.self.changes c.args.self.now.arm c.begin.new.self.arm (ap (λ (p : Past). p.contents) c.begin.ensures.past) change
+    done_note c.args.self.now.past c.begin.new.self.past old _ c.args.self.now.changes c.begin.new.self.changes c.args.self.now.reads c.begin.new.self.reads c.args.self.now.arm c.begin.new.self.arm (ap (λ (p : Past). p.contents) c.begin.ensures.past) change
     (mixed_whole old (change old) _ c.args.self.now.content (programmed_content _ _ _ c.args.self.now.content) so)
 
 pub returns-in-Whole-clause-any_moment : goal.returns-in-Whole-clause-any_moment
@@ -46,14 +48,14 @@ returns-in-Whole-clause-any_moment c honest =
     let old = c.args.self.now.octets.items in
     let change = programmed c.args.at c.args.bytes.now in
     let so = wrote 255 c.begin.new.self.octets.len change old c.begin.new.self.octets.items c.deref_mut.result.now c.program_octets.new.octets c.deref_mut.ensures.value (ap (λ v. v.items) c.begin.ensures.octets) c.deref_mut.ensures.len c.program_octets.ensures in
-    cut_note c.args.self.now.past c.begin.new.self.past old _ c.args.self.now.changes c.begin.new.self.changes c.args.self.now.arm c.begin.new.self.arm (ap (λ (p : Past). p.contents) c.begin.ensures.past) change (mixed_torn 255 _ _ _ so)
+    cut_note c.args.self.now.past c.begin.new.self.past old _ c.args.self.now.changes c.begin.new.self.changes c.args.self.now.reads c.begin.new.self.reads c.args.self.now.arm c.begin.new.self.arm (ap (λ (p : Past). p.contents) c.begin.ensures.past) change (mixed_torn 255 _ _ _ so)
 
 pub returns-in-Torn-clause-any_moment : goal.returns-in-Torn-clause-any_moment
 returns-in-Torn-clause-any_moment c honest =
     let old = c.args.self.now.octets.items in
     let change = programmed c.args.at c.args.bytes.now in
     let so = wrote c.in-Torn.mask c.begin.new.self.octets.len change old c.begin.new.self.octets.items c.deref_mut-in-Torn.result.now c.program_octets-in-Torn.new.octets c.deref_mut-in-Torn.ensures.value (ap (λ v. v.items) c.begin.ensures.octets) c.deref_mut-in-Torn.ensures.len c.program_octets-in-Torn.ensures in
-    cut_note c.args.self.now.past c.begin.new.self.past old _ c.args.self.now.changes c.begin.new.self.changes c.args.self.now.arm c.begin.new.self.arm (ap (λ (p : Past). p.contents) c.begin.ensures.past) change (mixed_torn c.in-Torn.mask _ _ _ so)
+    cut_note c.args.self.now.past c.begin.new.self.past old _ c.args.self.now.changes c.begin.new.self.changes c.args.self.now.reads c.begin.new.self.reads c.args.self.now.arm c.begin.new.self.arm (ap (λ (p : Past). p.contents) c.begin.ensures.past) change (mixed_torn c.in-Torn.mask _ _ _ so)
 
 pub returns-in-Torn-clause-by_arm : goal.returns-in-Torn-clause-by_arm
 returns-in-Torn-clause-by_arm c steady =
@@ -64,12 +66,11 @@ returns-in-Torn-clause-by_arm c steady =
       course = torn_follows (Unit {0}) FlashFailed c.args.self.now.failed c.args.self.now.arm c.args.self.now.past c.in-Torn.mask change old _ (record {}) (sym c.begin.ensures.course ∙ c.in-Torn.is) c.args.self.now.whole so;
       counted = c.begin.ensures.changes;
       nearer = ap left_of c.begin.ensures.arm ∙ left_nearer c.args.self.now.arm;
-      no_fault = tt;
     }
 
 pub returns-in-Dead-clause-any_moment : goal.returns-in-Dead-clause-any_moment
 returns-in-Dead-clause-any_moment c honest =
     let old = c.args.self.now.octets.items in
     let change = programmed c.args.at c.args.bytes.now in
-    cut_note c.args.self.now.past c.begin.new.self.past old c.begin.new.self.octets.items c.args.self.now.changes c.begin.new.self.changes c.args.self.now.arm c.begin.new.self.arm (ap (λ (p : Past). p.contents) c.begin.ensures.past) change
+    cut_note c.args.self.now.past c.begin.new.self.past old c.begin.new.self.octets.items c.args.self.now.changes c.begin.new.self.changes c.args.self.now.reads c.begin.new.self.reads c.args.self.now.arm c.begin.new.self.arm (ap (λ (p : Past). p.contents) c.begin.ensures.past) change
     (subst (λ (l : List ℕ). IsTorn old (change old) l) (sym (ap (λ v. v.items) c.begin.ensures.octets)) (torn_none old (change old)))

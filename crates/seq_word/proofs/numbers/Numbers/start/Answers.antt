@@ -1,5 +1,5 @@
-use Rattle.std.proofs.Common.{arith}
-use Rattle.seq_word.proofs.Moves.{begins, splits}
+use Rattle.std.proofs.Common.{ap, arith}
+use Rattle.seq_word.proofs.Moves.{begins, opens}
 use Rattle.seq_word.proofs.numbers.Numbers.start.Goals as goal
 
 pub of_words-requires : goal.of_words-requires
@@ -8,4 +8,4 @@ of_words-requires c = begins c.args.next c.args.mark c.requires.next_word c.requ
 pub split_seat-requires : goal.split_seat-requires
 split_seat-requires c =
     let made = c.in_ok-table.ensures in
-    (made.2, omega (arith, made.0), splits _ _ _)
+    (made.2, omega (arith, made.0), opens _ _ _ (ap (λ m. m.0.draws) made.4) (omega (arith, ap (λ m. m.0.parts) made.4)))

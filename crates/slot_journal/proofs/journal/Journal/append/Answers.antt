@@ -13,9 +13,9 @@ returns-then-self-eq-ROOM-clause-any_moment g c tie = unchanged (g.F.Flash.chip 
 pub returns-in_err-write_slot-clause-any_moment : goal.returns-in_err-write_slot-clause-any_moment
 returns-in_err-write_slot-clause-any_moment g c tie =
     let old = g.F.Flash.chip c.args.flash.now in
-    let journal : JournalView = record { bank = c.self.inside.bank; used = c.self.inside.used; closed = c.self.inside.closed } in
+    let journal : JournalView = record { bank = c.self.inside.bank; used = c.self.inside.used; closed = c.self.inside.closed; generation = c.self.inside.generation; version = c.self.inside.version } in
     let here : IsJournalOf old journal = subst (λ (v : JournalView). IsJournalOf old v) (sym c.self.view_is) tie in
-    let most = here.used.few in
+    let most = here.mounted.used.few in
     let few : journal.used < 1023 = omega (arith, most, c.if-self-eq-ROOM.false) in
     any_moment old journal c.args.item.now here few (g.F.Flash.chip c.write_slot.new.flash)
     (c.write_slot.ensures.any_moment tie.fresh (next_blank old journal c.args.item.now here few))
@@ -23,9 +23,9 @@ returns-in_err-write_slot-clause-any_moment g c tie =
 pub returns-clause-kept : goal.returns-clause-kept
 returns-clause-kept g c tie =
     let old = g.F.Flash.chip c.args.flash.now in
-    let journal : JournalView = record { bank = c.self.inside.bank; used = c.self.inside.used; closed = c.self.inside.closed } in
+    let journal : JournalView = record { bank = c.self.inside.bank; used = c.self.inside.used; closed = c.self.inside.closed; generation = c.self.inside.generation; version = c.self.inside.version } in
     let here : IsJournalOf old journal = subst (λ (v : JournalView). IsJournalOf old v) (sym c.self.view_is) tie in
-    let most = here.used.few in
+    let most = here.mounted.used.few in
     let few : journal.used < 1023 = omega (arith, most, c.if-self-eq-ROOM.false) in
     kept old journal c.args.item.now here few (g.F.Flash.chip c.write_slot.new.flash) (c.in_ok-write_slot.ensures.fresh tie.fresh)
     (c.in_ok-write_slot.ensures.written tie.fresh (next_blank old journal c.args.item.now here few))
@@ -33,9 +33,9 @@ returns-clause-kept g c tie =
 pub returns-clause-durable : goal.returns-clause-durable
 returns-clause-durable g c tie =
     let old = g.F.Flash.chip c.args.flash.now in
-    let journal : JournalView = record { bank = c.self.inside.bank; used = c.self.inside.used; closed = c.self.inside.closed } in
+    let journal : JournalView = record { bank = c.self.inside.bank; used = c.self.inside.used; closed = c.self.inside.closed; generation = c.self.inside.generation; version = c.self.inside.version } in
     let here : IsJournalOf old journal = subst (λ (v : JournalView). IsJournalOf old v) (sym c.self.view_is) tie in
-    let most = here.used.few in
+    let most = here.mounted.used.few in
     let few : journal.used < 1023 = omega (arith, most, c.if-self-eq-ROOM.false) in
     durable old journal c.args.item.now here few (g.F.Flash.chip c.write_slot.new.flash)
     (c.in_ok-write_slot.ensures.written tie.fresh (next_blank old journal c.args.item.now here few))
@@ -43,9 +43,9 @@ returns-clause-durable g c tie =
 pub returns-clause-any_moment : goal.returns-clause-any_moment
 returns-clause-any_moment g c tie =
     let old = g.F.Flash.chip c.args.flash.now in
-    let journal : JournalView = record { bank = c.self.inside.bank; used = c.self.inside.used; closed = c.self.inside.closed } in
+    let journal : JournalView = record { bank = c.self.inside.bank; used = c.self.inside.used; closed = c.self.inside.closed; generation = c.self.inside.generation; version = c.self.inside.version } in
     let here : IsJournalOf old journal = subst (λ (v : JournalView). IsJournalOf old v) (sym c.self.view_is) tie in
-    let most = here.used.few in
+    let most = here.mounted.used.few in
     let few : journal.used < 1023 = omega (arith, most, c.if-self-eq-ROOM.false) in
     any_moment old journal c.args.item.now here few (g.F.Flash.chip c.write_slot.new.flash)
     (c.write_slot.ensures.any_moment tie.fresh (next_blank old journal c.args.item.now here few))

@@ -1,0 +1,16 @@
+use Rattle.std.proofs.Common.{◌≡◌, ℕ, ◌*◌, List}
+use Rattle.std.specs.Prelude.{IsTrue}
+use Rattle.flash_model.specs.Arming.{Begins}
+use Rattle.flash_model.specs.Chip.{Keeps, LeavesOnly}
+use Rattle.slot_journal.specs.Banks.{IsBankBare, IsBankFilled}
+use Rattle.slot_journal.proofs.filling.fill_bank.Given as goal
+
+abbrev pub invariant-loop-k : goal.invariant-loop-k
+invariant-loop-k g l = record {
+  keeps : Keeps (g.F.Flash.chip l.initial.flash) (g.F.Flash.chip l.flash);
+  filled : (base : List ℕ) → IsBankFilled l.bank l.items 0 base (g.F.Flash.chip l.initial.flash) → IsBankFilled l.bank l.items l.k base (g.F.Flash.chip l.flash);
+  leaves : (base : List ℕ) → IsBankFilled l.bank l.items 0 base (g.F.Flash.chip l.initial.flash) → LeavesOnly (g.F.Flash.chip l.initial.flash) (g.F.Flash.chip l.flash) (IsBankBare l.bank base);
+  calls : IsTrue (g.F.Flash.chip l.initial.flash).steady → Begins (2 * l.k) (g.F.Flash.chip l.initial.flash) (g.F.Flash.chip l.flash);
+  reads : (g.F.Flash.chip l.flash).reads ≡ (g.F.Flash.chip l.initial.flash).reads;
+  faults : (g.F.Flash.chip l.flash).faults ≡ (g.F.Flash.chip l.initial.flash).faults;
+}
