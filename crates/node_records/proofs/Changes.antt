@@ -3,7 +3,7 @@ use Rattle.std.proofs.Common.{◌≡◌, ℕ, zero, suc, ◌+◌, ◌<◌, ◌�
 use Rattle.std.specs.Prelude.{Result, Ok, Err, IsOk, OnOk}
 use Rattle.std.proofs.lemmas.Bool.Decides.{nat_tests}
 use Rattle.mesh_base.specs.declared.keys.NetKeyRow.{NetKeyRow}
-use Rattle.run_definitions.specs.Config.{nets_after}
+use Rattle.store_definitions.specs.Config.{nets_after}
 use Rattle.node_records.specs.Rows.{net_after}
 
 -- a table whose first i rows are changed

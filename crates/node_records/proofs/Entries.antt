@@ -1,12 +1,12 @@
 -- What expires stays expired, and what is noted under an expired entry counts alone.
 use Rattle.std.proofs.Common.{◌≡◌, ◌⊎◌, inl, inr, ℕ, ◌≤◌, Bool, true, false, refl, ap, ◌∙◌, sym, arith}
-use Rattle.std.specs.Prelude.{◌==◌, if◌then◌else◌, Option, Some, None}
+use Rattle.std.specs.Prelude.{◌==◌, ◌&&◌, ◌||◌, not, if◌then◌else◌, List, [], ◌∷◌, Option, Some, None, is_some, fold}
 use Rattle.std.proofs.lemmas.Bool.Decides.{nat_tests}
+use Rattle.mesh_base.specs.declared.pair.Name.{Name}
 use Rattle.mesh_base.specs.declared.pair.Pair.{Pair}
-use Rattle.mesh_types.specs.declared.records.StoreRecord.{StoreRecord}
-use Rattle.mesh_types.specs.declared.records.StoreRecord.TheVariants as R
-use Rattle.run_definitions.specs.Pairs.{is_expired, newer_of}
-use Rattle.run_definitions.specs.Entries.{greatest_with, kept_after, unexpired}
+use Rattle.record_types.specs.declared.records.StoreRecord.{StoreRecord}
+use Rattle.mesh_base.specs.Pairs.{is_expired, newer_of}
+use Rattle.store_definitions.specs.Entries.{greatest_with, kept_with, kept_after, names_in, unexpired}
 
 none_test : (b : Bool) (p : Pair) → (if b then None else Some p) ≡ None → b ≡ true
 none_test true p e = refl
@@ -73,16 +73,48 @@ note_by : (b : Bool) (current : ℕ) (x y u v : Option Pair) → unexpired curre
 note_by true current x y u v e f = e
 note_by false current x y u v e f = f
 
--- a record leaves entries that are the same the same
+-- a name leaves entries that are the same the same
+pub name_more : (current src : ℕ) (a b : Option Pair) (name : Name) → unexpired current a ≡ unexpired current b
+    → unexpired current (kept_with src a name) ≡ unexpired current (kept_with src b name)
+name_more current src a b name e = note_by (name.src.0 == src) current _ _ _ _ (noted current a b name.pair e) e
+
+names_more : (current src : ℕ) (a b : Option Pair) (names : List Name) → unexpired current a ≡ unexpired current b
+    → unexpired current (fold (kept_with src) a names) ≡ unexpired current (fold (kept_with src) b names)
+names_more current src a b [] e = e
+names_more current src a b (name ∷ names) e = names_more current src (kept_with src a name) (kept_with src b name) names (name_more current src a b name e)
+
+-- and so does a record
 pub kept_more : (current src : ℕ) (a b : Option Pair) (item : StoreRecord) → unexpired current a ≡ unexpired current b
     → unexpired current (kept_after src a item) ≡ unexpired current (kept_after src b item)
-kept_more current src a b (R.Replay name) e = note_by (name.src.0 == src) current _ _ _ _ (noted current a b name.pair e) e
-kept_more current src a b (R.Identity unicast elements dev_key) e = e
-kept_more current src a b (R.Numbers new progress mark hours since) e = e
-kept_more current src a b (R.Hour hours since) e = e
-kept_more current src a b (R.NetKey op index key) e = e
-kept_more current src a b (R.AppKey op net index key) e = e
-kept_more current src a b (R.Bind op element model app) e = e
-kept_more current src a b (R.Subscribe op element model address) e = e
-kept_more current src a b (R.Feature which value) e = e
-kept_more current src a b R.Reset e = e
+kept_more current src a b item e = names_more current src a b (names_in item) e
+
+newer_stays : (current : ℕ) (q p : Pair) → is_expired current q ≡ false → is_expired current (newer_of q p) ≡ false
+newer_stays current q p h = grind (arith, nat_tests)
+
+lives : (current : ℕ) (p : Pair) → is_some (unexpired current (Some p)) ≡ not (is_expired current p)
+lives current p = by_test (is_expired current p)
+  where
+    by_test : (b : Bool) → is_some (if b then None else Some p) ≡ not b
+    by_test true = refl
+    by_test false = refl
+
+-- a source has an entry after a pair of it where it had one, or this pair isn't expired
+pub some_greatest : (current : ℕ) (kept : Option Pair) (p : Pair) → is_some (unexpired current (greatest_with kept p)) ≡ is_some (unexpired current kept) || not (is_expired current p)
+some_greatest current None p = lives current p
+some_greatest current (Some q) p = by_test (is_expired current q) refl
+  where
+    by_test : (b : Bool) → is_expired current q ≡ b → is_some (unexpired current (Some (newer_of q p))) ≡ is_some (unexpired current (Some q)) || not (is_expired current p)
+    by_test true e = ap (λ (o : Option Pair). is_some o) (above_expired current q p e) ∙ lives current p ∙ sym (ap (λ b. b || not (is_expired current p)) (lives current q ∙ ap not e))
+    by_test false e = lives current (newer_of q p) ∙ ap not (newer_stays current q p e) ∙ sym (ap (λ b. b || not (is_expired current p)) (lives current q ∙ ap not e))
+
+or_none : (b : Bool) → b ≡ b || false
+or_none true = refl
+or_none false = refl
+
+pub some_with : (current src : ℕ) (kept : Option Pair) (name : Name)
+    → is_some (unexpired current (kept_with src kept name)) ≡ is_some (unexpired current kept) || (name.src.0 == src && not (is_expired current name.pair))
+some_with current src kept name = by_test (name.src.0 == src)
+  where
+    by_test : (b : Bool) → is_some (unexpired current (if b then greatest_with kept name.pair else kept)) ≡ is_some (unexpired current kept) || (b && not (is_expired current name.pair))
+    by_test true = some_greatest current kept name.pair
+    by_test false = or_none (is_some (unexpired current kept))

@@ -1,9 +1,11 @@
+pub mod Alike
 pub mod Changes
 pub mod Counts
 pub mod Entries
-pub mod Fields
 pub mod Meanings
 pub mod Places
+pub mod Rising
 pub mod Room
 pub mod Rows
+pub mod Said
 pub mod Sizes

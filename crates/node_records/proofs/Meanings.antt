@@ -1,36 +1,43 @@
 -- A value after a record is the meaning of the records with that one at their end.
-use Rattle.std.proofs.Common.{◌≡◌, ℕ, ◌≤◌, List, [], ◌∷◌, ◌++◌, ap, ◌∙◌, sym, subst, arith}
+use Rattle.std.proofs.Common.{◌≡◌, ℕ, ◌≤◌, Bool, refl, List, [], ◌∷◌, ◌++◌, ap, ◌∙◌, sym, subst, arith}
 use Rattle.std.specs.Prelude.{None}
 use Rattle.std.proofs.lemmas.List.Sums.{fold-append}
-use Rattle.mesh_types.specs.declared.records.StoreRecord.{StoreRecord}
-use Rattle.mesh_types.specs.declared.records.StoreRecord.TheVariants as R
-use Rattle.run_definitions.specs.Config.{Config, no_config, changed, config_of}
-use Rattle.run_definitions.specs.Entries.{kept_after, kept_of, unexpired}
+use Rattle.record_types.specs.declared.records.StoreRecord.{StoreRecord}
+use Rattle.record_types.specs.declared.records.StoreRecord.TheVariants as R
+use Rattle.store_definitions.specs.Config.{Config, no_config, changed, config_of}
+use Rattle.store_definitions.specs.Entries.{kept_after, kept_of, unexpired}
 use Rattle.node_records.specs.declared.persist.Persist.{Persist}
 use Rattle.node_records.specs.Tables.{config_in, pair_of}
-use Rattle.node_records.specs.Meaning.{IsMeaningOf, DoesNotFall}
+use Rattle.node_records.specs.Meaning.{IsMeaningOf, IsSaid, DoesNotFall}
+use Rattle.store_definitions.specs.Ranges.{IsInRange}
+use Rattle.std.proofs.lemmas.List.Elements.{All-nil, All-push}
 use Rattle.node_records.specs.Steps.{IsStep, KeepsEntries}
 use Rattle.node_records.proofs.Entries.{raised, kept_more}
 
-config_push : (records : List StoreRecord) (item : StoreRecord) → config_of (records ++ item ∷ []) ≡ changed (config_of records) item
+pub config_push : (records : List StoreRecord) (item : StoreRecord) → config_of (records ++ item ∷ []) ≡ changed (config_of records) item
 config_push records item = fold-append changed no_config records (item ∷ [])
 
-kept_push : (records : List StoreRecord) (item : StoreRecord) (src : ℕ) → kept_of (records ++ item ∷ []) src ≡ kept_after src (kept_of records src) item
+pub kept_push : (records : List StoreRecord) (item : StoreRecord) (src : ℕ) → kept_of (records ++ item ∷ []) src ≡ kept_after src (kept_of records src) item
 kept_push records item src = fold-append (kept_after src) None records (item ∷ [])
 
 -- the known IV Index doesn't fall
-current_later : (old : Persist) (item : StoreRecord) → DoesNotFall old item → old.iv.current ≤ (changed (config_in old) item).iv.current
+pub current_later : (c : Config) (item : StoreRecord)
+    → ((current : ℕ) (progress : Bool) (mark hours since : ℕ) → item ≡ R.Numbers current progress mark hours since → c.iv.current ≤ current)
+    → c.iv.current ≤ (changed c item).iv.current
 unfolding changed
-current_later old (R.Identity unicast elements dev_key) h = omega arith
-current_later old (R.Numbers current progress mark hours since) h = h
-current_later old (R.Hour hours since) h = omega arith
-current_later old (R.Replay name) h = omega arith
-current_later old (R.NetKey op index key) h = omega arith
-current_later old (R.AppKey op net index key) h = omega arith
-current_later old (R.Bind op element model app) h = omega arith
-current_later old (R.Subscribe op element model address) h = omega arith
-current_later old (R.Feature which value) h = omega arith
-current_later old R.Reset h = omega arith
+current_later c (R.Numbers current progress mark hours since) h = h current progress mark hours since refl
+current_later c (R.Identity unicast elements dev_key) h = omega arith
+current_later c (R.Hour hours since) h = omega arith
+current_later c (R.Replay first second) h = omega arith
+current_later c (R.NetKey op index key) h = omega arith
+current_later c (R.AppKey op net index key) h = omega arith
+current_later c (R.Bind op element model app) h = omega arith
+current_later c (R.Subscribe op element model address) h = omega arith
+current_later c (R.Feature which value) h = omega arith
+current_later c R.Reset h = omega arith
+current_later c (R.Model element model value) h = omega arith
+current_later c (R.Label op element model label) h = omega arith
+current_later c (R.Publish row) h = omega arith
 
 -- one more record
 pub step_means : (records : List StoreRecord) (item : StoreRecord) (old new : Persist)
@@ -42,7 +49,7 @@ step_means records item old new later step means =
     let current : old.iv.current ≡ (config_of records).iv.current = ap (λ (c : Config). c.iv.current) means.config in
     let now : new.iv.current ≡ (config_of (records ++ item ∷ [])).iv.current = ap (λ (c : Config). c.iv.current) config in
     let least : old.iv.current ≤ new.iv.current =
-    subst (λ (c : Config). old.iv.current ≤ c.iv.current) (sym step.config) (current_later old item later) in
+    subst (λ (c : Config). old.iv.current ≤ c.iv.current) (sym step.config) (current_later (config_in old) item (λ current progress mark hours since e. subst (λ (i : StoreRecord). DoesNotFall old i) e later)) in
     record {
       config = config;
       entries = λ src.
@@ -56,3 +63,15 @@ step_means records item old new later step means =
           ∙ ap (λ n. unexpired n (kept_of (records ++ item ∷ []) src)) now;
       apart = keeps.apart;
     }
+
+pub first_said : (p : Persist) → IsMeaningOf [] p → IsSaid p
+first_said p means = record { records = []; ranges = All-nil IsInRange; meaning = means }
+
+-- a value that records in range stand for is so after one more
+pub said_more : (item : StoreRecord) (old new : Persist) → IsInRange item → ((records : List StoreRecord) → IsMeaningOf records old → IsMeaningOf (records ++ item ∷ []) new)
+    → IsSaid old → IsSaid new
+said_more item old new range after said = record {
+  records = said.records ++ item ∷ [];
+  ranges = All-push IsInRange said.records item said.ranges range;
+  meaning = after said.records said.meaning;
+}

@@ -4,12 +4,12 @@ use Rattle.std.specs.Prelude.{◌==◌, if◌then◌else◌, Option, Some, None}
 use Rattle.std.proofs.lemmas.Bool.Decides.{nat_tests}
 use Rattle.mesh_base.specs.declared.pair.Pair.{Pair}
 use Rattle.mesh_base.specs.declared.pair.Name.{Name}
-use Rattle.mesh_types.specs.declared.records.StoreRecord.TheVariants as R
-use Rattle.run_definitions.specs.Pairs.{is_newer, is_expired, newer_of}
-use Rattle.run_definitions.specs.Entries.{greatest_with, unexpired}
+use Rattle.mesh_base.specs.Pairs.{is_newer, is_expired, newer_of}
+use Rattle.store_definitions.specs.Entries.{greatest_with, kept_with, unexpired}
 use Rattle.node_records.specs.Tables.{pair_of, IsApart}
-use Rattle.node_records.specs.Steps.{KeepsEntries}
-use Rattle.node_records.proofs.Entries.{gone}
+use Rattle.record_types.specs.declared.records.StoreRecord.TheVariants as R
+use Rattle.node_records.specs.Steps.{KeepsName, KeepsEntries}
+use Rattle.node_records.proofs.Entries.{gone, name_more}
 
 -- a source without a row has none at any place
 pub none_at : (rows : List Name) (k src : ℕ) (d : Name) → pair_of rows src ≡ None → k < length rows → (get_or rows k d).src.0 ≡ src → ⊥
@@ -129,7 +129,7 @@ replace_by false false current x n q h k e = refl
 
 -- a name that isn't above its source's row
 pub keeps_same : (current : ℕ) (rows : List Name) (i : ℕ) (n d : Name) → IsApart rows → i < length rows → (get_or rows i d).src.0 ≡ n.src.0
-    → is_newer n.pair (get_or rows i d).pair ≡ false → KeepsEntries current rows rows (R.Replay n)
+    → is_newer n.pair (get_or rows i d).pair ≡ false → KeepsName current rows rows n
 keeps_same current rows i n d apart lt e older =
     let here : pair_of rows n.src.0 ≡ Some (get_or rows i d).pair = rw (← e) (row_at rows i d apart lt) in
     let kept : newer_of (get_or rows i d).pair n.pair ≡ (get_or rows i d).pair = rw older refl in
@@ -141,7 +141,7 @@ keeps_same current rows i n d apart lt e older =
 
 -- a name that is above it
 pub keeps_raised : (current : ℕ) (rows : List Name) (i : ℕ) (n d : Name) → IsApart rows → i < length rows → (get_or rows i d).src.0 ≡ n.src.0
-    → is_newer n.pair (get_or rows i d).pair ≡ true → KeepsEntries current rows (set rows i n) (R.Replay n)
+    → is_newer n.pair (get_or rows i d).pair ≡ true → KeepsName current rows (set rows i n) n
 keeps_raised current rows i n d apart lt e newer =
     let here : pair_of rows n.src.0 ≡ Some (get_or rows i d).pair = rw (← e) (row_at rows i d apart lt) in
     let kept : newer_of (get_or rows i d).pair n.pair ≡ n.pair = rw newer refl in
@@ -153,7 +153,7 @@ keeps_raised current rows i n d apart lt e newer =
     }
 
 -- a name of a source without a row, behind the others
-pub keeps_new : (current : ℕ) (rows : List Name) (n : Name) → IsApart rows → pair_of rows n.src.0 ≡ None → KeepsEntries current rows (rows ++ n ∷ []) (R.Replay n)
+pub keeps_new : (current : ℕ) (rows : List Name) (n : Name) → IsApart rows → pair_of rows n.src.0 ≡ None → KeepsName current rows (rows ++ n ∷ []) n
 keeps_new current rows n apart none = record {
   apart = new_row_apart rows n apart none;
   entries = λ src. ap (unexpired current) (new_row rows n src none
@@ -162,7 +162,7 @@ keeps_new current rows n apart none = record {
 
 -- and in the place of an expired row
 pub keeps_other : (current : ℕ) (rows : List Name) (i : ℕ) (n d : Name) → IsApart rows → i < length rows → pair_of rows n.src.0 ≡ None
-    → is_expired current (get_or rows i d).pair ≡ true → KeepsEntries current rows (set rows i n) (R.Replay n)
+    → is_expired current (get_or rows i d).pair ≡ true → KeepsName current rows (set rows i n) n
 keeps_other current rows i n d apart lt none old =
     let here : pair_of rows (get_or rows i d).src.0 ≡ Some (get_or rows i d).pair = row_at rows i d apart lt in
     record {
@@ -173,3 +173,24 @@ keeps_other current rows i n d apart lt none old =
           (λ t. subst (λ s. pair_of rows s ≡ Some (get_or rows i d).pair) (same_number (get_or rows i d).src.0 src t) here)
           old;
     }
+
+-- The names of a record in their order.
+
+pub keeps_one : (current : ℕ) (a b : List Name) (first : Name) → KeepsName current a b first → KeepsEntries current a b (R.Replay first None)
+keeps_one current a b first k = record { apart = k.apart; entries = k.entries }
+
+pub keeps_two : (current : ℕ) (a b c : List Name) (first second : Name) → KeepsName current a b first → KeepsName current b c second → KeepsEntries current a c (R.Replay first (Some second))
+keeps_two current a b c first second k h = record {
+  apart = h.apart;
+  entries = λ src. h.entries src ∙ name_more current src (pair_of b src) (kept_with src (pair_of a src) first) second (k.entries src);
+}
+
+-- The first row of a source is its row.
+pub row_first : (rows : List Name) (i src : ℕ) (d : Name) → i < length rows → ((k : ℕ) (d : Name) → k < i → (get_or rows k d).src.0 ≡ src → ⊥)
+    → (get_or rows i d).src.0 ≡ src → pair_of rows src ≡ Some (get_or rows i d).pair
+row_first [] i src d lt before here = absurd (omega arith)
+row_first (x ∷ xs) zero src d lt before here = grind (arith, nat_tests)
+row_first (x ∷ xs) (suc i) src d lt before here =
+    let other : x.src.0 ≡ src → ⊥ = λ e. before 0 x (omega arith) e in
+    let rest : pair_of xs src ≡ Some (get_or xs i d).pair = row_first xs i src d (omega arith) (λ k e lt f. before (suc k) e (omega arith) f) here in
+    grind (arith, nat_tests)

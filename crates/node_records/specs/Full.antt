@@ -1,46 +1,44 @@
--- When a table has no place for what a record adds. Sizes are 4 network keys, 8 application keys, 32 bindings, 32 subscriptions and 64
--- rows of the replay list.
-use Rattle.std.specs.Prelude.{◌≡◌, ℕ, ◌<◌, false, List, length, All, None}
-use Rattle.mesh_base.specs.declared.pair.Name.{Name}
-use Rattle.mesh_types.specs.declared.records.StoreRecord.{StoreRecord}
-use Rattle.mesh_types.specs.declared.records.StoreRecord.TheVariants as R
-use Rattle.run_definitions.specs.Pairs.{is_expired}
-use Rattle.run_definitions.specs.Config.{config_of, nets_after, apps_after, binds_after, subs_after}
-use Rattle.run_definitions.specs.Entries.{entry_of, has_room}
+-- When a table has no place for what a record adds. Sizes are 4 network keys, 8 application keys, 32 bindings, 32 subscriptions to groups,
+-- 32 to labels, 8 publications and 512 rows of the replay list.
+use Rattle.std.specs.Prelude.{◌≡◌, ◌⊎◌, ℕ, ◌<◌, ⊤, List, [], ◌∷◌, ◌++◌, length, None, IsSomeAnd}
+use Rattle.layer_definitions.specs.Order.{put_by}
+use Rattle.record_types.specs.declared.records.StoreRecord.{StoreRecord}
+use Rattle.record_types.specs.declared.records.StoreRecord.TheVariants as R
+use Rattle.store_definitions.specs.Config.{nets_after, apps_after, binds_after, subs_after, labels_after, publication_index}
+use Rattle.store_definitions.specs.Entries.{others_held}
+use Rattle.store_definitions.specs.Following.{HasNoPlace}
 use Rattle.node_records.specs.declared.persist.Persist.{Persist}
-use Rattle.node_records.specs.Tables.{pair_of}
-
--- The replay list has no place for a source: it has no row, all 64 rows are held, and none of them is expired.
-pub record IsReplayFull (current : ℕ) (rows : List Name) (src : ℕ) : Type 0 where
-  pub none : pair_of rows src ≡ None
-  pub held : length rows ≡ 64
-  pub live : All (λ row. is_expired current row.pair ≡ false) rows
+use Rattle.node_records.specs.Places.{live_of, live_with, LacksPlace}
 
 -- The table that would grow is full: with the record's change it would have more rows than its size. Of a subscription that takes the
--- place of all of its model these are counted after they are gone.
+-- place of all of its model these are counted after they are gone. Of two names the second is asked after the first.
 abbrev pub IsFull : Persist → StoreRecord → Type 0
 IsFull p (R.NetKey op index key) = 4 < length (nets_after op index key p.nets)
 IsFull p (R.AppKey op net index key) = 8 < length (apps_after op net index key p.apps)
 IsFull p (R.Bind op element model app) = 32 < length (binds_after op element model app p.binds)
 IsFull p (R.Subscribe op element model address) = 32 < length (subs_after op element model address p.subs)
-IsFull p (R.Replay name) = IsReplayFull p.iv.current p.replay name.src.0
+IsFull p (R.Label op element model label) = 32 < length (labels_after op element model label p.labels)
+IsFull p (R.Publish row) = 8 < length (put_by publication_index row p.publications)
+IsFull p (R.Replay first second) =
+    LacksPlace (live_of p.iv.current p.replay) first
+    ⊎ IsSomeAnd second (LacksPlace (live_with p.iv.current (live_of p.iv.current p.replay) first))
 IsFull p _ = ⊥
 
--- how many rows the table has that a record adds to
+-- how many rows a table has that has no place for what a record adds; of the replay list these are rows that aren't expired
 abbrev pub held_for : Persist → StoreRecord → ℕ
 held_for p (R.NetKey op index key) = length p.nets
 held_for p (R.AppKey op net index key) = length p.apps
 held_for p (R.Bind op element model app) = length p.binds
 held_for p (R.Subscribe op element model address) = length p.subs
-held_for p (R.Replay name) = length p.replay
+held_for p (R.Label op element model label) = length p.labels
+held_for p (R.Publish row) = length p.publications
+held_for p (R.Replay first second) = 512
 held_for p _ = 0
 
--- The same of the records that a value stands for: a table that they fill has no place for one more row, and a source without an entry
--- has no room where 64 others have one.
-abbrev pub PassesLimit : List StoreRecord → StoreRecord → Type 0
-PassesLimit records (R.NetKey op index key) = 4 < length (nets_after op index key (config_of records).nets)
-PassesLimit records (R.AppKey op net index key) = 8 < length (apps_after op net index key (config_of records).apps)
-PassesLimit records (R.Bind op element model app) = 32 < length (binds_after op element model app (config_of records).binds)
-PassesLimit records (R.Subscribe op element model address) = 32 < length (subs_after op element model address (config_of records).subs)
-PassesLimit records (R.Replay name) = (entry_of records name.src.0 ≡ None) × (has_room records name.src.0 ≡ false)
-PassesLimit records _ = ⊥
+-- so many other sources have an entry where a name of a Replay record has no place
+abbrev pub IsHeldByOthers : List StoreRecord → StoreRecord → ℕ → Type 0
+IsHeldByOthers records (R.Replay first second) held =
+    (HasNoPlace records first × (held ≡ others_held records first.src.0))
+    ⊎ IsSomeAnd second (λ name. HasNoPlace (records ++ R.Replay first None ∷ []) name
+    × (held ≡ others_held (records ++ R.Replay first None ∷ []) name.src.0))
+IsHeldByOthers records _ held = ⊤

@@ -1,6 +1,7 @@
 pub mod Full
 pub mod Growth
 pub mod Meaning
+pub mod Places
 pub mod Rows
 pub mod Steps
 pub mod Tables

@@ -2,8 +2,8 @@
 use Rattle.std.specs.Prelude.{◌≡◌, ℕ, ◌==◌, if◌then◌else◌, List, [], ◌∷◌, Option, Some, None}
 use Rattle.mesh_base.specs.declared.pair.Pair.{Pair}
 use Rattle.mesh_base.specs.declared.pair.Name.{Name}
-use Rattle.run_definitions.specs.Config.{Config}
-use Rattle.run_definitions.specs.Entries.{unexpired}
+use Rattle.store_definitions.specs.Config.{Config}
+use Rattle.store_definitions.specs.Entries.{unexpired}
 use Rattle.node_records.specs.declared.persist.Persist.{Persist}
 
 -- the fields, and the tables as lists
@@ -18,6 +18,10 @@ config_in p = record {
   apps = p.apps;
   binds = p.binds;
   subs = p.subs;
+  labels = p.labels;
+  publications = p.publications;
+  onoffs = p.onoffs;
+  levels = p.levels;
   beacon = p.beacon;
   ttl = p.ttl;
   friend = p.friend;

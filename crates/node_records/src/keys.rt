@@ -1,88 +1,14 @@
 //! The tables of network keys and application keys.
 #![tactic(auto)]
 
-ghost use Rattle.std.specs.Prelude.{◌≡◌, ℕ, ◌<◌, ◌≤◌, not, ◌==◌, length, filter, map, slice_index_or};
-ghost use Rattle.std.specs.Bool.{OnTrue, OnFalse};
-ghost use Rattle.mesh_base.specs.declared.keys.AppKeyRow.{AppKeyRow};
-ghost use Rattle.mesh_base.specs.declared.keys.NetKeyRow.{NetKeyRow};
-ghost use Rattle.run_definitions.specs.Config.{put_net, put_app, finished_app, updated_app, nets_after, apps_after, apps_after_net};
+ghost use Rattle.std.specs.Prelude.{◌≡◌, ◌≤◌, not, ◌==◌, length, filter, map};
+ghost use Rattle.store_definitions.specs.Config.{finished_app, updated_app, nets_after, apps_after, apps_after_net};
 ghost use Rattle.node_records.specs.Rows.{net_after};
 
+use crate::keyed::put;
 use crate::persist::{APPS, NETS};
 use mesh_base::keys::{AppKeyRow, NetKeyRow};
 use mesh_base::table::Table;
-
-/// The place of the first network key whose index isn't below this one.
-fn net_place(rows: &[NetKeyRow], index: u16) -> usize
-    ensures within { result ≤ length rows.now }
-    ensures before { (k : ℕ) (d : NetKeyRow) → k < result → (slice_index_or rows.now k d).index < index }
-    ensures there { (d : NetKeyRow) → result < length rows.now → index ≤ (slice_index_or rows.now result d).index }
-{
-    for (place, row) in rows.iter().enumerate() {
-        if row.index >= index {
-            return place;
-        }
-    }
-    rows.len()
-}
-
-/// The place of the first application key whose index isn't below this one.
-fn app_place(rows: &[AppKeyRow], index: u16) -> usize
-    ensures within { result ≤ length rows.now }
-    ensures before { (k : ℕ) (d : AppKeyRow) → k < result → (slice_index_or rows.now k d).index < index }
-    ensures there { (d : AppKeyRow) → result < length rows.now → index ≤ (slice_index_or rows.now result d).index }
-{
-    for (place, row) in rows.iter().enumerate() {
-        if row.index >= index {
-            return place;
-        }
-    }
-    rows.len()
-}
-
-/// Whether the network key at a place has this index.
-fn is_net_at(rows: &[NetKeyRow], place: usize, index: u16) -> bool
-    ensures yes { OnTrue result (place < length rows.now) }
-    ensures same { OnTrue result ((d : NetKeyRow) → (slice_index_or rows.now place d).index ≡ index) }
-    ensures no { OnFalse result ((d : NetKeyRow) → place < length rows.now → (slice_index_or rows.now place d).index ≡ index → ⊥) }
-{
-    place < rows.len() && rows[place].index == index
-}
-
-/// Puts a network key in its place by index, in place of one with its index.
-fn add_net(nets: &mut Table<NetKeyRow, NETS>, row: NetKeyRow)
-    requires { length (put_net row nets.old) ≤ 4 }
-    ensures { nets.new ≡ put_net row nets.old }
-{
-    let place = net_place(nets.as_slice(), row.index);
-    if is_net_at(nets.as_slice(), place, row.index) {
-        nets.set(place, row);
-        return;
-    }
-    nets.insert(place, row).unwrap();
-}
-
-/// Whether the application key at a place has this index.
-fn is_app_at(rows: &[AppKeyRow], place: usize, index: u16) -> bool
-    ensures yes { OnTrue result (place < length rows.now) }
-    ensures same { OnTrue result ((d : AppKeyRow) → (slice_index_or rows.now place d).index ≡ index) }
-    ensures no { OnFalse result ((d : AppKeyRow) → place < length rows.now → (slice_index_or rows.now place d).index ≡ index → ⊥) }
-{
-    place < rows.len() && rows[place].index == index
-}
-
-/// Puts an application key in its place by index, in place of one with its index.
-fn add_app(apps: &mut Table<AppKeyRow, APPS>, row: AppKeyRow)
-    requires { length (put_app row apps.old) ≤ 8 }
-    ensures { apps.new ≡ put_app row apps.old }
-{
-    let place = app_place(apps.as_slice(), row.index);
-    if is_app_at(apps.as_slice(), place, row.index) {
-        apps.set(place, row);
-        return;
-    }
-    apps.insert(place, row).unwrap();
-}
 
 /// A network key after op 2, 3 or 4 on this index.
 fn net_with(row: NetKeyRow, op: u8, index: u16, key: &[u8; 16]) -> NetKeyRow
@@ -132,7 +58,7 @@ pub(crate) fn apply_to_nets(nets: &mut Table<NetKeyRow, NETS>, op: u8, index: u1
     ensures { nets.new ≡ nets_after op index key.now nets.old }
 {
     match op {
-        1 => add_net(
+        1 => put(
             nets,
             NetKeyRow {
                 index,
@@ -231,7 +157,7 @@ pub(crate) fn apply_to_apps(
     ensures { apps.new ≡ apps_after op net index key.now apps.old }
 {
     match op {
-        1 => add_app(
+        1 => put(
             apps,
             AppKeyRow {
                 net,

@@ -1,30 +1,27 @@
-//! The records of a node's store: the one text of each ([`encode`], [`decode`]), and the value that a list of records
-//! stands for ([`Persist`]), which [`Persist::apply`] changes record by record and
-//! [`Persist::check`] asks before.
+//! The value that a list of a node's records stands for ([`Persist`]): [`Persist::apply`] changes it record by record, and
+//! [`Persist::check`] asks before whether there is a place.
 //!
-//! - `encoding`: from a record to its slot
-//! - `decoding`: from a slot to its record
-//! - `ranges`: whether a record's fields are in their ranges
 //! - `persist`: the value
 //! - `applying`: what each record changes in it
-//! - `keys`, `lists`, `replay`: the changes of its tables
+//! - `keyed`: tables of rows that stand by a number
+//! - `keys`, `lists`, `labels`, `publications`, `replay`: the changes of its tables
 //! - `limits`: whether a table has a place for what a record adds
+//! - `laws`: what is true of every value of records in range
 #![tactic(auto)]
 
 mod applying;
-mod decoding;
-mod encoding;
+mod keyed;
 mod keys;
+mod labels;
+pub mod laws;
 mod limits;
 mod lists;
 mod persist;
-mod ranges;
+mod publications;
 mod replay;
 #[cfg(test)]
 mod tests;
 
 pub use applying::Limit;
-pub use decoding::{BadRecord, decode};
-pub use encoding::encode;
-pub use mesh_types::records::StoreRecord;
 pub use persist::Persist;
+pub use record_types::records::{PublishRow, StoreRecord};

@@ -1,22 +1,29 @@
 //! Whether the table that a record adds to has a place for it.
 #![tactic(auto)]
 
-ghost use Rattle.std.specs.Prelude.{◌≡◌, ◌≤◌, ◌↔◌, IsTrue, IsErr, IfErr};
+ghost use Rattle.std.specs.Prelude.{◌≡◌, ◌⊎◌, ℕ, ◌<◌, ◌≤◌, ◌↔◌, ◌==◌, ◌&&◌, not, false, List, length, count_by, IsTrue, IsErr, IfErr, IsSomeAnd};
 ghost use Rattle.node_records.specs.Growth as table;
+ghost use Rattle.layer_definitions.specs.KeyRefresh.{net_index, app_index};
+ghost use Rattle.layer_definitions.specs.Order.{put_by};
+ghost use Rattle.store_definitions.specs.Config.{is_bind, is_sub, is_label, publication_index, nets_after, apps_after, binds_after, subs_after, labels_after};
+ghost use Rattle.node_records.specs.Places.{live_of, live_with, LacksPlace};
 
 use crate::applying::Limit;
+use crate::keyed::{Keyed, adds};
+use crate::labels::has_label;
 use crate::lists::{has_bind, has_sub};
-use crate::persist::{APPS, BINDS, NETS, Persist, REPLAY, SUBS};
-use crate::replay::{has_few_rows, is_old};
+use crate::persist::{APPS, BINDS, LABELS, NETS, PUBLICATIONS, Persist, REPLAY, SUBS};
+use crate::replay::{has_few_rows, lacks_place, lacks_place_after};
 use mesh_base::address::Address;
 use mesh_base::keys::{AppKeyRow, NetKeyRow};
 use mesh_base::pair::Name;
-use mesh_types::records::StoreRecord;
+use record_types::records::{PublishRow, StoreRecord};
 
 impl Persist {
     ghost use Rattle.std.specs.Prelude.{◌≡◌, ◌↔◌, List, IsErr, IfErr};
-    ghost use Rattle.mesh_types.specs.declared.records.StoreRecord.{StoreRecord};
-    ghost use Rattle.node_records.specs.Full.{IsFull, held_for, PassesLimit};
+    ghost use Rattle.record_types.specs.declared.records.StoreRecord.{StoreRecord};
+    ghost use Rattle.store_definitions.specs.Following.{PassesLimit};
+    ghost use Rattle.node_records.specs.Full.{IsFull, held_for, IsHeldByOthers};
     ghost use Rattle.node_records.specs.Meaning.{IsMeaningOf};
 
     /// Whether there is a place for what a record adds: `Limit` exactly where `apply` would refuse the record, and with the same count.
@@ -25,6 +32,7 @@ impl Persist {
         ensures limit { IsErr result ↔ IsFull self.now item.now }
         ensures held { IfErr result (λ e. e.held ≡ held_for self.now item.now) }
         ensures passes { (records : List StoreRecord) → IsMeaningOf records self.now → IsErr result ↔ PassesLimit records item.now }
+        ensures others { (records : List StoreRecord) → IsMeaningOf records self.now → IfErr result (λ e. IsHeldByOthers records item.now e.held) }
     {
         has_few_rows(&self.replay);
         self.check_table(item)
@@ -36,38 +44,29 @@ impl Persist {
         ensures held { IfErr result (λ e. e.held ≡ held_for self.now item.now) }
     {
         match item {
-            StoreRecord::NetKey { op, index, .. } => {
-                let rows = self.nets.as_slice();
-                limit_where(passes_nets(rows, *op, *index), rows.len())
-            }
-            StoreRecord::AppKey { op, index, .. } => {
-                let rows = self.apps.as_slice();
-                limit_where(passes_apps(rows, *op, *index), rows.len())
-            }
+            StoreRecord::NetKey { op, index, .. } => check_nets(self.nets.as_slice(), *op, *index),
+            StoreRecord::AppKey { op, index, .. } => check_apps(self.apps.as_slice(), *op, *index),
             StoreRecord::Bind {
                 op,
                 element,
                 model,
                 app,
-            } => {
-                let rows = self.binds.as_slice();
-                limit_where(passes_binds(rows, *op, *element, *model, *app), rows.len())
-            }
+            } => check_binds(self.binds.as_slice(), *op, *element, *model, *app),
             StoreRecord::Subscribe {
                 op,
                 element,
                 model,
                 address,
-            } => {
-                let rows = self.subs.as_slice();
-                limit_where(
-                    passes_subs(rows, *op, *element, *model, *address),
-                    rows.len(),
-                )
-            }
-            StoreRecord::Replay { name } => {
-                let rows = self.replay.as_slice();
-                limit_where(passes_replay(rows, self.iv.current, name.src.0), rows.len())
+            } => check_subs(self.subs.as_slice(), *op, *element, *model, *address),
+            StoreRecord::Label {
+                op,
+                element,
+                model,
+                label,
+            } => check_labels(self.labels.as_slice(), *op, *element, *model, label),
+            StoreRecord::Publish { row } => check_publications(self.publications.as_slice(), row),
+            StoreRecord::Replay { first, second } => {
+                check_replay(self.replay.as_slice(), self.iv.current, first, second)
             }
             _ => Ok(()),
         }
@@ -76,7 +75,7 @@ impl Persist {
 
 /// The refusal of a table with so many rows, where it is full.
 fn limit_where(full: bool, held: usize) -> Result<(), Limit>
-    requires { held ≤ 64 }
+    requires { held ≤ 512 }
     ensures limit { IsErr result ↔ IsTrue full }
     ensures held { IfErr result (λ e. e.held ≡ held) }
 {
@@ -88,40 +87,50 @@ fn limit_where(full: bool, held: usize) -> Result<(), Limit>
 
 /// Whether a NetKey record would add a fifth row.
 fn passes_nets(rows: &[NetKeyRow], op: u8, index: u16) -> bool
-    ensures { result ≡ table.passes_nets op index rows.now }
+    ensures { result ≡ (op == 1 && table.passes_keyed net_index 4 index rows.now) }
 {
-    op == 1 && rows.len() == NETS && adds_net(rows, index)
+    op == 1 && rows.len() == NETS && adds(rows, u32::from(index))
 }
 
-/// Whether the network key of this index would come as a new row: the rows stand by index.
-fn adds_net(rows: &[NetKeyRow], index: u16) -> bool
-    ensures { result ≡ table.is_new_net index rows.now }
+/// Whether there is a place for what a NetKey record adds.
+fn check_nets(rows: &[NetKeyRow], op: u8, index: u16) -> Result<(), Limit>
+    requires { length rows.now ≤ 4 }
+    ensures limit { (key : List ℕ) → IsErr result ↔ (4 < length (nets_after op index key rows.now)) }
+    ensures held { IfErr result (λ e. e.held ≡ length rows.now) }
 {
-    for row in rows {
-        if row.index >= index {
-            return row.index != index;
-        }
-    }
-    true
+    limit_where(passes_nets(rows, op, index), rows.len())
 }
 
 /// Whether an AppKey record would add a ninth row.
 fn passes_apps(rows: &[AppKeyRow], op: u8, index: u16) -> bool
-    ensures { result ≡ table.passes_apps op index rows.now }
+    ensures { result ≡ (op == 1 && table.passes_keyed app_index 8 index rows.now) }
 {
-    op == 1 && rows.len() == APPS && adds_app(rows, index)
+    op == 1 && rows.len() == APPS && adds(rows, u32::from(index))
 }
 
-/// Whether the application key of this index would come as a new row: the rows stand by index.
-fn adds_app(rows: &[AppKeyRow], index: u16) -> bool
-    ensures { result ≡ table.is_new_app index rows.now }
+/// Whether there is a place for what an AppKey record adds.
+fn check_apps(rows: &[AppKeyRow], op: u8, index: u16) -> Result<(), Limit>
+    requires { length rows.now ≤ 8 }
+    ensures limit { (net : ℕ) (key : List ℕ) → IsErr result ↔ (8 < length (apps_after op net index key rows.now)) }
+    ensures held { IfErr result (λ e. e.held ≡ length rows.now) }
 {
-    for row in rows {
-        if row.index >= index {
-            return row.index != index;
-        }
-    }
-    true
+    limit_where(passes_apps(rows, op, index), rows.len())
+}
+
+/// Whether a Publish record would add a ninth row.
+fn passes_publications(rows: &[PublishRow], row: &PublishRow) -> bool
+    ensures { result ≡ table.passes_keyed publication_index 8 (publication_index row.now) rows.now }
+{
+    rows.len() == PUBLICATIONS && adds(rows, row.number())
+}
+
+/// Whether there is a place for what a Publish record adds.
+fn check_publications(rows: &[PublishRow], row: &PublishRow) -> Result<(), Limit>
+    requires { length rows.now ≤ 8 }
+    ensures limit { IsErr result ↔ (8 < length (put_by publication_index row.now rows.now)) }
+    ensures held { IfErr result (λ e. e.held ≡ length rows.now) }
+{
+    limit_where(passes_publications(rows, row), rows.len())
 }
 
 /// Whether a Bind record would add a 33rd row.
@@ -132,9 +141,33 @@ fn passes_binds(
     model: u16,
     app: u16,
 ) -> bool
-    ensures { result ≡ table.passes_binds op element model app rows.now }
+    ensures { result ≡ (op == 1 && table.passes_pushed (is_bind element model app) rows.now) }
 {
     op == 1 && rows.len() == BINDS && !has_bind(rows, element, model, app)
+}
+
+/// Whether there is a place for what a Bind record adds.
+fn check_binds(
+    rows: &[(Address, u16, u16)],
+    op: u8,
+    element: Address,
+    model: u16,
+    app: u16,
+) -> Result<(), Limit>
+    requires { length rows.now ≤ 32 }
+    ensures limit { IsErr result ↔ (32 < length (binds_after op element model app rows.now)) }
+    ensures held { IfErr result (λ e. e.held ≡ length rows.now) }
+{
+    limit_where(passes_binds(rows, op, element, model, app), rows.len())
+}
+
+/// How many subscriptions are not of this model.
+fn count_other_subs(rows: &[(Address, u16, Address)], element: Address, model: u16) -> usize
+    ensures { result ≡ count_by (λ s. not (s.0.0 == element.0 && s.1 == model)) rows.now }
+{
+    rows.iter()
+        .filter(|row| !(row.0.0 == element.0 && row.1 == model))
+        .count()
 }
 
 /// Whether a Subscribe record would add a 33rd row. One that takes the place of all of its model adds to those of the others.
@@ -145,32 +178,83 @@ fn passes_subs(
     model: u16,
     address: Address,
 ) -> bool
-    ensures { result ≡ table.passes_subs op element model address rows.now }
+    ensures { result ≡ table.passes_list (is_sub element model address) (λ s. s.0.0 == element.0 && s.1 == model) op rows.now }
 {
     (op == 1 && rows.len() == SUBS && !has_sub(rows, element, model, address))
-        || (op == 4 && count_others(rows, element, model) == SUBS)
+        || (op == 4 && count_other_subs(rows, element, model) == SUBS)
 }
 
-/// How many subscriptions are not of this model.
-fn count_others(rows: &[(Address, u16, Address)], element: Address, model: u16) -> usize
-    ensures { result ≡ table.other_count element model rows.now }
+/// Whether there is a place for what a Subscribe record adds.
+fn check_subs(
+    rows: &[(Address, u16, Address)],
+    op: u8,
+    element: Address,
+    model: u16,
+    address: Address,
+) -> Result<(), Limit>
+    requires { length rows.now ≤ 32 }
+    ensures limit { IsErr result ↔ (32 < length (subs_after op element model address rows.now)) }
+    ensures held { IfErr result (λ e. e.held ≡ length rows.now) }
+{
+    limit_where(passes_subs(rows, op, element, model, address), rows.len())
+}
+
+/// How many labels are not of this model.
+fn count_other_labels(rows: &[(Address, u16, [u8; 16])], element: Address, model: u16) -> usize
+    ensures { result ≡ count_by (λ l. not (l.0.0 == element.0 && l.1 == model)) rows.now }
 {
     rows.iter()
         .filter(|row| !(row.0.0 == element.0 && row.1 == model))
         .count()
 }
 
-/// Whether a Replay record has no place: its source has no row, all rows are held, and none is expired.
-fn passes_replay(rows: &[Name], current: u32, src: u16) -> bool
-    ensures { result ≡ table.passes_replay current src rows.now }
+/// Whether a Label record would add a 33rd row. One that takes the place of all of its model adds to those of the others.
+fn passes_labels(
+    rows: &[(Address, u16, [u8; 16])],
+    op: u8,
+    element: Address,
+    model: u16,
+    label: &[u8; 16],
+) -> bool
+    ensures { result ≡ table.passes_list (is_label element model label.now) (λ l. l.0.0 == element.0 && l.1 == model) op rows.now }
 {
-    rows.len() == REPLAY && is_used_up(rows, current, src)
+    (op == 1 && rows.len() == LABELS && !has_label(rows, element, model, label))
+        || (op == 4 && count_other_labels(rows, element, model) == LABELS)
 }
 
-/// Whether no row is this source's, and none is expired.
-fn is_used_up(rows: &[Name], current: u32, src: u16) -> bool
-    ensures { result ≡ table.is_taken_up current src rows.now }
+/// Whether there is a place for what a Label record adds.
+fn check_labels(
+    rows: &[(Address, u16, [u8; 16])],
+    op: u8,
+    element: Address,
+    model: u16,
+    label: &[u8; 16],
+) -> Result<(), Limit>
+    requires { length rows.now ≤ 32 }
+    ensures limit { IsErr result ↔ (32 < length (labels_after op element model label.now rows.now)) }
+    ensures held { IfErr result (λ e. e.held ≡ length rows.now) }
 {
-    rows.iter()
-        .all(|row| row.src.0 != src && !is_old(current, &row.pair))
+    limit_where(passes_labels(rows, op, element, model, label), rows.len())
+}
+
+/// Whether there is a place for the names of a Replay record, in their order.
+fn check_replay(
+    rows: &[Name],
+    current: u32,
+    first: &Name,
+    second: &Option<Name>,
+) -> Result<(), Limit>
+    requires { length rows.now ≤ 512 }
+    ensures limit { IsErr result ↔ (LacksPlace (live_of current rows.now) first.now
+        ⊎ IsSomeAnd second.now (LacksPlace (live_with current (live_of current rows.now) first.now))) }
+    ensures held { IfErr result (λ e. e.held ≡ 512) }
+{
+    let full = lacks_place(rows, current, first);
+    let Some(name) = second else {
+        return limit_where(full, REPLAY)
+    };
+    limit_where(
+        full || lacks_place_after(rows, current, first, name),
+        REPLAY,
+    )
 }

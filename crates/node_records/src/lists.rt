@@ -1,9 +1,9 @@
-//! The tables of bindings and of subscriptions.
+//! The tables of bindings and of subscriptions to groups.
 #![tactic(auto)]
 
 ghost use Rattle.std.specs.Prelude.{◌≡◌, ◌<◌, ◌≤◌, ◌==◌, ◌&&◌, not, length, filter};
 ghost use Rattle.std.specs.List.{list_any};
-ghost use Rattle.run_definitions.specs.Config.{is_bind, is_sub, binds_after, binds_after_net, binds_after_app, subs_without, subs_after};
+ghost use Rattle.store_definitions.specs.Config.{is_bind, is_sub, binds_after, binds_after_net, binds_after_app, subs_without, subs_after, subs_after_label};
 
 use crate::persist::{BINDS, SUBS};
 use mesh_base::address::Address;
@@ -13,7 +13,7 @@ use mesh_base::table::Table;
 /// Element, model and application key index of a binding.
 type Bind = (Address, u16, u16);
 
-/// Element, model and address of a subscription.
+/// Element, model and group of a subscription.
 type Sub = (Address, u16, Address);
 
 /// Whether a binding is among these.
@@ -24,7 +24,7 @@ pub(crate) fn has_bind(binds: &[Bind], element: Address, model: u16, app: u16) -
 }
 
 /// Whether an application key of this network key and this index is among these.
-fn has_app(apps: &[AppKeyRow], net: u16, index: u16) -> bool
+pub(crate) fn has_app(apps: &[AppKeyRow], net: u16, index: u16) -> bool
     ensures { result ≡ list_any (λ r. r.net == net && r.index == index) apps.now }
 {
     apps.iter().any(|row| row.net == net && row.index == index)
@@ -161,5 +161,14 @@ pub(crate) fn apply_to_subs(
         3 => drop_subs(subs, element, model),
         4 => overwrite_subs(subs, element, model, address),
         _ => {}
+    }
+}
+
+/// The subscriptions after a Label record: with all labels of a model its groups go.
+pub(crate) fn apply_label_to_subs(subs: &mut Table<Sub, SUBS>, op: u8, element: Address, model: u16)
+    ensures { subs.new ≡ subs_after_label op element model subs.old }
+{
+    if op == 4 {
+        drop_subs(subs, element, model);
     }
 }

@@ -1,11 +1,13 @@
 //! The value that a list of records stands for.
 #![tactic(auto)]
 
+use crate::replay::entry_among;
 use mesh_base::address::Address;
 use mesh_base::iv_state::IvState;
 use mesh_base::keys::{AppKeyRow, NetKeyRow};
-use mesh_base::pair::Name;
+use mesh_base::pair::{Name, Pair};
 use mesh_base::table::Table;
+use record_types::records::PublishRow;
 
 /// Network keys of a node at most.
 pub(crate) const NETS: usize = 4;
@@ -16,14 +18,20 @@ pub(crate) const APPS: usize = 8;
 /// Bindings at most.
 pub(crate) const BINDS: usize = 32;
 
-/// Subscriptions at most.
+/// Subscriptions to groups at most.
 pub(crate) const SUBS: usize = 32;
 
-/// Rows of the replay list at most.
-pub(crate) const REPLAY: usize = 64;
+/// Subscriptions to virtual addresses at most.
+pub(crate) const LABELS: usize = 32;
 
-/// What the records of a store say of the node.
-#[derive(Debug, Drop, PartialEq, Eq)]
+/// Publications at most.
+pub(crate) const PUBLICATIONS: usize = 8;
+
+/// Rows of the replay list at most.
+pub(crate) const REPLAY: usize = 512;
+
+/// What the records of a store say of the node. It holds keys, so it isn't printed.
+#[derive(Drop, PartialEq, Eq)]
 pub struct Persist {
     /// The address of the first element.
     pub unicast: Address,
@@ -55,20 +63,33 @@ pub struct Persist {
     pub apps: Table<AppKeyRow, APPS>,
     /// Element, model and application key index of each binding.
     pub binds: Table<(Address, u16, u16), BINDS>,
-    /// Element, model and address of each subscription.
+    /// Element, model and group of each subscription to a group.
     pub subs: Table<(Address, u16, Address), SUBS>,
+    /// Element, model and label of each subscription to a virtual address, in the order in which they came.
+    pub labels: Table<(Address, u16, [u8; 16]), LABELS>,
+    /// What models publish, by element and model.
+    pub publications: Table<PublishRow, PUBLICATIONS>,
+    /// The value that each Generic OnOff Server keeps, 0 or 1, by the place of its element.
+    pub onoffs: [u8; 4],
+    /// The level that each Generic Level Server keeps, in two's complement, by the place of its element.
+    pub levels: [u16; 4],
     /// The replay list: the greatest pair accepted of each source.
     pub replay: Table<Name, REPLAY>,
 }
 
 impl Persist {
-    ghost use Rattle.std.specs.Prelude.{[]};
-    ghost use Rattle.node_records.specs.Meaning.{IsMeaningOf};
+    ghost use Rattle.std.specs.Prelude.{◌≡◌, List, []};
+    ghost use Rattle.record_types.specs.declared.records.StoreRecord.{StoreRecord};
+    ghost use Rattle.store_definitions.specs.Entries.{entry_of};
+    ghost use Rattle.node_records.specs.Meaning.{IsMeaningOf, IsSaid};
+    ghost use Rattle.node_records.specs.Tables.{entry_in};
 
     /// The value before any record: the features are those of a node that was just provisioned, all other numbers are 0,
     /// and the tables are empty.
+    #[tactic(auto, using(crate::proofs::Meanings::first_said))]
     pub fn new() -> Persist
         ensures value { IsMeaningOf [] result }
+        ensures said { IsSaid result }
     {
         Persist {
             unicast: Address(0),
@@ -92,7 +113,19 @@ impl Persist {
             apps: Table::new(),
             binds: Table::new(),
             subs: Table::new(),
+            labels: Table::new(),
+            publications: Table::new(),
+            onoffs: [0; 4],
+            levels: [0; 4],
             replay: Table::new(),
         }
+    }
+
+    /// The entry of a source in the replay list: the greatest pair accepted from it, unless it is expired under the known IV Index.
+    pub fn entry(&self, src: Address) -> Option<Pair>
+        ensures value { result ≡ entry_in self.now src.0 }
+        ensures records { (records : List StoreRecord) → IsMeaningOf records self.now → result ≡ entry_of records src.0 }
+    {
+        entry_among(self.replay.as_slice(), self.iv.current, src.0)
     }
 }

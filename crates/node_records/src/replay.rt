@@ -1,21 +1,23 @@
 //! The table of the replay list.
 #![tactic(auto)]
 
-ghost use Rattle.std.specs.Prelude.{◌≡◌, ℕ, ◌<◌, ◌≤◌, false, true, None, length, slice_index_or, IfSome, IfNone};
+ghost use Rattle.std.specs.Prelude.{◌≡◌, ℕ, ◌+◌, ◌<◌, ◌≤◌, ◌↔◌, ◌==◌, ◌&&◌, not, false, true, Some, None, IsTrue, length, slice_index_or, IfSome, IfNone};
+ghost use Rattle.std.specs.List.{list_any};
 ghost use Rattle.mesh_base.specs.declared.pair.Name.{Name};
-ghost use Rattle.mesh_types.specs.declared.records.StoreRecord.TheVariants as R;
-ghost use Rattle.run_definitions.specs.Pairs.{is_newer, is_expired};
-ghost use Rattle.node_records.specs.Full.{IsReplayFull};
-ghost use Rattle.node_records.specs.Steps.{KeepsEntries};
+ghost use Rattle.mesh_base.specs.Pairs.{is_newer, is_expired};
+ghost use Rattle.store_definitions.specs.Entries.{unexpired};
+ghost use Rattle.node_records.specs.Places.{has_row, live_of, live_with, adds_live, LacksPlace};
+ghost use Rattle.node_records.specs.Steps.{KeepsName, KeepsEntries};
 ghost use Rattle.node_records.specs.Tables.{pair_of, IsApart};
+ghost use Rattle.record_types.specs.declared.records.StoreRecord.TheVariants as R;
 
 use crate::persist::REPLAY;
 use mesh_base::pair::{Name, Pair};
 use mesh_base::table::Table;
 
-/// A replay list has at most 64 rows, since its table holds no more.
+/// A replay list has at most 512 rows, since its table holds no more.
 pub(crate) fn has_few_rows(rows: &Table<Name, REPLAY>)
-    ensures { length rows.now ≤ 64 }
+    ensures { length rows.now ≤ 512 }
 {
     let _held = rows.len();
 }
@@ -28,7 +30,7 @@ fn is_above(pair: &Pair, other: &Pair) -> bool
 }
 
 /// Whether no PDU of a pair's IV Index is read any more.
-pub(crate) fn is_old(current: u32, pair: &Pair) -> bool
+fn is_old(current: u32, pair: &Pair) -> bool
     ensures { result ≡ is_expired current pair.now }
 {
     u64::from(pair.iv) + 1 < u64::from(current)
@@ -48,6 +50,27 @@ fn row_of(rows: &[Name], src: u16) -> Option<usize>
     None
 }
 
+/// A pair, unless it is expired.
+fn live_pair(current: u32, pair: Pair) -> Option<Pair>
+    ensures { result ≡ unexpired current (Some pair) }
+{
+    if is_old(current, &pair) {
+        None
+    } else {
+        Some(pair)
+    }
+}
+
+/// The pair of a source's row, unless it is expired.
+pub(crate) fn entry_among(rows: &[Name], current: u32, src: u16) -> Option<Pair>
+    ensures { result ≡ unexpired current (pair_of rows.now src) }
+{
+    match row_of(rows, src) {
+        Some(place) => live_pair(current, rows[place].pair),
+        None => None,
+    }
+}
+
 /// The place of the first row that is expired.
 fn first_expired(rows: &[Name], current: u32) -> Option<usize>
     ensures some { IfSome result (λ i. (i < length rows.now) × ((d : Name) → is_expired current (slice_index_or rows.now i d).pair ≡ true)) }
@@ -65,37 +88,103 @@ fn first_expired(rows: &[Name], current: u32) -> Option<usize>
 fn raise(rows: &mut Table<Name, REPLAY>, current: u32, place: usize, name: &Name)
     requires within { place < length rows.old }
     requires source { (d : Name) → (slice_index_or rows.old place d).src.0 ≡ name.now.src.0 }
-    ensures { IsApart rows.old → KeepsEntries current rows.old rows.new (R.Replay name.now) }
+    ensures { IsApart rows.old → KeepsName current rows.old rows.new name.now }
 {
     if is_above(&name.pair, &rows.as_slice()[place].pair) {
         rows.set(place, *name);
     }
 }
 
-/// Puts the name of a source without a row behind the others, or in the place of the first that is expired where 64 are held.
+/// Puts the name of a source without a row behind the others, or in the place of the first that is expired where 512 are held.
 fn add_row(rows: &mut Table<Name, REPLAY>, current: u32, name: &Name)
     requires none { pair_of rows.old name.now.src.0 ≡ None }
-    requires place { ¬ IsReplayFull current rows.old name.now.src.0 }
-    ensures { IsApart rows.old → KeepsEntries current rows.old rows.new (R.Replay name.now) }
+    ensures { IsApart rows.old → (LacksPlace (live_of current rows.old) name.now → ⊥) → KeepsName current rows.old rows.new name.now }
 {
     has_few_rows(rows);
     match rows.push(*name) {
         Ok(()) => {}
         Err(_) => {
-            if let Some(place) = first_expired(rows.as_slice(), current) {
-                rows.set(place, *name);
+            match first_expired(rows.as_slice(), current) {
+                Some(place) => rows.set(place, *name),
+                None => {}
             }
         }
     }
 }
 
-/// The replay list after a Replay record, for which there is a place.
-pub(crate) fn apply_to_replay(rows: &mut Table<Name, REPLAY>, current: u32, name: &Name)
-    requires place { ¬ IsReplayFull current rows.old name.now.src.0 }
-    ensures { IsApart rows.old → KeepsEntries current rows.old rows.new (R.Replay name.now) }
+/// The replay list with one name more, if there is a place for it.
+fn apply_name(rows: &mut Table<Name, REPLAY>, current: u32, name: &Name)
+    ensures { IsApart rows.old → (LacksPlace (live_of current rows.old) name.now → ⊥) → KeepsName current rows.old rows.new name.now }
 {
     match row_of(rows.as_slice(), name.src.0) {
         Some(place) => raise(rows, current, place, name),
         None => add_row(rows, current, name),
     }
+}
+
+/// The replay list after a Replay record, for whose names there is a place.
+pub(crate) fn apply_to_replay(
+    rows: &mut Table<Name, REPLAY>,
+    current: u32,
+    first: &Name,
+    second: &Option<Name>,
+)
+    requires first { LacksPlace (live_of current rows.old) first.now → ⊥ }
+    requires second { IfSome second.now (λ name. LacksPlace (live_with current (live_of current rows.old) first.now) name → ⊥) }
+    ensures { IsApart rows.old → KeepsEntries current rows.old rows.new (R.Replay first.now second.now) }
+{
+    apply_name(rows, current, first);
+    match second {
+        Some(name) => apply_name(rows, current, name),
+        None => {}
+    }
+}
+
+/// The number of rows that aren't expired.
+fn count_live(rows: &[Name], current: u32) -> usize
+    ensures value { result ≡ length (live_of current rows.now) }
+    ensures most { result ≤ length rows.now }
+{
+    rows.iter()
+        .filter(|row| !is_old(current, &row.pair))
+        .count()
+}
+
+/// Whether a row is this source's and isn't expired.
+fn any_live(rows: &[Name], current: u32, src: u16) -> bool
+    ensures { result ≡ list_any (λ row. row.src.0 == src && not (is_expired current row.pair)) rows.now }
+{
+    rows.iter()
+        .any(|row| row.src.0 == src && !is_old(current, &row.pair))
+}
+
+/// Whether a source has a row among those that aren't expired.
+fn has_live(rows: &[Name], current: u32, src: u16) -> bool
+    ensures { result ≡ has_row (live_of current rows.now) src }
+{
+    any_live(rows, current, src)
+}
+
+/// Whether a name has no place.
+pub(crate) fn lacks_place(rows: &[Name], current: u32, name: &Name) -> bool
+    ensures { IsTrue result ↔ LacksPlace (live_of current rows.now) name.now }
+{
+    !has_live(rows, current, name.src.0) && count_live(rows, current) >= REPLAY
+}
+
+/// Whether a name brings an unexpired row more.
+fn is_added(rows: &[Name], current: u32, name: &Name) -> bool
+    ensures { result ≡ adds_live current (live_of current rows.now) name.now }
+{
+    !has_live(rows, current, name.src.0) && !is_old(current, &name.pair)
+}
+
+/// Whether a second name has no place after a first one.
+pub(crate) fn lacks_place_after(rows: &[Name], current: u32, first: &Name, name: &Name) -> bool
+    requires { length rows.now ≤ 512 }
+    ensures { IsTrue result ↔ LacksPlace (live_with current (live_of current rows.now) first.now) name.now }
+{
+    let more = is_added(rows, current, first);
+    let there = has_live(rows, current, name.src.0) || (more && first.src.0 == name.src.0);
+    !there && count_live(rows, current) + usize::from(more) >= REPLAY
 }

@@ -1,12 +1,12 @@
 -- What records say of one that comes after them, by the value that they stand for.
 use Rattle.std.proofs.Common.{◌≡◌, ℕ, ◌≤◌, List, [], ◌∷◌, ◌++◌, ap, sym, subst, ◌∙◌, arith}
 use Rattle.std.proofs.lemmas.List.Sums.{fold_push}
-use Rattle.mesh_types.specs.declared.records.StoreRecord.{StoreRecord}
-use Rattle.mesh_types.specs.declared.records.StoreRecord.TheVariants as R
-use Rattle.run_definitions.specs.Config.{Config, changed, config_of, no_config}
+use Rattle.record_types.specs.declared.records.StoreRecord.{StoreRecord}
+use Rattle.record_types.specs.declared.records.StoreRecord.TheVariants as R
+use Rattle.store_definitions.specs.Config.{Config, changed, config_of, no_config}
 use Rattle.node_records.specs.declared.persist.Persist.{Persist}
 use Rattle.node_records.specs.Meaning.{DoesNotFall, IsMeaningOf}
-use Rattle.node_store.specs.Order.{DoesNotLower}
+use Rattle.store_definitions.specs.Following.{DoesNotLower}
 use Rattle.node_store.specs.Tie.{IsNoNumbers, IsNotBelow}
 
 module _ (records : List StoreRecord) (p : Persist) (meaning : IsMeaningOf records p) where
@@ -21,13 +21,16 @@ module _ (records : List StoreRecord) (p : Persist) (meaning : IsMeaningOf recor
   falls_of (R.Numbers current progress mark hours since) falls h = falls (subst (λ (x : ℕ). x ≤ current) (sym same_current) h)
   falls_of (R.Identity unicast elements dev_key) falls h = falls tt
   falls_of (R.Hour hours since) falls h = falls tt
-  falls_of (R.Replay name) falls h = falls tt
+  falls_of (R.Replay first second) falls h = falls tt
   falls_of (R.NetKey op index key) falls h = falls tt
   falls_of (R.AppKey op net index key) falls h = falls tt
   falls_of (R.Bind op element model app) falls h = falls tt
   falls_of (R.Subscribe op element model address) falls h = falls tt
   falls_of (R.Feature which value) falls h = falls tt
   falls_of R.Reset falls h = falls tt
+  falls_of (R.Model element model value) falls h = falls tt
+  falls_of (R.Label op element model label) falls h = falls tt
+  falls_of (R.Publish row) falls h = falls tt
 
   same_mark : p.mark ≡ (config_of records).mark
   same_mark = ap (λ (d : Config). d.mark) meaning.config
@@ -41,26 +44,32 @@ module _ (records : List StoreRecord) (p : Persist) (meaning : IsMeaningOf recor
   mark_after (R.Identity unicast elements dev_key) h = omega (arith, same_mark)
   mark_after (R.Numbers current progress mark hours since) h = h.1
   mark_after (R.Hour hours since) h = omega (arith, same_mark)
-  mark_after (R.Replay name) h = omega (arith, same_mark)
+  mark_after (R.Replay first second) h = omega (arith, same_mark)
   mark_after (R.NetKey op index key) h = omega (arith, same_mark)
   mark_after (R.AppKey op net index key) h = omega (arith, same_mark)
   mark_after (R.Bind op element model app) h = omega (arith, same_mark)
   mark_after (R.Subscribe op element model address) h = omega (arith, same_mark)
   mark_after (R.Feature which value) h = omega (arith, same_mark)
   mark_after R.Reset h = omega (arith, same_mark)
+  mark_after (R.Model element model value) h = omega (arith, same_mark)
+  mark_after (R.Label op element model label) h = omega (arith, same_mark)
+  mark_after (R.Publish row) h = omega (arith, same_mark)
 
   mark_kept : (item : StoreRecord) → IsNoNumbers item → (changed (config_of records) item).mark ≡ p.mark
   unfolding changed
   mark_kept (R.Identity unicast elements dev_key) h = sym same_mark
   mark_kept (R.Numbers current progress mark hours since) h = absurd h
   mark_kept (R.Hour hours since) h = sym same_mark
-  mark_kept (R.Replay name) h = sym same_mark
+  mark_kept (R.Replay first second) h = sym same_mark
   mark_kept (R.NetKey op index key) h = sym same_mark
   mark_kept (R.AppKey op net index key) h = sym same_mark
   mark_kept (R.Bind op element model app) h = sym same_mark
   mark_kept (R.Subscribe op element model address) h = sym same_mark
   mark_kept (R.Feature which value) h = sym same_mark
   mark_kept R.Reset h = sym same_mark
+  mark_kept (R.Model element model value) h = sym same_mark
+  mark_kept (R.Label op element model label) h = sym same_mark
+  mark_kept (R.Publish row) h = sym same_mark
 
   pub mark_before : p.mark ≡ (config_of records).mark
   mark_before = same_mark

@@ -3,22 +3,22 @@ use Rattle.std.proofs.Common.{◌≡◌, inl, inr, ⊎_elim, ◌↔◌, ℕ, ◌
 use Rattle.std.specs.Prelude.{All, map, Result, Ok, Err, IsErr, IsOk, OnOk}
 use Rattle.flash_model.specs.Chip.{Chip, LeavesOnly}
 use Rattle.flash_model.proofs.Leaves.{leaves_weaker}
-use Rattle.layer_definitions.specs.Slots.{recovered}
+use Rattle.slot_definitions.specs.Slots.{recovered}
 use Rattle.mesh_base.specs.IvState.{transmit_of}
 use Rattle.mesh_base.specs.declared.iv_state.IvState.{IvState}
 use Rattle.mesh_base.specs.declared.keys.NetKeyRow.{NetKeyRow}
-use Rattle.mesh_types.specs.declared.records.StoreRecord.{StoreRecord}
-use Rattle.mesh_types.specs.declared.records.StoreRecord.TheVariants as R
+use Rattle.record_types.specs.declared.records.StoreRecord.{StoreRecord}
+use Rattle.record_types.specs.declared.records.StoreRecord.TheVariants as R
 use Rattle.node_records.specs.declared.persist.Persist.{Persist}
 use Rattle.node_records.specs.Full.{IsFull}
 use Rattle.node_records.specs.Meaning.{IsMeaningOf}
-use Rattle.run_definitions.specs.Config.{Config, changed, nets_after}
-use Rattle.run_definitions.specs.Ranges.{IsInRange, IsMark}
-use Rattle.run_definitions.specs.Recovered.{record_text}
-use Rattle.run_definitions.specs.RunOf.{Provisioning, first_state, provisioned}
+use Rattle.store_definitions.specs.Config.{Config, changed, nets_after}
+use Rattle.store_definitions.specs.Ranges.{IsInRange, IsMark}
+use Rattle.store_definitions.specs.Recovered.{record_text}
+use Rattle.store_definitions.specs.Provisioning.{Provisioning, first_state, provisioned}
 use Rattle.slot_journal.specs.Format.{IsFormatted}
 use Rattle.node_store.specs.Mounted.{IsRead}
-use Rattle.node_store.specs.Order.{AreInOrder}
+use Rattle.store_definitions.specs.Following.{AreInOrder}
 use Rattle.node_store.specs.Tie.{IsMade}
 
 -- a record that passes no limit is applied
@@ -63,12 +63,12 @@ module _ (p : Provisioning) where
 
 -- what a cut leaves while they are written
 module _ (old new : Chip) (records : List StoreRecord) (ranges : All IsInRange records) (order : AreInOrder [] records) where
-  pub made_leaves : LeavesOnly old new (IsFormatted (map record_text records)) → LeavesOnly old new (IsMade records)
-  made_leaves leaves = leaves_weaker old new (IsFormatted (map record_text records)) (IsMade records) leaves
-      (λ c made. record { tidy = made.tidy; either = ⊎_elim (λ h. inl h) (λ h. inr (record { held = record { texts = h; ranges = ranges }; order = order })) made.either })
+  pub made_leaves : LeavesOnly old new (IsFormatted 2 (map record_text records)) → LeavesOnly old new (IsMade records)
+  made_leaves leaves = leaves_weaker old new (IsFormatted 2 (map record_text records)) (IsMade records) leaves
+      (λ c made. record { tidy = made.tidy; either = ⊎_elim (λ h. inl h) (λ h. inr (record { held = record { format = 2; texts = h; ranges = ranges; names = λ e. absurd cc }; order = order })) made.either })
 
-  pub made_read : recovered new.now ≡ Some (map record_text records) → IsRead new.now records
-  made_read is = record { held = record { texts = is; ranges = ranges }; order = order }
+  pub made_read : recovered new.now ≡ Some (record { format = 2; slots = map record_text records }) → IsRead new.now records
+  made_read is = record { held = record { format = 2; texts = is; ranges = ranges; names = λ e. absurd cc }; order = order }
 
 -- the mark is a word of SEQ 0
 pub first_word : (s : IvState) (from transmit : ℕ) → from ≡ transmit → transmit ≡ transmit_of s → s.current < 2 ^ 32 → from * 33554432 % 18446744073709551616 ≡ transmit_of s * 2 ^ 25 + 0

@@ -2,16 +2,16 @@
 use Rattle.std.proofs.Common.{◌≡◌, ◌⊎◌, inl, inr, ℕ, ◌+◌, ◌*◌, ◌≤◌, List, true, false, Some, None, refl, ap, sym, subst, ◌∙◌, arith}
 use Rattle.std.specs.Prelude.{IsErrAnd, IsTrue, Result, Ok, Err, OnOk}
 use Rattle.flash_model.specs.Chip.{Chip, Keeps, Stays}
-use Rattle.layer_definitions.specs.Slots.{counting, gated, recovered, slots_to, text_at}
+use Rattle.slot_definitions.specs.Slots.{gated, recovered, slots_to, text_at}
 use Rattle.mesh_base.specs.declared.slot.Slot.{Slot}
-use Rattle.mesh_types.specs.declared.records.StoreRecord.{StoreRecord}
+use Rattle.record_types.specs.declared.records.StoreRecord.{StoreRecord}
 use Rattle.node_records.specs.declared.persist.Persist.{Persist}
-use Rattle.run_definitions.specs.Config.{Config, config_of}
+use Rattle.store_definitions.specs.Config.{Config, config_of}
 use Rattle.slot_journal.specs.declared.mounting.NoMount.{NoMount}
 use Rattle.slot_journal.specs.declared.mounting.NoMount.TheVariants as N
 use Rattle.slot_journal.specs.Causes.{IsMountCause}
 use Rattle.slot_journal.specs.Headers.{IsTidy}
-use Rattle.slot_journal.specs.Tie.{IsJournalOf, IsMounted as IsJournalMounted, IsUsed}
+use Rattle.slot_journal.specs.Tie.{IsJournalOf, IsMounted as IsJournalMounted}
 use Rattle.slot_journal.specs.View.{JournalView}
 use Rattle.node_store.specs.declared.mounting.StoreFault.{StoreFault}
 use Rattle.node_store.specs.declared.mounting.StoreFault.TheVariants as F
@@ -33,34 +33,34 @@ module _ {T E : Type 0} where
 
 -- One slot.
 
-pub slot_gap : (content : List ℕ) (bank n k : ℕ) (p : Persist) → n ≡ k + 1 → AreSaid content bank k p → gated (text_at content (1024 * bank + n)) ≡ None → AreSaid content bank n p
-slot_gap content bank n k p is said gate =
-    subst (λ (m : ℕ). AreSaid content bank m p) (sym is) (said_gap content bank k p said (subst (λ (m : ℕ). gated (text_at content (1024 * bank + m)) ≡ None) is gate))
+pub slot_gap : (content : List ℕ) (bank format n k : ℕ) (p : Persist) → n ≡ k + 1 → AreSaid content bank format k p → gated (text_at content (1024 * bank + n)) ≡ None → AreSaid content bank format n p
+slot_gap content bank format n k p is said gate =
+    subst (λ (m : ℕ). AreSaid content bank format m p) (sym is) (said_gap content bank format k p said (subst (λ (m : ℕ). gated (text_at content (1024 * bank + m)) ≡ None) is gate))
 
-pub slot_taken : (content : List ℕ) (bank n k : ℕ) (old new : Persist) (slot : Slot) → n ≡ k + 1 → AreSaid content bank k old → gated (text_at content (1024 * bank + n)) ≡ Some slot → IsTaken old slot new → AreSaid content bank n new
-slot_taken content bank n k old new slot is said gate taken =
-    subst (λ (m : ℕ). AreSaid content bank m new) (sym is) (said_more content bank k old new slot said (subst (λ (m : ℕ). gated (text_at content (1024 * bank + m)) ≡ Some slot) is gate) taken)
+pub slot_taken : (content : List ℕ) (bank format n k : ℕ) (old new : Persist) (slot : Slot) → n ≡ k + 1 → AreSaid content bank format k old → gated (text_at content (1024 * bank + n)) ≡ Some slot → IsTaken format old slot new → AreSaid content bank format n new
+slot_taken content bank format n k old new slot is said gate taken =
+    subst (λ (m : ℕ). AreSaid content bank format m new) (sym is) (said_more content bank format k old new slot said (subst (λ (m : ℕ). gated (text_at content (1024 * bank + m)) ≡ Some slot) is gate) taken)
 
-pub slot_refused : (content : List ℕ) (bank n k : ℕ) (p : Persist) (slot : Slot) → n ≡ k + 1 → n ≤ 1023 → AreSaid content bank k p → gated (text_at content (1024 * bank + n)) ≡ Some slot → IsRefused p slot → IsDamaged content bank n
-slot_refused content bank n k p slot is few said gate refused =
-    subst (λ (m : ℕ). IsDamaged content bank m) (sym is) (said_damaged content bank k p slot (omega (arith, is, few)) said (subst (λ (m : ℕ). gated (text_at content (1024 * bank + m)) ≡ Some slot) is gate) refused)
+pub slot_refused : (content : List ℕ) (bank format n k : ℕ) (p : Persist) (slot : Slot) → n ≡ k + 1 → n ≤ 1023 → AreSaid content bank format k p → gated (text_at content (1024 * bank + n)) ≡ Some slot → IsRefused format p slot → IsDamaged content bank format n
+slot_refused content bank format n k p slot is few said gate refused =
+    subst (λ (m : ℕ). IsDamaged content bank format m) (sym is) (said_damaged content bank format k p slot (omega (arith, is, few)) said (subst (λ (m : ℕ). gated (text_at content (1024 * bank + m)) ≡ Some slot) is gate) refused)
 
 -- All slots.
 
-pub read_cause : (start mid new : Chip) (journal : JournalView) (k : ℕ) (p : Persist) → Keeps start mid → (IsTrue start.honest → Stays start mid) → (IsTrue start.honest → AreSaid start.now journal.bank k p)
-    → (e : StoreFault) → IsSlotCause mid new journal.bank (k + 1) p e → IsReadCause start new journal e
+pub read_cause : (start mid new : Chip) (journal : JournalView) (k : ℕ) (p : Persist) → Keeps start mid → (IsTrue start.honest → Stays start mid) → (IsTrue start.honest → AreSaid start.now journal.bank journal.version k p)
+    → (e : StoreFault) → IsSlotCause mid new journal (k + 1) p e → IsReadCause start new journal e
 read_cause start mid new journal k p keeps stays said F.Flash cause = omega (arith, keeps.later, cause)
 read_cause start mid new journal k p keeps stays said F.NoNode cause = cause
 read_cause start mid new journal k p keeps stays said (F.Damaged m) cause = λ honest.
     let same = (stays honest).now in
-    subst (λ (c : List ℕ). IsDamaged c journal.bank m) same (cause (keeps.honest ∙ honest) k refl (subst (λ (c : List ℕ). AreSaid c journal.bank k p) (sym same) (said honest)))
+    subst (λ (c : List ℕ). IsDamaged c journal.bank journal.version m) same (cause (keeps.honest ∙ honest) k refl (subst (λ (c : List ℕ). AreSaid c journal.bank journal.version k p) (sym same) (said honest)))
 read_cause start mid new journal k p keeps stays said F.WasReset cause = cause
 
 -- The store.
 
 pub mount_cause : (old new : Chip) (e : NoMount) → IsMountCause old new e → IsStoreCause old new (store_fault_of e)
 mount_cause old new N.Flash cause = cause
-mount_cause old new N.NoBank cause = cause
+mount_cause old new N.NoBank cause = cause.1
 
 module _ (old mid : Chip) (journal : JournalView) (keeps : Keeps old mid) (stays : IsTrue old.honest → Stays old mid) (mounted : IsTrue old.honest → IsJournalMounted old.now journal) where
   pub store_cause : (new : Chip) (e : StoreFault) → IsReadCause mid new journal e → IsStoreCause old new e
@@ -69,16 +69,17 @@ module _ (old mid : Chip) (journal : JournalView) (keeps : Keeps old mid) (stays
   store_cause new (F.Damaged m) cause = λ honest. record {
     bank = journal.bank;
     counts = (mounted honest).bank;
-    damaged = subst (λ (c : List ℕ). IsDamaged c journal.bank m) (stays honest).now (cause (keeps.honest ∙ honest));
+    damaged = subst (λ (f : ℕ). IsDamaged old.now journal.bank f m) (sym (mounted honest).version)
+        (subst (λ (c : List ℕ). IsDamaged c journal.bank journal.version m) (stays honest).now (cause (keeps.honest ∙ honest)));
   }
   store_cause new F.WasReset cause = absurd cause
 
-  module _ (p : Persist) (value : IsTrue old.honest → recovered old.now ≡ Some (slots_to old.now journal.bank journal.used)) (said : IsTrue mid.honest → AreSaid mid.now journal.bank journal.used p) (honest : IsTrue old.honest) where
-    abbrev all : AreSaid old.now journal.bank journal.used p
-    all = subst (λ (c : List ℕ). AreSaid c journal.bank journal.used p) (stays honest).now (said (keeps.honest ∙ honest))
+  module _ (p : Persist) (value : IsTrue old.honest → recovered old.now ≡ Some (record { format = journal.version; slots = slots_to old.now journal.bank journal.used })) (said : IsTrue mid.honest → AreSaid mid.now journal.bank journal.version journal.used p) (honest : IsTrue old.honest) where
+    abbrev all : AreSaid old.now journal.bank journal.version journal.used p
+    all = subst (λ (c : List ℕ). AreSaid c journal.bank journal.version journal.used p) (stays honest).now (said (keeps.honest ∙ honest))
 
     all_read : IsRead old.now all.records
-    all_read = said_read old.now journal.bank journal.used p (value honest) all
+    all_read = said_read old.now journal.bank journal.version journal.used p (value honest) all
 
     same_reset : p.reset ≡ (config_of all.records).reset
     same_reset = ap (λ (c : Config). c.reset) all.meaning.config
@@ -104,10 +105,7 @@ journal_stays : (mid new : Chip) (journal : JournalView) → Keeps mid new → S
 journal_stays mid new journal keeps stays tie = record {
   fresh = record { honest = keeps.honest ∙ tie.fresh.honest; only = λ c image. tie.fresh.only c (stays.images c image) ∙ sym stays.now };
   tidy = subst IsTidy (sym stays.now) tie.tidy;
-  usable = tie.usable;
-  low = tie.low;
-  bank = ap counting stays.now ∙ tie.bank;
-  used = subst (λ (c : List ℕ). IsUsed c journal.bank journal.used) (sym stays.now) tie.used;
+  mounted = subst (λ (c : List ℕ). IsJournalMounted c journal) (sym stays.now) tie.mounted;
 }
 
 pub mount_kept : (old mid new : Chip) (journal : JournalView) (p : Persist) → Keeps mid new → Stays old mid → Stays mid new → IsJournalOf mid journal → IsMounted old.now (record { journal = journal; persist = p })

@@ -4,11 +4,11 @@ use Rattle.std.specs.Prelude.{All, map}
 use Rattle.std.proofs.lemmas.List.{append-nil}
 use Rattle.std.proofs.lemmas.List.Elements.{All-head, All-tail}
 use Rattle.mesh_base.specs.declared.slot.Slot.{Slot}
-use Rattle.mesh_types.specs.declared.records.StoreRecord.{StoreRecord}
-use Rattle.run_definitions.specs.Ranges.{IsInRange}
-use Rattle.run_definitions.specs.Recovered.{record_text}
-use Rattle.run_definitions.proofs.Texts.{text_once}
-use Rattle.node_store.specs.Order.{Follows, AreInOrder}
+use Rattle.record_types.specs.declared.records.StoreRecord.{StoreRecord}
+use Rattle.store_definitions.specs.Ranges.{IsInRange}
+use Rattle.store_definitions.specs.Recovered.{record_text}
+use Rattle.store_definitions.proofs.Texts.{text_once}
+use Rattle.store_definitions.specs.Following.{Follows, AreInOrder}
 
 -- one more
 pub in_order_push : (before rs : List StoreRecord) (item : StoreRecord) → AreInOrder before rs → Follows (before ++ rs) item → AreInOrder before (rs ++ item ∷ [])

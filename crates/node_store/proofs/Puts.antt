@@ -1,32 +1,49 @@
 -- A put, over the chip before and after.
 use Rattle.std.proofs.Common.{◌≡◌, inl, inr, ⊎_elim, ℕ, ◌≤◌, List, [], ◌∷◌, ◌++◌, Some, ap, sym, subst, ◌∙◌, arith}
+use Rattle.std.specs.Prelude.{map, option_map}
 use Rattle.std.proofs.lemmas.List.{map-append}
 use Rattle.std.proofs.lemmas.List.Elements.{All-push}
 use Rattle.flash_model.specs.Chip.{Chip, LeavesOnly}
 use Rattle.flash_model.proofs.Leaves.{IsOnlyNow, leaves_none, leaves_weaker}
-use Rattle.layer_definitions.specs.Slots.{recovered}
-use Rattle.mesh_types.specs.declared.records.StoreRecord.{StoreRecord}
-use Rattle.node_records.specs.Full.{PassesLimit}
+use Rattle.slot_definitions.specs.Slots.{Held, held_by, recovered}
+use Rattle.record_types.specs.declared.records.StoreRecord.{StoreRecord}
+use Rattle.store_definitions.specs.Following.{PassesLimit}
 use Rattle.node_records.specs.Meaning.{IsMeaningOf}
-use Rattle.run_definitions.specs.Config.{config_of}
-use Rattle.run_definitions.specs.Ranges.{IsInRange}
-use Rattle.run_definitions.specs.Recovered.{record_text, IsRecovered}
-use Rattle.run_definitions.proofs.Texts.{recovered_once}
+use Rattle.store_definitions.specs.Config.{config_of}
+use Rattle.store_definitions.specs.Ranges.{IsInRange}
+use Rattle.store_definitions.specs.Recovered.{record_text, HasOneName, IsRecovered}
+use Rattle.store_definitions.proofs.Texts.{recovered_once}
 use Rattle.slot_journal.specs.Headers.{IsTidy}
 use Rattle.slot_journal.specs.Tie.{IsAppended, IsJournalOf, with_last}
 use Rattle.node_store.specs.Mounted.{IsRead}
-use Rattle.node_store.specs.Order.{Follows}
+use Rattle.store_definitions.specs.Following.{Follows}
 use Rattle.node_store.specs.Tie.{HasMark, HasMarkFrom, IsNoNumbers, IsNotBelow, IsPut, IsStoreOf}
 use Rattle.node_store.specs.View.{StoreView}
 use Rattle.node_store.proofs.Follows.{mark_before, mark_from, mark_same, not_below_current, rises_of}
 use Rattle.node_store.proofs.Orders.{in_order_push}
 
-module _ (old : Chip) (store : StoreView) (records : List StoreRecord) (item : StoreRecord) (tie : IsStoreOf old store records) (range : IsInRange item) where
+module _ (old : Chip) (store : StoreView) (records : List StoreRecord) (item : StoreRecord) (tie : IsStoreOf old store records) (range : IsInRange item) (one : store.journal.version ≡ 1 → HasOneName item) where
+  -- the format that is recovered is that of the journal
+  recovered_format : store.journal.version ≡ tie.read.held.format
+  recovered_format =
+      let held : Some (held_by old.now store.journal.bank) ≡ Some (record { format = tie.read.held.format; slots = map record_text records }) =
+      sym (ap (option_map (held_by old.now)) tie.journal.mounted.bank) ∙ tie.read.held.texts in
+      sym tie.journal.mounted.version ∙ ap (λ (h : Held). h.format) (some_held _ _ held)
+    where
+      some_held : (a b : Held) → Some a ≡ Some b → a ≡ b
+      some_held a b e = cc
+
+  names : tie.read.held.format ≡ 1 → HasOneName item
+  names e = one (recovered_format ∙ e)
+
   -- with the new slot last
   recovered_more : (c : List ℕ) → recovered c ≡ with_last (record_text item) (recovered old.now) → IsRecovered c (records ++ item ∷ [])
   recovered_more c is = record {
-    texts = is ∙ ap (with_last (record_text item)) tie.read.held.texts ∙ (λ i. Some (sym (map-append record_text records (item ∷ [])) i));
+    format = tie.read.held.format;
+    texts = is ∙ ap (with_last (record_text item)) tie.read.held.texts
+        ∙ (λ i. let h : Held = record { format = tie.read.held.format; slots = sym (map-append record_text records (item ∷ [])) i } in Some h);
     ranges = All-push IsInRange records item tie.read.held.ranges range;
+    names = λ e. All-push HasOneName records item (tie.read.held.names e) (names e);
   }
 
   read_more : Follows records item → (c : List ℕ) → recovered c ≡ with_last (record_text item) (recovered old.now) → IsRead c (records ++ item ∷ [])
@@ -35,7 +52,7 @@ module _ (old : Chip) (store : StoreView) (records : List StoreRecord) (item : S
   put_leaves : Follows records item → (c : List ℕ) → IsAppended (recovered old.now) (record_text item) c → IsPut records item c
   put_leaves follows c done = record {
     tidy = done.tidy;
-    either = ⊎_elim (λ h. inl (record { held = record { texts = h ∙ tie.read.held.texts; ranges = tie.read.held.ranges }; order = tie.read.order })) (λ h. inr (read_more follows c h)) done.either;
+    either = ⊎_elim (λ h. inl (record { held = record { format = tie.read.held.format; texts = h ∙ tie.read.held.texts; ranges = tie.read.held.ranges; names = tie.read.held.names }; order = tie.read.order })) (λ h. inr (read_more follows c h)) done.either;
   }
 
   -- a record that is put may follow

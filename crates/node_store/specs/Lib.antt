@@ -1,7 +1,6 @@
 pub mod Causes
 pub mod Faults
 pub mod Mounted
-pub mod Order
 pub mod Provisioning
 pub mod Tie
 pub mod View

@@ -3,7 +3,7 @@ use Rattle.std.specs.Prelude.{ℕ, ◌+◌, ◌^◌, ◌≤◌, ◌==◌, ◌/�
 use Rattle.node_store.specs.declared.provision.Provision.{Provision}
 use Rattle.mesh_base.specs.IvState.{HasTransmit}
 use Rattle.mesh_base.specs.declared.iv_state.IvState.{IvState}
-use Rattle.run_definitions.specs.RunOf.{Provisioning, first_state}
+use Rattle.store_definitions.specs.Provisioning.{Provisioning, first_state}
 
 -- the IV state at provisioning: bit 1 of the flags is IV Update in Progress, and IV Index Recovery is allowed at once
 abbrev pub state_of : ℕ → ℕ → IvState

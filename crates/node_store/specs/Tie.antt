@@ -1,13 +1,13 @@
 -- A store and the flash that it came from.
 use Rattle.std.specs.Prelude.{◌≡◌, ◌⊎◌, ℕ, ◌≤◌, List, [], ◌∷◌, ◌++◌, None, ⊤}
 use Rattle.flash_model.specs.Chip.{Chip}
-use Rattle.layer_definitions.specs.Slots.{recovered}
-use Rattle.mesh_types.specs.declared.records.StoreRecord.{StoreRecord}
-use Rattle.mesh_types.specs.declared.records.StoreRecord.TheVariants as R
+use Rattle.slot_definitions.specs.Slots.{recovered}
+use Rattle.record_types.specs.declared.records.StoreRecord.{StoreRecord}
+use Rattle.record_types.specs.declared.records.StoreRecord.TheVariants as R
 use Rattle.node_records.specs.declared.persist.Persist.{Persist}
 use Rattle.node_records.specs.Meaning.{IsMeaningOf}
-use Rattle.run_definitions.specs.Config.{config_of}
-use Rattle.run_definitions.specs.Recovered.{IsRecovered}
+use Rattle.store_definitions.specs.Config.{config_of}
+use Rattle.store_definitions.specs.Recovered.{IsRecovered}
 use Rattle.slot_journal.specs.Headers.{IsTidy}
 use Rattle.slot_journal.specs.Tie.{IsJournalOf}
 use Rattle.node_store.specs.Mounted.{IsRead}

@@ -2,8 +2,8 @@
 #![tactic(auto)]
 
 ghost use Rattle.std.specs.Prelude.{◌≡◌, ℕ, List, true, false};
-ghost use Rattle.mesh_types.specs.declared.records.StoreRecord.{StoreRecord};
-ghost use Rattle.run_definitions.specs.Config.{config_of};
+ghost use Rattle.record_types.specs.declared.records.StoreRecord.{StoreRecord};
+ghost use Rattle.store_definitions.specs.Config.{config_of};
 ghost use Rattle.node_store.specs.declared.mounting.StoreFault.{StoreFault};
 ghost use Rattle.node_store.specs.Causes.{IsFoundAs};
 ghost use Rattle.node_store.specs.Mounted.{IsRead};

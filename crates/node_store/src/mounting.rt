@@ -1,7 +1,7 @@
 // A store is found again on its flash.
 ghost use Rattle.std.specs.Prelude.{◌≡◌, ◌↔◌, ◌⊎◌, ℕ, ◌+◌, ◌<◌, ◌≤◌, List, Err, false, IsTrue, IfOk, IfErr, OnOk, OnErr};
 ghost use Rattle.flash_model.specs.Chip.{IsFresh, Keeps, Stays};
-ghost use Rattle.mesh_types.specs.declared.records.StoreRecord.{StoreRecord};
+ghost use Rattle.record_types.specs.declared.records.StoreRecord.{StoreRecord};
 ghost use Rattle.node_records.specs.Meaning.{DoesNotFall};
 ghost use Rattle.slot_journal.specs.Headers.{IsTidy};
 ghost use Rattle.node_store.specs.declared.mounting.StoreFault.{StoreFault};
@@ -12,8 +12,9 @@ ghost use Rattle.node_store.specs.Tie.{IsStoreOf};
 use crate::store::Store;
 use flash_model::{Flash, FlashFailed};
 use mesh_base::slot::Slot;
-use mesh_types::records::StoreRecord;
-use node_records::{Persist, decode};
+use node_records::Persist;
+use record_texts::decode;
+use record_types::records::StoreRecord;
 use slot_journal::{Journal, NoMount};
 use thiserror::Error;
 
@@ -89,7 +90,7 @@ impl Store {
 /// What the records of the gated slots of a journal say, up to its last used slot.
 fn read_records<F: Flash>(journal: &Journal, flash: &mut F) -> Result<Persist, StoreFault>
     ensures cause { IfErr result (IsReadCause (F.chip flash.old) (F.chip flash.new) journal.now) }
-    ensures value { IsTrue (F.chip flash.old).honest → IfOk result (AreSaid (F.chip flash.old).now journal.now.bank journal.now.used) }
+    ensures value { IsTrue (F.chip flash.old).honest → IfOk result (AreSaid (F.chip flash.old).now journal.now.bank journal.now.version journal.now.used) }
     ensures stays { IsTrue (F.chip flash.old).honest → Stays (F.chip flash.old) (F.chip flash.new) }
     ensures sure { IsTrue (F.chip flash.old).sure → IfErr result IsNotFlash }
     ensures same { Keeps (F.chip flash.old) (F.chip flash.new) }
@@ -111,8 +112,8 @@ fn read_slot<F: Flash>(
     requires some { 0 < n }
     requires within { n ≤ journal.now.used }
     requires few { journal.now.used ≤ 1023 }
-    ensures cause { IfErr result (IsSlotCause (F.chip flash.old) (F.chip flash.new) journal.now.bank n persist.old) }
-    ensures value { IsTrue (F.chip flash.old).honest → (k : ℕ) → n ≡ k + 1 → AreSaid (F.chip flash.old).now journal.now.bank k persist.old → OnOk result (AreSaid (F.chip flash.old).now journal.now.bank n persist.new) }
+    ensures cause { IfErr result (IsSlotCause (F.chip flash.old) (F.chip flash.new) journal.now n persist.old) }
+    ensures value { IsTrue (F.chip flash.old).honest → (k : ℕ) → n ≡ k + 1 → AreSaid (F.chip flash.old).now journal.now.bank journal.now.version k persist.old → OnOk result (AreSaid (F.chip flash.old).now journal.now.bank journal.now.version n persist.new) }
     ensures stays { IsTrue (F.chip flash.old).honest → Stays (F.chip flash.old) (F.chip flash.new) }
     ensures sure { IsTrue (F.chip flash.old).sure → IfErr result IsNotFlash }
     ensures same { Keeps (F.chip flash.old) (F.chip flash.new) }
@@ -120,16 +121,16 @@ fn read_slot<F: Flash>(
     let Some(slot) = journal.slot(flash, n)? else {
         return Ok(());
     };
-    take(persist, n, &slot)
+    take(persist, n, &slot, journal.version())
 }
 
 /// One more record: what slot `n` holds, if a record that may follow the others has its text.
-fn take(persist: &mut Persist, n: u32, slot: &Slot) -> Result<(), StoreFault>
-    ensures taken { OnOk result (IsTaken persist.old slot.now persist.new) }
-    ensures damaged { OnErr result ((result ≡ Err (StoreFault.Damaged n)) × IsRefused persist.old slot.now) }
+fn take(persist: &mut Persist, n: u32, slot: &Slot, format: u8) -> Result<(), StoreFault>
+    ensures taken { OnOk result (IsTaken format persist.old slot.now persist.new) }
+    ensures damaged { OnErr result ((result ≡ Err (StoreFault.Damaged n)) × IsRefused format persist.old slot.now) }
 {
     let damaged = StoreFault::Damaged { slot: n };
-    let Ok(item) = decode(slot) else {
+    let Ok(item) = decode(slot, format) else {
         return Err(damaged);
     };
     if !rises(persist, &item) {

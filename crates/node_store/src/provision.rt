@@ -2,9 +2,9 @@
 ghost use Rattle.std.specs.Prelude.{◌≡◌, List, false, IsTrue, IfOk, IfErr, OnOk, ℕ, ◌*◌, ◌^◌, ◌<◌, All, map, slice_index};
 ghost use Rattle.flash_model.specs.Chip.{IsFresh, Keeps, LeavesOnly, Stays};
 ghost use Rattle.node_records.specs.Meaning.{IsMeaningOf};
-ghost use Rattle.run_definitions.specs.Ranges.{IsInRange};
-ghost use Rattle.run_definitions.specs.Recovered.{record_text, IsRecovered};
-ghost use Rattle.run_definitions.specs.RunOf.{provisioned};
+ghost use Rattle.store_definitions.specs.Ranges.{IsInRange};
+ghost use Rattle.store_definitions.specs.Recovered.{record_text, IsRecovered};
+ghost use Rattle.store_definitions.specs.Provisioning.{provisioned};
 ghost use Rattle.mesh_base.specs.IvState.{HasTransmit, transmit_of};
 ghost use Rattle.slot_journal.specs.Causes.{IsFormatCause, IsNotErased};
 ghost use Rattle.slot_journal.specs.Format.{IsErased};
@@ -16,12 +16,16 @@ use flash_model::Flash;
 use mesh_base::address::Address;
 use mesh_base::iv_state::IvState;
 use mesh_base::slot::Slot;
-use mesh_types::records::StoreRecord;
-use node_records::{Persist, encode};
+use node_records::Persist;
+use record_texts::encode;
+use record_types::records::StoreRecord;
 use slot_journal::{FormatFault, Journal};
 
 /// The op of a NetKey record that adds a key.
 const ADD: u8 = 1;
+
+/// The format of a bank that a node writes: a Replay record has room for two names.
+const FORMAT: u8 = 2;
 
 /// Hours since the last IV Index Recovery at which the next one is allowed (section 3.10.6).
 const RECOVERY_HOURS: u16 = 192;
@@ -57,7 +61,7 @@ impl Store {
         ensures cause { IfErr result (IsFormatCause (F.chip flash.old) (F.chip flash.new)) }
         ensures erased { IsTrue (F.chip flash.old).honest → OnOk result (IsErased (F.chip flash.old).now) }
         ensures unchanged { IsTrue (F.chip flash.old).honest → ¬ IsErased (F.chip flash.old).now → Stays (F.chip flash.old) (F.chip flash.new) }
-        ensures value { IfOk result (λ s. (s.journal ≡ record { bank = 0; used = 3; closed = false }) × IsMeaningOf (provisioned (provisioning p.now)) s.persist) }
+        ensures value { IfOk result (λ s. (s.journal ≡ record { bank = 0; used = 3; closed = false; generation = 1; version = 2 }) × IsMeaningOf (provisioned (provisioning p.now)) s.persist) }
         ensures kept { IsFresh (F.chip flash.old) → IfOk result (λ s. IsStoreOf (F.chip flash.new) s (provisioned (provisioning p.now))) }
         ensures durable { IsFresh (F.chip flash.old) → OnOk result ((c : List ℕ) → (F.chip flash.new).images c → IsRecovered c (provisioned (provisioning p.now))) }
         ensures any_moment { IsFresh (F.chip flash.old) → IsErased (F.chip flash.old).now → LeavesOnly (F.chip flash.old) (F.chip flash.new) (IsMade (provisioned (provisioning p.now))) }
@@ -66,7 +70,7 @@ impl Store {
         ensures sure { IsTrue (F.chip flash.old).sure → IfErr result IsNotErased }
         ensures same { Keeps (F.chip flash.old) (F.chip flash.new) }
     {
-        let journal = Journal::format(flash, &first_slots(p))?;
+        let journal = Journal::format(flash, &first_slots(p), FORMAT)?;
         Ok(Store {
             journal,
             persist: first_persist(p),

@@ -1,18 +1,19 @@
 // The store: the journal that keeps its records, and what they say.
 ghost use Rattle.std.specs.Prelude.{◌≡◌, ℕ, ◌+◌, ◌<◌, List, [], ◌∷◌, ◌++◌, true, false, Err, IsTrue, IsOk, OnOk, OnErr};
 ghost use Rattle.flash_model.specs.Chip.{Keeps, LeavesOnly};
-ghost use Rattle.mesh_types.specs.declared.records.StoreRecord.{StoreRecord};
+ghost use Rattle.record_types.specs.declared.records.StoreRecord.{StoreRecord};
 ghost use Rattle.node_records.specs.Meaning.{IsMeaningOf};
 ghost use Rattle.node_records.specs.Full.{IsFull, held_for};
 ghost use Rattle.node_records.specs.Tables.{config_in};
-ghost use Rattle.run_definitions.specs.Config.{changed};
-ghost use Rattle.run_definitions.specs.Ranges.{IsInRange};
-ghost use Rattle.run_definitions.specs.Recovered.{IsRecovered};
+ghost use Rattle.store_definitions.specs.Config.{changed};
+ghost use Rattle.store_definitions.specs.Ranges.{IsInRange};
+ghost use Rattle.store_definitions.specs.Recovered.{HasOneName, IsRecovered};
 ghost use Rattle.node_store.specs.Tie.{HasMark, HasMarkFrom, IsNoNumbers, IsNotBelow, IsPut, IsStoreOf};
 
 use flash_model::Flash;
-use mesh_types::records::StoreRecord;
-use node_records::{Limit, Persist, encode};
+use node_records::{Limit, Persist};
+use record_texts::encode;
+use record_types::records::StoreRecord;
 use slot_journal::{AppendFault, Journal};
 use std::marker::Model;
 use thiserror::Error;
@@ -61,7 +62,7 @@ impl From<Limit> for PutFault {
 }
 
 /// The store of a node. The flash stays with the caller, and is passed to each call.
-#[derive(Debug, Drop)]
+#[derive(Drop)]
 pub struct Store {
     pub(crate) journal: Journal,
     pub(crate) persist: Persist,
@@ -93,12 +94,13 @@ impl Store {
     /// Puts a record behind the others. At `Ok` it is durable. In every image that a cut at any moment leaves, the records are those of
     /// before, or these with the new one last; so the mark doesn't fall. After any refusal the store says what it said before.
     ///
-    /// The fields of the record are in their ranges, and the known IV Index and the mark of a Numbers record aren't below those that the
+    /// A record with two names is put into a bank of format 02 alone. The fields of the record are in their ranges, and the known IV Index and the mark of a Numbers record aren't below those that the
     /// store says. Of the clauses on content, the store is one of this flash: `provision` or `mount` gave it, and each call that succeeds
     /// keeps it so.
     pub fn put<F: Flash>(&mut self, flash: &mut F, item: &StoreRecord) -> Result<(), PutFault>
         requires range { IsInRange item.now }
         requires rises { IsNotBelow self.old.persist item.now }
+        requires format { self.old.journal.version ≡ 1 → HasOneName item.now }
 
         ensures closed { self.old.journal.closed ≡ true → (result ≡ Err PutFault.Closed) × (self.new ≡ self.old) × (flash.new ≡ flash.old) }
         ensures limit { self.old.journal.closed ≡ false → IsFull self.old.persist item.now → (result ≡ Err (PutFault.Limit (held_for self.old.persist item.now))) × (self.new ≡ self.old) × (flash.new ≡ flash.old) }

@@ -10,7 +10,7 @@ use mesh_base::address::Address;
 use mesh_base::iv_state::IvState;
 use mesh_base::pair::{Name, Pair};
 use mesh_base::slot::Slot;
-use mesh_types::records::StoreRecord;
+use record_types::records::StoreRecord;
 use slot_journal::{FormatFault, Journal, NoMount};
 use std::alloc::Global;
 use std::test::Fail;
@@ -27,7 +27,7 @@ const DEV_KEY: [u8; 16] = [
 
 // Kind f0, format 01, generation 1 and its complement, zeros, and the gate.
 const HEADER: [u8; 32] = [
-    0xf0, 0x01, 0, 0, 0, 1, 0xff, 0xff, 0xff, 0xfe, 0, 0, 0, 0, 0, 0, 0, 0, 0, 0, 0, 0, 0, 0, 0, 0,
+    0xf0, 0x02, 0, 0, 0, 1, 0xff, 0xff, 0xff, 0xfe, 0, 0, 0, 0, 0, 0, 0, 0, 0, 0, 0, 0, 0, 0, 0, 0,
     0, 0, 0, 0, 0, 0,
 ];
 
@@ -68,7 +68,13 @@ fn hear<F: Flash>(store: &mut Store, flash: &mut F, src: u16, seq: u32) -> Resul
             seq,
         },
     };
-    store.put(flash, &StoreRecord::Replay { name })
+    store.put(
+        flash,
+        &StoreRecord::Replay {
+            first: name,
+            second: None,
+        },
+    )
 }
 
 fn octets<F: Flash>(flash: &mut F, n: u32) -> Result<[u8; 32], FlashFailed>
@@ -196,23 +202,23 @@ fn a_cut_while_a_record_is_put(rt: HostRuntime) -> Result<(), Fail> {
 fn a_full_replay_list_and_a_full_bank(rt: HostRuntime) -> Result<(), Fail> {
     let mut flash = MemFlash::new(rt.alloc())?;
     let mut store = Store::provision(&mut flash, &node())?;
-    for src in 0x0101..0x0141 {
+    for src in 0x0101..0x0301 {
         hear(&mut store, &mut flash, src, 1)?;
     }
     assert_eq!(rt;
-        hear(&mut store, &mut flash, 0x0141, 1),
-        Err(PutFault::Limit { held: 64 })
+        hear(&mut store, &mut flash, 0x0301, 1),
+        Err(PutFault::Limit { held: 512 })
     );
-    for seq in 0..956 {
+    for seq in 0..508 {
         hear(&mut store, &mut flash, 0x0101, seq)?;
     }
     assert_eq!(rt; store.used(), 1023);
     assert_eq!(rt;
-        hear(&mut store, &mut flash, 0x0141, 1),
-        Err(PutFault::Limit { held: 64 })
+        hear(&mut store, &mut flash, 0x0301, 1),
+        Err(PutFault::Limit { held: 512 })
     );
     assert_eq!(rt;
-        hear(&mut store, &mut flash, 0x0101, 956),
+        hear(&mut store, &mut flash, 0x0101, 508),
         Err(PutFault::Full { used: 1023 })
     );
     let found = Store::mount(&mut flash)?;
@@ -255,8 +261,29 @@ fn subscribe(group: u8) -> Slot {
     slot(8, &[1, 0x12, 0x01, 0x10, 0x00, 0xc0, group])
 }
 
-fn heard(src: u8) -> Slot {
-    slot(4, &[0x01, src, 0x12, 0x34, 0x56, 0x78, 0, 0, 1])
+fn label(last: u8) -> Slot {
+    slot(
+        12,
+        &[
+            1, 0x12, 0x01, 0x10, 0x00, 0, 0, 0, 0, 0, 0, 0, 0, 0, 0, 0, 0, 0, 0, 0, last,
+        ],
+    )
+}
+
+fn publish(model: u8) -> Slot {
+    slot(13, &[0x12, 0x01, 0x10, model, 0xc0, 0, 0, 0, 7, 0x41, 0])
+}
+
+/// Messages of two sources: the two numbers, one behind the other, from 0100 on.
+fn heard(pair: u16) -> Slot {
+    let [a, b] = pair.saturating_add(0x0100).to_be_bytes();
+    let [c, d] = pair.saturating_add(0x0300).to_be_bytes();
+    slot(
+        4,
+        &[
+            a, b, 0x12, 0x34, 0x56, 0x78, 0, 0, 1, c, d, 0x12, 0x34, 0x56, 0x78, 0, 0, 1,
+        ],
+    )
 }
 
 const RESET: Slot = Slot {
@@ -269,7 +296,7 @@ fn refusal(alloc: Global, slots: &[Slot]) -> Result<Option<StoreFault>, Fail>
     requires { length slots.now ≤ 512 }
 {
     let mut flash = MemFlash::new(alloc)?;
-    Journal::format(&mut flash, slots)?;
+    Journal::format(&mut flash, slots, 2)?;
     Ok(Store::mount(&mut flash).err())
 }
 
@@ -305,7 +332,8 @@ fn what_passes_a_limit(rt: HostRuntime) -> Result<(), Fail> {
         (app_key, 8),
         (bind, 32),
         (subscribe, 32),
-        (heard, 64),
+        (label, 32),
+        (publish, 8),
     ];
     for (kind, most) in kinds {
         let mut slots = Vec::new(rt.alloc());
@@ -319,5 +347,35 @@ fn what_passes_a_limit(rt: HostRuntime) -> Result<(), Fail> {
         assert!(rt; slots.len() <= 511);
         assert_eq!(rt; refusal(rt.alloc(), &slots)?, at(u32::from(most) + 2));
     }
+    Ok(())
+}
+
+#[test]
+fn the_513th_source_is_damage(rt: HostRuntime) -> Result<(), Fail> {
+    let mut slots = Vec::new(rt.alloc());
+    slots.push(numbers(0x12345678, 0))?;
+    for pair in 0..256 {
+        slots.push(heard(pair))?;
+    }
+    assert!(rt; slots.len() <= 511);
+    assert_eq!(rt; refusal(rt.alloc(), &slots)?, None);
+    slots.push(heard(256))?;
+    assert!(rt; slots.len() <= 511);
+    assert_eq!(rt;
+        refusal(rt.alloc(), &slots)?,
+        Some(StoreFault::Damaged { slot: 258 })
+    );
+    Ok(())
+}
+
+// A second name counts in format 02 alone.
+#[test]
+fn two_names_in_a_bank_of_format_one(rt: HostRuntime) -> Result<(), Fail> {
+    let mut flash = MemFlash::new(rt.alloc())?;
+    Journal::format(&mut flash, &[numbers(0x12345678, 0), heard(0)], 1)?;
+    assert_eq!(rt;
+        Store::mount(&mut flash).err(),
+        Some(StoreFault::Damaged { slot: 2 })
+    );
     Ok(())
 }

@@ -1,5 +1,5 @@
 use Rattle.std.proofs.Common.{◌<◌, length, arith}
-use Rattle.run_definitions.specs.Config.{finished_app}
+use Rattle.store_definitions.specs.Config.{finished_app}
 use Rattle.node_records.proofs.Changes.{changed_more}
 use Rattle.node_records.proofs.keys.finish_apps.Goals as goal
 

@@ -1,5 +1,5 @@
 use Rattle.std.proofs.Common.{◌≡◌}
-use Rattle.run_definitions.specs.Config.{updated_app}
+use Rattle.store_definitions.specs.Config.{updated_app}
 use Rattle.node_records.proofs.Changes.{changed_to}
 use Rattle.node_records.proofs.keys.update_apps.Given as goal
 

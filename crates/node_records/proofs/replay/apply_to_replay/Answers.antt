@@ -1,5 +1,28 @@
-use Rattle.node_records.proofs.Rows.{none_from}
+use Rattle.std.proofs.Common.{sym, subst}
+use Rattle.std.specs.Prelude.{Option, IfSome}
+use Rattle.mesh_base.specs.declared.pair.Name.{Name}
+use Rattle.record_types.specs.declared.records.StoreRecord.TheVariants as R
+use Rattle.node_records.specs.Places.{live_of, live_with, LacksPlace}
+use Rattle.node_records.specs.Steps.{KeepsEntries}
+use Rattle.node_records.proofs.Room.{place_after}
+use Rattle.node_records.proofs.Rows.{keeps_one, keeps_two}
 use Rattle.node_records.proofs.replay.apply_to_replay.Goals as goal
 
-pub add_row-requires-clause-none : goal.add_row-requires-clause-none
-add_row-requires-clause-none c = none_from c.args.rows.now c.args.name.now.src.0 (rw c.as_slice.ensures.value at c.in-None.ensures.none)
+pub returns-in-Some : goal.returns-in-Some
+returns-in-Some c = λ apart.
+    let current = c.args.current in
+    let old = c.args.rows.now in
+    let new = c.apply_name.new.rows in
+    let first = c.args.first.now in
+    let name = c.in-Some.name in
+    let k = c.apply_name.ensures apart c.requires.first in
+    let place : LacksPlace (live_with current (live_of current old) first) name → ⊥ =
+    subst (λ (o : Option Name). IfSome o (λ n. LacksPlace (live_with current (live_of current old) first) n → ⊥)) c.in-Some.is c.requires.second in
+    subst (λ (o : Option Name). KeepsEntries current old c.apply_name-in-Some.new.rows (R.Replay first o)) (sym c.in-Some.is)
+    (keeps_two current old new c.apply_name-in-Some.new.rows first name k
+    (c.apply_name-in-Some.ensures k.apart (λ h. place (place_after current old new first name apart k h))))
+
+pub returns-in-None : goal.returns-in-None
+returns-in-None c = λ apart.
+    subst (λ (o : Option Name). KeepsEntries c.args.current c.args.rows.now c.apply_name.new.rows (R.Replay c.args.first.now o)) (sym c.in-None.is)
+    (keeps_one c.args.current c.args.rows.now c.apply_name.new.rows c.args.first.now (c.apply_name.ensures apart c.requires.first))

@@ -1,6 +1,6 @@
 use Rattle.std.proofs.Common.{◌≡◌, ℕ, ◌<◌, false, get_or}
 use Rattle.mesh_base.specs.declared.pair.Name.{Name}
-use Rattle.run_definitions.specs.Pairs.{is_expired}
+use Rattle.mesh_base.specs.Pairs.{is_expired}
 use Rattle.node_records.proofs.replay.first_expired.Given as goal
 
 abbrev pub invariant-loop-place : goal.invariant-loop-place

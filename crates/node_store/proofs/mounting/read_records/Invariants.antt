@@ -7,5 +7,5 @@ abbrev pub invariant-loop-k : goal.invariant-loop-k
 invariant-loop-k g l = record {
   keeps : Keeps (g.F.Flash.chip l.initial.flash) (g.F.Flash.chip l.flash);
   stays : IsTrue (g.F.Flash.chip l.initial.flash).honest → Stays (g.F.Flash.chip l.initial.flash) (g.F.Flash.chip l.flash);
-  said : IsTrue (g.F.Flash.chip l.initial.flash).honest → AreSaid (g.F.Flash.chip l.initial.flash).now l.journal.bank l.k l.persist;
+  said : IsTrue (g.F.Flash.chip l.initial.flash).honest → AreSaid (g.F.Flash.chip l.initial.flash).now l.journal.bank l.journal.version l.k l.persist;
 }

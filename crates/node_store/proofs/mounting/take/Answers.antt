@@ -7,7 +7,7 @@ pub returns-then-not-rises-clause-damaged : goal.returns-then-not-rises-clause-d
 returns-then-not-rises-clause-damaged c =
     let ok = c.in-Ok.ensures.ok in (
       refl,
-      refused_by c.args.persist.now c.args.slot.now c.in-Ok.item ok.0 ok.1
+      refused_by c.args.format c.args.persist.now c.args.slot.now c.in-Ok.item ok.0 ok.1
           (λ records meaning follows. falls_of records c.args.persist.now meaning c.in-Ok.item (λ h. true≢false (sym (c.if-not-rises.ensures.1 h))) follows.rises),
     )
 
@@ -19,6 +19,7 @@ returns-in-Ok-apply-clause-taken c =
       item = c.in-Ok.item;
       range = ok.0;
       text = ok.1;
+      names = ok.2;
       follows = λ records meaning. (
         record {
           within = λ passes. true≢false (sym ((applied.passes records meaning).1 passes));
@@ -32,6 +33,6 @@ pub returns-in-Err-clause-damaged : goal.returns-in-Err-clause-damaged
 returns-in-Err-clause-damaged c =
     let ok = c.in-Ok.ensures.ok in (
       refl,
-      refused_by c.args.persist.now c.args.slot.now c.in-Ok.item ok.0 ok.1
+      refused_by c.args.format c.args.persist.now c.args.slot.now c.in-Ok.item ok.0 ok.1
           (λ records meaning follows. follows.within ((c.in-Err.ensures.passes records meaning).0 refl)),
     )

@@ -1,5 +1,5 @@
 use Rattle.std.proofs.Common.{[], ◌∷◌, sym, subst}
-use Rattle.mesh_types.specs.declared.records.StoreRecord.{StoreRecord}
+use Rattle.record_types.specs.declared.records.StoreRecord.{StoreRecord}
 use Rattle.node_records.specs.Full.{IsFull}
 use Rattle.node_records.specs.Meaning.{DoesNotFall, IsMeaningOf}
 use Rattle.node_store.specs.Provisioning.{provisioning}

@@ -1,8 +1,9 @@
 use Rattle.std.proofs.Common.{ℕ, List, Some, ap, sym, subst, ◌∙◌}
 use Rattle.mesh_base.specs.declared.slot.Slot.{Slot}
 use Rattle.flash_model.specs.Chip.{LeavesOnly}
-use Rattle.run_definitions.specs.Recovered.{IsRecovered}
-use Rattle.run_definitions.specs.RunOf.{provisioned}
+use Rattle.slot_definitions.specs.Slots.{Held}
+use Rattle.store_definitions.specs.Recovered.{IsRecovered}
+use Rattle.store_definitions.specs.Provisioning.{provisioned}
 use Rattle.slot_journal.specs.Format.{IsFormatted}
 use Rattle.node_store.specs.Provisioning.{provisioning}
 use Rattle.node_store.proofs.Made.{made_leaves, made_read, provisioned_order}
@@ -13,7 +14,7 @@ returns-in_err-journal-clause-any_moment g c fresh erased =
     let old = g.F.Flash.chip c.args.flash.now in
     let new = g.F.Flash.chip c.format.new.flash in
     made_leaves old new (provisioned (provisioning c.args.p.now)) c.first_slots.ensures.ranges (provisioned_order (provisioning c.args.p.now))
-    (subst (λ (l : List Slot). LeavesOnly old new (IsFormatted l)) c.first_slots.ensures.value (c.in_err-journal.ensures.any_moment fresh erased))
+    (subst (λ (l : List Slot). LeavesOnly old new (IsFormatted 2 l)) c.first_slots.ensures.value (c.in_err-journal.ensures.any_moment fresh erased))
 
 pub returns-clause-kept : goal.returns-clause-kept
 returns-clause-kept g c fresh =
@@ -22,7 +23,7 @@ returns-clause-kept g c fresh =
     let new = g.F.Flash.chip c.format.new.flash in
     record {
       journal = c.in_ok-journal.ensures.kept fresh;
-      read = made_read old new records c.first_slots.ensures.ranges (provisioned_order (provisioning c.args.p.now)) (c.in_ok-journal.ensures.durable fresh ∙ ap (λ (l : List Slot). Some l) c.first_slots.ensures.value);
+      read = made_read old new records c.first_slots.ensures.ranges (provisioned_order (provisioning c.args.p.now)) (c.in_ok-journal.ensures.durable fresh ∙ ap (λ (l : List Slot). let h : Held = record { format = 2; slots = l } in Some h) c.first_slots.ensures.value);
       meaning = c.first_persist.ensures;
     }
 
@@ -31,7 +32,7 @@ returns-clause-durable g c fresh image is =
     let records = provisioned (provisioning c.args.p.now) in
     let old = g.F.Flash.chip c.args.flash.now in
     let new = g.F.Flash.chip c.format.new.flash in
-    let read = made_read old new records c.first_slots.ensures.ranges (provisioned_order (provisioning c.args.p.now)) (c.in_ok-journal.ensures.durable fresh ∙ ap (λ (l : List Slot). Some l) c.first_slots.ensures.value) in
+    let read = made_read old new records c.first_slots.ensures.ranges (provisioned_order (provisioning c.args.p.now)) (c.in_ok-journal.ensures.durable fresh ∙ ap (λ (l : List Slot). let h : Held = record { format = 2; slots = l } in Some h) c.first_slots.ensures.value) in
     subst (λ (x : List ℕ). IsRecovered x records) (sym ((c.in_ok-journal.ensures.kept fresh).fresh.only image is)) read.held
 
 pub returns-clause-any_moment : goal.returns-clause-any_moment
@@ -39,4 +40,4 @@ returns-clause-any_moment g c fresh erased =
     let old = g.F.Flash.chip c.args.flash.now in
     let new = g.F.Flash.chip c.format.new.flash in
     made_leaves old new (provisioned (provisioning c.args.p.now)) c.first_slots.ensures.ranges (provisioned_order (provisioning c.args.p.now))
-    (subst (λ (l : List Slot). LeavesOnly old new (IsFormatted l)) c.first_slots.ensures.value (c.in_ok-journal.ensures.any_moment fresh erased))
+    (subst (λ (l : List Slot). LeavesOnly old new (IsFormatted 2 l)) c.first_slots.ensures.value (c.in_ok-journal.ensures.any_moment fresh erased))

@@ -1,6 +1,0 @@
-use Rattle.std.proofs.Common.{refl}
-use Rattle.node_records.proofs.Fields.{back}
-use Rattle.node_records.proofs.decoding.app_key.Goals as goal
-
-pub returns : goal.returns
-returns c = λ r h e. back (record { kind = 6; body = c.args.body.now }) _ r (rw (c.two_at.ensures, c.two_at-2.ensures, c.key_at.ensures) refl) h e

@@ -1,6 +1,0 @@
-use Rattle.std.proofs.Common.{refl}
-use Rattle.node_records.proofs.Fields.{back}
-use Rattle.node_records.proofs.decoding.identity.Goals as goal
-
-pub returns : goal.returns
-returns c = λ r h e. back (record { kind = 1; body = c.args.body.now }) _ r (rw (c.two_at.ensures, c.key_at.ensures) refl) h e

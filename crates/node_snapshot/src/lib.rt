@@ -1,0 +1,14 @@
+//! The snapshot of a store: the records that say a value anew ([`snapshot`]), for a compaction.
+//!
+//! - `parts`: the records of each part of the value
+//! - `names`: the names of the replay list by source, two a record
+//! - `listing`: the whole list, and its slots
+#![tactic(auto)]
+
+mod listing;
+mod names;
+mod parts;
+#[cfg(test)]
+mod tests;
+
+pub use listing::{Snapshot, snapshot};

@@ -1,0 +1,16 @@
+//! The texts of the records of a node's store: the one text of each record ([`encode`]), and the one record of a text ([`decode`]).
+//!
+//! - `encoding`: from a record to its slot
+//! - `decoding`: from a slot to its record
+//! - `ranges`: whether a record's fields are in their ranges
+#![tactic(auto)]
+
+mod decoding;
+mod encoding;
+mod ranges;
+#[cfg(test)]
+mod tests;
+
+pub use decoding::{BadRecord, decode};
+pub use encoding::encode;
+pub use ranges::is_in_range;
