@@ -1,90 +1,101 @@
-//! The steps of a round on the state (FIPS 197, 5.1), whose columns stand one after the other.
+//! The steps of a round on the state (FIPS 197, 5.1), a word for each column.
 #![tactic(auto)]
 
-ghost use Rattle.std.specs.Prelude.{◌≡◌};
+ghost use Rattle.std.specs.Prelude.{◌≡◌, ◌∷◌, []};
+ghost use Rattle.std.specs.Int.{to_be_bytes, w32};
 ghost use Rattle.cipher_definitions.specs.Octets.{xor_lists};
-ghost use Rattle.cipher_definitions.specs.Aes.{sub_octets, shift_rows, mixed, mix_columns, round, last_round};
+ghost use Rattle.cipher_definitions.specs.Aes.{round, last_round, sub_octet};
+ghost use Rattle.aes_block.specs.Columns.{octets, row, mixed_rows};
 
-use crate::field::{substitute, thrice, twice};
+use crate::tables::{added_0, added_1, added_2, added_3, substitute};
 
-/// SubBytes (FIPS 197, 5.1.1).
-fn substitute_all(state: &mut [u8; 16])
-    ensures { state.new ≡ sub_octets state.old }
-{
-    for octet in state.iter_mut() {
-        *octet = substitute(*octet);
-    }
-}
-
-/// ShiftRows (FIPS 197, 5.1.2).
-#[tactic(auto, unfolding(cipher_definitions::specs::Aes::shift_rows))]
-fn shifted_rows(s: &[u8; 16]) -> [u8; 16]
-    ensures { result ≡ shift_rows s.now }
+/// The columns of a block.
+pub(crate) fn columns_of(block: &[u8; 16]) -> [u32; 4]
+    ensures { octets result ≡ block.now }
 {
     [
-        s[0], s[5], s[10], s[15], s[4], s[9], s[14], s[3], s[8], s[13], s[2], s[7], s[12], s[1],
-        s[6], s[11],
+        u32::from_be_bytes([block[0], block[1], block[2], block[3]]),
+        u32::from_be_bytes([block[4], block[5], block[6], block[7]]),
+        u32::from_be_bytes([block[8], block[9], block[10], block[11]]),
+        u32::from_be_bytes([block[12], block[13], block[14], block[15]]),
     ]
 }
 
-// An octet of a mixed column, from the octet in its place and the three below that, in a circle.
-#[tactic(auto, unfolding(cipher_definitions::specs::Aes::mixed))]
-fn mixed_octet(a: u8, b: u8, c: u8, d: u8) -> u8
-    ensures { result ≡ mixed a b c d }
+/// The block of these columns.
+pub(crate) fn octets_of(columns: &[u32; 4]) -> [u8; 16]
+    ensures { result ≡ octets columns.now }
 {
-    twice(a) ^ thrice(b) ^ c ^ d
-}
-
-/// MixColumns (FIPS 197, 5.1.3).
-#[tactic(auto, unfolding(cipher_definitions::specs::Aes::mix_columns))]
-fn mixed_columns(s: &[u8; 16]) -> [u8; 16]
-    ensures { result ≡ mix_columns s.now }
-{
+    let [a, b, c, d] = *columns;
+    let (a, b, c, d) = (
+        a.to_be_bytes(),
+        b.to_be_bytes(),
+        c.to_be_bytes(),
+        d.to_be_bytes(),
+    );
     [
-        mixed_octet(s[0], s[1], s[2], s[3]),
-        mixed_octet(s[1], s[2], s[3], s[0]),
-        mixed_octet(s[2], s[3], s[0], s[1]),
-        mixed_octet(s[3], s[0], s[1], s[2]),
-        mixed_octet(s[4], s[5], s[6], s[7]),
-        mixed_octet(s[5], s[6], s[7], s[4]),
-        mixed_octet(s[6], s[7], s[4], s[5]),
-        mixed_octet(s[7], s[4], s[5], s[6]),
-        mixed_octet(s[8], s[9], s[10], s[11]),
-        mixed_octet(s[9], s[10], s[11], s[8]),
-        mixed_octet(s[10], s[11], s[8], s[9]),
-        mixed_octet(s[11], s[8], s[9], s[10]),
-        mixed_octet(s[12], s[13], s[14], s[15]),
-        mixed_octet(s[13], s[14], s[15], s[12]),
-        mixed_octet(s[14], s[15], s[12], s[13]),
-        mixed_octet(s[15], s[12], s[13], s[14]),
+        a[0], a[1], a[2], a[3], b[0], b[1], b[2], b[3], c[0], c[1], c[2], c[3], d[0], d[1], d[2],
+        d[3],
     ]
 }
 
 /// AddRoundKey (FIPS 197, 5.1.4).
-pub(crate) fn add_key(state: &mut [u8; 16], key: &[u8; 16])
-    ensures { state.new ≡ xor_lists state.old key.now }
+pub(crate) fn sum(state: &[u32; 4], key: &[u32; 4]) -> [u32; 4]
+    ensures { octets result ≡ xor_lists (octets state.now) (octets key.now) }
 {
-    for i in 0..state.len() {
-        state[i] ^= key[i];
-    }
+    [
+        state[0] ^ key[0],
+        state[1] ^ key[1],
+        state[2] ^ key[2],
+        state[3] ^ key[3],
+    ]
+}
+
+// A column after SubBytes, ShiftRows and MixColumns, from the columns that its rows 0, 1, 2 and 3 come from.
+fn mixed_column(a: u32, b: u32, c: u32, d: u32) -> u32
+    ensures { to_be_bytes w32 result
+        ≡ mixed_rows (sub_octet (row a 0)) (sub_octet (row b 1)) (sub_octet (row c 2)) (sub_octet (row d 3)) }
+{
+    added_0(a.to_be_bytes()[0])
+        ^ added_1(b.to_be_bytes()[1])
+        ^ added_2(c.to_be_bytes()[2])
+        ^ added_3(d.to_be_bytes()[3])
+}
+
+// A column after SubBytes and ShiftRows, from the columns that its rows 0, 1, 2 and 3 come from.
+fn shifted_column(a: u32, b: u32, c: u32, d: u32) -> u32
+    ensures { to_be_bytes w32 result
+        ≡ sub_octet (row a 0) ∷ sub_octet (row b 1) ∷ sub_octet (row c 2) ∷ sub_octet (row d 3) ∷ [] }
+{
+    u32::from_be_bytes([
+        substitute(a.to_be_bytes()[0]),
+        substitute(b.to_be_bytes()[1]),
+        substitute(c.to_be_bytes()[2]),
+        substitute(d.to_be_bytes()[3]),
+    ])
 }
 
 /// One of the rounds before the last (FIPS 197, 5.1).
-#[tactic(auto, unfolding(cipher_definitions::specs::Aes::round))]
-pub(crate) fn run_round(state: &mut [u8; 16], key: &[u8; 16])
-    ensures { state.new ≡ round state.old key.now }
+pub(crate) fn after_round(s: &[u32; 4], key: &[u32; 4]) -> [u32; 4]
+    ensures { octets result ≡ round (octets s.now) (octets key.now) }
 {
-    substitute_all(state);
-    *state = mixed_columns(&shifted_rows(state));
-    add_key(state, key);
+    let mixed = [
+        mixed_column(s[0], s[1], s[2], s[3]),
+        mixed_column(s[1], s[2], s[3], s[0]),
+        mixed_column(s[2], s[3], s[0], s[1]),
+        mixed_column(s[3], s[0], s[1], s[2]),
+    ];
+    sum(&mixed, key)
 }
 
 /// The last round, without MixColumns (FIPS 197, 5.1).
-#[tactic(auto, unfolding(cipher_definitions::specs::Aes::last_round))]
-pub(crate) fn run_last_round(state: &mut [u8; 16], key: &[u8; 16])
-    ensures { state.new ≡ last_round state.old key.now }
+pub(crate) fn after_last_round(s: &[u32; 4], key: &[u32; 4]) -> [u32; 4]
+    ensures { octets result ≡ last_round (octets s.now) (octets key.now) }
 {
-    substitute_all(state);
-    *state = shifted_rows(state);
-    add_key(state, key);
+    let shifted = [
+        shifted_column(s[0], s[1], s[2], s[3]),
+        shifted_column(s[1], s[2], s[3], s[0]),
+        shifted_column(s[2], s[3], s[0], s[1]),
+        shifted_column(s[3], s[0], s[1], s[2]),
+    ];
+    sum(&shifted, key)
 }

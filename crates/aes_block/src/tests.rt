@@ -1,7 +1,7 @@
 //! The standards' own vectors: the proof says that the code is the definition, and these that the definition is AES.
 #![tactic(auto)]
 
-use super::Schedule;
+use super::{Schedule, add_to};
 
 #[test]
 fn encrypts_as_the_standards_say(rt: HostRuntime) {
@@ -34,4 +34,32 @@ fn encrypts_as_the_standards_say(rt: HostRuntime) {
         let result = u128::from_be_bytes(schedule.encrypt(text.to_be_bytes()));
         assert!(rt; result == sealed, "key {key}, text {text}");
     }
+}
+
+#[test]
+fn chains_as_the_standard_says(rt: HostRuntime) {
+    // SP 800-38A, F.2.1: cipher block chaining, the first two blocks.
+    let schedule = Schedule::new(&0x2b7e151628aed2a6abf7158809cf4f3cu128.to_be_bytes());
+    let mut last = 0x000102030405060708090a0b0c0d0e0fu128.to_be_bytes();
+    let blocks: [(u128, u128); 2] = [
+        (
+            0x6bc1bee22e409f96e93d7e117393172a,
+            0x7649abac8119b246cee98e9b12e9197d,
+        ),
+        (
+            0xae2d8a571e03ac9c9eb76fac45af8e51,
+            0x5086cb9b507219ee95db113a917678b2,
+        ),
+    ];
+    for (block, sealed) in blocks {
+        last = schedule.chained(&last, &block.to_be_bytes());
+        assert!(rt; u128::from_be_bytes(last) == sealed);
+    }
+}
+
+#[test]
+fn adds_no_further_than_the_part(rt: HostRuntime) {
+    let mut part = [0x0f, 0xff, 0x00];
+    add_to(&mut part[..2], &[0xf0, 0x0f, 0x55, 0x55]);
+    assert!(rt; part == [0xff, 0xf0, 0x00]);
 }

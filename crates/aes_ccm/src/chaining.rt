@@ -6,18 +6,8 @@ ghost use Rattle.cipher_definitions.specs.Octets.{two_octets, xor_lists, whole_b
 ghost use Rattle.cipher_definitions.specs.Aes.{aes, chained};
 ghost use Rattle.cipher_definitions.specs.Ccm.{first_flags, additional_blocks, ccm_tag};
 
-use crate::stream::{add_to, nonce_block};
+use crate::stream::nonce_block;
 use aes_block::Schedule;
-
-// One block more of the chaining.
-fn chain_block(schedule: &Schedule, last: &[u8; 16], block: &[u8; 16]) -> [u8; 16]
-    ensures value { result ≡ aes schedule.now (xor_lists last.now block.now) }
-    ensures length { length result ≡ 16 }
-{
-    let mut sum = *last;
-    add_to(&mut sum, block);
-    schedule.encrypt(sum)
-}
 
 // `part`, of at most 16 octets, with zeros after it.
 #[tactic(auto, unfolding(cipher_definitions::specs::Octets::whole_block))]
@@ -41,7 +31,7 @@ fn chain_all(schedule: &Schedule, start: &[u8; 16], octets: &[u8]) -> [u8; 16]
     while rest.len() > 0 {
         let (front, back) = rest.split_at(16usize.min(rest.len()));
         let block = filled(front);
-        let next = chain_block(schedule, &last, &block);
+        let next = schedule.chained(&last, &block);
         last = next;
         rest = back;
     }
@@ -73,7 +63,7 @@ fn chain_additional(schedule: &Schedule, start: &[u8; 16], additional: &[u8]) ->
     }
     let (front, back) = additional.split_at(14usize.min(additional.len()));
     let block = first_additional(additional.len() as u16, front);
-    let next = chain_block(schedule, start, &block);
+    let next = schedule.chained(start, &block);
     chain_all(schedule, &next, back)
 }
 
@@ -101,7 +91,7 @@ pub(crate) fn tag(
     ensures length { length result ≡ 16 }
 {
     let first = nonce_block(flags(additional, mic_length), nonce, text.len() as u16);
-    let start = chain_block(schedule, &[0; 16], &first);
+    let start = schedule.chained(&[0; 16], &first);
     let middle = chain_additional(schedule, &start, additional);
     chain_all(schedule, &middle, text)
 }

@@ -5,8 +5,8 @@ ghost use Rattle.std.specs.Prelude.{◌≡◌, ◌⊎◌, ◌↔◌, ℕ, List, 
 ghost use Rattle.cipher_definitions.specs.Ccm.{ccm_text, ccm_mic, Seals};
 
 use crate::chaining::tag;
-use crate::stream::{add_stream, add_to, nonce_block};
-use aes_block::Schedule;
+use crate::stream::{add_stream, nonce_block};
+use aes_block::{Schedule, add_to};
 use thiserror::Error;
 
 // Writes the MIC of a text that is not encrypted, of as many octets as `mic` has.

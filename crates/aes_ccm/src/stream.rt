@@ -5,7 +5,7 @@ ghost use Rattle.std.specs.Prelude.{◌≡◌, ◌+◌, ◌<◌, ◌≤◌, ◌^
 ghost use Rattle.cipher_definitions.specs.Octets.{two_octets, xor_lists, block_count};
 ghost use Rattle.cipher_definitions.specs.Ccm.{stream};
 
-use aes_block::Schedule;
+use aes_block::{Schedule, add_to};
 
 /// The block of an octet of flags, a nonce, and a number of 16 bits: B_0 and A_i (RFC 3610, 2.2 and 2.3).
 pub(crate) fn nonce_block(flags: u8, nonce: &[u8; 13], number: u16) -> [u8; 16]
@@ -17,16 +17,6 @@ pub(crate) fn nonce_block(flags: u8, nonce: &[u8; 13], number: u16) -> [u8; 16]
         flags, nonce[0], nonce[1], nonce[2], nonce[3], nonce[4], nonce[5], nonce[6], nonce[7],
         nonce[8], nonce[9], nonce[10], nonce[11], nonce[12], high, low,
     ]
-}
-
-/// Adds `block` to the octets of `part`, of which there are at most 16.
-pub(crate) fn add_to(part: &mut [u8], block: &[u8; 16])
-    requires { length part.old ≤ 16 }
-    ensures { part.new ≡ xor_lists part.old block.now }
-{
-    for i in 0..part.len() {
-        part[i] ^= block[i];
-    }
 }
 
 /// Adds the key stream from block 1 on to `text`, which encrypts it, or decrypts it (RFC 3610, 2.3).

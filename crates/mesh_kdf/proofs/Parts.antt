@@ -81,3 +81,20 @@ last_eight t h l =
     ap number_of (sym e) ∙ number_of-append (take 8 t) (drop 8 t) ∙ ap (λ i. number_of (take 8 t) * 256 ^ i + number_of (drop 8 t)) k in
     octets_of-mod 8 1 (number_of t) ∙ ap (octets_of 8) n ∙ octets_of-high 8 (number_of (take 8 t)) (number_of (drop 8 t))
     ∙ ap (λ i. octets_of i (number_of (drop 8 t))) (sym k) ∙ octets_of-number_of (drop 8 t) (drop_octets 8 t h)
+
+-- The lowest 14 bits of the number of octets are those of the last two octets.
+pub last_14 : (xs : List ℕ) (n : ℕ) → length xs ≡ suc (suc n) → number_of xs % 16384 ≡ (get_or xs n 0 * 256 + get_or xs (suc n) 0) % 16384
+unfolding number_of
+last_14 [] n h = cc
+last_14 (x ∷ []) n h = absurd (omega (arith, h))
+last_14 (x ∷ y ∷ []) n h =
+    let k : n ≡ 0 = omega (arith, h) in
+    let s : x * 256 + (y * 1 + 0) ≡ x * 256 + y = omega arith in
+    rw (k, s) refl
+last_14 (x ∷ y ∷ z ∷ zs) n h =
+    let k : n ≡ suc (length zs) = omega (arith, h) in
+    let i : number_of (y ∷ z ∷ zs) % 16384 ≡ (get_or (y ∷ z ∷ zs) (length zs) 0 * 256 + get_or (y ∷ z ∷ zs) (suc (length zs)) 0) % 16384 =
+    last_14 (y ∷ z ∷ zs) (length zs) refl in
+    let p : x * 256 ^ suc (suc (length zs)) ≡ x * 4 * 256 ^ length zs * 16384 =
+    rw (pow-succ' 256 (suc (length zs)), pow-succ' 256 (length zs)) (omega arith) in
+    rw (k, p, mul-add-mod_self_right (x * 4 * 256 ^ length zs) 16384 (number_of (y ∷ z ∷ zs))) i

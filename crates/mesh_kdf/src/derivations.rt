@@ -1,10 +1,10 @@
 //! The key derivation functions of the Mesh Profile 1.0.1, section 3.8.2.
 #![tactic(auto)]
 
-ghost use Rattle.std.specs.Prelude.{◌≡◌, ◌<◌, ◌≤◌, ◌/◌, ◌%◌, ◌^◌, length, ℕ, [], ◌∷◌, ◌++◌, slice_index_or};
+ghost use Rattle.std.specs.Prelude.{◌≡◌, ◌<◌, ◌≤◌, ◌+◌, ◌/◌, ◌%◌, ◌^◌, length, ℕ, [], ◌∷◌, ◌++◌, slice_index_or};
 ghost use Rattle.cipher_definitions.specs.Octets.{number_of, octets_of};
 ghost use Rattle.cipher_definitions.specs.Cmac.{cmac};
-ghost use Rattle.cipher_definitions.specs.Kdf.{s1, k1, k2, k3, k4};
+ghost use Rattle.cipher_definitions.specs.Kdf.{s1, k1, k2, k3, k4, virtual_address};
 
 use crate::credentials::K2;
 use crate::mac::cmac;
@@ -64,6 +64,16 @@ pub fn k4(n: &[u8; 16]) -> u8
     last_6_bits(&cmac(&derived_key(b"smk4", n), b"id6\x01"))
 }
 
+/// The virtual address of a label, 8000 to bfff (section 3.4.2.3).
+#[tactic(auto, unfolding(cipher_definitions::specs::Kdf::virtual_address))]
+pub fn address(label: &[u8; 16]) -> u16
+    ensures value { result ≡ virtual_address label.now }
+    ensures least { 2 ^ 15 ≤ result }
+    ensures most { result < 2 ^ 15 + 2 ^ 14 }
+{
+    0x8000 + last_14_bits(&cmac(&s1(b"vtad"), label))
+}
+
 /// T of k2, k3 and k4: the key of their last steps, by the name of the function.
 fn derived_key(name: &[u8; 4], n: &[u8; 16]) -> [u8; 16]
     ensures value { result ≡ cmac (s1 name.now) n.now }
@@ -119,6 +129,14 @@ fn last_6_bits(block: &[u8; 16]) -> u8
     ensures width { result < 64 }
 {
     block[15] % 64
+}
+
+/// The last 14 bits of a block.
+fn last_14_bits(block: &[u8; 16]) -> u16
+    ensures value { result ≡ number_of block.now % 2 ^ 14 }
+    ensures width { result < 2 ^ 14 }
+{
+    u16::from_be_bytes([block[14], block[15]]) % 0x4000
 }
 
 /// What the type of a slice says of its items, as a clause that a proof can cite.

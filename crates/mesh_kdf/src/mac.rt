@@ -6,8 +6,8 @@ ghost use Rattle.cipher_definitions.specs.Octets.{xor_lists, blocks};
 ghost use Rattle.cipher_definitions.specs.Aes.{aes, chained};
 ghost use Rattle.cipher_definitions.specs.Cmac.{cmac, last_block, blocks_before_last};
 
-use crate::subkeys::{add_to, doubled, filled_block};
-use aes_block::Schedule;
+use crate::subkeys::{doubled, filled_block};
+use aes_block::{Schedule, add_to};
 
 /// AES-CMAC of a message of any length under a key.
 pub fn cmac(key: &[u8; 16], m: &[u8]) -> [u8; 16]
@@ -19,22 +19,11 @@ pub fn cmac(key: &[u8; 16], m: &[u8]) -> [u8; 16]
     let mut rest = m;
     while rest.len() > 16 {
         let (front, back) = rest.split_at(16);
-        sum = chained_once(&schedule, &sum, front);
+        sum = schedule.chained(&sum, front);
         rest = back;
     }
     let last = last_block(&schedule, rest);
-    chained_once(&schedule, &sum, &last)
-}
-
-/// One step of the chaining: the sum with a block, enciphered.
-fn chained_once(schedule: &Schedule, sum: &[u8; 16], block: &[u8]) -> [u8; 16]
-    requires { length block.now ≡ 16 }
-    ensures value { result ≡ aes schedule.now (xor_lists sum.now block.now) }
-    ensures length { length result ≡ 16 }
-{
-    let mut next = *sum;
-    add_to(&mut next, block);
-    schedule.encrypt(next)
+    schedule.chained(&sum, &last)
 }
 
 /// The last block of a message with the subkey for it, from the octets behind the blocks before it.

@@ -2,18 +2,7 @@
 #![tactic(auto)]
 
 ghost use Rattle.std.specs.Prelude.{◌≡◌, ◌<◌, ◌≤◌, ◌+◌, length};
-ghost use Rattle.cipher_definitions.specs.Octets.{xor_lists};
 ghost use Rattle.cipher_definitions.specs.Cmac.{doubled_number, doubled, filled_block};
-
-/// Adds the first octets of `other` to `sum`, bit by bit.
-pub fn add_to(sum: &mut [u8], other: &[u8])
-    requires { length sum.old ≤ length other.now }
-    ensures value { sum.new ≡ xor_lists sum.old other.now }
-{
-    for i in 0..sum.len() {
-        sum[i] ^= other[i];
-    }
-}
 
 /// The product with x in GF(2^128), of a number whose highest bit is its highest coefficient.
 fn doubled_number(n: u128) -> u128

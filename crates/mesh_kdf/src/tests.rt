@@ -1,7 +1,7 @@
 //! The standards' own vectors: RFC 4493, section 4, and Mesh Profile 1.0.1, section 8.1 and 8.2.
 #![tactic(auto)]
 
-use crate::{cmac, k1, k2, k3, k4, s1};
+use crate::{address, cmac, k1, k2, k3, k4, s1};
 use hex::{FromHex, FromHexError};
 use std::test::Fail;
 
@@ -105,5 +105,19 @@ fn identifiers(rt: HostRuntime) -> Result<(), Fail> {
     ] {
         assert_eq!(rt; k4(&block(key)?), aid);
     }
+    Ok(())
+}
+
+// Mesh Profile 1.0.1, section 8.3.22, and a label of another implementation.
+#[test]
+fn virtual_addresses(rt: HostRuntime) -> Result<(), Fail> {
+    assert_eq!(rt;
+        address(&block("f4a002c7fb1e4ca0a469a021de0db875")?),
+        0x9736
+    );
+    assert_eq!(rt;
+        address(&block("0073e7e4d8b9440faf8415df4c56c0e1")?),
+        0xb529
+    );
     Ok(())
 }

@@ -8,5 +8,5 @@ returns-then-additional-eq0-clause-value c = additional_none c.args.schedule.now
 
 pub returns-clause-value : goal.returns-clause-value
 returns-clause-value c =
-    rw (c.chain_all.ensures.value, c.chain_block-next.ensures.value, c.first_additional-block.ensures.value, c.split_at.ensures.front, c.split_at.ensures.back, c.min.ensures, take_min, drop_min)
+    rw (c.chain_all.ensures.value, c.chained-next.ensures.value, c.first_additional-block.ensures.value, c.split_at.ensures.front, c.split_at.ensures.back, c.min.ensures, take_min, drop_min)
     (additional_turn c.args.schedule.now c.args.start.now c.args.additional.now (omega arith))

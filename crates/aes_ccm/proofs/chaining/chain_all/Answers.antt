@@ -6,9 +6,9 @@ use Rattle.aes_ccm.proofs.chaining.chain_all.Goals as goal
 pub loop-rest-preserved : goal.loop-rest-preserved
 loop-rest-preserved c = record {
   chain =
-      rw (c.split_at.ensures.back, c.chain_block-next.ensures.value, c.filled-block.ensures.value, c.split_at.ensures.front, c.min.ensures, take_min, drop_min)
+      rw (c.split_at.ensures.back, c.chained-next.ensures.value, c.filled-block.ensures.value, c.split_at.ensures.front, c.min.ensures, take_min, drop_min)
       (chain_turn c.args.schedule.now c.loop-rest.last c.loop-rest.rest.now c.loop-rest-test.true ∙ c.loop-rest.invariant.chain);
-  count = c.chain_block-next.ensures.length;
+  count = c.chained-next.ensures.length;
 }
 
 pub returns-clause-value : goal.returns-clause-value

@@ -7,7 +7,7 @@ pub loop-done-preserved : goal.loop-done-preserved
 loop-done-preserved c = record {
   added =
       stream_step c.args.schedule.now c.args.nonce.now c.loop-done.text c.add_to.new.part c.loop-done.done c.min-end.result c.loop-done.number
-      c.loop-done-test.true c.min-end.ensures (rw (c.encrypt-block.ensures.value, c.nonce_block.ensures.value) at c.add_to.ensures)
+      c.loop-done-test.true c.min-end.ensures (rw (c.encrypt-block.ensures.value, c.nonce_block.ensures.value) at c.add_to.ensures.value)
       ∙ c.loop-done.invariant.added;
   place = omega arith;
 }

@@ -9,10 +9,10 @@ loop-rest-init c = refl
 
 pub loop-rest-preserved : goal.loop-rest-preserved
 loop-rest-preserved c =
-    rw (c.chained_once-sum.ensures.value, c.new-schedule.ensures.value, c.split_at.ensures.front, c.split_at.ensures.back)
+    rw (c.chained-sum.ensures.value, c.new-schedule.ensures.value, c.split_at.ensures.front, c.split_at.ensures.back)
     (mac_turn c.args.key.now c.loop-rest.sum c.loop-rest.rest.now _ c.loop-rest-test.true c.loop-rest.invariant)
 
 pub returns-clause-value : goal.returns-clause-value
 returns-clause-value c =
-    rw (c.chained_once.ensures.value, c.last_block-last.ensures.value, c.new-schedule.ensures.value)
+    rw (c.chained.ensures.value, c.last_block-last.ensures.value, c.new-schedule.ensures.value)
     (mac_end c.args.key.now c.loop-rest.sum c.loop-rest.rest.now _ (omega arith) c.loop-rest.invariant)

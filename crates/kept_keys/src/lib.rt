@@ -1,0 +1,17 @@
+//! Keys kept with their key schedules, so that no schedule is made for each PDU. A clause sees each as the plain value that it is kept
+//! for: network material, a key heard, a key of the upper transport layer.
+//!
+//! - `network`: network material, and material under which a PDU may be heard
+//! - `upper`: application keys and the device key
+//!
+//! Nothing here is printed: the types have no `Debug`.
+#![tactic(auto)]
+
+mod network;
+mod upper;
+
+pub use network::{HeardSchedules, NetSchedules};
+pub use upper::{BoundSchedule, UpperSchedule};
+
+#[cfg(test)]
+mod tests;
