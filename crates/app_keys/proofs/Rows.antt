@@ -1,9 +1,9 @@
--- Rows with the AIDs of their values.
-use Rattle.std.proofs.Common.{◌≡◌, ℕ, ◌+◌, ◌<◌, ◌≤◌, Bool, true, false, cond, List, [], ◌∷◌, ◌++◌, length, take, get_or, map, Option, Some, None, refl, sym, ap, ◌∙◌, arith, append-nil}
-use Rattle.std.specs.Prelude.{◌==◌, ◌↔◌, ◌≢◌, if◌then◌else◌, unwrap_or, is_some, IsNone, IsSome, IfSome, filter, All}
+-- What is opened and sent under the values of rows.
+use Rattle.std.proofs.Common.{◌≡◌, ℕ, ◌+◌, ◌<◌, Bool, true, false, cond, List, [], ◌∷◌, ◌++◌, length, take, get_or, map, Option, Some, None, refl, sym, ap, ◌∙◌, arith, append-nil}
+use Rattle.std.specs.Prelude.{◌==◌, ◌&&◌, ◌↔◌, ◌≢◌, if◌then◌else◌, unwrap_or, is_some, IsNone, IsSome, IfSome, filter, All}
 use Rattle.std.specs.List.{AllByRecursion as ByRecursion, find, flat_map}
 use Rattle.std.specs.Option.{option_and_then, option_map}
-use Rattle.std.proofs.lemmas.List.{length-map, length-take-le, take_all, take_more}
+use Rattle.std.proofs.lemmas.List.{take_more}
 use Rattle.std.proofs.lemmas.Grind.{flat_map-append}
 use Rattle.std.proofs.lemmas.List.Elements.{All-from_recursion, recursion_from_All}
 use Rattle.std.proofs.lemmas.Bool.Decides.{nat_tests}
@@ -11,96 +11,35 @@ use Rattle.cipher_definitions.specs.Kdf.{aid}
 use Rattle.mesh_base.specs.declared.keys.AppKeyRow.{AppKeyRow}
 use Rattle.mesh_base.specs.declared.keys.NetKeyRow.{NetKeyRow}
 use Rattle.mesh_base.specs.declared.keys.UpperKey.{UpperKey}
-use Rattle.layer_definitions.specs.KeyRefresh.{app_index, app_key, app_keys, app_row, keys_of, net_row, transmit_app, transmit_value}
-use Rattle.layer_definitions.specs.Order.{by_index, LacksIndex, put_row}
+use Rattle.layer_definitions.specs.KeyRefresh.{app_index, app_key, app_keys, app_row, AreBound, keys_of, net_row, transmit_app, transmit_value}
+use Rattle.layer_definitions.specs.Order.{by_index, LacksIndex}
 use Rattle.layer_definitions.proofs.KeyLaws.{aid_width}
-use Rattle.layer_definitions.proofs.OrderLaws.{All-by_index, length-by_index, next_row, put_row-map}
-use Rattle.app_keys.specs.declared.held.HeldKey.{HeldKey}
-use Rattle.app_keys.specs.declared.held.KnownKey.{KnownKey}
-use Rattle.app_keys.specs.AppRows.{AreBound, HasAidWidth}
-use Rattle.app_keys.specs.Held.{app_of, derived, fitting, fitting_new, fitting_of, held_index, row_of, sent_of, value_sent, with_aid}
+use Rattle.layer_definitions.proofs.OrderLaws.{All-by_index}
+use Rattle.kept_keys.specs.declared.upper.BoundSchedule.{BoundSchedule}
+use Rattle.kept_keys.specs.Bound.{bound_key, bound_keys, fitting_keys}
+use Rattle.kept_keys.proofs.Fitting.{fitting-append}
+use Rattle.app_keys.specs.AppRows.{HasAidWidth}
+use Rattle.app_keys.specs.Held.{pair_of, sends_new}
 
--- one more row
-pub row_put : (rows : List AppKeyRow) (i : ℕ) (d : AppKeyRow) → i < length rows
-    → put_row held_index (derived (get_or rows i d)) (map derived (by_index app_index (take i rows))) ≡ map derived (by_index app_index (take (i + 1) rows))
-row_put rows i d l =
-    put_row-map derived app_index held_index (λ x. refl) (get_or rows i d) (by_index app_index (take i rows)) ∙ ap (λ x. map derived x) (sym (next_row app_index rows i d l))
+-- the values of one row more
+pub values_more : (rows : List AppKeyRow) (i : ℕ) (d : AppKeyRow) → i < length rows
+    → bound_keys (take i rows) ++ keys_of (bound_key (get_or rows i d).net (get_or rows i d).index) (get_or rows i d).key (get_or rows i d).next ≡ bound_keys (take (i + 1) rows)
+values_more rows i d l =
+    let values = λ (r : AppKeyRow). keys_of (bound_key r.net r.index) r.key r.next in
+    rw (take_more rows i d l, flat_map-append values (take i rows) (get_or rows i d ∷ []), append-nil (values (get_or rows i d))) refl
 
--- how many keys are held after so many rows
-pub held_count : (held : List HeldKey) (rows : List AppKeyRow) (i : ℕ) → held ≡ map derived (by_index app_index (take i rows)) → i ≤ length rows → length held ≡ i
-held_count held rows i e l =
-    ap (λ (x : List HeldKey). length x) e ∙ length-map (by_index app_index (take i rows)) derived ∙ length-by_index app_index (take i rows) ∙ length-take-le i rows l
-
--- the rows themselves
-one_again : (r : AppKeyRow) → row_of (derived r) ≡ r
-one_again r = either r.next
-  where
-    next : (o : Option (List ℕ)) → option_map (λ (k : KnownKey). k.key) (option_map with_aid o) ≡ o
-    next None = refl
-    next (Some k) = refl
-
-    either : (o : Option (List ℕ)) → row_of (derived r) ≡ r
-    either o = ap (λ n. record { net = r.net; index = r.index; key = r.key; next = n }) (next r.next)
-
-pub rows_again : (rows : List AppKeyRow) → map row_of (map derived rows) ≡ rows
-rows_again [] = refl
-rows_again (r ∷ rows) = ap (λ x. x ∷ map row_of (map derived rows)) (one_again r) ∙ ap (λ l. r ∷ l) (rows_again rows)
-
-pub held_again : (held : List HeldKey) (rows : List AppKeyRow) → held ≡ map derived rows → held ≡ map derived (map row_of held)
-held_again held rows e = rw e (ap (λ l. map derived l) (sym (rows_again rows)))
-
--- after all rows
-pub rows_held : (held : List HeldKey) (rows : List AppKeyRow) (i : ℕ) → held ≡ map derived (by_index app_index (take i rows)) → length rows ≤ i → map row_of held ≡ by_index app_index rows
-rows_held held rows i e l = ap (λ x. map row_of x) e ∙ rows_again (by_index app_index (take i rows)) ∙ ap (λ x. by_index app_index x) (take_all i rows l)
+-- one value more that is tried
+pub fitting_more : (net id : ℕ) (values : List BoundSchedule) (i : ℕ) (d : BoundSchedule) → i < length values
+    → fitting_keys net id (take i values) ++ fitting_keys net id (get_or values i d ∷ []) ≡ fitting_keys net id (take (i + 1) values)
+fitting_more net id values i d l = rw (take_more values i d l) (sym (fitting-append net id (take i values) (get_or values i d ∷ [])))
 
 pub stay_bound : (rows : List AppKeyRow) (nets : List NetKeyRow) → AreBound rows nets → AreBound (by_index app_index rows) nets
 stay_bound rows nets b = All-by_index (λ r. IsSome (net_row nets r.net)) app_index rows b
 
--- Which keys fit.
-
-fitting_values : (id index : ℕ) (key : List ℕ) (next : Option (List ℕ))
-    → fitting id index (with_aid key) ++ fitting_new id index (option_map with_aid next) ≡ map (app_key index) (filter (λ k. aid k == id) (keys_of (λ fresh k. k) key next))
-fitting_values id index key None = either (aid key == id)
-  where
-    either : (t : Bool) → (if t then app_of index (with_aid key) ∷ [] else []) ++ [] ≡ map (app_key index) (cond t (key ∷ []) [])
-    either true = refl
-    either false = refl
-fitting_values id index key (Some new) = either (aid key == id) (aid new == id)
-  where
-    either : (t u : Bool) → (if t then app_of index (with_aid key) ∷ [] else []) ++ (if u then app_of index (with_aid new) ∷ [] else [])
-        ≡ map (app_key index) (cond t (key ∷ cond u (new ∷ []) []) (cond u (new ∷ []) []))
-    either true true = refl
-    either true false = refl
-    either false true = refl
-    either false false = refl
+-- AIDs have 6 bits.
 
 abbrev values_of : ℕ → AppKeyRow → List UpperKey
 values_of id r = map (app_key r.index) (filter (λ key. aid key == id) (keys_of (λ fresh key. key) r.key r.next))
-
-all_fitting : (net id : ℕ) (rows : List AppKeyRow) → flat_map (fitting_of net id) (map derived rows) ≡ app_keys rows net id
-all_fitting net id [] = refl
-all_fitting net id (r ∷ rows) = either (all_fitting net id rows) (r.net == net)
-  where
-    either : flat_map (fitting_of net id) (map derived rows) ≡ app_keys rows net id → (t : Bool)
-        → (if t then fitting id r.index (with_aid r.key) ++ fitting_new id r.index (option_map with_aid r.next) else []) ++ flat_map (fitting_of net id) (map derived rows)
-        ≡ flat_map (values_of id) (cond t (r ∷ filter (λ x. x.net == net) rows) (filter (λ x. x.net == net) rows))
-    either next true =
-        ap (λ l. l ++ flat_map (fitting_of net id) (map derived rows)) (fitting_values id r.index r.key r.next) ∙ ap (λ l. values_of id r ++ l) next
-    either next false = next
-
--- one more key
-pub next_fitting : (net id : ℕ) (held : List HeldKey) (i : ℕ) (d : HeldKey) → i < length held
-    → flat_map (fitting_of net id) (take i held) ++ fitting_of net id (get_or held i d) ≡ flat_map (fitting_of net id) (take (i + 1) held)
-next_fitting net id held i d l =
-    rw (take_more held i d l, flat_map-append (fitting_of net id) (take i held) (get_or held i d ∷ []), append-nil (fitting_of net id (get_or held i d))) refl
-
--- the keys that fit of all that are held
-pub fitting_in : (net id : ℕ) (held : List HeldKey) (i : ℕ) (rows : List AppKeyRow) → held ≡ map derived (map row_of held) → map row_of held ≡ rows → length held ≤ i
-    → flat_map (fitting_of net id) (take i held) ≡ app_keys rows net id
-fitting_in net id held i rows e f l =
-    ap (λ x. flat_map (fitting_of net id) x) (take_all i held l ∙ e ∙ ap (λ x. map derived x) f) ∙ all_fitting net id rows
-
--- Their AIDs have 6 bits.
 
 both : (P : UpperKey → Type 0) (xs ys : List UpperKey) → ByRecursion P xs → ByRecursion P ys → ByRecursion P (xs ++ ys)
 both P [] ys a b = b
@@ -119,47 +58,127 @@ all_in_width rows net id = All-from_recursion HasAidWidth (app_keys rows net id)
 
 -- What is sent with.
 
-abbrev sent_with : List NetKeyRow → ℕ → AppKeyRow → Option (ℕ × UpperKey)
+first : (p : BoundSchedule → Bool) (x : BoundSchedule) (xs : List BoundSchedule) → p x ≡ true → find p (x ∷ xs) ≡ Some x
+first p x xs e = ap (λ t. cond t (Some x) (find p xs)) e
+
+passed : (p : BoundSchedule → Bool) (x : BoundSchedule) (xs : List BoundSchedule) → p x ≡ false → find p (x ∷ xs) ≡ find p xs
+passed p x xs e = ap (λ t. cond t (Some x) (find p xs)) e
+
+-- a row's values in front of others
+row_first : (p : BoundSchedule → Bool) (make : Bool → List ℕ → BoundSchedule) (key : List ℕ) (next : Option (List ℕ)) (rest : List BoundSchedule) → p (make false key) ≡ true
+    → find p (keys_of make key next ++ rest) ≡ Some (make false key)
+row_first p make key None rest e = first p (make false key) rest e
+row_first p make key (Some k) rest e = first p (make false key) (make true k ∷ rest) e
+
+row_passed : (p : BoundSchedule → Bool) (make : Bool → List ℕ → BoundSchedule) (key : List ℕ) (next : Option (List ℕ)) (rest : List BoundSchedule)
+    → ((fresh : Bool) (k : List ℕ) → p (make fresh k) ≡ false) → find p (keys_of make key next ++ rest) ≡ find p rest
+row_passed p make key None rest e = passed p (make false key) rest (e false key)
+row_passed p make key (Some k) rest e = passed p (make false key) (make true k ∷ rest) (e false key) ∙ passed p (make true k) rest (e true k)
+
+row_new : (p : BoundSchedule → Bool) (make : Bool → List ℕ → BoundSchedule) (key k : List ℕ) (rest : List BoundSchedule) → p (make false key) ≡ false → p (make true k) ≡ true
+    → find p (keys_of make key (Some k) ++ rest) ≡ Some (make true k)
+row_new p make key k rest e f = passed p (make false key) (make true k ∷ rest) e ∙ first p (make true k) rest f
+
+and_false : (t : Bool) → (t && false) ≡ false
+and_false true = refl
+and_false false = refl
+
+and_true : (t : Bool) → (t && true) ≡ t
+and_true true = refl
+and_true false = refl
+
+both_false : (t u : Bool) → t ≡ false → (t && u) ≡ false
+both_false t u e = ap (λ x. x && u) e
+
+abbrev Sent : Type 0
+Sent = ℕ × UpperKey
+
+abbrev is_of : ℕ → BoundSchedule → Bool
+is_of index b = b.index == index
+
+abbrev is_new_of : ℕ → BoundSchedule → Bool
+is_new_of index b = (b.index == index) && b.fresh
+
+abbrev old_value : ℕ → AppKeyRow → Sent
+old_value index r = (r.net, app_key index r.key)
+
+same_index : (index : ℕ) (r : AppKeyRow) → (r.index == index) ≡ true → r.index ≡ index
+same_index index r e = grind (arith, nat_tests)
+
+-- the first value of an index is the old one of its row
+old_found : (rows : List AppKeyRow) (index : ℕ) → option_map pair_of (find (is_of index) (bound_keys rows)) ≡ option_map (old_value index) (app_row rows index)
+old_found [] index = refl
+old_found (r ∷ rows) index = row (old_found rows index) (r.index == index) refl
+  where
+    row : option_map pair_of (find (is_of index) (bound_keys rows)) ≡ option_map (old_value index) (app_row rows index) → (t : Bool) → (r.index == index) ≡ t
+        → option_map pair_of (find (is_of index) (keys_of (bound_key r.net r.index) r.key r.next ++ bound_keys rows)) ≡ option_map (old_value index) (cond t (Some r) (app_row rows index))
+    row i true e =
+        ap (λ o. option_map pair_of o) (row_first (is_of index) (bound_key r.net r.index) r.key r.next (bound_keys rows) e)
+        ∙ ap (λ n. Some (old_value n r)) (same_index index r e)
+    row i false e = ap (λ o. option_map pair_of o) (row_passed (is_of index) (bound_key r.net r.index) r.key r.next (bound_keys rows) (λ fresh k. e)) ∙ i
+
+some_once : (a b : AppKeyRow) → Some a ≡ Some b → a ≡ b
+some_once a b e = cc
+
+abbrev new_value : ℕ → ℕ → List ℕ → Sent
+new_value index net k = (net, app_key index k)
+
+-- and the first new one is that of its row, if it has one
+new_found : (rows : List AppKeyRow) (index : ℕ) (r : AppKeyRow) (k : List ℕ) → app_row rows index ≡ Some r → r.next ≡ Some k
+    → option_map pair_of (find (is_new_of index) (bound_keys rows)) ≡ Some (new_value index r.net k)
+new_found [] index r k e n = absurd (cc)
+new_found (x ∷ rows) index r k e n = row (λ f. new_found rows index r k f n) (x.index == index) refl e
+  where
+    row : (app_row rows index ≡ Some r → option_map pair_of (find (is_new_of index) (bound_keys rows)) ≡ Some (new_value index r.net k)) → (t : Bool) → (x.index == index) ≡ t
+        → cond t (Some x) (app_row rows index) ≡ Some r
+        → option_map pair_of (find (is_new_of index) (keys_of (bound_key x.net x.index) x.key x.next ++ bound_keys rows)) ≡ Some (new_value index r.net k)
+    row i true t f =
+        let same = some_once x r f in
+        let next : x.next ≡ Some k = ap (λ (y : AppKeyRow). y.next) same ∙ n in
+        ap (λ o. option_map pair_of (find (is_new_of index) (keys_of (bound_key x.net x.index) x.key o ++ bound_keys rows))) next
+        ∙ ap (λ o. option_map pair_of o) (row_new (is_new_of index) (bound_key x.net x.index) x.key k (bound_keys rows) (and_false (x.index == index)) (and_true (x.index == index) ∙ t))
+        ∙ ap (λ j. Some (new_value j x.net k)) (same_index index x t)
+        ∙ ap (λ (y : AppKeyRow). Some (new_value index y.net k)) same
+    row i false t f =
+        ap (λ o. option_map pair_of o) (row_passed (is_new_of index) (bound_key x.net x.index) x.key x.next (bound_keys rows) (λ fresh y. both_false (x.index == index) fresh t)) ∙ i f
+
+old_key : (r : AppKeyRow) (net : NetKeyRow) → sends_new r net ≡ false → transmit_value r net ≡ r.key
+old_key r net e = either (net.phase == 2) r.next e
+  where
+    either : (t : Bool) (next : Option (List ℕ)) → (t && is_some next) ≡ false → (if t then unwrap_or next r.key else r.key) ≡ r.key
+    either true None e = refl
+    either true (Some k) e = absurd (cc)
+    either false next e = refl
+
+new_key : (r : AppKeyRow) (net : NetKeyRow) → sends_new r net ≡ true → (k : List ℕ) × (r.next ≡ Some k) × (transmit_value r net ≡ k)
+new_key r net e = either (net.phase == 2) r.next e
+  where
+    either : (t : Bool) (next : Option (List ℕ)) → (t && is_some next) ≡ true → (k : List ℕ) × (next ≡ Some k) × ((if t then unwrap_or next r.key else r.key) ≡ k)
+    either true None e = absurd (cc)
+    either true (Some k) e = (k, refl, refl)
+    either false next e = absurd (cc)
+
+-- what is sent with under a row and its network key
+abbrev sent_with : List NetKeyRow → ℕ → AppKeyRow → Option Sent
 sent_with nets index r = option_map (λ net. (r.net, app_key index (transmit_value r net))) (net_row nets r.net)
 
-one_value : (r : AppKeyRow) (net : NetKeyRow) → value_sent (derived r) net ≡ with_aid (transmit_value r net)
-one_value r net = phase (net.phase == 2)
-  where
-    new : (next : Option (List ℕ)) → unwrap_or (option_map with_aid next) (with_aid r.key) ≡ with_aid (unwrap_or next r.key)
-    new None = refl
-    new (Some k) = refl
+sent_of : (rows : List AppKeyRow) (nets : List NetKeyRow) (index : ℕ) (r : AppKeyRow) (net : NetKeyRow) (k : List ℕ) → app_row rows index ≡ Some r
+    → net_row nets r.net ≡ Some net → transmit_value r net ≡ k → Some (new_value index r.net k) ≡ transmit_app rows nets index
+sent_of rows nets index r net k e f t =
+    ap (λ key. Some (new_value index r.net key)) (sym t)
+    ∙ sym (ap (λ o. option_map {U = Sent} (λ n. (r.net, app_key index (transmit_value r n))) o) f)
+    ∙ sym (ap (λ o. option_and_then (sent_with nets index) o) e)
 
-    phase : (t : Bool) → (if t then unwrap_or (option_map with_aid r.next) (with_aid r.key) else with_aid r.key) ≡ with_aid (if t then unwrap_or r.next r.key else r.key)
-    phase true = new r.next
-    phase false = refl
+pub sent_old : (rows : List AppKeyRow) (nets : List NetKeyRow) (index : ℕ) (r : AppKeyRow) (net : NetKeyRow) → app_row rows index ≡ Some r → net_row nets r.net ≡ Some net
+    → sends_new r net ≡ false → option_map pair_of (find (is_of index) (bound_keys rows)) ≡ transmit_app rows nets index
+sent_old rows nets index r net e f old =
+    old_found rows index ∙ ap (λ o. option_map (old_value index) o) e ∙ sent_of rows nets index r net r.key e f (old_key r net old)
 
-one_sent : (nets : List NetKeyRow) (r : AppKeyRow) → sent_of nets (derived r) ≡ sent_with nets r.index r
-one_sent nets r = either (net_row nets r.net)
-  where
-    made : KnownKey → Option (ℕ × UpperKey)
-    made v = let pair : ℕ × UpperKey = (r.net, app_of r.index v) in Some pair
-
-    either : (o : Option NetKeyRow)
-        → option_map {U = ℕ × UpperKey} (λ net. (r.net, app_of r.index (value_sent (derived r) net))) o ≡ option_map {U = ℕ × UpperKey} (λ net. (r.net, app_key r.index (transmit_value r net))) o
-    either None = refl
-    either (Some n) = ap made (one_value r n)
-
-all_sent : (nets : List NetKeyRow) (rows : List AppKeyRow) (index : ℕ)
-    → option_and_then (sent_of nets) (find (λ (h : HeldKey). h.index == index) (map derived rows)) ≡ transmit_app rows nets index
-all_sent nets [] index = refl
-all_sent nets (r ∷ rows) index = either (all_sent nets rows index) (r.index == index) refl
-  where
-    either : option_and_then (sent_of nets) (find (λ (h : HeldKey). h.index == index) (map derived rows)) ≡ transmit_app rows nets index → (t : Bool) → (r.index == index) ≡ t
-        → option_and_then (sent_of nets) (cond t (Some (derived r)) (find (λ (h : HeldKey). h.index == index) (map derived rows)))
-        ≡ option_and_then (sent_with nets index) (cond t (Some r) (app_row rows index))
-    either next true e = let same : r.index ≡ index = grind (arith, nat_tests) in one_sent nets r ∙ ap (λ i. sent_with nets i r) same
-    either next false e = next
-
--- what is sent with under the keys that are held
-pub sent_in : (nets : List NetKeyRow) (held : List HeldKey) (rows : List AppKeyRow) (index : ℕ) → held ≡ map derived (map row_of held) → map row_of held ≡ rows
-    → option_and_then (sent_of nets) (find (λ (h : HeldKey). h.index == index) held) ≡ transmit_app rows nets index
-sent_in nets held rows index e f =
-    ap (λ x. option_and_then (sent_of nets) (find (λ (h : HeldKey). h.index == index) x)) (e ∙ ap (λ x. map derived x) f) ∙ all_sent nets rows index
+pub sent_new : (rows : List AppKeyRow) (nets : List NetKeyRow) (index : ℕ) (r : AppKeyRow) (net : NetKeyRow) → app_row rows index ≡ Some r → net_row nets r.net ≡ Some net
+    → sends_new r net ≡ true → option_map pair_of (find (is_new_of index) (bound_keys rows)) ≡ transmit_app rows nets index
+sent_new rows nets index r net e f new =
+    let k = new_key r net new in
+    new_found rows index r k.0 e k.1 ∙ sent_of rows nets index r net k.0 e f k.2
 
 pub sent_in_width : (rows : List AppKeyRow) (nets : List NetKeyRow) (index : ℕ) → IfSome {T = ℕ × UpperKey} (transmit_app rows nets index) (λ sent. HasAidWidth sent.1)
 sent_in_width rows nets index = row (app_row rows index)

@@ -1,107 +1,133 @@
-//! An application key as it is held: its values, each with its AID.
+//! The values of application keys, with their AIDs and schedules, in the order in which they are tried.
 #![tactic(auto)]
 
-ghost use Rattle.std.specs.Prelude.{◌≡◌, ◌+◌, ◌≤◌, ◌<◌, ◌++◌, length};
-ghost use Rattle.app_keys.specs.Held.{app_of, derived, fitting, fitting_of, value_sent, with_aid};
+ghost use Rattle.std.specs.Prelude.{◌≡◌, ℕ, ◌+◌, ◌*◌, ◌≤◌, ◌<◌, ◌==◌, ◌&&◌, [], ◌∷◌, ◌++◌, length};
+ghost use Rattle.std.specs.List.{find};
+ghost use Rattle.std.specs.Option.{option_copied, option_map};
+ghost use Rattle.arrayvec.specs.ArrayVec.{array_vec_len};
+ghost use Rattle.mesh_base.specs.declared.keys.UpperKey.{UpperKey};
+ghost use Rattle.layer_definitions.specs.KeyRefresh.{app_key, app_row, keys_of, net_row, transmit_app};
+ghost use Rattle.kept_keys.specs.Bound.{bound_key, bound_keys, fitting_keys};
+ghost use Rattle.kept_keys.specs.declared.upper.BoundSchedule.{BoundSchedule as Bound};
+ghost use Rattle.app_keys.specs.Held.{pair_of, sends_new};
 
+use arrayvec::ArrayVec;
+use kept_keys::{BoundSchedule, UpperSchedule};
 use mesh_base::keys::{AppKeyRow, NetKeyRow, UpperKey};
 use mesh_base::table::UpperKeys;
 use mesh_kdf::k4;
 
-/// A value of an application key with its AID.
-#[derive(Clone, Copy, Debug, Default, PartialEq, Eq)]
-pub(crate) struct KnownKey {
-    /// The AID, 6 bits.
-    pub(crate) aid: u8,
-    /// The key.
-    pub(crate) key: [u8; 16],
-}
-
-/// An application key.
-#[derive(Clone, Copy, Debug, Default, PartialEq, Eq)]
-pub(crate) struct HeldKey {
-    /// The index of the network key that it is bound to.
-    pub(crate) net: u16,
-    /// Its index.
-    pub(crate) index: u16,
-    /// Its value.
-    pub(crate) old: KnownKey,
-    /// Its new value, while the network key is refreshed.
-    pub(crate) new: Option<KnownKey>,
-}
-
-// A key with its AID (section 3.8.6.2).
+// An application key with its AID (section 3.8.6.2).
 #[tactic(auto, unfolding(cipher_definitions::specs::Kdf::aid))]
-fn known(key: &[u8; 16]) -> KnownKey
-    ensures { result ≡ with_aid key.now }
+fn app(index: u16, key: &[u8; 16]) -> UpperKey
+    ensures { result ≡ app_key index key.now }
 {
-    KnownKey {
+    UpperKey::App {
+        index,
         aid: k4(key),
         key: *key,
     }
 }
 
-/// A row's values with their AIDs.
-pub(crate) fn hold(row: &AppKeyRow) -> HeldKey
-    ensures value { result ≡ derived row.now }
+// A value of a row, with its schedule.
+fn kept(row: &AppKeyRow, fresh: bool, key: &[u8; 16]) -> BoundSchedule
+    ensures value { result ≡ bound_key row.now.net row.now.index fresh key.now }
 {
-    let new = match &row.next {
-        Some(next) => Some(known(next)),
-        None => None,
-    };
-    HeldKey {
+    BoundSchedule {
         net: row.net,
         index: row.index,
-        old: known(&row.key),
-        new,
+        fresh,
+        key: UpperSchedule::new(&app(row.index, key)),
     }
 }
 
-// The key of a value.
-fn app(index: u16, value: &KnownKey) -> UpperKey
-    ensures { result ≡ app_of index value.now }
+// Puts the values of a row behind the others, the old one before the new.
+fn add_values(bound: &mut ArrayVec<BoundSchedule, 16>, row: &AppKeyRow)
+    requires room { array_vec_len bound.old + 2 ≤ 16 }
+    ensures value { bound.new.items ≡ bound.old.items ++ keys_of (bound_key row.now.net row.now.index) row.now.key row.now.next }
+    ensures length { array_vec_len bound.new ≤ array_vec_len bound.old + 2 }
 {
-    UpperKey::App {
-        index,
-        aid: value.aid,
-        key: value.key,
+    bound.push(kept(row, false, &row.key));
+    if let Some(next) = &row.next {
+        bound.push(kept(row, true, next));
     }
 }
 
-/// What is sent with: the new value, if there is one, where the network key is in phase 2, and else the old one.
-pub(crate) fn key_sent(held: &HeldKey, net: &NetKeyRow) -> UpperKey
-    ensures value { result ≡ app_of held.now.index (value_sent held.now net.now) }
+/// The values of these rows.
+pub(crate) fn keep(rows: &[AppKeyRow]) -> ArrayVec<BoundSchedule, 16>
+    requires room { length rows.now ≤ 8 }
+    ensures value { result.items ≡ bound_keys rows.now }
 {
-    let value = if net.phase == 2 {
-        held.new.unwrap_or(held.old)
-    } else {
-        held.old
-    };
-    app(held.index, &value)
+    let mut bound = ArrayVec::new();
+    for row in rows {
+        add_values(&mut bound, row);
+    }
+    bound
 }
 
-// Puts a value behind the others, if it has this AID.
-fn add(list: &mut UpperKeys, aid: u8, index: u16, value: &KnownKey)
+/// Puts a value behind the others, if it is bound to this network key and has this AID.
+pub(crate) fn add(list: &mut UpperKeys, net: u16, aid: u8, value: &BoundSchedule)
     requires room { length list.old < 16 }
-    ensures value { list.new ≡ list.old ++ fitting aid index value.now }
+    ensures value { list.new ≡ list.old ++ fitting_keys net aid (value.now ∷ []) }
     ensures length { length list.new ≤ length list.old + 1 }
 {
-    if value.aid == aid {
-        let _ = list.push(app(index, value));
+    if value.fits(net, aid) {
+        let _ = list.push(value.key.key());
     }
 }
 
-/// Puts the values of a key that is bound to this network key and have this AID behind the others, the old one before the new.
-pub(crate) fn add_held(list: &mut UpperKeys, net: u16, aid: u8, held: &HeldKey)
-    requires room { length list.old + 2 ≤ 16 }
-    ensures value { list.new ≡ list.old ++ fitting_of net aid held.now }
-    ensures length { length list.new ≤ length list.old + 2 }
+// The row of this application key index.
+fn row_at(rows: &[AppKeyRow], index: u16) -> Option<&AppKeyRow>
+    ensures { option_copied result ≡ app_row rows.now index }
 {
-    if held.net != net {
-        return;
-    }
-    add(list, aid, held.index, &held.old);
-    if let Some(new) = &held.new {
-        add(list, aid, held.index, new);
+    rows.iter().find(|row| row.index == index)
+}
+
+// The row of this network key index.
+fn net_at(nets: &[NetKeyRow], index: u16) -> Option<&NetKeyRow>
+    ensures { option_copied result ≡ net_row nets.now index }
+{
+    nets.iter().find(|net| net.index == index)
+}
+
+// Whether what is sent goes under the new value: where the network key is in phase 2.
+fn sends_new(row: &AppKeyRow, net: &NetKeyRow) -> bool
+    ensures { result ≡ sends_new row.now net.now }
+{
+    net.phase == 2 && row.next.is_some()
+}
+
+// The first value of this index.
+fn old_at(bound: &[BoundSchedule], index: u16) -> Option<&BoundSchedule>
+    ensures { option_copied result ≡ find (λ (b : Bound). b.index == index) bound.now }
+{
+    bound.iter().find(|value| value.index == index)
+}
+
+// The first new value of this index.
+fn new_at(bound: &[BoundSchedule], index: u16) -> Option<&BoundSchedule>
+    ensures { option_copied result ≡ find (λ (b : Bound). (b.index == index) && b.fresh) bound.now }
+{
+    bound
+        .iter()
+        .find(|value| value.index == index && value.fresh)
+}
+
+/// The value that an application key index is sent with: that of its row, the new one where its network key is in phase 2.
+pub(crate) fn sent_under<'a>(
+    rows: &[AppKeyRow],
+    nets: &[NetKeyRow],
+    bound: &'a [BoundSchedule],
+    index: u16,
+) -> Option<&'a BoundSchedule>
+    requires { bound.now ≡ bound_keys rows.now }
+    ensures value { option_map pair_of (option_copied result) ≡ transmit_app rows.now nets.now index }
+{
+    let row = row_at(rows, index)?;
+    let net = net_at(nets, row.net)?;
+    if sends_new(row, net) {
+        new_at(bound, index)
+    } else {
+        old_at(bound, index)
     }
 }

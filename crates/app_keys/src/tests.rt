@@ -82,6 +82,8 @@ fn phases(rt: HostRuntime) {
     ];
     let keys = AppKeys::derive(&rows, &nets);
 
+    assert!(rt; keys.values().len() == 8);
+    assert!(rt; keys.values()[3].fits(7, 0x38) && !keys.values()[3].fits(7, 0x26));
     let under_7 = [
         app(0, 0x26, ALIKE),
         app(2, 0x26, KEY),
@@ -108,6 +110,10 @@ fn phases(rt: HostRuntime) {
         (3, None),
     ] {
         assert!(rt; keys.transmit(index) == sent, "index {index}");
+        let lent = keys
+            .sealing(index)
+            .map(|value| (value.net, value.key.key()));
+        assert!(rt; lent == sent, "index {index}");
     }
     assert!(rt; AppKeys::derive(&[], &[]).transmit(0).is_none(), "no row");
 }

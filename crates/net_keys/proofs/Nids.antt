@@ -1,7 +1,8 @@
 -- A key reads no PDU of another NID.
-use Rattle.std.proofs.Common.{◌≡◌, ℕ, zero, suc, ◌+◌, ◌*◌, ◌%◌, ◌^◌, ◌<◌, Bool, true, false, cond, List, [], ◌∷◌, Some, slice_get, get_or, refl, sym, ap, subst, arith}
+use Rattle.std.proofs.Common.{◌≡◌, ℕ, zero, suc, ◌+◌, ◌*◌, ◌%◌, ◌^◌, ◌<◌, Bool, true, false, cond, List, [], ◌∷◌, ◌++◌, Some, slice_get, get_or, refl, sym, ap, subst, arith}
 use Rattle.std.specs.Prelude.{◌==◌, filter}
 use Rattle.std.specs.List.{AllByRecursion as ByRecursion}
+use Rattle.std.proofs.lemmas.List.Elements.{filter-append, recursion_from_All}
 use Rattle.std.proofs.lemmas.Bool.Decides.{nat_tests}
 use Rattle.mesh_base.specs.declared.fields.Heard.{Heard}
 use Rattle.mesh_base.specs.declared.fields.NetFields.{NetFields}
@@ -10,8 +11,8 @@ use Rattle.mesh_base.specs.declared.keys.NetKeyRow.{NetKeyRow}
 use Rattle.layer_definitions.specs.KeyRefresh.{heard_keys}
 use Rattle.layer_definitions.specs.Network.{IsUnread, net_text, Reads, ReadsUnder}
 use Rattle.layer_definitions.proofs.KeyLaws.{nid_width}
-use Rattle.net_keys.specs.Laws.{CandidatesRead, OthersDoNotRead}
-use Rattle.net_keys.proofs.Rows.{of_rows}
+use Rattle.net_keys.specs.Laws.{CandidatesRead, HaveNidWidth, OthersDoNotRead}
+use Rattle.net_keys.proofs.Rows.{both, of_rows}
 
 low_bits : (a n : ℕ) → n < 2 ^ 7 → (a * 2 ^ 7 + n) % 2 ^ 7 ≡ n
 low_bits a n l = omega (arith, l)
@@ -68,13 +69,19 @@ read_by_all (x ∷ ks) current o f place by (l, w) r = either (λ p q. read_by_a
         behind x ks current o f by (λ g s. q.first zero x g (omega arith) refl s) (next p (record { key = q.key; reads = q.reads; first = λ k h g l e s. q.first (suc k) h g (omega arith) e s }))
     either next false t p q = behind x ks current o f by (λ g s. let yes = reads_by_nid x current o g l s in absurd (cc)) (next p q)
 
-widths : (rows : List NetKeyRow) → ByRecursion HasWidth (heard_keys rows)
-widths rows = of_rows HasWidth (λ index fresh key. nid_width key) rows
+widths : (rows : List NetKeyRow) (more : List Heard) → HaveNidWidth more → ByRecursion HasWidth (heard_keys rows ++ more)
+widths rows more w = both HasWidth (heard_keys rows) more (of_rows HasWidth (λ index fresh key. nid_width key) rows) (recursion_from_All HasWidth more w)
+
+apart : (octets : List ℕ) (keys more : List Heard) → filter (has_nid octets) keys ++ filter (has_nid octets) more ≡ filter (has_nid octets) (keys ++ more)
+apart octets keys more = sym (filter-append (has_nid octets) keys more)
 
 pub candidates_read : CandidatesRead
 unfolding has_nid
-candidates_read rows current octets f place by r = read_by_all (heard_keys rows) current octets f place by (widths rows) r
+candidates_read rows more w current octets f place by r =
+    read_by_all (heard_keys rows ++ more) current octets f place by (widths rows more w)
+    (subst (λ ks. Reads ks current octets f place by) (apart octets (heard_keys rows) more) r)
 
 pub others_do_not_read : OthersDoNotRead
 unfolding has_nid
-others_do_not_read rows current octets u = unread_by_all (heard_keys rows) current octets (widths rows) u
+others_do_not_read rows more w current octets u =
+    unread_by_all (heard_keys rows ++ more) current octets (widths rows more w) (subst (λ ks. IsUnread ks current octets) (apart octets (heard_keys rows) more) u)

@@ -1,86 +1,137 @@
--- Rows with the material of their keys.
-use Rattle.std.proofs.Common.{◌≡◌, ℕ, ◌+◌, ◌<◌, ◌≤◌, ◌^◌, Bool, true, false, cond, List, [], ◌∷◌, ◌++◌, length, take, get_or, map, Option, Some, None, refl, sym, ap, ◌∙◌, arith, append-nil}
-use Rattle.std.specs.Prelude.{◌==◌, ◌↔◌, ◌≢◌, if◌then◌else◌, unwrap_or, is_some, IsNone, IfSome, filter, All}
-use Rattle.std.specs.List.{AllByRecursion as ByRecursion, find, flat_map}
+-- What is heard and sent under the keys of rows.
+use Rattle.std.proofs.Common.{◌≡◌, ℕ, ◌+◌, ◌<◌, ◌^◌, Bool, true, false, cond, List, [], ◌∷◌, ◌++◌, length, take, get_or, Option, Some, None, refl, sym, ap, ◌∙◌, arith, append-nil}
+use Rattle.std.specs.Prelude.{◌==◌, ◌&&◌, ◌↔◌, ◌≢◌, if◌then◌else◌, unwrap_or, is_some, IsNone, IfSome, filter, All}
+use Rattle.std.specs.List.{AllByRecursion as ByRecursion, find}
 use Rattle.std.specs.Option.{option_map}
-use Rattle.std.proofs.lemmas.List.{length-map, length-take-le, take_all, take_more}
+use Rattle.std.proofs.lemmas.List.{take_more}
 use Rattle.std.proofs.lemmas.Grind.{flat_map-append}
 use Rattle.std.proofs.lemmas.List.Elements.{All-filter, All-from_recursion, filter-append, recursion_from_All}
 use Rattle.std.proofs.lemmas.Bool.Decides.{nat_tests}
 use Rattle.mesh_base.specs.declared.fields.Heard.{Heard}
+use Rattle.mesh_base.specs.declared.fields.NetMaterial.{NetMaterial}
 use Rattle.mesh_base.specs.declared.keys.NetKeyRow.{NetKeyRow}
 use Rattle.layer_definitions.specs.KeyRefresh.{heard_key, heard_keys, keys_of, master_material, net_index, net_row, transmit_key, transmit_material}
-use Rattle.layer_definitions.specs.Order.{by_index, LacksIndex, put_row}
+use Rattle.layer_definitions.specs.Order.{LacksIndex}
 use Rattle.layer_definitions.proofs.KeyLaws.{nid_width}
-use Rattle.layer_definitions.proofs.OrderLaws.{length-by_index, next_row, put_row-map}
-use Rattle.net_keys.specs.declared.held.HeldKey.{HeldKey}
-use Rattle.net_keys.specs.Held.{derived, heard_new, heard_of, held_index, material_of, row_of}
+use Rattle.net_keys.specs.Held.{sends_new}
 
--- one more row
-pub row_put : (rows : List NetKeyRow) (i : ℕ) (d : NetKeyRow) → i < length rows
-    → put_row held_index (derived (get_or rows i d)) (map derived (by_index net_index (take i rows))) ≡ map derived (by_index net_index (take (i + 1) rows))
-row_put rows i d l =
-    put_row-map derived net_index held_index (λ x. refl) (get_or rows i d) (by_index net_index (take i rows)) ∙ ap (map derived) (sym (next_row net_index rows i d l))
+-- the keys of one row more
+pub keys_more : (rows : List NetKeyRow) (i : ℕ) (d : NetKeyRow) → i < length rows
+    → heard_keys (take i rows) ++ keys_of (heard_key (get_or rows i d).index) (get_or rows i d).key (get_or rows i d).next ≡ heard_keys (take (i + 1) rows)
+keys_more rows i d l =
+    let keys = λ (r : NetKeyRow). keys_of (heard_key r.index) r.key r.next in
+    rw (take_more rows i d l, flat_map-append keys (take i rows) (get_or rows i d ∷ []), append-nil (keys (get_or rows i d))) refl
 
--- how many keys are held after so many rows
-pub held_count : (held : List HeldKey) (rows : List NetKeyRow) (i : ℕ) → held ≡ map derived (by_index net_index (take i rows)) → i ≤ length rows → length held ≡ i
-held_count held rows i e l =
-    ap (λ (x : List HeldKey). length x) e ∙ length-map (by_index net_index (take i rows)) derived ∙ length-by_index net_index (take i rows) ∙ length-take-le i rows l
+-- one key more that is tried
+pub filter_more : (p : Heard → Bool) (keys : List Heard) (i : ℕ) (d : Heard) → i < length keys
+    → filter p (take i keys) ++ filter p (get_or keys i d ∷ []) ≡ filter p (take (i + 1) keys)
+filter_more p keys i d l = rw (take_more keys i d l) (sym (filter-append p (take i keys) (get_or keys i d ∷ [])))
 
--- the rows themselves
-pub rows_again : (rows : List NetKeyRow) → map row_of (map derived rows) ≡ rows
-rows_again [] = refl
-rows_again (r ∷ rows) = ap (λ l. r ∷ l) (rows_again rows)
+-- Under which key is sent.
 
-pub held_again : (held : List HeldKey) (rows : List NetKeyRow) → held ≡ map derived rows → held ≡ map derived (map row_of held)
-held_again held rows e = rw e (ap (λ l. map derived l) (sym (rows_again rows)))
+abbrev material : Heard → NetMaterial
+material h = h.material
 
--- after all rows
-pub rows_held : (held : List HeldKey) (rows : List NetKeyRow) (i : ℕ) → held ≡ map derived (by_index net_index (take i rows)) → length rows ≤ i → map row_of held ≡ by_index net_index rows
-rows_held held rows i e l = ap (λ x. map row_of x) e ∙ rows_again (by_index net_index (take i rows)) ∙ ap (λ x. by_index net_index x) (take_all i rows l)
+abbrev is_of : ℕ → Heard → Bool
+is_of index h = h.index == index
 
--- What is heard.
+abbrev is_new_of : ℕ → Heard → Bool
+is_new_of index h = (h.index == index) && h.fresh
 
-one_heard : (r : NetKeyRow) → heard_of (derived r) ≡ keys_of (heard_key r.index) r.key r.next
-one_heard r = either r.next
+first : (p : Heard → Bool) (x : Heard) (xs : List Heard) → p x ≡ true → find p (x ∷ xs) ≡ Some x
+first p x xs e = ap (λ t. cond t (Some x) (find p xs)) e
+
+passed : (p : Heard → Bool) (x : Heard) (xs : List Heard) → p x ≡ false → find p (x ∷ xs) ≡ find p xs
+passed p x xs e = ap (λ t. cond t (Some x) (find p xs)) e
+
+-- a row's keys in front of others
+row_first : (p : Heard → Bool) (make : Bool → List ℕ → Heard) (key : List ℕ) (next : Option (List ℕ)) (rest : List Heard) → p (make false key) ≡ true
+    → find p (keys_of make key next ++ rest) ≡ Some (make false key)
+row_first p make key None rest e = first p (make false key) rest e
+row_first p make key (Some k) rest e = first p (make false key) (make true k ∷ rest) e
+
+row_passed : (p : Heard → Bool) (make : Bool → List ℕ → Heard) (key : List ℕ) (next : Option (List ℕ)) (rest : List Heard)
+    → ((fresh : Bool) (k : List ℕ) → p (make fresh k) ≡ false) → find p (keys_of make key next ++ rest) ≡ find p rest
+row_passed p make key None rest e = passed p (make false key) rest (e false key)
+row_passed p make key (Some k) rest e = passed p (make false key) (make true k ∷ rest) (e false key) ∙ passed p (make true k) rest (e true k)
+
+row_new : (p : Heard → Bool) (make : Bool → List ℕ → Heard) (key k : List ℕ) (rest : List Heard) → p (make false key) ≡ false → p (make true k) ≡ true
+    → find p (keys_of make key (Some k) ++ rest) ≡ Some (make true k)
+row_new p make key k rest e f = passed p (make false key) (make true k ∷ rest) e ∙ first p (make true k) rest f
+
+and_false : (t : Bool) → (t && false) ≡ false
+and_false true = refl
+and_false false = refl
+
+and_true : (t : Bool) → (t && true) ≡ t
+and_true true = refl
+and_true false = refl
+
+both_false : (t u : Bool) → t ≡ false → (t && u) ≡ false
+both_false t u e = ap (λ x. x && u) e
+
+-- the first key of an index is the old one of its row
+old_found : (rows : List NetKeyRow) (index : ℕ) → option_map material (find (is_of index) (heard_keys rows)) ≡ option_map (λ r. master_material r.key) (net_row rows index)
+old_found [] index = refl
+old_found (r ∷ rows) index = row (old_found rows index) (r.index == index) refl
   where
-    either : (next : Option (List ℕ)) → heard_key r.index false r.key ∷ heard_new r.index (option_map master_material next) ≡ keys_of (heard_key r.index) r.key next
-    either None = refl
-    either (Some k) = refl
+    row : option_map material (find (is_of index) (heard_keys rows)) ≡ option_map (λ x. master_material x.key) (net_row rows index) → (t : Bool) → (r.index == index) ≡ t
+        → option_map material (find (is_of index) (keys_of (heard_key r.index) r.key r.next ++ heard_keys rows)) ≡ option_map (λ x. master_material x.key) (cond t (Some r) (net_row rows index))
+    row i true e = ap (λ o. option_map material o) (row_first (is_of index) (heard_key r.index) r.key r.next (heard_keys rows) e)
+    row i false e = ap (λ o. option_map material o) (row_passed (is_of index) (heard_key r.index) r.key r.next (heard_keys rows) (λ fresh k. e)) ∙ i
 
-pub all_heard : (rows : List NetKeyRow) → flat_map heard_of (map derived rows) ≡ heard_keys rows
-all_heard [] = refl
-all_heard (r ∷ rows) = ap (λ l. l ++ flat_map heard_of (map derived rows)) (one_heard r) ∙ ap (λ l. keys_of (heard_key r.index) r.key r.next ++ l) (all_heard rows)
+some_once : (a b : NetKeyRow) → Some a ≡ Some b → a ≡ b
+some_once a b e = cc
 
--- one more key
-pub next_heard : (p : Heard → Bool) (held : List HeldKey) (i : ℕ) (d : HeldKey) → i < length held
-    → filter p (flat_map heard_of (take i held)) ++ filter p (heard_of (get_or held i d)) ≡ filter p (flat_map heard_of (take (i + 1) held))
-next_heard p held i d l =
-    rw (take_more held i d l, flat_map-append heard_of (take i held) (get_or held i d ∷ []), append-nil (heard_of (get_or held i d)))
-    (sym (filter-append p (flat_map heard_of (take i held)) (heard_of (get_or held i d))))
-
--- What is sent.
-
-one_sent : (r : NetKeyRow) → material_of (derived r) ≡ master_material (transmit_key r)
-one_sent r = phase (r.phase == 2)
+-- and the first new one is that of its row, if it has one
+new_found : (rows : List NetKeyRow) (index : ℕ) (r : NetKeyRow) (k : List ℕ) → net_row rows index ≡ Some r → r.next ≡ Some k
+    → option_map material (find (is_new_of index) (heard_keys rows)) ≡ Some (master_material k)
+new_found [] index r k e n = absurd (cc)
+new_found (x ∷ rows) index r k e n = row (λ f. new_found rows index r k f n) (x.index == index) refl e
   where
-    new : (next : Option (List ℕ)) → unwrap_or (option_map master_material next) (master_material r.key) ≡ master_material (unwrap_or next r.key)
-    new None = refl
-    new (Some k) = refl
+    row : (net_row rows index ≡ Some r → option_map material (find (is_new_of index) (heard_keys rows)) ≡ Some (master_material k)) → (t : Bool) → (x.index == index) ≡ t
+        → cond t (Some x) (net_row rows index) ≡ Some r
+        → option_map material (find (is_new_of index) (keys_of (heard_key x.index) x.key x.next ++ heard_keys rows)) ≡ Some (master_material k)
+    row i true t f =
+        let next : x.next ≡ Some k = ap (λ (y : NetKeyRow). y.next) (some_once x r f) ∙ n in
+        ap (λ o. option_map material (find (is_new_of index) (keys_of (heard_key x.index) x.key o ++ heard_keys rows))) next
+        ∙ ap (λ o. option_map material o) (row_new (is_new_of index) (heard_key x.index) x.key k (heard_keys rows) (and_false (x.index == index)) (and_true (x.index == index) ∙ t))
+    row i false t f =
+        ap (λ o. option_map material o) (row_passed (is_new_of index) (heard_key x.index) x.key x.next (heard_keys rows) (λ fresh y. both_false (x.index == index) fresh t)) ∙ i f
 
-    phase : (t : Bool) → (if t then unwrap_or (option_map master_material r.next) (master_material r.key) else master_material r.key) ≡ master_material (if t then unwrap_or r.next r.key else r.key)
-    phase true = new r.next
-    phase false = refl
-
-pub all_sent : (rows : List NetKeyRow) (index : ℕ)
-    → option_map material_of (find (λ (h : HeldKey). h.row.index == index) (map derived rows)) ≡ transmit_material rows index
-all_sent [] index = refl
-all_sent (r ∷ rows) index = either (all_sent rows index) (r.index == index)
+old_key : (r : NetKeyRow) → sends_new r ≡ false → transmit_key r ≡ r.key
+old_key r e = either (r.phase == 2) r.next e
   where
-    either : option_map material_of (find (λ (h : HeldKey). h.row.index == index) (map derived rows)) ≡ transmit_material rows index → (t : Bool)
-        → option_map material_of (cond t (Some (derived r)) (find (λ (h : HeldKey). h.row.index == index) (map derived rows))) ≡ option_map (λ x. master_material (transmit_key x)) (cond t (Some r) (net_row rows index))
-    either next true = ap Some (one_sent r)
-    either next false = next
+    either : (t : Bool) (next : Option (List ℕ)) → (t && is_some next) ≡ false → (if t then unwrap_or next r.key else r.key) ≡ r.key
+    either true None e = refl
+    either true (Some k) e = absurd (cc)
+    either false next e = refl
+
+new_key : (r : NetKeyRow) → sends_new r ≡ true → (k : List ℕ) × (r.next ≡ Some k) × (transmit_key r ≡ k)
+new_key r e = either (r.phase == 2) r.next e
+  where
+    either : (t : Bool) (next : Option (List ℕ)) → (t && is_some next) ≡ true → (k : List ℕ) × (next ≡ Some k) × ((if t then unwrap_or next r.key else r.key) ≡ k)
+    either true None e = absurd (cc)
+    either true (Some k) e = (k, refl, refl)
+    either false next e = absurd (cc)
+
+sent_of : (rows : List NetKeyRow) (index : ℕ) (r : NetKeyRow) (k : List ℕ) → net_row rows index ≡ Some r → transmit_key r ≡ k → Some (master_material k) ≡ transmit_material rows index
+sent_of rows index r k e t =
+    ap (λ key. Some (master_material key)) (sym t) ∙ sym (ap (λ o. option_map (λ x. master_material (transmit_key x)) o) e)
+
+pub sent_old : (rows : List NetKeyRow) (index : ℕ) (r : NetKeyRow) → net_row rows index ≡ Some r → sends_new r ≡ false
+    → option_map material (find (is_of index) (heard_keys rows)) ≡ transmit_material rows index
+sent_old rows index r e old =
+    old_found rows index ∙ ap (λ o. option_map (λ x. master_material x.key) o) e ∙ sent_of rows index r r.key e (old_key r old)
+
+pub sent_new : (rows : List NetKeyRow) (index : ℕ) (r : NetKeyRow) → net_row rows index ≡ Some r → sends_new r ≡ true
+    → option_map material (find (is_new_of index) (heard_keys rows)) ≡ transmit_material rows index
+sent_new rows index r e new =
+    let k = new_key r new in
+    new_found rows index r k.0 e k.1 ∙ sent_of rows index r k.0 e k.2
+
+pub sent_none : (rows : List NetKeyRow) (index : ℕ) → net_row rows index ≡ None → None ≡ transmit_material rows index
+sent_none rows index e = sym (ap (λ o. option_map (λ r. master_material (transmit_key r)) o) e)
 
 -- under no key where no row has the index
 none_found : (rows : List NetKeyRow) (index : ℕ) → ByRecursion (λ r. net_index r ≢ index) rows → transmit_material rows index ≡ None
@@ -121,7 +172,7 @@ of_row : (P : Heard → Type 0) → IsOfKeys P → (index : ℕ) (key : List ℕ
 of_row P p index key None = (p index false key, tt)
 of_row P p index key (Some k) = (p index false key, (p index true k, tt))
 
-both : (P : Heard → Type 0) (xs ys : List Heard) → ByRecursion P xs → ByRecursion P ys → ByRecursion P (xs ++ ys)
+pub both : (P : Heard → Type 0) (xs ys : List Heard) → ByRecursion P xs → ByRecursion P ys → ByRecursion P (xs ++ ys)
 both P [] ys a b = b
 both P (x ∷ xs) ys (p, a) b = (p, both P xs ys a b)
 
@@ -131,15 +182,3 @@ of_rows P p (r ∷ rows) = both P _ _ (of_row P p r.index r.key r.next) (of_rows
 
 pub all_candidates : (P : Heard → Type 0) → IsOfKeys P → (rows : List NetKeyRow) (test : Heard → Bool) → All P (filter test (heard_keys rows))
 all_candidates P p rows test = All-filter test P (heard_keys rows) (All-from_recursion P (heard_keys rows) (of_rows P p rows))
-
--- what is heard under all keys that are held
-pub heard_in : (p : Heard → Bool) (held : List HeldKey) (i : ℕ) (rows : List NetKeyRow) → held ≡ map derived (map row_of held) → map row_of held ≡ rows → length held ≤ i
-    → filter p (flat_map heard_of (take i held)) ≡ filter p (heard_keys rows)
-heard_in p held i rows e f l =
-    ap (λ x. filter p (flat_map heard_of x)) (take_all i held l ∙ e ∙ ap (λ x. map derived x) f) ∙ ap (λ x. filter p x) (all_heard rows)
-
--- what is sent under the keys that are held
-pub sent_in : (held : List HeldKey) (rows : List NetKeyRow) (index : ℕ) → held ≡ map derived (map row_of held) → map row_of held ≡ rows
-    → option_map material_of (find (λ (h : HeldKey). h.row.index == index) held) ≡ transmit_material rows index
-sent_in held rows index e f =
-    ap (λ x. option_map material_of (find (λ (h : HeldKey). h.row.index == index) x)) (e ∙ ap (λ x. map derived x) f) ∙ all_sent rows index

@@ -1,8 +1,8 @@
 //! The network keys of a node (Mesh Profile 1.0.1, sections 3.8.6.3 and 3.10.4): under which material network PDUs may be heard
-//! and are sent. The material is derived once, when the keys are given, and not for each PDU.
+//! and are sent. The material and its key schedules are made once, when the keys are given, and not for each PDU.
 //!
 //! - `keys`: the keys by index, and what is heard and sent under them
-//! - `held`: a key with its material
+//! - `held`: the keys that are heard, with their schedules, in the order in which they are tried
 //! - `credentials`: the material of master and friendship credentials
 //! - `laws`: why the keys that have a PDU's NID suffice to read it
 #![tactic(auto)]

@@ -123,6 +123,8 @@ fn phases(rt: HostRuntime) -> Result<(), Fail> {
         heard(0xfff, false, sample),
     ];
     assert!(rt; keys.candidates(0x68).as_slice() == heard_by_68.as_slice());
+    assert!(rt; keys.heard().len() == 7);
+    assert!(rt; keys.heard()[1].heard() == heard_by_68[1]);
     let heard_by_7f = [heard(3, false, other), heard(4, true, other)];
     assert!(rt; keys.candidates(0x7f).as_slice() == heard_by_7f.as_slice());
     assert!(rt; keys.candidates(0x69) == HeardList::new());
@@ -134,6 +136,8 @@ fn phases(rt: HostRuntime) -> Result<(), Fail> {
         (1, None),
     ] {
         assert!(rt; keys.transmit(index) == sent, "index {index}");
+        let nid = keys.sealing(index).map(|material| material.nid());
+        assert!(rt; nid == sent.map(|material| material.nid), "index {index}");
     }
     assert!(rt; NetKeys::derive(&[]).transmit(0).is_none(), "no row");
     Ok(())

@@ -1,6 +1,7 @@
 -- Headers octet by octet.
 use Rattle.std.proofs.Common.{◌≡◌, ℕ, ◌+◌, ◌*◌, ◌/◌, ◌%◌, ◌<◌, List, [], ◌∷◌, ◌++◌, length, get_or, nat_le, if◌then◌else◌, sym, ◌∙◌, refl, arith, ap}
 use Rattle.std.proofs.lemmas.List.FromFn.{fill_by_all}
+use Rattle.cipher_definitions.proofs.Octets.{three_octets-of, two_octets-of}
 use Rattle.cipher_definitions.specs.Octets.{two_octets, three_octets}
 
 -- a header is the list of its six octets
@@ -11,20 +12,6 @@ six_octets h e = fill_by_all (λ i. get_or h i 0) h 6 0 e (λ k below. refl)
 -- an octet of CTL and TTL, taken apart and put together
 pub control_octet : (a : ℕ) → a < 256 → (if nat_le 128 a then 128 else 0) + a % 128 ≡ a
 control_octet a h = grind arith
-
--- octets of a number that they make
-pub three_octets-of : (n a b c : ℕ) → a < 256 → b < 256 → c < 256 → n ≡ a * 65536 + (b * 256 + c) → three_octets n ≡ a ∷ b ∷ c ∷ []
-three_octets-of n a b c ha hb hc e =
-    let high : n / 65536 % 256 ≡ a = omega arith in
-    let middle : n / 256 % 256 ≡ b = omega arith in
-    let low : n % 256 ≡ c = omega arith in
-    rw (high, middle, low) refl
-
-pub two_octets-of : (n a b : ℕ) → a < 256 → b < 256 → n ≡ a * 256 + b → two_octets n ≡ a ∷ b ∷ []
-two_octets-of n a b ha hb e =
-    let high : n / 256 % 256 ≡ a = omega arith in
-    let low : n % 256 ≡ b = omega arith in
-    rw (high, low) refl
 
 -- a header, taken apart and put together
 pub header_of : (h : List ℕ) (seq src : ℕ) → length h ≡ 6 → ((i : ℕ) → get_or h i 0 < 256)

@@ -78,6 +78,10 @@ pub nid_of : (m : NetMaterial) (iv : ℕ) (octets : List ℕ) (f : NetFields) �
     → slice_index octets 0 % 2 ^ 7 ≡ m.nid
 nid_of m iv octets f ivi h = omega (arith, first_of m f octets h.text, h.iv_is, ivi)
 
+-- octets read under a material only if they have its NID
+pub nid_of_reading : (m : NetMaterial) (current : ℕ) (octets : List ℕ) (f : NetFields) → ReadsUnder m current octets f → slice_index octets 0 % 2 ^ 7 ≡ m.nid
+nid_of_reading m current octets f h = omega (arith, first_of m f octets h.text, h.iv.1)
+
 -- the parts of a PDU are those of its fields
 pub sealed_of_text : (m : NetMaterial) (iv : ℕ) (octets : List ℕ) (f : NetFields) → IsTextOf m iv octets f
     → IsSealedAs m iv (opened_header m iv octets) (drop 7 octets) f

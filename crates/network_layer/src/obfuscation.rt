@@ -5,13 +5,13 @@ ghost use Rattle.std.specs.Prelude.{◌≡◌, ◌≤◌, length};
 ghost use Rattle.cipher_definitions.specs.Octets.{xor_lists};
 ghost use Rattle.layer_definitions.specs.Network.{privacy_block};
 
-use aes_block::Schedule;
+use aes_block::add_to;
 use byteorder::{BigEndian, ByteOrder};
-use mesh_base::fields::NetMaterial;
+use kept_keys::NetSchedules;
 
 /// PECB, from the IV Index and what is sealed.
 #[tactic(auto, unfolding(layer_definitions::specs::Network::privacy_block))]
-pub(crate) fn mask(m: &NetMaterial, iv: u32, sealed: &[u8]) -> [u8; 16]
+pub(crate) fn mask(m: &NetSchedules, iv: u32, sealed: &[u8]) -> [u8; 16]
     requires { 7 ≤ length sealed.now }
     ensures value { result ≡ privacy_block m.now iv sealed.now }
     ensures length { length result ≡ 16 }
@@ -19,7 +19,7 @@ pub(crate) fn mask(m: &NetMaterial, iv: u32, sealed: &[u8]) -> [u8; 16]
     let mut block = [0; 16];
     BigEndian::write_u32(&mut block[5..], iv);
     block[9..].copy_from_slice(&sealed[..7]);
-    Schedule::new(&m.privacy).encrypt(block)
+    m.privacy().encrypt(block)
 }
 
 /// Six octets with the front of a mask added, bit by bit.
@@ -31,8 +31,6 @@ pub(crate) fn masked(octets: &[u8], mask: &[u8]) -> [u8; 6]
 {
     let mut sum = [0; 6];
     sum.copy_from_slice(octets);
-    for i in 0..6 {
-        sum[i] ^= mask[i];
-    }
+    add_to(&mut sum, mask);
     sum
 }

@@ -1,7 +1,7 @@
 //! Reading of a network PDU under the keys that may have sealed it (Mesh Profile 1.0.1, sections 3.4.4, 3.8.7.2 and 3.8.7.3).
 #![tactic(auto)]
 
-ghost use Rattle.std.specs.Prelude.{◌≡◌, ◌/◌, ◌%◌, ◌<◌, ◌≤◌, ◌↔◌, ◌⊎◌, ◌^◌, ℕ, List, [], length, slice_index, IsErr, IsNone, IfOk, IfSome, OnErr, OnOk};
+ghost use Rattle.std.specs.Prelude.{◌≡◌, ◌/◌, ◌%◌, ◌<◌, ◌≤◌, ◌↔◌, ◌⊎◌, ◌^◌, ◌++◌, ℕ, List, [], length, slice_index, IsErr, IsNone, IfOk, IfSome, OnErr, OnOk};
 ghost use Rattle.cipher_definitions.specs.Ccm.{Seals};
 ghost use Rattle.mesh_base.specs.declared.fields.NetFields.{NetFields as Fields};
 ghost use Rattle.layer_definitions.specs.Network.{IsHeardUnder, IsUnread, Reads, ReadsUnder};
@@ -13,6 +13,7 @@ use crate::obfuscation::{mask, masked};
 use aes_block::Schedule;
 use aes_ccm::BadMic;
 use arrayvec::ArrayVec;
+use kept_keys::{HeardSchedules, NetSchedules};
 use mesh_base::fields::{Heard, NetFields, NetMaterial};
 use thiserror::Error;
 
@@ -45,7 +46,7 @@ fn unseal_in_place(
 }
 
 // The text that these octets and this MIC open to, if any.
-fn opened(m: &NetMaterial, nonce: &[u8; 13], text: &[u8], mic: &[u8]) -> Option<ArrayVec<u8, 18>>
+fn opened(m: &NetSchedules, nonce: &[u8; 13], text: &[u8], mic: &[u8]) -> Option<ArrayVec<u8, 18>>
     requires text { length text.now ≤ 18 }
     requires mic { (length mic.now ≡ 4) ⊎ (length mic.now ≡ 8) }
     ensures some { IfSome result (λ t. Seals m.now.encryption nonce.now [] t.items text.now mic.now) }
@@ -53,14 +54,14 @@ fn opened(m: &NetMaterial, nonce: &[u8; 13], text: &[u8], mic: &[u8]) -> Option<
 {
     let mut octets = ArrayVec::new();
     let _ = octets.try_extend_from_slice(text);
-    match unseal_in_place(&Schedule::new(&m.encryption), nonce, &mut octets, mic) {
+    match unseal_in_place(m.encryption(), nonce, &mut octets, mic) {
         Ok(()) => Some(octets),
         Err(_) => None,
     }
 }
 
 // The fields with this IV Index and this header that are sealed as these octets, if any.
-fn fields_sealed_as(m: &NetMaterial, iv: u32, header: &[u8; 6], sealed: &[u8]) -> Option<NetFields>
+fn fields_sealed_as(m: &NetSchedules, iv: u32, header: &[u8; 6], sealed: &[u8]) -> Option<NetFields>
     requires least { 7 ≤ length sealed.now }
     requires most { length sealed.now ≤ 22 }
     ensures some { IfSome result (IsSealedAs m.now iv header.now sealed.now) }
@@ -76,14 +77,14 @@ fn fields_sealed_as(m: &NetMaterial, iv: u32, header: &[u8; 6], sealed: &[u8]) -
 }
 
 // The fields with this IV Index that have these octets, if any.
-fn fields_with_text(m: &NetMaterial, iv: u32, octets: &[u8]) -> Option<NetFields>
+fn fields_with_text(m: &NetSchedules, iv: u32, octets: &[u8]) -> Option<NetFields>
     requires least { 14 ≤ length octets.now }
     requires most { length octets.now ≤ 29 }
     requires ivi { iv % 2 ≡ slice_index octets.now 0 / 2 ^ 7 }
     ensures some { IfSome result (IsTextOf m.now iv octets.now) }
     ensures none { IsNone result → (f : Fields) → IsTextOf m.now iv octets.now f → ⊥ }
 {
-    if octets[0] % 0x80 != m.nid {
+    if octets[0] % 0x80 != m.nid() {
         return None;
     }
     let (_, sealed) = octets.split_at(7);
@@ -105,16 +106,38 @@ fn heard_index(current: u32, octets: &[u8]) -> Option<u32>
     }
 }
 
-// What the octets read as under this material, if anything.
-fn read_under(m: &NetMaterial, current: u32, octets: &[u8]) -> Option<NetFields>
-    ensures some { IfSome result (ReadsUnder m.now current octets.now) }
-    ensures none { IsNone result → (f : Fields) → ReadsUnder m.now current octets.now f → ⊥ }
+/// What the octets read as under this material, by its kept schedules, if anything. The IV Index of the PDU is the known one, `current`,
+/// or the one before it.
+pub fn read_one(m: &NetSchedules, current: u32, bytes: &[u8]) -> Option<NetFields>
+    ensures some { IfSome result (ReadsUnder m.now current bytes.now) }
+    ensures none { IsNone result → (f : Fields) → ReadsUnder m.now current bytes.now f → ⊥ }
 {
-    if octets.len() < 14 || octets.len() > 29 {
+    if bytes.len() < 14 || bytes.len() > 29 {
         return None;
     }
-    let iv = heard_index(current, octets)?;
-    fields_with_text(m, iv, octets)
+    let iv = heard_index(current, bytes)?;
+    fields_with_text(m, iv, bytes)
+}
+
+// NID in the first octet, 7 bits (Mesh Profile 1.0.1, section 3.4.4.2); 0 where there are no octets.
+fn nid_of(bytes: &[u8]) -> u8
+    ensures { result ≡ slice_index bytes.now 0 % 2 ^ 7 }
+{
+    match bytes {
+        [first, ..] => *first % 0x80,
+        [] => 0,
+    }
+}
+
+// The same of material whose schedules aren't kept: they are made only where the PDU has its NID.
+fn read_under(m: &NetMaterial, current: u32, bytes: &[u8]) -> Option<NetFields>
+    ensures some { IfSome result (ReadsUnder m.now current bytes.now) }
+    ensures none { IsNone result → (f : Fields) → ReadsUnder m.now current bytes.now f → ⊥ }
+{
+    if nid_of(bytes) != m.nid {
+        return None;
+    }
+    read_one(&NetSchedules::new(m), current, bytes)
 }
 
 /// What the octets read as, under the first of the keys that reads them. The IV Index of the PDU is the known one, `current`, or the
@@ -129,6 +152,40 @@ pub fn read(keys: &[Heard], current: u32, bytes: &[u8]) -> Result<NetReading, Un
         }
     }
     Err(Unread)
+}
+
+/// The same by kept schedules: what the octets read as, under the first of the keys that reads them. Only a key of the NID that the
+/// octets have costs more than a comparison, so all keys that are heard may be given.
+pub fn read_kept(keys: &[HeardSchedules], current: u32, bytes: &[u8]) -> Result<NetReading, Unread>
+    ensures ok { IfOk result (λ r. (place : ℕ) × Reads keys.now current bytes.now r.fields place r.by) }
+    ensures unread { IsErr result ↔ IsUnread keys.now current bytes.now }
+{
+    for key in keys {
+        if let Some(fields) = read_one(key.schedules(), current, bytes) {
+            return Ok(NetReading {
+                fields,
+                by: key.heard(),
+            });
+        }
+    }
+    Err(Unread)
+}
+
+/// The same over two lists, the keys of the second one behind those of the first: those of network keys, say, and then those of
+/// friendships.
+pub fn read_kept_behind(
+    keys: &[HeardSchedules],
+    more: &[HeardSchedules],
+    current: u32,
+    bytes: &[u8],
+) -> Result<NetReading, Unread>
+    ensures ok { IfOk result (λ r. (place : ℕ) × Reads (keys.now ++ more.now) current bytes.now r.fields place r.by) }
+    ensures unread { IsErr result ↔ IsUnread (keys.now ++ more.now) current bytes.now }
+{
+    match read_kept(keys, current, bytes) {
+        Ok(reading) => Ok(reading),
+        Err(Unread) => read_kept(more, current, bytes),
+    }
 }
 
 /// The law of readings, for proofs: it does nothing. Octets read as one set of fields at most under a key, and the octets of a PDU read

@@ -9,6 +9,7 @@ use crate::fields::{header, nonce, plaintext};
 use crate::obfuscation::{mask, masked};
 use aes_block::Schedule;
 use arrayvec::ArrayVec;
+use kept_keys::NetSchedules;
 use mesh_base::fields::{NetFields, NetMaterial};
 use mesh_base::octets::Octets;
 
@@ -23,19 +24,14 @@ fn seal_in_place(schedule: &Schedule, nonce: &[u8; 13], text: &mut ArrayVec<u8, 
 
 // EncDST, EncTransportPDU and NetMIC, with room for NetMIC given.
 #[tactic(auto, unfolding(layer_definitions::specs::Network::sealed_part))]
-fn sealed_with(m: &NetMaterial, f: &NetFields, mic: &mut [u8]) -> Octets<22>
+fn sealed_with(m: &NetSchedules, f: &NetFields, mic: &mut [u8]) -> Octets<22>
     requires fields { HasPdu f.now }
     requires mic { length mic.old ≡ net_mic_length f.now.ctl }
     requires mic_length { (length mic.old ≡ 4) ⊎ (length mic.old ≡ 8) }
     ensures { result ≡ sealed_part m.now f.now }
 {
     let mut text = plaintext(f);
-    seal_in_place(
-        &Schedule::new(&m.encryption),
-        &nonce(&header(f), f.iv),
-        &mut text,
-        mic,
-    );
+    seal_in_place(m.encryption(), &nonce(&header(f), f.iv), &mut text, mic);
     let mut sealed = Octets::new();
     sealed.extend(text.as_slice());
     sealed.extend(mic);
@@ -43,7 +39,7 @@ fn sealed_with(m: &NetMaterial, f: &NetFields, mic: &mut [u8]) -> Octets<22>
 }
 
 // EncDST, EncTransportPDU and NetMIC.
-fn sealed(m: &NetMaterial, f: &NetFields) -> Octets<22>
+fn sealed(m: &NetSchedules, f: &NetFields) -> Octets<22>
     requires { HasPdu f.now }
     ensures { result ≡ sealed_part m.now f.now }
 {
@@ -54,11 +50,11 @@ fn sealed(m: &NetMaterial, f: &NetFields) -> Octets<22>
     }
 }
 
-/// The octets of the network PDU of these fields under this material.
+/// The octets of the network PDU of these fields under this material, by its kept schedules.
 ///
 /// NID is below 128, TTL below 128 and SEQ below 2^24; the transport PDU has 1 to 16 octets, or 1 to 12 in a control message.
 #[tactic(auto, unfolding(layer_definitions::specs::Network::net_text))]
-pub fn seal(m: &NetMaterial, f: &NetFields) -> Octets<29>
+pub fn seal_kept(m: &NetSchedules, f: &NetFields) -> Octets<29>
     requires nid { m.now.nid < 2 ^ 7 }
     requires fields { HasPdu f.now }
     ensures value { result ≡ net_text m.now f.now }
@@ -66,8 +62,19 @@ pub fn seal(m: &NetMaterial, f: &NetFields) -> Octets<29>
     let sealed = sealed(m, f);
     let mask = mask(m, f.iv, sealed.as_slice());
     let mut pdu = Octets::new();
-    pdu.extend(&[(f.iv % 2) as u8 * 0x80 + m.nid]);
+    pdu.extend(&[(f.iv % 2) as u8 * 0x80 + m.nid()]);
     pdu.extend(&masked(&header(f), &mask[..6]));
     pdu.extend(sealed.as_slice());
     pdu
+}
+
+/// The octets of the network PDU of these fields under this material, whose schedules are made for this PDU alone.
+///
+/// NID is below 128, TTL below 128 and SEQ below 2^24; the transport PDU has 1 to 16 octets, or 1 to 12 in a control message.
+pub fn seal(m: &NetMaterial, f: &NetFields) -> Octets<29>
+    requires nid { m.now.nid < 2 ^ 7 }
+    requires fields { HasPdu f.now }
+    ensures value { result ≡ net_text m.now f.now }
+{
+    seal_kept(&NetSchedules::new(m), f)
 }

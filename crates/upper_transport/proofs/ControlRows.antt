@@ -9,8 +9,9 @@ use Rattle.cipher_definitions.specs.Octets.{two_octets, four_octets}
 use Rattle.mesh_base.specs.declared.address.Address.{Address}
 use Rattle.mesh_base.specs.declared.control.ControlMsg.{ControlMsg}
 use Rattle.mesh_base.specs.declared.control.ControlMsg.TheVariants as C
-use Rattle.layer_definitions.proofs.ControlLaws.{fits-not-other, has_row, length-address_octets, reading-row}
-use Rattle.layer_definitions.proofs.OctetLaws.{two_octets-of, three_octets-of, four_octets-of}
+use Rattle.layer_definitions.specs.ControlReading.{has_row}
+use Rattle.layer_definitions.proofs.ControlLaws.{fits-not-other, length-address_octets, reading-row}
+use Rattle.cipher_definitions.proofs.Octets.{two_octets-of, three_octets-of, four_octets-of}
 use Rattle.layer_definitions.specs.Control.{AreAddresses, IsNoControl, ReadsControl, address_octets, control_text, is_other, without_reserved}
 
 -- each is an octet

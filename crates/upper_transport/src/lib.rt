@@ -22,9 +22,10 @@ mod tests;
 
 pub use control_reading::read_control;
 pub use control_writing::write_control;
+pub use kept_keys::{BoundSchedule, UpperSchedule};
 pub use laws::{control_law, upper_law};
 pub use mesh_base::control::ControlMsg;
 pub use mesh_base::keys::UpperKey;
 pub use mesh_base::upper::UpperFields;
-pub use opening::{NoKey, Opened, unseal_access};
-pub use sealing::seal_access;
+pub use opening::{NoKey, Opened, open_kept, unseal_access, unseal_bound, unseal_kept};
+pub use sealing::{seal_access, seal_kept};

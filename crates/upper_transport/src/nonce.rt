@@ -2,7 +2,7 @@
 #![tactic(auto)]
 
 ghost use Rattle.std.specs.Prelude.{◌≡◌, ◌≤◌, ◌^◌, ◌⊎◌, if◌then◌else◌, length};
-ghost use Rattle.layer_definitions.specs.Upper.{key_octets, label_octets, nonce_type as type_of, trans_mic_length, upper_nonce};
+ghost use Rattle.layer_definitions.specs.Upper.{label_octets, nonce_type as type_of, trans_mic_length, upper_nonce};
 
 use byteorder::{BigEndian, ByteOrder};
 use mesh_base::keys::UpperKey;
@@ -10,16 +10,6 @@ use mesh_base::upper::UpperFields;
 
 /// How many numbers SEQ counts in a nonce: it has 24 bits.
 const COUNT: u32 = 0x100_0000;
-
-/// The octets of a key.
-pub(crate) fn octets_of(key: &UpperKey) -> &[u8; 16]
-    ensures value { result.now ≡ key_octets key.now }
-{
-    match key {
-        UpperKey::Device(key) => key,
-        UpperKey::App { key, .. } => key,
-    }
-}
 
 /// The label of a virtual destination, or no octets.
 pub(crate) fn label_of(f: &UpperFields) -> &[u8]

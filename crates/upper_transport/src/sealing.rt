@@ -5,9 +5,10 @@ ghost use Rattle.std.specs.Prelude.{◌≡◌, ◌+◌, ◌<◌, ◌≤◌, ◌�
 ghost use Rattle.cipher_definitions.specs.Ccm.{ccm_text, ccm_mic};
 ghost use Rattle.layer_definitions.specs.Upper.{trans_mic_length, upper_text};
 
-use crate::nonce::{label_of, nonce, octets_of};
+use crate::nonce::{label_of, nonce};
 use aes_block::Schedule;
 use arrayvec::ArrayVec;
+use kept_keys::UpperSchedule;
 use mesh_base::keys::UpperKey;
 use mesh_base::octets::Octets;
 use mesh_base::upper::UpperFields;
@@ -40,7 +41,7 @@ fn seal_in_place(
 
 // The payload encrypted, and TransMIC, with room for TransMIC given.
 #[tactic(auto, unfolding(layer_definitions::specs::Upper::upper_text))]
-fn sealed_with(key: &UpperKey, f: &UpperFields, payload: &[u8], mic: &mut [u8]) -> Octets<384>
+fn sealed_with(key: &UpperSchedule, f: &UpperFields, payload: &[u8], mic: &mut [u8]) -> Octets<384>
     requires mic { length mic.old ≡ trans_mic_length f.now.long_mic }
     requires mic_length { (length mic.old ≡ 4) ⊎ (length mic.old ≡ 8) }
     requires payload { length payload.now + length mic.old ≤ 384 }
@@ -48,8 +49,8 @@ fn sealed_with(key: &UpperKey, f: &UpperFields, payload: &[u8], mic: &mut [u8]) 
 {
     let mut text = buffer_of(payload);
     seal_in_place(
-        &Schedule::new(octets_of(key)),
-        &nonce(key, f),
+        key.schedule(),
+        &nonce(&key.key(), f),
         label_of(f),
         &mut text,
         mic,
@@ -60,10 +61,10 @@ fn sealed_with(key: &UpperKey, f: &UpperFields, payload: &[u8], mic: &mut [u8]) 
     upper
 }
 
-/// The octets of the upper transport access PDU of this payload, under this key with these fields.
+/// The octets of the upper transport access PDU of this payload, under this kept key with these fields.
 ///
 /// The payload has at least one octet, and with its TransMIC of 4 or 8 octets at most 384. Of the SEQ the low 24 bits count.
-pub fn seal_access(key: &UpperKey, f: &UpperFields, payload: &[u8]) -> Octets<384>
+pub fn seal_kept(key: &UpperSchedule, f: &UpperFields, payload: &[u8]) -> Octets<384>
     requires least { 1 ≤ length payload.now }
     requires most { length payload.now + trans_mic_length f.now.long_mic ≤ 384 }
     ensures value { result ≡ upper_text key.now f.now payload.now }
@@ -73,4 +74,15 @@ pub fn seal_access(key: &UpperKey, f: &UpperFields, payload: &[u8]) -> Octets<38
     } else {
         sealed_with(key, f, payload, &mut [0; 4])
     }
+}
+
+/// The same under a key whose schedule is made for this message alone.
+///
+/// The payload has at least one octet, and with its TransMIC of 4 or 8 octets at most 384. Of the SEQ the low 24 bits count.
+pub fn seal_access(key: &UpperKey, f: &UpperFields, payload: &[u8]) -> Octets<384>
+    requires least { 1 ≤ length payload.now }
+    requires most { length payload.now + trans_mic_length f.now.long_mic ≤ 384 }
+    ensures value { result ≡ upper_text key.now f.now payload.now }
+{
+    seal_kept(&UpperSchedule::new(key), f, payload)
 }

@@ -2,7 +2,10 @@
 //! the definition is the standard's.
 #![tactic(auto)]
 
-use crate::{NoKey, UpperFields, UpperKey, seal_access, unseal_access};
+use crate::{
+    BoundSchedule, NoKey, Opened, UpperFields, UpperKey, UpperSchedule, open_kept, seal_access,
+    seal_kept, unseal_access, unseal_bound, unseal_kept,
+};
 use mesh_base::address::Address;
 use mesh_base::pair::Pair;
 use std::process::Abort;
@@ -310,4 +313,49 @@ fn longest_payload_with_a_long_mic(rt: HostRuntime) {
     let (front, _) = payload.split_at(376);
     let upper = seal_access(&DEVICE, &f, front);
     assert_eq!(rt; summed(upper.as_slice()), 0xeb8d9c0d);
+}
+
+// Where a message opened, if it did.
+fn place_of(outcome: &Result<Opened, NoKey>) -> Option<u32> {
+    match outcome {
+        Ok(opened) => Some(opened.at),
+        Err(_) => None,
+    }
+}
+
+#[test]
+fn kept_keys(rt: HostRuntime) {
+    let f = SHORT.fields();
+    let upper = SHORT.upper;
+    let kept = UpperSchedule::new(&APP);
+    assert!(rt; seal_kept(&kept, &f, b"\x04\x00\x00\x00\x00").as_slice() == upper);
+    assert!(rt; upper.len() == 9);
+    assert!(rt; open_kept(&kept, &f, upper).is_some());
+    let keys = [UpperSchedule::new(&DEVICE), UpperSchedule::new(&APP)];
+    assert!(rt; place_of(&unseal_kept(&keys, &f, upper)) == Some(1));
+    assert!(rt; place_of(&unseal_kept(&keys[..1], &f, upper)).is_none());
+}
+
+#[test]
+fn bound_keys(rt: HostRuntime) {
+    let f = SHORT.fields();
+    let upper = SHORT.upper;
+    assert!(rt; upper.len() == 9);
+    let other = UpperKey::App {
+        index: 1,
+        aid: 0x26,
+        key: [0; 16],
+    };
+    let bound = |net: u16, key: &UpperKey| BoundSchedule {
+        net,
+        index: 0,
+        fresh: false,
+        key: UpperSchedule::new(key),
+    };
+    let keys = [bound(3, &APP), bound(7, &other), bound(7, &APP)];
+    // Behind the key of another network key, and behind one that doesn't open.
+    assert!(rt; place_of(&unseal_bound(&keys, 7, 0x26, &f, upper)) == Some(1));
+    assert!(rt; place_of(&unseal_bound(&keys, 3, 0x26, &f, upper)) == Some(0));
+    assert!(rt; place_of(&unseal_bound(&keys, 7, 0x25, &f, upper)).is_none());
+    assert!(rt; place_of(&unseal_bound(&keys, 1, 0x26, &f, upper)).is_none());
 }

@@ -19,4 +19,4 @@ extend-requires-2 c =
 pub returns : goal.returns
 unfolding sealed_part
 returns c =
-    rw (c.extend-2.ensures.value, c.extend.ensures.value, c.new-sealed.ensures.value, c.as_slice.ensures.value, c.seal_in_place.ensures.text, c.seal_in_place.ensures.mic, c.new.ensures.value, c.nonce.ensures.value, c.header.ensures.value, c.plaintext-text.ensures.value, c.requires.mic) refl
+    rw (c.extend-2.ensures.value, c.extend.ensures.value, c.new-sealed.ensures.value, c.as_slice.ensures.value, c.seal_in_place.ensures.text, c.seal_in_place.ensures.mic, c.encryption.ensures.value, c.nonce.ensures.value, c.header.ensures.value, c.plaintext-text.ensures.value, c.requires.mic) refl

@@ -14,4 +14,4 @@ extend-requires-2 c = (
 pub returns : goal.returns
 unfolding upper_text
 returns c =
-    rw (c.extend-2.ensures.value, c.extend.ensures.value, c.new-upper.ensures.value, c.as_slice.ensures.value, c.seal_in_place.ensures.text, c.seal_in_place.ensures.mic, c.new.ensures.value, c.octets_of.ensures.value, c.nonce.ensures.value, c.label_of.ensures.value, c.buffer_of-text.ensures, c.requires.mic) refl
+    rw (c.extend-2.ensures.value, c.extend.ensures.value, c.new-upper.ensures.value, c.as_slice.ensures.value, c.seal_in_place.ensures.text, c.seal_in_place.ensures.mic, c.schedule.ensures.value, c.nonce.ensures.value, c.key.ensures.value, c.label_of.ensures.value, c.buffer_of-text.ensures, c.requires.mic) refl
