@@ -1,0 +1,8 @@
+use Rattle.layer_states.specs.Friends.{is_friend, list_changed, list_with}
+use Rattle.friend_queue.proofs.Friendships.{changed_more}
+use Rattle.friend_queue.proofs.slots.list_add_all.Goals as goal
+
+pub loop-s-preserved : goal.loop-s-preserved
+loop-s-preserved c =
+    changed_more (is_friend c.args.lpn) (list_changed c.args.now (λ list. list_with list c.args.added.now)) c.args.slots.now c.loop-s.slots c.loop-s.s-index c.s-item.result c.list_add_of.new.s
+    c.loop-s-test.true c.loop-s.invariant c.s-item.is c.list_add_of.ensures

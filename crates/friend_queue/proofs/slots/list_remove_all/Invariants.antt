@@ -1,0 +1,7 @@
+-- The slots so far are changed, the rest are as they were.
+use Rattle.std.proofs.Common.{◌≡◌, ◌++◌, drop, take}
+use Rattle.layer_states.specs.Friends.{change_where, is_friend, list_changed, list_without}
+use Rattle.friend_queue.proofs.slots.list_remove_all.Given as goal
+
+abbrev pub invariant-loop-s : goal.invariant-loop-s
+invariant-loop-s l = l.slots ≡ change_where (is_friend l.lpn) (list_changed l.now (λ list. list_without list l.removed)) (take l.s-index l.initial.slots) ++ drop l.s-index l.initial.slots

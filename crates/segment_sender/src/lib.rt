@@ -1,0 +1,17 @@
+//! Own segmented messages (Mesh Profile 1.0.1, section 3.5.3.2): [`Senders`] holds at most 4 messages that aren't
+//! acknowledged. Its contracts see it as the list of these messages, in the order in which they began; what each call
+//! answers and leaves is said in `layer_states`.
+//!
+//! - `senders`: the table and its calls
+//! - `rows`: what a call does to the list of messages
+//! - `message`: one message, its pieces and its rounds
+#![tactic(auto)]
+
+mod message;
+mod rows;
+mod senders;
+#[cfg(test)]
+mod tests;
+
+pub use layer_states::sending::{Acked, DueList, Outgoing, Sending};
+pub use senders::{SendFull, Senders};

@@ -1,0 +1,167 @@
+//! One message, its pieces and its rounds.
+#![tactic(auto)]
+
+ghost use Rattle.std.specs.Prelude.{◌≡◌, ◌+◌, ◌*◌, ◌^◌, ◌≤◌, ◌<◌, ◌++◌, [], ◌∷◌, Some, None, if◌then◌else◌, length, map};
+ghost use Rattle.layer_definitions.specs.Lower.{last_segment as last_segment_in};
+ghost use Rattle.layer_states.specs.Names.{is_unicast as is_unicast_in};
+ghost use Rattle.layer_states.specs.Sending.{begun as begun_in, has_bit as has_bit_in, is_due as is_due_in, is_last as is_last_in, left_after, pieces_of as pieces_in, round_after as round_after_in, round_of as round_in, segments_due, stepped};
+
+use layer_states::sending::{DueList, Outgoing, PieceList, Sending};
+use mesh_base::address::Address;
+use mesh_base::table::Table;
+
+// Whether an address is that of an element.
+fn is_unicast(a: Address) -> bool
+    ensures { result ≡ is_unicast_in a }
+{
+    1 <= a.0 && a.0 < 0x8000
+}
+
+// SegN: the number of the last segment.
+fn last_segment(m: &Outgoing) -> u8
+    ensures value { result ≡ last_segment_in m.now.upper }
+    ensures most { result < 32 }
+{
+    (m.upper.as_slice().len().saturating_sub(1) / 12) as u8
+}
+
+// Puts a SegO behind the others.
+fn push_piece(pieces: &mut PieceList, i: u8)
+    requires { length pieces.old < 32 }
+    ensures { pieces.new ≡ pieces.old ++ i ∷ [] }
+{
+    let _ = pieces.push(i);
+}
+
+/// SegO of every piece.
+fn pieces_of(m: &Outgoing) -> PieceList
+    ensures { result ≡ pieces_in m.now }
+{
+    let mut pieces = Table::new();
+    for i in 0..last_segment(m) + 1 {
+        push_piece(&mut pieces, i);
+    }
+    pieces
+}
+
+// When the round after one at `now` is due.
+fn round_after(now: u64, m: &Outgoing) -> u64
+    requires { now ≤ 2 ^ 48 }
+    ensures { result ≡ round_after_in now m.now }
+{
+    let ttl = m.ttl;
+    now + 20 + 5 * u64::from(ttl)
+}
+
+// The same message once more. It takes no memory.
+fn copied(m: &Outgoing) -> Outgoing
+    ensures { result ≡ m.now }
+{
+    Outgoing {
+        name: m.name,
+        dst: m.dst,
+        ttl: m.ttl,
+        net: m.net,
+        akf: m.akf,
+        aid: m.aid,
+        upper: m.upper.copied(),
+    }
+}
+
+/// A message when it begins.
+pub(crate) fn begun(now: u64, m: &Outgoing) -> Sending
+    requires { now ≤ 2 ^ 48 }
+    ensures { result ≡ begun_in now m.now }
+{
+    Sending {
+        message: copied(m),
+        left: pieces_of(m),
+        rounds: 1,
+        due: round_after(now, m),
+    }
+}
+
+// Bit i of a BlockAck.
+fn has_bit(block: u32, i: u8) -> bool
+    ensures { result ≡ has_bit_in block i }
+{
+    if i >= 32 {
+        return false;
+    }
+    (block >> i) % 2 == 1
+}
+
+/// Takes the pieces away that a BlockAck acknowledges.
+pub(crate) fn leave(block: u32, s: &mut Sending)
+    ensures { s.new ≡ record s.old { left = left_after block s.old } }
+{
+    s.left.retain(|i| !has_bit(block, *i));
+}
+
+// Whether the next round of a message is due.
+fn is_due(now: u64, s: &Sending) -> bool
+    ensures { result ≡ is_due_in now s.now }
+{
+    s.due <= now
+}
+
+// Whether a message has had all its rounds.
+fn is_last(s: &Sending) -> bool
+    ensures { result ≡ is_last_in s.now }
+{
+    if is_unicast(s.message.dst) {
+        s.rounds >= 4
+    } else {
+        s.rounds >= 3
+    }
+}
+
+// What a round sends.
+fn round_of(s: &Sending) -> PieceList
+    ensures { result ≡ round_in s.now }
+{
+    if is_unicast(s.message.dst) {
+        s.left.copied()
+    } else {
+        pieces_of(&s.message)
+    }
+}
+
+// Puts the segments of a round behind the others.
+fn push_round(list: &mut DueList, s: &Sending)
+    requires { length list.old + 32 ≤ 128 }
+    ensures value { list.new ≡ list.old ++ map (λ i. (s.now.message.name, i)) (round_in s.now) }
+    ensures length { length list.new ≤ length list.old + 32 }
+{
+    let round = round_of(s);
+    for i in round.as_slice() {
+        let _ = list.push((s.message.name, *i));
+    }
+}
+
+/// Puts the segments of a message that are due behind the others.
+pub(crate) fn push_due(list: &mut DueList, now: u64, s: &Sending)
+    requires { length list.old + 32 ≤ 128 }
+    ensures value { list.new ≡ list.old ++ segments_due now s.now }
+    ensures length { length list.new ≤ length list.old + 32 }
+{
+    if is_due(now, s) && !is_last(s) {
+        push_round(list, s);
+    }
+}
+
+/// Whether a message is still held at `now`; a round that is due then is counted.
+pub(crate) fn step(now: u64, s: &mut Sending) -> bool
+    requires { now ≤ 2 ^ 48 }
+    ensures { stepped now s.old ≡ (if result then Some s.new else None) }
+{
+    if !is_due(now, s) {
+        return true;
+    }
+    if is_last(s) {
+        return false;
+    }
+    s.rounds += 1;
+    s.due = round_after(now, &s.message);
+    true
+}
