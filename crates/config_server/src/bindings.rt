@@ -1,0 +1,118 @@
+//! Messages about the application keys of models (Mesh Profile 1.0.1, sections 4.3.2.46 to 4.3.2.48).
+#![tactic(auto)]
+
+ghost use Rattle.std.specs.Prelude.{◌≡◌, ◌≤◌, ◌++◌, ◌∷◌, length};
+ghost use Rattle.std.specs.List.{list_any};
+ghost use Rattle.config_definitions.specs.Models.{app_bind, app_unbind, bind_act, bind_set};
+ghost use Rattle.node_records.specs.Tables.{config_in};
+ghost use Rattle.store_definitions.specs.Config.{is_bind};
+
+use crate::keys::has_app;
+use crate::models::model_of;
+use crate::params::{
+    acted, address_of, index_of, is_model, put_two, refused, status_octet, stored, unchanged,
+};
+use config_definitions::acts::{ConfigAct, Outcome, Status};
+use mesh_base::address::Address;
+use mesh_base::octets::Octets;
+use node_records::{Persist, StoreRecord};
+
+/// The bindings that a node has at most.
+const MOST: usize = 32;
+
+/// Whether a model is bound to an application key.
+pub fn has_bind(p: &Persist, element: Address, model: u16, app: u16) -> bool
+    ensures { result ≡ list_any (is_bind element model app) p.now.binds }
+{
+    p.binds
+        .as_slice()
+        .iter()
+        .any(|b| b.0.0 == element.0 && b.1 == model && b.2 == app)
+}
+
+// Model App Bind.
+fn bind(p: &Persist, element: Address, app: u16, model: u16) -> Outcome
+    ensures { result ≡ app_bind (config_in p.now) element app model }
+{
+    if !has_app(p, app) {
+        refused(Status::InvalidAppKey)
+    } else if has_bind(p, element, model, app) {
+        unchanged()
+    } else if p.binds.len() >= MOST {
+        refused(Status::InsufficientResources)
+    } else {
+        stored(StoreRecord::Bind {
+            op: 1,
+            element,
+            model,
+            app,
+        })
+    }
+}
+
+// Model App Unbind.
+fn unbind(p: &Persist, element: Address, app: u16, model: u16) -> Outcome
+    ensures { result ≡ app_unbind (config_in p.now) element app model }
+{
+    if !has_app(p, app) {
+        refused(Status::InvalidAppKey)
+    } else if has_bind(p, element, model, app) {
+        stored(StoreRecord::Bind {
+            op: 2,
+            element,
+            model,
+            app,
+        })
+    } else {
+        unchanged()
+    }
+}
+
+// Model App Status.
+fn bind_act(o: &Outcome, element: Address, app: u16, model: &[u8]) -> Option<ConfigAct>
+    requires { length model.now ≤ 4 }
+    ensures { result ≡ bind_act o.now element app model.now }
+{
+    let mut reply = Octets::new();
+    reply.extend(&[0x80, 0x3e, status_octet(o.status)]);
+    put_two(&mut reply, element.0);
+    put_two(&mut reply, app);
+    reply.extend(model);
+    acted(o.change, reply)
+}
+
+/// Model App Bind.
+pub fn app_bind(p: &Persist, params: &[u8]) -> Option<ConfigAct>
+    ensures { result ≡ bind_set (config_in p.now) (app_bind (config_in p.now)) params.now }
+{
+    match params {
+        [a, b, c, d, model @ ..] if is_model(model) => {
+            let element = address_of(*a, *b);
+            let app = index_of(*c, *d);
+            let o = match model_of(p, element, model, Status::CannotBind) {
+                Ok(number) => bind(p, element, app, number),
+                Err(status) => refused(status),
+            };
+            bind_act(&o, element, app, model)
+        }
+        _ => None,
+    }
+}
+
+/// Model App Unbind.
+pub fn app_unbind(p: &Persist, params: &[u8]) -> Option<ConfigAct>
+    ensures { result ≡ bind_set (config_in p.now) (app_unbind (config_in p.now)) params.now }
+{
+    match params {
+        [a, b, c, d, model @ ..] if is_model(model) => {
+            let element = address_of(*a, *b);
+            let app = index_of(*c, *d);
+            let o = match model_of(p, element, model, Status::CannotBind) {
+                Ok(number) => unbind(p, element, app, number),
+                Err(status) => refused(status),
+            };
+            bind_act(&o, element, app, model)
+        }
+        _ => None,
+    }
+}

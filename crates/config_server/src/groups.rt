@@ -1,0 +1,269 @@
+//! Messages about subscriptions to groups (Mesh Profile 1.0.1, sections 4.3.2.19 to 4.3.2.26).
+#![tactic(auto)]
+
+ghost use Rattle.std.specs.Prelude.{◌≡◌, ◌≤◌, ◌==◌, ◌&&◌, length, filter, not};
+ghost use Rattle.std.specs.List.{list_any};
+ghost use Rattle.config_definitions.specs.Models.{count_of_model, group_add, group_delete, group_overwrite, group_set, groups_of, is_full_of_others, is_subscribed, labels_of, on_model, subscription_act, subscriptions_delete, subscriptions_removal};
+ghost use Rattle.node_records.specs.Tables.{config_in};
+ghost use Rattle.store_definitions.specs.Config.{is_sub, labels_without, subs_without};
+
+use crate::models::model_of;
+use crate::params::{
+    acted, address_of, is_model, put_two, refused, status_octet, stored, unchanged,
+};
+use config_definitions::acts::{ConfigAct, Outcome, Status};
+use mesh_base::address::Address;
+use mesh_base::octets::Octets;
+use node_records::{Persist, StoreRecord};
+
+/// The subscriptions that a node has at most, to groups and labels together.
+pub const MOST: usize = 32;
+
+// Whether it is a group, but for the one of all nodes.
+fn is_subscribed(a: Address) -> bool
+    ensures { result ≡ is_subscribed a }
+{
+    0xc000 <= a.0 && a.0 <= 0xfffe
+}
+
+// Whether a model subscribes to a group.
+fn has_sub(p: &Persist, element: Address, model: u16, group: Address) -> bool
+    ensures { result ≡ list_any (is_sub element model group) p.now.subs }
+{
+    p.subs
+        .as_slice()
+        .iter()
+        .any(|s| s.0.0 == element.0 && s.1 == model && s.2.0 == group.0)
+}
+
+// How many groups a model subscribes to.
+fn count_of_groups(p: &Persist, element: Address, model: u16) -> usize
+    ensures value { result ≡ length (groups_of (config_in p.now) element model) }
+    ensures most { result ≤ 32 }
+{
+    p.subs
+        .as_slice()
+        .iter()
+        .filter(|s| s.0.0 == element.0 && s.1 == model)
+        .count()
+}
+
+// How many labels a model subscribes to.
+fn count_of_labels(p: &Persist, element: Address, model: u16) -> usize
+    ensures value { result ≡ length (labels_of (config_in p.now) element model) }
+    ensures most { result ≤ 32 }
+{
+    p.labels
+        .as_slice()
+        .iter()
+        .filter(|l| l.0.0 == element.0 && l.1 == model)
+        .count()
+}
+
+/// How many subscriptions a model has, to groups and labels together.
+pub fn count_of_model(p: &Persist, element: Address, model: u16) -> usize
+    ensures value { result ≡ count_of_model (config_in p.now) element model }
+{
+    count_of_groups(p, element, model) + count_of_labels(p, element, model)
+}
+
+// How many groups other models subscribe to.
+fn count_of_other_groups(p: &Persist, element: Address, model: u16) -> usize
+    ensures value { result ≡ length (subs_without element model p.now.subs) }
+    ensures most { result ≤ 32 }
+{
+    p.subs
+        .as_slice()
+        .iter()
+        .filter(|s| !(s.0.0 == element.0 && s.1 == model))
+        .count()
+}
+
+// How many labels other models subscribe to.
+fn count_of_other_labels(p: &Persist, element: Address, model: u16) -> usize
+    ensures value { result ≡ length (labels_without element model p.now.labels) }
+    ensures most { result ≤ 32 }
+{
+    p.labels
+        .as_slice()
+        .iter()
+        .filter(|l| !(l.0.0 == element.0 && l.1 == model))
+        .count()
+}
+
+/// Whether the subscriptions of other models alone fill the table.
+pub fn is_full_of_others(p: &Persist, element: Address, model: u16) -> bool
+    ensures { result ≡ is_full_of_others (config_in p.now) element model }
+{
+    count_of_other_groups(p, element, model) + count_of_other_labels(p, element, model) >= MOST
+}
+
+// Subscription Add.
+fn add_group(p: &Persist, element: Address, group: Address, model: u16) -> Outcome
+    ensures { result ≡ group_add (config_in p.now) element group model }
+{
+    if !is_subscribed(group) {
+        refused(Status::InvalidAddress)
+    } else if has_sub(p, element, model, group) {
+        unchanged()
+    } else if p.subs.len() + p.labels.len() >= MOST {
+        refused(Status::InsufficientResources)
+    } else {
+        stored(StoreRecord::Subscribe {
+            op: 1,
+            element,
+            model,
+            address: group,
+        })
+    }
+}
+
+// Subscription Delete.
+fn delete_group(p: &Persist, element: Address, group: Address, model: u16) -> Outcome
+    ensures { result ≡ group_delete (config_in p.now) element group model }
+{
+    if !is_subscribed(group) {
+        refused(Status::InvalidAddress)
+    } else if has_sub(p, element, model, group) {
+        stored(StoreRecord::Subscribe {
+            op: 2,
+            element,
+            model,
+            address: group,
+        })
+    } else {
+        unchanged()
+    }
+}
+
+// Whether the group is the only subscription of the model.
+fn is_only_group(p: &Persist, element: Address, group: Address, model: u16) -> bool
+    ensures { result ≡ (list_any (is_sub element model group) p.now.subs && count_of_model (config_in p.now) element model == 1) }
+{
+    has_sub(p, element, model, group) && count_of_model(p, element, model) == 1
+}
+
+// Subscription Overwrite.
+fn overwrite_group(p: &Persist, element: Address, group: Address, model: u16) -> Outcome
+    ensures { result ≡ group_overwrite (config_in p.now) element group model }
+{
+    if !is_subscribed(group) {
+        refused(Status::InvalidAddress)
+    } else if is_only_group(p, element, group, model) {
+        unchanged()
+    } else if is_full_of_others(p, element, model) {
+        refused(Status::InsufficientResources)
+    } else {
+        stored(StoreRecord::Subscribe {
+            op: 4,
+            element,
+            model,
+            address: group,
+        })
+    }
+}
+
+// Subscription Delete All.
+fn delete_all(p: &Persist, element: Address, model: u16) -> Outcome
+    ensures { result ≡ subscriptions_delete (config_in p.now) element model }
+{
+    if count_of_model(p, element, model) == 0 {
+        unchanged()
+    } else {
+        stored(StoreRecord::Subscribe {
+            op: 3,
+            element,
+            model,
+            address: Address(0),
+        })
+    }
+}
+
+/// Model Subscription Status.
+pub fn subscription_act(
+    o: &Outcome,
+    element: Address,
+    address: u16,
+    model: &[u8],
+) -> Option<ConfigAct>
+    requires { length model.now ≤ 4 }
+    ensures { result ≡ subscription_act o.now element address model.now }
+{
+    let mut reply = Octets::new();
+    reply.extend(&[0x80, 0x1f, status_octet(o.status)]);
+    put_two(&mut reply, element.0);
+    put_two(&mut reply, address);
+    reply.extend(model);
+    acted(o.change, reply)
+}
+
+/// Model Subscription Add.
+pub fn group_add(p: &Persist, params: &[u8]) -> Option<ConfigAct>
+    ensures { result ≡ group_set (config_in p.now) (group_add (config_in p.now)) params.now }
+{
+    match params {
+        [a, b, c, d, model @ ..] if is_model(model) => {
+            let element = address_of(*a, *b);
+            let group = address_of(*c, *d);
+            let o = match model_of(p, element, model, Status::NotSubscribe) {
+                Ok(number) => add_group(p, element, group, number),
+                Err(status) => refused(status),
+            };
+            subscription_act(&o, element, group.0, model)
+        }
+        _ => None,
+    }
+}
+
+/// Model Subscription Delete.
+pub fn group_delete(p: &Persist, params: &[u8]) -> Option<ConfigAct>
+    ensures { result ≡ group_set (config_in p.now) (group_delete (config_in p.now)) params.now }
+{
+    match params {
+        [a, b, c, d, model @ ..] if is_model(model) => {
+            let element = address_of(*a, *b);
+            let group = address_of(*c, *d);
+            let o = match model_of(p, element, model, Status::NotSubscribe) {
+                Ok(number) => delete_group(p, element, group, number),
+                Err(status) => refused(status),
+            };
+            subscription_act(&o, element, group.0, model)
+        }
+        _ => None,
+    }
+}
+
+/// Model Subscription Overwrite.
+pub fn group_overwrite(p: &Persist, params: &[u8]) -> Option<ConfigAct>
+    ensures { result ≡ group_set (config_in p.now) (group_overwrite (config_in p.now)) params.now }
+{
+    match params {
+        [a, b, c, d, model @ ..] if is_model(model) => {
+            let element = address_of(*a, *b);
+            let group = address_of(*c, *d);
+            let o = match model_of(p, element, model, Status::NotSubscribe) {
+                Ok(number) => overwrite_group(p, element, group, number),
+                Err(status) => refused(status),
+            };
+            subscription_act(&o, element, group.0, model)
+        }
+        _ => None,
+    }
+}
+
+/// Model Subscription Delete All.
+pub fn subscriptions_delete(p: &Persist, params: &[u8]) -> Option<ConfigAct>
+    ensures { result ≡ subscriptions_removal (config_in p.now) params.now }
+{
+    match params {
+        [a, b, model @ ..] if is_model(model) => {
+            let element = address_of(*a, *b);
+            let o = match model_of(p, element, model, Status::NotSubscribe) {
+                Ok(number) => delete_all(p, element, number),
+                Err(status) => refused(status),
+            };
+            subscription_act(&o, element, 0, model)
+        }
+        _ => None,
+    }
+}

@@ -1,0 +1,496 @@
+//! Messages about network keys and application keys (Mesh Profile 1.0.1, sections 4.3.2.31 to 4.3.2.42 and 4.3.2.58 to 4.3.2.60).
+#![tactic(auto)]
+
+ghost use Rattle.std.specs.Prelude.{◌≡◌, ◌≤◌, ◌+◌, [], ◌∷◌, ◌++◌, ◌==◌, length, map, filter, is_some};
+ghost use Rattle.config_definitions.specs.Keys.{app_indexes, app_key_act, app_key_add, app_key_delete, app_key_get, app_key_removal, app_key_set, app_key_update, has_net, is_next, net_key_act, net_key_add, net_key_delete, net_key_get, net_key_removal, net_key_set, net_key_update, phase_act, phase_after, phase_end, phase_get, phase_of, phase_set, phase_two};
+ghost use Rattle.layer_definitions.specs.KeyRefresh.{app_row, net_row};
+ghost use Rattle.mesh_base.specs.declared.keys.AppKeyRow.{AppKeyRow};
+ghost use Rattle.mesh_base.specs.declared.keys.NetKeyRow.{NetKeyRow};
+ghost use Rattle.node_records.specs.Tables.{config_in};
+
+use crate::params::{
+    acted, first_index, index_of, is_same_key, key_of, put_list, put_packed, put_two, refused,
+    replied, second_index, status_octet, stored, unchanged,
+};
+use config_definitions::acts::{ConfigAct, Outcome, Status};
+use mesh_base::keys::{AppKeyRow, NetKeyRow};
+use mesh_base::octets::Octets;
+use mesh_base::table::Table;
+use node_records::{Persist, StoreRecord};
+
+/// The key of a record that needs none.
+const NO_KEY: [u8; 16] = [0; 16];
+
+// The row of a network key.
+fn net_of(nets: &[NetKeyRow], index: u16) -> Option<NetKeyRow>
+    ensures { result ≡ net_row nets.now index }
+{
+    for row in nets {
+        if row.index == index {
+            return Some(*row);
+        }
+    }
+    None
+}
+
+// The row of an application key.
+fn app_of(apps: &[AppKeyRow], index: u16) -> Option<AppKeyRow>
+    ensures { result ≡ app_row apps.now index }
+{
+    for row in apps {
+        if row.index == index {
+            return Some(*row);
+        }
+    }
+    None
+}
+
+/// Whether a network key is held.
+pub fn has_net(p: &Persist, index: u16) -> bool
+    ensures { result ≡ has_net (config_in p.now) index }
+{
+    net_of(p.nets.as_slice(), index).is_some()
+}
+
+/// Whether an application key is held.
+pub fn has_app(p: &Persist, index: u16) -> bool
+    ensures { result ≡ is_some (app_row p.now.apps index) }
+{
+    app_of(p.apps.as_slice(), index).is_some()
+}
+
+// The phase of a network key, 0 where it isn't held.
+fn phase_of(p: &Persist, index: u16) -> u8
+    ensures { result ≡ phase_of (config_in p.now) index }
+{
+    match net_of(p.nets.as_slice(), index) {
+        Some(row) => row.phase,
+        None => 0,
+    }
+}
+
+// Whether a key is the new one.
+fn is_next(key: &[u8; 16], next: &Option<[u8; 16]>) -> bool
+    ensures { result ≡ is_next key.now next.now }
+{
+    match next {
+        None => false,
+        Some(next) => is_same_key(next, key),
+    }
+}
+
+// AppKey Add.
+fn add_app(p: &Persist, net: u16, app: u16, key: &[u8; 16]) -> Outcome
+    ensures { result ≡ app_key_add (config_in p.now) net app key.now }
+{
+    if !has_net(p, net) {
+        return refused(Status::InvalidNetKey);
+    }
+    match app_of(p.apps.as_slice(), app) {
+        Some(row) => {
+            if row.net == net && is_same_key(&row.key, key) {
+                unchanged()
+            } else {
+                refused(Status::KeyIndexStored)
+            }
+        }
+        None => {
+            if p.apps.len() >= 8 {
+                refused(Status::InsufficientResources)
+            } else {
+                stored(StoreRecord::AppKey {
+                    op: 1,
+                    net,
+                    index: app,
+                    key: *key,
+                })
+            }
+        }
+    }
+}
+
+// AppKey Update.
+fn update_app(p: &Persist, net: u16, app: u16, key: &[u8; 16]) -> Outcome
+    ensures { result ≡ app_key_update (config_in p.now) net app key.now }
+{
+    match app_of(p.apps.as_slice(), app) {
+        None => refused(Status::InvalidAppKey),
+        Some(row) => {
+            if row.net != net {
+                refused(Status::InvalidNetKey)
+            } else if phase_of(p, net) != 1 {
+                refused(Status::CannotUpdate)
+            } else if is_next(key, &row.next) {
+                unchanged()
+            } else if row.next.is_some() {
+                refused(Status::CannotUpdate)
+            } else {
+                stored(StoreRecord::AppKey {
+                    op: 2,
+                    net,
+                    index: app,
+                    key: *key,
+                })
+            }
+        }
+    }
+}
+
+// AppKey Delete.
+fn delete_app(p: &Persist, net: u16, app: u16) -> Outcome
+    ensures { result ≡ app_key_delete (config_in p.now) net app }
+{
+    if !has_net(p, net) {
+        return refused(Status::InvalidNetKey);
+    }
+    match app_of(p.apps.as_slice(), app) {
+        None => unchanged(),
+        Some(row) => {
+            if row.net != net {
+                refused(Status::InvalidNetKey)
+            } else {
+                stored(StoreRecord::AppKey {
+                    op: 3,
+                    net,
+                    index: app,
+                    key: NO_KEY,
+                })
+            }
+        }
+    }
+}
+
+// AppKey Status.
+fn app_act(o: &Outcome, net: u16, app: u16) -> Option<ConfigAct>
+    ensures { result ≡ app_key_act o.now net app }
+{
+    let mut reply = Octets::new();
+    reply.extend(&[0x80, 0x03, status_octet(o.status)]);
+    put_packed(&mut reply, net, app);
+    acted(o.change, reply)
+}
+
+/// AppKey Add.
+pub fn app_key_add(p: &Persist, params: &[u8]) -> Option<ConfigAct>
+    ensures { result ≡ app_key_set (app_key_add (config_in p.now)) params.now }
+{
+    match params {
+        [a, b, c, key @ ..] => {
+            let net = first_index(*a, *b);
+            let app = second_index(*b, *c);
+            let key = key_of(key)?;
+            app_act(&add_app(p, net, app, &key), net, app)
+        }
+        _ => None,
+    }
+}
+
+/// AppKey Update.
+pub fn app_key_update(p: &Persist, params: &[u8]) -> Option<ConfigAct>
+    ensures { result ≡ app_key_set (app_key_update (config_in p.now)) params.now }
+{
+    match params {
+        [a, b, c, key @ ..] => {
+            let net = first_index(*a, *b);
+            let app = second_index(*b, *c);
+            let key = key_of(key)?;
+            app_act(&update_app(p, net, app, &key), net, app)
+        }
+        _ => None,
+    }
+}
+
+/// AppKey Delete.
+pub fn app_key_delete(p: &Persist, params: &[u8]) -> Option<ConfigAct>
+    ensures { result ≡ app_key_removal (config_in p.now) params.now }
+{
+    match params {
+        [a, b, c] => {
+            let net = first_index(*a, *b);
+            let app = second_index(*b, *c);
+            app_act(&delete_app(p, net, app), net, app)
+        }
+        _ => None,
+    }
+}
+
+// Puts an application key's index behind the others, if it is one of this network key.
+fn add_index(list: &mut Table<u16, 8>, net: u16, row: &AppKeyRow)
+    requires { length list.old + 1 ≤ 8 }
+    ensures { list.new ≡ list.old ++ map (λ (r : AppKeyRow). r.index) (filter (λ r. r.net == net) (row.now ∷ [])) }
+{
+    if row.net == net {
+        list.push(row.index).unwrap();
+    }
+}
+
+// The indexes of the application keys of a network key.
+fn app_indexes(p: &Persist, net: u16) -> Table<u16, 8>
+    ensures value { result ≡ app_indexes (config_in p.now) net }
+    ensures few { length result ≤ 8 }
+{
+    let mut list = Table::new();
+    for row in p.apps.as_slice() {
+        add_index(&mut list, net, row);
+    }
+    list
+}
+
+/// AppKey Get.
+pub fn app_key_get(p: &Persist, params: &[u8]) -> Option<ConfigAct>
+    ensures { result ≡ app_key_get (config_in p.now) params.now }
+{
+    match params {
+        [a, b] => {
+            let net = index_of(*a, *b);
+            let mut reply = Octets::new();
+            if has_net(p, net) {
+                reply.extend(&[0x80, 0x02, 0x00]);
+                put_two(&mut reply, net);
+                put_list(&mut reply, app_indexes(p, net).as_slice());
+            } else {
+                reply.extend(&[0x80, 0x02, status_octet(Status::InvalidNetKey)]);
+                put_two(&mut reply, net);
+            }
+            replied(reply)
+        }
+        _ => None,
+    }
+}
+
+// NetKey Add.
+fn add_net(p: &Persist, net: u16, key: &[u8; 16]) -> Outcome
+    ensures { result ≡ net_key_add (config_in p.now) net key.now }
+{
+    match net_of(p.nets.as_slice(), net) {
+        Some(row) => {
+            if is_same_key(&row.key, key) {
+                unchanged()
+            } else {
+                refused(Status::KeyIndexStored)
+            }
+        }
+        None => {
+            if p.nets.len() >= 4 {
+                refused(Status::InsufficientResources)
+            } else {
+                stored(StoreRecord::NetKey {
+                    op: 1,
+                    index: net,
+                    key: *key,
+                })
+            }
+        }
+    }
+}
+
+// NetKey Update.
+fn update_net(p: &Persist, net: u16, key: &[u8; 16]) -> Outcome
+    ensures { result ≡ net_key_update (config_in p.now) net key.now }
+{
+    match net_of(p.nets.as_slice(), net) {
+        None => refused(Status::InvalidNetKey),
+        Some(row) => {
+            if row.phase == 1 && is_next(key, &row.next) {
+                unchanged()
+            } else if row.phase != 0 {
+                refused(Status::CannotUpdate)
+            } else {
+                stored(StoreRecord::NetKey {
+                    op: 2,
+                    index: net,
+                    key: *key,
+                })
+            }
+        }
+    }
+}
+
+// NetKey Delete.
+fn delete_net(p: &Persist, under: u16, net: u16) -> Outcome
+    ensures { result ≡ net_key_delete (config_in p.now) under net }
+{
+    if !has_net(p, net) {
+        unchanged()
+    } else if net == under || p.nets.len() <= 1 {
+        refused(Status::CannotRemove)
+    } else {
+        stored(StoreRecord::NetKey {
+            op: 5,
+            index: net,
+            key: NO_KEY,
+        })
+    }
+}
+
+// NetKey Status.
+fn net_act(o: &Outcome, net: u16) -> Option<ConfigAct>
+    ensures { result ≡ net_key_act o.now net }
+{
+    let mut reply = Octets::new();
+    reply.extend(&[0x80, 0x44, status_octet(o.status)]);
+    put_two(&mut reply, net);
+    acted(o.change, reply)
+}
+
+/// NetKey Add.
+pub fn net_key_add(p: &Persist, params: &[u8]) -> Option<ConfigAct>
+    ensures { result ≡ net_key_set (net_key_add (config_in p.now)) params.now }
+{
+    match params {
+        [a, b, key @ ..] => {
+            let net = index_of(*a, *b);
+            let key = key_of(key)?;
+            net_act(&add_net(p, net, &key), net)
+        }
+        _ => None,
+    }
+}
+
+/// NetKey Update.
+pub fn net_key_update(p: &Persist, params: &[u8]) -> Option<ConfigAct>
+    ensures { result ≡ net_key_set (net_key_update (config_in p.now)) params.now }
+{
+    match params {
+        [a, b, key @ ..] => {
+            let net = index_of(*a, *b);
+            let key = key_of(key)?;
+            net_act(&update_net(p, net, &key), net)
+        }
+        _ => None,
+    }
+}
+
+/// NetKey Delete.
+pub fn net_key_delete(p: &Persist, under: u16, params: &[u8]) -> Option<ConfigAct>
+    ensures { result ≡ net_key_removal (config_in p.now) under params.now }
+{
+    match params {
+        [a, b] => {
+            let net = index_of(*a, *b);
+            net_act(&delete_net(p, under, net), net)
+        }
+        _ => None,
+    }
+}
+
+// The indexes of the network keys.
+fn net_indexes(p: &Persist) -> Table<u16, 4>
+    ensures value { result ≡ map (λ (r : NetKeyRow). r.index) p.now.nets }
+    ensures few { length result ≤ 4 }
+{
+    let mut list = Table::new();
+    for row in p.nets.as_slice() {
+        list.push(row.index).unwrap();
+    }
+    list
+}
+
+/// NetKey Get.
+pub fn net_key_get(p: &Persist, params: &[u8]) -> Option<ConfigAct>
+    ensures { result ≡ net_key_get (config_in p.now) params.now }
+{
+    match params {
+        [] => {
+            let mut reply = Octets::new();
+            reply.extend(&[0x80, 0x43]);
+            put_list(&mut reply, net_indexes(p).as_slice());
+            replied(reply)
+        }
+        _ => None,
+    }
+}
+
+// Transition to phase 2.
+fn begin_phase_two(p: &Persist, net: u16) -> Outcome
+    ensures { result ≡ phase_two (config_in p.now) net }
+{
+    if !has_net(p, net) {
+        return refused(Status::InvalidNetKey);
+    }
+    match phase_of(p, net) {
+        0 => refused(Status::CannotSet),
+        2 => unchanged(),
+        _ => stored(StoreRecord::NetKey {
+            op: 3,
+            index: net,
+            key: NO_KEY,
+        }),
+    }
+}
+
+// The end of a Key Refresh.
+fn end_refresh(p: &Persist, net: u16) -> Outcome
+    ensures { result ≡ phase_end (config_in p.now) net }
+{
+    if !has_net(p, net) {
+        return refused(Status::InvalidNetKey);
+    }
+    if phase_of(p, net) == 0 {
+        return unchanged();
+    }
+    stored(StoreRecord::NetKey {
+        op: 4,
+        index: net,
+        key: NO_KEY,
+    })
+}
+
+// Key Refresh Phase Status.
+fn phase_act(o: &Outcome, net: u16, phase: u8) -> Option<ConfigAct>
+    ensures { result ≡ phase_act o.now net phase }
+{
+    let mut reply = Octets::new();
+    reply.extend(&[0x80, 0x17, status_octet(o.status)]);
+    put_two(&mut reply, net);
+    reply.extend(&[phase]);
+    acted(o.change, reply)
+}
+
+// The phase after a message.
+fn phase_after(p: &Persist, net: u16, o: &Outcome, set: u8) -> u8
+    ensures { result ≡ phase_after (config_in p.now) net o.now set }
+{
+    if o.change.is_some() {
+        set
+    } else {
+        phase_of(p, net)
+    }
+}
+
+/// Key Refresh Phase Get.
+pub fn phase_get(p: &Persist, params: &[u8]) -> Option<ConfigAct>
+    ensures { result ≡ phase_get (config_in p.now) params.now }
+{
+    match params {
+        [a, b] => {
+            let net = index_of(*a, *b);
+            let o = if has_net(p, net) {
+                unchanged()
+            } else {
+                refused(Status::InvalidNetKey)
+            };
+            phase_act(&o, net, phase_of(p, net))
+        }
+        _ => None,
+    }
+}
+
+/// Key Refresh Phase Set.
+pub fn phase_set(p: &Persist, params: &[u8]) -> Option<ConfigAct>
+    ensures { result ≡ phase_set (config_in p.now) params.now }
+{
+    match params {
+        [a, b, 2] => {
+            let net = index_of(*a, *b);
+            let o = begin_phase_two(p, net);
+            phase_act(&o, net, phase_after(p, net, &o, 2))
+        }
+        [a, b, 3] => {
+            let net = index_of(*a, *b);
+            let o = end_refresh(p, net);
+            phase_act(&o, net, phase_after(p, net, &o, 0))
+        }
+        _ => None,
+    }
+}

@@ -1,0 +1,216 @@
+//! Messages about publications (Mesh Profile 1.0.1, sections 4.3.2.15 to 4.3.2.18).
+#![tactic(auto)]
+
+ghost use Rattle.std.specs.Prelude.{◌≡◌, ◌≤◌, ◌==◌, ◌&&◌, not, nat_le, length, filter, option_map};
+ghost use Rattle.std.specs.List.{list_any, find};
+ghost use Rattle.config_definitions.specs.Publishing.{is_model_row, is_publish_ttl, is_same_row, no_row, publication_act, publication_get, publication_set, publication_shown, row_of, row_set};
+ghost use Rattle.layer_definitions.specs.Labels.{is_virtual};
+ghost use Rattle.node_records.specs.Tables.{config_in};
+
+use crate::bindings::has_bind;
+use crate::keys::has_app;
+use crate::models::model_of;
+use crate::params::{
+    acted, address_of, index_of, is_model, put_two, refused, status_octet, stored, unchanged,
+};
+use config_definitions::acts::{ConfigAct, Outcome, Status};
+use mesh_base::address::Address;
+use mesh_base::octets::Octets;
+use node_records::{Persist, PublishRow, StoreRecord};
+
+/// The models that publish at most.
+const MOST: usize = 8;
+
+/// Whether an address is virtual.
+pub fn is_virtual(a: Address) -> bool
+    ensures { result ≡ is_virtual a }
+{
+    0x8000 <= a.0 && a.0 < 0xc000
+}
+
+// Whether a row is of this model.
+fn is_model_row(element: Address, model: u16, row: &PublishRow) -> bool
+    ensures { result ≡ is_model_row element model row.now }
+{
+    row.element.0 == element.0 && row.model == model
+}
+
+// Whether two rows say the same.
+fn is_same_row(a: &PublishRow, b: &PublishRow) -> bool
+    ensures { result ≡ is_same_row a.now b.now }
+{
+    is_model_row(a.element, a.model, b)
+        && a.address.0 == b.address.0
+        && a.app == b.app
+        && a.ttl == b.ttl
+        && a.period == b.period
+        && a.retransmit == b.retransmit
+}
+
+// How many models but this one publish.
+fn count_of_others(p: &Persist, row: &PublishRow) -> usize
+    ensures { result ≡ length (filter (λ r. not (is_model_row row.now.element row.now.model r)) p.now.publications) }
+{
+    p.publications
+        .as_slice()
+        .iter()
+        .filter(|other| !is_model_row(row.element, row.model, other))
+        .count()
+}
+
+// Whether this row is held.
+fn has_row(p: &Persist, row: &PublishRow) -> bool
+    ensures { result ≡ list_any (is_same_row row.now) p.now.publications }
+{
+    p.publications
+        .as_slice()
+        .iter()
+        .any(|other| is_same_row(row, other))
+}
+
+// Publication Set of a model that there is.
+fn set_row(p: &Persist, row: &PublishRow) -> Outcome
+    ensures { result ≡ row_set (config_in p.now) row.now }
+{
+    let publishes = row.address.0 != 0;
+    if is_virtual(row.address) {
+        refused(Status::InvalidAddress)
+    } else if publishes && !has_app(p, row.app) {
+        refused(Status::InvalidAppKey)
+    } else if publishes && !has_bind(p, row.element, row.model, row.app) {
+        refused(Status::InvalidPublish)
+    } else if count_of_others(p, row) >= MOST {
+        refused(Status::InsufficientResources)
+    } else if has_row(p, row) {
+        unchanged()
+    } else {
+        stored(StoreRecord::Publish { row: *row })
+    }
+}
+
+// No publication.
+fn no_row(element: Address, model: u16) -> PublishRow
+    ensures { result ≡ no_row element model }
+{
+    PublishRow {
+        element,
+        model,
+        address: Address(0),
+        app: 0,
+        ttl: 0,
+        period: 0,
+        retransmit: 0,
+    }
+}
+
+// The row of a model.
+fn row_among(rows: &[PublishRow], element: Address, model: u16) -> Option<PublishRow>
+    ensures { result ≡ find (is_model_row element model) rows.now }
+{
+    for row in rows {
+        if is_model_row(element, model, row) {
+            return Some(*row);
+        }
+    }
+    None
+}
+
+// What a model publishes.
+fn row_of(p: &Persist, element: Address, model: u16) -> PublishRow
+    ensures { result ≡ row_of (config_in p.now) element model }
+{
+    match row_among(p.publications.as_slice(), element, model) {
+        Some(row) => row,
+        None => no_row(element, model),
+    }
+}
+
+// Model Publication Status.
+fn publication_act(
+    o: &Outcome,
+    element: Address,
+    row: &PublishRow,
+    model: &[u8],
+) -> Option<ConfigAct>
+    requires { length model.now ≤ 4 }
+    ensures { result ≡ publication_act o.now element row.now model.now }
+{
+    let mut reply = Octets::new();
+    reply.extend(&[0x80, 0x19, status_octet(o.status)]);
+    put_two(&mut reply, element.0);
+    put_two(&mut reply, row.address.0);
+    put_two(&mut reply, row.app);
+    reply.extend(&[row.ttl, row.period, row.retransmit]);
+    reply.extend(model);
+    acted(o.change, reply)
+}
+
+// The answer to a Publication Get.
+fn shown(
+    p: &Persist,
+    element: Address,
+    model: &[u8],
+    number: Result<u16, Status>,
+) -> Option<ConfigAct>
+    requires { length model.now ≤ 4 }
+    ensures { result ≡ publication_shown (config_in p.now) element model.now number }
+{
+    match number {
+        Ok(number) => publication_act(&unchanged(), element, &row_of(p, element, number), model),
+        Err(status) => publication_act(&refused(status), element, &no_row(element, 0), model),
+    }
+}
+
+/// Model Publication Get.
+pub fn publication_get(p: &Persist, params: &[u8]) -> Option<ConfigAct>
+    ensures { result ≡ publication_get (config_in p.now) params.now }
+{
+    match params {
+        [a, b, model @ ..] if is_model(model) => {
+            let element = address_of(*a, *b);
+            let number = model_of(p, element, model, Status::InvalidPublish);
+            shown(p, element, model, number)
+        }
+        _ => None,
+    }
+}
+
+// Whether a TTL may be a Publish TTL.
+fn is_publish_ttl(ttl: u8) -> bool
+    ensures { result ≡ is_publish_ttl ttl }
+{
+    ttl <= 0x7f || ttl == 0xff
+}
+
+/// Model Publication Set.
+pub fn publication_set(p: &Persist, params: &[u8]) -> Option<ConfigAct>
+    ensures { result ≡ publication_set (config_in p.now) params.now }
+{
+    match params {
+        [a, b, c, d, e, f, ttl, period, retransmit, model @ ..]
+            if is_model(model) && is_publish_ttl(*ttl) => {
+            let element = address_of(*a, *b);
+            let asked = PublishRow {
+                element,
+                model: 0,
+                address: address_of(*c, *d),
+                app: index_of(*e, *f),
+                ttl: *ttl,
+                period: *period,
+                retransmit: *retransmit,
+            };
+            let o = match model_of(p, element, model, Status::InvalidPublish) {
+                Ok(number) => set_row(
+                    p,
+                    &PublishRow {
+                        model: number,
+                        ..asked
+                    },
+                ),
+                Err(status) => refused(status),
+            };
+            publication_act(&o, element, &asked, model)
+        }
+        _ => None,
+    }
+}

@@ -1,0 +1,11 @@
+//! Access messages to virtual addresses (Mesh Profile 1.0.1, sections 3.4.2.3 and 3.8.7.1): several labels may have one virtual address,
+//! and the label that a message was sealed with is found by opening it.
+//!
+//! - `opening`: the first label, and with it the first key, that open a message
+#![tactic(auto)]
+
+mod opening;
+#[cfg(test)]
+mod tests;
+
+pub use opening::{LabelOpened, NoLabel, unseal};
