@@ -13,13 +13,14 @@ use Rattle.mesh_types.specs.declared.answers.Answer.{Answer}
 use Rattle.mesh_types.specs.declared.answers.Answer.TheVariants as A
 use Rattle.layer_definitions.specs.Lower.{seq_auth}
 use Rattle.run_definitions.specs.Answers.{config_before, is_again, is_mine, is_segment, is_unicast, lower_answer, message_name, message_pair, named_answer, opened_answer, pair_of, placed_answer, replayed, segment_answer, transport_answer, whole_answer}
-use Rattle.run_definitions.specs.Config.{Config, is_element}
-use Rattle.run_definitions.specs.Entries.{entry_of, has_room}
+use Rattle.store_definitions.specs.Config.{Config, is_element}
+use Rattle.store_definitions.specs.Entries.{entry_of, has_room}
 use Rattle.run_definitions.specs.History.{Opening, OfPdu, Past, Reading}
-use Rattle.run_definitions.specs.Pairs.{is_expired}
+use Rattle.mesh_base.specs.Pairs.{is_expired}
+use Rattle.run_definitions.specs.Layers.{quiet_layers}
 use Rattle.run_definitions.specs.Readings.{IsReading}
 use Rattle.run_definitions.specs.Uses.{accepted}
-use Rattle.mesh_run.specs.Hearing.{has_seg, heard_answer, network_row, no_layers}
+use Rattle.mesh_run.specs.Hearing.{has_seg, heard_answer, network_row}
 use Rattle.mesh_run.specs.Replay.{IsAcceptable}
 
 pub some_is : {A : Type 0} {a b : A} → Some a ≡ Some b → a ≡ b
@@ -63,10 +64,10 @@ refuses_or : (x y : Option Answer) → Refuses x → Refuses y → Refuses (opti
 refuses_or None y h k = k
 refuses_or (Some a) y h k = h
 
-segment_refuses : (past : Past) (r : Reading) (low : Lower) (n : Name) → Refuses (segment_answer no_layers past r low n)
+segment_refuses : (past : Past) (r : Reading) (low : Lower) (n : Name) → Refuses (segment_answer quiet_layers past r low n)
 segment_refuses past r low n = no_answer
 
-lower_refuses : (past : Past) (r : Reading) (low : Lower) (n : Name) → Refuses (lower_answer no_layers past r low n)
+lower_refuses : (past : Past) (r : Reading) (low : Lower) (n : Name) → Refuses (lower_answer quiet_layers past r low n)
 lower_refuses past r low n =
     refuses_pick (is_segment low && is_again past n) _ _ (refused refl)
     (refuses_or _ _ (replay_refuses (entry_of past.records n.src.0) n.pair) (refuses_pick (is_segment low) _ _ (segment_refuses past r low n) no_answer))
@@ -79,7 +80,7 @@ pick_none : (b : Bool) (a : Answer) (x : Option Answer) → cond b (Some a) x �
 pick_none true a x e = absurd (cc)
 pick_none false a x e = e
 
-not_replayed : (past : Past) (r : Reading) (low : Lower) (n : Name) → lower_answer no_layers past r low n ≡ None → replayed (entry_of past.records n.src.0) n.pair ≡ None
+not_replayed : (past : Past) (r : Reading) (low : Lower) (n : Name) → lower_answer quiet_layers past r low n ≡ None → replayed (entry_of past.records n.src.0) n.pair ≡ None
 not_replayed past r low n e = or_none _ _ (pick_none (is_segment low && is_again past n) A.Again _ e)
 
 -- a whole message is accepted under its name, where there is a place for it
@@ -101,7 +102,7 @@ opened_accepts past r m None n e = absurd cc
 opened_accepts past r m (Some o) n e = let (same, place) = placed_accepts past m _ n e in (some_is same, place)
 
 whole_accepts : (past : Past) (r : Reading) (low : Lower) (m : Name) (opening : Option Opening) (n : Name)
-    → accepted (whole_answer no_layers past r low m opening) ≡ Some n → (m ≡ n) × HasPlace past m
+    → accepted (whole_answer quiet_layers past r low m opening) ≡ Some n → (m ≡ n) × HasPlace past m
 whole_accepts past r (Access akf aid upper) m opening n e = opened_accepts past r m opening n e
 whole_accepts past r (AccessPart akf aid szmic seq_zero seg_o seg_n piece) m opening n e = opened_accepts past r m opening n e
 whole_accepts past r (Control opcode params) m opening n e = let (same, place) = placed_accepts past m _ n e in (some_is same, place)
@@ -113,10 +114,10 @@ record Passes (past : Past) (n : Name) : Type 0 where
   place : HasPlace past n
 
 named_accepts : (past : Past) (r : Reading) (low : Lower) (m : Option Name) (opening : Option Opening) (n : Name)
-    → accepted (named_answer no_layers past r low m opening) ≡ Some n → (m ≡ Some n) × Passes past n
+    → accepted (named_answer quiet_layers past r low m opening) ≡ Some n → (m ≡ Some n) × Passes past n
 named_accepts past r low None opening n e = absurd cc
 named_accepts past r low (Some m) opening n e =
-    let (passed, whole) = past_refusal (lower_answer no_layers past r low m) _ n (lower_refuses past r low m) e in
+    let (passed, whole) = past_refusal (lower_answer quiet_layers past r low m) _ n (lower_refuses past r low m) e in
     let (same, place) = whole_accepts past r low m opening n whole in
     let passes : Passes past m = record { newer = not_replayed past r low m passed; place = place } in
     (ap Some same, subst (Passes past) same passes)
@@ -149,7 +150,7 @@ record AcceptedFrom (past : Past) (r : Reading) (n : Name) : Type 0 where
   passes : Passes past n
 
 transport_accepts : (past : Past) (r : Reading) (low : Option Lower) (opening : Option Opening) (n : Name)
-    → accepted (transport_answer no_layers past r low opening) ≡ Some n → AcceptedFrom past r n
+    → accepted (transport_answer quiet_layers past r low opening) ≡ Some n → AcceptedFrom past r n
 transport_accepts past r None opening n e = absurd cc
 transport_accepts past r (Some low) opening n e =
     let (named, passes) = named_accepts past r low (message_name r.fields low) opening n e in
@@ -167,7 +168,7 @@ not_expired c iv p e h = grind (arith, nat_tests)
 
 -- so an accepted name may be accepted
 pub accepts : (past : Past) (octets : List ℕ) (reading : Option Reading) (low : Option Lower) (opening : Option Opening) (n : Name)
-    → IsReading no_layers past octets reading → accepted (heard_answer past (OfPdu reading low opening)) ≡ Some n → IsAcceptable past.records n
+    → IsReading quiet_layers past octets reading → accepted (heard_answer past (OfPdu reading low opening)) ≡ Some n → IsAcceptable past.records n
 accepts past octets None low opening n h e = absurd cc
 accepts past octets (Some r) low opening n h e =
     let from = reading_accepts past r low opening n e in

@@ -3,7 +3,7 @@ use Rattle.std.proofs.Common.{◌≡◌, [], refl, sym, ap, subst, ◌∙◌}
 use Rattle.layer_definitions.specs.KeyRefresh.{app_index, net_index}
 use Rattle.layer_definitions.specs.Order.{by_index, put_row, put_rows}
 use Rattle.mesh_script.specs.declared.provision.ProvisionLine.{ProvisionLine}
-use Rattle.run_definitions.specs.Config.{config_of}
+use Rattle.store_definitions.specs.Config.{config_of}
 use Rattle.mesh_run.specs.Node.{IsNodeOf, net_rows}
 use Rattle.mesh_run.specs.Replay.{StandsFor}
 use Rattle.mesh_run.specs.Told.{first_records}

@@ -1,34 +1,39 @@
 -- From what each layer's function does to the answer of the whole table.
-use Rattle.std.proofs.Common.{◌≡◌, ℕ, ◌+◌, ◌*◌, ◌/◌, ◌%◌, ◌^◌, ◌<◌, Bool, true, false, cond, not, ◌&&◌, ◌||◌, eqb, List, [], ◌∷◌, ◌++◌, refl, ap, sym, subst, ◌∙◌, get_or, arith, append-nil, Option, Some, None}
-use Rattle.std.specs.Prelude.{MatchOption, slice_index}
+use Rattle.std.proofs.Common.{◌≡◌, ℕ, ◌+◌, ◌*◌, ◌/◌, ◌%◌, ◌^◌, ◌<◌, Bool, true, false, cond, not, ◌&&◌, ◌||◌, eqb, List, [], ◌∷◌, ◌++◌, length, refl, ap, sym, subst, ◌∙◌, get_or, arith, append-nil, Option, Some, None}
+use Rattle.std.specs.Prelude.{MatchBool, MatchOption, slice_get, slice_index}
 use Rattle.std.specs.Option.{is_none, is_some, option_map, option_or, option_to_list, unwrap_or}
 use Rattle.std.proofs.lemmas.Bool.Decides.{nat_tests}
-use Rattle.std.proofs.lemmas.Option.{slice_get-get_or, slice_get_within}
-use Rattle.layer_definitions.specs.KeyRefresh.{heard_keys}
+use Rattle.std.proofs.lemmas.Option.{slice_get-get_or, slice_get_past, slice_get_within}
+use Rattle.layer_definitions.specs.KeyRefresh.{app_keys, heard_keys}
+use Rattle.layer_definitions.specs.Labels.{is_virtual}
 use Rattle.layer_definitions.specs.Lower.{ReadsLower, akf_and_aid, as_read, lower_text}
 use Rattle.layer_definitions.specs.Network.{IsUnread, Reads}
 use Rattle.layer_definitions.specs.Upper.{Opens}
 use Rattle.mesh_base.specs.declared.fields.Heard.{Heard}
 use Rattle.mesh_base.specs.declared.fields.NetFields.{NetFields}
 use Rattle.mesh_base.specs.declared.keys.UpperKey.{UpperKey}
+use Rattle.mesh_base.specs.declared.keys.UpperKey.TheVariants as U
 use Rattle.mesh_base.specs.declared.lower.Lower.{Lower}
 use Rattle.mesh_base.specs.declared.lower.Lower.TheVariants.{Access, Control, AccessPart, ControlPart}
 use Rattle.mesh_base.specs.declared.pair.Name.{Name}
 use Rattle.mesh_base.specs.declared.pair.Pair.{Pair}
 use Rattle.mesh_base.specs.declared.upper.UpperFields.{UpperFields}
 use Rattle.mesh_script.specs.declared.provision.ProvisionLine.{ProvisionLine}
+use Rattle.mesh_types.specs.KeyName.{key_name_of}
 use Rattle.mesh_types.specs.declared.answers.Answer.{Answer}
 use Rattle.mesh_types.specs.declared.answers.Answer.TheVariants as A
+use Rattle.mesh_types.specs.declared.answers.KeyName.{KeyName}
 use Rattle.mesh_types.specs.declared.events.Event.TheVariants as E
-use Rattle.mesh_types.specs.declared.records.StoreRecord.{StoreRecord}
-use Rattle.mesh_types.specs.declared.records.StoreRecord.TheVariants as R
+use Rattle.record_types.specs.declared.records.StoreRecord.{StoreRecord}
+use Rattle.record_types.specs.declared.records.StoreRecord.TheVariants as R
 use Rattle.run_definitions.specs.Answers.{config_before, is_mine, is_segment, is_unicast, lower_answer, message_name, name_of, named_answer, opened_answer, placed_answer, replayed, transport_answer, whole_answer}
-use Rattle.run_definitions.specs.Config.{Config, changed, is_element}
-use Rattle.run_definitions.specs.Entries.{entry_of, has_room, others_held}
+use Rattle.store_definitions.specs.Config.{Config, changed, is_element}
+use Rattle.store_definitions.specs.Entries.{entry_of, has_room, others_held}
 use Rattle.run_definitions.specs.History.{Opening, OfPdu, Past, Reading}
-use Rattle.run_definitions.specs.Readings.{IsLowerPdu, IsOpened, IsOpenedUnder, IsOpeningOf, fields_heard, keys_tried}
+use Rattle.run_definitions.specs.Layers.{quiet_layers}
+use Rattle.run_definitions.specs.Readings.{IsLowerPdu, IsOpened, IsOpenedByLabel, IsOpenedFor, IsOpenedUnder, IsOpeningOf, fields_heard, keys_tried, labels_tried}
 use Rattle.run_definitions.specs.Uses.{accepted}
-use Rattle.mesh_run.specs.Hearing.{Hears, sees_pdu, has_seg, network_row, no_layers, remembered}
+use Rattle.mesh_run.specs.Hearing.{Hears, sees_pdu, has_seg, network_row, remembered}
 use Rattle.mesh_run.specs.Lived.{SeesAs}
 use Rattle.mesh_run.specs.Node.{AnswersAs, IsNodeOf, LowerAs, OpensAs, ReadAs, TransportAs, WholeAs, first_config, net_rows}
 use Rattle.mesh_run.specs.Replay.{IsAcceptable, StandsFor}
@@ -49,6 +54,10 @@ first_current p = refl
 pub first_apps : (p : ProvisionLine) → (first_config p).apps ≡ []
 unfolding changed
 first_apps p = refl
+
+pub first_labels : (p : ProvisionLine) → labels_tried (first_config p) ≡ []
+unfolding changed
+first_labels p = refl
 
 pub first_dev_key : (p : ProvisionLine) → (first_config p).dev_key ≡ p.dev_key
 unfolding changed
@@ -107,7 +116,7 @@ or_nothing : (o : Option Answer) → option_or o None ≡ o
 or_nothing None = refl
 or_nothing (Some a) = refl
 
-lower_is : (past : Past) (r : Reading) (low : Lower) (n : Name) → is_segment low ≡ false → lower_answer no_layers past r low n ≡ replayed (entry_of past.records n.src.0) n.pair
+lower_is : (past : Past) (r : Reading) (low : Lower) (n : Name) → is_segment low ≡ false → lower_answer quiet_layers past r low n ≡ replayed (entry_of past.records n.src.0) n.pair
 lower_is past r (Access akf aid upper) n h = or_nothing _
 lower_is past r (Control opcode params) n h = or_nothing _
 lower_is past r (AccessPart akf aid szmic seq_zero seg_o seg_n piece) n h = absurd cc
@@ -116,21 +125,21 @@ lower_is past r (ControlPart opcode seq_zero seg_o seg_n piece) n h = absurd cc
 pub lower_replay : (past : Past) (r : Reading) (low : Lower) (a : Answer) → is_segment low ≡ false
     → replayed (entry_of past.records (name_of r.fields).src.0) (name_of r.fields).pair ≡ Some a → LowerAs past r low a
 lower_replay past r low a h e =
-    let is : lower_answer no_layers past r low (name_of r.fields) ≡ Some a = lower_is past r low (name_of r.fields) h ∙ e in
+    let is : lower_answer quiet_layers past r low (name_of r.fields) ≡ Some a = lower_is past r low (name_of r.fields) h ∙ e in
     record {
       opening = None;
-      opens = subst (λ o. MatchOption o (IsOpened no_layers past r (name_of r.fields) low None) (λ answer. let none : Option Opening = None in none ≡ None)) (sym is) refl;
-      answer_is = ap (λ o. unwrap_or o (whole_answer no_layers past r low (name_of r.fields) None)) (sym is);
+      opens = subst (λ o. MatchOption o (IsOpened quiet_layers past r (name_of r.fields) low None) (λ answer. let none : Option Opening = None in none ≡ None)) (sym is) refl;
+      answer_is = ap (λ o. unwrap_or o (whole_answer quiet_layers past r low (name_of r.fields) None)) (sym is);
     }
 
 pub lower_whole : (past : Past) (r : Reading) (low : Lower) (a : Answer) → is_segment low ≡ false
     → replayed (entry_of past.records (name_of r.fields).src.0) (name_of r.fields).pair ≡ None → WholeAs past r low a → LowerAs past r low a
 lower_whole past r low a h e w =
-    let is : lower_answer no_layers past r low (name_of r.fields) ≡ None = lower_is past r low (name_of r.fields) h ∙ e in
+    let is : lower_answer quiet_layers past r low (name_of r.fields) ≡ None = lower_is past r low (name_of r.fields) h ∙ e in
     record {
       opening = w.opening;
-      opens = subst (λ o. MatchOption o (IsOpened no_layers past r (name_of r.fields) low w.opening) (λ answer. w.opening ≡ None)) (sym is) w.opens;
-      answer_is = w.answer_is ∙ ap (λ o. unwrap_or o (whole_answer no_layers past r low (name_of r.fields) w.opening)) (sym is);
+      opens = subst (λ o. MatchOption o (IsOpened quiet_layers past r (name_of r.fields) low w.opening) (λ answer. w.opening ≡ None)) (sym is) w.opens;
+      answer_is = w.answer_is ∙ ap (λ o. unwrap_or o (whole_answer quiet_layers past r low (name_of r.fields) w.opening)) (sym is);
     }
 
 -- The lower transport layer.
@@ -143,8 +152,8 @@ transport_lower past r low a h reads l =
       low = Some low;
       opening = l.opening;
       lower = reads;
-      opens = subst (λ m. IsOpeningOf no_layers past r low m l.opening) (sym named) l.opens;
-      answer_is = l.answer_is ∙ ap (λ m. named_answer no_layers past r low m l.opening) (sym named);
+      opens = subst (λ m. IsOpeningOf quiet_layers past r low m l.opening) (sym named) l.opens;
+      answer_is = l.answer_is ∙ ap (λ m. named_answer quiet_layers past r low m l.opening) (sym named);
     }
 
 pub transport_malformed : (past : Past) (r : Reading) → IsLowerPdu r.fields None → TransportAs past r A.Malformed
@@ -161,7 +170,7 @@ read_early past r a e = record {
   opening = None;
   lower = subst (λ o. MatchOption o (IsLowerPdu r.fields None) (λ answer. let none : Option Lower = None in none ≡ None)) (sym e) refl;
   opens = refl;
-  answer_is = ap (λ o. unwrap_or o (transport_answer no_layers past r None None)) (sym e);
+  answer_is = ap (λ o. unwrap_or o (transport_answer quiet_layers past r None None)) (sym e);
 }
 
 pub read_late : (past : Past) (r : Reading) (a : Answer) → network_row (config_before past) r.fields ≡ None → TransportAs past r a → ReadAs past r a
@@ -170,7 +179,7 @@ read_late past r a e t = record {
   opening = t.opening;
   lower = subst (λ o. MatchOption o (IsLowerPdu r.fields t.low) (λ answer. t.low ≡ None)) (sym e) t.lower;
   opens = t.opens;
-  answer_is = t.answer_is ∙ ap (λ o. unwrap_or o (transport_answer no_layers past r t.low t.opening)) (sym e);
+  answer_is = t.answer_is ∙ ap (λ o. unwrap_or o (transport_answer quiet_layers past r t.low t.opening)) (sym e);
 }
 
 -- the keys and the IV Index that octets are read under
@@ -213,8 +222,8 @@ answers_unread past n octets h none = record {
 
 -- The last rows.
 
-placed_pick : (kept : Option Pair) (room b : Bool) (held : ℕ) (a : Answer) → b ≡ (is_some kept || room) → (b ≡ false → held ≡ 64)
-    → cond b a (A.ListFull 64) ≡ cond (is_none kept && not room) (A.ListFull held) a
+placed_pick : (kept : Option Pair) (room b : Bool) (held : ℕ) (a : Answer) → b ≡ (is_some kept || room) → (b ≡ false → held ≡ 512)
+    → cond b a (A.ListFull 512) ≡ cond (is_none kept && not room) (A.ListFull held) a
 placed_pick None true true held a e full = refl
 placed_pick None true false held a e full = absurd cc
 placed_pick None false true held a e full = absurd cc
@@ -223,29 +232,65 @@ placed_pick (Some p) room true held a e full = refl
 placed_pick (Some p) room false held a e full = absurd cc
 
 pub placed_is : (past : Past) (n : Name) (a : Answer) (b : Bool) → b ≡ (is_some (entry_of past.records n.src.0) || has_room past.records n.src.0)
-    → (b ≡ false → others_held past.records n.src.0 ≡ 64) → cond b a (A.ListFull 64) ≡ placed_answer past n a
+    → (b ≡ false → others_held past.records n.src.0 ≡ 512) → cond b a (A.ListFull 512) ≡ placed_answer past n a
 placed_is past n a b e full = placed_pick (entry_of past.records n.src.0) (has_room past.records n.src.0) b (others_held past.records n.src.0) a e full
 
 -- A whole message.
 
 opened_some : (keys : List UpperKey) (f : UpperFields) (upper : List ℕ) (at : ℕ) (payload : List ℕ) (d : UpperKey) → Opens keys f upper at payload
-    → IsOpenedUnder keys f upper (Some (record { key = get_or keys at d; payload = payload }))
-opened_some keys f upper at payload d o = (at, slice_get-get_or keys at d (slice_get_within keys at o.key o.key_is), o)
+    → IsOpenedUnder keys f upper (Some (record { key = get_or keys at d; label = None; payload = payload }))
+opened_some keys f upper at payload d o = (at, slice_get-get_or keys at d (slice_get_within keys at o.key o.key_is), refl, o)
 
 pub opens_some : (c : Config) (r : Reading) (akf : Bool) (aid : ℕ) (upper : List ℕ) (at : ℕ) (payload : List ℕ) (d : UpperKey) (keys slice others : List UpperKey) (n : Name)
     → keys ≡ keys_tried c r akf aid → slice ≡ keys → others ≡ keys → n ≡ name_of r.fields
     → Opens slice (record { pair = n.pair; src = r.fields.src; dst = r.fields.dst; long_mic = false; label = None }) upper at payload
-    → OpensAs c r akf aid upper (Some (record { key = get_or others at d; payload = payload }))
+    → OpensAs c r akf aid upper (Some (record { key = get_or others at d; label = None; payload = payload }))
 opens_some c r akf aid upper at payload d keys slice others n e f g h o =
     rw (g, e) (opened_some (keys_tried c r akf aid) (fields_heard r (name_of r.fields) false) upper at payload d (rw (f, e, h) at o))
 
+-- The node holds no labels, and under a virtual DST it tries no key.
+no_key_tried : (p : ProvisionLine) (r : Reading) (akf : Bool) (aid : ℕ) → is_virtual r.fields.dst ≡ true → keys_tried (first_config p) r akf aid ≡ []
+no_key_tried p r true aid e = ap (λ apps. app_keys apps r.by.index aid) (first_apps p)
+no_key_tried p r false aid e =
+    let other : is_unicast r.fields.dst ≡ false = grind (arith, nat_tests) in
+    ap (λ b. cond b (U.Device (first_config p).dev_key ∷ []) []) other
+
+nothing_there : {A : Type 0} (xs : List A) (i : ℕ) (x : A) → length xs ≡ 0 → slice_get xs i ≡ Some x → ⊥
+nothing_there xs i x e f = let none : slice_get xs i ≡ None = slice_get_past xs i (omega (arith, e)) in cc
+
+no_opening : (keys : List UpperKey) (f : UpperFields) (upper : List ℕ) (opening : Option Opening) → IsOpenedUnder [] f upper opening → IsOpenedByLabel keys [] f upper opening
+no_opening keys f upper None h = λ i label is address. absurd (nothing_there [] i label refl is)
+no_opening keys f upper (Some o) (at, is, none, opens) = absurd (nothing_there [] at o.key refl is)
+
+opened_for : (p : ProvisionLine) (r : Reading) (akf : Bool) (aid : ℕ) (upper : List ℕ) (opening : Option Opening) → OpensAs (first_config p) r akf aid upper opening
+    → IsOpenedFor (first_config p) (keys_tried (first_config p) r akf aid) (fields_heard r (name_of r.fields) false) upper opening
+opened_for p r akf aid upper opening o = either (is_virtual r.fields.dst) refl
+  where
+    either : (b : Bool) → is_virtual r.fields.dst ≡ b
+        → MatchBool b
+        (IsOpenedByLabel (keys_tried (first_config p) r akf aid) (labels_tried (first_config p)) (fields_heard r (name_of r.fields) false) upper opening)
+        (OpensAs (first_config p) r akf aid upper opening)
+    either true e =
+        subst (λ labels. IsOpenedByLabel (keys_tried (first_config p) r akf aid) labels (fields_heard r (name_of r.fields) false) upper opening) (sym (first_labels p))
+        (no_opening (keys_tried (first_config p) r akf aid) (fields_heard r (name_of r.fields) false) upper opening
+        (subst (λ keys. IsOpenedUnder keys (fields_heard r (name_of r.fields) false) upper opening) (no_key_tried p r akf aid e) o))
+    either false e = o
+
 before_config : (past : Past) (n : Node) (r : Reading) (akf : Bool) (aid : ℕ) (upper : List ℕ) (opening : Option Opening) → IsNodeOf n past.records
-    → OpensAs (first_config n.provision) r akf aid upper opening → IsOpened no_layers past r (name_of r.fields) (Access akf aid upper) opening
-before_config past n r akf aid upper opening h o = subst (λ c. OpensAs c r akf aid upper opening) (sym h.config) o
+    → OpensAs (first_config n.provision) r akf aid upper opening → IsOpened quiet_layers past r (name_of r.fields) (Access akf aid upper) opening
+before_config past n r akf aid upper opening h o =
+    subst (λ c. IsOpenedFor c (keys_tried c r akf aid) (fields_heard r (name_of r.fields) false) upper opening) (sym h.config)
+    (opened_for n.provision r akf aid upper opening o)
 
 pub whole_access : (past : Past) (n : Node) (r : Reading) (akf : Bool) (aid : ℕ) (upper : List ℕ) (opening : Option Opening) (a : Answer) → IsNodeOf n past.records
     → OpensAs (first_config n.provision) r akf aid upper opening → a ≡ opened_answer past r (name_of r.fields) opening → WholeAs past r (Access akf aid upper) a
 whole_access past n r akf aid upper opening a h o e = record { opening = opening; opens = before_config past n r akf aid upper opening h o; answer_is = e }
+
+pub delivered_is : (past : Past) (r : Reading) (n : Name) (key : KeyName) (o : Opening) (a : Answer) → n ≡ name_of r.fields → key ≡ key_name_of o.key
+    → a ≡ placed_answer past n (A.Delivered n r.fields.dst key o.payload) → a ≡ opened_answer past r (name_of r.fields) (Some o)
+delivered_is past r n key o a e f g =
+    g ∙ ap (λ x. placed_answer past x (A.Delivered x r.fields.dst key o.payload)) e
+    ∙ ap (λ x. placed_answer past (name_of r.fields) (A.Delivered (name_of r.fields) r.fields.dst x o.payload)) f
 
 pub whole_control : (past : Past) (r : Reading) (opcode : ℕ) (params : List ℕ) (a : Answer)
     → a ≡ placed_answer past (name_of r.fields) (A.Control (name_of r.fields) r.fields.dst opcode params) → WholeAs past r (Control opcode params) a
@@ -255,19 +300,19 @@ whole_control past r opcode params a e = record { opening = None; opens = refl; 
 
 pub remembers : (past : Past) (octets : List ℕ) (n : Node) (replay : List Name) (answer : Answer) (name : Name) → IsNodeOf n past.records → AnswersAs past octets answer
     → accepted answer ≡ Some name
-    → ((records : List StoreRecord) → StandsFor n.replay records → IsAcceptable records name → StandsFor replay (records ++ R.Replay name ∷ []))
+    → ((records : List StoreRecord) → StandsFor n.replay records → IsAcceptable records name → StandsFor replay (records ++ R.Replay name None ∷ []))
     → IsNodeOf (record n { replay = replay }) (past.records ++ remembered answer)
 remembers past octets n replay answer name h a e f =
     let ok : IsAcceptable past.records name = accepts past octets a.reading a.low a.opening name a.hears.reads (ap accepted (sym a.answer_is) ∙ e) in
-    let more : IsNodeOf (record n { replay = replay }) (past.records ++ R.Replay name ∷ []) = record {
+    let more : IsNodeOf (record n { replay = replay }) (past.records ++ R.Replay name None ∷ []) = record {
       config = config_push past.records name ∙ h.config;
       keys = record { nets = h.keys.nets; apps = h.keys.apps };
       replay = f past.records h.replay ok;
     } in
-    subst (λ o. IsNodeOf (record n { replay = replay }) (past.records ++ option_to_list (option_map R.Replay o))) (sym e) more
+    subst (λ o. IsNodeOf (record n { replay = replay }) (past.records ++ option_to_list (option_map (λ name. R.Replay name None) o))) (sym e) more
 
 pub remembers_nothing : (past : Past) (n : Node) (answer : Answer) → IsNodeOf n past.records → accepted answer ≡ None → IsNodeOf n (past.records ++ remembered answer)
-remembers_nothing past n answer h e = subst (λ o. IsNodeOf n (past.records ++ option_to_list (option_map R.Replay o))) (sym e) (rw (append-nil past.records) h)
+remembers_nothing past n answer h e = subst (λ o. IsNodeOf n (past.records ++ option_to_list (option_map (λ name. R.Replay name None) o))) (sym e) (rw (append-nil past.records) h)
 
 -- Of an event.
 

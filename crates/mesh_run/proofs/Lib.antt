@@ -2,7 +2,6 @@ pub mod Written
 pub mod Records
 pub mod Replays
 pub mod Accepting
-pub mod Candidates
 pub mod Heard
 pub mod Once
 pub mod Safety

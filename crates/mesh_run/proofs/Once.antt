@@ -15,14 +15,15 @@ use Rattle.mesh_script.specs.declared.grammar.Script.{Script}
 use Rattle.mesh_script.specs.declared.provision.ProvisionLine.{ProvisionLine}
 use Rattle.mesh_types.specs.declared.answers.Answer.TheVariants as A
 use Rattle.mesh_types.specs.declared.events.Event.{Event}
-use Rattle.mesh_types.specs.declared.records.StoreRecord.{StoreRecord}
-use Rattle.mesh_types.specs.declared.records.StoreRecord.TheVariants as R
+use Rattle.record_types.specs.declared.records.StoreRecord.{StoreRecord}
+use Rattle.record_types.specs.declared.records.StoreRecord.TheVariants as R
 use Rattle.run_definitions.specs.Answers.{replayed}
-use Rattle.run_definitions.specs.Config.{config_of}
-use Rattle.run_definitions.specs.Entries.{greatest_with, kept_of, unexpired}
+use Rattle.store_definitions.specs.Config.{config_of}
+use Rattle.store_definitions.specs.Entries.{greatest_with, kept_of, unexpired}
 use Rattle.run_definitions.specs.History.{Insight, Past, Told}
-use Rattle.run_definitions.specs.Pairs.{is_expired, is_newer, newer_of}
-use Rattle.run_definitions.specs.Record.{Run}
+use Rattle.mesh_base.proofs.Pairs.{expired_below, not_newer_itself, not_newer_left, not_newer_right}
+use Rattle.mesh_base.specs.Pairs.{is_expired, is_newer}
+use Rattle.report_definitions.specs.Record.{Run}
 use Rattle.run_definitions.specs.Uses.{AtMostOnce, accepted, delivered}
 use Rattle.mesh_run.specs.Hearing.{Sees, sees_pdu, sees_nothing, answer_to, remembered}
 use Rattle.mesh_run.specs.Replay.{IsAcceptable}
@@ -37,19 +38,6 @@ data Blocked (n : Name) : Option Pair → Type 0 where
 abbrev IsBlocked : List StoreRecord → Name → Type 0
 IsBlocked records n = Blocked n (kept_of records n.src.0)
 
-not_newer_left : (n p q : Pair) → is_newer n p ≡ false → is_newer n (newer_of p q) ≡ false
-not_newer_left n p q h = grind (arith, nat_tests)
-
-not_newer_right : (p q : Pair) → is_newer q (newer_of p q) ≡ false
-not_newer_right p q = grind (arith, nat_tests)
-
-not_newer_itself : (p : Pair) → is_newer p p ≡ false
-not_newer_itself p = grind (arith, nat_tests)
-
--- what isn't newer than an expired pair is expired
-expired_below : (c : ℕ) (n p : Pair) → is_newer n p ≡ false → is_expired c p ≡ true → is_expired c n ≡ true
-expired_below c n p h k = grind (arith, nat_tests)
-
 blocked_with : (n : Name) (kept : Option Pair) (q : Pair) → Blocked n kept → Blocked n (greatest_with kept q)
 blocked_with n None q h = elim h [ ]
 blocked_with n (Some p) q (blocked e) = blocked (not_newer_left n.pair p q e)
@@ -59,15 +47,15 @@ blocked_pick n true p q h k = h
 blocked_pick n false p q h k = k
 
 -- it stays blocked with a record more, and is blocked by its own
-blocked_push : (n : Name) (records : List StoreRecord) (m : Name) → IsBlocked records n → IsBlocked (records ++ R.Replay m ∷ []) n
-blocked_push n records m h = rw (kept_push records (R.Replay m)) (blocked_pick n _ _ _ (blocked_with n (kept_of records n.src.0) m.pair h) h)
+blocked_push : (n : Name) (records : List StoreRecord) (m : Name) → IsBlocked records n → IsBlocked (records ++ R.Replay m None ∷ []) n
+blocked_push n records m h = rw (kept_push records (R.Replay m None)) (blocked_pick n _ _ _ (blocked_with n (kept_of records n.src.0) m.pair h) h)
 
 blocked_by_itself : (n : Name) (kept : Option Pair) → Blocked n (greatest_with kept n.pair)
 blocked_by_itself n None = blocked (not_newer_itself n.pair)
 blocked_by_itself n (Some q) = blocked (not_newer_right q n.pair)
 
-blocked_by_replay : (n : Name) (records : List StoreRecord) → IsBlocked (records ++ R.Replay n ∷ []) n
-blocked_by_replay n records = rw (kept_push records (R.Replay n), eq-eqb n.src.0 n.src.0 refl) (blocked_by_itself n (kept_of records n.src.0))
+blocked_by_replay : (n : Name) (records : List StoreRecord) → IsBlocked (records ++ R.Replay n None ∷ []) n
+blocked_by_replay n records = rw (kept_push records (R.Replay n None), eq-eqb n.src.0 n.src.0 refl) (blocked_by_itself n (kept_of records n.src.0))
 
 -- A blocked name may not be accepted.
 kept_back : (p : Pair) (b : Bool) → b ≡ false → cond b None (Some (A.Replay p)) ≡ None → ⊥
@@ -92,11 +80,11 @@ record Once (ns : List Name) (records : List StoreRecord) : Type 0 where
   stay : All (IsBlocked records) ns
 
 once_with : (o : Option Name) (ns : List Name) (records : List StoreRecord) → ((n : Name) → o ≡ Some n → IsAcceptable records n) → Once ns records
-    → Once (ns ++ option_to_list o) (records ++ option_to_list (option_map R.Replay o))
+    → Once (ns ++ option_to_list o) (records ++ option_to_list (option_map (λ name. R.Replay name None) o))
 once_with None ns records f h = rw (append-nil ns, append-nil records) h
 once_with (Some n) ns records f h = record {
   differ = all_pairs_push (λ m k. m ≢ k) ns n h.differ (λ k d lt. blocked_differs records _ n (h.stay k d lt) (f n refl));
-  stay = All-push (IsBlocked (records ++ R.Replay n ∷ [])) ns n (λ k d lt. blocked_push _ records n (h.stay k d lt)) (blocked_by_replay n records);
+  stay = All-push (IsBlocked (records ++ R.Replay n None ∷ [])) ns n (λ k d lt. blocked_push _ records n (h.stay k d lt)) (blocked_by_replay n records);
 }
 
 -- what an entry accepts may be accepted

@@ -6,14 +6,14 @@ use Rattle.std.proofs.lemmas.Bool.Decides.{nat_tests}
 use Rattle.std.proofs.lemmas.Grind.{fold-append}
 use Rattle.mesh_base.specs.declared.pair.Name.{Name}
 use Rattle.mesh_base.specs.declared.pair.Pair.{Pair}
-use Rattle.mesh_types.specs.declared.records.StoreRecord.{StoreRecord}
-use Rattle.mesh_types.specs.declared.records.StoreRecord.TheVariants as R
-use Rattle.run_definitions.specs.Config.{changed, config_of, no_config}
-use Rattle.run_definitions.specs.Entries.{greatest_with, kept_after, kept_of, sources_after, sources_of}
+use Rattle.record_types.specs.declared.records.StoreRecord.{StoreRecord}
+use Rattle.record_types.specs.declared.records.StoreRecord.TheVariants as R
+use Rattle.store_definitions.specs.Config.{changed, config_of, no_config}
+use Rattle.store_definitions.specs.Entries.{greatest_with, kept_after, kept_of, kept_with, names_in, sources_after, sources_of, sources_with}
 
-pub config_push : (records : List StoreRecord) (n : Name) → config_of (records ++ R.Replay n ∷ []) ≡ config_of records
+pub config_push : (records : List StoreRecord) (n : Name) → config_of (records ++ R.Replay n None ∷ []) ≡ config_of records
 unfolding changed
-config_push records n = fold-append changed no_config records (R.Replay n ∷ [])
+config_push records n = fold-append changed no_config records (R.Replay n None ∷ [])
 
 pub kept_push : (records : List StoreRecord) (r : StoreRecord) (src : ℕ) → kept_of (records ++ r ∷ []) src ≡ kept_after src (kept_of records src) r
 kept_push records r src = fold-append (kept_after src) None records (r ∷ [])
@@ -38,10 +38,15 @@ listed_pick src at pair kept srcs true false e f h = some_with kept pair ∙ ap 
 listed_pick src at pair kept srcs false true e f h = h
 listed_pick src at pair kept srcs false false e f h = h ∙ ap (λ b. b || is_among src srcs) (sym e)
 
+listed_names : (names : List Name) (kept : Option Pair) (srcs : List ℕ) (src : ℕ) → is_some kept ≡ is_among src srcs
+    → is_some (fold (kept_with src) kept names) ≡ is_among src (fold sources_with srcs names)
+listed_names [] kept srcs src h = h
+listed_names (n ∷ ns) kept srcs src h =
+    listed_names ns (kept_with src kept n) (sources_with srcs n) src (listed_pick src n.src.0 n.pair kept srcs _ _ refl refl h)
+
 listed_after : (r : StoreRecord) (kept : Option Pair) (srcs : List ℕ) (src : ℕ) → is_some kept ≡ is_among src srcs
     → is_some (kept_after src kept r) ≡ is_among src (sources_after srcs r)
-listed_after (R.Replay name) kept srcs src h = listed_pick src name.src.0 name.pair kept srcs _ _ refl refl h
-listed_after _ kept srcs src h = h
+listed_after r kept srcs src h = listed_names (names_in r) kept srcs src h
 
 listed_from : (records : List StoreRecord) (kept : Option Pair) (srcs : List ℕ) (src : ℕ) → is_some kept ≡ is_among src srcs
     → is_some (fold (kept_after src) kept records) ≡ is_among src (fold sources_after srcs records)

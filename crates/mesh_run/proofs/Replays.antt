@@ -11,12 +11,12 @@ use Rattle.std.proofs.lemmas.Option.{slice_get-get_or, slice_get_past}
 use Rattle.mesh_base.specs.declared.pair.Name.{Name}
 use Rattle.mesh_base.specs.declared.pair.Pair.{Pair}
 use Rattle.mesh_types.specs.declared.answers.Answer.TheVariants as A
-use Rattle.mesh_types.specs.declared.records.StoreRecord.{StoreRecord}
-use Rattle.mesh_types.specs.declared.records.StoreRecord.TheVariants as R
+use Rattle.record_types.specs.declared.records.StoreRecord.{StoreRecord}
+use Rattle.record_types.specs.declared.records.StoreRecord.TheVariants as R
 use Rattle.run_definitions.specs.Answers.{replayed}
-use Rattle.run_definitions.specs.Config.{config_of}
-use Rattle.run_definitions.specs.Entries.{entry_of, greatest_with, has_room, kept_of, others_held, sources_of, unexpired}
-use Rattle.run_definitions.specs.Pairs.{is_expired, is_newer}
+use Rattle.store_definitions.specs.Config.{config_of}
+use Rattle.store_definitions.specs.Entries.{entry_of, greatest_with, has_room, kept_of, others_held, sources_of, unexpired}
+use Rattle.mesh_base.specs.Pairs.{is_expired, is_newer}
 use Rattle.mesh_run.specs.Replay.{has_place, is_of, kept_in, with_name, IsAcceptable, StandsFor}
 use Rattle.mesh_run.proofs.Records.{config_push, is_among, kept_push, listed, sources_push}
 
@@ -72,13 +72,13 @@ place_is names records src h = either (kept_in names src) refl
     either None e = rw (← entry_is names records src h, e, others_are names records src h e) refl
     either (Some p) e = rw (← entry_is names records src h, e) refl
 
-pub full_is : (names : List Name) (records : List StoreRecord) (src : ℕ) → StandsFor names records → length names ≤ 64 → has_place names src ≡ false → others_held records src ≡ 64
+pub full_is : (names : List Name) (records : List StoreRecord) (src : ℕ) → StandsFor names records → length names ≤ 512 → has_place names src ≡ false → others_held records src ≡ 512
 full_is names records src h most f = either (kept_in names src) refl
   where
-    either : (kept : Option Pair) → kept_in names src ≡ kept → others_held records src ≡ 64
+    either : (kept : Option Pair) → kept_in names src ≡ kept → others_held records src ≡ 512
     either None e =
-        let full : ltb (length names) 64 ≡ false = rw e at f in
-        let least : 64 ≤ length names = grind (arith, nat_tests) in
+        let full : ltb (length names) 512 ≡ false = rw e at f in
+        let least : 512 ≤ length names = grind (arith, nat_tests) in
         omega (arith, others_are names records src h e)
     either (Some p) e = absurd (let t : true ≡ false = rw e at f in cc)
 
@@ -166,17 +166,17 @@ greatest_is : (names : List Name) (records : List StoreRecord) (n : Name) → St
 greatest_is names records n h a = newer_entry (kept_of records n.src.0) n.pair (subst (λ o. replayed o n.pair ≡ None) (entry_is_kept names records n.src.0 h) a.newer)
 
 kept_with : (names : List Name) (records : List StoreRecord) (n : Name) (src : ℕ) → StandsFor names records → IsAcceptable records n
-    → kept_of (records ++ R.Replay n ∷ []) src ≡ cond (eqb n.src.0 src) (Some n.pair) (kept_of records src)
-kept_with names records n src h a = kept_push records (R.Replay n) src ∙ either (eqb n.src.0 src) refl
+    → kept_of (records ++ R.Replay n None ∷ []) src ≡ cond (eqb n.src.0 src) (Some n.pair) (kept_of records src)
+kept_with names records n src h a = kept_push records (R.Replay n None) src ∙ either (eqb n.src.0 src) refl
   where
     either : (same : Bool) → eqb n.src.0 src ≡ same → cond same (greatest_with (kept_of records src) n.pair) (kept_of records src) ≡ cond same (Some n.pair) (kept_of records src)
     either true e = let s : n.src.0 ≡ src = grind (arith, nat_tests) in subst (λ (x : ℕ). greatest_with (kept_of records x) n.pair ≡ Some n.pair) s (greatest_is names records n h a)
     either false e = refl
 
-count_with : (names : List Name) (records : List StoreRecord) (n : Name) → StandsFor names records → length (sources_of (records ++ R.Replay n ∷ [])) ≡ length (with_name names n)
+count_with : (names : List Name) (records : List StoreRecord) (n : Name) → StandsFor names records → length (sources_of (records ++ R.Replay n None ∷ [])) ≡ length (with_name names n)
 count_with names records n h =
     let among : is_some (kept_in names n.src.0) ≡ is_among n.src.0 (sources_of records) = ap is_some (h.kept n.src.0) ∙ listed records n.src.0 in
-    ap length (sources_push records (R.Replay n)) ∙ rw (with_count names n, among) (either (is_among n.src.0 (sources_of records)))
+    ap length (sources_push records (R.Replay n None)) ∙ rw (with_count names n, among) (either (is_among n.src.0 (sources_of records)))
   where
     either : (there : Bool) → length (cond there (sources_of records) (n.src.0 ∷ sources_of records)) ≡ cond there (length names) (length names + 1)
     either true = h.count
@@ -187,7 +187,7 @@ live_with : (current : ℕ) (same : Bool) (q : Pair) (kept : Option Pair) (p : P
 live_with current true q kept p e h k = let s : q ≡ p = cc in subst (λ x. is_expired current x ≡ false) s e
 live_with current false q kept p e h k = h p k
 
-pub stands_with : (names : List Name) (records : List StoreRecord) (n : Name) → StandsFor names records → IsAcceptable records n → StandsFor (with_name names n) (records ++ R.Replay n ∷ [])
+pub stands_with : (names : List Name) (records : List StoreRecord) (n : Name) → StandsFor names records → IsAcceptable records n → StandsFor (with_name names n) (records ++ R.Replay n None ∷ [])
 stands_with names records n h a = record {
   kept = λ src. with_kept names n src ∙ ap (λ o. cond (eqb n.src.0 src) (Some n.pair) o) (h.kept src) ∙ sym (kept_with names records n src h a);
   count = count_with names records n h;
@@ -219,10 +219,10 @@ found_place names n place e = either (ltb (place_of names n.src.0) (length names
     either false f e = absurd cc
 
 pub stands_set : (names : List Name) (records : List StoreRecord) (n : Name) (place : ℕ) (new : List Name) → position (is_of n.src.0) names ≡ Some place → new ≡ slice_set names place n
-    → StandsFor names records → IsAcceptable records n → StandsFor new (records ++ R.Replay n ∷ [])
+    → StandsFor names records → IsAcceptable records n → StandsFor new (records ++ R.Replay n None ∷ [])
 stands_set names records n place new e w h a =
     let (at, lt) = found_place names n place e in
-    subst (λ x. StandsFor x (records ++ R.Replay n ∷ [])) (sym (w ∙ set_is names n place at lt)) (stands_with names records n h a)
+    subst (λ x. StandsFor x (records ++ R.Replay n None ∷ [])) (sym (w ∙ set_is names n place at lt)) (stands_with names records n h a)
 
 -- where it has none, and so there is a place
 no_place : (names : List Name) (n : Name) → position (is_of n.src.0) names ≡ None → length names ≤ place_of names n.src.0
@@ -233,11 +233,11 @@ no_place names n e = either (ltb (place_of names n.src.0) (length names)) refl e
     either false f e = grind (arith, nat_tests)
 
 push_room : (names : List Name) (records : List StoreRecord) (n : Name) → StandsFor names records → IsAcceptable records n
-    → length names ≤ place_of names n.src.0 → length names < 64
+    → length names ≤ place_of names n.src.0 → length names < 512
 push_room names records n h a le =
     let none : kept_in names n.src.0 ≡ None = kept_nowhere names n.src.0 le in
     let room : has_place names n.src.0 ≡ true = place_is names records n.src.0 h ∙ a.place in
-    let short : ltb (length names) 64 ≡ true = rw none at room in
+    let short : ltb (length names) 512 ≡ true = rw none at room in
     grind (arith, nat_tests)
 
 on_ok : {A E : Type 0} (r : Result A E) (P : Type 0) → IsOk r → OnOk r P → P
@@ -245,8 +245,8 @@ on_ok (Ok x) P h p = p
 on_ok (Err x) P h p = absurd (let e : false ≡ true = h in cc)
 
 pub stands_push : {A E : Type 0} (names : List Name) (records : List StoreRecord) (n : Name) (new : List Name) (r : Result A E) → position (is_of n.src.0) names ≡ None
-    → (length names < 64 → IsOk r) → OnOk r (new ≡ names ++ n ∷ []) → StandsFor names records → IsAcceptable records n → StandsFor new (records ++ R.Replay n ∷ [])
+    → (length names < 512 → IsOk r) → OnOk r (new ≡ names ++ n ∷ []) → StandsFor names records → IsAcceptable records n → StandsFor new (records ++ R.Replay n None ∷ [])
 stands_push names records n new r e variant ok h a =
     let le : length names ≤ place_of names n.src.0 = no_place names n e in
     let w : new ≡ names ++ n ∷ [] = on_ok r (new ≡ names ++ n ∷ []) (variant (push_room names records n h a le)) ok in
-    subst (λ x. StandsFor x (records ++ R.Replay n ∷ [])) (sym (w ∙ push_is names n le)) (stands_with names records n h a)
+    subst (λ x. StandsFor x (records ++ R.Replay n None ∷ [])) (sym (w ∙ push_is names n le)) (stands_with names records n h a)

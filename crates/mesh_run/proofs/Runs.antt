@@ -8,7 +8,7 @@ use Rattle.mesh_script.specs.declared.grammar.Script.{Script}
 use Rattle.mesh_script.specs.Script.{script_of}
 use Rattle.mesh_types.specs.declared.report.ReportLine.{ReportLine}
 use Rattle.run_definitions.specs.History.{Told}
-use Rattle.run_definitions.specs.Report.{line_text, life_lines, lives_lines, report_text}
+use Rattle.report_definitions.specs.Report.{line_text, life_lines, lives_lines, report_text}
 use Rattle.mesh_run.specs.Lived.{HasLines}
 use Rattle.mesh_run.specs.Octets.{WritesFront}
 use Rattle.mesh_run.specs.Ran.{Ran, RanUpTo, WritesOf}

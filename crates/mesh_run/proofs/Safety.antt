@@ -11,9 +11,9 @@ use Rattle.mesh_script.specs.declared.provision.ProvisionLine.{ProvisionLine}
 use Rattle.mesh_script.specs.declared.raw.RawLine.{RawLine}
 use Rattle.mesh_types.specs.declared.history.Entry.{Entry}
 use Rattle.run_definitions.specs.History.{Told}
-use Rattle.run_definitions.specs.Record.{Run, shown_of}
+use Rattle.report_definitions.specs.Record.{Run, shown_of}
 use Rattle.run_definitions.specs.Uses.{Use, NoReuse, uses, seals_of, network_use, life_seals, node_of, nonce_source}
-use Rattle.run_definitions.specs.Config.{is_element}
+use Rattle.store_definitions.specs.Config.{is_element}
 use Rattle.layer_definitions.specs.KeyRefresh.{master_material}
 use Rattle.mesh_run.specs.Told.{AreTold, IsRunOf, IsTold, entry_of, fields_of, life_of, run_of, sents_from}
 

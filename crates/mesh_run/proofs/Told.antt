@@ -13,7 +13,7 @@ use Rattle.mesh_types.specs.declared.history.Sent.{Sent}
 use Rattle.mesh_types.specs.declared.report.ReportLine.{ReportLine}
 use Rattle.mesh_types.specs.declared.report.ReportLine.TheVariants as L
 use Rattle.run_definitions.specs.History.{Insight, Past, Told}
-use Rattle.run_definitions.specs.Report.{bearer_lines, entry_lines, life_lines, opened_line}
+use Rattle.report_definitions.specs.Report.{bearer_lines, entry_lines, life_lines, opened_line}
 use Rattle.mesh_run.specs.Hearing.{remembered}
 use Rattle.mesh_run.specs.Lines.{event_of}
 use Rattle.mesh_run.specs.Lived.{HasEntries, HasLines, SeesAs}

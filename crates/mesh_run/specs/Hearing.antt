@@ -1,6 +1,6 @@
 -- What the node answers to a network PDU that it hears, and what the octets are read as. The rows are those of the whole table of answers
 -- but for these: there is no message cache, a segment is `unbuilt`, and nothing stands in the layers above the lower transport layer.
-use Rattle.std.specs.Prelude.{◌≡◌, ℕ, ◌^◌, ◌==◌, ◌||◌, not, nat_le, Bool, false, if◌then◌else◌, List, [], slice_index, Option, Some, None, unwrap_or, MatchOption}
+use Rattle.std.specs.Prelude.{◌≡◌, ℕ, ◌^◌, ◌==◌, ◌||◌, not, nat_le, Bool, if◌then◌else◌, List, slice_index, Option, Some, None, unwrap_or, MatchOption}
 use Rattle.std.specs.Option.{option_map, option_to_list}
 use Rattle.mesh_base.specs.declared.fields.NetFields.{NetFields}
 use Rattle.mesh_base.specs.declared.lower.Lower.{Lower}
@@ -8,33 +8,15 @@ use Rattle.mesh_types.specs.declared.answers.Answer.{Answer}
 use Rattle.mesh_types.specs.declared.answers.Answer.TheVariants as A
 use Rattle.mesh_types.specs.declared.events.Event.{Event}
 use Rattle.mesh_types.specs.declared.events.Event.TheVariants as E
-use Rattle.mesh_types.specs.declared.records.StoreRecord.{StoreRecord}
-use Rattle.mesh_types.specs.declared.records.StoreRecord.TheVariants as R
+use Rattle.record_types.specs.declared.records.StoreRecord.{StoreRecord}
+use Rattle.record_types.specs.declared.records.StoreRecord.TheVariants as R
 use Rattle.mesh_base.specs.declared.address.Address.{Address}
 use Rattle.run_definitions.specs.Answers.{config_before, is_mine, is_unicast, transport_answer}
-use Rattle.run_definitions.specs.Config.{Config, is_element}
+use Rattle.store_definitions.specs.Config.{Config, is_element}
 use Rattle.run_definitions.specs.History.{Reading, Opening, Insight, OfPdu, OfNothing, Past}
-use Rattle.run_definitions.specs.Layers.{Layers}
+use Rattle.run_definitions.specs.Layers.{quiet_layers}
 use Rattle.run_definitions.specs.Readings.{IsLowerPdu, IsOpening, IsReading}
 use Rattle.run_definitions.specs.Uses.{accepted}
-
--- Nothing stands in the layers above: no message is in progress, there is no friendship, and no message asks for a change or a reply.
-abbrev pub no_layers : Layers
-no_layers = record {
-  in_progress = λ past. [];
-  conflicts = λ past n r low. false;
-  missing = λ past n low. 0;
-  whole = λ past n low. [];
-  acks_due = λ past c ticks. [];
-  unacknowledged = λ past. 0;
-  segments_due = λ past c ticks. [];
-  friend_keys = λ past. [];
-  is_befriended = λ past a. false;
-  is_noted = λ past a fsn. false;
-  control_jobs = λ past c m. [];
-  change = λ past m. None;
-  replies = λ past c m. [];
-}
 
 -- whether a transport PDU is a segment: SEG, the first bit (Mesh Profile 1.0.1, section 3.5.2)
 abbrev pub has_seg : List ℕ → Bool
@@ -53,7 +35,7 @@ network_row c f =
 -- answers for a PDU that is no segment: `malformed`, `replay`, `nokey`, `listfull`, and else `control` or `delivered`.
 abbrev pub heard_answer : Past → Insight → Answer
 heard_answer past (OfPdu (Some r) low opening) =
-    unwrap_or (network_row (config_before past) r.fields) (transport_answer no_layers past r low opening)
+    unwrap_or (network_row (config_before past) r.fields) (transport_answer quiet_layers past r low opening)
 heard_answer past _ = A.Unread
 
 -- What the octets are read as, as far as the row that was reached: the lower transport PDU where no row before it holds.
@@ -63,9 +45,9 @@ IsLowerHeard past (Some r) low =
     MatchOption (network_row (config_before past) r.fields) (IsLowerPdu r.fields low) (λ answer. low ≡ None)
 
 pub record Hears (past : Past) (octets : List ℕ) (reading : Option Reading) (low : Option Lower) (opening : Option Opening) : Type 0 where
-  pub reads : IsReading no_layers past octets reading
+  pub reads : IsReading quiet_layers past octets reading
   pub lower : IsLowerHeard past reading low
-  pub opens : IsOpening no_layers past reading low opening
+  pub opens : IsOpening quiet_layers past reading low opening
 
 -- Events.
 
@@ -81,6 +63,6 @@ abbrev pub answer_to : Past → Event → Insight → Answer
 answer_to past (E.Net octets) insight = heard_answer past insight
 answer_to past _ insight = A.Planned
 
--- the records that an answer leaves: a Replay record of each accepted message
+-- the records that an answer leaves: a Replay record of each accepted message, with its one name
 abbrev pub remembered : Answer → List StoreRecord
-remembered answer = option_to_list (option_map R.Replay (accepted answer))
+remembered answer = option_to_list (option_map (λ name. R.Replay name None) (accepted answer))

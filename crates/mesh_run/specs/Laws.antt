@@ -1,8 +1,8 @@
 -- What is true of every record of a run.
 use Rattle.std.specs.Prelude.{◌≡◌, ◌≤◌, true, length}
 use Rattle.mesh_script.specs.declared.grammar.Script.{Script}
-use Rattle.run_definitions.specs.Record.{Run}
-use Rattle.run_definitions.specs.Report.{report_text}
+use Rattle.report_definitions.specs.Record.{Run}
+use Rattle.report_definitions.specs.Report.{report_text}
 use Rattle.run_definitions.specs.Uses.{AtMostOnce, NoReuse, delivered, uses}
 use Rattle.mesh_run.specs.Told.{IsRunOf}
 

@@ -7,7 +7,7 @@ use Rattle.mesh_types.specs.declared.answers.Answer.{Answer}
 use Rattle.mesh_types.specs.declared.events.Event.{Event}
 use Rattle.mesh_types.specs.declared.report.ReportLine.{ReportLine}
 use Rattle.run_definitions.specs.History.{Insight, Past, Told}
-use Rattle.run_definitions.specs.Report.{entry_lines, life_lines}
+use Rattle.report_definitions.specs.Report.{entry_lines, life_lines}
 use Rattle.mesh_run.specs.Hearing.{Sees, answer_to}
 use Rattle.mesh_run.specs.Told.{AreTold, life_of}
 

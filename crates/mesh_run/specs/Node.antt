@@ -4,13 +4,14 @@ use Rattle.mesh_base.specs.declared.keys.NetKeyRow.{NetKeyRow}
 use Rattle.mesh_base.specs.declared.lower.Lower.{Lower}
 use Rattle.mesh_script.specs.declared.provision.ProvisionLine.{ProvisionLine}
 use Rattle.mesh_types.specs.declared.answers.Answer.{Answer}
-use Rattle.mesh_types.specs.declared.records.StoreRecord.{StoreRecord}
+use Rattle.record_types.specs.declared.records.StoreRecord.{StoreRecord}
 use Rattle.network_layer.specs.declared.reading.NetReading.{NetReading}
 use Rattle.run_definitions.specs.Answers.{named_answer, name_of, transport_answer, whole_answer}
-use Rattle.run_definitions.specs.Config.{Config, config_of}
+use Rattle.store_definitions.specs.Config.{Config, config_of}
 use Rattle.run_definitions.specs.History.{Opening, OfPdu, Past, Reading}
+use Rattle.run_definitions.specs.Layers.{quiet_layers}
 use Rattle.run_definitions.specs.Readings.{IsLowerPdu, IsOpened, IsOpenedUnder, IsOpening, IsOpeningOf, fields_heard, keys_tried}
-use Rattle.mesh_run.specs.Hearing.{Hears, IsLowerHeard, heard_answer, no_layers}
+use Rattle.mesh_run.specs.Hearing.{Hears, IsLowerHeard, heard_answer}
 use Rattle.mesh_run.specs.Replay.{StandsFor}
 use Rattle.mesh_run.specs.Told.{first_records}
 use Rattle.mesh_run.specs.declared.hearing.Opened.{Opened}
@@ -43,9 +44,9 @@ pub record IsNodeOf (n : Node) (records : List StoreRecord) : Type 0 where
 abbrev pub reading_of : NetReading → Reading
 reading_of r = record { fields = r.fields; by = r.by }
 
--- an opening, as the definitions have it
+-- an opening, as the definitions have it: the node holds no labels
 abbrev pub opening_of : Opened → Opening
-opening_of o = record { key = o.key; payload = o.payload }
+opening_of o = record { key = o.key; label = None; payload = o.payload }
 
 -- octets are read as something, of which this is the answer
 pub record AnswersAs (past : Past) (octets : List ℕ) (answer : Answer) : Type 0 where
@@ -60,7 +61,7 @@ pub record ReadAs (past : Past) (r : Reading) (answer : Answer) : Type 0 where
   pub low : Option Lower
   pub opening : Option Opening
   pub lower : IsLowerHeard past (Some r) low
-  pub opens : IsOpening no_layers past (Some r) low opening
+  pub opens : IsOpening quiet_layers past (Some r) low opening
   pub answer_is : answer ≡ heard_answer past (OfPdu (Some r) low opening)
 
 -- from the lower transport layer on
@@ -68,20 +69,20 @@ pub record TransportAs (past : Past) (r : Reading) (answer : Answer) : Type 0 wh
   pub low : Option Lower
   pub opening : Option Opening
   pub lower : IsLowerPdu r.fields low
-  pub opens : IsOpening no_layers past (Some r) low opening
-  pub answer_is : answer ≡ transport_answer no_layers past r low opening
+  pub opens : IsOpening quiet_layers past (Some r) low opening
+  pub answer_is : answer ≡ transport_answer quiet_layers past r low opening
 
 -- of a message that came in no segment, so that its PDU names it
 pub record LowerAs (past : Past) (r : Reading) (low : Lower) (answer : Answer) : Type 0 where
   pub opening : Option Opening
-  pub opens : IsOpeningOf no_layers past r low (Some (name_of r.fields)) opening
-  pub answer_is : answer ≡ named_answer no_layers past r low (Some (name_of r.fields)) opening
+  pub opens : IsOpeningOf quiet_layers past r low (Some (name_of r.fields)) opening
+  pub answer_is : answer ≡ named_answer quiet_layers past r low (Some (name_of r.fields)) opening
 
 -- of such a message that is no replay
 pub record WholeAs (past : Past) (r : Reading) (low : Lower) (answer : Answer) : Type 0 where
   pub opening : Option Opening
-  pub opens : IsOpened no_layers past r (name_of r.fields) low opening
-  pub answer_is : answer ≡ whole_answer no_layers past r low (name_of r.fields) opening
+  pub opens : IsOpened quiet_layers past r (name_of r.fields) low opening
+  pub answer_is : answer ≡ whole_answer quiet_layers past r low (name_of r.fields) opening
 
 -- how an unsegmented access message opens
 abbrev pub OpensAs : Config → Reading → Bool → ℕ → List ℕ → Option Opening → Type 0

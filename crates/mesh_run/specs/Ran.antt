@@ -2,8 +2,8 @@
 use Rattle.std.specs.Prelude.{◌≡◌, ◌⊎◌, ℕ, true, List, Option, Some, None}
 use Rattle.mesh_base.specs.Outside.{Grows}
 use Rattle.mesh_script.specs.declared.grammar.Script.{Script}
-use Rattle.run_definitions.specs.Record.{Run}
-use Rattle.run_definitions.specs.Report.{report_text}
+use Rattle.report_definitions.specs.Record.{Run}
+use Rattle.report_definitions.specs.Report.{report_text}
 use Rattle.run_definitions.specs.Uses.{AtMostOnce, NoReuse, delivered, uses}
 use Rattle.mesh_run.specs.Octets.{WritesFront}
 use Rattle.mesh_run.specs.Told.{IsRunOf}

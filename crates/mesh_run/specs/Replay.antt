@@ -4,11 +4,11 @@ use Rattle.std.specs.List.{find, position_or_len}
 use Rattle.std.specs.Option.{option_map}
 use Rattle.mesh_base.specs.declared.pair.Name.{Name}
 use Rattle.mesh_base.specs.declared.pair.Pair.{Pair}
-use Rattle.mesh_types.specs.declared.records.StoreRecord.{StoreRecord}
+use Rattle.record_types.specs.declared.records.StoreRecord.{StoreRecord}
 use Rattle.run_definitions.specs.Answers.{replayed}
-use Rattle.run_definitions.specs.Config.{config_of}
-use Rattle.run_definitions.specs.Entries.{entry_of, has_room, kept_of, sources_of}
-use Rattle.run_definitions.specs.Pairs.{is_expired}
+use Rattle.store_definitions.specs.Config.{config_of}
+use Rattle.store_definitions.specs.Entries.{entry_of, has_room, kept_of, sources_of}
+use Rattle.mesh_base.specs.Pairs.{is_expired}
 
 abbrev pub is_of : ℕ → Name → Bool
 is_of src n = n.src.0 == src
@@ -19,7 +19,7 @@ kept_in names src = option_map (λ n. n.pair) (find (is_of src) names)
 
 -- whether a source has a name, or there is a place for one
 abbrev pub has_place : List Name → ℕ → Bool
-has_place names src = is_some (kept_in names src) || nat_lt (length names) 64
+has_place names src = is_some (kept_in names src) || nat_lt (length names) 512
 
 -- with a name in the place of the one of its source, or else behind the others
 abbrev pub with_name : List Name → Name → List Name

@@ -11,7 +11,7 @@ use Rattle.mesh_types.specs.declared.jobs.Job.{Job}
 use Rattle.mesh_types.specs.declared.jobs.Job.TheVariants as J
 use Rattle.mesh_types.specs.declared.lines.Outcome.{Outcome}
 use Rattle.mesh_types.specs.declared.lines.Outcome.TheVariants as O
-use Rattle.mesh_types.specs.declared.records.StoreRecord.{StoreRecord}
+use Rattle.record_types.specs.declared.records.StoreRecord.{StoreRecord}
 use Rattle.mesh_types.specs.declared.report.Opened.{Opened}
 use Rattle.mesh_types.specs.declared.report.Opened.TheVariants as W
 use Rattle.mesh_types.specs.declared.report.End.TheVariants as F
@@ -20,10 +20,10 @@ use Rattle.mesh_script.specs.declared.bearer.BearerLine.TheVariants as B
 use Rattle.mesh_script.specs.declared.grammar.Script.{Script}
 use Rattle.mesh_script.specs.declared.provision.ProvisionLine.{ProvisionLine}
 use Rattle.mesh_script.specs.declared.raw.RawLine.{RawLine}
-use Rattle.run_definitions.specs.Config.{config_of}
+use Rattle.store_definitions.specs.Config.{config_of}
 use Rattle.run_definitions.specs.History.{Insight, Past, Told}
-use Rattle.run_definitions.specs.Record.{Life, Run}
-use Rattle.run_definitions.specs.RunOf.{Provisioning, provisioned}
+use Rattle.report_definitions.specs.Record.{Life, Run}
+use Rattle.store_definitions.specs.Provisioning.{Provisioning, provisioned}
 use Rattle.run_definitions.specs.Seals.{own_fields}
 use Rattle.mesh_run.specs.Hearing.{Sees, answer_to, remembered}
 use Rattle.mesh_run.specs.Lines.{event_of}

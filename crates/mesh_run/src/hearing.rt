@@ -8,7 +8,7 @@ ghost use Rattle.layer_definitions.specs.Network.{IsUnread, Reads};
 ghost use Rattle.mesh_base.specs.declared.lower.Lower.TheVariants.{Access, Control};
 ghost use Rattle.mesh_types.specs.declared.answers.Answer.TheVariants as A;
 ghost use Rattle.run_definitions.specs.Answers.{is_segment, name_of, placed_answer, replayed};
-ghost use Rattle.run_definitions.specs.Entries.{entry_of};
+ghost use Rattle.store_definitions.specs.Entries.{entry_of};
 ghost use Rattle.run_definitions.specs.History.{Past};
 ghost use Rattle.run_definitions.specs.Readings.{keys_tried};
 ghost use Rattle.run_definitions.specs.Uses.{accepted};
@@ -24,7 +24,6 @@ use mesh_base::pair::{Name, Pair};
 use mesh_base::table::UpperKeys;
 use mesh_base::upper::UpperFields;
 use mesh_types::answers::{Answer, KeyName};
-use net_keys::candidates_law;
 use network_layer::NetReading;
 use upper_transport::unseal_access;
 
@@ -60,16 +59,6 @@ fn has_seg(tpdu: &[u8]) -> bool
     }
 }
 
-/// NID in the first octet of a network PDU, 7 bits (section 3.4.4.2).
-fn nid_of(octets: &[u8]) -> u8
-    ensures value { result ≡ slice_index octets.now 0 % 2 ^ 7 }
-{
-    match octets {
-        [first, ..] => *first % 0x80,
-        [] => 0,
-    }
-}
-
 /// The name of an accepted message.
 fn accepted(answer: &Answer) -> Option<Name>
     ensures value { result ≡ accepted answer.now }
@@ -82,15 +71,13 @@ fn accepted(answer: &Answer) -> Option<Name>
 }
 
 impl Node {
-    /// What octets read as, under the keys whose NID they have.
+    /// What octets read as, under the keys that are heard.
     fn reading(&self, octets: &[u8]) -> Option<NetReading>
         requires keys { HasKeys self.now }
         ensures some { IfSome result (λ r. (place : ℕ) × Reads (heard_keys (net_rows self.now.provision)) self.now.provision.iv octets.now r.fields place r.by) }
         ensures none { IsNone result → IsUnread (heard_keys (net_rows self.now.provision)) self.now.provision.iv octets.now }
     {
-        candidates_law();
-        let keys = self.net_keys.candidates(nid_of(octets));
-        match network_layer::read(keys.as_slice(), self.provision.iv, octets) {
+        match network_layer::read_kept(self.net_keys.heard(), self.provision.iv, octets) {
             Ok(reading) => Some(reading),
             Err(_) => None,
         }
@@ -115,7 +102,7 @@ impl Node {
 
     /// The keys that may have sealed an access message: the application keys of the network key that have this AID, or the device key
     /// where DST is unicast.
-    #[tactic(auto, unfolding(run_definitions::specs::Config::changed))]
+    #[tactic(auto, unfolding(store_definitions::specs::Config::changed))]
     fn keys_tried(&self, r: &NetReading, akf: bool, aid: u8) -> UpperKeys
         requires keys { HasKeys self.now }
         ensures value { result ≡ keys_tried (first_config self.now.provision) (reading_of r.now) akf aid }
@@ -160,7 +147,7 @@ impl Node {
         if self.replay.has_place(name.src) {
             answer
         } else {
-            Answer::ListFull { held: 64 }
+            Answer::ListFull { held: 512 }
         }
     }
 

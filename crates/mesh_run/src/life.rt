@@ -7,7 +7,7 @@ ghost use Rattle.layer_definitions.specs.KeyRefresh.{master_material};
 ghost use Rattle.mesh_script.specs.Ranges.{IsBearerLine, IsRaw};
 ghost use Rattle.mesh_types.specs.Kind.{kind_of};
 ghost use Rattle.run_definitions.specs.History.{Past};
-ghost use Rattle.run_definitions.specs.Report.{opened_line, bearer_lines};
+ghost use Rattle.report_definitions.specs.Report.{opened_line, bearer_lines};
 ghost use Rattle.mesh_run.specs.Hearing.{remembered};
 ghost use Rattle.mesh_run.specs.Lines.{event_of};
 ghost use Rattle.mesh_run.specs.Lived.{HasEntries, HasLines, SeesAs};
@@ -28,7 +28,7 @@ use network_layer::seal;
 use std::alloc::{AllocError, Global};
 
 /// The line of the opening: the IV state of provisioning, and the number with which the node begins.
-#[tactic(auto, unfolding(run_definitions::specs::Config::changed, mesh_base::specs::IvState::transmit_of))]
+#[tactic(auto, unfolding(store_definitions::specs::Config::changed, mesh_base::specs::IvState::transmit_of))]
 fn opened(provision: &ProvisionLine) -> ReportLine
     ensures value { result ≡ opened_line 1 (opened_over (first_records provision.now)) }
 {

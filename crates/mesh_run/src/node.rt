@@ -1,10 +1,10 @@
 //! The node of a run: what it is provisioned with, its keys, which are derived once, and its replay list.
-#![tactic(auto, unfolding(run_definitions::specs::Config::changed))]
+#![tactic(auto, unfolding(store_definitions::specs::Config::changed))]
 
 ghost use Rattle.std.specs.Prelude.{◌≡◌, ◌<◌, ◌^◌};
 ghost use Rattle.layer_definitions.specs.KeyRefresh.{master_material};
 ghost use Rattle.run_definitions.specs.Answers.{is_mine, is_unicast};
-ghost use Rattle.run_definitions.specs.Config.{is_element};
+ghost use Rattle.store_definitions.specs.Config.{is_element};
 ghost use Rattle.mesh_run.specs.Node.{first_config, HasKeys, IsNodeOf};
 ghost use Rattle.mesh_run.specs.Told.{first_records};
 
@@ -17,7 +17,7 @@ use mesh_script::ProvisionLine;
 use net_keys::NetKeys;
 
 /// A node in its life.
-#[derive(Debug, Drop)]
+#[derive(Drop)]
 pub struct Node {
     /// What it was provisioned with.
     pub provision: ProvisionLine,

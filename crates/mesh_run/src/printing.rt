@@ -1,10 +1,10 @@
 //! Handing octets to a sink.
 #![tactic(auto)]
 
-ghost use Rattle.std.specs.Prelude.{◌≡◌, ◌≤◌, OnOk, OnErr};
+ghost use Rattle.std.specs.Prelude.{◌≡◌, ◌≢◌, ◌≤◌, OnOk, OnErr};
 ghost use Rattle.std.specs.List.{flat_map};
 ghost use Rattle.mesh_base.specs.Outside.{Rose, Grows};
-ghost use Rattle.run_definitions.specs.Report.{line_text};
+ghost use Rattle.report_definitions.specs.Report.{line_text};
 ghost use Rattle.mesh_run.specs.Octets.{WritesFront};
 ghost use Rattle.mesh_run.specs.declared.printing.WriteStop.TheVariants as stop;
 
@@ -18,6 +18,7 @@ pub fn write_piece<K: Sink>(sink: &mut K, piece: &[u8]) -> Result<(), Failed>
     ensures ok { OnOk result (Grows (K.held sink.old) (K.held sink.new) piece.now) }
     ensures err { OnErr result (WritesFront (K.held sink.old) (K.held sink.new) piece.now) }
     ensures cause { OnErr result (Rose (K.faults sink.old) (K.faults sink.new)) }
+    ensures faultless { OnOk result (K.faults sink.new ≡ K.faults sink.old) }
     ensures later { K.faults sink.old ≤ K.faults sink.new }
 {
     let mut rest = piece;
@@ -48,6 +49,7 @@ fn write_report_line<K: Sink>(
     ensures ok { OnOk result (Grows (K.held sink.old) (K.held sink.new) (line_text line.now)) }
     ensures err { OnErr result (WritesFront (K.held sink.old) (K.held sink.new) (line_text line.now)) }
     ensures cause { result ≡ Err stop.Fault → Rose (K.faults sink.old) (K.faults sink.new) }
+    ensures faultless { result ≢ Err stop.Fault → K.faults sink.new ≡ K.faults sink.old }
     ensures later { K.faults sink.old ≤ K.faults sink.new }
 {
     match write_line(alloc, line) {
@@ -68,6 +70,7 @@ pub fn write_report<K: Sink>(
     ensures ok { OnOk result (Grows (K.held sink.old) (K.held sink.new) (flat_map line_text lines.now)) }
     ensures err { OnErr result (WritesFront (K.held sink.old) (K.held sink.new) (flat_map line_text lines.now)) }
     ensures cause { result ≡ Err stop.Fault → Rose (K.faults sink.old) (K.faults sink.new) }
+    ensures faultless { result ≢ Err stop.Fault → K.faults sink.new ≡ K.faults sink.old }
     ensures later { K.faults sink.old ≤ K.faults sink.new }
 {
     for line in lines {

@@ -1,7 +1,7 @@
 //! Reading a source to its end.
 #![tactic(auto)]
 
-ghost use Rattle.std.specs.Prelude.{◌≡◌, ◌≤◌, vec_len, IfOk, OnOk};
+ghost use Rattle.std.specs.Prelude.{◌≡◌, ◌≢◌, ◌≤◌, vec_len, IfOk, OnOk};
 ghost use Rattle.std.specs.Io.KnownBytes.{Consumes, IsAtEnd};
 ghost use Rattle.mesh_base.specs.Outside.{Rose};
 ghost use Rattle.mesh_run.specs.Octets.{ReadsMoreThan};
@@ -30,6 +30,7 @@ pub fn read_whole<S: Source>(alloc: Global, source: &mut S) -> Result<Vec<u8>, R
     ensures short { IfOk result (λ v. vec_len v ≤ LONGEST_SCRIPT) }
     ensures too_long { result ≡ Err stop.TooLong → ReadsMoreThan (S.left source.old) (S.left source.new) LONGEST_SCRIPT }
     ensures cause { result ≡ Err stop.Fault → Rose (S.faults source.old) (S.faults source.new) }
+    ensures faultless { result ≢ Err stop.Fault → S.faults source.new ≡ S.faults source.old }
     ensures later { S.faults source.old ≤ S.faults source.new }
 {
     let mut bytes = Vec::new(alloc);

@@ -1,12 +1,12 @@
 //! The replay list in memory: a fixed table with the latest name of each source.
 #![tactic(auto)]
 
-ghost use Rattle.std.specs.Prelude.{◌≡◌, ◌==◌, ◌||◌, ◌++◌, ◌∷◌, [], false, List, is_some};
+ghost use Rattle.std.specs.Prelude.{◌≡◌, ◌==◌, ◌||◌, ◌++◌, ◌∷◌, [], false, List, None, is_some};
 ghost use Rattle.std.specs.List.{position};
 ghost use Rattle.mesh_base.specs.declared.pair.Name.{Name};
-ghost use Rattle.mesh_types.specs.declared.records.StoreRecord.{StoreRecord};
-ghost use Rattle.mesh_types.specs.declared.records.StoreRecord.TheVariants as R;
-ghost use Rattle.run_definitions.specs.Entries.{entry_of, has_room, others_held};
+ghost use Rattle.record_types.specs.declared.records.StoreRecord.{StoreRecord};
+ghost use Rattle.record_types.specs.declared.records.StoreRecord.TheVariants as R;
+ghost use Rattle.store_definitions.specs.Entries.{entry_of, has_room, others_held};
 ghost use Rattle.mesh_run.specs.Replay.{has_place, kept_in, IsAcceptable, StandsFor};
 
 use mesh_base::address::Address;
@@ -15,12 +15,12 @@ use mesh_base::table::Table;
 use std::marker::Model;
 
 /// How many sources the list has places for.
-pub const PLACES: usize = 64;
+pub const PLACES: usize = 512;
 
-/// The names accepted last, one for each source, at most 64. A clause sees the list of them.
+/// The names accepted last, one for each source, at most 512. A clause sees the list of them.
 #[derive(Debug, Drop)]
 pub struct ReplayList {
-    names: Table<Name, 64>,
+    names: Table<Name, 512>,
 }
 
 impl Model for ReplayList {
@@ -75,7 +75,7 @@ impl ReplayList {
     pub fn has_place(&self, src: Address) -> bool
         ensures value { result ≡ has_place self.now src.0 }
         ensures room { (records : List StoreRecord) → StandsFor self.now records → result ≡ (is_some (entry_of records src.0) || has_room records src.0) }
-        ensures full { (records : List StoreRecord) → StandsFor self.now records → result ≡ false → others_held records src.0 ≡ 64 }
+        ensures full { (records : List StoreRecord) → StandsFor self.now records → result ≡ false → others_held records src.0 ≡ 512 }
     {
         self.entry(src).is_some() || self.names.len() < PLACES
     }
@@ -83,7 +83,7 @@ impl ReplayList {
     /// Puts a name in the place of the one of its source, or else behind the others. Where there is no place for it, nothing changes; so
     /// the caller asks `has_place` first.
     pub fn accept(&mut self, name: &Name)
-        ensures stands { (records : List StoreRecord) → StandsFor self.old records → IsAcceptable records name.now → StandsFor self.new (records ++ R.Replay name.now ∷ []) }
+        ensures stands { (records : List StoreRecord) → StandsFor self.old records → IsAcceptable records name.now → StandsFor self.new (records ++ R.Replay name.now None ∷ []) }
     {
         match place_in(self.names.as_slice(), name.src) {
             Some(place) => self.names.set(place, *name),

@@ -1,7 +1,7 @@
 //! The run of a whole script.
 #![tactic(auto)]
 
-ghost use Rattle.std.specs.Prelude.{◌≡◌, ◌↔◌, ◌⊎◌, ◌≤◌, map, false, Some, IfSome, IsTrue};
+ghost use Rattle.std.specs.Prelude.{◌≡◌, ◌≢◌, ◌↔◌, ◌⊎◌, ◌≤◌, map, false, Some, IfSome, IsTrue};
 ghost use Rattle.std.specs.Io.KnownBytes.{IsAtEnd};
 ghost use Rattle.mesh_base.specs.Outside.{Rose, Grows};
 ghost use Rattle.mesh_script.specs.Script.{script_of};
@@ -55,7 +55,9 @@ pub fn run<S: Source, K: Sink>(
     ensures nothing_read { result ≡ Status.Usage → S.left source.new ≡ S.left source.old }
     ensures read_whole { (result ≡ Status.Done) ⊎ (result ≡ Status.WriteFault) ⊎ (result ≡ Status.NotBuilt) → IsAtEnd (S.left source.new) }
 
-    // Counts of faults never fall.
+    // No fault is swallowed: a run that ends otherwise leaves the count. Counts of faults never fall.
+    ensures source_faultless { result ≢ Status.ReadFault → S.faults source.new ≡ S.faults source.old }
+    ensures sink_faultless { result ≢ Status.WriteFault → K.faults sink.new ≡ K.faults sink.old }
     ensures source_later { S.faults source.old ≤ S.faults source.new }
     ensures sink_later { K.faults sink.old ≤ K.faults sink.new }
 {

@@ -93,6 +93,7 @@ fn answers_what_it_hears(rt: HostRuntime) -> Result<(), Fail> {
             ("peer", "12345678 1 00 000001 0005 0009 7f", "notmine"),
             ("peer", "12345678 1 00 000001 0005 fffc 7f", "notmine"),
             ("peer", "12345678 1 00 000001 0005 c001 7f", "notmine"),
+            ("peer", "12345678 1 00 000001 0005 8001 7f", "notmine"),
             ("peer", "12345678 1 00 000001 0005 1202 ff", "notmine"),
             ("peer", "12345678 1 00 000001 0005 1201 ff", "unbuilt"),
             ("peer", "12345678 0 00 000001 0005 1201 80", "unbuilt"),
@@ -245,12 +246,12 @@ fn opens_access_messages(rt: HostRuntime) -> Result<(), Fail> {
 }
 
 #[test]
-fn keeps_64_sources(rt: HostRuntime) -> Result<(), Fail> {
+fn keeps_512_sources(rt: HostRuntime) -> Result<(), Fail> {
     let alloc = rt.alloc();
     let mut text = NODE.to_vec(alloc)?;
     let mut report = String::new(alloc);
     report.push_str("life 1 12345678 n 12345678 000000\n")?;
-    for k in 0..64u32 {
+    for k in 0..512u32 {
         let src = 0x101 + k;
         let line = format!(in alloc;
             "b0 peer 7dd7364cd842ad18c17c2b820c84c3d6 12345678 1 00 000001 {src:04x} 1201 7f\n"
@@ -263,7 +264,7 @@ fn keeps_64_sources(rt: HostRuntime) -> Result<(), Fail> {
         report.push_str(entry.as_str())?;
     }
     text.extend_from_slice(
-        b"b0 peer 7dd7364cd842ad18c17c2b820c84c3d6 12345678 1 00 000001 0141 1201 7f\n",
+        b"b0 peer 7dd7364cd842ad18c17c2b820c84c3d6 12345678 1 00 000001 0301 1201 7f\n",
     )?;
     text.extend_from_slice(
         b"b0 peer 7dd7364cd842ad18c17c2b820c84c3d6 12345678 1 00 000002 0101 1201 7f\n",
@@ -271,9 +272,9 @@ fn keeps_64_sources(rt: HostRuntime) -> Result<(), Fail> {
     text.extend_from_slice(
         b"b0 peer 7dd7364cd842ad18c17c2b820c84c3d6 12345678 1 00 000002 0101 1201 7f\n",
     )?;
-    report.push_str("e 65 b0 65 net listfull 64\n")?;
-    report.push_str("e 66 b0 66 net control 0101 1201 12345678 000002 7f -\n")?;
-    report.push_str("e 67 b0 67 net replay 12345678 000002\nend\n")?;
+    report.push_str("e 513 b0 513 net listfull 512\n")?;
+    report.push_str("e 514 b0 514 net control 0101 1201 12345678 000002 7f -\n")?;
+    report.push_str("e 515 b0 515 net replay 12345678 000002\nend\n")?;
     check(
         &rt,
         COMMAND,

@@ -2,7 +2,7 @@
 use Rattle.std.proofs.Common.{◌≡◌, ℕ, zero, suc, ◌-◌, ◌/◌, ◌%◌, ◌^◌, ◌<◌, List, [], ◌∷◌, ◌++◌, refl, sym, ap, append-nil, ◌∙◌, append_assoc, arith}
 use Rattle.std.specs.Prelude.{slice_index}
 use Rattle.hex.specs.Hex.{lower_digits}
-use Rattle.run_definitions.specs.Text.{hex_digits}
+use Rattle.report_definitions.specs.Text.{hex_digits}
 
 -- the high digit, and the others
 pub hex_digits_more : (k n : ℕ) → 0 < k → hex_digits k n ≡ slice_index lower_digits (n / 16 ^ (k - 1) % 16) ∷ hex_digits (k - 1) n

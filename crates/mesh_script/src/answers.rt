@@ -1,12 +1,12 @@
 //! The words of an answer in the report.
-#![tactic(auto, unfolding(run_definitions::specs::Report::answer_text), using(std::proofs::Common::append_assoc))]
+#![tactic(auto, unfolding(report_definitions::specs::Report::answer_text), using(std::proofs::Common::append_assoc))]
 
 ghost use Rattle.std.specs.Prelude.{◌≡◌, ◌++◌, OnOk};
 ghost use Rattle.std.specs.Fmt.{decimal};
 ghost use Rattle.std.specs.List.{flat_map};
 ghost use Rattle.mesh_types.specs.declared.answers.Answer.TheVariants as A;
-ghost use Rattle.run_definitions.specs.Report.{answer_text, key_text, key_step_text, iv_step_text, params_text};
-ghost use Rattle.run_definitions.specs.Text.{hex_digits, address_text, name_text, pair_text};
+ghost use Rattle.report_definitions.specs.Report.{answer_text, key_text, key_step_text, iv_step_text, params_text};
+ghost use Rattle.report_definitions.specs.Text.{hex_digits, address_text, name_text, pair_text};
 
 use crate::text::LineText;
 use mesh_base::address::Address;

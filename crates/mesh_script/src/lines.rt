@@ -1,10 +1,10 @@
 //! The lines of the report, as `write_line` writes them.
-#![tactic(auto, unfolding(run_definitions::specs::Report::words_text), using(std::proofs::Common::append_assoc))]
+#![tactic(auto, unfolding(report_definitions::specs::Report::words_text), using(std::proofs::Common::append_assoc))]
 
 ghost use Rattle.std.specs.Prelude.{◌≡◌, ◌++◌, IfOk, OnOk, codes};
 ghost use Rattle.std.specs.Fmt.{decimal};
 ghost use Rattle.mesh_types.specs.declared.report.ReportLine.TheVariants as L;
-ghost use Rattle.run_definitions.specs.Report.{line_text, words_text, state_text, next_text, kind_text};
+ghost use Rattle.report_definitions.specs.Report.{line_text, words_text, state_text, next_text, kind_text};
 
 use crate::answers::push_answer;
 use crate::outcomes::push_outcome;

@@ -1,10 +1,10 @@
 //! The words that show what became of a job.
-#![tactic(auto, unfolding(run_definitions::specs::Report::outcome_text), using(std::proofs::Common::append_assoc))]
+#![tactic(auto, unfolding(report_definitions::specs::Report::outcome_text), using(std::proofs::Common::append_assoc))]
 
 ghost use Rattle.std.specs.Prelude.{◌≡◌, ◌++◌, OnOk, codes};
 ghost use Rattle.mesh_types.specs.declared.lines.Outcome.TheVariants as O;
-ghost use Rattle.run_definitions.specs.Report.{outcome_text, control_bit_text, pdu_text};
-ghost use Rattle.run_definitions.specs.Text.{iv_text, octets_text, pair_text, route_text};
+ghost use Rattle.report_definitions.specs.Report.{outcome_text, control_bit_text, pdu_text};
+ghost use Rattle.report_definitions.specs.Text.{iv_text, octets_text, pair_text, route_text};
 
 use crate::answers::push_key;
 use crate::text::LineText;

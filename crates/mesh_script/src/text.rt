@@ -4,7 +4,7 @@
 ghost use Rattle.std.specs.Prelude.{◌≡◌, ◌<◌, ◌≤◌, ◌/◌, ◌%◌, ◌^◌, [], ◌++◌, OnOk, slice_index};
 ghost use Rattle.std.specs.Fmt.{decimal};
 ghost use Rattle.hex.specs.Hex.{lower_digits};
-ghost use Rattle.run_definitions.specs.Text.{hex_digits, word_text, octets_text, address_text, iv_text, pair_text, name_text, route_text};
+ghost use Rattle.report_definitions.specs.Text.{hex_digits, word_text, octets_text, address_text, iv_text, pair_text, name_text, route_text};
 
 use mesh_base::address::Address;
 use mesh_base::pair::{Name, Pair};

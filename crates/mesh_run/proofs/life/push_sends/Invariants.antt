@@ -1,5 +1,5 @@
 use Rattle.std.proofs.Common.{◌≡◌, ◌≤◌, ◌++◌, true}
-use Rattle.run_definitions.specs.Report.{bearer_lines}
+use Rattle.report_definitions.specs.Report.{bearer_lines}
 use Rattle.mesh_run.specs.Told.{sents_from}
 use Rattle.mesh_run.proofs.Told.{left_lines}
 use Rattle.mesh_run.proofs.life.push_sends.Given as goal

@@ -1,5 +1,5 @@
-use Rattle.std.proofs.Common.{arith}
-use Rattle.run_definitions.specs.Report.{line_text}
+use Rattle.std.proofs.Common.{◌∙◌}
+use Rattle.report_definitions.specs.Report.{line_text}
 use Rattle.mesh_run.proofs.Written.{writes_more, writes_cut, next_part}
 use Rattle.mesh_run.proofs.printing.write_report.Goals as goal
 
@@ -12,5 +12,5 @@ pub loop-line-preserved : goal.loop-line-preserved
 loop-line-preserved g c = record {
   octets = writes_more _ _ _ _ _ _ _ (next_part line_text c.args.lines.now c.loop-line.line-index c.line-item.result c.loop-line-test.true c.line-item.is)
       c.loop-line.invariant.octets c.in-Ok.ensures.ok;
-  later = omega (arith, c.in-Ok.ensures.later, c.loop-line.invariant.later);
+  faultless = c.in-Ok.ensures.faultless (λ e. cc) ∙ c.loop-line.invariant.faultless;
 }

@@ -1,6 +1,6 @@
 use Rattle.std.proofs.Common.{◌≡◌, ◌++◌, take}
 use Rattle.std.specs.List.{flat_map}
-use Rattle.run_definitions.specs.Text.{name_text}
+use Rattle.report_definitions.specs.Text.{name_text}
 use Rattle.mesh_script.proofs.answers.push_names.Given as goal
 
 abbrev pub invariant-loop-name : goal.invariant-loop-name

@@ -24,5 +24,5 @@ returns-in-None c =
     record {
       stands = λ records h a.
           stands_push c.args.self.now records c.args.name.now c.push.new.self c.push.result found
-          (λ lt. let room : length c.self.inside.names < 64 = omega (arith, ap length inside) in c.push.ensures.variant.1 room) ok h a;
+          (λ lt. let room : length c.self.inside.names < 512 = omega (arith, ap length inside) in c.push.ensures.variant.1 room) ok h a;
     }

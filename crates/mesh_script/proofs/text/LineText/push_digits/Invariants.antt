@@ -1,5 +1,5 @@
 use Rattle.std.proofs.Common.{◌≡◌, ◌≤◌, ◌++◌}
-use Rattle.run_definitions.specs.Text.{hex_digits}
+use Rattle.report_definitions.specs.Text.{hex_digits}
 use Rattle.mesh_script.proofs.text.LineText.push_digits.Given as goal
 
 abbrev pub invariant-loop-left : goal.invariant-loop-left

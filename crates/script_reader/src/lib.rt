@@ -1,0 +1,24 @@
+//! The reader of scripts: the octets of a text to the script that it is, or its first failing line with the rule that fails
+//! there first. What scripts are is defined in `script_definitions`.
+//!
+//! - `reading`: `read_script` and `read_low_power_script`, line by line
+//! - `draft`: the script that the lines read so far are
+//! - `counted`: the kind of a line, and what its words stand for
+//! - `node_lines`, `outside_lines`, `event_lines`: the kinds of lines
+//! - `forms`, `digits`: what one word stands for
+//! - `words`: a text cut into lines, and a line into words
+#![tactic(auto)]
+
+mod counted;
+mod digits;
+mod draft;
+mod event_lines;
+mod forms;
+mod node_lines;
+mod outside_lines;
+pub mod reading;
+#[cfg(test)]
+mod tests;
+mod words;
+
+pub use crate::reading::{LONGEST_SCRIPT, ScriptStop, read_low_power_script, read_script};

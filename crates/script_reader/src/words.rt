@@ -1,0 +1,124 @@
+//! A text cut into lines, and a line into words.
+#![tactic(auto)]
+
+ghost use Rattle.std.specs.Prelude.{◌≡◌, ◌<◌, ◌≤◌, ◌==◌, not, [], ◌∷◌, ◌++◌, length, map, IfOk, IfSome, OnOk, if◌then◌else◌};
+ghost use Rattle.std.specs.Bool.{OnTrue};
+ghost use Rattle.std.specs.Option.{option_map_or};
+ghost use Rattle.script_definitions.specs.Words.{lines_of, without_cr, begins_with, ends_with, pieces, whole_words, words_of, word_at};
+
+use std::alloc::{AllocError, Global};
+
+/// What stands before an LF, without a CR directly before it.
+fn without_cr(piece: &[u8]) -> &[u8]
+    ensures value { result.now ≡ without_cr piece.now }
+{
+    if ends_with(piece, b'\r') {
+        &piece[..piece.len() - 1]
+    } else {
+        piece
+    }
+}
+
+/// The first line of a text, and the text behind it; None where it is the last line.
+pub fn cut_line(text: &[u8]) -> (&[u8], Option<&[u8]>)
+    ensures value { lines_of text.now ≡ result.0.now ∷ option_map_or (λ more. lines_of more.now) result.1 [] }
+    ensures shorter { IfSome result.1 (λ more. length more.now < length text.now) }
+{
+    for (at, b) in text.iter().enumerate() {
+        if *b == b'\n' {
+            return (without_cr(&text[..at]), Some(&text[at + 1..]));
+        }
+    }
+    (text, None)
+}
+
+/// The pieces of a line that its spaces part.
+fn pieces(alloc: Global, line: &[u8]) -> Result<Vec<&[u8]>, AllocError>
+    ensures value { IfOk result (λ v. map (λ p. p.now) v.items ≡ pieces 32 line.now) }
+{
+    line.split(|b| *b == b' ').collect(alloc)
+}
+
+/// Puts a piece behind the words, unless it is empty.
+fn push_word<'a>(words: &mut Vec<&'a [u8]>, piece: &'a [u8]) -> Result<(), AllocError>
+    ensures ok { OnOk result (map (λ w. w.now) words.new.items ≡ map (λ w. w.now) words.old.items ++ (if not (length piece.now == 0) then piece.now ∷ [] else [])) }
+{
+    if piece.len() != 0 {
+        words.push(piece)?;
+    }
+    Ok(())
+}
+
+/// The same, but the empty ones.
+fn whole_words(alloc: Global, line: &[u8]) -> Result<Vec<&[u8]>, AllocError>
+    ensures value { IfOk result (λ v. map (λ w. w.now) v.items ≡ whole_words line.now) }
+{
+    let pieces = pieces(alloc, line)?;
+    let mut words = Vec::new(alloc);
+    for piece in &pieces {
+        push_word(&mut words, *piece)?;
+    }
+    Ok(words)
+}
+
+/// The words with an empty one behind them, where it is wanted.
+fn ended<'a>(mut words: Vec<&'a [u8]>, wanted: bool) -> Result<Vec<&'a [u8]>, AllocError>
+    ensures value { IfOk result (λ v. map (λ w. w.now) v.items ≡ map (λ w. w.now) words.entry.items ++ (if wanted then [] ∷ [] else [])) }
+{
+    if wanted {
+        words.push(b"".as_slice())?;
+    }
+    Ok(words)
+}
+
+/// The words with an empty one before them, where it is wanted.
+fn begun<'a>(mut words: Vec<&'a [u8]>, wanted: bool) -> Result<Vec<&'a [u8]>, AllocError>
+    ensures value { IfOk result (λ v. map (λ w. w.now) v.items ≡ (if wanted then [] ∷ [] else []) ++ map (λ w. w.now) words.entry.items) }
+{
+    if wanted {
+        words.insert(0, b"".as_slice())?;
+    }
+    Ok(words)
+}
+
+/// Whether a text begins with an octet that isn't 0.
+pub fn begins_with(text: &[u8], c: u8) -> bool
+    requires { 0 < c }
+    ensures value { result ≡ begins_with c text.now }
+{
+    text.len() > 0 && text[0] == c
+}
+
+/// Whether a text ends with an octet that isn't 0.
+fn ends_with(text: &[u8], c: u8) -> bool
+    requires { 0 < c }
+    ensures value { result ≡ ends_with c text.now }
+{
+    text.len() > 0 && text[text.len() - 1] == c
+}
+
+/// The words of a line.
+#[tactic(auto, unfolding(script_definitions::specs::Words::words_of))]
+pub fn words_of(alloc: Global, line: &[u8]) -> Result<Vec<&[u8]>, AllocError>
+    ensures value { IfOk result (λ v. map (λ w. w.now) v.items ≡ words_of line.now) }
+{
+    let words = whole_words(alloc, line)?;
+    let open = ends_with(line, b' ') && words.len() != 0;
+    let words = ended(words, open)?;
+    begun(words, begins_with(line, b' '))
+}
+
+/// The word at a place, counted from 0.
+pub fn word<'a>(words: &[&'a [u8]], i: usize) -> &'a [u8]
+    requires { i < length words.now }
+    ensures value { result.now ≡ word_at (map (λ w. w.now) words.now) i }
+{
+    words[i]
+}
+
+/// The first word; the empty one where there is none.
+pub fn first_word<'a>(words: &[&'a [u8]]) -> &'a [u8]
+    ensures value { result.now ≡ word_at (map (λ w. w.now) words.now) 0 }
+{
+    if words.len() > 0 { words[0] } else { b"" }
+}
