@@ -1,0 +1,232 @@
+//! A peer in safe Rust with four tables, beside the proved code, in one process: each is timed in many short windows in turn, and the
+//! least time of each counts.
+use std::hint::black_box;
+use std::time::Instant;
+
+mod proved {
+    extern "C" {
+        fn meshnode_bench_blocks(start: u64, count: u32) -> u64;
+        fn meshnode_bench_kept(count: u32) -> u8;
+        fn meshnode_bench_made(count: u32) -> u8;
+    }
+    pub fn blocks(start: u64, count: u32) -> u64 {
+        unsafe { meshnode_bench_blocks(start, count) }
+    }
+    pub fn kept(count: u32) -> u8 {
+        unsafe { meshnode_bench_kept(count) }
+    }
+    pub fn made(count: u32) -> u8 {
+        unsafe { meshnode_bench_made(count) }
+    }
+}
+
+mod peer {
+    const fn times_x(a: u8) -> u8 {
+        (a << 1) ^ (if a >= 128 { 0x1b } else { 0 })
+    }
+    const fn times(a: u8, b: u8) -> u8 {
+        let (mut a, mut b, mut sum) = (a, b, 0);
+        while a != 0 {
+            if a & 1 == 1 {
+                sum ^= b;
+            }
+            b = times_x(b);
+            a >>= 1;
+        }
+        sum
+    }
+    const fn sbox() -> [u8; 256] {
+        let mut table = [0u8; 256];
+        let mut a = 0;
+        while a < 256 {
+            let mut inverse = 0u8;
+            let mut b = 1;
+            while b < 256 {
+                if times(a as u8, b as u8) == 1 {
+                    inverse = b as u8;
+                }
+                b += 1;
+            }
+            let i = inverse;
+            table[a] = i ^ i.rotate_left(1) ^ i.rotate_left(2) ^ i.rotate_left(3) ^ i.rotate_left(4) ^ 0x63;
+            a += 1;
+        }
+        table
+    }
+    #[allow(long_running_const_eval)]
+    static SBOX: [u8; 256] = sbox();
+    const fn products(row: u32) -> [u32; 256] {
+        let boxed = sbox();
+        let mut table = [0u32; 256];
+        let mut a = 0;
+        while a < 256 {
+            let s = boxed[a];
+            table[a] = u32::from_be_bytes([times(2, s), s, s, times(3, s)]).rotate_right(8 * row);
+            a += 1;
+        }
+        table
+    }
+    #[allow(long_running_const_eval)]
+    static T: [[u32; 256]; 4] = [products(0), products(1), products(2), products(3)];
+
+    pub struct Schedule([[u32; 4]; 11]);
+
+    fn words(block: &[u8; 16]) -> [u32; 4] {
+        let w = |i: usize| u32::from_be_bytes([block[i], block[i + 1], block[i + 2], block[i + 3]]);
+        [w(0), w(4), w(8), w(12)]
+    }
+    fn octet(w: u32, row: usize) -> usize {
+        w.to_be_bytes()[row] as usize
+    }
+
+    impl Schedule {
+        pub fn new(key: &[u8; 16]) -> Schedule {
+            let mut keys = [[0; 4]; 11];
+            keys[0] = words(key);
+            let mut constant = 1u8;
+            for i in 1..11 {
+                let k = keys[i - 1];
+                let o = k[3].to_be_bytes().map(|o| SBOX[o as usize]);
+                let turned = u32::from_be_bytes([o[1] ^ constant, o[2], o[3], o[0]]);
+                let a = k[0] ^ turned;
+                let b = k[1] ^ a;
+                let c = k[2] ^ b;
+                keys[i] = [a, b, c, k[3] ^ c];
+                constant = times_x(constant);
+            }
+            Schedule(keys)
+        }
+        pub fn encrypt(&self, block: [u8; 16]) -> [u8; 16] {
+            let mut s = words(&block);
+            for (w, k) in s.iter_mut().zip(&self.0[0]) {
+                *w ^= k;
+            }
+            for k in &self.0[1..10] {
+                let column = |a: u32, b: u32, c: u32, d: u32, k: u32| {
+                    T[0][octet(a, 0)] ^ T[1][octet(b, 1)] ^ T[2][octet(c, 2)] ^ T[3][octet(d, 3)] ^ k
+                };
+                s = [
+                    column(s[0], s[1], s[2], s[3], k[0]),
+                    column(s[1], s[2], s[3], s[0], k[1]),
+                    column(s[2], s[3], s[0], s[1], k[2]),
+                    column(s[3], s[0], s[1], s[2], k[3]),
+                ];
+            }
+            let k = &self.0[10];
+            let last = |a: u32, b: u32, c: u32, d: u32, k: u32| {
+                (u32::from_be_bytes([SBOX[octet(a, 0)], SBOX[octet(b, 1)], SBOX[octet(c, 2)], SBOX[octet(d, 3)]]) ^ k).to_be_bytes()
+            };
+            let columns = [
+                last(s[0], s[1], s[2], s[3], k[0]),
+                last(s[1], s[2], s[3], s[0], k[1]),
+                last(s[2], s[3], s[0], s[1], k[2]),
+                last(s[3], s[0], s[1], s[2], k[3]),
+            ];
+            let mut out = [0; 16];
+            for (to, from) in out.chunks_exact_mut(4).zip(&columns) {
+                to.copy_from_slice(from);
+            }
+            out
+        }
+    }
+
+    fn add(a: &mut [u8], b: &[u8]) {
+        for (x, y) in a.iter_mut().zip(b) {
+            *x ^= y;
+        }
+    }
+    fn nonce_block(flags: u8, nonce: &[u8; 13], number: u16) -> [u8; 16] {
+        let mut block = [flags; 16];
+        block[1..14].copy_from_slice(nonce);
+        block[14..].copy_from_slice(&number.to_be_bytes());
+        block
+    }
+    // AES-CCM in place, without additional data.
+    fn ccm(schedule: &Schedule, nonce: &[u8; 13], text: &mut [u8], mic: &mut [u8]) {
+        let flags = 8 * ((mic.len() as u8 - 2) / 2) + 1;
+        let mut tag = schedule.encrypt(nonce_block(flags, nonce, text.len() as u16));
+        for part in text.chunks(16) {
+            add(&mut tag, part);
+            tag = schedule.encrypt(tag);
+        }
+        mic.copy_from_slice(&tag[..mic.len()]);
+        add(mic, &schedule.encrypt(nonce_block(1, nonce, 0)));
+        for (i, part) in text.chunks_mut(16).enumerate() {
+            add(part, &schedule.encrypt(nonce_block(1, nonce, i as u16 + 1)));
+        }
+    }
+    // A control PDU of 11 octets of transport PDU: its last octet.
+    fn last_octet(encryption: &Schedule, privacy: &Schedule, number: u32) -> u8 {
+        let iv = 0x12345678u32;
+        let seq = (number % 0x1000000).to_be_bytes();
+        let header = [0x80, seq[1], seq[2], seq[3], 0x12, 0x01];
+        let mut nonce = [0; 13];
+        nonce[1..7].copy_from_slice(&header);
+        nonce[9..].copy_from_slice(&iv.to_be_bytes());
+        let mut pdu = [0u8; 28];
+        pdu[7..9].copy_from_slice(&[0xff, 0xfd]);
+        pdu[9..20].copy_from_slice(&[0x03, 0x4b, 0x50, 0x05, 0x7e, 0x40, 0x00, 0x00, 0x01, 0x00, 0x00]);
+        let (front, mic) = pdu.split_at_mut(20);
+        ccm(encryption, &nonce, &mut front[7..], mic);
+        let mut block = [0; 16];
+        block[5..9].copy_from_slice(&iv.to_be_bytes());
+        block[9..].copy_from_slice(&pdu[7..14]);
+        let mask = privacy.encrypt(block);
+        pdu[0] = (iv % 2) as u8 * 0x80 + 0x68;
+        pdu[1..7].copy_from_slice(&header);
+        add(&mut pdu[1..7], &mask);
+        super::black_box(&pdu);
+        pdu[27]
+    }
+
+    pub fn blocks(start: u64, count: u32) -> u64 {
+        let key = u128::from(start).to_be_bytes();
+        let schedule = Schedule::new(&key);
+        let mut block = key;
+        for _ in 0..count {
+            block = schedule.encrypt(block);
+        }
+        u128::from_be_bytes(block) as u64
+    }
+    pub fn kept(count: u32) -> u8 {
+        let (encryption, privacy) = (Schedule::new(&[1; 16]), Schedule::new(&[2; 16]));
+        (0..count).fold(0, |sum, number| sum ^ last_octet(&encryption, &privacy, number))
+    }
+    pub fn made(count: u32) -> u8 {
+        (0..count).fold(0, |sum, number| {
+            sum ^ last_octet(&Schedule::new(super::black_box(&[1; 16])), &Schedule::new(super::black_box(&[2; 16])), number)
+        })
+    }
+}
+
+// Nanoseconds for one of `count`, the least of many windows of the two in turn.
+fn least(count: u32, one: &dyn Fn(u32), other: &dyn Fn(u32)) -> (f64, f64) {
+    let mut times = (f64::MAX, f64::MAX);
+    let window = |call: &dyn Fn(u32)| {
+        let start = Instant::now();
+        call(count);
+        start.elapsed().as_nanos() as f64 / f64::from(count)
+    };
+    for _ in 0..3000 {
+        times.0 = times.0.min(window(one));
+        times.1 = times.1.min(window(other));
+    }
+    times
+}
+
+fn row(name: &str, times: (f64, f64)) {
+    println!("{name:<28} {:>8.1} {:>8.1} {:>8.2}", times.0, times.1, times.0 / times.1);
+}
+
+fn main() {
+    assert_eq!(proved::blocks(7, 100), peer::blocks(7, 100), "both do the same blocks");
+    assert_eq!(proved::kept(100), peer::kept(100), "both do the same seals");
+    assert_eq!(proved::made(100), peer::made(100), "both do the same seals");
+    println!("{:<28} {:>8} {:>8} {:>8}", "ns, least of 3000 windows", "proved", "Rust", "ratio");
+    row(
+        "a block",
+        least(500, &|n| { black_box(proved::blocks(black_box(7), n)); }, &|n| { black_box(peer::blocks(black_box(7), n)); }),
+    );
+    row("a seal, schedules kept", least(100, &|n| { black_box(proved::kept(n)); }, &|n| { black_box(peer::kept(n)); }));
+    row("a seal, schedules made", least(100, &|n| { black_box(proved::made(n)); }, &|n| { black_box(peer::made(n)); }));
+}
