@@ -236,6 +236,7 @@ fn sectors_are_erased_in_ascending_order(rt: HostRuntime) -> Result<(), Fail> {
     for k in 0..8 {
         flash.program(32768 + 4096 * k + 100, &[0x5a])?;
     }
+    flash.power_cycle();
     flash.arm(3, 0x00);
     assert_eq!(rt;
         journal.compact(&mut flash, &[slot(2)]),
