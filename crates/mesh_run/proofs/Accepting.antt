@@ -12,7 +12,9 @@ use Rattle.mesh_base.specs.declared.pair.Pair.{Pair}
 use Rattle.mesh_types.specs.declared.answers.Answer.{Answer}
 use Rattle.mesh_types.specs.declared.answers.Answer.TheVariants as A
 use Rattle.layer_definitions.specs.Lower.{seq_auth}
-use Rattle.run_definitions.specs.Answers.{config_before, is_again, is_mine, is_segment, is_unicast, lower_answer, message_name, message_pair, named_answer, opened_answer, pair_of, placed_answer, replayed, segment_answer, transport_answer, whole_answer}
+use Rattle.layer_states.specs.Names.{is_unicast}
+use Rattle.layer_states.specs.Reassembly.{is_segment}
+use Rattle.run_definitions.specs.Answers.{config_before, is_again, is_mine, lower_answer, message_name, message_pair, named_answer, opened_answer, pair_of, placed_answer, replayed, segment_answer, transport_answer, whole_answer}
 use Rattle.store_definitions.specs.Config.{Config, is_element}
 use Rattle.store_definitions.specs.Entries.{entry_of, has_room}
 use Rattle.run_definitions.specs.History.{Opening, OfPdu, Past, Reading}

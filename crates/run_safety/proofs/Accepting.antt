@@ -20,7 +20,9 @@ use Rattle.mesh_types.specs.declared.events.Event.{Event}
 use Rattle.mesh_types.specs.declared.events.Event.TheVariants as E
 use Rattle.mesh_types.specs.declared.events.SendKey.{SendKey}
 use Rattle.mesh_types.specs.declared.events.SendKey.TheVariants as K
-use Rattle.run_definitions.specs.Answers.{answer_of, beacon_answer, begin_answer, config_before, later, is_again, is_cached, is_mine, is_name, is_segment, is_unicast, lower_answer, message_name, message_pair, named_answer, network_answer, opened_answer, pair_of, pdu_answer, placed_answer, replayed, segment_answer, send_answer, transport_answer, unless_reset, whole_answer}
+use Rattle.layer_states.specs.Names.{is_name, is_unicast}
+use Rattle.layer_states.specs.Reassembly.{is_segment}
+use Rattle.run_definitions.specs.Answers.{answer_of, beacon_answer, begin_answer, config_before, later, is_again, is_cached, is_mine, lower_answer, message_name, message_pair, named_answer, network_answer, opened_answer, pair_of, pdu_answer, placed_answer, replayed, segment_answer, send_answer, transport_answer, unless_reset, whole_answer}
 use Rattle.store_definitions.specs.Config.{is_element}
 use Rattle.store_definitions.specs.Entries.{entry_of}
 use Rattle.run_definitions.specs.History.{Insight, OfBeacon, OfNothing, OfPdu, Opening, Past, Reading}

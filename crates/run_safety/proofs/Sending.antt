@@ -23,7 +23,8 @@ use Rattle.mesh_types.specs.declared.events.SendKey.{SendKey}
 use Rattle.mesh_types.specs.declared.jobs.Job.{Job}
 use Rattle.mesh_types.specs.declared.jobs.Job.TheVariants as J
 use Rattle.record_types.specs.declared.records.StoreRecord.{StoreRecord}
-use Rattle.run_definitions.specs.Answers.{answer_of, config_before, is_before_cache, is_unicast, later, network_answer, pdu_answer, transport_answer, unless_reset}
+use Rattle.layer_states.specs.Names.{is_unicast}
+use Rattle.run_definitions.specs.Answers.{answer_of, config_before, is_before_cache, later, network_answer, pdu_answer, transport_answer, unless_reset}
 use Rattle.store_definitions.specs.Config.{Config, config_of, is_element}
 use Rattle.run_definitions.specs.Handling.{AreHandled, Handles, past_of, records_left}
 use Rattle.run_definitions.specs.History.{Insight, OfBeacon, OfNothing, OfPdu, Opening, Past, Reading, Told, now_of}
