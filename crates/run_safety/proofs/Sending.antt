@@ -33,7 +33,7 @@ use Rattle.run_definitions.specs.Layers.{Layers}
 use Rattle.run_definitions.specs.Readings.{IsReading, Sees, sees_pdu, sees_beacon, sees_nothing}
 use Rattle.run_safety.specs.Safety.{AreSafe, IsFitJob}
 use Rattle.run_definitions.specs.Stores.{message_of, records_after}
-use Rattle.run_safety.proofs.Accepting.{some_is}
+use Rattle.run_definitions.proofs.Accepting.{some_is}
 use Rattle.run_safety.proofs.Handled.{rise_filled}
 use Rattle.run_safety.proofs.Lists.{every_append, every_map}
 use Rattle.run_safety.proofs.Names.{InRange, entry_rises, first_in_range}

@@ -35,8 +35,7 @@ use Rattle.store_definitions.specs.Provisioning.{Provisioning, provisioned}
 use Rattle.run_safety.specs.Safety.{AreSafe}
 use Rattle.run_definitions.specs.Seals.{own_fields}
 
-abbrev pub address : ℕ → Address
-address n = record { 0 = n }
+pub use Rattle.report_definitions.specs.WorkedReports.{address}
 
 abbrev pub pair : ℕ → Pair
 pair seq = record { iv = 5; seq = seq }
