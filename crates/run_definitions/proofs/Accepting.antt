@@ -1,6 +1,6 @@
 -- What the table of answers says of an accepted message, whatever the layers say: it has the source and the IV Index of its PDU, it is
 -- newer than the entry of its source, and there is a place for it.
-use Rattle.std.proofs.Common.{◌≡◌, ℕ, ◌+◌, ◌⊎◌, Bool, true, false, cond, not, ◌&&◌, ◌||◌, ltb, leb, List, length, refl, ap, sym, subst, arith, Option, Some, None}
+use Rattle.std.proofs.Common.{◌≡◌, ℕ, ◌+◌, ◌⊎◌, Bool, true, false, cond, not, ◌&&◌, ◌||◌, ltb, leb, length, refl, ap, sym, subst, arith, Option, Some, None}
 use Rattle.std.specs.Prelude.{IsTrue}
 use Rattle.std.specs.Option.{option_or, option_map, unwrap_or, is_none, is_some}
 use Rattle.std.specs.List.{list_any}

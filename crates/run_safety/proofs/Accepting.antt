@@ -1,17 +1,12 @@
 -- What the table of answers says of an accepted message: its IV Index is read, its name is newer than the entry of
 -- its source, and its source is no element of this node.
-use Rattle.std.proofs.Common.{◌≡◌, ℕ, ◌+◌, ◌⊎◌, Bool, true, false, cond, not, ◌&&◌, ◌||◌, eqb, ltb, leb, List, length, refl, ap, sym, subst, arith, Option, Some, None}
-use Rattle.std.specs.Option.{option_or, option_map, unwrap_or, is_some}
-use Rattle.std.specs.List.{list_any}
-use Rattle.std.proofs.lemmas.Bool.Decides.{nat_tests}
+use Rattle.std.proofs.Common.{◌≡◌, ℕ, Bool, true, false, cond, not, ◌||◌, eqb, leb, List, refl, Option, Some, None}
+use Rattle.std.specs.Option.{is_some}
 use Rattle.layer_definitions.specs.KeyRefresh.{app_row}
-use Rattle.layer_definitions.specs.Lower.{seq_auth}
 use Rattle.mesh_base.specs.IvState.{transmit_of}
 use Rattle.mesh_base.specs.declared.address.Address.{Address}
 use Rattle.mesh_base.specs.declared.beacon.Beacon.{Beacon}
-use Rattle.mesh_base.specs.declared.fields.NetFields.{NetFields}
 use Rattle.mesh_base.specs.declared.lower.Lower.{Lower}
-use Rattle.mesh_base.specs.declared.lower.Lower.TheVariants.{Access, Control, AccessPart, ControlPart}
 use Rattle.mesh_base.specs.declared.pair.Name.{Name}
 use Rattle.mesh_base.specs.declared.pair.Pair.{Pair}
 use Rattle.mesh_types.specs.declared.answers.Answer.{Answer}
@@ -20,14 +15,13 @@ use Rattle.mesh_types.specs.declared.events.Event.{Event}
 use Rattle.mesh_types.specs.declared.events.Event.TheVariants as E
 use Rattle.mesh_types.specs.declared.events.SendKey.{SendKey}
 use Rattle.mesh_types.specs.declared.events.SendKey.TheVariants as K
-use Rattle.layer_states.specs.Names.{is_name, is_unicast}
-use Rattle.layer_states.specs.Reassembly.{is_segment}
-use Rattle.run_definitions.specs.Answers.{answer_of, beacon_answer, begin_answer, config_before, later, is_again, is_cached, is_mine, lower_answer, message_name, message_pair, named_answer, network_answer, opened_answer, pair_of, pdu_answer, placed_answer, replayed, segment_answer, send_answer, transport_answer, unless_reset, whole_answer}
+use Rattle.layer_states.specs.Names.{is_unicast}
+use Rattle.run_definitions.specs.Answers.{answer_of, beacon_answer, begin_answer, config_before, later, is_cached, is_mine, network_answer, pdu_answer, replayed, send_answer, unless_reset}
 use Rattle.store_definitions.specs.Config.{is_element}
 use Rattle.store_definitions.specs.Entries.{entry_of}
 use Rattle.run_definitions.specs.History.{Insight, OfBeacon, OfNothing, OfPdu, Opening, Past, Reading}
 use Rattle.run_definitions.specs.Layers.{Layers}
-use Rattle.mesh_base.specs.Pairs.{is_expired, is_newer}
+use Rattle.mesh_base.specs.Pairs.{is_expired}
 use Rattle.run_definitions.specs.Readings.{Sees, sees_pdu, sees_beacon, sees_nothing, IsReading}
 use Rattle.run_definitions.specs.Uses.{accepted}
 use Rattle.run_definitions.proofs.Accepting.{AcceptedFrom, Refuses, no_answer, refused, refuses_pick, past_refusal, transport_accepts, not_expired}
