@@ -1,24 +1,14 @@
 -- What the table of answers says of an accepted message: it has the source and the IV Index of its PDU, it is newer than the entry of its
 -- source, and there is a place for it.
-use Rattle.std.proofs.Common.{◌≡◌, ℕ, ◌+◌, ◌⊎◌, Bool, true, false, cond, not, ◌&&◌, ◌||◌, eqb, List, refl, ap, sym, subst, ◌∙◌, arith, Option, Some, None}
-use Rattle.std.specs.Prelude.{IsTrue}
-use Rattle.std.specs.Option.{option_or, option_map, unwrap_or, is_none, is_some}
-use Rattle.std.proofs.lemmas.Bool.Decides.{nat_tests}
+use Rattle.std.proofs.Common.{◌≡◌, ℕ, not, ◌||◌, eqb, List, refl, ap, sym, ◌∙◌, Option, Some, None}
 use Rattle.mesh_base.specs.declared.fields.NetFields.{NetFields}
 use Rattle.mesh_base.specs.declared.lower.Lower.{Lower}
-use Rattle.mesh_base.specs.declared.lower.Lower.TheVariants.{Access, Control, AccessPart, ControlPart}
 use Rattle.mesh_base.specs.declared.pair.Name.{Name}
-use Rattle.mesh_base.specs.declared.pair.Pair.{Pair}
 use Rattle.mesh_types.specs.declared.answers.Answer.{Answer}
-use Rattle.mesh_types.specs.declared.answers.Answer.TheVariants as A
-use Rattle.layer_definitions.specs.Lower.{seq_auth}
 use Rattle.layer_states.specs.Names.{is_unicast}
-use Rattle.layer_states.specs.Reassembly.{is_segment}
-use Rattle.run_definitions.specs.Answers.{config_before, is_again, is_mine, lower_answer, message_name, message_pair, named_answer, opened_answer, pair_of, placed_answer, replayed, segment_answer, transport_answer, whole_answer}
+use Rattle.run_definitions.specs.Answers.{config_before, is_mine}
 use Rattle.store_definitions.specs.Config.{Config, is_element}
-use Rattle.store_definitions.specs.Entries.{entry_of, has_room}
 use Rattle.run_definitions.specs.History.{Opening, OfPdu, Past, Reading}
-use Rattle.mesh_base.specs.Pairs.{is_expired}
 use Rattle.run_definitions.specs.Layers.{quiet_layers}
 use Rattle.run_definitions.specs.Readings.{IsReading}
 use Rattle.run_definitions.specs.Uses.{accepted}

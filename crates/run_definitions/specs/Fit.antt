@@ -26,6 +26,7 @@ AreStorable before (item ∷ items) =
 abbrev pub IsOwn : Config → Job → Type 0
 IsOwn c (J.Control material ttl src dst tpdu keep) = is_element c src.0 ≡ true
 IsOwn c (J.Message net material key ttl src dst payload keep) = is_element c src.0 ≡ true
+IsOwn c (J.Sent net material key ttl src dst) = is_element c src.0 ≡ true
 IsOwn c (J.Segment material name ttl src dst seg_o seg_n tpdu first) = is_element c src.0 ≡ true
 IsOwn c _ = ⊤
 
