@@ -26,7 +26,9 @@ use Rattle.mesh_types.specs.declared.answers.KeyName.{KeyName}
 use Rattle.mesh_types.specs.declared.events.Event.TheVariants as E
 use Rattle.record_types.specs.declared.records.StoreRecord.{StoreRecord}
 use Rattle.record_types.specs.declared.records.StoreRecord.TheVariants as R
-use Rattle.run_definitions.specs.Answers.{config_before, is_mine, is_segment, is_unicast, lower_answer, message_name, name_of, named_answer, opened_answer, placed_answer, replayed, transport_answer, whole_answer}
+use Rattle.layer_states.specs.Names.{is_unicast}
+use Rattle.layer_states.specs.Reassembly.{is_segment}
+use Rattle.run_definitions.specs.Answers.{config_before, is_mine, lower_answer, message_name, name_of, named_answer, opened_answer, placed_answer, replayed, transport_answer, whole_answer}
 use Rattle.store_definitions.specs.Config.{Config, changed, is_element}
 use Rattle.store_definitions.specs.Entries.{entry_of, has_room, others_held}
 use Rattle.run_definitions.specs.History.{Opening, OfPdu, Past, Reading}

@@ -21,6 +21,7 @@ use Rattle.mesh_types.specs.declared.events.Event.TheVariants as E
 use Rattle.mesh_types.specs.declared.history.Entry.{Entry}
 use Rattle.record_types.specs.declared.records.StoreRecord.{StoreRecord}
 use Rattle.network_layer.specs.Laws.{HaveOneReading}
+use Rattle.run_definitions.proofs.Accepting.{some_is}
 use Rattle.run_definitions.specs.Answers.{config_before, lower_answer, message_name}
 use Rattle.run_definitions.specs.History.{Insight, OfPdu, OfNothing, Opening, Past, Reading, Told}
 use Rattle.run_definitions.specs.Layers.{quiet_layers}
@@ -31,9 +32,6 @@ use Rattle.mesh_run.specs.Hearing.{Hears, IsLowerHeard, Sees, sees_pdu, sees_not
 use Rattle.mesh_run.specs.Laws.{HaveOneReport}
 use Rattle.mesh_run.specs.Lines.{event_of}
 use Rattle.mesh_run.specs.Told.{AreTold, IsTold, entry_of, past_over, run_of}
-
-some_is : {A : Type 0} {a b : A} → Some a ≡ Some b → a ≡ b
-some_is e = cc
 
 -- of two places one is before the other, or they are one
 places : (a b : ℕ) → (a < b) ⊎ ((b < a) ⊎ (a ≡ b))

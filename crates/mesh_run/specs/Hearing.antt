@@ -11,7 +11,8 @@ use Rattle.mesh_types.specs.declared.events.Event.TheVariants as E
 use Rattle.record_types.specs.declared.records.StoreRecord.{StoreRecord}
 use Rattle.record_types.specs.declared.records.StoreRecord.TheVariants as R
 use Rattle.mesh_base.specs.declared.address.Address.{Address}
-use Rattle.run_definitions.specs.Answers.{config_before, is_mine, is_unicast, transport_answer}
+use Rattle.layer_states.specs.Names.{is_unicast}
+use Rattle.run_definitions.specs.Answers.{config_before, is_mine, transport_answer}
 use Rattle.store_definitions.specs.Config.{Config, is_element}
 use Rattle.run_definitions.specs.History.{Reading, Opening, Insight, OfPdu, OfNothing, Past}
 use Rattle.run_definitions.specs.Layers.{quiet_layers}

@@ -3,7 +3,8 @@
 
 ghost use Rattle.std.specs.Prelude.{◌≡◌, ◌<◌, ◌^◌};
 ghost use Rattle.layer_definitions.specs.KeyRefresh.{master_material};
-ghost use Rattle.run_definitions.specs.Answers.{is_mine, is_unicast};
+ghost use Rattle.layer_states.specs.Names.{is_unicast};
+ghost use Rattle.run_definitions.specs.Answers.{is_mine};
 ghost use Rattle.store_definitions.specs.Config.{is_element};
 ghost use Rattle.mesh_run.specs.Node.{first_config, HasKeys, IsNodeOf};
 ghost use Rattle.mesh_run.specs.Told.{first_records};

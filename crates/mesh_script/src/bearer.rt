@@ -17,7 +17,7 @@ use std::alloc::{AllocError, Global};
 use std::marker::Model;
 
 /// A line of bearer 0, one variant for each word that may stand behind `b0`.
-#[derive(Debug, Drop, PartialEq, Eq)]
+#[derive(Drop, PartialEq, Eq)]
 pub enum BearerLine {
     /// `raw`: the node sends a control PDU.
     Raw(RawLine),
@@ -30,7 +30,7 @@ pub enum BearerLine {
 }
 
 /// The lines of a bearer in their order, at most 4,096. A clause sees the list of them.
-#[derive(Debug, Drop)]
+#[derive(Drop)]
 pub struct BearerLines {
     lines: Vec<BearerLine>,
 }

@@ -15,8 +15,8 @@ use std::alloc::{AllocError, Global};
 /// The longest script, in octets.
 pub const LONGEST_SCRIPT: usize = 4_194_304;
 
-/// A script of one life.
-#[derive(Debug, Drop)]
+/// A script of one life. It holds keys, so it isn't printed.
+#[derive(Drop)]
 pub struct Script {
     /// The node's data.
     pub provision: ProvisionLine,

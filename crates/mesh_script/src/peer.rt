@@ -11,7 +11,7 @@ use crate::words::piece;
 use mesh_base::fields::NetFields;
 
 /// A line `b0 peer`: the node hears the network PDU of these fields, sealed with the master credentials of a network key.
-#[derive(Debug, Drop, PartialEq, Eq)]
+#[derive(Drop, PartialEq, Eq)]
 pub struct PeerLine {
     /// The network key.
     pub net_key: [u8; 16],

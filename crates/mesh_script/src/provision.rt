@@ -8,8 +8,8 @@ use crate::digits::{key, number};
 use crate::words::piece;
 use mesh_base::address::Address;
 
-/// What the line `provision` says of the node.
-#[derive(Clone, Copy, Debug, PartialEq, Eq)]
+/// What the line `provision` says of the node. It holds keys, so it isn't printed.
+#[derive(Clone, Copy, PartialEq, Eq)]
 pub struct ProvisionLine {
     /// The address of the first element, 0001 to 7fff.
     pub unicast: Address,

@@ -10,8 +10,8 @@ use crate::words::piece;
 use mesh_base::address::Address;
 use mesh_base::octets::Octets;
 
-/// The key that an outside node seals an access message with.
-#[derive(Clone, Copy, Debug, PartialEq, Eq)]
+/// The key that an outside node seals an access message with. It isn't printed.
+#[derive(Clone, Copy, PartialEq, Eq)]
 pub enum TalkKey {
     /// A device key.
     Device([u8; 16]),
@@ -21,7 +21,7 @@ pub enum TalkKey {
 
 /// A line `b0 talk`: the node hears the unsegmented access message of these fields, sealed with the master credentials of a
 /// network key, with a TransMIC of 4 octets. The SEQ of its SeqAuth is that of the PDU.
-#[derive(Debug, Drop, PartialEq, Eq)]
+#[derive(Drop, PartialEq, Eq)]
 pub struct TalkLine {
     /// The network key.
     pub net_key: [u8; 16],

@@ -1,12 +1,15 @@
 -- The answer to an event, after what stands before it. For a network PDU heard it is the first row of a table that holds; the rows come
 -- in four groups, and each group has no answer where none of its rows holds.
-use Rattle.std.specs.Prelude.{ℕ, ◌+◌, ◌-◌, ◌^◌, ◌==◌, ◌&&◌, ◌||◌, not, nat_lt, nat_le, min, Bool, true, false, if◌then◌else◌, List, length, take, drop, Option, Some, None, is_some, is_none, unwrap_or}
+use Rattle.std.specs.Prelude.{ℕ, ◌+◌, ◌^◌, ◌==◌, ◌&&◌, ◌||◌, not, nat_lt, nat_le, min, Bool, true, false, if◌then◌else◌, length, take, Option, Some, None, is_some, is_none, unwrap_or}
 use Rattle.std.specs.List.{list_any, filter_map}
 use Rattle.std.specs.Option.{option_map, option_or, option_to_list}
 use Rattle.cipher_definitions.specs.Kdf.{virtual_address}
 use Rattle.layer_definitions.specs.IvIndex.{iv_next}
 use Rattle.layer_definitions.specs.KeyRefresh.{net_row, app_row}
 use Rattle.layer_definitions.specs.Lower.{seq_auth}
+use Rattle.layer_states.specs.Cache.{last_of}
+use Rattle.layer_states.specs.Names.{is_name, is_unicast}
+use Rattle.layer_states.specs.Reassembly.{is_segment}
 use Rattle.mesh_base.specs.IvState.{transmit_of}
 use Rattle.mesh_base.specs.declared.address.Address.{Address}
 use Rattle.mesh_base.specs.declared.beacon.Beacon.{Beacon}
@@ -38,9 +41,6 @@ config_before past = config_of past.records
 
 -- The first group: what the network layer says of a PDU that reads.
 
-abbrev pub is_unicast : Address → Bool
-is_unicast a = nat_le 1 a.0 && nat_lt a.0 0x8000
-
 -- a group address (Mesh Profile 1.0.1, section 3.4.2.4)
 abbrev pub is_group : Address → Bool
 is_group a = nat_le 0xc000 a.0
@@ -63,9 +63,6 @@ pair_of f = record { iv = f.iv; seq = f.seq }
 abbrev pub name_of : NetFields → Name
 name_of f = record { src = f.src; pair = pair_of f }
 
-abbrev pub is_name : Name → Name → Bool
-is_name m n = m.src.0 == n.src.0 && m.pair.iv == n.pair.iv && m.pair.seq == n.pair.seq
-
 -- the answers before the message cache has a PDU
 abbrev pub is_before_cache : Answer → Bool
 is_before_cache A.Unread = true
@@ -80,10 +77,6 @@ abbrev pub cached_name : Insight → Bool → Option Name
 cached_name (OfPdu (Some r) lower opening) false = Some (name_of r.fields)
 cached_name _ _ = None
 
--- the last n of a list
-abbrev pub last_of : {A : Type 0} → ℕ → List A → List A
-last_of n xs = drop (length xs - n) xs
-
 -- whether a PDU is among the last 128 of this life that got into the message cache
 abbrev pub is_cached : Past → NetFields → Bool
 is_cached past f = list_any (is_name (name_of f)) (last_of 128 (filter_map (λ t. cached_name t.insight (is_before_cache t.entry.answer)) past.told))
@@ -97,12 +90,6 @@ network_answer past r =
     else None
 
 -- The second group: what the lower transport layer says of a message with this name.
-
-abbrev pub is_segment : Lower → Bool
-is_segment (Access akf aid upper) = false
-is_segment (Control opcode params) = false
-is_segment (AccessPart akf aid szmic seq_zero seg_o seg_n piece) = true
-is_segment (ControlPart opcode seq_zero seg_o seg_n piece) = true
 
 -- the pair that names a message: that of the PDU, or SeqAuth for a segment, if there is one
 abbrev pub message_pair : NetFields → Lower → Option Pair

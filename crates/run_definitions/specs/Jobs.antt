@@ -21,7 +21,8 @@ use Rattle.mesh_types.specs.declared.events.SendKey.{SendKey}
 use Rattle.mesh_types.specs.declared.events.SendKey.TheVariants as K
 use Rattle.mesh_types.specs.declared.jobs.Job.{Job}
 use Rattle.mesh_types.specs.declared.jobs.Job.TheVariants as J
-use Rattle.run_definitions.specs.Answers.{config_before, is_before_cache, is_unicast, later}
+use Rattle.layer_states.specs.Names.{is_unicast}
+use Rattle.run_definitions.specs.Answers.{config_before, is_before_cache, later}
 use Rattle.store_definitions.specs.Config.{Config, is_element}
 use Rattle.run_definitions.specs.History.{Insight, OfPdu, Past, Reading, now_of}
 use Rattle.run_definitions.specs.Layers.{Layers}

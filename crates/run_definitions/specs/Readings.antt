@@ -18,7 +18,8 @@ use Rattle.mesh_base.specs.declared.pair.Name.{Name}
 use Rattle.mesh_base.specs.declared.upper.UpperFields.{UpperFields}
 use Rattle.mesh_types.specs.declared.events.Event.{Event}
 use Rattle.mesh_types.specs.declared.events.Event.TheVariants as E
-use Rattle.run_definitions.specs.Answers.{config_before, is_unicast, network_answer, lower_answer, message_name}
+use Rattle.layer_states.specs.Names.{is_unicast}
+use Rattle.run_definitions.specs.Answers.{config_before, network_answer, lower_answer, message_name}
 use Rattle.store_definitions.specs.Config.{Config}
 use Rattle.run_definitions.specs.History.{Reading, Opening, Insight, OfPdu, OfBeacon, OfNothing, Past}
 use Rattle.run_definitions.specs.Layers.{Layers}

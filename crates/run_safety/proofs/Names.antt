@@ -22,7 +22,8 @@ use Rattle.run_safety.specs.Safety.{AreSafe}
 use Rattle.run_definitions.specs.Stores.{asked, message_of, records_after, stores}
 use Rattle.store_definitions.specs.Numbers.{filled, fill_of}
 use Rattle.run_definitions.specs.Uses.{accepted}
-use Rattle.run_safety.proofs.Accepting.{Fresh, beacon_silent, fresh, nothing_accepted, nothing_silent, some_is, unless_silent}
+use Rattle.run_safety.proofs.Accepting.{Fresh, beacon_silent, fresh, nothing_accepted, nothing_silent, unless_silent}
+use Rattle.run_definitions.proofs.Accepting.{some_is}
 use Rattle.run_safety.proofs.Handled.{RiseAll, marked, rise_all, rise_filled, stores_rise}
 use Rattle.run_safety.proofs.Lists.{Apart, apart_push, every_append, every_front, every_map}
 use Rattle.run_safety.proofs.Rising.{config_push, Blocked, by_expiry, by_kept, IsBlocked, Rise, same, blocked_by_replay, blocked_entry, blocked_rise, rise_after}

@@ -1,6 +1,7 @@
 -- The nonces of a line: of which layer and which pair each is, and whose.
-use Rattle.std.proofs.Common.{◌≡◌, ◌≢◌, ℕ, ◌+◌, ◌*◌, ◌/◌, ◌%◌, ◌^◌, ◌<◌, Bool, true, false, not, cond, eqb, List, [], ◌∷◌, ◌++◌, get_or, refl, ap, sym, ◌∙◌, arith}
+use Rattle.std.proofs.Common.{◌≡◌, ◌≢◌, ℕ, ◌/◌, ◌%◌, ◌^◌, ◌<◌, Bool, true, false, not, cond, eqb, List, [], ◌∷◌, ◌++◌, get_or, refl, ap, sym, ◌∙◌, arith}
 use Rattle.std.specs.List.{AllByRecursion, filter, flat_map}
+use Rattle.cipher_definitions.proofs.Octets.{two_back}
 use Rattle.layer_definitions.specs.Network.{network_nonce}
 use Rattle.layer_definitions.specs.Upper.{upper_nonce}
 use Rattle.mesh_base.specs.declared.address.Address.{Address}
@@ -114,11 +115,8 @@ tagged_append own no_use k = k
 tagged_append own (own_use h hs) k = own_use h (tagged_append own hs k)
 tagged_append own (foreign_use h hs) k = foreign_use h (tagged_append own hs k)
 
-source_is : (n : ℕ) → n < 2 ^ 16 → n / 256 % 256 * 256 + n % 256 ≡ n
-source_is n h = omega arith
-
 relayed_foreign : (own : Config) (m : NetMaterial) (f : NetFields) → Foreign own f.src → is_own own (network_use f m) ≡ false
-relayed_foreign own m f h = rw (source_is f.src.0 h.1) h.0
+relayed_foreign own m f h = rw (two_back f.src.0 h.1) h.0
 
 line_tagged : (own : Config) (event : Event) (job : Job) (outcome : Outcome) → Shows event job outcome → ForeignJob own job → Tagged own (seals_of job outcome) (tags_of outcome)
 unfolding seals_of

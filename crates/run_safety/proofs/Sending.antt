@@ -23,7 +23,8 @@ use Rattle.mesh_types.specs.declared.events.SendKey.{SendKey}
 use Rattle.mesh_types.specs.declared.jobs.Job.{Job}
 use Rattle.mesh_types.specs.declared.jobs.Job.TheVariants as J
 use Rattle.record_types.specs.declared.records.StoreRecord.{StoreRecord}
-use Rattle.run_definitions.specs.Answers.{answer_of, config_before, is_before_cache, is_unicast, later, network_answer, pdu_answer, transport_answer, unless_reset}
+use Rattle.layer_states.specs.Names.{is_unicast}
+use Rattle.run_definitions.specs.Answers.{answer_of, config_before, is_before_cache, later, network_answer, pdu_answer, transport_answer, unless_reset}
 use Rattle.store_definitions.specs.Config.{Config, config_of, is_element}
 use Rattle.run_definitions.specs.Handling.{AreHandled, Handles, past_of, records_left}
 use Rattle.run_definitions.specs.History.{Insight, OfBeacon, OfNothing, OfPdu, Opening, Past, Reading, Told, now_of}
@@ -32,7 +33,7 @@ use Rattle.run_definitions.specs.Layers.{Layers}
 use Rattle.run_definitions.specs.Readings.{IsReading, Sees, sees_pdu, sees_beacon, sees_nothing}
 use Rattle.run_safety.specs.Safety.{AreSafe, IsFitJob}
 use Rattle.run_definitions.specs.Stores.{message_of, records_after}
-use Rattle.run_safety.proofs.Accepting.{some_is}
+use Rattle.run_definitions.proofs.Accepting.{some_is}
 use Rattle.run_safety.proofs.Handled.{rise_filled}
 use Rattle.run_safety.proofs.Lists.{every_append, every_map}
 use Rattle.run_safety.proofs.Names.{InRange, entry_rises, first_in_range}

@@ -5,7 +5,6 @@ use Rattle.std.specs.Prelude.{ℕ, ◌+◌, ◌*◌, ◌^◌, Bool, true, false,
 use Rattle.layer_definitions.specs.KeyRefresh.{master_material}
 use Rattle.layer_definitions.specs.Lower.{lower_text, segment}
 use Rattle.layer_definitions.specs.Network.{net_text}
-use Rattle.mesh_base.specs.declared.address.Address.{Address}
 use Rattle.mesh_base.specs.declared.fields.Heard.{Heard}
 use Rattle.mesh_base.specs.declared.fields.NetFields.{NetFields}
 use Rattle.mesh_base.specs.declared.fields.NetMaterial.{NetMaterial}
@@ -34,9 +33,7 @@ use Rattle.run_definitions.specs.RunOf.{RunOf, Script}
 use Rattle.store_definitions.specs.Provisioning.{Provisioning, provisioned}
 use Rattle.run_safety.specs.Safety.{AreSafe}
 use Rattle.run_definitions.specs.Seals.{own_fields}
-
-abbrev pub address : ℕ → Address
-address n = record { 0 = n }
+pub use Rattle.report_definitions.specs.WorkedReports.{address}
 
 abbrev pub pair : ℕ → Pair
 pair seq = record { iv = 5; seq = seq }

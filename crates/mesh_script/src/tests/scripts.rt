@@ -161,7 +161,7 @@ fn reads_lines(rt: HostRuntime) -> Result<(), Fail> {
     let lines = script.lines.as_slice();
     assert_eq!(rt; lines.len(), cases.len());
     for (line, (_, wanted)) in lines.iter().zip(&cases) {
-        assert_eq!(rt; line, wanted);
+        assert!(rt; *line == *wanted);
     }
     Ok(())
 }
