@@ -6,4 +6,5 @@ use Rattle.seq_reserve.specs.declared.keep_fault.KeepFault.TheVariants as K
 
 abbrev pub keep_fault_of : PutFault → KeepFault
 keep_fault_of P.Closed = K.Closed
-keep_fault_of _ = K.Flash
+keep_fault_of (P.Limit held) = K.Flash
+keep_fault_of P.Flash = K.Flash

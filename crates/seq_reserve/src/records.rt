@@ -3,8 +3,8 @@
 
 ghost use Rattle.std.specs.Prelude.{◌≡◌, ◌*◌, ◌^◌, ◌<◌, ◌≤◌, nat_lt, if◌then◌else◌};
 ghost use Rattle.mesh_base.specs.IvState.{HasTransmit, transmit_of};
-ghost use Rattle.node_records.specs.Meaning.{IsSaid};
 ghost use Rattle.node_records.specs.Tables.{config_in};
+ghost use Rattle.node_store.specs.Numbers.{HasNumbers};
 ghost use Rattle.node_store.specs.Tie.{IsNotBelow};
 ghost use Rattle.seq_reserve.specs.Reserving.{first_word};
 ghost use Rattle.seq_word.specs.Word.{seq_of};
@@ -13,7 +13,6 @@ ghost use Rattle.store_definitions.specs.Ranges.{IsInRange, IsMark};
 
 use mesh_base::iv_state::IvState;
 use node_records::Persist;
-use node_records::laws::value_law;
 use record_types::records::StoreRecord;
 use seq_word::word::WORDS_PER_IV;
 
@@ -22,14 +21,13 @@ pub const BLOCK: u64 = 256;
 
 /// The record of a refill: the IV state as it is, and the mark a block higher.
 pub(crate) fn fill_record(p: &Persist) -> StoreRecord
-    requires said { IsSaid p.now }
+    requires numbers { HasNumbers p.now }
     requires unspent { seq_of p.now.mark < 2 ^ 24 }
 
     ensures value { result ≡ fill_of (config_in p.now) }
     ensures range { IsInRange result }
     ensures rises { IsNotBelow p.now result }
 {
-    value_law();
     StoreRecord::Numbers {
         current: p.iv.current,
         progress: p.iv.progress,
@@ -39,9 +37,19 @@ pub(crate) fn fill_record(p: &Persist) -> StoreRecord
     }
 }
 
+/// Whether the transmit IV Index rises with a new IV state.
+pub(crate) fn raises(p: &Persist, to: &IvState) -> bool
+    requires numbers { HasNumbers p.now }
+    requires transmit { HasTransmit to.now }
+
+    ensures { result ≡ nat_lt (transmit_of p.now.iv) (transmit_of to.now) }
+{
+    p.iv.transmit() < to.transmit()
+}
+
 /// The mark under a new IV state: the first word of its transmit IV Index where that rises, and else the mark of before.
 fn mark_under(p: &Persist, to: &IvState) -> u64
-    requires said { IsSaid p.now }
+    requires numbers { HasNumbers p.now }
     requires transmit { HasTransmit to.now }
     requires rises { transmit_of p.now.iv ≤ transmit_of to.now }
 
@@ -49,18 +57,23 @@ fn mark_under(p: &Persist, to: &IvState) -> u64
     ensures range { IsMark to.now result }
     ensures rises { p.now.mark ≤ result }
 {
-    value_law();
-    let transmit = to.transmit();
-    if p.iv.transmit() < transmit {
-        u64::from(transmit) * WORDS_PER_IV
+    if raises(p, to) {
+        u64::from(to.transmit()) * WORDS_PER_IV
     } else {
         p.mark
     }
 }
 
+/// What the type of an IV state says of its fields, as clauses that a proof can cite.
+fn iv_fits(iv: IvState)
+    ensures current { iv.current < 2 ^ 32 }
+    ensures hours { iv.hours < 2 ^ 16 }
+    ensures since { iv.since < 2 ^ 16 }
+{}
+
 /// The record of a new IV state.
 pub(crate) fn move_record(p: &Persist, to: &IvState) -> StoreRecord
-    requires said { IsSaid p.now }
+    requires numbers { HasNumbers p.now }
     requires transmit { HasTransmit to.now }
     requires current { p.now.iv.current ≤ to.now.current }
     requires rises { transmit_of p.now.iv ≤ transmit_of to.now }
@@ -69,12 +82,12 @@ pub(crate) fn move_record(p: &Persist, to: &IvState) -> StoreRecord
     ensures range { IsInRange result }
     ensures rises { IsNotBelow p.now result }
 {
-    let state = *to;
+    iv_fits(*to);
     StoreRecord::Numbers {
-        current: state.current,
-        progress: state.progress,
+        current: to.current,
+        progress: to.progress,
         mark: mark_under(p, to),
-        hours: state.hours,
-        since: state.since,
+        hours: to.hours,
+        since: to.since,
     }
 }

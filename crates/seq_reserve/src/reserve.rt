@@ -8,18 +8,19 @@ ghost use Rattle.mesh_base.specs.IvState.{HasTransmit, transmit_of};
 ghost use Rattle.mesh_world.specs.World.{World};
 ghost use Rattle.node_records.specs.Meaning.{IsMeaningOf};
 ghost use Rattle.node_records.specs.Tables.{config_in};
+ghost use Rattle.node_store.specs.Calls.{calls_of};
 ghost use Rattle.node_store.specs.Tie.{HasMarkFrom, IsPut, IsStoreOf};
 ghost use Rattle.record_types.specs.declared.records.StoreRecord.{StoreRecord};
 ghost use Rattle.seq_reserve.specs.Reserving.{first_word, IsDurable, IsPublished, moving, refilling};
 ghost use Rattle.seq_word.specs.Seen.{fresh};
-ghost use Rattle.seq_word.specs.Word.{seq_of};
+ghost use Rattle.seq_word.specs.Word.{seq_of, IsWord};
 ghost use Rattle.store_definitions.specs.Config.{changed, config_of};
 ghost use Rattle.store_definitions.specs.Numbers.{fill_of, moved};
 ghost use Rattle.store_world.specs.Standing.{GoesBy, IsWorldOf};
 
 use crate::keep_fault::KeepFault;
 use crate::putting::put_numbers;
-use crate::records::{fill_record, move_record};
+use crate::records::{fill_record, move_record, raises};
 use flash_model::Flash;
 use mesh_base::iv_state::IvState;
 use node_store::Store;
@@ -88,6 +89,10 @@ impl Reserve {
         ensures mark { (records : List StoreRecord) → IsStoreOf (F.chip flash.old) self.old.store records → LeavesOnly (F.chip flash.old) (F.chip flash.new) (HasMarkFrom self.old.store.persist.mark) }
         ensures durable { (records : List StoreRecord) → IsStoreOf (F.chip flash.old) self.old.store records → IsDurable (F.chip flash.new) self.new.keeper.mark }
 
+        // over a steady flash: the calls of one record put, and at most these where it fails; none where nothing changes
+        ensures calls { seen ≡ self.old.keeper.mark → IsTrue (F.chip flash.old).steady → OnOk result (Begins (calls_of self.old.store) (F.chip flash.old) (F.chip flash.new)) }
+        ensures most_calls { IsTrue (F.chip flash.old).steady → BeginsAtMost (calls_of self.old.store) (F.chip flash.old) (F.chip flash.new) }
+
         // of every flash, honest or not
         ensures reads { (F.chip flash.new).reads ≡ (F.chip flash.old).reads }
         ensures no_fault { OnOk result ((F.chip flash.new).faults ≡ (F.chip flash.old).faults) }
@@ -140,20 +145,39 @@ impl Reserve {
         ensures mark { (records : List StoreRecord) → IsStoreOf (F.chip flash.old) self.old.store records → LeavesOnly (F.chip flash.old) (F.chip flash.new) (HasMarkFrom self.old.store.persist.mark) }
         ensures durable { (records : List StoreRecord) → IsStoreOf (F.chip flash.old) self.old.store records → IsDurable (F.chip flash.new) self.new.keeper.mark }
 
+        // over a steady flash: the calls of one record put, and at most these where it fails
+        ensures calls { IsTrue (F.chip flash.old).steady → OnOk result (Begins (calls_of self.old.store) (F.chip flash.old) (F.chip flash.new)) }
+        ensures most_calls { IsTrue (F.chip flash.old).steady → BeginsAtMost (calls_of self.old.store) (F.chip flash.old) (F.chip flash.new) }
+
         // of every flash, honest or not
         ensures reads { (F.chip flash.new).reads ≡ (F.chip flash.old).reads }
         ensures no_fault { OnOk result ((F.chip flash.new).faults ≡ (F.chip flash.old).faults) }
         ensures sure { IsTrue (F.chip flash.old).sure → self.old.store.journal.closed ≡ false → IsOk result }
         ensures frame { Keeps (F.chip flash.old) (F.chip flash.new) }
     {
-        let rises = self.store.persist().iv.transmit() < to.transmit();
+        let rises = raises(self.store.persist(), to);
         let item = move_record(self.store.persist(), to);
         put_numbers(&mut self.store, flash, &item)?;
-        if rises {
-            let mark = self.store.persist().mark;
-            n.publish(&mut self.keeper, mark);
-            n.advance(&mut self.keeper, to.transmit());
-        }
+        let mark = self.store.persist().mark;
+        go_on(n, &mut self.keeper, rises, mark, to.transmit());
         Ok(())
+    }
+}
+
+/// Where the transmit IV Index rises to `iv`, publishes the mark under it, and then moves the counter there.
+fn go_on(n: &Numbers, keeper: &mut Keeper, rises: bool, mark: u64, iv: u32)
+    requires made { keeper.old.which ≡ n.now.which }
+    requires word { IsWord mark }
+    requires up { keeper.old.mark ≤ mark }
+    requires marked { rises ≡ true → iv * 2 ^ 25 ≤ mark }
+
+    ensures stays { rises ≡ false → keeper.new ≡ keeper.old }
+    ensures published { rises ≡ true → keeper.new.mark ≡ mark }
+    ensures advanced { rises ≡ true → (found : ℕ) × (keeper.new.advances ≡ keeper.old.advances ++ (found, iv * 2 ^ 25) ∷ []) }
+    ensures frame { keeper.new.which ≡ keeper.old.which }
+{
+    if rises {
+        n.publish(keeper, mark);
+        n.advance(keeper, iv);
     }
 }

@@ -36,31 +36,31 @@ module _ (records : List StoreRecord) (item : StoreRecord) (p q : Persist) (h : 
       ∙ ap (unexpired q.iv.current) (kept_push records item src)
 
 module _ (w : World) (p q : Persist) (published : ℕ) (records : List StoreRecord) (current : ℕ) (progress : Bool) (mark hours since : ℕ) (world : IsWorldOf w p published) (h : IsMeaningOf records p) (k : IsMeaningOf (records ++ R.Numbers current progress mark hours since ∷ []) q) (later : p.iv.current ≤ current) (above : p.mark ≤ mark) where
-  item : StoreRecord
-  item = R.Numbers current progress mark hours since
+  abbrev numbers : StoreRecord
+  numbers = R.Numbers current progress mark hours since
 
-  config : config_in q ≡ changed (config_in p) item
-  config = config_after records item p q h k
+  config_so : config_in q ≡ changed (config_in p) numbers
+  config_so = config_after records numbers p q h k
 
   current_is : current ≡ q.iv.current
   unfolding changed
-  current_is = sym (ap (λ (c : Config). c.iv.current) config)
+  current_is = sym (ap (λ (c : Config). c.iv.current) config_so)
 
   mark_is : mark ≡ q.mark
   unfolding changed
-  mark_is = sym (ap (λ (c : Config). c.mark) config)
+  mark_is = sym (ap (λ (c : Config). c.mark) config_so)
 
-  entry_is : (src : Address) → unexpired current (w.entry src) ≡ entry_in q src.0
-  entry_is src =
+  entries_so : (src : Address) → unexpired current (w.entry src) ≡ entry_in q src.0
+  entries_so src =
       let same : unexpired w.current (w.entry src) ≡ unexpired w.current (kept_of records src.0) =
-      world.entries src ∙ before records item p q h k src.0 ∙ ap (λ n. unexpired n (kept_of records src.0)) (sym world.current) in
+      world.entries src ∙ before records numbers p q h k src.0 ∙ ap (λ n. unexpired n (kept_of records src.0)) (sym world.current) in
       raised w.current current (w.entry src) (kept_of records src.0) (omega (arith, world.current)) same
-      ∙ ap (λ n. unexpired n (kept_of records src.0)) current_is ∙ sym (now records item p q h k src.0)
+      ∙ ap (λ n. unexpired n (kept_of records src.0)) current_is ∙ sym (now records numbers p q h k src.0)
 
   pub reserve : GoesBy (Reserve current mark ∷ []) w q published
   reserve = record {
     allowed = ((omega (arith, world.current), omega (arith, world.kept)), tt);
-    world = record { current = current_is; kept = mark_is; mark = world.mark; entries = entry_is };
+    world = record { current = current_is; kept = mark_is; mark = world.mark; entries = entries_so };
   }
 
 pub publish : (w : World) (p : Persist) (published mark : ℕ) → IsWorldOf w p published → published ≤ mark → mark ≤ p.mark → GoesBy (Publish mark ∷ []) w p mark
@@ -77,7 +77,7 @@ advance w p published iv world below = record {
 
 -- a test on the entry in the store is one on the entry in the world, up to expiry
 above_entry : (current : ℕ) (o : Option Pair) (p : Pair) → IsAboveKept (unexpired current o) p → IfSome o (λ kept. IsExpired current kept ⊎ IsNewer p kept)
-above_entry current None p h = tt
+above_entry current None p = λ h. tt
 above_entry current (Some kept) p = by_test (is_expired current kept) refl
   where
     by_test : (b : Bool) → is_expired current kept ≡ b → IsAboveKept (if b then None else Some kept) p → IsExpired current kept ⊎ IsNewer p kept
@@ -94,7 +94,7 @@ newer_is q p h = by_test (is_newer p q) h
 -- a pair above the entry is the greatest one, up to expiry
 greatest_is : (current : ℕ) (kept : Option Pair) (p : Pair) → IsAboveKept (unexpired current kept) p
     → unexpired current (greatest_with kept p) ≡ unexpired current (Some p)
-greatest_is current None p h = refl
+greatest_is current None p = λ h. refl
 greatest_is current (Some q) p = by_test (is_expired current q) refl
   where
     by_test : (b : Bool) → is_expired current q ≡ b → IsAboveKept (if b then None else Some q) p → unexpired current (Some (newer_of q p)) ≡ unexpired current (Some p)
@@ -115,7 +115,7 @@ entry_after current src a p o kept same above = by_tests (a == src) (src == a) (
     by_tests false true f g h = absurd (true≢false (sym (g refl)))
 
 module _ (w : World) (p q : Persist) (published : ℕ) (records : List StoreRecord) (name : Name) (world : IsWorldOf w p published) (h : IsMeaningOf records p) (k : IsMeaningOf (records ++ R.Replay name None ∷ []) q) (read : (name.pair.iv ≡ p.iv.current) ⊎ (name.pair.iv + 1 ≡ p.iv.current)) (above : IsAboveKept (entry_in p name.src.0) name.pair) where
-  item : StoreRecord
+  abbrev item : StoreRecord
   item = R.Replay name None
 
   config : config_in q ≡ config_in p

@@ -2,4 +2,4 @@ use Rattle.store_world.proofs.Steps.{accept}
 use Rattle.store_world.proofs.accept_law.Goals as goal
 
 pub returns : goal.returns
-returns c = accept
+returns c = record { accept = accept }
