@@ -1,5 +1,5 @@
 -- When a message is accepted, and what that leaves.
-use Rattle.std.specs.Prelude.{◌≡◌, ◌⊎◌, ℕ, ◌+◌, ◌==◌, if◌then◌else◌, ⊥, false, Option, Some, None}
+use Rattle.std.specs.Prelude.{◌≡◌, ◌⊎◌, ℕ, ◌+◌, false, Option, Some, None}
 use Rattle.mesh_base.specs.declared.pair.Name.{Name}
 use Rattle.mesh_base.specs.declared.pair.Pair.{Pair}
 use Rattle.mesh_base.specs.Pairs.{is_newer}
@@ -18,7 +18,3 @@ IsReadUnder current name = (name.pair.iv ≡ current) ⊎ (name.pair.iv + 1 ≡ 
 -- the record of a message
 abbrev pub accepting : Name → StoreRecord
 accepting name = R.Replay name None
-
--- the entries with this name's pair for its source
-abbrev pub entry_with : Name → (ℕ → Option Pair) → ℕ → Option Pair
-entry_with name entry src = if src == name.src.0 then Some name.pair else entry src

@@ -8,12 +8,14 @@ ghost use Rattle.mesh_world.specs.World.{World};
 ghost use Rattle.mesh_world.specs.World.WorldStep.{Accept};
 ghost use Rattle.node_records.specs.Meaning.{IsMeaningOf};
 ghost use Rattle.node_records.specs.Tables.{config_in, entry_in};
+ghost use Rattle.node_store.specs.Calls.{calls_of};
 ghost use Rattle.node_store.specs.Tie.{HasMark, Holds, IsPut, IsStoreOf};
 ghost use Rattle.record_types.specs.declared.records.StoreRecord.{StoreRecord};
-ghost use Rattle.rpl_journal.specs.Accepting.{accepting, entry_with, IsNoNewer, IsReadUnder};
+ghost use Rattle.rpl_journal.specs.Accepting.{accepting, IsNoNewer, IsReadUnder};
 ghost use Rattle.store_definitions.specs.Entries.{others_held};
 ghost use Rattle.store_definitions.specs.Following.{HasNoPlace};
-ghost use Rattle.store_world.specs.Standing.{GoesBy, IsAboveKept, IsWorldOf};
+ghost use Rattle.store_definitions.specs.Ranges.{IsInRange};
+ghost use Rattle.store_world.specs.Standing.{entry_with, GoesBy, IsAboveKept, IsWorldOf};
 
 use crate::checking::{Old, check};
 use flash_model::Flash;
@@ -77,6 +79,25 @@ impl From<PutFault> for AcceptFault {
     }
 }
 
+/// What the type of a name says of its fields, as clauses that a proof can cite.
+fn name_fits(name: Name)
+    ensures src { name.src.0 < 2 ^ 16 }
+    ensures iv { name.pair.iv < 2 ^ 32 }
+{}
+
+/// The record of a message.
+fn record_of(name: &Name) -> StoreRecord
+    requires { name.now.pair.seq < 2 ^ 24 }
+    ensures value { result ≡ accepting name.now }
+    ensures range { IsInRange result }
+{
+    name_fits(*name);
+    StoreRecord::Replay {
+        first: *name,
+        second: None,
+    }
+}
+
 /// Accepts a message: its pair becomes the entry of its source. At `Ok` that is durable, so after a power cut at any later moment neither the
 /// message nor an older one of its source is accepted. Deliver it only then.
 ///
@@ -95,7 +116,7 @@ pub fn accept<F: Flash>(store: &mut Store, flash: &mut F, name: &Name) -> Result
     ensures meaning { OnOk result ((records : List StoreRecord) → IsMeaningOf records store.old.persist → IsMeaningOf (records ++ accepting name.now ∷ []) store.new.persist) }
     ensures same_config { config_in store.new.persist ≡ config_in store.old.persist }
     ensures refused { OnErr result (store.new.persist ≡ store.old.persist) }
-    ensures usable { OnOk result ((store.old.journal.closed ≡ false) × (store.new.journal.closed ≡ false)) }
+    ensures usable { OnOk result (store.new.journal.closed ≡ false) }
     ensures steps { (w : World) (published : ℕ) → IsWorldOf w store.old.persist published → OnOk result (GoesBy (Accept name.now ∷ []) w store.new.persist published) }
 
     // of a store of this flash
@@ -103,6 +124,10 @@ pub fn accept<F: Flash>(store: &mut Store, flash: &mut F, name: &Name) -> Result
     ensures durable { (records : List StoreRecord) → IsStoreOf (F.chip flash.old) store.old records → OnOk result ((c : List ℕ) → (F.chip flash.new).images c → Holds c (records ++ accepting name.now ∷ [])) }
     ensures any_moment { (records : List StoreRecord) → IsStoreOf (F.chip flash.old) store.old records → LeavesOnly (F.chip flash.old) (F.chip flash.new) (IsPut records (accepting name.now)) }
     ensures mark { (records : List StoreRecord) → IsStoreOf (F.chip flash.old) store.old records → LeavesOnly (F.chip flash.old) (F.chip flash.new) (HasMark store.old.persist.mark) }
+
+    // over a steady flash: the calls of one record put, and at most these where it fails
+    ensures calls { IsTrue (F.chip flash.old).steady → OnOk result (Begins (calls_of store.old) (F.chip flash.old) (F.chip flash.new)) }
+    ensures most_calls { IsTrue (F.chip flash.old).steady → BeginsAtMost (calls_of store.old) (F.chip flash.old) (F.chip flash.new) }
 
     // of every flash, honest or not
     ensures reads { (F.chip flash.new).reads ≡ (F.chip flash.old).reads }
@@ -114,10 +139,7 @@ pub fn accept<F: Flash>(store: &mut Store, flash: &mut F, name: &Name) -> Result
         return Err(AcceptFault::Closed);
     }
     check(store.persist(), name)?;
-    let item = StoreRecord::Replay {
-        first: *name,
-        second: None,
-    };
+    let item = record_of(name);
     store.persist().check(&item)?;
     store.put(flash, &item)?;
     Ok(())

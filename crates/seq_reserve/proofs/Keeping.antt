@@ -8,7 +8,8 @@ use Rattle.node_records.specs.Meaning.{IsMeaningOf}
 use Rattle.node_records.specs.Tables.{config_in}
 use Rattle.node_store.specs.Tie.{HasMark, HasMarkFrom, Holds, IsHeld, IsPut, IsStoreOf}
 use Rattle.node_store.specs.View.{StoreView}
-use Rattle.node_store.proofs.Holding.{holds_mark, store_images, store_meaning}
+use Rattle.node_store.proofs.Holding.{held_unchanged, holds_mark, store_images, store_meaning}
+use Rattle.node_store.proofs.Puts.{room_moment}
 use Rattle.record_types.specs.declared.records.StoreRecord.{StoreRecord}
 use Rattle.seq_reserve.specs.Reserving.{IsDurable}
 use Rattle.store_definitions.specs.Config.{Config, changed, config_of}
@@ -26,8 +27,7 @@ module _ (chip : Chip) (store : StoreView) (records : List StoreRecord) (tie : I
 
   -- where nothing is written
   pub put_none : IsOnlyNow chip → (item : StoreRecord) → LeavesOnly chip chip (IsPut records item)
-  put_none only item = leaves_none chip (IsPut records item) only
-      (λ c image. record { tidy = (store_images chip store records tie c image).tidy; either = inl (store_images chip store records tie c image).holds })
+  put_none only item = room_moment chip chip records item (held_unchanged chip store records tie only)
 
   pub mark_none : IsOnlyNow chip → LeavesOnly chip chip (HasMarkFrom store.persist.mark)
   mark_none only = leaves_none chip (HasMarkFrom store.persist.mark) only durable_of

@@ -19,7 +19,7 @@ use Rattle.record_types.specs.declared.records.StoreRecord.TheVariants as R
 use Rattle.store_definitions.specs.Config.{Config, changed, config_of}
 use Rattle.store_definitions.specs.Entries.{entry_of, greatest_with, kept_after, kept_of, unexpired}
 use Rattle.store_definitions.specs.Provisioning as node
-use Rattle.store_world.specs.Standing.{GoesBy, IsAboveKept, IsWorldOf}
+use Rattle.store_world.specs.Standing.{entry_with, GoesBy, IsAboveKept, IsWorldOf}
 
 -- the configuration that a value has after one record more
 pub config_after : (records : List StoreRecord) (item : StoreRecord) (p q : Persist) → IsMeaningOf records p → IsMeaningOf (records ++ item ∷ []) q
@@ -145,6 +145,37 @@ module _ (w : World) (p q : Persist) (published : ℕ) (records : List StoreReco
     allowed = ((is_read, is_above), tt);
     world = record { current = here; kept = world.kept ∙ sym (ap (λ (c : Config). c.mark) config); mark = world.mark; entries = entry_is };
   }
+
+-- the entries of all sources after one name more
+live_pair : (current : ℕ) (p : Pair) → (p.iv ≡ current) ⊎ (p.iv + 1 ≡ current) → unexpired current (Some p) ≡ Some p
+live_pair current p read = by_test (is_expired current p) refl
+  where
+    by_test : (b : Bool) → is_expired current p ≡ b → (if b then None else Some p) ≡ Some p
+    by_test false e = refl
+    by_test true e = absurd (⊎_elim (λ h. grind (arith, nat_tests)) (λ h. grind (arith, nat_tests)) read)
+
+unexpired_if : (current : ℕ) (b : Bool) (x y : Option Pair) → unexpired current (if b then x else y) ≡ (if b then unexpired current x else unexpired current y)
+unexpired_if current true x y = refl
+unexpired_if current false x y = refl
+
+pub entry_more : (p q : Persist) (records : List StoreRecord) (name : Name) → IsMeaningOf records p → IsMeaningOf (records ++ R.Replay name None ∷ []) q
+    → (name.pair.iv ≡ p.iv.current) ⊎ (name.pair.iv + 1 ≡ p.iv.current) → IsAboveKept (entry_in p name.src.0) name.pair
+    → (src : ℕ) → entry_in q src ≡ entry_with name (entry_in p) src
+unfolding changed
+entry_more p q records name h k read above src =
+    let item : StoreRecord = R.Replay name None in
+    let config : config_in q ≡ config_in p = config_after records item p q h k in
+    let current : q.iv.current ≡ p.iv.current = ap (λ (c : Config). c.iv.current) config in
+    let kept : Option Pair = kept_of records src in
+    let cur : ℕ = p.iv.current in
+    let here : entry_in q src ≡ unexpired cur (kept_after src kept item) =
+    now records item p q h k src ∙ ap (λ n. unexpired n (kept_after src kept item)) current in
+    let above_kept : name.src.0 ≡ src → IsAboveKept (unexpired cur kept) name.pair =
+    λ e. subst (λ (o : Option Pair). IsAboveKept o name.pair) (ap (λ n. entry_in p n) e ∙ before records item p q h k src) above in
+    here ∙ sym (entry_after cur name.src.0 src name.pair kept kept refl above_kept)
+    ∙ unexpired_if cur (src == name.src.0) (Some name.pair) kept
+    ∙ ap (λ (o : Option Pair). if src == name.src.0 then o else unexpired cur kept) (live_pair cur name.pair read)
+    ∙ ap (λ (o : Option Pair). if src == name.src.0 then Some name.pair else o) (sym (before records item p q h k src))
 
 -- the world of a node that was provisioned
 pub provisioned_so : (made : node.Provisioning) (p : Persist) → IsMeaningOf (node.provisioned made) p → IsWorldOf (provisioned p.iv.current (transmit_of p.iv)) p p.mark

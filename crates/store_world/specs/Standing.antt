@@ -1,6 +1,7 @@
 -- What a store says, as a world of numbers and messages, and the steps of the world that a record takes there.
-use Rattle.std.specs.Prelude.{◌≡◌, ℕ, List, [], ◌∷◌, Option, IfSome}
+use Rattle.std.specs.Prelude.{◌≡◌, ℕ, ◌==◌, if◌then◌else◌, List, Option, Some, IfSome}
 use Rattle.mesh_base.specs.declared.address.Address.{Address}
+use Rattle.mesh_base.specs.declared.pair.Name.{Name}
 use Rattle.mesh_base.specs.declared.pair.Pair.{Pair}
 use Rattle.mesh_world.specs.World.{World, WorldStep, AreAllowed, after_all, IsNewer}
 use Rattle.node_records.specs.declared.persist.Persist.{Persist}
@@ -23,3 +24,7 @@ pub record GoesBy (steps : List WorldStep) (w : World) (p : Persist) (published 
 -- a pair is newer than the entry of its source, if there is one
 abbrev pub IsAboveKept : Option Pair → Pair → Type 0
 IsAboveKept entry p = IfSome entry (λ kept. IsNewer p kept)
+
+-- the entries of all sources with this name's pair for its source
+abbrev pub entry_with : Name → (ℕ → Option Pair) → ℕ → Option Pair
+entry_with name entry src = if src == name.src.0 then Some name.pair else entry src

@@ -17,7 +17,7 @@ ghost use Rattle.node_records.specs.Tables.{entry_in};
 ghost use Rattle.record_types.specs.declared.records.StoreRecord.{StoreRecord};
 ghost use Rattle.record_types.specs.declared.records.StoreRecord.TheVariants as R;
 ghost use Rattle.store_definitions.specs.Provisioning as node;
-ghost use Rattle.store_world.specs.Standing.{GoesBy, IsAboveKept, IsWorldOf};
+ghost use Rattle.store_world.specs.Standing.{entry_with, GoesBy, IsAboveKept, IsWorldOf};
 
 /// A Numbers record whose IV Index and mark aren't below the stored ones is a Reserve. A mark from the published to the stored one is
 /// published by a Publish, and the counter moves to an IV Index whose first word is published by an Advance.
@@ -31,13 +31,17 @@ pub fn numbers_law()
         → IsWorldOf w p published → iv * 2 ^ 25 ≤ published → GoesBy (Advance iv ∷ []) w p published }
 {}
 
-/// A Replay record with one name is an Accept, where the name is read, and newer than the entry of its source in the store. Whichever
-/// expired row the table of the store gives up for it.
+/// A Replay record with one name is an Accept, where the name is read, and newer than the entry of its source in the store; whichever
+/// expired row the table of the store gives up for it. Its pair is the entry of its source then, and the other entries stay.
 pub fn accept_law()
     ensures accept { (w : World) (p q : Persist) (published : ℕ) (records : List StoreRecord) (name : Name)
         → IsWorldOf w p published → IsMeaningOf records p → IsMeaningOf (records ++ R.Replay name None ∷ []) q
         → (name.pair.iv ≡ p.iv.current) ⊎ (name.pair.iv + 1 ≡ p.iv.current) → IsAboveKept (entry_in p name.src.0) name.pair
         → GoesBy (Accept name ∷ []) w q published }
+    ensures entry { (p q : Persist) (records : List StoreRecord) (name : Name)
+        → IsMeaningOf records p → IsMeaningOf (records ++ R.Replay name None ∷ []) q
+        → (name.pair.iv ≡ p.iv.current) ⊎ (name.pair.iv + 1 ≡ p.iv.current) → IsAboveKept (entry_in p name.src.0) name.pair
+        → (src : ℕ) → entry_in q src ≡ entry_with name (entry_in p) src }
 {}
 
 /// What a node is provisioned with is such a world. A power cycle is a Cut, after which the stored mark is published. The steps that write

@@ -3,9 +3,6 @@ use Rattle.seq_reserve.proofs.Keeping.{durable_by, durable_of}
 use Rattle.seq_reserve.proofs.Worlds.{put_step}
 use Rattle.seq_reserve.proofs.putting.put_numbers.Goals as goal
 
-pub put-requires-clause-stub : goal.put-requires-clause-stub
-put-requires-clause-stub g c = ?
-
 pub returns-in-Ok-clause-steps : goal.returns-in-Ok-clause-steps
 returns-in-Ok-clause-steps g c w published world =
     put_step w c.args.store.now.persist c.put.new.self.persist published c.args.item.now c.requires.numbers c.requires.rises c.requires.said c.in-Ok.ensures.value world
