@@ -111,3 +111,6 @@ store_images chip store records tie c image =
 -- nothing is done
 pub held_unchanged : (chip : Chip) (store : StoreView) (records : List StoreRecord) → IsStoreOf chip store records → IsOnlyNow chip → LeavesOnly chip chip (IsHeld records)
 held_unchanged chip store records tie only = leaves_none chip (IsHeld records) only (store_images chip store records tie)
+
+pub leaves_alike : (old new : Chip) (a b : List StoreRecord) → IsAlike a b → LeavesOnly old new (IsHeld a) → LeavesOnly old new (IsHeld b)
+leaves_alike old new a b e leaves = leaves_weaker old new (IsHeld a) (IsHeld b) leaves (λ c h. record { tidy = h.tidy; holds = holds_alike c a b e h.holds })

@@ -1,5 +1,6 @@
 pub mod Follows
 pub mod Found
+pub mod Fronts
 pub mod Holding
 pub mod Made
 pub mod Mounts

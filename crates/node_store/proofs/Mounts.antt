@@ -1,6 +1,6 @@
 -- A mount, over the chip before and after.
 use Rattle.std.proofs.Common.{◌≡◌, ◌⊎◌, inl, inr, ⊎_elim, ℕ, ◌+◌, ◌*◌, ◌≤◌, List, true, false, Some, None, refl, ap, sym, subst, ◌∙◌, arith}
-use Rattle.std.specs.Prelude.{IsErrAnd, IsTrue, Result, Ok, Err, OnOk, option_map}
+use Rattle.std.specs.Prelude.{IfErr, IsErrAnd, IsTrue, Result, Ok, Err, OnOk, OnErr, option_map}
 use Rattle.flash_model.specs.Chip.{Chip, IsFresh, Keeps, LeavesOnly, Stays}
 use Rattle.flash_model.proofs.Leaves.{IsOnlyNow, leaves_join, leaves_stays, leaves_weaker}
 use Rattle.flash_model.proofs.Runs.{stays_more}
@@ -33,6 +33,14 @@ module _ {T E : Type 0} where
   pub err_of : (r : Result T E) (e : E) → IsErrAnd r (λ x. x ≡ e) → r ≡ Err e
   err_of (Ok x) e h = absurd h
   err_of (Err x) e h = ap (λ y. Err y) h
+
+  pub if_err_all : (r : Result T E) (P : E → Type 0) → ((e : E) → P e) → IfErr r P
+  if_err_all (Ok x) P all = tt
+  if_err_all (Err e) P all = all e
+
+  pub on_err_all : (r : Result T E) (P : Type 0) → P → OnErr r P
+  on_err_all (Ok x) P h = tt
+  on_err_all (Err e) P h = h
 
 -- One slot.
 

@@ -124,10 +124,11 @@ fn migrated<F: Flash>(journal: Journal, persist: &Persist, flash: &mut F) -> Res
     ensures sure { IsTrue (F.chip flash.old).sure → IsOk result }
     ensures frame { Keeps (F.chip flash.old) (F.chip flash.new) }
 {
-    let mut journal = journal;
-    if journal.version() == OLD_FORMAT {
-        compact(&mut journal, persist, flash)?;
+    if journal.version() != OLD_FORMAT {
+        return Ok(journal);
     }
+    let mut journal = journal;
+    compact(&mut journal, persist, flash)?;
     Ok(journal)
 }
 

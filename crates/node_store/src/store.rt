@@ -120,6 +120,7 @@ impl Store {
         ensures limit { self.old.journal.closed ≡ false → IsFull self.old.persist item.now → (result ≡ Err (PutFault.Limit (held_for self.old.persist item.now))) × (self.new ≡ self.old) × (flash.new ≡ flash.old) }
         ensures cause { self.old.journal.closed ≡ false → ¬ IsFull self.old.persist item.now → OnErr result ((result ≡ Err PutFault.Flash) × (self.new.journal.closed ≡ true) × ((F.chip flash.old).faults < (F.chip flash.new).faults)) }
         ensures refused { OnErr result (self.new.persist ≡ self.old.persist) }
+        ensures said { IsSaid self.new.persist }
         ensures usable { OnOk result (self.new.journal.closed ≡ false) }
         ensures used { OnOk result (self.new.journal.used ≡ used_with_room self.old + 1) }
         ensures change { OnOk result (config_in self.new.persist ≡ changed (config_in self.old.persist) item.now) }

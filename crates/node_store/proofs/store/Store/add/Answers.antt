@@ -20,7 +20,7 @@ returns-in_default-clause-any_moment g c records tie =
     let rises : IsNotBelow inside.persist item = subst (λ (v : StoreView). IsNotBelow v.persist item) (sym c.self.view_is) c.requires.rises in
     let place : IsFull inside.persist item → ⊥ = subst (λ (v : StoreView). IsFull v.persist item → ⊥) (sym c.self.view_is) c.requires.place in
     added_moment old inside records item here c.requires.range c.self.invariant.1 rises place new
-    (subst (λ (s : Slot). LeavesOnly old new (IsAppended (recovered old.now) s)) c.encode.ensures.value (c.append.ensures.any_moment here.exact.journal))
+    (subst (λ (s : Slot). LeavesOnly old new (IsAppended (recovered old.now) s)) c.encode-slot.ensures.value (c.append.ensures.any_moment here.exact.journal))
 
 pub returns-clause-any_moment : goal.returns-clause-any_moment
 returns-clause-any_moment g c records tie =
@@ -32,7 +32,7 @@ returns-clause-any_moment g c records tie =
     let rises : IsNotBelow inside.persist item = subst (λ (v : StoreView). IsNotBelow v.persist item) (sym c.self.view_is) c.requires.rises in
     let place : IsFull inside.persist item → ⊥ = subst (λ (v : StoreView). IsFull v.persist item → ⊥) (sym c.self.view_is) c.requires.place in
     added_moment old inside records item here c.requires.range c.self.invariant.1 rises place new
-    (subst (λ (s : Slot). LeavesOnly old new (IsAppended (recovered old.now) s)) c.encode.ensures.value (c.append.ensures.any_moment here.exact.journal))
+    (subst (λ (s : Slot). LeavesOnly old new (IsAppended (recovered old.now) s)) c.encode-slot.ensures.value (c.append.ensures.any_moment here.exact.journal))
 
 pub returns-clause-kept : goal.returns-clause-kept
 returns-clause-kept g c records tie =
@@ -44,6 +44,6 @@ returns-clause-kept g c records tie =
     let rises : IsNotBelow inside.persist item = subst (λ (v : StoreView). IsNotBelow v.persist item) (sym c.self.view_is) c.requires.rises in
     let place : IsFull inside.persist item → ⊥ = subst (λ (v : StoreView). IsFull v.persist item → ⊥) (sym c.self.view_is) c.requires.place in
     added_kept old inside records item here c.requires.range c.self.invariant.1 rises place new (record { journal = c.append.new.self; persist = c.apply.new.self })
-    (c.in-Ok.ensures.durable here.exact.journal ∙ ap (λ (s : Slot). with_last s (recovered old.now)) c.encode.ensures.value)
+    (c.in-Ok.ensures.durable here.exact.journal ∙ ap (λ (s : Slot). with_last s (recovered old.now)) c.encode-slot.ensures.value)
     (c.in-Ok.ensures.kept here.exact.journal)
     (applied c.apply.result _ _ c.apply.ensures.ok c.apply.ensures.limit place)
