@@ -1,7 +1,10 @@
 pub mod Follows
 pub mod Found
+pub mod Fronts
+pub mod Holding
 pub mod Made
 pub mod Mounts
 pub mod Orders
 pub mod Puts
+pub mod Rooms
 pub mod Takes

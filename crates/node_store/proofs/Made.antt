@@ -1,9 +1,10 @@
 -- The records of provisioning.
-use Rattle.std.proofs.Common.{◌≡◌, inl, inr, ⊎_elim, ◌↔◌, ℕ, ◌+◌, ◌*◌, ◌^◌, ◌%◌, ◌<◌, ◌≤◌, List, [], ◌∷◌, length, Some, refl, ap, subst, arith}
-use Rattle.std.specs.Prelude.{All, map, Result, Ok, Err, IsErr, IsOk, OnOk}
+use Rattle.std.proofs.Common.{◌≡◌, inl, inr, ⊎_elim, ◌↔◌, ℕ, ◌+◌, ◌*◌, ◌^◌, ◌%◌, ◌<◌, ◌≤◌, List, [], ◌∷◌, length, Some, refl, ap, sym, subst, arith}
+use Rattle.std.specs.Prelude.{All, map, option_map, Result, Ok, Err, IsErr, IsOk, OnOk}
+use Rattle.std.proofs.lemmas.List.Elements.{All-cons, All-nil}
 use Rattle.flash_model.specs.Chip.{Chip, LeavesOnly}
 use Rattle.flash_model.proofs.Leaves.{leaves_weaker}
-use Rattle.slot_definitions.specs.Slots.{recovered}
+use Rattle.slot_definitions.specs.Slots.{Held, recovered}
 use Rattle.mesh_base.specs.IvState.{transmit_of}
 use Rattle.mesh_base.specs.declared.iv_state.IvState.{IvState}
 use Rattle.mesh_base.specs.declared.keys.NetKeyRow.{NetKeyRow}
@@ -14,10 +15,12 @@ use Rattle.node_records.specs.Full.{IsFull}
 use Rattle.node_records.specs.Meaning.{IsMeaningOf}
 use Rattle.store_definitions.specs.Config.{Config, changed, nets_after}
 use Rattle.store_definitions.specs.Ranges.{IsInRange, IsMark}
-use Rattle.store_definitions.specs.Recovered.{record_text}
+use Rattle.store_definitions.specs.Recovered.{record_text, HasOneName}
 use Rattle.store_definitions.specs.Provisioning.{Provisioning, first_state, provisioned}
 use Rattle.slot_journal.specs.Format.{IsFormatted}
-use Rattle.node_store.specs.Mounted.{IsRead}
+use Rattle.slot_journal.specs.Tie.{IsJournalOf}
+use Rattle.slot_journal.specs.View.{JournalView}
+use Rattle.node_store.specs.Mounted.{IsOldNode, IsRead}
 use Rattle.store_definitions.specs.Following.{AreInOrder}
 use Rattle.node_store.specs.Tie.{IsMade}
 
@@ -61,14 +64,33 @@ module _ (p : Provisioning) where
     ),
   )
 
--- what a cut leaves while they are written
-module _ (old new : Chip) (records : List StoreRecord) (ranges : All IsInRange records) (order : AreInOrder [] records) where
-  pub made_leaves : LeavesOnly old new (IsFormatted 2 (map record_text records)) → LeavesOnly old new (IsMade records)
-  made_leaves leaves = leaves_weaker old new (IsFormatted 2 (map record_text records)) (IsMade records) leaves
-      (λ c made. record { tidy = made.tidy; either = ⊎_elim (λ h. inl h) (λ h. inr (record { held = record { format = 2; texts = h; ranges = ranges; names = λ e. absurd cc }; order = order })) made.either })
+  pub provisioned_names : All HasOneName (provisioned p)
+  provisioned_names =
+      let key : StoreRecord = R.NetKey 1 p.net_index p.net_key in
+      All-cons HasOneName first (second ∷ key ∷ []) tt (All-cons HasOneName second (key ∷ []) tt (All-cons HasOneName key [] tt (All-nil HasOneName)))
 
-  pub made_read : recovered new.now ≡ Some (record { format = 2; slots = map record_text records }) → IsRead new.now records
-  made_read is = record { held = record { format = 2; texts = is; ranges = ranges; names = λ e. absurd cc }; order = order }
+-- what a cut leaves while they are written, in either format
+module _ (format : ℕ) (old new : Chip) (records : List StoreRecord) (ranges : All IsInRange records) (names : All HasOneName records) (order : AreInOrder [] records) where
+  pub made_leaves : LeavesOnly old new (IsFormatted format (map record_text records)) → LeavesOnly old new (IsMade records)
+  made_leaves leaves = leaves_weaker old new (IsFormatted format (map record_text records)) (IsMade records) leaves
+      (λ c made. record {
+        tidy = made.tidy;
+        either = ⊎_elim (λ h. inl h) (λ h. inr (record { held = record { format = format; texts = h; ranges = ranges; names = λ e. names }; order = order })) made.either;
+      })
+
+  pub made_read : recovered new.now ≡ Some (record { format = format; slots = map record_text records }) → IsRead new.now records
+  made_read is = record { held = record { format = format; texts = is; ranges = ranges; names = λ e. names }; order = order }
+
+-- a node in format 01
+pub old_images : (p : Provisioning) (new : Chip) → All IsInRange (provisioned p) → {journal : JournalView} → IsJournalOf new journal
+    → recovered new.now ≡ Some (record { format = 1; slots = map record_text (provisioned p) }) → (c : List ℕ) → new.images c → IsOldNode (provisioned p) c
+old_images p new ranges journal is c image =
+    subst (λ (d : List ℕ). IsOldNode (provisioned p) d) (sym (journal.fresh.only c image))
+    (record {
+      tidy = journal.tidy;
+      read = made_read 1 new new (provisioned p) ranges (provisioned_names p) (provisioned_order p) is;
+      format = ap (option_map (λ (h : Held). h.format)) is;
+    })
 
 -- the mark is a word of SEQ 0
 pub first_word : (s : IvState) (from transmit : ℕ) → from ≡ transmit → transmit ≡ transmit_of s → s.current < 2 ^ 32 → from * 33554432 % 18446744073709551616 ≡ transmit_of s * 2 ^ 25 + 0

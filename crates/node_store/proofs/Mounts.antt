@@ -1,11 +1,14 @@
 -- A mount, over the chip before and after.
-use Rattle.std.proofs.Common.{◌≡◌, ◌⊎◌, inl, inr, ℕ, ◌+◌, ◌*◌, ◌≤◌, List, true, false, Some, None, refl, ap, sym, subst, ◌∙◌, arith}
-use Rattle.std.specs.Prelude.{IsErrAnd, IsTrue, Result, Ok, Err, OnOk}
-use Rattle.flash_model.specs.Chip.{Chip, Keeps, Stays}
-use Rattle.slot_definitions.specs.Slots.{gated, recovered, slots_to, text_at}
+use Rattle.std.proofs.Common.{◌≡◌, ◌⊎◌, inl, inr, ⊎_elim, ℕ, ◌+◌, ◌*◌, ◌≤◌, List, true, false, Some, None, refl, ap, sym, subst, ◌∙◌, arith}
+use Rattle.std.specs.Prelude.{IfErr, IsErrAnd, IsTrue, Result, Ok, Err, OnOk, OnErr, option_map}
+use Rattle.flash_model.specs.Chip.{Chip, IsFresh, Keeps, LeavesOnly, Stays}
+use Rattle.flash_model.proofs.Leaves.{IsOnlyNow, leaves_join, leaves_stays, leaves_weaker}
+use Rattle.flash_model.proofs.Runs.{stays_more}
+use Rattle.slot_definitions.specs.Slots.{Held, gated, recovered, slots_to, text_at}
 use Rattle.mesh_base.specs.declared.slot.Slot.{Slot}
 use Rattle.record_types.specs.declared.records.StoreRecord.{StoreRecord}
 use Rattle.node_records.specs.declared.persist.Persist.{Persist}
+use Rattle.store_definitions.specs.Alike.{IsAlike}
 use Rattle.store_definitions.specs.Config.{Config, config_of}
 use Rattle.slot_journal.specs.declared.mounting.NoMount.{NoMount}
 use Rattle.slot_journal.specs.declared.mounting.NoMount.TheVariants as N
@@ -17,10 +20,10 @@ use Rattle.node_store.specs.declared.mounting.StoreFault.{StoreFault}
 use Rattle.node_store.specs.declared.mounting.StoreFault.TheVariants as F
 use Rattle.node_store.specs.Causes.{IsFoundAs, IsReadCause, IsReset, IsSlotCause, IsStoreCause}
 use Rattle.node_store.specs.Faults.{store_fault_of}
-use Rattle.node_store.specs.Mounted.{AreSaid, IsDamaged, IsMounted, IsRead, IsRefused, IsTaken}
-use Rattle.node_store.specs.Tie.{IsStoreOf}
-use Rattle.node_store.specs.View.{StoreView}
+use Rattle.node_store.specs.Mounted.{AreSaid, HasFormat, IsDamaged, IsMounted, IsRead, IsRefused, IsTaken}
+use Rattle.node_store.specs.Tie.{HasMark, Holds, IsExactly, IsHeld, IsStoreOf}
 use Rattle.node_store.proofs.Found.{found_once, said_damaged, said_gap, said_more, said_read, stands}
+use Rattle.node_store.proofs.Holding.{alike_sym, holds_alike, holds_mark, holds_recovered, journal_stays, store_alike}
 
 module _ {T E : Type 0} where
   pub on_ok : (r : Result T E) (P Q : Type 0) → OnOk r P → (P → Q) → OnOk r Q
@@ -30,6 +33,14 @@ module _ {T E : Type 0} where
   pub err_of : (r : Result T E) (e : E) → IsErrAnd r (λ x. x ≡ e) → r ≡ Err e
   err_of (Ok x) e h = absurd h
   err_of (Err x) e h = ap (λ y. Err y) h
+
+  pub if_err_all : (r : Result T E) (P : E → Type 0) → ((e : E) → P e) → IfErr r P
+  if_err_all (Ok x) P all = tt
+  if_err_all (Err e) P all = all e
+
+  pub on_err_all : (r : Result T E) (P : Type 0) → P → OnErr r P
+  on_err_all (Ok x) P h = tt
+  on_err_all (Err e) P h = h
 
 -- One slot.
 
@@ -87,8 +98,8 @@ module _ (old mid : Chip) (journal : JournalView) (keeps : Keeps old mid) (stays
     pub was_reset : p.reset ≡ true → IsReset old.now
     was_reset is = record { records = all.records; read = all_read; reset = sym same_reset ∙ is }
 
-    pub store_mounted : p.reset ≡ false → IsMounted old.now (record { journal = journal; persist = p })
-    store_mounted is = record { journal = mounted honest; records = all.records; read = all_read; meaning = all.meaning; stands = sym same_reset ∙ is }
+    pub store_mounted : p.reset ≡ false → IsMounted old.now p
+    store_mounted is = record { records = all.records; read = all_read; meaning = all.meaning; stands = sym same_reset ∙ is }
 
 -- each refusal is the one that the content asks for
 pub exact_cause : (old new : Chip) (e : StoreFault) → IsTrue old.honest → IsStoreCause old new e → (fault : StoreFault) → IsFoundAs old.now fault → (e ≡ F.Flash) ⊎ (e ≡ fault)
@@ -97,24 +108,50 @@ exact_cause old new F.NoNode honest cause fault found = inr (found_once old.now 
 exact_cause old new (F.Damaged m) honest cause fault found = inr (found_once old.now (F.Damaged m) fault (cause honest) found)
 exact_cause old new F.WasReset honest cause fault found = inr (found_once old.now F.WasReset fault (cause honest) found)
 
-pub none_found : (content : List ℕ) (store : StoreView) (fault : StoreFault) → IsMounted content store → IsFoundAs content fault → ⊥
-none_found content store fault mounted found = stands content mounted.records fault mounted.read mounted.stands found
+pub none_found : (content : List ℕ) (p : Persist) (fault : StoreFault) → IsMounted content p → IsFoundAs content fault → ⊥
+none_found content p fault mounted found = stands content mounted.records fault mounted.read mounted.stands found
 
--- reads leave the tie
-journal_stays : (mid new : Chip) (journal : JournalView) → Keeps mid new → Stays mid new → IsJournalOf mid journal → IsJournalOf new journal
-journal_stays mid new journal keeps stays tie = record {
-  fresh = record { honest = keeps.honest ∙ tie.fresh.honest; only = λ c image. tie.fresh.only c (stays.images c image) ∙ sym stays.now };
-  tidy = subst IsTidy (sym stays.now) tie.tidy;
-  mounted = subst (λ (c : List ℕ). IsJournalMounted c journal) (sym stays.now) tie.mounted;
-}
+-- the format that counts is that of the journal
+pub format_is : (content : List ℕ) (journal : JournalView) (slots : List Slot) → recovered content ≡ Some (record { format = journal.version; slots = slots }) → HasFormat journal.version content
+format_is content journal slots is = ap (option_map (λ (h : Held). h.format)) is
 
-pub mount_kept : (old mid new : Chip) (journal : JournalView) (p : Persist) → Keeps mid new → Stays old mid → Stays mid new → IsJournalOf mid journal → IsMounted old.now (record { journal = journal; persist = p })
-    → (records : List StoreRecord) × IsStoreOf new (record { journal = journal; persist = p }) records
-mount_kept old mid new journal p keeps first second tie mounted = (
-  mounted.records,
-  record {
-    journal = journal_stays mid new journal keeps second tie;
+pub not_old : (content : List ℕ) (journal : JournalView) (slots : List Slot) → recovered content ≡ Some (record { format = journal.version; slots = slots }) → (HasFormat 1 content → ⊥) → journal.version ≡ 1 → ⊥
+not_old content journal slots is other one = other (subst (λ (f : ℕ). HasFormat f content) one (format_is content journal slots is))
+
+pub is_old : (content : List ℕ) (journal : JournalView) (slots : List Slot) → recovered content ≡ Some (record { format = journal.version; slots = slots }) → HasFormat 1 content → journal.version ≡ 1
+is_old content journal slots is one = let e : Some journal.version ≡ Some 1 = sym (format_is content journal slots is) ∙ one in cc
+
+-- reading leaves the content
+pub read_moment : (old new : Chip) (records : List StoreRecord) → IsOnlyNow old → IsFresh old → IsTidy old.now → Stays old new → Holds old.now records → LeavesOnly old new (IsHeld records)
+read_moment old new records only fresh tidy stays holds =
+    leaves_stays old new (IsHeld records) only
+    (λ c image. subst (λ (d : List ℕ). IsHeld records d) (sym (fresh.only c image)) (record { tidy = tidy; holds = holds })) stays
+
+-- What was read is the store's, and what the content holds is what was read.
+module _ (old mid read : Chip) (journal : JournalView) (p : Persist) (keeps : Keeps mid read) (first : Stays old mid) (second : Stays mid read) (tie : IsJournalOf mid journal) (mounted : IsMounted old.now p) where
+  pub read_exactly : IsExactly read (record { journal = journal; persist = p }) mounted.records
+  read_exactly = record {
+    journal = journal_stays mid read journal keeps.honest second tie;
     read = subst (λ (c : List ℕ). IsRead c mounted.records) (sym (second.now ∙ first.now)) mounted.read;
     meaning = mounted.meaning;
-  },
-)
+  }
+
+  module _ (records : List StoreRecord) (holds : Holds old.now records) where
+    pub read_alike : IsAlike mounted.records records
+    read_alike = alike_sym records mounted.records (holds_recovered old.now records mounted.records holds mounted.read.held)
+
+    pub mount_kept : (new : Chip) (after : JournalView) → IsStoreOf new (record { journal = after; persist = p }) mounted.records → IsStoreOf new (record { journal = after; persist = p }) records
+    mount_kept new after tie = store_alike new (record { journal = after; persist = p }) mounted.records records read_alike tie
+
+    held_alike : (c : List ℕ) → IsHeld mounted.records c → IsHeld records c
+    held_alike c h = record { tidy = h.tidy; holds = holds_alike c mounted.records records read_alike h.holds }
+
+    -- reading leaves the content, and then it is migrated
+    pub mount_moment : (new : Chip) → IsOnlyNow old → IsFresh old → IsTidy old.now → LeavesOnly read new (IsHeld mounted.records) → LeavesOnly old new (IsHeld records)
+    mount_moment new only fresh tidy leaves =
+        leaves_weaker old new (λ c. IsHeld records c ⊎ IsHeld mounted.records c) (IsHeld records)
+        (leaves_join old read new (IsHeld records) (IsHeld mounted.records) (read_moment old read records only fresh tidy (stays_more old mid read first second) holds) leaves)
+        (λ c either. ⊎_elim (λ h. h) (λ h. held_alike c h) either)
+
+pub held_same_mark : (old new : Chip) (records : List StoreRecord) → LeavesOnly old new (IsHeld records) → LeavesOnly old new (HasMark (config_of records).mark)
+held_same_mark old new records leaves = leaves_weaker old new (IsHeld records) (HasMark (config_of records).mark) leaves (λ c h. holds_mark c records h.holds)

@@ -1,94 +1,138 @@
 -- A put, over the chip before and after.
-use Rattle.std.proofs.Common.{◌≡◌, inl, inr, ⊎_elim, ℕ, ◌≤◌, List, [], ◌∷◌, ◌++◌, Some, ap, sym, subst, ◌∙◌, arith}
+use Rattle.std.proofs.Common.{◌≡◌, ◌⊎◌, inl, inr, ⊎_elim, ℕ, ◌≤◌, List, [], ◌∷◌, ◌++◌, Some, ap, sym, subst, ◌∙◌, arith}
 use Rattle.std.specs.Prelude.{map, option_map}
 use Rattle.std.proofs.lemmas.List.{map-append}
 use Rattle.std.proofs.lemmas.List.Elements.{All-push}
 use Rattle.flash_model.specs.Chip.{Chip, LeavesOnly}
-use Rattle.flash_model.proofs.Leaves.{IsOnlyNow, leaves_none, leaves_weaker}
+use Rattle.flash_model.proofs.Leaves.{leaves_join, leaves_weaker}
 use Rattle.slot_definitions.specs.Slots.{Held, held_by, recovered}
 use Rattle.record_types.specs.declared.records.StoreRecord.{StoreRecord}
-use Rattle.store_definitions.specs.Following.{PassesLimit}
-use Rattle.node_records.specs.Meaning.{IsMeaningOf}
-use Rattle.store_definitions.specs.Config.{config_of}
+use Rattle.store_definitions.specs.Alike.{IsAlike}
+use Rattle.store_definitions.specs.Config.{Config, config_of}
+use Rattle.store_definitions.specs.Following.{Follows}
 use Rattle.store_definitions.specs.Ranges.{IsInRange}
 use Rattle.store_definitions.specs.Recovered.{record_text, HasOneName, IsRecovered}
-use Rattle.store_definitions.proofs.Texts.{recovered_once}
-use Rattle.slot_journal.specs.Headers.{IsTidy}
+use Rattle.node_records.specs.Full.{IsFull}
+use Rattle.node_records.specs.Meaning.{IsMeaningOf}
+use Rattle.node_records.proofs.Alike.{alike_push}
+use Rattle.node_records.proofs.Room.{full_passes}
 use Rattle.slot_journal.specs.Tie.{IsAppended, IsJournalOf, with_last}
 use Rattle.node_store.specs.Mounted.{IsRead}
-use Rattle.store_definitions.specs.Following.{Follows}
-use Rattle.node_store.specs.Tie.{HasMark, HasMarkFrom, IsNoNumbers, IsNotBelow, IsPut, IsStoreOf}
+use Rattle.node_store.specs.Tie.{HasMark, HasMarkFrom, Holds, IsExactly, IsHeld, IsNoNumbers, IsNotBelow, IsPut, IsStoreOf}
 use Rattle.node_store.specs.View.{StoreView}
 use Rattle.node_store.proofs.Follows.{mark_before, mark_from, mark_same, not_below_current, rises_of}
+use Rattle.node_store.proofs.Holding.{holds_recovered, store_images, store_meaning}
 use Rattle.node_store.proofs.Orders.{in_order_push}
 
-module _ (old : Chip) (store : StoreView) (records : List StoreRecord) (item : StoreRecord) (tie : IsStoreOf old store records) (range : IsInRange item) (one : store.journal.version ≡ 1 → HasOneName item) where
+-- A record is added to a bank of format 02.
+module _ (old : Chip) (store : StoreView) (records : List StoreRecord) (item : StoreRecord) (tie : IsStoreOf old store records) (range : IsInRange item) (two : store.journal.version ≡ 2)
+    (rises : IsNotBelow store.persist item) (place : IsFull store.persist item → ⊥) where
+  abbrev found : List StoreRecord
+  found = tie.found
+
+  abbrev exact : IsExactly old store found
+  exact = tie.exact
+
   -- the format that is recovered is that of the journal
-  recovered_format : store.journal.version ≡ tie.read.held.format
+  recovered_format : store.journal.version ≡ exact.read.held.format
   recovered_format =
-      let held : Some (held_by old.now store.journal.bank) ≡ Some (record { format = tie.read.held.format; slots = map record_text records }) =
-      sym (ap (option_map (held_by old.now)) tie.journal.mounted.bank) ∙ tie.read.held.texts in
-      sym tie.journal.mounted.version ∙ ap (λ (h : Held). h.format) (some_held _ _ held)
+      let held : Some (held_by old.now store.journal.bank) ≡ Some (record { format = exact.read.held.format; slots = map record_text found }) =
+      sym (ap (option_map (held_by old.now)) exact.journal.mounted.bank) ∙ exact.read.held.texts in
+      sym exact.journal.mounted.version ∙ ap (λ (h : Held). h.format) (some_held _ _ held)
     where
       some_held : (a b : Held) → Some a ≡ Some b → a ≡ b
       some_held a b e = cc
 
-  names : tie.read.held.format ≡ 1 → HasOneName item
-  names e = one (recovered_format ∙ e)
+  not_one : exact.read.held.format ≡ 1 → ⊥
+  not_one e = let h = recovered_format in absurd (omega (arith, h, e, two))
+
+  follows : Follows found item
+  follows = record {
+    within = λ passes. place ((full_passes found store.persist item exact.meaning).1 passes);
+    rises = rises_of found store.persist exact.meaning item (not_below_current store.persist item rises);
+  }
 
   -- with the new slot last
-  recovered_more : (c : List ℕ) → recovered c ≡ with_last (record_text item) (recovered old.now) → IsRecovered c (records ++ item ∷ [])
+  recovered_more : (c : List ℕ) → recovered c ≡ with_last (record_text item) (recovered old.now) → IsRecovered c (found ++ item ∷ [])
   recovered_more c is = record {
-    format = tie.read.held.format;
-    texts = is ∙ ap (with_last (record_text item)) tie.read.held.texts
-        ∙ (λ i. let h : Held = record { format = tie.read.held.format; slots = sym (map-append record_text records (item ∷ [])) i } in Some h);
-    ranges = All-push IsInRange records item tie.read.held.ranges range;
-    names = λ e. All-push HasOneName records item (tie.read.held.names e) (names e);
+    format = exact.read.held.format;
+    texts = is ∙ ap (with_last (record_text item)) exact.read.held.texts
+        ∙ (λ i. let h : Held = record { format = exact.read.held.format; slots = sym (map-append record_text found (item ∷ [])) i } in Some h);
+    ranges = All-push IsInRange found item exact.read.held.ranges range;
+    names = λ e. absurd (not_one e);
   }
 
-  read_more : Follows records item → (c : List ℕ) → recovered c ≡ with_last (record_text item) (recovered old.now) → IsRead c (records ++ item ∷ [])
-  read_more follows c is = record { held = recovered_more c is; order = in_order_push [] records item tie.read.order follows }
+  read_more : (c : List ℕ) → recovered c ≡ with_last (record_text item) (recovered old.now) → IsRead c (found ++ item ∷ [])
+  read_more c is = record { held = recovered_more c is; order = in_order_push [] found item exact.read.order follows }
 
-  put_leaves : Follows records item → (c : List ℕ) → IsAppended (recovered old.now) (record_text item) c → IsPut records item c
-  put_leaves follows c done = record {
+  alike_more : IsAlike (found ++ item ∷ []) (records ++ item ∷ [])
+  alike_more = alike_push found records item follows.rises tie.alike
+
+  added_leaves : (c : List ℕ) → IsAppended (recovered old.now) (record_text item) c → IsPut records item c
+  added_leaves c done = record {
     tidy = done.tidy;
-    either = ⊎_elim (λ h. inl (record { held = record { format = tie.read.held.format; texts = h ∙ tie.read.held.texts; ranges = tie.read.held.ranges; names = tie.read.held.names }; order = tie.read.order })) (λ h. inr (read_more follows c h)) done.either;
+    either = ⊎_elim
+        (λ h. inl (record {
+          found = found;
+          read = record {
+            held = record { format = exact.read.held.format; texts = h ∙ exact.read.held.texts; ranges = exact.read.held.ranges; names = exact.read.held.names };
+            order = exact.read.order;
+          };
+          alike = tie.alike;
+        }))
+        (λ h. inr (record { found = found ++ item ∷ []; read = read_more c h; alike = alike_more }))
+        done.either;
   }
 
-  -- a record that is put may follow
-  pub put_follows : (PassesLimit records item → ⊥) → IsNotBelow store.persist item → Follows records item
-  put_follows within rises = record { within = within; rises = rises_of records store.persist tie.meaning item (not_below_current store.persist item rises) }
+  pub added_moment : (new : Chip) → LeavesOnly old new (IsAppended (recovered old.now) (record_text item)) → LeavesOnly old new (IsPut records item)
+  added_moment new leaves = leaves_weaker old new (IsAppended (recovered old.now) (record_text item)) (IsPut records item) leaves added_leaves
 
-  pub put_any_moment : Follows records item → (new : Chip) → LeavesOnly old new (IsAppended (recovered old.now) (record_text item)) → LeavesOnly old new (IsPut records item)
-  put_any_moment follows new leaves = leaves_weaker old new (IsAppended (recovered old.now) (record_text item)) (IsPut records item) leaves (put_leaves follows)
+  pub added_kept : (new : Chip) (after : StoreView) → recovered new.now ≡ with_last (record_text item) (recovered old.now) → IsJournalOf new after.journal
+      → ((l : List StoreRecord) → IsMeaningOf l store.persist → IsMeaningOf (l ++ item ∷ []) after.persist) → IsStoreOf new after (records ++ item ∷ [])
+  added_kept new after is journal value = record {
+    found = found ++ item ∷ [];
+    exact = record { journal = journal; read = read_more new.now is; meaning = value found exact.meaning };
+    alike = alike_more;
+  }
 
-  pub put_unchanged : IsOnlyNow old → LeavesOnly old old (IsPut records item)
-  put_unchanged only = leaves_none old (IsPut records item) only
-      (λ c image. record { tidy = subst (λ (x : List ℕ). IsTidy x) (sym (tie.journal.fresh.only c image)) tie.journal.tidy; either = inl (subst (λ (x : List ℕ). IsRead x records) (sym (tie.journal.fresh.only c image)) tie.read) })
+-- Room is made, and then it is added.
+
+held_put : (records : List StoreRecord) (item : StoreRecord) (c : List ℕ) → IsHeld records c → IsPut records item c
+held_put records item c h = record { tidy = h.tidy; either = inl h.holds }
+
+pub room_moment : (old new : Chip) (records : List StoreRecord) (item : StoreRecord) → LeavesOnly old new (IsHeld records) → LeavesOnly old new (IsPut records item)
+room_moment old new records item leaves = leaves_weaker old new (IsHeld records) (IsPut records item) leaves (held_put records item)
+
+pub put_moment : (old mid new : Chip) (records : List StoreRecord) (item : StoreRecord) → LeavesOnly old mid (IsHeld records) → LeavesOnly mid new (IsPut records item) → LeavesOnly old new (IsPut records item)
+put_moment old mid new records item first second =
+    leaves_weaker old new (λ c. IsHeld records c ⊎ IsPut records item c) (IsPut records item)
+    (leaves_join old mid new (IsHeld records) (IsPut records item) first second)
+    (λ c either. ⊎_elim (λ h. held_put records item c h) (λ h. h) either)
+
+-- The mark.
+
+module _ (chip : Chip) (store : StoreView) (records : List StoreRecord) (item : StoreRecord) (tie : IsStoreOf chip store records) where
+  abbrev meaning : IsMeaningOf records store.persist
+  meaning = store_meaning chip store records tie
 
   from_mark : IsNotBelow store.persist item → (c : List ℕ) → IsPut records item c → HasMarkFrom store.persist.mark c
   from_mark rises c put found held = ⊎_elim
-      (λ h. subst (λ (l : List StoreRecord). store.persist.mark ≤ (config_of l).mark) (recovered_once c records found h.held held) (omega (arith, mark_before records store.persist tie.meaning)))
-      (λ h. subst (λ (l : List StoreRecord). store.persist.mark ≤ (config_of l).mark) (recovered_once c (records ++ item ∷ []) found h.held held) (mark_from records store.persist tie.meaning item rises))
+      (λ h. subst (λ (d : Config). store.persist.mark ≤ d.mark) (holds_recovered c records found h held).config (omega (arith, mark_before records store.persist meaning)))
+      (λ h. subst (λ (d : Config). store.persist.mark ≤ d.mark) (holds_recovered c (records ++ item ∷ []) found h held).config (mark_from records store.persist meaning item rises))
       put.either
 
-  pub put_mark : IsNotBelow store.persist item → (new : Chip) → LeavesOnly old new (IsPut records item) → LeavesOnly old new (HasMarkFrom store.persist.mark)
-  put_mark rises new leaves = leaves_weaker old new (IsPut records item) (HasMarkFrom store.persist.mark) leaves (from_mark rises)
+  pub put_mark : (old new : Chip) → IsNotBelow store.persist item → LeavesOnly old new (IsPut records item) → LeavesOnly old new (HasMarkFrom store.persist.mark)
+  put_mark old new rises leaves = leaves_weaker old new (IsPut records item) (HasMarkFrom store.persist.mark) leaves (from_mark rises)
 
   with_mark : IsNoNumbers item → (c : List ℕ) → IsPut records item c → HasMark store.persist.mark c
   with_mark none c put found held = ⊎_elim
-      (λ h. subst (λ (l : List StoreRecord). (config_of l).mark ≡ store.persist.mark) (recovered_once c records found h.held held) (sym (mark_before records store.persist tie.meaning)))
-      (λ h. subst (λ (l : List StoreRecord). (config_of l).mark ≡ store.persist.mark) (recovered_once c (records ++ item ∷ []) found h.held held) (mark_same records store.persist tie.meaning item none))
+      (λ h. subst (λ (d : Config). d.mark ≡ store.persist.mark) (holds_recovered c records found h held).config (sym (mark_before records store.persist meaning)))
+      (λ h. subst (λ (d : Config). d.mark ≡ store.persist.mark) (holds_recovered c (records ++ item ∷ []) found h held).config (mark_same records store.persist meaning item none))
       put.either
 
-  pub put_same_mark : IsNoNumbers item → (new : Chip) → LeavesOnly old new (IsPut records item) → LeavesOnly old new (HasMark store.persist.mark)
-  put_same_mark none new leaves = leaves_weaker old new (IsPut records item) (HasMark store.persist.mark) leaves (with_mark none)
+  pub put_same_mark : (old new : Chip) → IsNoNumbers item → LeavesOnly old new (IsPut records item) → LeavesOnly old new (HasMark store.persist.mark)
+  put_same_mark old new none leaves = leaves_weaker old new (IsPut records item) (HasMark store.persist.mark) leaves (with_mark none)
 
-  -- it is durable
-  pub put_kept : Follows records item → (new : Chip) (after : StoreView)
-      → recovered new.now ≡ with_last (record_text item) (recovered old.now) → IsJournalOf new after.journal → IsMeaningOf (records ++ item ∷ []) after.persist
-      → IsStoreOf new after (records ++ item ∷ [])
-  put_kept follows new after is journal meaning = record { journal = journal; read = read_more follows new.now is; meaning = meaning }
-
-  pub put_durable : (new : Chip) → recovered new.now ≡ with_last (record_text item) (recovered old.now) → ((c : List ℕ) → new.images c → c ≡ new.now) → (c : List ℕ) → new.images c → IsRecovered c (records ++ item ∷ [])
-  put_durable new is only c image = subst (λ (x : List ℕ). IsRecovered x (records ++ item ∷ [])) (sym (only c image)) (recovered_more new.now is)
+-- it is durable
+pub put_durable : (chip : Chip) (store : StoreView) (records : List StoreRecord) → IsStoreOf chip store records → (c : List ℕ) → chip.images c → Holds c records
+put_durable chip store records tie c image = (store_images chip store records tie c image).holds

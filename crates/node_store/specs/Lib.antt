@@ -1,6 +1,9 @@
+pub mod Calls
 pub mod Causes
 pub mod Faults
 pub mod Mounted
+pub mod Numbers
 pub mod Provisioning
+pub mod Several
 pub mod Tie
 pub mod View

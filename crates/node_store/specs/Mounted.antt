@@ -1,6 +1,6 @@
 -- What the slots of a flash are read as, up to the first that is damaged.
-use Rattle.std.specs.Prelude.{◌≡◌, ℕ, ◌+◌, ◌*◌, ◌≤◌, List, [], ◌∷◌, ◌++◌, All, map, Some, false}
-use Rattle.slot_definitions.specs.Slots.{text_at, gated, slots_to}
+use Rattle.std.specs.Prelude.{◌≡◌, ℕ, ◌+◌, ◌*◌, ◌≤◌, List, [], ◌∷◌, ◌++◌, All, map, option_map, Some, false}
+use Rattle.slot_definitions.specs.Slots.{Held, recovered, text_at, gated, slots_to}
 use Rattle.mesh_base.specs.declared.slot.Slot.{Slot}
 use Rattle.record_types.specs.declared.records.StoreRecord.{StoreRecord}
 use Rattle.node_records.specs.declared.persist.Persist.{Persist}
@@ -8,9 +8,8 @@ use Rattle.node_records.specs.Meaning.{IsMeaningOf}
 use Rattle.store_definitions.specs.Config.{config_of}
 use Rattle.store_definitions.specs.Ranges.{IsInRange}
 use Rattle.store_definitions.specs.Recovered.{record_text, HasOneName, IsRecovered}
-use Rattle.slot_journal.specs.Tie.{IsMounted as IsJournalMounted}
+use Rattle.slot_journal.specs.Headers.{IsTidy}
 use Rattle.store_definitions.specs.Following.{Follows, AreInOrder}
-use Rattle.node_store.specs.View.{StoreView}
 
 -- whether a bank of this format may hold the record
 abbrev pub IsOfFormat : ℕ → StoreRecord → Type 0
@@ -39,13 +38,22 @@ pub record IsRead (content : List ℕ) (records : List StoreRecord) : Type 0 whe
   pub held : IsRecovered content records
   pub order : AreInOrder [] records
 
--- what a mount finds on a flash whose content stays: the records of the bank that counts, no Reset among them, and what they say
-pub record IsMounted (content : List ℕ) (store : StoreView) : Type 0 where
-  pub journal : IsJournalMounted content store.journal
+-- what a mount finds on a flash: the records of the bank that counts, no Reset among them, and what they say
+pub record IsMounted (content : List ℕ) (p : Persist) : Type 0 where
   pub records : List StoreRecord
   pub read : IsRead content records
-  pub meaning : IsMeaningOf records store.persist
+  pub meaning : IsMeaningOf records p
   pub stands : (config_of records).reset ≡ false
+
+-- the bank that counts has this format
+abbrev pub HasFormat : ℕ → List ℕ → Type 0
+HasFormat format content = option_map (λ (h : Held). h.format) (recovered content) ≡ Some format
+
+-- what provisioning in format 01 leaves: it is mounted as these records
+pub record IsOldNode (records : List StoreRecord) (content : List ℕ) : Type 0 where
+  pub tidy : IsTidy content
+  pub read : IsRead content records
+  pub format : HasFormat 1 content
 
 -- the value says what the slots 1 to n are read as
 pub record AreSaid (content : List ℕ) (bank format n : ℕ) (p : Persist) : Type 0 where

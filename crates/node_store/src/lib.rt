@@ -15,6 +15,8 @@
 pub mod laws;
 mod mounting;
 mod provision;
+mod room;
+mod several;
 mod store;
 #[cfg(test)]
 mod tests;

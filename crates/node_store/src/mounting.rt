@@ -1,14 +1,18 @@
 // A store is found again on its flash.
-ghost use Rattle.std.specs.Prelude.{◌≡◌, ◌↔◌, ◌⊎◌, ℕ, ◌+◌, ◌<◌, ◌≤◌, List, Err, false, IsTrue, IfOk, IfErr, OnOk, OnErr};
-ghost use Rattle.flash_model.specs.Chip.{IsFresh, Keeps, Stays};
+ghost use Rattle.std.specs.Prelude.{◌≡◌, ◌↔◌, ◌⊎◌, ℕ, ◌+◌, ◌<◌, ◌≤◌, List, Err, false, IsTrue, IsOk, IfOk, IfErr, OnOk, OnErr};
+ghost use Rattle.flash_model.specs.Arming.{Begins, BeginsAtMost};
+ghost use Rattle.flash_model.specs.Chip.{IsFresh, Keeps, LeavesOnly, Stays};
 ghost use Rattle.record_types.specs.declared.records.StoreRecord.{StoreRecord};
-ghost use Rattle.node_records.specs.Meaning.{DoesNotFall};
+ghost use Rattle.node_records.specs.Meaning.{DoesNotFall, IsSaid};
 ghost use Rattle.slot_journal.specs.Headers.{IsTidy};
+ghost use Rattle.store_definitions.specs.Config.{config_of};
 ghost use Rattle.node_store.specs.declared.mounting.StoreFault.{StoreFault};
+ghost use Rattle.node_store.specs.Calls.{compaction};
 ghost use Rattle.node_store.specs.Causes.{IsFoundAs, IsNotFlash, IsReadCause, IsSlotCause, IsStoreCause};
-ghost use Rattle.node_store.specs.Mounted.{AreSaid, IsMounted, IsRefused, IsTaken};
-ghost use Rattle.node_store.specs.Tie.{IsStoreOf};
+ghost use Rattle.node_store.specs.Mounted.{AreSaid, HasFormat, IsMounted, IsRefused, IsTaken};
+ghost use Rattle.node_store.specs.Tie.{HasMark, Holds, IsExactly, IsHeld, IsStoreOf};
 
+use crate::room::compact;
 use crate::store::Store;
 use flash_model::{Flash, FlashFailed};
 use mesh_base::slot::Slot;
@@ -17,6 +21,9 @@ use record_texts::decode;
 use record_types::records::StoreRecord;
 use slot_journal::{Journal, NoMount};
 use thiserror::Error;
+
+/// The format of a bank whose Replay records have one name each.
+const OLD_FORMAT: u8 = 1;
 
 /// Why no store was mounted. Of several that hold the first is answered.
 #[derive(Clone, Copy, Debug, PartialEq, Eq, Error)]
@@ -62,38 +69,80 @@ impl From<NoMount> for StoreFault {
 }
 
 impl Store {
-    /// Finds the store of a node on its flash. It writes nothing, and reads each slot of the bank.
+    /// Finds the store of a node on its flash: it reads the headers and each slot of the bank. A bank of format 01 is migrated: the records
+    /// that say the same are written into the other bank, in format 02. Else it writes nothing.
     ///
     /// Of the clauses with premises, a flash that went through a power cycle is fresh, and what any call on a journal or a store leaves of
     /// an erased flash is tidy.
     pub fn mount<F: Flash>(flash: &mut F) -> Result<Self, StoreFault>
         ensures cause { IfErr result (IsStoreCause (F.chip flash.old) (F.chip flash.new)) }
         ensures exact { IsTrue (F.chip flash.old).honest → (fault : StoreFault) → IsFoundAs (F.chip flash.old).now fault → (result ≡ Err StoreFault.Flash) ⊎ (result ≡ Err fault) }
-        ensures mounted { IsTrue (F.chip flash.old).honest → IfOk result (IsMounted (F.chip flash.old).now) }
-        ensures kept { IsFresh (F.chip flash.old) → IsTidy (F.chip flash.old).now → IfOk result (λ s. (records : List StoreRecord) × IsStoreOf (F.chip flash.new) s records) }
-        ensures stays { IsTrue (F.chip flash.old).honest → Stays (F.chip flash.old) (F.chip flash.new) }
+        ensures mounted { IsTrue (F.chip flash.old).honest → IfOk result (λ s. IsMounted (F.chip flash.old).now s.persist) }
+        ensures unchanged { IsTrue (F.chip flash.old).honest → IfErr result (λ e. IsNotFlash e → Stays (F.chip flash.old) (F.chip flash.new)) }
+        ensures stays { IsTrue (F.chip flash.old).honest → ¬ HasFormat 1 (F.chip flash.old).now → Stays (F.chip flash.old) (F.chip flash.new) }
+
+        // Of a flash that holds records.
+        ensures kept { IsFresh (F.chip flash.old) → IsTidy (F.chip flash.old).now → (records : List StoreRecord) → Holds (F.chip flash.old).now records → IfOk result (λ s. IsStoreOf (F.chip flash.new) s records) }
+        ensures any_moment { IsFresh (F.chip flash.old) → IsTidy (F.chip flash.old).now → (records : List StoreRecord) → Holds (F.chip flash.old).now records → LeavesOnly (F.chip flash.old) (F.chip flash.new) (IsHeld records) }
+        ensures same_mark { IsFresh (F.chip flash.old) → IsTidy (F.chip flash.old).now → (records : List StoreRecord) → Holds (F.chip flash.old).now records → LeavesOnly (F.chip flash.old) (F.chip flash.new) (HasMark (config_of records).mark) }
+
+        // over a steady flash: the program and erase calls of a compaction where the bank has format 01, and else none
+        ensures calls { IsTrue (F.chip flash.old).steady → IsTrue (F.chip flash.old).honest → HasFormat 1 (F.chip flash.old).now → IfOk result (λ s. Begins (compaction s.persist) (F.chip flash.old) (F.chip flash.new)) }
+        ensures most_calls { IsTrue (F.chip flash.old).steady → BeginsAtMost 818 (F.chip flash.old) (F.chip flash.new) }
+        ensures no_calls { IsTrue (F.chip flash.old).steady → IsTrue (F.chip flash.old).honest → ¬ HasFormat 1 (F.chip flash.old).now → (F.chip flash.new).changes ≡ (F.chip flash.old).changes }
 
         // of every flash, honest or not
         ensures usable { IfOk result (λ s. s.journal.closed ≡ false) }
+        ensures no_fault { OnOk result ((F.chip flash.new).faults ≡ (F.chip flash.old).faults) }
+        ensures refused { IfErr result (λ e. IsNotFlash e → ((F.chip flash.new).faults ≡ (F.chip flash.old).faults) × (IsTrue (F.chip flash.old).steady → (F.chip flash.new).changes ≡ (F.chip flash.old).changes)) }
         ensures sure { IsTrue (F.chip flash.old).sure → IfErr result IsNotFlash }
-        ensures same { Keeps (F.chip flash.old) (F.chip flash.new) }
+        ensures frame { Keeps (F.chip flash.old) (F.chip flash.new) }
     {
         let journal = Journal::mount(flash)?;
         let persist = read_records(&journal, flash)?;
         if persist.reset {
             return Err(StoreFault::WasReset);
         }
+        let journal = migrated(journal, &persist, flash)?;
         Ok(Store { journal, persist })
     }
+}
+
+/// A journal in format 02: one of format 01 is compacted to the records that say its value anew.
+fn migrated<F: Flash>(journal: Journal, persist: &Persist, flash: &mut F) -> Result<Journal, FlashFailed>
+    requires said { IsSaid persist.now }
+    requires usable { journal.closed ≡ false }
+    ensures format { IfOk result (λ j. j.version ≡ 2) }
+    ensures usable { IfOk result (λ j. j.closed ≡ false) }
+    ensures kept { (found : List StoreRecord) → IsExactly (F.chip flash.old) (record { journal = journal; persist = persist.now }) found → IfOk result (λ j. IsStoreOf (F.chip flash.new) (record { journal = j; persist = persist.now }) found) }
+    ensures any_moment { (found : List StoreRecord) → IsExactly (F.chip flash.old) (record { journal = journal; persist = persist.now }) found → LeavesOnly (F.chip flash.old) (F.chip flash.new) (IsHeld found) }
+    ensures same { ¬ journal.version ≡ 1 → flash.new ≡ flash.old }
+    ensures calls { IsTrue (F.chip flash.old).steady → journal.version ≡ 1 → OnOk result (Begins (compaction persist.now) (F.chip flash.old) (F.chip flash.new)) }
+    ensures most_calls { IsTrue (F.chip flash.old).steady → BeginsAtMost 818 (F.chip flash.old) (F.chip flash.new) }
+    ensures no_fault { OnOk result ((F.chip flash.new).faults ≡ (F.chip flash.old).faults) }
+    ensures cause { OnErr result ((F.chip flash.old).faults < (F.chip flash.new).faults) }
+    ensures sure { IsTrue (F.chip flash.old).sure → IsOk result }
+    ensures frame { Keeps (F.chip flash.old) (F.chip flash.new) }
+{
+    if journal.version() != OLD_FORMAT {
+        return Ok(journal);
+    }
+    let mut journal = journal;
+    compact(&mut journal, persist, flash)?;
+    Ok(journal)
 }
 
 /// What the records of the gated slots of a journal say, up to its last used slot.
 fn read_records<F: Flash>(journal: &Journal, flash: &mut F) -> Result<Persist, StoreFault>
     ensures cause { IfErr result (IsReadCause (F.chip flash.old) (F.chip flash.new) journal.now) }
     ensures value { IsTrue (F.chip flash.old).honest → IfOk result (AreSaid (F.chip flash.old).now journal.now.bank journal.now.version journal.now.used) }
+    ensures said { IfOk result IsSaid }
     ensures stays { IsTrue (F.chip flash.old).honest → Stays (F.chip flash.old) (F.chip flash.new) }
+    ensures calls { IsTrue (F.chip flash.old).steady → (F.chip flash.new).changes ≡ (F.chip flash.old).changes }
+    ensures no_fault { OnOk result ((F.chip flash.new).faults ≡ (F.chip flash.old).faults) }
+    ensures refused { IfErr result (λ e. IsNotFlash e → (F.chip flash.new).faults ≡ (F.chip flash.old).faults) }
     ensures sure { IsTrue (F.chip flash.old).sure → IfErr result IsNotFlash }
-    ensures same { Keeps (F.chip flash.old) (F.chip flash.new) }
+    ensures frame { Keeps (F.chip flash.old) (F.chip flash.new) }
 {
     let mut persist = Persist::new();
     for k in 0..journal.used() {
@@ -114,9 +163,13 @@ fn read_slot<F: Flash>(
     requires few { journal.now.used ≤ 1023 }
     ensures cause { IfErr result (IsSlotCause (F.chip flash.old) (F.chip flash.new) journal.now n persist.old) }
     ensures value { IsTrue (F.chip flash.old).honest → (k : ℕ) → n ≡ k + 1 → AreSaid (F.chip flash.old).now journal.now.bank journal.now.version k persist.old → OnOk result (AreSaid (F.chip flash.old).now journal.now.bank journal.now.version n persist.new) }
+    ensures said { IsSaid persist.old → IsSaid persist.new }
     ensures stays { IsTrue (F.chip flash.old).honest → Stays (F.chip flash.old) (F.chip flash.new) }
+    ensures calls { IsTrue (F.chip flash.old).steady → (F.chip flash.new).changes ≡ (F.chip flash.old).changes }
+    ensures no_fault { OnOk result ((F.chip flash.new).faults ≡ (F.chip flash.old).faults) }
+    ensures refused { IfErr result (λ e. IsNotFlash e → (F.chip flash.new).faults ≡ (F.chip flash.old).faults) }
     ensures sure { IsTrue (F.chip flash.old).sure → IfErr result IsNotFlash }
-    ensures same { Keeps (F.chip flash.old) (F.chip flash.new) }
+    ensures frame { Keeps (F.chip flash.old) (F.chip flash.new) }
 {
     let Some(slot) = journal.slot(flash, n)? else {
         return Ok(());
@@ -127,6 +180,7 @@ fn read_slot<F: Flash>(
 /// One more record: what slot `n` holds, if a record that may follow the others has its text.
 fn take(persist: &mut Persist, n: u32, slot: &Slot, format: u8) -> Result<(), StoreFault>
     ensures taken { OnOk result (IsTaken format persist.old slot.now persist.new) }
+    ensures said { IsSaid persist.old → IsSaid persist.new }
     ensures damaged { OnErr result ((result ≡ Err (StoreFault.Damaged n)) × IsRefused format persist.old slot.now) }
 {
     let damaged = StoreFault::Damaged { slot: n };

@@ -1,7 +1,8 @@
 // A node is provisioned: its first records are written onto an erased flash.
 ghost use Rattle.std.specs.Prelude.{◌≡◌, List, false, IsTrue, IfOk, IfErr, OnOk, ℕ, ◌*◌, ◌^◌, ◌<◌, All, map, slice_index};
+ghost use Rattle.flash_model.specs.Arming.{Begins, BeginsAtMost};
 ghost use Rattle.flash_model.specs.Chip.{IsFresh, Keeps, LeavesOnly, Stays};
-ghost use Rattle.node_records.specs.Meaning.{IsMeaningOf};
+ghost use Rattle.node_records.specs.Meaning.{IsMeaningOf, IsSaid};
 ghost use Rattle.store_definitions.specs.Ranges.{IsInRange};
 ghost use Rattle.store_definitions.specs.Recovered.{record_text, IsRecovered};
 ghost use Rattle.store_definitions.specs.Provisioning.{provisioned};
@@ -9,7 +10,8 @@ ghost use Rattle.mesh_base.specs.IvState.{HasTransmit, transmit_of};
 ghost use Rattle.slot_journal.specs.Causes.{IsFormatCause, IsNotErased};
 ghost use Rattle.slot_journal.specs.Format.{IsErased};
 ghost use Rattle.node_store.specs.Provisioning.{IsProvision, provisioning, state_of};
-ghost use Rattle.node_store.specs.Tie.{IsMade, IsStoreOf};
+ghost use Rattle.node_store.specs.Mounted.{IsOldNode};
+ghost use Rattle.node_store.specs.Tie.{IsExactly, IsMade, IsStoreOf};
 
 use crate::store::Store;
 use flash_model::Flash;
@@ -26,6 +28,9 @@ const ADD: u8 = 1;
 
 /// The format of a bank that a node writes: a Replay record has room for two names.
 const FORMAT: u8 = 2;
+
+/// The format that provisioning wrote before: a Replay record has one name.
+const OLD_FORMAT: u8 = 1;
 
 /// Hours since the last IV Index Recovery at which the next one is allowed (section 3.10.6).
 const RECOVERY_HOURS: u16 = 192;
@@ -62,19 +67,52 @@ impl Store {
         ensures erased { IsTrue (F.chip flash.old).honest → OnOk result (IsErased (F.chip flash.old).now) }
         ensures unchanged { IsTrue (F.chip flash.old).honest → ¬ IsErased (F.chip flash.old).now → Stays (F.chip flash.old) (F.chip flash.new) }
         ensures value { IfOk result (λ s. (s.journal ≡ record { bank = 0; used = 3; closed = false; generation = 1; version = 2 }) × IsMeaningOf (provisioned (provisioning p.now)) s.persist) }
+        ensures exactly { IsFresh (F.chip flash.old) → IfOk result (λ s. IsExactly (F.chip flash.new) s (provisioned (provisioning p.now))) }
         ensures kept { IsFresh (F.chip flash.old) → IfOk result (λ s. IsStoreOf (F.chip flash.new) s (provisioned (provisioning p.now))) }
         ensures durable { IsFresh (F.chip flash.old) → OnOk result ((c : List ℕ) → (F.chip flash.new).images c → IsRecovered c (provisioned (provisioning p.now))) }
         ensures any_moment { IsFresh (F.chip flash.old) → IsErased (F.chip flash.old).now → LeavesOnly (F.chip flash.old) (F.chip flash.new) (IsMade (provisioned (provisioning p.now))) }
 
+        // over a steady flash: two program calls for each record and two for the header, and at most these where it fails
+        ensures calls { IsTrue (F.chip flash.old).steady → OnOk result (Begins 8 (F.chip flash.old) (F.chip flash.new)) }
+        ensures most_calls { IsTrue (F.chip flash.old).steady → BeginsAtMost 8 (F.chip flash.old) (F.chip flash.new) }
+
         // of every flash, honest or not
+        ensures no_fault { OnOk result ((F.chip flash.new).faults ≡ (F.chip flash.old).faults) }
         ensures sure { IsTrue (F.chip flash.old).sure → IfErr result IsNotErased }
-        ensures same { Keeps (F.chip flash.old) (F.chip flash.new) }
+        ensures frame { Keeps (F.chip flash.old) (F.chip flash.new) }
     {
         let journal = Journal::format(flash, &first_slots(p), FORMAT)?;
         Ok(Store {
             journal,
             persist: first_persist(p),
         })
+    }
+
+    /// Writes what a node is provisioned with onto an erased flash in format 01, as nodes did before Replay records had two names. `mount`
+    /// migrates it. At `Ok` it is durable. In every image that a cut at any moment leaves, no bank counts yet, or the records are those of
+    /// provisioning.
+    ///
+    /// The conditions are those of `provision`.
+    pub fn provision_old<F: Flash>(flash: &mut F, p: &Provision) -> Result<(), FormatFault>
+        requires { IsProvision p.now }
+        ensures cause { IfErr result (IsFormatCause (F.chip flash.old) (F.chip flash.new)) }
+        ensures erased { IsTrue (F.chip flash.old).honest → OnOk result (IsErased (F.chip flash.old).now) }
+        ensures unchanged { IsTrue (F.chip flash.old).honest → ¬ IsErased (F.chip flash.old).now → Stays (F.chip flash.old) (F.chip flash.new) }
+        ensures kept { IsFresh (F.chip flash.old) → OnOk result (IsFresh (F.chip flash.new)) }
+        ensures durable { IsFresh (F.chip flash.old) → OnOk result ((c : List ℕ) → (F.chip flash.new).images c → IsOldNode (provisioned (provisioning p.now)) c) }
+        ensures any_moment { IsFresh (F.chip flash.old) → IsErased (F.chip flash.old).now → LeavesOnly (F.chip flash.old) (F.chip flash.new) (IsMade (provisioned (provisioning p.now))) }
+
+        // over a steady flash: as many calls as `provision` makes
+        ensures calls { IsTrue (F.chip flash.old).steady → OnOk result (Begins 8 (F.chip flash.old) (F.chip flash.new)) }
+        ensures most_calls { IsTrue (F.chip flash.old).steady → BeginsAtMost 8 (F.chip flash.old) (F.chip flash.new) }
+
+        // of every flash, honest or not
+        ensures no_fault { OnOk result ((F.chip flash.new).faults ≡ (F.chip flash.old).faults) }
+        ensures sure { IsTrue (F.chip flash.old).sure → IfErr result IsNotErased }
+        ensures frame { Keeps (F.chip flash.old) (F.chip flash.new) }
+    {
+        Journal::format(flash, &first_slots(p), OLD_FORMAT)?;
+        Ok(())
     }
 }
 
@@ -94,7 +132,8 @@ fn first_slots(p: &Provision) -> [Slot; 3]
 /// What the first records say.
 fn first_persist(p: &Provision) -> Persist
     requires { IsProvision p.now }
-    ensures { IsMeaningOf (provisioned (provisioning p.now)) result }
+    ensures value { IsMeaningOf (provisioned (provisioning p.now)) result }
+    ensures said { IsSaid result }
 {
     let mut persist = Persist::new();
     persist.apply(&identity(p)).unwrap();

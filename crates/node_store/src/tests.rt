@@ -25,9 +25,26 @@ const DEV_KEY: [u8; 16] = [
     0x9d, 0x6d, 0xd0, 0xe9, 0x6e, 0xb2, 0x5d, 0xc1, 0x9a, 0x40, 0xed, 0x99, 0x14, 0xf8, 0xf0, 0x3f,
 ];
 
-// Kind f0, format 01, generation 1 and its complement, zeros, and the gate.
+// Kind f0, format 02, generation 1 and its complement, zeros, and the gate.
 const HEADER: [u8; 32] = [
     0xf0, 0x02, 0, 0, 0, 1, 0xff, 0xff, 0xff, 0xfe, 0, 0, 0, 0, 0, 0, 0, 0, 0, 0, 0, 0, 0, 0, 0, 0,
+    0, 0, 0, 0, 0, 0,
+];
+
+// The header of a compaction: format 02 and the next generation.
+const SECOND_HEADER: [u8; 32] = [
+    0xf0, 0x02, 0, 0, 0, 2, 0xff, 0xff, 0xff, 0xfd, 0, 0, 0, 0, 0, 0, 0, 0, 0, 0, 0, 0, 0, 0, 0, 0,
+    0, 0, 0, 0, 0, 0,
+];
+
+// Format 01 and generation ffffffff, and what comes behind it.
+const LAST_HEADER: [u8; 32] = [
+    0xf0, 0x01, 0xff, 0xff, 0xff, 0xff, 0, 0, 0, 0, 0, 0, 0, 0, 0, 0, 0, 0, 0, 0, 0, 0, 0, 0, 0, 0,
+    0, 0, 0, 0, 0, 0,
+];
+
+const HEADER_BEHIND_THE_LAST: [u8; 32] = [
+    0xf0, 0x02, 0, 0, 0, 0, 0xff, 0xff, 0xff, 0xff, 0, 0, 0, 0, 0, 0, 0, 0, 0, 0, 0, 0, 0, 0, 0, 0,
     0, 0, 0, 0, 0, 0,
 ];
 
@@ -41,6 +58,12 @@ const NUMBERS: [u8; 32] = [
 const REPLAY: [u8; 32] = [
     0x04, 0x00, 0x03, 0x12, 0x34, 0x56, 0x78, 0x31, 0x29, 0xab, 0, 0, 0, 0, 0, 0, 0, 0, 0, 0, 0, 0,
     0, 0, 0, 0, 0, 0, 0, 0, 0, 0,
+];
+
+// The same and a second one.
+const TWO_NAMES: [u8; 32] = [
+    0x04, 0x00, 0x03, 0x12, 0x34, 0x56, 0x78, 0x31, 0x29, 0xab, 0x01, 0x01, 0x12, 0x34, 0x56, 0x78,
+    0, 0, 1, 0, 0, 0, 0, 0, 0, 0, 0, 0, 0, 0, 0, 0,
 ];
 
 fn node() -> Provision
@@ -96,6 +119,31 @@ fn the_octets_of_a_node(rt: HostRuntime) -> Result<(), Fail> {
     assert_eq!(rt; flash.changes(), 10);
     assert_eq!(rt; octets(&mut flash, 4)?, REPLAY);
     assert_eq!(rt; store.used(), 4);
+    Ok(())
+}
+
+#[test]
+fn a_slot_of_two_names(rt: HostRuntime) -> Result<(), Fail> {
+    let mut flash = MemFlash::new(rt.alloc())?;
+    let mut store = Store::provision(&mut flash, &node())?;
+    let name = |src, seq| Name {
+        src: Address(src),
+        pair: Pair {
+            iv: 0x12345678,
+            seq,
+        },
+    };
+    store.put(
+        &mut flash,
+        &StoreRecord::Replay {
+            first: name(0x0003, 0x3129ab),
+            second: Some(name(0x0101, 1)),
+        },
+    )?;
+    assert_eq!(rt; octets(&mut flash, 4)?, TWO_NAMES);
+    let found = Store::mount(&mut flash)?;
+    assert_eq!(rt; found.persist().replay.len(), 2);
+    assert!(rt; *found.persist() == *store.persist());
     Ok(())
 }
 
@@ -213,16 +261,20 @@ fn a_full_replay_list_and_a_full_bank(rt: HostRuntime) -> Result<(), Fail> {
         hear(&mut store, &mut flash, 0x0101, seq)?;
     }
     assert_eq!(rt; store.used(), 1023);
+    assert_eq!(rt; flash.changes(), 2048);
     assert_eq!(rt;
         hear(&mut store, &mut flash, 0x0301, 1),
         Err(PutFault::Limit { held: 512 })
     );
-    assert_eq!(rt;
-        hear(&mut store, &mut flash, 0x0101, 508),
-        Err(PutFault::Full { used: 1023 })
-    );
+    assert_eq!(rt; flash.changes(), 2048);
+    // Three slots and 256 of two names each: eight erases, 518 program calls, two for the header, and two for the record.
+    hear(&mut store, &mut flash, 0x0101, 508)?;
+    assert_eq!(rt; flash.changes(), 2578);
+    assert_eq!(rt; store.used(), 260);
     let found = Store::mount(&mut flash)?;
+    assert_eq!(rt; found.used(), 260);
     assert!(rt; *found.persist() == *store.persist());
+    assert_eq!(rt; octets(&mut flash, 1024)?, SECOND_HEADER);
     Ok(())
 }
 
@@ -377,5 +429,217 @@ fn two_names_in_a_bank_of_format_one(rt: HostRuntime) -> Result<(), Fail> {
         Store::mount(&mut flash).err(),
         Some(StoreFault::Damaged { slot: 2 })
     );
+    Ok(())
+}
+
+/// The octets of a slot, its gate 00.
+fn text(slot: &Slot) -> [u8; 32] {
+    let mut text = [0; 32];
+    text[0] = slot.kind;
+    text[1..31].copy_from_slice(&slot.body);
+    text
+}
+
+/// What a provisioned node with these slots behind its three is refused as.
+fn refusal_behind(alloc: Global, slots: &[Slot]) -> Result<Option<StoreFault>, Fail> {
+    let mut flash = MemFlash::new(alloc)?;
+    Store::provision(&mut flash, &node())?;
+    let mut journal = Journal::mount(&mut flash)?;
+    for slot in slots {
+        journal.append(&mut flash, slot)?;
+    }
+    Ok(Store::mount(&mut flash).err())
+}
+
+#[test]
+fn what_is_damaged_behind_a_node(rt: HostRuntime) -> Result<(), Fail> {
+    let unknown = slot(0x20, &[]);
+    // Progress 02.
+    let progress = slot(2, &[0x12, 0x34, 0x56, 0x78, 2, 0x00, 0x24, 0x68, 0xac, 0xf0]);
+    let at = |slot| Some(StoreFault::Damaged { slot });
+    let cases = [
+        (unknown, RESET, at(4)),
+        (progress, RESET, at(4)),
+        (RESET, unknown, at(5)),
+        (RESET, RESET, Some(StoreFault::WasReset)),
+    ];
+    for (first, second, want) in cases {
+        assert_eq!(rt; refusal_behind(rt.alloc(), &[first, second])?, want);
+    }
+    let mut keys = Vec::new(rt.alloc());
+    for index in 0..9 {
+        keys.push(app_key(index))?;
+    }
+    assert_eq!(rt; refusal_behind(rt.alloc(), &keys)?, at(12));
+    Ok(())
+}
+
+// A header whose gate is 01 doesn't count.
+#[test]
+fn a_gate_that_is_not_zero(rt: HostRuntime) -> Result<(), Fail> {
+    let mut flash = MemFlash::new(rt.alloc())?;
+    let mut header = HEADER;
+    header[31] = 0x01;
+    flash.program(0, &header)?;
+    flash.program(32, &text(&numbers(0x12345678, 0)))?;
+    assert_eq!(rt; Store::mount(&mut flash).err(), Some(StoreFault::NoNode));
+    Ok(())
+}
+
+#[test]
+fn the_generation_behind_the_last(rt: HostRuntime) -> Result<(), Fail> {
+    let mut flash = MemFlash::new(rt.alloc())?;
+    flash.program(32, &text(&numbers(0x12345678, 0)))?;
+    flash.program(64, &text(&net_key(0)))?;
+    flash.program(0, &LAST_HEADER)?;
+    let found = Store::mount(&mut flash)?;
+    assert_eq!(rt; found.used(), 2);
+    assert_eq!(rt; octets(&mut flash, 1024)?, HEADER_BEHIND_THE_LAST);
+    flash.power_cycle();
+    let again = Store::mount(&mut flash)?;
+    assert_eq!(rt; flash.changes(), 0);
+    assert_eq!(rt; again.used(), 2);
+    assert!(rt; *again.persist() == *found.persist());
+    Ok(())
+}
+
+// A second name isn't read in format 01, wherever it stands.
+#[test]
+fn a_second_name_behind_an_old_node(rt: HostRuntime) -> Result<(), Fail> {
+    let mut flash = MemFlash::new(rt.alloc())?;
+    Store::provision_old(&mut flash, &node())?;
+    let mut journal = Journal::mount(&mut flash)?;
+    journal.append(&mut flash, &heard(0))?;
+    assert_eq!(rt;
+        Store::mount(&mut flash).err(),
+        Some(StoreFault::Damaged { slot: 4 })
+    );
+    Ok(())
+}
+
+#[test]
+fn an_old_node(rt: HostRuntime) -> Result<(), Fail> {
+    let mut flash = MemFlash::new(rt.alloc())?;
+    Store::provision_old(&mut flash, &node())?;
+    assert_eq!(rt; flash.changes(), 8);
+    assert_eq!(rt; octets(&mut flash, 0)?[1], 1);
+    let found = Store::mount(&mut flash)?;
+    assert_eq!(rt; flash.changes(), 24);
+    assert_eq!(rt; octets(&mut flash, 1024)?, SECOND_HEADER);
+    let mut other = MemFlash::new(rt.alloc())?;
+    let store = Store::provision(&mut other, &node())?;
+    assert!(rt; *found.persist() == *store.persist());
+    assert_eq!(rt;
+        Store::provision_old(&mut flash, &node()),
+        Err(FormatFault::NotErased { at: 0 })
+    );
+    Ok(())
+}
+
+/// A mount that is cut under this mask after so many calls, and the power cycle behind it.
+fn cut_mount(flash: &mut MemFlash, calls: u32, mask: u8) -> Option<StoreFault> {
+    flash.power_cycle();
+    flash.arm(calls, mask);
+    let fault = Store::mount(flash).err();
+    flash.power_cycle();
+    fault
+}
+
+/// Two mounts of a node in format 01 that are cut one after the other, and what is mounted then.
+fn cut_twice(
+    alloc: Global,
+    first: (u32, u8),
+    second: (u32, u8),
+) -> Result<(Option<StoreFault>, Option<StoreFault>, Store), Fail> {
+    let mut flash = MemFlash::new(alloc)?;
+    Store::provision_old(&mut flash, &node())?;
+    let one = cut_mount(&mut flash, first.0, first.1);
+    let two = cut_mount(&mut flash, second.0, second.1);
+    let store = Store::mount(&mut flash)?;
+    Ok((one, two, store))
+}
+
+// Sixteen calls: eight erases, two for each of three slots, and two for the header. Only a whole last one leaves the new bank; then the
+// next mount makes no call.
+#[test]
+fn a_cut_while_a_mount_migrates(rt: HostRuntime) -> Result<(), Fail> {
+    let mut flash = MemFlash::new(rt.alloc())?;
+    let want = Store::provision(&mut flash, &node())?;
+    for (first, mask) in cuts(rt.alloc(), 16)? {
+        let left = if (first, mask) == (15, 0xff) { None } else { Some(StoreFault::Flash) };
+        for (second, again) in cuts(rt.alloc(), 16)? {
+            let (one, two, found) = cut_twice(rt.alloc(), (first, mask), (second, again))?;
+            assert_eq!(rt; one, Some(StoreFault::Flash));
+            assert_eq!(rt; two, left);
+            assert!(rt; *found.persist() == *want.persist());
+        }
+    }
+    Ok(())
+}
+
+/// Each call number below `calls` with each mask.
+fn cuts(alloc: Global, calls: u32) -> Result<Vec<(u32, u8)>, Fail> {
+    let mut cuts = Vec::new(alloc);
+    for call in 0..calls {
+        for mask in MASKS {
+            cuts.push((call, mask))?;
+        }
+    }
+    Ok(cuts)
+}
+
+/// A node whose bank is full: 1,020 messages of one source stand behind its first records.
+fn full_bank(alloc: Global) -> Result<MemFlash, Fail> {
+    let mut flash = MemFlash::new(alloc)?;
+    let mut store = Store::provision(&mut flash, &node())?;
+    for seq in 1..1021 {
+        hear(&mut store, &mut flash, 0x0003, seq)?;
+    }
+    Ok(flash)
+}
+
+/// The put of one more message that is cut, and the entry that is found behind the power cycle.
+fn cut_put(
+    flash: &mut MemFlash,
+    calls: u32,
+    mask: u8,
+) -> Result<(Result<(), PutFault>, Option<Pair>), Fail> {
+    flash.power_cycle();
+    flash.arm(calls, mask);
+    let mut store = Store::mount(flash)?;
+    let put = hear(&mut store, flash, 0x0003, 1021);
+    flash.power_cycle();
+    let found = Store::mount(flash)?;
+    Ok((put, found.persist().entry(Address(0x0003))))
+}
+
+/// What is answered and found where so many calls come and this one is cut.
+fn expected(calls: u32, cut: (u32, u8)) -> (Result<(), PutFault>, Option<Pair>) {
+    let pair = |seq| {
+        Some(Pair {
+            iv: 0x12345678,
+            seq,
+        })
+    };
+    if cut.0 >= calls {
+        return (Ok(()), pair(1021));
+    }
+    let whole = cut.0 + 1 == calls && cut.1 == 0xff;
+    (Err(PutFault::Flash), pair(if whole { 1021 } else { 1020 }))
+}
+
+// Twenty calls: eight erases, two for each of four slots, two for the header, and two for the record. From the whole header on the bank has
+// room, and the next put makes two calls.
+#[test]
+fn a_cut_while_a_put_compacts(rt: HostRuntime) -> Result<(), Fail> {
+    for first in cuts(rt.alloc(), 20)? {
+        let left = if first.0 > 17 || first == (17, 0xff) { 2 } else { 20 };
+        for second in 0..20 {
+            let mut flash = full_bank(rt.alloc())?;
+            assert_eq!(rt; cut_put(&mut flash, first.0, first.1)?, expected(20, first));
+            let again = (second, first.1);
+            assert_eq!(rt; cut_put(&mut flash, second, first.1)?, expected(left, again));
+        }
+    }
     Ok(())
 }

@@ -1,5 +1,6 @@
-use Rattle.std.specs.Prelude.{IsTrue}
+use Rattle.std.specs.Prelude.{◌≡◌, IsTrue}
 use Rattle.flash_model.specs.Chip.{Keeps, Stays}
+use Rattle.node_records.specs.Meaning.{IsSaid}
 use Rattle.node_store.specs.Mounted.{AreSaid}
 use Rattle.node_store.proofs.mounting.read_records.Given as goal
 
@@ -7,5 +8,8 @@ abbrev pub invariant-loop-k : goal.invariant-loop-k
 invariant-loop-k g l = record {
   keeps : Keeps (g.F.Flash.chip l.initial.flash) (g.F.Flash.chip l.flash);
   stays : IsTrue (g.F.Flash.chip l.initial.flash).honest → Stays (g.F.Flash.chip l.initial.flash) (g.F.Flash.chip l.flash);
-  said : IsTrue (g.F.Flash.chip l.initial.flash).honest → AreSaid (g.F.Flash.chip l.initial.flash).now l.journal.bank l.journal.version l.k l.persist;
+  read : IsTrue (g.F.Flash.chip l.initial.flash).honest → AreSaid (g.F.Flash.chip l.initial.flash).now l.journal.bank l.journal.version l.k l.persist;
+  said : IsSaid l.persist;
+  calls : IsTrue (g.F.Flash.chip l.initial.flash).steady → (g.F.Flash.chip l.flash).changes ≡ (g.F.Flash.chip l.initial.flash).changes;
+  faults : (g.F.Flash.chip l.flash).faults ≡ (g.F.Flash.chip l.initial.flash).faults;
 }

@@ -22,8 +22,8 @@ unwrap-requires-3 c =
     (subst (λ (r : StoreRecord). IsMeaningOf (r ∷ c.numbers.result ∷ []) c.apply-2.new.self) c.identity.ensures.value (two (c.identity.result ∷ []) (one [] c.new-persist.ensures.value))) in
     applied_ok c.apply-3.result _ c.apply-3.ensures.limit (λ full. key_fits p c.apply-2.new.self said (subst (λ (r : StoreRecord). IsFull c.apply-2.new.self r) c.net_key.ensures.value full))
 
-pub returns : goal.returns
-returns c =
+pub returns-clause-value : goal.returns-clause-value
+returns-clause-value c =
     let p = provisioning c.args.p.now in
     let one = applied c.apply.result _ _ c.apply.ensures.ok c.apply.ensures.limit (λ full. subst (λ (r : StoreRecord). IsFull c.new-persist.result r) c.identity.ensures.value full) in
     let two = applied c.apply-2.result _ _ c.apply-2.ensures.ok c.apply-2.ensures.limit (λ full. subst (λ (r : StoreRecord). IsFull c.apply.new.self r) c.numbers.ensures.value full) in

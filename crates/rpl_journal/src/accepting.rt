@@ -1,0 +1,146 @@
+//! A message is accepted: its record is put.
+#![tactic(auto)]
+
+ghost use Rattle.std.specs.Prelude.{◌≡◌, ℕ, ◌+◌, ◌^◌, ◌<◌, ◌≤◌, List, [], ◌∷◌, ◌++◌, true, false, Err, Some, IsTrue, IsOk, IfSome, OnOk, OnErr};
+ghost use Rattle.flash_model.specs.Arming.{Begins, BeginsAtMost};
+ghost use Rattle.flash_model.specs.Chip.{Keeps, LeavesOnly};
+ghost use Rattle.mesh_world.specs.World.{World};
+ghost use Rattle.mesh_world.specs.World.WorldStep.{Accept};
+ghost use Rattle.node_records.specs.Meaning.{IsMeaningOf};
+ghost use Rattle.node_records.specs.Tables.{config_in, entry_in};
+ghost use Rattle.node_store.specs.Calls.{calls_of};
+ghost use Rattle.node_store.specs.Tie.{HasMark, Holds, IsPut, IsStoreOf};
+ghost use Rattle.record_types.specs.declared.records.StoreRecord.{StoreRecord};
+ghost use Rattle.rpl_journal.specs.Accepting.{accepting, IsNoNewer, IsReadUnder};
+ghost use Rattle.store_definitions.specs.Entries.{others_held};
+ghost use Rattle.store_definitions.specs.Following.{HasNoPlace};
+ghost use Rattle.store_definitions.specs.Ranges.{IsInRange};
+ghost use Rattle.store_world.specs.Standing.{entry_with, GoesBy, IsAboveKept, IsWorldOf};
+
+use crate::checking::{Old, check};
+use flash_model::Flash;
+use mesh_base::pair::{Name, Pair};
+use node_records::Limit;
+use node_store::{PutFault, Store};
+use record_types::records::StoreRecord;
+use thiserror::Error;
+
+/// Why a message wasn't accepted. Of several that hold the first is answered.
+#[derive(Clone, Copy, Debug, PartialEq, Eq, Error)]
+pub enum AcceptFault {
+    /// An earlier write failed: mount the flash again.
+    #[error("an earlier write to the store failed")]
+    Closed,
+    /// It isn't newer than the entry of its source, `kept`.
+    #[error("the message isn't newer than the last one accepted of its source")]
+    Old { kept: Pair },
+    /// Its source has no entry, and the replay list is full of other sources' unexpired entries; `held` of them have one.
+    #[error("the replay list is full: {held} other sources have an entry")]
+    ListFull { held: u32 },
+    /// The flash failed in this call. The store is closed from then on.
+    #[error("the flash failed")]
+    Flash,
+}
+
+impl From<Old> for AcceptFault {
+    ghost use Rattle.std.specs.Prelude.{◌≡◌};
+    ghost use Rattle.rpl_journal.specs.declared.accepting.AcceptFault.TheVariants as Fault;
+
+    ghost from_gives = { λ old e. e ≡ Fault.Old old.kept };
+
+    fn from(old: Old) -> Self {
+        AcceptFault::Old { kept: old.kept }
+    }
+}
+
+impl From<Limit> for AcceptFault {
+    ghost use Rattle.std.specs.Prelude.{◌≡◌};
+    ghost use Rattle.rpl_journal.specs.declared.accepting.AcceptFault.TheVariants as Fault;
+
+    ghost from_gives = { λ limit e. e ≡ Fault.ListFull limit.held };
+
+    fn from(limit: Limit) -> Self {
+        AcceptFault::ListFull { held: limit.held }
+    }
+}
+
+impl From<PutFault> for AcceptFault {
+    ghost use Rattle.std.specs.Prelude.{◌≡◌};
+    ghost use Rattle.rpl_journal.specs.Faults.{accept_fault_of};
+
+    ghost from_gives = { λ fault e. e ≡ accept_fault_of fault };
+
+    fn from(fault: PutFault) -> Self {
+        match fault {
+            PutFault::Closed => AcceptFault::Closed,
+            PutFault::Limit { held } => AcceptFault::ListFull { held },
+            PutFault::Flash => AcceptFault::Flash,
+        }
+    }
+}
+
+/// What the type of a name says of its fields, as clauses that a proof can cite.
+fn name_fits(name: Name)
+    ensures src { name.src.0 < 2 ^ 16 }
+    ensures iv { name.pair.iv < 2 ^ 32 }
+{}
+
+/// The record of a message.
+fn record_of(name: &Name) -> StoreRecord
+    requires { name.now.pair.seq < 2 ^ 24 }
+    ensures value { result ≡ accepting name.now }
+    ensures range { IsInRange result }
+{
+    name_fits(*name);
+    StoreRecord::Replay {
+        first: *name,
+        second: None,
+    }
+}
+
+/// Accepts a message: its pair becomes the entry of its source. At `Ok` that is durable, so after a power cut at any later moment neither the
+/// message nor an older one of its source is accepted. Deliver it only then.
+///
+/// `name` is the source with the pair, of a segmented message with its SeqAuth; its IV Index is the known one or one less, as of every PDU
+/// that is read, and SEQ is below 2^24. Of the clauses on content, the store is one of this flash.
+pub fn accept<F: Flash>(store: &mut Store, flash: &mut F, name: &Name) -> Result<(), AcceptFault>
+    requires read { IsReadUnder store.old.persist.iv.current name.now }
+    requires seq { name.now.pair.seq < 2 ^ 24 }
+
+    ensures closed { store.old.journal.closed ≡ true → (result ≡ Err AcceptFault.Closed) × (store.new ≡ store.old) × (flash.new ≡ flash.old) }
+    ensures old { store.old.journal.closed ≡ false → IfSome (entry_in store.old.persist name.now.src.0) (λ kept. IsNoNewer (Some kept) name.now.pair → (result ≡ Err (AcceptFault.Old kept)) × (store.new ≡ store.old) × (flash.new ≡ flash.old)) }
+    ensures full { store.old.journal.closed ≡ false → (records : List StoreRecord) → IsMeaningOf records store.old.persist → HasNoPlace records name.now → (result ≡ Err (AcceptFault.ListFull (others_held records name.now.src.0))) × (store.new ≡ store.old) × (flash.new ≡ flash.old) }
+    ensures cause { store.old.journal.closed ≡ false → IsAboveKept (entry_in store.old.persist name.now.src.0) name.now.pair → (records : List StoreRecord) → IsMeaningOf records store.old.persist → ¬ HasNoPlace records name.now → OnErr result ((result ≡ Err AcceptFault.Flash) × (store.new.journal.closed ≡ true) × ((F.chip flash.old).faults < (F.chip flash.new).faults)) }
+    ensures newer { OnOk result (IsAboveKept (entry_in store.old.persist name.now.src.0) name.now.pair) }
+    ensures value { OnOk result ((src : ℕ) → entry_in store.new.persist src ≡ entry_with name.now (entry_in store.old.persist) src) }
+    ensures meaning { OnOk result ((records : List StoreRecord) → IsMeaningOf records store.old.persist → IsMeaningOf (records ++ accepting name.now ∷ []) store.new.persist) }
+    ensures same_config { config_in store.new.persist ≡ config_in store.old.persist }
+    ensures refused { OnErr result (store.new.persist ≡ store.old.persist) }
+    ensures usable { OnOk result (store.new.journal.closed ≡ false) }
+    ensures steps { (w : World) (published : ℕ) → IsWorldOf w store.old.persist published → OnOk result (GoesBy (Accept name.now ∷ []) w store.new.persist published) }
+
+    // of a store of this flash
+    ensures kept { (records : List StoreRecord) → IsStoreOf (F.chip flash.old) store.old records → OnOk result (IsStoreOf (F.chip flash.new) store.new (records ++ accepting name.now ∷ [])) }
+    ensures durable { (records : List StoreRecord) → IsStoreOf (F.chip flash.old) store.old records → OnOk result ((c : List ℕ) → (F.chip flash.new).images c → Holds c (records ++ accepting name.now ∷ [])) }
+    ensures any_moment { (records : List StoreRecord) → IsStoreOf (F.chip flash.old) store.old records → LeavesOnly (F.chip flash.old) (F.chip flash.new) (IsPut records (accepting name.now)) }
+    ensures mark { (records : List StoreRecord) → IsStoreOf (F.chip flash.old) store.old records → LeavesOnly (F.chip flash.old) (F.chip flash.new) (HasMark store.old.persist.mark) }
+
+    // over a steady flash: the calls of one record put, and at most these where it fails
+    ensures calls { IsTrue (F.chip flash.old).steady → OnOk result (Begins (calls_of store.old) (F.chip flash.old) (F.chip flash.new)) }
+    ensures most_calls { IsTrue (F.chip flash.old).steady → BeginsAtMost (calls_of store.old) (F.chip flash.old) (F.chip flash.new) }
+
+    // of every flash, honest or not
+    ensures reads { (F.chip flash.new).reads ≡ (F.chip flash.old).reads }
+    ensures no_fault { OnOk result ((F.chip flash.new).faults ≡ (F.chip flash.old).faults) }
+    ensures sure { IsTrue (F.chip flash.old).sure → store.old.journal.closed ≡ false → IsAboveKept (entry_in store.old.persist name.now.src.0) name.now.pair → (records : List StoreRecord) → IsMeaningOf records store.old.persist → ¬ HasNoPlace records name.now → IsOk result }
+    ensures frame { Keeps (F.chip flash.old) (F.chip flash.new) }
+{
+    if store.is_closed() {
+        return Err(AcceptFault::Closed);
+    }
+    check(store.persist(), name)?;
+    let item = record_of(name);
+    store.persist().check(&item)?;
+    store.put(flash, &item)?;
+    Ok(())
+}

@@ -1,0 +1,183 @@
+//! The store and the seat that moves the mark.
+#![tactic(auto)]
+
+ghost use Rattle.std.specs.Prelude.{◌≡◌, ◌≢◌, ℕ, ◌+◌, ◌*◌, ◌^◌, ◌<◌, ◌≤◌, List, [], ◌∷◌, ◌++◌, true, false, Ok, Err, IsTrue, IsOk, IfOk, OnOk, OnErr};
+ghost use Rattle.flash_model.specs.Arming.{Begins, BeginsAtMost};
+ghost use Rattle.flash_model.specs.Chip.{Keeps, LeavesOnly};
+ghost use Rattle.mesh_base.specs.IvState.{HasTransmit, transmit_of};
+ghost use Rattle.mesh_world.specs.World.{World};
+ghost use Rattle.node_records.specs.Meaning.{IsMeaningOf};
+ghost use Rattle.node_records.specs.Tables.{config_in};
+ghost use Rattle.node_store.specs.Calls.{calls_of};
+ghost use Rattle.node_store.specs.Tie.{HasMarkFrom, IsPut, IsStoreOf};
+ghost use Rattle.record_types.specs.declared.records.StoreRecord.{StoreRecord};
+ghost use Rattle.seq_reserve.specs.Reserving.{first_word, IsDurable, IsPublished, moving, refilling};
+ghost use Rattle.seq_word.specs.Seen.{fresh};
+ghost use Rattle.seq_word.specs.Word.{seq_of, IsWord};
+ghost use Rattle.store_definitions.specs.Config.{changed, config_of};
+ghost use Rattle.store_definitions.specs.Numbers.{fill_of, moved};
+ghost use Rattle.store_world.specs.Standing.{GoesBy, IsWorldOf};
+
+use crate::keep_fault::KeepFault;
+use crate::putting::put_numbers;
+use crate::records::{fill_record, move_record, raises};
+use flash_model::Flash;
+use mesh_base::iv_state::IvState;
+use node_store::Store;
+use seq_word::{Drawer, Keeper, Numbers};
+use std::alloc::{AllocError, Global};
+
+/// The store of a node, and the seat that moves the mark of its numbers. The flash stays with the caller, and so do the words that the
+/// bearers draw from.
+///
+/// The keeper's mark is the stored one. Through the field `store` no record with a mark is put.
+#[derive(Drop)]
+pub struct Reserve {
+    pub store: Store,
+    pub keeper: Keeper,
+}
+
+impl Reserve {
+    /// Opens the words of a store that was provisioned or mounted: the next number is the stored mark, and so is the mark. No number that
+    /// may have been drawn before is below it. The words come with a first seat that draws. An error says that memory ran out; the store is
+    /// dropped then, and is mounted again.
+    pub fn start(
+        alloc: Global,
+        store: Store,
+    ) -> Result<(Reserve, Numbers, Drawer), AllocError>
+        ensures opened { IfOk result (λ t. t.1.opened ≡ store.persist.mark) }
+        ensures keeper { IfOk result (λ t. t.0.keeper ≡ record { which = t.1.which; mark = store.persist.mark; advances = [] }) }
+        ensures drawer { IfOk result (λ t. t.2 ≡ fresh t.1.which [] 1024) }
+        ensures store { IfOk result (λ t. t.0.store ≡ store) }
+        ensures published { IfOk result (λ t. IsPublished t.0.store t.0.keeper) }
+    {
+        let mark = store.persist().mark;
+        let (numbers, keeper, drawer) = Numbers::start(alloc, mark, mark)?;
+        Ok((Reserve { store, keeper }, numbers, drawer))
+    }
+
+    /// Reserves 256 numbers more where `seen` is the keeper's mark: a mark that much higher becomes durable under the stored IV state, and is
+    /// published only then. Where `seen` is another mark a refill came between, and nothing changes. It answers the keeper's mark.
+    ///
+    /// `n` was made with this reserve, and SEQ of `seen` is below 2^24: else its IV Index has no number left. Of the clauses on content, the
+    /// store is one of this flash.
+    pub fn refill<F: Flash>(
+        &mut self,
+        n: &Numbers,
+        flash: &mut F,
+        seen: u64,
+    ) -> Result<u64, KeepFault>
+        requires made { self.old.keeper.which ≡ n.now.which }
+        requires published { IsPublished self.old.store self.old.keeper }
+        requires unspent { seq_of seen < 2 ^ 24 }
+
+        ensures value { IfOk result (λ mark. mark ≡ self.new.keeper.mark) }
+        ensures nothing { seen ≢ self.old.keeper.mark → (result ≡ Ok self.old.keeper.mark) × (self.new ≡ self.old) × (flash.new ≡ flash.old) }
+        ensures filled { seen ≡ self.old.keeper.mark → OnOk result ((self.new.keeper ≡ record self.old.keeper { mark = seen + 256 }) × (config_in self.new.store.persist ≡ changed (config_in self.old.store.persist) (fill_of (config_in self.old.store.persist)))) }
+        ensures meaning { (records : List StoreRecord) → IsMeaningOf records self.old.store.persist → seen ≡ self.old.keeper.mark → OnOk result (IsMeaningOf (records ++ fill_of (config_of records) ∷ []) self.new.store.persist) }
+        ensures refused { OnErr result ((self.new.keeper ≡ self.old.keeper) × (self.new.store.persist ≡ self.old.store.persist)) }
+        ensures closed { seen ≡ self.old.keeper.mark → self.old.store.journal.closed ≡ true → (result ≡ Err KeepFault.Closed) × (self.new ≡ self.old) × (flash.new ≡ flash.old) }
+        ensures cause { seen ≡ self.old.keeper.mark → self.old.store.journal.closed ≡ false → OnErr result ((result ≡ Err KeepFault.Flash) × (self.new.store.journal.closed ≡ true) × ((F.chip flash.old).faults < (F.chip flash.new).faults)) }
+        ensures steps { (w : World) → IsWorldOf w self.old.store.persist self.old.keeper.mark → seen ≡ self.old.keeper.mark → OnOk result (GoesBy (refilling self.old.store.persist) w self.new.store.persist self.new.keeper.mark) }
+        // for the next call
+        ensures published { IsPublished self.new.store self.new.keeper }
+        ensures made { self.new.keeper.which ≡ self.old.keeper.which }
+
+        // of a store of this flash
+        ensures kept { (records : List StoreRecord) → IsStoreOf (F.chip flash.old) self.old.store records → seen ≡ self.old.keeper.mark → OnOk result (IsStoreOf (F.chip flash.new) self.new.store (records ++ fill_of (config_of records) ∷ [])) }
+        ensures any_moment { (records : List StoreRecord) → IsStoreOf (F.chip flash.old) self.old.store records → LeavesOnly (F.chip flash.old) (F.chip flash.new) (IsPut records (fill_of (config_of records))) }
+        ensures mark { (records : List StoreRecord) → IsStoreOf (F.chip flash.old) self.old.store records → LeavesOnly (F.chip flash.old) (F.chip flash.new) (HasMarkFrom self.old.store.persist.mark) }
+        ensures durable { (records : List StoreRecord) → IsStoreOf (F.chip flash.old) self.old.store records → IsDurable (F.chip flash.new) self.new.keeper.mark }
+
+        // over a steady flash: the calls of one record put, and at most these where it fails; none where nothing changes
+        ensures calls { seen ≡ self.old.keeper.mark → IsTrue (F.chip flash.old).steady → OnOk result (Begins (calls_of self.old.store) (F.chip flash.old) (F.chip flash.new)) }
+        ensures most_calls { IsTrue (F.chip flash.old).steady → BeginsAtMost (calls_of self.old.store) (F.chip flash.old) (F.chip flash.new) }
+
+        // of every flash, honest or not
+        ensures reads { (F.chip flash.new).reads ≡ (F.chip flash.old).reads }
+        ensures no_fault { OnOk result ((F.chip flash.new).faults ≡ (F.chip flash.old).faults) }
+        ensures sure { IsTrue (F.chip flash.old).sure → self.old.store.journal.closed ≡ false → IsOk result }
+        ensures frame { Keeps (F.chip flash.old) (F.chip flash.new) }
+    {
+        let mark = self.store.persist().mark;
+        if seen != mark {
+            return Ok(mark);
+        }
+        let item = fill_record(self.store.persist());
+        put_numbers(&mut self.store, flash, &item)?;
+        let mark = self.store.persist().mark;
+        n.publish(&mut self.keeper, mark);
+        Ok(mark)
+    }
+
+    /// Stores a new IV state. Where its transmit IV Index rises, the first word under it becomes the mark: it is durable, then published, and
+    /// then the counter moves there. Else the mark stays.
+    ///
+    /// `n` was made with this reserve, and neither the known nor the transmit IV Index falls. Of the clauses on content, the store is one of
+    /// this flash.
+    pub fn move_iv<F: Flash>(
+        &mut self,
+        n: &Numbers,
+        flash: &mut F,
+        to: &IvState,
+    ) -> Result<(), KeepFault>
+        requires made { self.old.keeper.which ≡ n.now.which }
+        requires published { IsPublished self.old.store self.old.keeper }
+        requires transmit { HasTransmit to.now }
+        requires current { self.old.store.persist.iv.current ≤ to.now.current }
+        requires rises { transmit_of self.old.store.persist.iv ≤ transmit_of to.now }
+
+        ensures stays { transmit_of self.old.store.persist.iv ≡ transmit_of to.now → self.new.keeper ≡ self.old.keeper }
+        ensures advanced { transmit_of self.old.store.persist.iv < transmit_of to.now → OnOk result ((self.new.keeper.mark ≡ first_word to.now) × ((found : ℕ) × (self.new.keeper.advances ≡ self.old.keeper.advances ++ (found, first_word to.now) ∷ []))) }
+        ensures change { OnOk result (config_in self.new.store.persist ≡ changed (config_in self.old.store.persist) (moved (config_in self.old.store.persist) to.now)) }
+        ensures meaning { (records : List StoreRecord) → IsMeaningOf records self.old.store.persist → OnOk result (IsMeaningOf (records ++ moved (config_of records) to.now ∷ []) self.new.store.persist) }
+        ensures refused { OnErr result ((self.new.keeper ≡ self.old.keeper) × (self.new.store.persist ≡ self.old.store.persist)) }
+        ensures closed { self.old.store.journal.closed ≡ true → (result ≡ Err KeepFault.Closed) × (self.new ≡ self.old) × (flash.new ≡ flash.old) }
+        ensures cause { self.old.store.journal.closed ≡ false → OnErr result ((result ≡ Err KeepFault.Flash) × (self.new.store.journal.closed ≡ true) × ((F.chip flash.old).faults < (F.chip flash.new).faults)) }
+        ensures steps { (w : World) → IsWorldOf w self.old.store.persist self.old.keeper.mark → OnOk result (GoesBy (moving self.old.store.persist to.now) w self.new.store.persist self.new.keeper.mark) }
+        // for the next call
+        ensures published { IsPublished self.new.store self.new.keeper }
+        ensures made { self.new.keeper.which ≡ self.old.keeper.which }
+
+        // of a store of this flash
+        ensures kept { (records : List StoreRecord) → IsStoreOf (F.chip flash.old) self.old.store records → OnOk result (IsStoreOf (F.chip flash.new) self.new.store (records ++ moved (config_of records) to.now ∷ [])) }
+        ensures any_moment { (records : List StoreRecord) → IsStoreOf (F.chip flash.old) self.old.store records → LeavesOnly (F.chip flash.old) (F.chip flash.new) (IsPut records (moved (config_of records) to.now)) }
+        ensures mark { (records : List StoreRecord) → IsStoreOf (F.chip flash.old) self.old.store records → LeavesOnly (F.chip flash.old) (F.chip flash.new) (HasMarkFrom self.old.store.persist.mark) }
+        ensures durable { (records : List StoreRecord) → IsStoreOf (F.chip flash.old) self.old.store records → IsDurable (F.chip flash.new) self.new.keeper.mark }
+
+        // over a steady flash: the calls of one record put, and at most these where it fails
+        ensures calls { IsTrue (F.chip flash.old).steady → OnOk result (Begins (calls_of self.old.store) (F.chip flash.old) (F.chip flash.new)) }
+        ensures most_calls { IsTrue (F.chip flash.old).steady → BeginsAtMost (calls_of self.old.store) (F.chip flash.old) (F.chip flash.new) }
+
+        // of every flash, honest or not
+        ensures reads { (F.chip flash.new).reads ≡ (F.chip flash.old).reads }
+        ensures no_fault { OnOk result ((F.chip flash.new).faults ≡ (F.chip flash.old).faults) }
+        ensures sure { IsTrue (F.chip flash.old).sure → self.old.store.journal.closed ≡ false → IsOk result }
+        ensures frame { Keeps (F.chip flash.old) (F.chip flash.new) }
+    {
+        let rises = raises(self.store.persist(), to);
+        let item = move_record(self.store.persist(), to);
+        put_numbers(&mut self.store, flash, &item)?;
+        let mark = self.store.persist().mark;
+        go_on(n, &mut self.keeper, rises, mark, to.transmit());
+        Ok(())
+    }
+}
+
+/// Where the transmit IV Index rises to `iv`, publishes the mark under it, and then moves the counter there.
+fn go_on(n: &Numbers, keeper: &mut Keeper, rises: bool, mark: u64, iv: u32)
+    requires made { keeper.old.which ≡ n.now.which }
+    requires word { IsWord mark }
+    requires up { keeper.old.mark ≤ mark }
+    requires marked { rises ≡ true → iv * 2 ^ 25 ≤ mark }
+
+    ensures stays { rises ≡ false → keeper.new ≡ keeper.old }
+    ensures published { rises ≡ true → keeper.new.mark ≡ mark }
+    ensures advanced { rises ≡ true → (found : ℕ) × (keeper.new.advances ≡ keeper.old.advances ++ (found, iv * 2 ^ 25) ∷ []) }
+    ensures frame { keeper.new.which ≡ keeper.old.which }
+{
+    if rises {
+        n.publish(keeper, mark);
+        n.advance(keeper, iv);
+    }
+}
