@@ -4,6 +4,8 @@ use Rattle.std.specs.Option.{option_map}
 use Rattle.layer_states.specs.Cache.{last_of}
 use Rattle.layer_states.specs.Reassembly.{PartCall, release, take_part}
 use Rattle.layer_states.specs.declared.reassembly.Assembly.{Assembly}
+use Rattle.layer_states.specs.declared.reassembly.Taken.{Taken}
+use Rattle.layer_states.specs.declared.reassembly.Taken.TheVariants as T
 use Rattle.mesh_base.specs.declared.fields.NetFields.{NetFields}
 use Rattle.mesh_base.specs.declared.lower.Lower.{Lower}
 use Rattle.mesh_base.specs.declared.lower.Lower.TheVariants.{Access, Control, AccessPart, ControlPart}
@@ -12,15 +14,17 @@ use Rattle.mesh_hearing.specs.Tables.{again_names, cache_after, cached_names}
 use Rattle.mesh_hearing.specs.declared.hearing.Hearing.{Hearing}
 use Rattle.mesh_hearing.specs.declared.whole.Judged.{Judged}
 use Rattle.mesh_reading.specs.Held.{opening_of}
+use Rattle.mesh_hearing.specs.Heard.{insight_of}
+use Rattle.mesh_types.specs.declared.events.Event.TheVariants as E
 use Rattle.mesh_types.specs.declared.answers.Answer.{Answer}
 use Rattle.mesh_types.specs.declared.answers.Answer.TheVariants as A
 use Rattle.node_layers.specs.BuiltLayers.{built_layers}
 use Rattle.node_layers.specs.Reassembly.{messages, octets_after, part_heard}
 use Rattle.node_records.specs.Meaning.{IsMeaningOf}
 use Rattle.node_records.specs.declared.persist.Persist.{Persist}
-use Rattle.run_definitions.specs.Answers.{config_before, is_again, is_before_cache, is_mine, is_segment, is_unicast, message_name, name_of, named_answer, opened_answer, replayed, segment_answer, transport_answer, whole_answer}
+use Rattle.run_definitions.specs.Answers.{answer_of, config_before, is_again, is_before_cache, is_mine, is_segment, is_unicast, message_name, name_of, named_answer, opened_answer, replayed, segment_answer, transport_answer, whole_answer}
 use Rattle.run_definitions.specs.History.{Past, Reading, now_of}
-use Rattle.run_definitions.specs.Readings.{IsLowerPdu, IsOpened, IsOpenedFor, IsOpening, IsOpeningOf, fields_heard, keys_tried}
+use Rattle.run_definitions.specs.Readings.{IsLowerPdu, IsOpened, IsOpenedFor, IsOpening, IsOpeningOf, Sees, fields_heard, keys_tried}
 use Rattle.store_definitions.specs.Config.{Config, is_element}
 use Rattle.store_definitions.specs.Entries.{entry_of}
 
@@ -60,6 +64,20 @@ part_answer past r low n = if is_segment low then segment_answer built_layers pa
 abbrev pub taken_calls : ℕ → Config → Reading → Lower → Name → List PartCall
 taken_calls now c r low n = if is_segment low then take_part now (part_heard c r n low) ∷ [] else []
 
+-- what becomes of a segment in the table is the answer to it, if there is one
+abbrev pub taken_answer : Taken → Option Answer
+taken_answer (T.Waiting missing) = Some (A.Waiting missing)
+taken_answer (T.Whole octets) = None
+taken_answer T.Conflict = Some A.Conflict
+taken_answer (T.NoRoom held) = Some (A.NoRoom held)
+
+-- the octets of a message that came in one PDU
+abbrev pub own_octets : Lower → List ℕ
+own_octets (Access akf aid upper) = upper
+own_octets (Control opcode params) = params
+own_octets (AccessPart akf aid szmic seq_zero seg_o seg_n piece) = []
+own_octets (ControlPart opcode seq_zero seg_o seg_n piece) = []
+
 -- the octets of a whole message: of its one PDU, or of all its pieces
 abbrev pub whole_octets : Past → Name → Lower → List ℕ
 whole_octets past n (Access akf aid upper) = upper
@@ -90,6 +108,11 @@ pub record IsWholeAs (past : Past) (r : Reading) (low : Lower) (n : Name) (j : J
 pub record IsNamedAs (past : Past) (r : Reading) (low : Lower) (n : Option Name) (j : Judged) : Type 0 where
   pub opens : IsOpeningOf built_layers past r low n (option_map opening_of j.opened)
   pub answer : j.answer ≡ named_answer built_layers past r low n (option_map opening_of j.opened)
+
+-- from the network layer on
+pub record IsReadAs (past : Past) (octets : List ℕ) (h : Hearing) : Type 0 where
+  pub sees : Sees built_layers past (E.Net octets) (insight_of h)
+  pub answer : h.answer ≡ answer_of built_layers past (E.Net octets) (insight_of h)
 
 -- from the lower transport layer on
 pub record IsTransportAs (past : Past) (r : Reading) (h : Hearing) : Type 0 where

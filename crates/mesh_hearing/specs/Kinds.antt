@@ -12,6 +12,12 @@ is_early A.Cached = true
 is_early A.NotMine = true
 is_early _ = false
 
+-- those that go by names alone
+abbrev pub is_known : Answer → Bool
+is_known A.Again = true
+is_known (A.Replay kept) = true
+is_known _ = false
+
 -- those of a segment of a message that isn't whole by it
 abbrev pub is_of_part : Answer → Bool
 is_of_part (A.NoRoom held) = true

@@ -1,7 +1,6 @@
 -- The tables in memory: what they hold, the entries that they stand for, and what an entry more leaves of them.
 use Rattle.std.specs.Prelude.{◌≡◌, ℕ, if◌then◌else◌, List, [], ◌∷◌, ◌++◌, fold, Option, Some, None}
 use Rattle.std.specs.List.{filter_map}
-use Rattle.std.specs.Option.{option_map_or, option_to_list}
 use Rattle.layer_states.specs.Cache.{last_of, remembered}
 use Rattle.layer_states.specs.Reassembly.{after, is_segment}
 use Rattle.layer_states.specs.declared.reassembly.Assembly.{Assembly}
@@ -51,14 +50,20 @@ pub record AreTablesOf (t : TablesView) (told : List Told) : Type 0 where
 
 -- the message cache with the PDU of an entry, if it gets into it
 abbrev pub cache_after : List Name → Option Name → List Name
-cache_after names name = option_map_or (remembered names) name names
+cache_after names None = names
+cache_after names (Some n) = remembered names n
+
+-- the names accepted from segments with that of an entry, if it has one
+abbrev pub again_after : List Name → Option Name → List Name
+again_after names None = names
+again_after names (Some n) = names ++ n ∷ []
 
 -- What an entry leaves, where the records before it say `c`: nothing changes but by a PDU that was read, and by time that passed.
 abbrev pub tables_after : TablesView → Config → Insight → Answer → TablesView
 tables_after t c insight answer = record t {
   cache = cache_after t.cache (cached_name insight (is_before_cache answer));
   parts = fold after t.parts (message_calls t.now c insight answer ++ tick_calls answer);
-  again = t.again ++ option_to_list (again_name insight answer);
+  again = again_after t.again (again_name insight answer);
   now = ticks_after t.now answer;
 }
 

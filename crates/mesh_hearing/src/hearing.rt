@@ -1,19 +1,20 @@
 //! A network PDU heard: from its octets to the answer, and what the tables become.
 #![tactic(auto)]
 
-ghost use Rattle.std.specs.Prelude.{◌≡◌, ◌≤◌, ◌<◌, ◌^◌, ◌++◌, ◌∷◌, [], ℕ, true, false, List, Some, None, fold, IfOk, OnOk, OnErr, vec_len, vec_capacity};
-ghost use Rattle.std.specs.Option.{option_to_list};
+ghost use Rattle.std.specs.Prelude.{◌≡◌, ◌≤◌, ◌<◌, ◌^◌, ◌++◌, true, false, IsFalse, Some, None, fold, IfOk, OnErr, vec_len, vec_capacity};
+ghost use Rattle.layer_states.specs.Cache.{last_of};
 ghost use Rattle.layer_states.specs.Reassembly.{after};
-ghost use Rattle.mesh_base.specs.declared.pair.Name.{Name};
-ghost use Rattle.mesh_hearing.specs.Below.{IsTransportAs, StandsBelow};
+ghost use Rattle.mesh_hearing.specs.Below.{IsReadAs, IsTransportAs, StandsBelow};
 ghost use Rattle.mesh_hearing.specs.Heard.{insight_of, IsHeard};
 ghost use Rattle.mesh_hearing.specs.Kinds.{is_late};
-ghost use Rattle.mesh_hearing.specs.Tables.{again_name, AreTablesOf, IsFit};
+ghost use Rattle.mesh_hearing.specs.Tables.{again_after, cache_after, cached_names, AreTablesOf, IsFit};
 ghost use Rattle.mesh_reading.specs.Held.{held_in, reading_of};
-ghost use Rattle.node_layers.specs.Reassembly.{message_calls};
+ghost use Rattle.node_layers.specs.Reassembly.{message_calls, tick_calls};
 ghost use Rattle.node_records.specs.Meaning.{IsMeaningOf};
 ghost use Rattle.node_records.specs.Tables.{config_in};
-ghost use Rattle.run_definitions.specs.History.{Past};
+ghost use Rattle.mesh_types.specs.declared.answers.Answer.TheVariants as A;
+ghost use Rattle.run_definitions.specs.Answers.{cached_name, is_before_cache};
+ghost use Rattle.run_definitions.specs.History.{Past, ticks_after};
 
 use crate::lower::{accepted_part, hear_low};
 use crate::network::network_row;
@@ -23,6 +24,7 @@ use mesh_base::pair::Name;
 use mesh_reading::{Keys, NetReading, Opened};
 use mesh_types::answers::Answer;
 use node_records::Persist;
+use relay_cache::Cache;
 use segment_reassembly::Parts;
 use std::alloc::AllocError;
 
@@ -43,7 +45,7 @@ pub struct Hearing {
 
 // After a Node Reset.
 fn unheard() -> Hearing
-    ensures { result ≡ record { reset = true; reading = None; low = None; opened = None; answer = Rattle.mesh_types.specs.declared.answers.Answer.TheVariants.Reset } }
+    ensures { result ≡ record { reset = true; reading = None; low = None; opened = None; answer = A.Reset } }
 {
     Hearing {
         reset: true,
@@ -102,26 +104,43 @@ fn hear_transport(
 // Puts a name, if there is one, behind the others, for which there is room.
 fn push_reserved(names: &mut Vec<Name>, name: Option<Name>)
     requires { vec_len names.old < vec_capacity names.old }
-    ensures { names.new.items ≡ names.old.items ++ option_to_list name }
+    ensures { names.new.items ≡ again_after names.old.items name }
 {
     if let Some(name) = name {
         let _ = names.push(name);
     }
 }
 
-impl Tables {
-    // What is heard of octets, and what becomes of the message cache and the messages in progress.
-    fn hear_octets(&mut self, p: &Persist, octets: &[u8]) -> Result<Hearing, AllocError>
-    {
-        let Some(reading) = self.keys.read(p.iv.current, octets) else {
-            return Ok(early(None, Answer::Unread))
-        };
-        match network_row(&self.keys, p, &mut self.cache, &reading)? {
-            Some(answer) => Ok(early(Some(reading), answer)),
-            None => Ok(hear_transport(&self.keys, p, self.again.as_slice(), &mut self.parts, self.now, reading)),
-        }
+// What is heard of octets, and what becomes of the message cache and of the messages in progress.
+fn hear_octets(
+    keys: &Keys,
+    p: &Persist,
+    cache: &mut Cache,
+    parts: &mut Parts,
+    again: &[Name],
+    now: u64,
+    octets: &[u8],
+) -> Result<Hearing, AllocError>
+    requires fit { keys.now ≡ held_in (config_in p.now) }
+    requires time { now ≤ 2 ^ 48 }
+    ensures heard { (past : Past) → IsFalse p.now.reset → cache.old ≡ last_of 128 (cached_names past.told) → StandsBelow past p.now parts.old again.now now
+        → IfOk result (IsReadAs past octets.now) }
+    ensures reset { IfOk result (λ h. h.reset ≡ false) }
+    ensures cache { IfOk result (λ h. cache.new ≡ cache_after cache.old (cached_name (insight_of h) (is_before_cache h.answer))) }
+    ensures parts { IfOk result (λ h. parts.new ≡ fold after parts.old (message_calls now (config_in p.now) (insight_of h) h.answer ++ tick_calls h.answer)) }
+    ensures time { IfOk result (λ h. ticks_after now h.answer ≡ now) }
+    ensures unchanged { OnErr result ((cache.new ≡ cache.old) × (parts.new ≡ parts.old)) }
+{
+    let Some(reading) = keys.read(p.iv.current, octets) else {
+        return Ok(early(None, Answer::Unread))
+    };
+    match network_row(keys, p, cache, &reading)? {
+        Some(answer) => Ok(early(Some(reading), answer)),
+        None => Ok(hear_transport(keys, p, again, parts, now, reading)),
     }
+}
 
+impl Tables {
     /// What a node with a store of this value answers to octets heard as a network PDU, and what its tables become. The error is for want
     /// of memory, and then nothing changes.
     pub fn hear(&mut self, p: &Persist, octets: &[u8]) -> Result<Hearing, AllocError>
@@ -134,7 +153,15 @@ impl Tables {
             return Ok(unheard());
         }
         self.again.reserve(1)?;
-        let hearing = self.hear_octets(p, octets)?;
+        let hearing = hear_octets(
+            &self.keys,
+            p,
+            &mut self.cache,
+            &mut self.parts,
+            self.again.as_slice(),
+            self.now,
+            octets,
+        )?;
         push_reserved(&mut self.again, accepted_part(&hearing));
         Ok(hearing)
     }

@@ -1,24 +1,28 @@
 //! The answers of the lower transport layer (Mesh Profile 1.0.1, section 3.5.3).
 #![tactic(auto)]
 
-ghost use Rattle.std.specs.Prelude.{◌≡◌, ◌≤◌, ◌^◌, ◌++◌, ◌∷◌, [], ℕ, true, false, IsTrue, IsFalse, List, Some, None, fold, length, IfOk, IfErr, OnErr, IfSome};
+ghost use Rattle.std.specs.Prelude.{◌≡◌, ◌≤◌, ◌^◌, true, IsTrue, List, Some, fold, length, IfOk, IfErr, OnErr, IfSome, MatchResult};
 ghost use Rattle.std.specs.List.{list_any};
 ghost use Rattle.std.specs.Option.{option_map};
 ghost use Rattle.layer_definitions.specs.Lower.{Fits, is_control};
 ghost use Rattle.layer_states.specs.Names.{is_name as is_name_in};
-ghost use Rattle.layer_states.specs.Reassembly.{after};
+ghost use Rattle.layer_states.specs.Reassembly.{after, is_segment as is_segment_of};
+ghost use Rattle.layer_states.specs.declared.reassembly.Taken.TheVariants as T;
 ghost use Rattle.mesh_base.specs.declared.pair.Name.{Name as NameIn};
 ghost use Rattle.mesh_base.specs.declared.pair.Pair.{Pair as PairIn};
-ghost use Rattle.mesh_hearing.specs.Below.{known_answer, taken_calls, IsNamedAs, IsTakenAs, StandsBelow};
+ghost use Rattle.mesh_hearing.specs.Below.{known_answer, own_octets, taken_answer, taken_calls, IsNamedAs, IsTakenAs, StandsBelow};
 ghost use Rattle.mesh_hearing.specs.Heard.{insight_of};
-ghost use Rattle.mesh_hearing.specs.Kinds.{is_late, is_of_part};
-ghost use Rattle.mesh_hearing.specs.Tables.{again_name};
+ghost use Rattle.mesh_hearing.specs.Kinds.{is_known, is_late, is_of_part};
+ghost use Rattle.mesh_hearing.specs.Tables.{again_name, again_names};
 ghost use Rattle.mesh_reading.specs.Held.{held_in, reading_of};
+ghost use Rattle.mesh_types.specs.declared.answers.Answer.TheVariants as A;
 ghost use Rattle.node_layers.specs.Reassembly.{named_calls, part_heard as part_heard_in};
 ghost use Rattle.node_records.specs.Tables.{config_in, entry_in};
-ghost use Rattle.run_definitions.specs.Answers.{is_entry as is_entry_in, is_segment as is_segment_in, message_name as message_name_in};
+ghost use Rattle.run_definitions.specs.Answers.{is_again as is_again_in, is_entry as is_entry_in, is_segment as is_segment_in, message_name as message_name_in, message_pair as message_pair_in, replayed as replayed_in};
 ghost use Rattle.run_definitions.specs.History.{Past};
+ghost use Rattle.run_definitions.specs.Jobs.{reply_ttl as reply_ttl_in};
 ghost use Rattle.run_definitions.specs.Uses.{accepted as accepted_in};
+ghost use Rattle.store_definitions.specs.Entries.{entry_of};
 
 use crate::hearing::Hearing;
 use crate::whole::{Judged, judge_whole};
@@ -33,14 +37,15 @@ use segment_reassembly::{PartHeard, Parts, Taken};
 
 // Whether a lower transport PDU is a segment.
 fn is_segment(low: &Lower) -> bool
-    ensures { result ≡ is_segment_in low.now }
+    ensures value { result ≡ is_segment_in low.now }
+    ensures same { result ≡ is_segment_of low.now }
 {
     matches!(low, Lower::AccessPart { .. } | Lower::ControlPart { .. })
 }
 
 // The pair that names a message, if there is one: that of its PDU, or SeqAuth.
 fn message_pair(f: &NetFields, low: &Lower) -> Option<Pair>
-    ensures { result ≡ Rattle.run_definitions.specs.Answers.message_pair f.now low.now }
+    ensures { result ≡ message_pair_in f.now low.now }
 {
     let pair = Pair {
         iv: f.iv,
@@ -88,15 +93,15 @@ fn has_name(names: &[Name], name: &Name) -> bool
 
 // Whether a message of this name was accepted from segments: then its pair is the entry of its source.
 fn is_again(again: &[Name], kept: Option<Pair>, name: &Name) -> bool
-    ensures { (past : Past) → kept ≡ Rattle.store_definitions.specs.Entries.entry_of past.records name.now.src.0 → again.now ≡ Rattle.mesh_hearing.specs.Tables.again_names past.told
-        → result ≡ Rattle.run_definitions.specs.Answers.is_again past name.now }
+    ensures { (past : Past) → kept ≡ entry_of past.records name.now.src.0 → again.now ≡ again_names past.told
+        → result ≡ is_again_in past name.now }
 {
     is_entry(kept, name.pair) && has_name(again, name)
 }
 
 // The entry of the source of a message that isn't newer than it, if there is one.
 fn replayed(kept: Option<Pair>, pair: Pair) -> Option<Pair>
-    ensures { Rattle.run_definitions.specs.Answers.replayed kept pair ≡ option_map (λ (k : PairIn). Rattle.mesh_types.specs.declared.answers.Answer.TheVariants.Replay k) result }
+    ensures { replayed_in kept pair ≡ option_map (λ (k : PairIn). A.Replay k) result }
 {
     match kept {
         Some(kept) if pair <= kept => Some(kept),
@@ -106,10 +111,9 @@ fn replayed(kept: Option<Pair>, pair: Pair) -> Option<Pair>
 
 // The answer that goes by names alone, if there is one.
 fn known_row(again: &[Name], kept: Option<Pair>, low: &Lower, name: &Name) -> Option<Answer>
-    ensures value { (past : Past) → kept ≡ Rattle.store_definitions.specs.Entries.entry_of past.records name.now.src.0 → again.now ≡ Rattle.mesh_hearing.specs.Tables.again_names past.told
+    ensures value { (past : Past) → kept ≡ entry_of past.records name.now.src.0 → again.now ≡ again_names past.told
         → result ≡ known_answer past low.now name.now }
-    ensures late { IfSome result (λ a. is_late a ≡ true) }
-    ensures calls { (now : ℕ) → IfSome result (λ a. (c : Rattle.store_definitions.specs.Config.Config) (r : Rattle.run_definitions.specs.History.Reading) → named_calls now c r low.now a (Some name.now) ≡ []) }
+    ensures known { IfSome result (λ a. is_known a ≡ true) }
 {
     if is_segment(low) && is_again(again, kept, name) {
         return Some(Answer::Again);
@@ -136,13 +140,15 @@ fn part_heard(p: &Persist, r: &NetReading, name: &Name, low: &Lower) -> PartHear
 
 // TTL of a reply to what was heard with this TTL.
 fn reply_ttl(p: &Persist, heard: u8) -> u8
-    ensures { result ≡ Rattle.run_definitions.specs.Jobs.reply_ttl (config_in p.now) heard }
+    ensures { result ≡ reply_ttl_in (config_in p.now) heard }
 {
     if heard == 0 { 0 } else { p.ttl }
 }
 
 // The octets of a message that came in one PDU.
 fn octets_of(low: &Lower) -> Octets<384>
+    ensures value { result ≡ own_octets low.now }
+    ensures few { length result ≤ 15 }
 {
     let mut octets = Octets::new();
     match low {
@@ -155,6 +161,8 @@ fn octets_of(low: &Lower) -> Octets<384>
 
 // The octets of a message that is whole by a segment, or the answer.
 fn outcome(taken: Taken) -> Result<Octets<384>, Answer>
+    ensures value { MatchResult result (λ octets. taken ≡ T.Whole octets) (λ a. taken_answer taken ≡ Some a) }
+    ensures part { IfErr result (λ a. is_of_part a ≡ true) }
 {
     match taken {
         Taken::Whole(octets) => Ok(octets),

@@ -6,6 +6,7 @@ ghost use Rattle.layer_definitions.specs.Lower.{is_control};
 ghost use Rattle.mesh_hearing.specs.Below.{whole_octets, IsAccessAs, IsWholeAs};
 ghost use Rattle.mesh_hearing.specs.Kinds.{is_of_whole};
 ghost use Rattle.mesh_reading.specs.Held.{held_in, reading_of};
+ghost use Rattle.mesh_types.specs.declared.answers.Answer.TheVariants as A;
 ghost use Rattle.node_records.specs.Meaning.{IsMeaningOf};
 ghost use Rattle.node_records.specs.Tables.{config_in, entry_in};
 ghost use Rattle.run_definitions.specs.Answers.{placed_answer};
@@ -103,7 +104,7 @@ fn judge_control(
     requires kept { kept ≡ entry_in p.now name.now.src.0 }
     requires most { length octets.now ≤ 256 }
     ensures value { (past : Past) → IsMeaningOf past.records p.now
-        → result ≡ placed_answer past name.now (Rattle.mesh_types.specs.declared.answers.Answer.TheVariants.Control name.now r.now.fields.dst opcode octets.now) }
+        → result ≡ placed_answer past name.now (A.Control name.now r.now.fields.dst opcode octets.now) }
     ensures whole { is_of_whole result ≡ true }
 {
     let mut params = Octets::new();

@@ -1,11 +1,13 @@
 //! Labels with their virtual addresses, which are derived once.
 #![tactic(auto)]
 
-ghost use Rattle.std.specs.Prelude.{◌≡◌, ◌<◌, ◌≤◌, ◌↔◌, ◌++◌, ◌∷◌, [], length, IsErr, IsNone, IfOk, IfSome};
+ghost use Rattle.std.specs.Prelude.{◌≡◌, ◌==◌, ◌<◌, ◌≤◌, ◌↔◌, ◌++◌, ◌∷◌, [], length, IsErr, IsNone, IfOk, IfSome};
+ghost use Rattle.std.specs.List.{list_any};
 ghost use Rattle.cipher_definitions.specs.Kdf.{virtual_address};
 ghost use Rattle.kept_keys.specs.Bound.{fitting_keys};
 ghost use Rattle.layer_definitions.specs.Labels.{IsLabelUnopened, OpensLabel, with_label};
 ghost use Rattle.layer_definitions.specs.Upper.{IsUnopened, Opens};
+ghost use Rattle.mesh_base.specs.declared.address.Address.{Address as AddressIn};
 ghost use Rattle.virtual_labels.specs.Addresses.{has_address};
 
 use crate::opening::{LabelOpened, NoLabel, with};
@@ -33,6 +35,13 @@ impl Model for Labels {
     ghost view = { λ l. l.labels };
 
     ghost invariant = { λ l. l.addresses ≡ addresses_of l.labels };
+}
+
+// Whether an address is among these.
+fn is_among(addresses: &[Address], address: Address) -> bool
+    ensures { result ≡ list_any (λ (a : AddressIn). a.0 == address.0) addresses.now }
+{
+    addresses.iter().any(|a| a.0 == address.0)
 }
 
 // What the octets open to with this label, of which this is the address, if it is DST.
@@ -94,7 +103,7 @@ impl Labels {
     pub fn has(&self, address: Address) -> bool
         ensures value { result ≡ has_address self.now address }
     {
-        self.addresses.as_slice().iter().any(|a| a.0 == address.0)
+        is_among(self.addresses.as_slice(), address)
     }
 
     /// The first of the labels with DST as its address, and with it the first of those kept application keys that are bound to the network
