@@ -11,11 +11,11 @@ use Rattle.mesh_base.specs.declared.fields.NetFields.{NetFields}
 use Rattle.mesh_base.specs.declared.lower.Lower.{Lower}
 use Rattle.mesh_base.specs.declared.pair.Name.{Name}
 use Rattle.mesh_hearing.proofs.Entries.{goes_on}
-use Rattle.mesh_hearing.proofs.Kinds.{early_now, early_ticks, late_cached, late_now, late_ticks}
+use Rattle.mesh_hearing.proofs.Groups.{early_now, early_ticks, late_cached, late_now, late_ticks}
 use Rattle.mesh_hearing.specs.Below.{IsNamedAs, IsReadAs, IsTransportAs, cache_after_row}
 use Rattle.mesh_hearing.specs.Heard.{insight_of}
 use Rattle.mesh_hearing.specs.Kinds.{is_early, is_late}
-use Rattle.mesh_hearing.specs.Tables.{AreTablesOf, TablesView, again_after, again_name, cache_after, tables_after}
+use Rattle.mesh_hearing.specs.Tables.{AreTablesOf, TablesView, again_after, cache_after, tables_after}
 use Rattle.mesh_hearing.specs.declared.hearing.Hearing.{Hearing}
 use Rattle.mesh_hearing.specs.declared.whole.Judged.{Judged}
 use Rattle.mesh_reading.specs.Held.{held_in, opening_of, reading_of}
@@ -26,6 +26,7 @@ use Rattle.mesh_types.specs.declared.events.Event.TheVariants as E
 use Rattle.network_layer.specs.declared.reading.NetReading.{NetReading}
 use Rattle.node_layers.specs.BuiltLayers.{built_layers}
 use Rattle.node_layers.specs.Reassembly.{message_calls, tick_calls}
+use Rattle.node_layers.specs.Steps.{segmented_name}
 use Rattle.node_records.specs.Meaning.{IsMeaningOf}
 use Rattle.node_records.specs.Tables.{config_in}
 use Rattle.node_records.specs.declared.persist.Persist.{Persist}
@@ -155,10 +156,10 @@ parts_late parts new now c i a late e =
 pub tables_more : (told : List Told) (t u : TablesView) (e : Told) (i : Insight) (a : Answer) (c : Config) → AreTablesOf t told
     → e.insight ≡ i → e.entry.answer ≡ a → config_of e.records ≡ c
     → u.cache ≡ cache_after t.cache (cached_name i (is_before_cache a))
-    → u.parts ≡ fold after t.parts (message_calls t.now c i a ++ tick_calls a)
-    → u.again ≡ again_after t.again (again_name i a) → u.now ≡ ticks_after t.now a → AreTablesOf u (told ++ e ∷ [])
+    → u.parts ≡ fold after t.parts (message_calls t.ticks c i a ++ tick_calls a)
+    → u.again ≡ again_after t.again (segmented_name i a) → u.ticks ≡ ticks_after t.ticks a → AreTablesOf u (told ++ e ∷ [])
 tables_more told t u e i a c h ei ea ec cache parts again now =
     let by_insight = subst (λ x. AreTablesOf (tables_after t (config_of e.records) x e.entry.answer) (told ++ e ∷ [])) ei (goes_on t told e h) in
     let by_answer = subst (λ x. AreTablesOf (tables_after t (config_of e.records) i x) (told ++ e ∷ [])) ea by_insight in
     let more = subst (λ x. AreTablesOf (tables_after t x i a) (told ++ e ∷ [])) ec by_answer in
-    record { cache = cache ∙ more.cache; parts = parts ∙ more.parts; again = again ∙ more.again; now = now ∙ more.now }
+    record { cache = cache ∙ more.cache; parts = parts ∙ more.parts; again = again ∙ more.again; ticks = now ∙ more.ticks }

@@ -1,7 +1,7 @@
-mod Kinds
+mod Groups
 mod Entries
-mod Segments
 mod Rows
 mod Named
 mod Messages
 mod Heard
+mod Passing

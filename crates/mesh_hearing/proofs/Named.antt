@@ -3,8 +3,6 @@ use Rattle.std.proofs.Common.{◌≡◌, ℕ, ◌≤◌, Bool, true, false, cond
 use Rattle.std.specs.Prelude.{IsTrue, IsFalse, MatchOption, fold, unwrap_or}
 use Rattle.std.specs.List.{filter_map, list_any}
 use Rattle.std.specs.Option.{option_map, option_or, option_to_list}
-use Rattle.std.proofs.lemmas.List.Elements.{filter_map-append}
-use Rattle.std.proofs.lemmas.List.Folds.{list_any-append}
 use Rattle.layer_definitions.specs.Lower.{is_control}
 use Rattle.layer_states.specs.Names.{is_name}
 use Rattle.layer_states.specs.Reassembly.{PartCall, after, form_of, release, take_part}
@@ -14,16 +12,17 @@ use Rattle.layer_states.specs.declared.reassembly.Taken.TheVariants as T
 use Rattle.mesh_base.specs.declared.lower.Lower.{Lower}
 use Rattle.mesh_base.specs.declared.lower.Lower.TheVariants.{Access, Control, AccessPart, ControlPart}
 use Rattle.mesh_base.specs.declared.pair.Name.{Name}
-use Rattle.mesh_hearing.proofs.Entries.{picked}
-use Rattle.mesh_hearing.proofs.Kinds.{known_parts, known_whole, part_takes, whole_releases, whole_takes}
-use Rattle.mesh_hearing.proofs.Segments.{segment_is, taken_after, whole_is}
-use Rattle.mesh_hearing.specs.Below.{IsNamedAs, IsTakenAs, IsWholeAs, StandsBelow, known_answer, own_octets, part_answer, taken_answer, taken_calls, whole_octets}
+use Rattle.mesh_hearing.proofs.Groups.{known_parts, known_whole, part_takes, whole_releases, whole_takes}
+use Rattle.mesh_hearing.specs.Below.{IsNamedAs, IsTakenAs, IsWholeAs, StandsBelow, known_answer, own_octets, part_answer, taken_calls, whole_octets}
 use Rattle.mesh_hearing.specs.Kinds.{is_known, is_of_part, is_of_whole}
-use Rattle.mesh_hearing.specs.Tables.{again_name, again_names}
 use Rattle.mesh_hearing.specs.declared.whole.Judged.{Judged}
 use Rattle.mesh_reading.specs.Held.{opening_of}
 use Rattle.mesh_types.specs.declared.answers.Answer.{Answer}
 use Rattle.mesh_types.specs.declared.answers.Answer.TheVariants as A
+use Rattle.node_layers.proofs.Segments.{built_answers, built_whole}
+use Rattle.node_layers.proofs.Steps.{segmented_is_any}
+use Rattle.node_layers.specs.Segments.{segment_taken, taken_answer}
+use Rattle.node_layers.specs.Steps.{segmented_names}
 use Rattle.node_layers.specs.BuiltLayers.{built_layers}
 use Rattle.node_layers.specs.Reassembly.{messages, named_calls, octets_after, part_heard}
 use Rattle.node_records.specs.Tables.{config_in}
@@ -36,35 +35,11 @@ use Rattle.store_definitions.specs.Entries.{entry_of}
 
 -- Names accepted from segments.
 
--- an entry accepted this name from segments where its name is this one
-again_here : (n : Name) (i : Insight) (a : Answer) → is_accepted_segmented n i a ≡ list_any (is_name n) (option_to_list (again_name i a))
-again_here n (OfPdu reading (Some (Access akf aid upper)) opening) a = refl
-again_here n (OfPdu reading (Some (Control opcode params)) opening) a = refl
-again_here n (OfPdu reading (Some (AccessPart akf aid szmic seq_zero seg_o seg_n piece)) opening) a = refl
-again_here n (OfPdu reading (Some (ControlPart opcode seq_zero seg_o seg_n piece)) opening) a = refl
-again_here n (OfPdu reading None opening) a = refl
-again_here n (OfBeacon b) a = refl
-again_here n OfNothing a = refl
-
-any_picked : {X Y : Type 0} (f : X → Option Y) (p : Y → Bool) (x : X) (xs : List X)
-    → list_any p (filter_map f (x ∷ xs)) ≡ (list_any p (option_to_list (f x)) || list_any p (filter_map f xs))
-any_picked f p x xs =
-    ap (λ ys. list_any p ys) (filter_map-append f (x ∷ []) xs) ∙ list_any-append p (filter_map f (x ∷ [])) (filter_map f xs)
-    ∙ ap (λ ys. list_any p ys || list_any p (filter_map f xs)) (picked f x (f x) refl)
-
-any_again : (n : Name) (told : List Told)
-    → list_any (is_name n) (again_names told) ≡ list_any (λ (t : Told). is_accepted_segmented n t.insight t.entry.answer) told
-any_again n [] = refl
-any_again n (t ∷ ts) =
-    any_picked (λ (t : Told). again_name t.insight t.entry.answer) (is_name n) t ts
-    ∙ ap (λ b. b || list_any (is_name n) (again_names ts)) (sym (again_here n t.insight t.entry.answer))
-    ∙ ap (λ b. is_accepted_segmented n t.insight t.entry.answer || b) (any_again n ts)
-
 pub again_is : (past : Past) (n : Name) (entry has : Bool) (again : List Name) → entry ≡ is_entry (entry_of past.records n.src.0) n.pair
-    → again ≡ again_names past.told → has ≡ list_any (is_name n) again → (entry && has) ≡ is_again past n
+    → again ≡ segmented_names past.told → has ≡ list_any (is_name n) again → (entry && has) ≡ is_again past n
 again_is past n entry has again e g h =
     ap (λ b. b && has) e
-    ∙ ap (λ b. is_entry (entry_of past.records n.src.0) n.pair && b) (h ∙ ap (λ ns. list_any (is_name n) ns) g ∙ any_again n past.told)
+    ∙ ap (λ b. is_entry (entry_of past.records n.src.0) n.pair && b) (h ∙ ap (λ ns. list_any (is_name n) ns) g ∙ sym (segmented_is_any past.told n))
 
 -- The calls on the table of messages in progress.
 
@@ -115,8 +90,8 @@ alone past r (Control opcode params) n e = (refl, refl)
 alone past r (AccessPart akf aid szmic seq_zero seg_o seg_n piece) n e = absurd cc
 alone past r (ControlPart opcode seq_zero seg_o seg_n piece) n e = absurd cc
 
-of_segment : (past : Past) (r : Reading) (low : Lower) (n : Name) → is_segment low ≡ true → part_answer past r low n ≡ taken_answer (taken_after past r n low)
-of_segment past r low n e = ap (λ b. cond b (segment_answer built_layers past r low n) None) e ∙ segment_is past r low n
+of_segment : (past : Past) (r : Reading) (low : Lower) (n : Name) → is_segment low ≡ true → part_answer past r low n ≡ taken_answer (segment_taken past r n low)
+of_segment past r low n e = ap (λ b. cond b (segment_answer built_layers past r low n) None) e ∙ built_answers past r n low
 
 whole_of_segment : (past : Past) (low : Lower) (n : Name) (octets : List ℕ) → is_segment low ≡ true → octets ≡ octets_after past n low
     → octets ≡ whole_octets past n low
@@ -128,18 +103,18 @@ whole_of_segment past (ControlPart opcode seq_zero seg_o seg_n piece) n octets s
 -- what the table says of a segment is what becomes of it after the past
 pub taken_is : (past : Past) (p : Persist) (parts : List Assembly) (again : List Name) (now : ℕ) (r : Reading) (low : Lower) (n : Name)
     → StandsBelow past p parts again now
-    → state.taken (state.live now parts) now (part_heard (config_in p) r n low) ≡ taken_after past r n low
+    → state.taken (state.live now parts) now (part_heard (config_in p) r n low) ≡ segment_taken past r n low
 taken_is past p parts again now r low n h =
     ap (λ c. state.taken (state.live now parts) now (part_heard c r n low)) h.meaning.config
     ∙ ap (λ ps. state.taken (state.live now ps) now (part_heard (config_before past) r n low)) h.parts
     ∙ ap (λ k. state.taken (state.live k (messages past)) k (part_heard (config_before past) r n low)) h.now
 
 pub taken_whole : (past : Past) (r : Reading) (low : Lower) (n : Name) (octets : List ℕ) → is_segment low ≡ true
-    → taken_after past r n low ≡ T.Whole octets → (part_answer past r low n ≡ None) × (octets ≡ whole_octets past n low)
-taken_whole past r low n octets s e = (of_segment past r low n s ∙ ap taken_answer e, whole_of_segment past low n octets s (whole_is past r low n octets e))
+    → segment_taken past r n low ≡ T.Whole octets → (part_answer past r low n ≡ None) × (octets ≡ whole_octets past n low)
+taken_whole past r low n octets s e = (of_segment past r low n s ∙ ap taken_answer e, whole_of_segment past low n octets s (sym (built_whole past r n low octets e)))
 
 pub taken_answered : (past : Past) (r : Reading) (low : Lower) (n : Name) (a : Answer) → is_segment low ≡ true
-    → taken_answer (taken_after past r n low) ≡ Some a → part_answer past r low n ≡ Some a
+    → taken_answer (segment_taken past r n low) ≡ Some a → part_answer past r low n ≡ Some a
 taken_answered past r low n a s e = of_segment past r low n s ∙ e
 
 -- The answer to a message with a name.

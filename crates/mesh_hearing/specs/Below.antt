@@ -1,16 +1,16 @@
 -- The answers to a network PDU layer by layer, and what the tables stand for there.
-use Rattle.std.specs.Prelude.{◌≡◌, ℕ, ◌&&◌, ◌==◌, ◌||◌, not, Bool, if◌then◌else◌, List, [], ◌∷◌, Option, Some, None, Result, MatchResult}
+use Rattle.std.specs.Prelude.{◌≡◌, ℕ, ◌&&◌, ◌==◌, ◌||◌, not, Bool, false, is_some, if◌then◌else◌, List, [], ◌∷◌, Option, Some, None, Result, MatchResult}
 use Rattle.std.specs.Option.{option_map}
-use Rattle.layer_states.specs.Cache.{last_of}
-use Rattle.layer_states.specs.Reassembly.{PartCall, release, take_part}
+use Rattle.layer_definitions.specs.IvIndex.{iv_next}
+use Rattle.layer_definitions.specs.KeyRefresh.{net_row}
+use Rattle.layer_states.specs.Reassembly.{PartCall, take_part}
 use Rattle.layer_states.specs.declared.reassembly.Assembly.{Assembly}
-use Rattle.layer_states.specs.declared.reassembly.Taken.{Taken}
-use Rattle.layer_states.specs.declared.reassembly.Taken.TheVariants as T
+use Rattle.mesh_base.specs.declared.beacon.Beacon.{Beacon}
 use Rattle.mesh_base.specs.declared.fields.NetFields.{NetFields}
 use Rattle.mesh_base.specs.declared.lower.Lower.{Lower}
 use Rattle.mesh_base.specs.declared.lower.Lower.TheVariants.{Access, Control, AccessPart, ControlPart}
 use Rattle.mesh_base.specs.declared.pair.Name.{Name}
-use Rattle.mesh_hearing.specs.Tables.{again_names, cache_after, cached_names}
+use Rattle.mesh_hearing.specs.Tables.{cache_after}
 use Rattle.mesh_hearing.specs.declared.hearing.Hearing.{Hearing}
 use Rattle.mesh_hearing.specs.declared.whole.Judged.{Judged}
 use Rattle.mesh_reading.specs.Held.{opening_of}
@@ -20,9 +20,10 @@ use Rattle.mesh_types.specs.declared.answers.Answer.{Answer}
 use Rattle.mesh_types.specs.declared.answers.Answer.TheVariants as A
 use Rattle.node_layers.specs.BuiltLayers.{built_layers}
 use Rattle.node_layers.specs.Reassembly.{messages, octets_after, part_heard}
+use Rattle.node_layers.specs.Steps.{segmented_names}
 use Rattle.node_records.specs.Meaning.{IsMeaningOf}
 use Rattle.node_records.specs.declared.persist.Persist.{Persist}
-use Rattle.run_definitions.specs.Answers.{answer_of, config_before, is_again, is_before_cache, is_mine, is_segment, is_unicast, message_name, name_of, named_answer, opened_answer, replayed, segment_answer, transport_answer, whole_answer}
+use Rattle.run_definitions.specs.Answers.{answer_of, config_before, is_again, is_before_cache, is_mine, is_segment, is_unicast, key_step, message_name, name_of, named_answer, opened_answer, replayed, segment_answer, transport_answer, whole_answer}
 use Rattle.run_definitions.specs.History.{Past, Reading, now_of}
 use Rattle.run_definitions.specs.Readings.{IsLowerPdu, IsOpened, IsOpenedFor, IsOpening, IsOpeningOf, Sees, fields_heard, keys_tried}
 use Rattle.store_definitions.specs.Config.{Config, is_element}
@@ -45,11 +46,11 @@ cache_after_row names f (Some answer) = cache_after names (if is_before_cache an
 -- The lower transport layer.
 
 -- What stands before a PDU there: the store's value, the messages in progress, the names accepted from segments, and the time.
-pub record StandsBelow (past : Past) (p : Persist) (parts : List Assembly) (again : List Name) (now : ℕ) : Type 0 where
+pub record StandsBelow (past : Past) (p : Persist) (rows : List Assembly) (names : List Name) (ticks : ℕ) : Type 0 where
   pub meaning : IsMeaningOf past.records p
-  pub parts : parts ≡ messages past
-  pub again : again ≡ again_names past.told
-  pub now : now ≡ now_of past.told
+  pub parts : rows ≡ messages past
+  pub again : names ≡ segmented_names past.told
+  pub now : ticks ≡ now_of past.told
 
 -- the rows that go by names alone
 abbrev pub known_answer : Past → Lower → Name → Option Answer
@@ -63,13 +64,6 @@ part_answer past r low n = if is_segment low then segment_answer built_layers pa
 -- the calls on the table of messages in progress that a segment makes, and with the one of a message that is done
 abbrev pub taken_calls : ℕ → Config → Reading → Lower → Name → List PartCall
 taken_calls now c r low n = if is_segment low then take_part now (part_heard c r n low) ∷ [] else []
-
--- what becomes of a segment in the table is the answer to it, if there is one
-abbrev pub taken_answer : Taken → Option Answer
-taken_answer (T.Waiting missing) = Some (A.Waiting missing)
-taken_answer (T.Whole octets) = None
-taken_answer T.Conflict = Some A.Conflict
-taken_answer (T.NoRoom held) = Some (A.NoRoom held)
 
 -- the octets of a message that came in one PDU
 abbrev pub own_octets : Lower → List ℕ
@@ -119,3 +113,10 @@ pub record IsTransportAs (past : Past) (r : Reading) (h : Hearing) : Type 0 wher
   pub lower : IsLowerPdu r.fields h.low
   pub opens : IsOpening built_layers past (Some r) h.low (option_map opening_of h.opened)
   pub answer : h.answer ≡ transport_answer built_layers past r h.low (option_map opening_of h.opened)
+
+-- Beacons.
+
+-- the answer to a beacon that reads, where no own segmented message is unacknowledged
+abbrev pub beacon_row : Config → Beacon → Answer
+beacon_row c b =
+    A.Beacon b.index (key_step (net_row c.nets b.index) b) (iv_next c.iv (is_some (net_row c.nets 0)) b.index b.iv b.update false)

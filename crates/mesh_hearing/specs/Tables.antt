@@ -1,19 +1,18 @@
 -- The tables in memory: what they hold, the entries that they stand for, and what an entry more leaves of them.
-use Rattle.std.specs.Prelude.{◌≡◌, ℕ, if◌then◌else◌, List, [], ◌∷◌, ◌++◌, fold, Option, Some, None}
-use Rattle.std.specs.List.{filter_map}
+use Rattle.std.specs.Prelude.{◌≡◌, ℕ, List, [], ◌∷◌, ◌++◌, fold, Option, Some, None}
 use Rattle.layer_states.specs.Cache.{last_of, remembered}
-use Rattle.layer_states.specs.Reassembly.{after, is_segment}
+use Rattle.layer_states.specs.Reassembly.{after}
 use Rattle.layer_states.specs.declared.reassembly.Assembly.{Assembly}
 use Rattle.mesh_base.specs.declared.pair.Name.{Name}
 use Rattle.mesh_reading.specs.Held.{held_in}
 use Rattle.mesh_reading.specs.Keys.{HeldKeys}
 use Rattle.mesh_types.specs.declared.answers.Answer.{Answer}
-use Rattle.node_layers.specs.Reassembly.{calls_at, message_calls, messages, tick_calls}
+use Rattle.node_layers.specs.Reassembly.{message_calls, messages, tick_calls}
+use Rattle.node_layers.specs.Steps.{cached_names, segmented_name, segmented_names}
 use Rattle.node_records.specs.Tables.{config_in}
 use Rattle.node_records.specs.declared.persist.Persist.{Persist}
 use Rattle.run_definitions.specs.Answers.{cached_name, is_before_cache}
-use Rattle.run_definitions.specs.History.{Insight, OfPdu, OfBeacon, OfNothing, Told, now_of, ticks_after}
-use Rattle.run_definitions.specs.Uses.{accepted}
+use Rattle.run_definitions.specs.History.{Insight, Told, now_of, ticks_after}
 use Rattle.store_definitions.specs.Config.{Config, config_of}
 
 -- The keys that are derived from the store; the message cache, the oldest name first; the messages in progress, in the order in which they
@@ -23,30 +22,18 @@ pub record TablesView : Type 0 where
   pub cache : List Name
   pub parts : List Assembly
   pub again : List Name
-  pub now : ℕ
+  pub ticks : ℕ
 
 -- The keys are those that the store's value says.
 abbrev pub IsFit : TablesView → Persist → Type 0
 IsFit t p = t.keys ≡ held_in (config_in p)
 
--- the PDUs of these entries that got into the message cache
-abbrev pub cached_names : List Told → List Name
-cached_names told = filter_map (λ t. cached_name t.insight (is_before_cache t.entry.answer)) told
-
--- the name of a message that was accepted from segments
-abbrev pub again_name : Insight → Answer → Option Name
-again_name (OfPdu reading (Some low) opening) answer = if is_segment low then accepted answer else None
-again_name _ answer = None
-
-abbrev pub again_names : List Told → List Name
-again_names told = filter_map (λ t. again_name t.insight t.entry.answer) told
-
 -- The tables are those of a life with these entries so far.
 pub record AreTablesOf (t : TablesView) (told : List Told) : Type 0 where
   pub cache : t.cache ≡ last_of 128 (cached_names told)
   pub parts : t.parts ≡ messages (record { told = told; records = [] })
-  pub again : t.again ≡ again_names told
-  pub now : t.now ≡ now_of told
+  pub again : t.again ≡ segmented_names told
+  pub ticks : t.ticks ≡ now_of told
 
 -- the message cache with the PDU of an entry, if it gets into it
 abbrev pub cache_after : List Name → Option Name → List Name
@@ -62,9 +49,9 @@ again_after names (Some n) = names ++ n ∷ []
 abbrev pub tables_after : TablesView → Config → Insight → Answer → TablesView
 tables_after t c insight answer = record t {
   cache = cache_after t.cache (cached_name insight (is_before_cache answer));
-  parts = fold after t.parts (message_calls t.now c insight answer ++ tick_calls answer);
-  again = again_after t.again (again_name insight answer);
-  now = ticks_after t.now answer;
+  parts = fold after t.parts (message_calls t.ticks c insight answer ++ tick_calls answer);
+  again = again_after t.again (segmented_name insight answer);
+  ticks = ticks_after t.ticks answer;
 }
 
 -- An entry more is one step.
@@ -75,4 +62,4 @@ GoOn =
 
 -- A life begins with no entries.
 abbrev pub BeginWith : Type 0
-BeginWith = (keys : HeldKeys) → AreTablesOf (record { keys = keys; cache = []; parts = []; again = []; now = 0 }) []
+BeginWith = (keys : HeldKeys) → AreTablesOf (record { keys = keys; cache = []; parts = []; again = []; ticks = 0 }) []

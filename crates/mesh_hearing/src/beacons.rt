@@ -5,8 +5,10 @@ ghost use Rattle.std.specs.Prelude.{◌≡◌, ◌==◌, ℕ, false, Some, None,
 ghost use Rattle.std.specs.Option.{option_copied};
 ghost use Rattle.layer_definitions.specs.KeyRefresh.{net_row as net_row_in};
 ghost use Rattle.mesh_base.specs.IvState.{HasTransmit};
+ghost use Rattle.mesh_hearing.specs.Below.{beacon_row};
 ghost use Rattle.mesh_hearing.specs.Heard.{IsBeaconHeard};
 ghost use Rattle.node_records.specs.Meaning.{IsMeaningOf};
+ghost use Rattle.node_records.specs.Tables.{config_in};
 ghost use Rattle.run_definitions.specs.Answers.{key_step as key_step_in};
 ghost use Rattle.run_definitions.specs.History.{Past};
 
@@ -38,7 +40,7 @@ fn net_row(rows: &[NetKeyRow], index: u16) -> Option<&NetKeyRow>
 
 // What a beacon does to the Key Refresh phase of its network key.
 fn key_step(row: Option<&NetKeyRow>, b: &Beacon) -> KeyStep
-    ensures { result ≡ key_step_in (option_copied row) b.now }
+    ensures { result ≡ key_step_in (option_copied row.entry) b.now }
 {
     let Some(row) = row else {
         return KeyStep::Same
@@ -55,6 +57,7 @@ fn key_step(row: Option<&NetKeyRow>, b: &Beacon) -> KeyStep
 // The answer to a beacon, while no own segmented message waits.
 fn beacon_answer(p: &Persist, b: &Beacon) -> Answer
     requires { HasTransmit p.now.iv }
+    ensures value { result ≡ beacon_row (config_in p.now) b.now }
 {
     let rows = p.nets.as_slice();
     Answer::Beacon {

@@ -7,9 +7,10 @@ ghost use Rattle.layer_states.specs.Reassembly.{after};
 ghost use Rattle.mesh_hearing.specs.Below.{IsReadAs, IsTransportAs, StandsBelow};
 ghost use Rattle.mesh_hearing.specs.Heard.{insight_of, IsHeard};
 ghost use Rattle.mesh_hearing.specs.Kinds.{is_late};
-ghost use Rattle.mesh_hearing.specs.Tables.{again_after, cache_after, cached_names, AreTablesOf, IsFit};
+ghost use Rattle.mesh_hearing.specs.Tables.{again_after, cache_after, AreTablesOf, IsFit};
 ghost use Rattle.mesh_reading.specs.Held.{held_in, reading_of};
 ghost use Rattle.node_layers.specs.Reassembly.{message_calls, tick_calls};
+ghost use Rattle.node_layers.specs.Steps.{cached_names};
 ghost use Rattle.node_records.specs.Meaning.{IsMeaningOf};
 ghost use Rattle.node_records.specs.Tables.{config_in};
 ghost use Rattle.mesh_types.specs.declared.answers.Answer.TheVariants as A;
@@ -159,7 +160,7 @@ impl Tables {
             &mut self.cache,
             &mut self.parts,
             self.again.as_slice(),
-            self.now,
+            self.ticks,
             octets,
         )?;
         push_reserved(&mut self.again, accepted_part(&hearing));

@@ -10,13 +10,14 @@ ghost use Rattle.layer_states.specs.Reassembly.{after, is_segment as is_segment_
 ghost use Rattle.layer_states.specs.declared.reassembly.Taken.TheVariants as T;
 ghost use Rattle.mesh_base.specs.declared.pair.Name.{Name as NameIn};
 ghost use Rattle.mesh_base.specs.declared.pair.Pair.{Pair as PairIn};
-ghost use Rattle.mesh_hearing.specs.Below.{known_answer, own_octets, taken_answer, taken_calls, IsNamedAs, IsTakenAs, StandsBelow};
+ghost use Rattle.mesh_hearing.specs.Below.{known_answer, own_octets, taken_calls, IsNamedAs, IsTakenAs, StandsBelow};
 ghost use Rattle.mesh_hearing.specs.Heard.{insight_of};
 ghost use Rattle.mesh_hearing.specs.Kinds.{is_known, is_late, is_of_part};
-ghost use Rattle.mesh_hearing.specs.Tables.{again_name, again_names};
 ghost use Rattle.mesh_reading.specs.Held.{held_in, reading_of};
 ghost use Rattle.mesh_types.specs.declared.answers.Answer.TheVariants as A;
 ghost use Rattle.node_layers.specs.Reassembly.{named_calls, part_heard as part_heard_in};
+ghost use Rattle.node_layers.specs.Segments.{taken_answer};
+ghost use Rattle.node_layers.specs.Steps.{segmented_name, segmented_names};
 ghost use Rattle.node_records.specs.Tables.{config_in, entry_in};
 ghost use Rattle.run_definitions.specs.Answers.{is_again as is_again_in, is_entry as is_entry_in, is_segment as is_segment_in, message_name as message_name_in, message_pair as message_pair_in, replayed as replayed_in};
 ghost use Rattle.run_definitions.specs.History.{Past};
@@ -93,7 +94,7 @@ fn has_name(names: &[Name], name: &Name) -> bool
 
 // Whether a message of this name was accepted from segments: then its pair is the entry of its source.
 fn is_again(again: &[Name], kept: Option<Pair>, name: &Name) -> bool
-    ensures { (past : Past) → kept ≡ entry_of past.records name.now.src.0 → again.now ≡ again_names past.told
+    ensures { (past : Past) → kept ≡ entry_of past.records name.now.src.0 → again.now ≡ segmented_names past.told
         → result ≡ is_again_in past name.now }
 {
     is_entry(kept, name.pair) && has_name(again, name)
@@ -111,7 +112,7 @@ fn replayed(kept: Option<Pair>, pair: Pair) -> Option<Pair>
 
 // The answer that goes by names alone, if there is one.
 fn known_row(again: &[Name], kept: Option<Pair>, low: &Lower, name: &Name) -> Option<Answer>
-    ensures value { (past : Past) → kept ≡ entry_of past.records name.now.src.0 → again.now ≡ again_names past.told
+    ensures value { (past : Past) → kept ≡ entry_of past.records name.now.src.0 → again.now ≡ segmented_names past.told
         → result ≡ known_answer past low.now name.now }
     ensures known { IfSome result (λ a. is_known a ≡ true) }
 {
@@ -266,7 +267,7 @@ fn accepted(answer: &Answer) -> Option<Name>
 
 /// The name of a message that was accepted from segments.
 pub(crate) fn accepted_part(h: &Hearing) -> Option<Name>
-    ensures { result ≡ again_name (insight_of h.now) h.now.answer }
+    ensures { result ≡ segmented_name (insight_of h.now) h.now.answer }
 {
     match &h.low {
         Some(low) if is_segment(low) => accepted(&h.answer),

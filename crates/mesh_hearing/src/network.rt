@@ -7,7 +7,7 @@ ghost use Rattle.layer_states.specs.Cache.{last_of};
 ghost use Rattle.mesh_base.specs.declared.address.Address.{Address};
 ghost use Rattle.mesh_hearing.specs.Below.{cache_after_row, sender_answer};
 ghost use Rattle.mesh_hearing.specs.Kinds.{is_early};
-ghost use Rattle.mesh_hearing.specs.Tables.{cached_names};
+ghost use Rattle.node_layers.specs.Steps.{cached_names};
 ghost use Rattle.mesh_reading.specs.Held.{held_in, reading_of};
 ghost use Rattle.node_records.specs.Tables.{config_in};
 ghost use Rattle.run_definitions.specs.Answers.{is_group, is_mine, is_unicast, network_answer};

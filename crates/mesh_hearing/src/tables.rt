@@ -23,7 +23,7 @@ pub struct Tables {
     pub(crate) cache: Cache,
     pub(crate) parts: Parts,
     pub(crate) again: Vec<Name>,
-    pub(crate) now: u64,
+    pub(crate) ticks: u64,
 }
 
 impl Model for Tables {
@@ -32,16 +32,16 @@ impl Model for Tables {
 
     ghost Value = { TablesView };
 
-    ghost view = { λ t. record { keys = t.keys; cache = t.cache; parts = t.parts; again = t.again.items; now = t.now } };
+    ghost view = { λ t. record { keys = t.keys; cache = t.cache; parts = t.parts; again = t.again.items; ticks = t.ticks } };
 
-    ghost invariant = { λ t. t.now ≤ 2 ^ 48 };
+    ghost invariant = { λ t. t.ticks ≤ 2 ^ 48 };
 }
 
 impl Tables {
     /// The tables of a life that begins over a store of this value. They take their memory from `alloc`; the error is for want of memory.
     pub fn new(alloc: Global, p: &Persist) -> Result<Tables, AllocError>
         requires { AreHeldKeys (config_in p.now) }
-        ensures value { IfOk result (λ t. t ≡ record { keys = held_in (config_in p.now); cache = []; parts = []; again = []; now = 0 }) }
+        ensures value { IfOk result (λ t. t ≡ record { keys = held_in (config_in p.now); cache = []; parts = []; again = []; ticks = 0 }) }
         ensures fit { IfOk result (λ t. IsFit t p.now) }
         ensures tables { IfOk result (λ t. AreTablesOf t []) }
     {
@@ -51,7 +51,7 @@ impl Tables {
             cache,
             parts: Parts::new(),
             again: Vec::new(alloc),
-            now: 0,
+            ticks: 0,
         })
     }
 
@@ -73,10 +73,10 @@ impl Tables {
     }
 
     /// The ticks of 10 ms of this life so far, at most 2^48.
-    pub fn now(&self) -> u64
-        ensures value { result ≡ self.now.now }
+    pub fn ticks(&self) -> u64
+        ensures value { result ≡ self.now.ticks }
         ensures most { result ≤ 2 ^ 48 }
     {
-        self.now
+        self.ticks
     }
 }

@@ -37,8 +37,8 @@ impl Tables {
                 acks: AckList::new(),
             };
         }
-        let now = (self.now + u64::from(ticks)).min(MOST_TICKS);
-        self.now = now;
+        let now = (self.ticks + u64::from(ticks)).min(MOST_TICKS);
+        self.ticks = now;
         Passed {
             answer: Answer::Ticked { now },
             acks: self.parts.tick(now),
