@@ -1,5 +1,5 @@
 -- What is heard of octets: from the readings and answers of the layers to those of the whole.
-use Rattle.std.proofs.Common.{◌≡◌, ℕ, Bool, true, false, cond, List, [], ◌∷◌, ◌++◌, refl, ap, sym, subst, ◌∙◌, append-nil, Option, Some, None}
+use Rattle.std.proofs.Common.{◌≡◌, ℕ, Bool, true, false, cond, not, List, [], ◌∷◌, ◌++◌, refl, ap, sym, subst, ◌∙◌, append-nil, Option, Some, None}
 use Rattle.std.specs.Prelude.{IsFalse, MatchOption, fold, unwrap_or}
 use Rattle.std.specs.Option.{option_map}
 use Rattle.layer_definitions.specs.KeyRefresh.{heard_keys}
@@ -13,7 +13,7 @@ use Rattle.mesh_base.specs.declared.pair.Name.{Name}
 use Rattle.mesh_hearing.proofs.Entries.{goes_on}
 use Rattle.mesh_hearing.proofs.Groups.{early_now, early_ticks, late_cached, late_now, late_ticks}
 use Rattle.mesh_hearing.specs.Below.{IsNamedAs, IsReadAs, IsTransportAs, cache_after_row}
-use Rattle.mesh_hearing.specs.Heard.{insight_of}
+use Rattle.mesh_hearing.specs.Heard.{IsHeard, insight_of}
 use Rattle.mesh_hearing.specs.Kinds.{is_early, is_late}
 use Rattle.mesh_hearing.specs.Tables.{AreTablesOf, TablesView, again_after, cache_after, tables_after}
 use Rattle.mesh_hearing.specs.declared.hearing.Hearing.{Hearing}
@@ -163,3 +163,17 @@ tables_more told t u e i a c h ei ea ec cache parts again now =
     let by_answer = subst (λ x. AreTablesOf (tables_after t (config_of e.records) i x) (told ++ e ∷ [])) ea by_insight in
     let more = subst (λ x. AreTablesOf (tables_after t x i a) (told ++ e ∷ [])) ec by_answer in
     record { cache = cache ∙ more.cache; parts = parts ∙ more.parts; again = again ∙ more.again; ticks = now ∙ more.ticks }
+
+reset_answer : (past : Past) (octets : List ℕ) → (config_before past).reset ≡ true → A.Reset ≡ answer_of built_layers past (E.Net octets) OfNothing
+unfolding answer_of
+reset_answer past octets e = ap (λ b. cond b A.Reset (pdu_answer built_layers past OfNothing)) (sym e)
+
+pub heard_reset : (past : Past) (p : Persist) (octets : List ℕ) (t : TablesView) → IsMeaningOf past.records p → p.reset ≡ true → AreTablesOf t past.told
+    → IsHeard past octets (record { reset = true; reading = None; low = None; opened = None; answer = A.Reset }) t
+heard_reset past p octets t m e h =
+    let reset : (config_before past).reset ≡ true = ap (λ (c : Config). c.reset) (sym m.config) ∙ e in
+    record {
+      sees = sees_nothing {event = E.Net octets} (ap (λ b. not b) reset);
+      answer = reset_answer past octets reset;
+      tables = λ x i a r. tables_more past.told t t x OfNothing A.Reset (config_of x.records) h i a refl refl refl refl refl;
+    }

@@ -1,6 +1,6 @@
 -- A message that has a name: from the rows of names to its answer.
 use Rattle.std.proofs.Common.{◌≡◌, ℕ, ◌≤◌, Bool, true, false, cond, not, ◌&&◌, ◌||◌, List, [], ◌∷◌, ◌++◌, refl, ap, sym, subst, ◌∙◌, Option, Some, None}
-use Rattle.std.specs.Prelude.{IsTrue, IsFalse, MatchOption, fold, unwrap_or}
+use Rattle.std.specs.Prelude.{Err, MatchOption, MatchResult, Ok, Result, fold, unwrap_or}
 use Rattle.std.specs.List.{filter_map, list_any}
 use Rattle.std.specs.Option.{option_map, option_or, option_to_list}
 use Rattle.layer_definitions.specs.Lower.{is_control}
@@ -8,6 +8,7 @@ use Rattle.layer_states.specs.Names.{is_name}
 use Rattle.layer_states.specs.Reassembly.{PartCall, after, form_of, release, take_part}
 use Rattle.layer_states.specs.Reassembly as state
 use Rattle.layer_states.specs.declared.reassembly.Assembly.{Assembly}
+use Rattle.layer_states.specs.declared.reassembly.Taken.{Taken}
 use Rattle.layer_states.specs.declared.reassembly.Taken.TheVariants as T
 use Rattle.mesh_base.specs.declared.lower.Lower.{Lower}
 use Rattle.mesh_base.specs.declared.lower.Lower.TheVariants.{Access, Control, AccessPart, ControlPart}
@@ -16,13 +17,15 @@ use Rattle.mesh_hearing.proofs.Groups.{known_parts, known_whole, part_takes, who
 use Rattle.mesh_hearing.specs.Below.{IsNamedAs, IsTakenAs, IsWholeAs, StandsBelow, known_answer, own_octets, part_answer, taken_calls, whole_octets}
 use Rattle.mesh_hearing.specs.Kinds.{is_known, is_of_part, is_of_whole}
 use Rattle.mesh_hearing.specs.declared.whole.Judged.{Judged}
-use Rattle.mesh_reading.specs.Held.{opening_of}
+use Rattle.mesh_hearing.specs.Heard.{insight_of}
+use Rattle.mesh_hearing.specs.declared.hearing.Hearing.{Hearing}
+use Rattle.mesh_reading.specs.Held.{opening_of, reading_of}
 use Rattle.mesh_types.specs.declared.answers.Answer.{Answer}
 use Rattle.mesh_types.specs.declared.answers.Answer.TheVariants as A
 use Rattle.node_layers.proofs.Segments.{built_answers, built_whole}
 use Rattle.node_layers.proofs.Steps.{segmented_is_any}
 use Rattle.node_layers.specs.Segments.{segment_taken, taken_answer}
-use Rattle.node_layers.specs.Steps.{segmented_names}
+use Rattle.node_layers.specs.Steps.{segmented_name, segmented_names}
 use Rattle.node_layers.specs.BuiltLayers.{built_layers}
 use Rattle.node_layers.specs.Reassembly.{messages, named_calls, octets_after, part_heard}
 use Rattle.node_records.specs.Tables.{config_in}
@@ -30,6 +33,7 @@ use Rattle.node_records.specs.declared.persist.Persist.{Persist}
 use Rattle.run_definitions.specs.Answers.{config_before, is_accepted_segmented, is_again, is_entry, is_segment, lower_answer, replayed, segment_answer, whole_answer}
 use Rattle.run_definitions.specs.History.{Insight, OfBeacon, OfNothing, OfPdu, Opening, Past, Reading, Told, now_of}
 use Rattle.run_definitions.specs.Readings.{IsOpened}
+use Rattle.run_definitions.specs.Uses.{accepted}
 use Rattle.store_definitions.specs.Config.{Config}
 use Rattle.store_definitions.specs.Entries.{entry_of}
 
@@ -111,11 +115,17 @@ taken_is past p parts again now r low n h =
 
 pub taken_whole : (past : Past) (r : Reading) (low : Lower) (n : Name) (octets : List ℕ) → is_segment low ≡ true
     → segment_taken past r n low ≡ T.Whole octets → (part_answer past r low n ≡ None) × (octets ≡ whole_octets past n low)
+unfolding built_layers
 taken_whole past r low n octets s e = (of_segment past r low n s ∙ ap taken_answer e, whole_of_segment past low n octets s (sym (built_whole past r n low octets e)))
 
 pub taken_answered : (past : Past) (r : Reading) (low : Lower) (n : Name) (a : Answer) → is_segment low ≡ true
     → taken_answer (segment_taken past r n low) ≡ Some a → part_answer past r low n ≡ Some a
 taken_answered past r low n a s e = of_segment past r low n s ∙ e
+
+pub taken_as : (past : Past) (r : Reading) (low : Lower) (n : Name) (t : Taken) (result : Result (List ℕ) Answer) → is_segment low ≡ true
+    → t ≡ segment_taken past r n low → MatchResult result (λ octets. t ≡ T.Whole octets) (λ a. taken_answer t ≡ Some a) → IsTakenAs past r low n result
+taken_as past r low n t (Ok octets) s e h = taken_whole past r low n octets s (sym e ∙ h)
+taken_as past r low n t (Err a) s e h = taken_answered past r low n a s (ap taken_answer (sym e) ∙ h)
 
 -- The answer to a message with a name.
 
@@ -156,3 +166,13 @@ named_whole past r low n j e f w =
       opens = subst (λ o. MatchOption o (IsOpened built_layers past r n low (option_map opening_of j.opened)) (λ answer. option_map opening_of j.opened ≡ None)) (sym none) w.opens;
       answer = w.answer ∙ ap (λ o. unwrap_or o (whole_answer built_layers past r low n (option_map opening_of j.opened))) (sym none);
     }
+
+-- the name of a message that was accepted from segments
+pub accepted_is : (h : Hearing) (low : Lower) (o : Option Name) → h.reset ≡ false → h.low ≡ Some low → is_segment low ≡ true → o ≡ accepted h.answer
+    → o ≡ segmented_name (insight_of h) h.answer
+accepted_is h low o e g s is =
+    let reading = option_map reading_of h.reading in
+    let opening = option_map opening_of h.opened in
+    is ∙ ap (λ b. cond b (accepted h.answer) None) (sym s)
+    ∙ ap (λ l. segmented_name (OfPdu reading l opening) h.answer) (sym g)
+    ∙ ap (λ b. segmented_name (cond b OfNothing (OfPdu reading h.low opening)) h.answer) (sym e)

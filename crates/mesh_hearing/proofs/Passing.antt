@@ -1,5 +1,5 @@
 -- Beacons, and time that passed.
-use Rattle.std.proofs.Common.{◌≡◌, ℕ, ◌+◌, ◌^◌, Bool, true, false, cond, min, List, [], ◌∷◌, ◌++◌, refl, ap, sym, subst, ◌∙◌, Option, Some, None}
+use Rattle.std.proofs.Common.{◌≡◌, ℕ, ◌+◌, ◌^◌, Bool, true, false, cond, not, min, List, [], ◌∷◌, ◌++◌, refl, ap, sym, subst, ◌∙◌, Option, Some, None}
 use Rattle.std.specs.Prelude.{IsFalse, fold}
 use Rattle.layer_definitions.specs.Beacon.{BeaconSource, ReadsBeacon, ReadsBeaconUnder}
 use Rattle.layer_definitions.specs.KeyRefresh.{beacon_keys, net_index}
@@ -83,7 +83,7 @@ pub beacon_reset : (past : Past) (p : Persist) (octets : List ℕ) → IsMeaning
 beacon_reset past p octets m e =
     let reset = before_reset past p true m e in
     record {
-      sees = sees_nothing {event = E.Bcn octets} (ap (λ b. cond b false true) reset);
+      sees = sees_nothing {event = E.Bcn octets} (ap (λ b. not b) reset);
       answer = reset_answer past octets OfNothing reset;
     }
 

@@ -8,10 +8,10 @@ use Rattle.layer_states.specs.Cache as cache
 use Rattle.mesh_base.specs.declared.address.Address.{Address}
 use Rattle.mesh_base.specs.declared.fields.NetFields.{NetFields}
 use Rattle.mesh_base.specs.declared.pair.Name.{Name}
-use Rattle.mesh_hearing.specs.Below.{cache_after_row, sender_answer}
-use Rattle.mesh_hearing.specs.Tables.{cached_names}
+use Rattle.mesh_hearing.specs.Below.{own_address, sender_answer}
 use Rattle.mesh_types.specs.declared.answers.Answer.{Answer}
 use Rattle.mesh_types.specs.declared.answers.Answer.TheVariants as A
+use Rattle.node_layers.specs.Steps.{cached_names}
 use Rattle.run_definitions.specs.Answers.{config_before, is_cached, is_mine, is_unicast, name_of, network_answer}
 use Rattle.run_definitions.specs.History.{Past, Reading}
 use Rattle.run_definitions.specs.Readings.{labels_tried}
@@ -23,6 +23,17 @@ pub labelled : (rows : List (Address × ℕ × List ℕ)) (a : Address)
     → has_address (map (λ (l : Address × ℕ × List ℕ). l.2) rows) a ≡ list_any (λ (l : Address × ℕ × List ℕ). virtual_address l.2 == a.0) rows
 labelled [] a = refl
 labelled (row ∷ rows) a = ap (λ b. (virtual_address row.2 == a.0) || b) (labelled rows a)
+
+-- the last test of what is mine
+last_test : (own last b : Bool) → own ≡ false → b ≡ last → b ≡ (own || last)
+last_test true last b e f = absurd cc
+last_test false last b e f = f
+
+pub mine_last : (c : Config) (labels : List (List ℕ)) (a : Address) (own b : Bool) → own ≡ own_address c a → own ≡ false
+    → labels ≡ labels_tried c → b ≡ has_address labels a → b ≡ is_mine c a
+mine_last c labels a own b e f g h =
+    last_test (own_address c a) (list_any (λ (x : Address × ℕ × List ℕ). virtual_address x.2 == a.0) c.labels) b (sym e ∙ f)
+    (h ∙ ap (λ ls. has_address ls a) g ∙ labelled c.labels a)
 
 -- the rows from the message cache on
 abbrev pub below_sender : Bool → Bool → Option Answer

@@ -1,10 +1,12 @@
 -- The answers to a network PDU layer by layer, and what the tables stand for there.
 use Rattle.std.specs.Prelude.{◌≡◌, ℕ, ◌&&◌, ◌==◌, ◌||◌, not, Bool, false, is_some, if◌then◌else◌, List, [], ◌∷◌, Option, Some, None, Result, MatchResult}
+use Rattle.std.specs.List.{list_any}
 use Rattle.std.specs.Option.{option_map}
 use Rattle.layer_definitions.specs.IvIndex.{iv_next}
 use Rattle.layer_definitions.specs.KeyRefresh.{net_row}
 use Rattle.layer_states.specs.Reassembly.{PartCall, take_part}
 use Rattle.layer_states.specs.declared.reassembly.Assembly.{Assembly}
+use Rattle.mesh_base.specs.declared.address.Address.{Address}
 use Rattle.mesh_base.specs.declared.beacon.Beacon.{Beacon}
 use Rattle.mesh_base.specs.declared.fields.NetFields.{NetFields}
 use Rattle.mesh_base.specs.declared.lower.Lower.{Lower}
@@ -23,13 +25,22 @@ use Rattle.node_layers.specs.Reassembly.{messages, octets_after, part_heard}
 use Rattle.node_layers.specs.Steps.{segmented_names}
 use Rattle.node_records.specs.Meaning.{IsMeaningOf}
 use Rattle.node_records.specs.declared.persist.Persist.{Persist}
-use Rattle.run_definitions.specs.Answers.{answer_of, config_before, is_again, is_before_cache, is_mine, is_segment, is_unicast, key_step, message_name, name_of, named_answer, opened_answer, replayed, segment_answer, transport_answer, whole_answer}
+use Rattle.run_definitions.specs.Answers.{answer_of, config_before, is_again, is_before_cache, is_group, is_segment, is_unicast, key_step, message_name, name_of, named_answer, opened_answer, replayed, segment_answer, transport_answer, whole_answer}
 use Rattle.run_definitions.specs.History.{Past, Reading, now_of}
 use Rattle.run_definitions.specs.Readings.{IsLowerPdu, IsOpened, IsOpenedFor, IsOpening, IsOpeningOf, Sees, fields_heard, keys_tried}
 use Rattle.store_definitions.specs.Config.{Config, is_element}
 use Rattle.store_definitions.specs.Entries.{entry_of}
 
 -- The network layer.
+
+-- an address that a node has without a label
+abbrev pub own_address : Config → Address → Bool
+own_address c a =
+    is_element c a.0
+    || a.0 == 0xffff
+    || (a.0 == 0xfffd && c.friend == 1)
+    || (a.0 == 0xfffe && c.relay == 1)
+    || list_any (λ s. is_group s.2 && s.2.0 == a.0) c.subs
 
 -- the rows before the message cache is asked
 abbrev pub sender_answer : Config → NetFields → Option Answer

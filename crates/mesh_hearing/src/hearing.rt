@@ -132,8 +132,9 @@ fn hear_octets(
     ensures time { IfOk result (λ h. ticks_after now h.answer ≡ now) }
     ensures unchanged { OnErr result ((cache.new ≡ cache.old) × (parts.new ≡ parts.old)) }
 {
-    let Some(reading) = keys.read(p.iv.current, octets) else {
-        return Ok(early(None, Answer::Unread))
+    let reading = match keys.read(p.iv.current, octets) {
+        Some(reading) => reading,
+        None => return Ok(early(None, Answer::Unread)),
     };
     match network_row(keys, p, cache, &reading)? {
         Some(answer) => Ok(early(Some(reading), answer)),

@@ -1,7 +1,7 @@
 //! The answers of the lower transport layer (Mesh Profile 1.0.1, section 3.5.3).
 #![tactic(auto)]
 
-ghost use Rattle.std.specs.Prelude.{◌≡◌, ◌≤◌, ◌^◌, true, IsTrue, List, Some, fold, length, IfOk, IfErr, OnErr, IfSome, MatchResult};
+ghost use Rattle.std.specs.Prelude.{◌≡◌, ◌≤◌, ◌^◌, true, false, IsTrue, List, Some, fold, length, IfOk, IfErr, OnErr, IfSome, MatchResult};
 ghost use Rattle.std.specs.List.{list_any};
 ghost use Rattle.std.specs.Option.{option_map};
 ghost use Rattle.layer_definitions.specs.Lower.{Fits, is_control};
@@ -267,6 +267,7 @@ fn accepted(answer: &Answer) -> Option<Name>
 
 /// The name of a message that was accepted from segments.
 pub(crate) fn accepted_part(h: &Hearing) -> Option<Name>
+    requires { h.now.reset ≡ false }
     ensures { result ≡ segmented_name (insight_of h.now) h.now.answer }
 {
     match &h.low {

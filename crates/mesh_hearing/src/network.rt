@@ -5,7 +5,7 @@ ghost use Rattle.std.specs.Prelude.{◌≡◌, ◌&&◌, ◌==◌, ℕ, true, Li
 ghost use Rattle.std.specs.List.{list_any};
 ghost use Rattle.layer_states.specs.Cache.{last_of};
 ghost use Rattle.mesh_base.specs.declared.address.Address.{Address};
-ghost use Rattle.mesh_hearing.specs.Below.{cache_after_row, sender_answer};
+ghost use Rattle.mesh_hearing.specs.Below.{cache_after_row, own_address, sender_answer};
 ghost use Rattle.mesh_hearing.specs.Kinds.{is_early};
 ghost use Rattle.node_layers.specs.Steps.{cached_names};
 ghost use Rattle.mesh_reading.specs.Held.{held_in, reading_of};
@@ -51,17 +51,23 @@ fn is_subscribed(rows: &[(Address, u16, Address)], a: Address) -> bool
     rows.iter().any(|s| is_group(s.2) && s.2.0 == a.0)
 }
 
-// Whether an address is one of this node's.
-fn is_mine(keys: &Keys, p: &Persist, a: Address) -> bool
-    requires { keys.now ≡ held_in (config_in p.now) }
-    ensures { result ≡ is_mine (config_in p.now) a }
+// Whether an address is that of an element, one that all nodes, all friends or all relays have, or a group subscribed to.
+fn is_own(p: &Persist, a: Address) -> bool
+    ensures { result ≡ own_address (config_in p.now) a }
 {
     is_element(p, a)
         || a.0 == 0xffff
         || (a.0 == 0xfffd && p.friend == 1)
         || (a.0 == 0xfffe && p.relay == 1)
         || is_subscribed(p.subs.as_slice(), a)
-        || keys.is_labelled(a)
+}
+
+// Whether an address is one of this node's.
+fn is_mine(keys: &Keys, p: &Persist, a: Address) -> bool
+    requires { keys.now ≡ held_in (config_in p.now) }
+    ensures { result ≡ is_mine (config_in p.now) a }
+{
+    is_own(p, a) || keys.is_labelled(a)
 }
 
 // The answer before the message cache is asked, if there is one.

@@ -137,7 +137,10 @@ pub(crate) fn judge_whole(
     ensures whole { is_of_whole result.answer ≡ true }
 {
     match low {
-        Lower::Control { opcode, .. } | Lower::ControlPart { opcode, .. } => {
+        Lower::Control { opcode, .. } => {
+            Judged::early(judge_control(p, kept, r, name, *opcode, octets))
+        }
+        Lower::ControlPart { opcode, .. } => {
             Judged::early(judge_control(p, kept, r, name, *opcode, octets))
         }
         Lower::Access { akf, aid, .. } => {
