@@ -5,3 +5,6 @@ pub mod Configuration
 pub mod Publishing
 pub mod Friendship
 pub mod NodeLayers
+pub mod BuiltLayers
+pub mod Segments
+pub mod Steps

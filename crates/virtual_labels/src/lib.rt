@@ -2,10 +2,13 @@
 //! and the label that a message was sealed with is found by opening it.
 //!
 //! - `opening`: the first label, and with it the first key, that open a message
+//! - `kept`: labels with their virtual addresses, which are derived once
 #![tactic(auto)]
 
+mod kept;
 mod opening;
 #[cfg(test)]
 mod tests;
 
+pub use kept::Labels;
 pub use opening::{LabelOpened, NoLabel, unseal};

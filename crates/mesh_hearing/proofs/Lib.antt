@@ -1,0 +1,7 @@
+mod Groups
+mod Entries
+mod Rows
+mod Named
+mod Messages
+mod Heard
+mod Passing

@@ -1,0 +1,121 @@
+-- Beacons, and time that passed.
+use Rattle.std.proofs.Common.{◌≡◌, ℕ, ◌+◌, ◌^◌, Bool, true, false, cond, not, min, List, [], ◌∷◌, ◌++◌, refl, ap, sym, subst, ◌∙◌, Option, Some, None}
+use Rattle.std.specs.Prelude.{IsFalse, fold}
+use Rattle.layer_definitions.specs.Beacon.{BeaconSource, ReadsBeacon, ReadsBeaconUnder}
+use Rattle.layer_definitions.specs.KeyRefresh.{beacon_keys, net_index}
+use Rattle.layer_definitions.specs.Order.{IsByIndex, by_index}
+use Rattle.layer_states.specs.Reassembly.{acks_due, after, tick}
+use Rattle.layer_states.specs.declared.reassembly.Assembly.{Assembly}
+use Rattle.layer_states.specs.declared.reassembly.DueAck.{DueAck}
+use Rattle.mesh_base.specs.declared.beacon.Beacon.{Beacon}
+use Rattle.mesh_base.specs.declared.keys.NetKeyRow.{NetKeyRow}
+use Rattle.mesh_hearing.proofs.Heard.{tables_more}
+use Rattle.mesh_hearing.specs.Below.{beacon_row}
+use Rattle.mesh_hearing.specs.Heard.{IsBeaconHeard, IsPassed}
+use Rattle.mesh_hearing.specs.Tables.{AreTablesOf, TablesView}
+use Rattle.mesh_types.specs.declared.answers.Answer.{Answer}
+use Rattle.mesh_types.specs.declared.answers.Answer.TheVariants as A
+use Rattle.mesh_types.specs.declared.events.Event.TheVariants as E
+use Rattle.net_beacon.specs.Reading.{IsUnread}
+use Rattle.node_layers.specs.BuiltLayers.{built_layers}
+use Rattle.node_layers.specs.Reassembly.{messages}
+use Rattle.node_records.specs.Meaning.{IsMeaningOf}
+use Rattle.node_records.specs.Tables.{config_in}
+use Rattle.node_records.specs.declared.persist.Persist.{Persist}
+use Rattle.run_definitions.specs.Answers.{answer_of, beacon_answer, config_before, later}
+use Rattle.run_definitions.specs.History.{Insight, OfBeacon, OfNothing, Past, Told, now_of}
+use Rattle.run_definitions.specs.Readings.{IsBeacon, Sees, sees_beacon, sees_nothing}
+use Rattle.store_definitions.specs.Config.{Config, config_of}
+
+before_reset : (past : Past) (p : Persist) (b : Bool) → IsMeaningOf past.records p → p.reset ≡ b → (config_before past).reset ≡ b
+before_reset past p b m e = ap (λ (c : Config). c.reset) (sym m.config) ∙ e
+
+-- The keys whose beacons are read.
+
+keys_are : (past : Past) (p : Persist) → IsMeaningOf past.records p
+    → ((rows : List NetKeyRow) → IsByIndex net_index rows → by_index net_index rows ≡ rows) → IsByIndex net_index (config_of past.records).nets
+    → beacon_keys (by_index net_index p.nets) ≡ beacon_keys (config_before past).nets
+keys_are past p m same order =
+    ap beacon_keys (ap (λ rows. by_index net_index rows) (ap (λ (c : Config). c.nets) m.config) ∙ same (config_of past.records).nets order)
+
+beacon_unless : (past : Past) (octets : List ℕ) (i : Insight) (a : Answer) → (config_before past).reset ≡ false → a ≡ beacon_answer built_layers past i
+    → a ≡ answer_of built_layers past (E.Bcn octets) i
+unfolding answer_of
+beacon_unless past octets i a e h = h ∙ ap (λ b. cond b A.Reset (beacon_answer built_layers past i)) (sym e)
+
+beacon_is : (past : Past) (p : Persist) (b : Beacon) (a : Answer) → IsMeaningOf past.records p → a ≡ beacon_row (config_in p) b
+    → a ≡ beacon_answer built_layers past (OfBeacon (Some b))
+unfolding built_layers
+beacon_is past p b a m e = e ∙ ap (λ c. beacon_row c b) m.config
+
+pub beacon_heard : (past : Past) (p : Persist) (octets : List ℕ) (b : Beacon) (a : Answer) → IsMeaningOf past.records p → p.reset ≡ false
+    → ((rows : List NetKeyRow) → IsByIndex net_index rows → by_index net_index rows ≡ rows) → IsByIndex net_index (config_of past.records).nets
+    → ReadsBeacon (beacon_keys (by_index net_index p.nets)) octets b → a ≡ beacon_row (config_in p) b
+    → IsBeaconHeard past octets (record { reset = false; beacon = Some b; answer = a })
+beacon_heard past p octets b a m e same order reads is =
+    let reset = before_reset past p false m e in
+    record {
+      sees = sees_beacon {octets = octets} {b = Some b} reset (subst (λ keys. ReadsBeacon keys octets b) (keys_are past p m same order) reads);
+      answer = beacon_unless past octets (OfBeacon (Some b)) a reset (beacon_is past p b a m is);
+    }
+
+none_reads : (keys : List BeaconSource) (octets : List ℕ) → IsUnread keys octets → (b : Beacon) → ReadsBeacon keys octets b → ⊥
+none_reads keys octets none b r = none r.place r.by r.flags b.iv r.by_is r.reads
+
+pub beacon_unread : (past : Past) (p : Persist) (octets : List ℕ) → IsMeaningOf past.records p → p.reset ≡ false
+    → ((rows : List NetKeyRow) → IsByIndex net_index rows → by_index net_index rows ≡ rows) → IsByIndex net_index (config_of past.records).nets
+    → IsUnread (beacon_keys (by_index net_index p.nets)) octets
+    → IsBeaconHeard past octets (record { reset = false; beacon = None; answer = A.Unread })
+beacon_unread past p octets m e same order none =
+    let reset = before_reset past p false m e in
+    record {
+      sees = sees_beacon {octets = octets} {b = None} reset
+          (none_reads (beacon_keys (config_before past).nets) octets (subst (λ keys. IsUnread keys octets) (keys_are past p m same order) none));
+      answer = beacon_unless past octets (OfBeacon None) A.Unread reset refl;
+    }
+
+reset_answer : (past : Past) (octets : List ℕ) (i : Insight) → (config_before past).reset ≡ true → A.Reset ≡ answer_of built_layers past (E.Bcn octets) i
+unfolding answer_of
+reset_answer past octets i e = ap (λ b. cond b A.Reset (beacon_answer built_layers past i)) (sym e)
+
+pub beacon_reset : (past : Past) (p : Persist) (octets : List ℕ) → IsMeaningOf past.records p → p.reset ≡ true
+    → IsBeaconHeard past octets (record { reset = true; beacon = None; answer = A.Reset })
+beacon_reset past p octets m e =
+    let reset = before_reset past p true m e in
+    record {
+      sees = sees_nothing {event = E.Bcn octets} (ap (λ b. not b) reset);
+      answer = reset_answer past octets OfNothing reset;
+    }
+
+-- Time.
+
+tick_answer : (past : Past) (ticks : ℕ) (b : Bool) → (config_before past).reset ≡ b
+    → cond b A.Reset (A.Ticked (later past ticks)) ≡ answer_of built_layers past (E.Tick ticks) OfNothing
+unfolding answer_of
+tick_answer past ticks b e = ap (λ x. cond x A.Reset (A.Ticked (later past ticks))) (sym e)
+
+pub passed_reset : (past : Past) (p : Persist) (ticks : ℕ) (t : TablesView) → IsMeaningOf past.records p → p.reset ≡ true → AreTablesOf t past.told
+    → IsPassed past ticks (record { answer = A.Reset; acks = [] }) t
+passed_reset past p ticks t m e h =
+    let reset = before_reset past p true m e in
+    record {
+      sees = sees_nothing {event = E.Tick ticks} refl;
+      answer = tick_answer past ticks true reset;
+      acks = ap (λ b. cond b [] (acks_due (later past ticks) (messages past))) (sym reset);
+      tables = λ x i a. tables_more past.told t t x OfNothing A.Reset (config_of x.records) h i a refl refl refl refl refl;
+    }
+
+pub passed : (past : Past) (p : Persist) (ticks now : ℕ) (t u : TablesView) (acks : List DueAck) → IsMeaningOf past.records p → p.reset ≡ false
+    → AreTablesOf t past.told → now ≡ min (2 ^ 48) (t.ticks + ticks) → acks ≡ acks_due now t.parts
+    → u.cache ≡ t.cache → u.parts ≡ after t.parts (tick now) → u.again ≡ t.again → u.ticks ≡ now
+    → IsPassed past ticks (record { answer = A.Ticked now; acks = acks }) u
+passed past p ticks now t u acks m e h is due cache parts again time =
+    let reset = before_reset past p false m e in
+    let at : now ≡ later past ticks = is ∙ ap (λ n. min (2 ^ 48) (n + ticks)) h.ticks in
+    record {
+      sees = sees_nothing {event = E.Tick ticks} refl;
+      answer = ap A.Ticked at ∙ tick_answer past ticks false reset;
+      acks = due ∙ ap (λ n. acks_due n t.parts) at ∙ ap (λ ps. acks_due (later past ticks) ps) h.parts
+          ∙ ap (λ b. cond b [] (acks_due (later past ticks) (messages past))) (sym reset);
+      tables = λ x i a. tables_more past.told t u x OfNothing (A.Ticked now) (config_of x.records) h i a refl cache parts again time;
+    }

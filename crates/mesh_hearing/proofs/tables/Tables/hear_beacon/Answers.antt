@@ -1,0 +1,26 @@
+use Rattle.std.proofs.Common.{refl, subst}
+use Rattle.layer_definitions.specs.Beacon.{ReadsBeacon}
+use Rattle.layer_definitions.specs.KeyRefresh.{beacon_keys, net_index}
+use Rattle.layer_definitions.specs.Order.{by_index}
+use Rattle.net_beacon.specs.Reading.{IsUnread}
+use Rattle.mesh_hearing.proofs.Passing.{beacon_heard, beacon_reset, beacon_unread}
+use Rattle.mesh_hearing.proofs.tables.Tables.hear_beacon.Goals as goal
+
+pub returns-then-p : goal.returns-then-p
+returns-then-p c = record { heard = λ past m. beacon_reset past c.args.p.now c.args.octets.now m c.if-p.true }
+
+pub returns-in-Ok : goal.returns-in-Ok
+returns-in-Ok c = record {
+  heard = λ past m.
+      beacon_heard past c.args.p.now c.args.octets.now c.in-Ok.beacon c.beacon_answer.result m c.if-p.false c.beacon_law.ensures.order
+      (c.order_law.ensures.nets past.records)
+      (subst (λ rows. ReadsBeacon (beacon_keys (by_index net_index rows)) c.args.octets.now c.in-Ok.beacon) c.as_slice.ensures.value c.in-Ok.ensures.ok)
+      c.beacon_answer.ensures.value;
+}
+
+pub returns-in-Err : goal.returns-in-Err
+returns-in-Err c = record {
+  heard = λ past m.
+      beacon_unread past c.args.p.now c.args.octets.now m c.if-p.false c.beacon_law.ensures.order (c.order_law.ensures.nets past.records)
+      (subst (λ rows. IsUnread (beacon_keys (by_index net_index rows)) c.args.octets.now) c.as_slice.ensures.value (c.in-Err.ensures.unread.0 refl));
+}

@@ -1,0 +1,43 @@
+-- What a node answers to what it hears and to time, by the definitions of a life.
+use Rattle.std.specs.Prelude.{◌≡◌, ℕ, if◌then◌else◌, List, [], ◌∷◌, ◌++◌}
+use Rattle.std.specs.List.{filter_map}
+use Rattle.std.specs.Option.{option_map}
+use Rattle.layer_states.specs.Reassembly.{acks_due}
+use Rattle.mesh_hearing.specs.Tables.{AreTablesOf, TablesView}
+use Rattle.mesh_hearing.specs.declared.beacons.BeaconHearing.{BeaconHearing}
+use Rattle.mesh_hearing.specs.declared.hearing.Hearing.{Hearing}
+use Rattle.mesh_hearing.specs.declared.ticks.Passed.{Passed}
+use Rattle.mesh_reading.specs.Held.{opening_of, reading_of}
+use Rattle.mesh_types.specs.declared.events.Event.TheVariants as E
+use Rattle.node_layers.specs.BuiltLayers.{built_layers}
+use Rattle.node_layers.specs.Reassembly.{messages}
+use Rattle.run_definitions.specs.Answers.{answer_of, config_before, later}
+use Rattle.run_definitions.specs.History.{Insight, OfPdu, OfBeacon, OfNothing, Past, Told}
+use Rattle.run_definitions.specs.Readings.{Sees}
+
+-- what the octets of a network PDU were read as
+abbrev pub insight_of : Hearing → Insight
+insight_of h = if h.reset then OfNothing else OfPdu (option_map reading_of h.reading) h.low (option_map opening_of h.opened)
+
+-- After a past, octets heard as a network PDU were read and answered so, and the tables stand for the entries with this one.
+pub record IsHeard (past : Past) (octets : List ℕ) (h : Hearing) (t : TablesView) : Type 0 where
+  pub sees : Sees built_layers past (E.Net octets) (insight_of h)
+  pub answer : h.answer ≡ answer_of built_layers past (E.Net octets) (insight_of h)
+  pub tables : (e : Told) → e.insight ≡ insight_of h → e.entry.answer ≡ h.answer → e.records ≡ past.records → AreTablesOf t (past.told ++ e ∷ [])
+
+-- what the octets of a beacon were read as
+abbrev pub beacon_insight : BeaconHearing → Insight
+beacon_insight h = if h.reset then OfNothing else OfBeacon h.beacon
+
+-- After a past, octets heard as a beacon were read and answered so. No table changes.
+pub record IsBeaconHeard (past : Past) (octets : List ℕ) (h : BeaconHearing) : Type 0 where
+  pub sees : Sees built_layers past (E.Bcn octets) (beacon_insight h)
+  pub answer : h.answer ≡ answer_of built_layers past (E.Bcn octets) (beacon_insight h)
+
+-- After a past, time passed and was answered so: the acknowledgments due are those of the messages in progress, and none after a Node
+-- Reset. The tables stand for the entries with this one.
+pub record IsPassed (past : Past) (ticks : ℕ) (passed : Passed) (t : TablesView) : Type 0 where
+  pub sees : Sees built_layers past (E.Tick ticks) OfNothing
+  pub answer : passed.answer ≡ answer_of built_layers past (E.Tick ticks) OfNothing
+  pub acks : passed.acks ≡ (if (config_before past).reset then [] else acks_due (later past ticks) (messages past))
+  pub tables : (e : Told) → e.insight ≡ OfNothing → e.entry.answer ≡ passed.answer → AreTablesOf t (past.told ++ e ∷ [])

@@ -1,0 +1,4 @@
+pub mod Tables
+pub mod Kinds
+pub mod Heard
+pub mod Below

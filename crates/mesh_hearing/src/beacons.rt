@@ -1,0 +1,98 @@
+//! A Secure Network beacon heard (Mesh Profile 1.0.1, sections 3.9.3, 3.10.4 and 3.10.5).
+#![tactic(auto)]
+
+ghost use Rattle.std.specs.Prelude.{◌≡◌, ◌==◌, ℕ, false, Some, None, is_some};
+ghost use Rattle.std.specs.Option.{option_copied};
+ghost use Rattle.layer_definitions.specs.KeyRefresh.{net_row as net_row_in};
+ghost use Rattle.mesh_base.specs.IvState.{HasTransmit};
+ghost use Rattle.mesh_hearing.specs.Below.{beacon_row};
+ghost use Rattle.mesh_hearing.specs.Heard.{IsBeaconHeard};
+ghost use Rattle.node_records.specs.Meaning.{IsMeaningOf};
+ghost use Rattle.node_records.specs.Tables.{config_in};
+ghost use Rattle.run_definitions.specs.Answers.{key_step as key_step_in};
+ghost use Rattle.run_definitions.specs.History.{Past};
+
+use crate::tables::Tables;
+use iv_update::on_beacon;
+use mesh_base::beacon::Beacon;
+use mesh_base::keys::NetKeyRow;
+use mesh_types::answers::{Answer, KeyStep};
+use net_beacon::read;
+use node_records::Persist;
+
+/// What octets heard as a beacon were read as, and the answer.
+#[derive(Drop)]
+pub struct BeaconHearing {
+    /// Whether a Node Reset came before in this life, after which nothing is read.
+    pub reset: bool,
+    /// The beacon, if the octets are those of one.
+    pub beacon: Option<Beacon>,
+    /// The answer.
+    pub answer: Answer,
+}
+
+// The row of a network key index.
+fn net_row(rows: &[NetKeyRow], index: u16) -> Option<&NetKeyRow>
+    ensures { option_copied result ≡ net_row_in rows.now index }
+{
+    rows.iter().find(|row| row.index == index)
+}
+
+// What a beacon does to the Key Refresh phase of its network key.
+fn key_step(row: Option<&NetKeyRow>, b: &Beacon) -> KeyStep
+    ensures { result ≡ key_step_in (option_copied row.entry) b.now }
+{
+    let Some(row) = row else {
+        return KeyStep::Same
+    };
+    if b.fresh && b.refresh && row.phase == 1 {
+        KeyStep::Phase2
+    } else if b.fresh && !b.refresh && row.phase >= 1 {
+        KeyStep::Phase0
+    } else {
+        KeyStep::Same
+    }
+}
+
+// The answer to a beacon, while no own segmented message waits.
+fn beacon_answer(p: &Persist, b: &Beacon) -> Answer
+    requires { HasTransmit p.now.iv }
+    ensures value { result ≡ beacon_row (config_in p.now) b.now }
+{
+    let rows = p.nets.as_slice();
+    Answer::Beacon {
+        index: b.index,
+        key: key_step(net_row(rows, b.index), b),
+        iv: on_beacon(&p.iv, net_row(rows, 0).is_some(), b.index, b.iv, b.update, false),
+    }
+}
+
+impl Tables {
+    /// What a node with a store of this value answers to octets heard as a beacon. No table changes.
+    pub fn hear_beacon(&self, p: &Persist, octets: &[u8]) -> BeaconHearing
+        requires { HasTransmit p.now.iv }
+        ensures heard { (past : Past) → IsMeaningOf past.records p.now → IsBeaconHeard past octets.now result }
+    {
+        node_records::laws::order_law();
+        net_beacon::beacon_law();
+        if p.reset {
+            return BeaconHearing {
+                reset: true,
+                beacon: None,
+                answer: Answer::Reset,
+            };
+        }
+        match read(p.nets.as_slice(), octets) {
+            Ok(beacon) => BeaconHearing {
+                reset: false,
+                answer: beacon_answer(p, &beacon),
+                beacon: Some(beacon),
+            },
+            Err(_) => BeaconHearing {
+                reset: false,
+                beacon: None,
+                answer: Answer::Unread,
+            },
+        }
+    }
+}

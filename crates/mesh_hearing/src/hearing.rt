@@ -1,0 +1,170 @@
+//! A network PDU heard: from its octets to the answer, and what the tables become.
+#![tactic(auto)]
+
+ghost use Rattle.std.specs.Prelude.{◌≡◌, ◌≤◌, ◌<◌, ◌^◌, ◌++◌, true, false, IsFalse, Some, None, fold, IfOk, OnErr, vec_len, vec_capacity};
+ghost use Rattle.layer_states.specs.Cache.{last_of};
+ghost use Rattle.layer_states.specs.Reassembly.{after};
+ghost use Rattle.mesh_hearing.specs.Below.{IsReadAs, IsTransportAs, StandsBelow};
+ghost use Rattle.mesh_hearing.specs.Heard.{insight_of, IsHeard};
+ghost use Rattle.mesh_hearing.specs.Kinds.{is_late};
+ghost use Rattle.mesh_hearing.specs.Tables.{again_after, cache_after, AreTablesOf, IsFit};
+ghost use Rattle.mesh_reading.specs.Held.{held_in, reading_of};
+ghost use Rattle.node_layers.specs.Reassembly.{message_calls, tick_calls};
+ghost use Rattle.node_layers.specs.Steps.{cached_names};
+ghost use Rattle.node_records.specs.Meaning.{IsMeaningOf};
+ghost use Rattle.node_records.specs.Tables.{config_in};
+ghost use Rattle.mesh_types.specs.declared.answers.Answer.TheVariants as A;
+ghost use Rattle.run_definitions.specs.Answers.{cached_name, is_before_cache};
+ghost use Rattle.run_definitions.specs.History.{Past, ticks_after};
+
+use crate::lower::{accepted_part, hear_low};
+use crate::network::network_row;
+use crate::tables::Tables;
+use lower_transport::Lower;
+use mesh_base::pair::Name;
+use mesh_reading::{Keys, NetReading, Opened};
+use mesh_types::answers::Answer;
+use node_records::Persist;
+use relay_cache::Cache;
+use segment_reassembly::Parts;
+use std::alloc::AllocError;
+
+/// What octets heard as a network PDU were read as, as far as a layer came to them, and the answer.
+#[derive(Drop)]
+pub struct Hearing {
+    /// Whether a Node Reset came before in this life, after which nothing is read.
+    pub reset: bool,
+    /// The network PDU, if the octets read as one.
+    pub reading: Option<NetReading>,
+    /// The lower transport PDU, if the network layer had no answer and there is one.
+    pub low: Option<Lower>,
+    /// What a whole access message opened to, if it did.
+    pub opened: Option<Opened>,
+    /// The answer.
+    pub answer: Answer,
+}
+
+// After a Node Reset.
+fn unheard() -> Hearing
+    ensures { result ≡ record { reset = true; reading = None; low = None; opened = None; answer = A.Reset } }
+{
+    Hearing {
+        reset: true,
+        reading: None,
+        low: None,
+        opened: None,
+        answer: Answer::Reset,
+    }
+}
+
+// Of a PDU to which the network layer has the answer.
+fn early(reading: Option<NetReading>, answer: Answer) -> Hearing
+    ensures { result ≡ record { reset = false; reading = reading; low = None; opened = None; answer = answer } }
+{
+    Hearing {
+        reset: false,
+        reading,
+        low: None,
+        opened: None,
+        answer,
+    }
+}
+
+// From the lower transport layer on.
+fn hear_transport(
+    keys: &Keys,
+    p: &Persist,
+    again: &[Name],
+    parts: &mut Parts,
+    now: u64,
+    reading: NetReading,
+) -> Hearing
+    requires fit { keys.now ≡ held_in (config_in p.now) }
+    requires time { now ≤ 2 ^ 48 }
+    ensures value { (past : Past) → StandsBelow past p.now parts.old again.now now → IsTransportAs past (reading_of reading) result }
+    ensures reading { result.reading ≡ Some reading }
+    ensures reset { result.reset ≡ false }
+    ensures late { is_late result.answer ≡ true }
+    ensures parts { parts.new ≡ fold after parts.old (message_calls now (config_in p.now) (insight_of result) result.answer) }
+{
+    match lower_transport::read(reading.fields.ctl, reading.fields.tpdu.as_slice()) {
+        Ok(low) => {
+            let judged = hear_low(keys, p, again, parts, now, &reading, &low);
+            Hearing {
+                reset: false,
+                reading: Some(reading),
+                low: Some(low),
+                opened: judged.opened,
+                answer: judged.answer,
+            }
+        }
+        Err(_) => early(Some(reading), Answer::Malformed),
+    }
+}
+
+// Puts a name, if there is one, behind the others, for which there is room.
+fn push_reserved(names: &mut Vec<Name>, name: Option<Name>)
+    requires { vec_len names.old < vec_capacity names.old }
+    ensures { names.new.items ≡ again_after names.old.items name }
+{
+    if let Some(name) = name {
+        let _ = names.push(name);
+    }
+}
+
+// What is heard of octets, and what becomes of the message cache and of the messages in progress.
+fn hear_octets(
+    keys: &Keys,
+    p: &Persist,
+    cache: &mut Cache,
+    parts: &mut Parts,
+    again: &[Name],
+    now: u64,
+    octets: &[u8],
+) -> Result<Hearing, AllocError>
+    requires fit { keys.now ≡ held_in (config_in p.now) }
+    requires time { now ≤ 2 ^ 48 }
+    ensures heard { (past : Past) → IsFalse p.now.reset → cache.old ≡ last_of 128 (cached_names past.told) → StandsBelow past p.now parts.old again.now now
+        → IfOk result (IsReadAs past octets.now) }
+    ensures reset { IfOk result (λ h. h.reset ≡ false) }
+    ensures cache { IfOk result (λ h. cache.new ≡ cache_after cache.old (cached_name (insight_of h) (is_before_cache h.answer))) }
+    ensures parts { IfOk result (λ h. parts.new ≡ fold after parts.old (message_calls now (config_in p.now) (insight_of h) h.answer ++ tick_calls h.answer)) }
+    ensures time { IfOk result (λ h. ticks_after now h.answer ≡ now) }
+    ensures unchanged { OnErr result ((cache.new ≡ cache.old) × (parts.new ≡ parts.old)) }
+{
+    let reading = match keys.read(p.iv.current, octets) {
+        Some(reading) => reading,
+        None => return Ok(early(None, Answer::Unread)),
+    };
+    match network_row(keys, p, cache, &reading)? {
+        Some(answer) => Ok(early(Some(reading), answer)),
+        None => Ok(hear_transport(keys, p, again, parts, now, reading)),
+    }
+}
+
+impl Tables {
+    /// What a node with a store of this value answers to octets heard as a network PDU, and what its tables become. The error is for want
+    /// of memory, and then nothing changes.
+    pub fn hear(&mut self, p: &Persist, octets: &[u8]) -> Result<Hearing, AllocError>
+        requires { IsFit self.old p.now }
+        ensures heard { (past : Past) → IsMeaningOf past.records p.now → AreTablesOf self.old past.told → IfOk result (λ h. IsHeard past octets.now h self.new) }
+        ensures fit { IsFit self.new p.now }
+        ensures unchanged { OnErr result (self.new ≡ self.old) }
+    {
+        if p.reset {
+            return Ok(unheard());
+        }
+        self.again.reserve(1)?;
+        let hearing = hear_octets(
+            &self.keys,
+            p,
+            &mut self.cache,
+            &mut self.parts,
+            self.again.as_slice(),
+            self.ticks,
+            octets,
+        )?;
+        push_reserved(&mut self.again, accepted_part(&hearing));
+        Ok(hearing)
+    }
+}

@@ -1,0 +1,31 @@
+//! What a node answers to octets heard and to time, and what its tables in memory become. It has no flash: what an answer stores and sends is
+//! for the layers above.
+//!
+//! - `tables`: the tables, and the keys derived from the store
+//! - `hearing`: a network PDU heard, from its octets to the answer
+//! - `network`: the answers of the network layer
+//! - `lower`: the answers of the lower transport layer
+//! - `whole`: the answers to a whole message
+//! - `beacons`: a beacon heard
+//! - `ticks`: time that passed
+//! - `laws`: what the tables stand for
+#![tactic(auto)]
+
+mod beacons;
+mod hearing;
+mod laws;
+mod lower;
+mod network;
+mod tables;
+#[cfg(test)]
+mod tests;
+mod ticks;
+mod whole;
+
+pub use beacons::BeaconHearing;
+pub use hearing::Hearing;
+pub use laws::tables_law;
+pub use layer_states::reassembly::{AckList, DueAck};
+pub use mesh_reading::{Keys, NetReading, Opened};
+pub use tables::Tables;
+pub use ticks::Passed;

@@ -1,0 +1,118 @@
+//! The answers of the network layer (Mesh Profile 1.0.1, section 3.4.6.3).
+#![tactic(auto)]
+
+ghost use Rattle.std.specs.Prelude.{◌≡◌, ◌&&◌, ◌==◌, ℕ, true, List, IfOk, IfSome, OnErr};
+ghost use Rattle.std.specs.List.{list_any};
+ghost use Rattle.layer_states.specs.Cache.{last_of};
+ghost use Rattle.mesh_base.specs.declared.address.Address.{Address};
+ghost use Rattle.mesh_hearing.specs.Below.{cache_after_row, own_address, sender_answer};
+ghost use Rattle.mesh_hearing.specs.Kinds.{is_early};
+ghost use Rattle.node_layers.specs.Steps.{cached_names};
+ghost use Rattle.mesh_reading.specs.Held.{held_in, reading_of};
+ghost use Rattle.node_records.specs.Tables.{config_in};
+ghost use Rattle.run_definitions.specs.Answers.{is_group, is_mine, is_unicast, network_answer};
+ghost use Rattle.run_definitions.specs.History.{Past};
+ghost use Rattle.store_definitions.specs.Config.{config_of, is_element};
+
+use mesh_base::address::Address;
+use mesh_base::fields::NetFields;
+use mesh_base::pair::Pair;
+use mesh_reading::{Keys, NetReading};
+use mesh_types::answers::Answer;
+use node_records::Persist;
+use relay_cache::Cache;
+use std::alloc::AllocError;
+
+// Whether an address is that of an element (section 3.4.2.2).
+fn is_unicast(a: Address) -> bool
+    ensures { result ≡ is_unicast a }
+{
+    1 <= a.0 && a.0 < 0x8000
+}
+
+// Whether an address is a group's (section 3.4.2.4).
+fn is_group(a: Address) -> bool
+    ensures { result ≡ is_group a }
+{
+    0xc000 <= a.0
+}
+
+// Whether an address is that of one of this node's elements.
+fn is_element(p: &Persist, a: Address) -> bool
+    ensures { result ≡ is_element (config_in p.now) a.0 }
+{
+    p.unicast.0 <= a.0 && u32::from(a.0) < u32::from(p.unicast.0) + u32::from(p.elements)
+}
+
+// Whether a model subscribes to this group.
+fn is_subscribed(rows: &[(Address, u16, Address)], a: Address) -> bool
+    ensures { result ≡ list_any (λ (s : Address × ℕ × Address). is_group s.2 && s.2.0 == a.0) rows.now }
+{
+    rows.iter().any(|s| is_group(s.2) && s.2.0 == a.0)
+}
+
+// Whether an address is that of an element, one that all nodes, all friends or all relays have, or a group subscribed to.
+fn is_own(p: &Persist, a: Address) -> bool
+    ensures { result ≡ own_address (config_in p.now) a }
+{
+    is_element(p, a)
+        || a.0 == 0xffff
+        || (a.0 == 0xfffd && p.friend == 1)
+        || (a.0 == 0xfffe && p.relay == 1)
+        || is_subscribed(p.subs.as_slice(), a)
+}
+
+// Whether an address is one of this node's.
+fn is_mine(keys: &Keys, p: &Persist, a: Address) -> bool
+    requires { keys.now ≡ held_in (config_in p.now) }
+    ensures { result ≡ is_mine (config_in p.now) a }
+{
+    is_own(p, a) || keys.is_labelled(a)
+}
+
+// The answer before the message cache is asked, if there is one.
+fn sender_row(p: &Persist, f: &NetFields) -> Option<Answer>
+    ensures value { result ≡ sender_answer (config_in p.now) f.now }
+    ensures early { IfSome result (λ a. is_early a ≡ true) }
+{
+    if !is_unicast(f.src) || f.dst.0 == 0 {
+        Some(Answer::BadAddress)
+    } else if is_element(p, f.src) {
+        Some(Answer::Own)
+    } else {
+        None
+    }
+}
+
+/// The answer of the network layer to a PDU that reads, if it has one. The message cache has a PDU that isn't from this node's own elements.
+pub(crate) fn network_row(
+    keys: &Keys,
+    p: &Persist,
+    cache: &mut Cache,
+    r: &NetReading,
+) -> Result<Option<Answer>, AllocError>
+    requires { keys.now ≡ held_in (config_in p.now) }
+    ensures value { (past : Past) → config_in p.now ≡ config_of past.records → cache.old ≡ last_of 128 (cached_names past.told)
+        → IfOk result (λ row. row ≡ network_answer past (reading_of r.now)) }
+    ensures early { IfOk result (λ row. IfSome row (λ a. is_early a ≡ true)) }
+    ensures state { IfOk result (λ row. cache.new ≡ cache_after_row cache.old r.now.fields row) }
+    ensures unchanged { OnErr result (cache.new ≡ cache.old) }
+{
+    let f = &r.fields;
+    match sender_row(p, f) {
+        Some(answer) => return Ok(Some(answer)),
+        None => {}
+    }
+    let pair = Pair {
+        iv: f.iv,
+        seq: f.seq,
+    };
+    if !cache.first(f.src, pair)? {
+        return Ok(Some(Answer::Cached));
+    }
+    if is_mine(keys, p, f.dst) {
+        Ok(None)
+    } else {
+        Ok(Some(Answer::NotMine))
+    }
+}

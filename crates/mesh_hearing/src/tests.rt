@@ -1,0 +1,444 @@
+//! Worked rows: network PDUs, beacons and ticks with the answer to each. The octets of PDU A, PDU B and of the segment behind them, and those
+//! of the one beacon, are sample data of the Mesh Profile.
+#![tactic(auto)]
+
+ghost use Rattle.std.specs.Prelude.{◌≡◌, IsTrue};
+ghost use Rattle.mesh_base.specs.IvState.{HasTransmit};
+ghost use Rattle.mesh_hearing.specs.Tables.{IsFit};
+ghost use Rattle.mesh_reading.specs.Held.{AreHeldKeys};
+ghost use Rattle.node_records.specs.Tables.{config_in};
+
+use crate::{DueAck, Tables};
+use mesh_base::address::Address;
+use mesh_base::fields::NetFields;
+use mesh_base::iv_state::{IvState, IvStep};
+use mesh_base::keys::{AppKeyRow, NetKeyRow, UpperKey};
+use mesh_base::octets::Octets;
+use mesh_base::pair::{Name, Pair};
+use mesh_base::table::Table;
+use mesh_base::upper::UpperFields;
+use mesh_types::answers::{Answer, KeyName, KeyStep};
+use net_keys::master;
+use node_records::Persist;
+use std::alloc::AllocError;
+use std::test::Fail;
+
+const NK: [u8; 16] = [
+    0x7d, 0xd7, 0x36, 0x4c, 0xd8, 0x42, 0xad, 0x18, 0xc1, 0x7c, 0x2b, 0x82, 0x0c, 0x84, 0xc3, 0xd6,
+];
+
+const DK: [u8; 16] = [
+    0x9d, 0x6d, 0xd0, 0xe9, 0x6e, 0xb2, 0x5d, 0xc1, 0x9a, 0x40, 0xed, 0x99, 0x14, 0xf8, 0xf0, 0x3f,
+];
+
+const AK: [u8; 16] = [
+    0x63, 0x96, 0x47, 0x71, 0x73, 0x4f, 0xbd, 0x76, 0xe3, 0xb4, 0x05, 0x19, 0xd1, 0xd9, 0x4a, 0x48,
+];
+
+// PDU A and PDU B: both segments of a message from 0003 to 1201 under the device key.
+const A: &[u8] =
+    b"\x68\xca\xb5\xc5\x34\x8a\x23\x0a\xfb\xa8\xc6\x3d\x4e\x68\x63\x64\x97\x9d\xea\xf4\xfd\x40\x96\x11\x45\x93\x9c\xda\x0e";
+
+const B: &[u8] =
+    b"\x68\x16\x15\xb5\xdd\x4a\x84\x6c\xae\x0c\x03\x2b\xf0\x74\x6f\x44\xf1\xb8\xcc\x8c\xe5\xed\xc5\x7e\x55\xbe\xed\x49\xc0";
+
+// The payload of that message, and the transport PDU of its first segment.
+const ADD: &[u8] =
+    b"\x00\x56\x34\x12\x63\x96\x47\x71\x73\x4f\xbd\x76\xe3\xb4\x05\x19\xd1\xd9\x4a\x48";
+
+const FIRST: &[u8] = b"\x80\x26\xac\x01\xee\x9d\xdd\xfd\x21\x69\x32\x6d\x23\xf3\xaf\xdf";
+
+const IV: u32 = 0x12345678;
+
+const ME: u16 = 0x1201;
+
+fn pair(seq: u32) -> Pair {
+    Pair { iv: IV, seq }
+}
+
+fn name(src: u16, seq: u32) -> Name {
+    Name {
+        src: Address(src),
+        pair: pair(seq),
+    }
+}
+
+// What the records of a node say that was just provisioned with one network key, under this IV Index.
+fn node(iv: u32) -> Persist
+    ensures keys { AreHeldKeys (config_in result) }
+    ensures transmit { HasTransmit result.iv }
+{
+    let mut p = Persist::new();
+    p.unicast = Address(ME);
+    p.elements = 1;
+    p.dev_key = DK;
+    p.iv = IvState {
+        current: iv,
+        progress: false,
+        hours: 0,
+        since: 192,
+    };
+    let row = NetKeyRow {
+        index: 0,
+        phase: 0,
+        key: NK,
+        next: None,
+    };
+    let mut nets = Table::new();
+    let _ = nets.push(row);
+    p.nets = nets;
+    p.apps = Table::new();
+    p
+}
+
+// The octets of a network PDU; none where there is no such PDU.
+fn pdu(pair: Pair, kind: (bool, u8), src: u16, dst: u16, tpdu: &[u8]) -> Octets<29> {
+    let (ctl, ttl) = kind;
+    let most = if ctl { 12 } else { 16 };
+    if ttl >= 0x80 || pair.seq >= 0x1000000 || tpdu.is_empty() || tpdu.len() > most {
+        return Octets::new();
+    }
+    let mut octets = Octets::new();
+    octets.extend(tpdu);
+    let fields = NetFields {
+        iv: pair.iv,
+        ctl,
+        ttl,
+        seq: pair.seq,
+        src: Address(src),
+        dst: Address(dst),
+        tpdu: octets,
+    };
+    network_layer::seal(&master(&NK), &fields)
+}
+
+// The replay list with the name of an accepted message.
+fn remember(p: &mut Persist, answer: &Answer)
+    ensures { config_in p.new ≡ config_in p.old }
+{
+    let name = match answer {
+        Answer::Delivered { name, .. } => *name,
+        Answer::Control { name, .. } => *name,
+        _ => return,
+    };
+    let held = p.replay.as_slice();
+    let place = held.iter().position(|n| n.src.0 == name.src.0);
+    match place {
+        Some(place) => p.replay.set(place, name),
+        None => {
+            let _ = p.replay.push(name);
+        }
+    }
+}
+
+// The answer to octets heard, after which the replay list has what was accepted.
+fn hear(tables: &mut Tables, p: &mut Persist, octets: &[u8]) -> Result<Answer, AllocError>
+    requires { IsFit tables.old p.old }
+    ensures { IsFit tables.new p.new }
+{
+    let hearing = tables.hear(p, octets)?;
+    remember(p, &hearing.answer);
+    Ok(hearing.answer)
+}
+
+fn delivered(src: u16, seq: u32, key: KeyName, payload: &[u8]) -> Option<Answer> {
+    match Octets::of(payload) {
+        Ok(payload) => Some(Answer::Delivered {
+            name: name(src, seq),
+            dst: Address(ME),
+            key,
+            payload,
+        }),
+        Err(_) => None,
+    }
+}
+
+const WAITING: Answer = Answer::Waiting { missing: 1 };
+
+// Both orders of two segments; each PDU again; a later copy of a segment; both in the next life.
+#[test]
+fn two_segments(rt: HostRuntime) -> Result<(), Fail> {
+    let whole = delivered(3, 0x3129ab, KeyName::Dev, ADD);
+    let mut p = node(IV);
+    let mut tables = Tables::new(rt.alloc(), &p)?;
+    assert!(rt; hear(&mut tables, &mut p, B)? == WAITING);
+    assert!(rt; Some(hear(&mut tables, &mut p, A)?) == whole);
+    let mut p = node(IV);
+    let mut tables = Tables::new(rt.alloc(), &p)?;
+    assert!(rt; hear(&mut tables, &mut p, A)? == WAITING);
+    assert!(rt; Some(hear(&mut tables, &mut p, B)?) == whole);
+    assert!(rt; hear(&mut tables, &mut p, A)? == Answer::Cached);
+    let copy = pdu(pair(0x3129ad), (false, 4), 3, ME, FIRST);
+    assert!(rt; hear(&mut tables, &mut p, copy.as_slice())? == Answer::Again);
+    let kept = pair(0x3129ab);
+    let mut tables = Tables::new(rt.alloc(), &p)?;
+    assert!(rt; hear(&mut tables, &mut p, A)? == Answer::Replay { kept });
+    assert!(rt; hear(&mut tables, &mut p, B)? == Answer::Replay { kept });
+    Ok(())
+}
+
+// The rows of the network layer, each before those below it, and PDUs of three IV Indexes.
+#[test]
+fn network_rows(rt: HostRuntime) -> Result<(), Fail> {
+    let mut p = node(5);
+    let mut tables = Tables::new(rt.alloc(), &p)?;
+    for (iv, seq, src, dst, answer) in [
+        (5, 1, 0x8005, ME, Answer::BadAddress),
+        (5, 1, 0, ME, Answer::BadAddress),
+        (5, 1, ME, 0, Answer::BadAddress),
+        (5, 0, ME, 9, Answer::Own),
+        (5, 0, ME, 9, Answer::Own),
+        (5, 0, ME, ME, Answer::Own),
+        (5, 1, 5, 9, Answer::NotMine),
+        (5, 1, 5, 9, Answer::Cached),
+        (4, 1, 5, 9, Answer::NotMine),
+        (3, 1, 5, 9, Answer::Unread),
+        (5, 2, 5, 0xc001, Answer::NotMine),
+        (5, 3, 5, 0x8001, Answer::NotMine),
+        (5, 4, 5, 0xfffc, Answer::NotMine),
+    ] {
+        let octets = pdu(Pair { iv, seq }, (true, 5), src, dst, b"\x7f");
+        assert!(rt; hear(&mut tables, &mut p, octets.as_slice())? == answer, "{iv} {seq} {src} {dst}");
+    }
+    Ok(())
+}
+
+// No octet of a PDU can be changed in a bit.
+#[test]
+fn flipped(rt: HostRuntime) -> Result<(), Fail> {
+    let mut p = node(IV);
+    let mut tables = Tables::new(rt.alloc(), &p)?;
+    let mut octets = Octets::<29>::new();
+    octets.extend(A);
+    let mut bits = [0; 29];
+    bits.copy_from_slice(A);
+    for place in 0..29 {
+        for bit in [1, 0x80] {
+            bits[place] ^= bit;
+            assert!(rt; hear(&mut tables, &mut p, &bits)? == Answer::Unread, "octet {place}");
+            bits[place] ^= bit;
+        }
+    }
+    assert!(rt; hear(&mut tables, &mut p, &bits)? == WAITING);
+    Ok(())
+}
+
+// An unsegmented access message under this key, sealed with this label, if there is one; no octets where there is no such PDU.
+fn access(key: &UpperKey, seq: u32, dst: u16, label: Option<[u8; 16]>, first: u8) -> Octets<29> {
+    let fields = UpperFields {
+        pair: pair(seq),
+        src: Address(3),
+        dst: Address(dst),
+        long_mic: false,
+        label,
+    };
+    let upper = upper_transport::seal_access(key, &fields, b"\x82\x02");
+    let mut tpdu = Octets::<385>::new();
+    tpdu.extend(&[first]);
+    tpdu.extend(upper.as_slice());
+    pdu(pair(seq), (false, 4), 3, dst, tpdu.as_slice())
+}
+
+// Groups and virtual addresses are the node's by its subscriptions; an application key opens what it sealed, with the label that was used.
+#[test]
+fn keys_and_labels(rt: HostRuntime) -> Result<(), Fail> {
+    let mut p = node(IV);
+    let mut apps = Table::new();
+    let _ = apps.push(AppKeyRow {
+        net: 0,
+        index: 0x123,
+        key: AK,
+        next: None,
+    });
+    p.apps = apps;
+    // The label of the standard's sample, whose virtual address is 9736, behind another label.
+    let label = [
+        0xf4, 0xa0, 0x02, 0xc7, 0xfb, 0x1e, 0x4c, 0xa0, 0xa4, 0x69, 0xa0, 0x21, 0xde, 0x0d, 0xb8,
+        0x75,
+    ];
+    let mut labels = Table::new();
+    let _ = labels.push((Address(ME), 0x1000, [7; 16]));
+    let _ = labels.push((Address(ME), 0x1000, label));
+    p.labels = labels;
+    let mut subs = Table::new();
+    let _ = subs.push((Address(ME), 0x1000, Address(0xc001)));
+    p.subs = subs;
+    let mut tables = Tables::new(rt.alloc(), &p)?;
+    let app = UpperKey::App {
+        index: 0x123,
+        aid: 0x26,
+        key: AK,
+    };
+    let device = UpperKey::Device(DK);
+    for (octets, dst, key) in [
+        (access(&app, 1, ME, None, 0x66), ME, Some(KeyName::App(0x123))),
+        (access(&app, 2, 0xc001, None, 0x66), 0xc001, Some(KeyName::App(0x123))),
+        (access(&app, 3, 0x9736, Some(label), 0x66), 0x9736, Some(KeyName::App(0x123))),
+        (access(&app, 4, 0x9736, Some([7; 16]), 0x66), 0x9736, None),
+        (access(&app, 5, ME, None, 0x65), ME, None),
+        (access(&device, 6, ME, None, 0), ME, Some(KeyName::Dev)),
+        (access(&device, 7, 0xc001, None, 0), 0xc001, None),
+        (access(&device, 8, ME, None, 0x66), ME, None),
+    ] {
+        let answer = hear(&mut tables, &mut p, octets.as_slice())?;
+        match (answer, key) {
+            (Answer::Delivered { dst: to, key: by, payload, .. }, Some(key)) => {
+                assert!(rt; to.0 == dst && by == key && payload.as_slice() == b"\x82\x02".as_slice());
+            }
+            (Answer::NoKey, None) => {}
+            _ => assert!(rt; false, "to {dst}"),
+        }
+    }
+    Ok(())
+}
+
+// The first of two segments from a source, with SeqAuth 000000.
+fn first_part(seq: u32, src: u16) -> Octets<29> {
+    let tpdu: &[u8] = b"\x80\x00\x00\x01\x00\x00\x00\x00\x00\x00\x00\x00\x00\x00\x00\x00";
+    pdu(pair(seq), (false, 4), src, ME, tpdu)
+}
+
+// Eight messages are in progress; a ninth has room when their time is over.
+#[test]
+fn ninth(rt: HostRuntime) -> Result<(), Fail> {
+    let mut p = node(IV);
+    let mut tables = Tables::new(rt.alloc(), &p)?;
+    let mut held = [Name::default(); 8];
+    for i in 0..8 {
+        let src = 0x101 + i as u16;
+        held[i] = name(src, 0);
+        assert!(rt; hear(&mut tables, &mut p, first_part(0, src).as_slice())? == WAITING);
+    }
+    let ninth = hear(&mut tables, &mut p, first_part(0, 0x109).as_slice())?;
+    assert!(rt; ninth == Answer::NoRoom { held });
+    let passed = tables.pass(&p, 1000);
+    assert!(rt; passed.answer == Answer::Ticked { now: 1000 } && passed.acks.is_empty());
+    assert!(rt; hear(&mut tables, &mut p, first_part(1, 0x109).as_slice())? == WAITING);
+    Ok(())
+}
+
+// An acknowledgment is due after 999 ticks; after 1000 the message isn't in progress any more.
+#[test]
+fn between_segments(rt: HostRuntime) -> Result<(), Fail> {
+    let ack = DueAck {
+        name: name(3, 0x3129ab),
+        dst: Address(ME),
+        net: 0,
+        ack_ttl: 7,
+        block: 1,
+    };
+    let whole = delivered(3, 0x3129ab, KeyName::Dev, ADD);
+    let mut p = node(IV);
+    let mut tables = Tables::new(rt.alloc(), &p)?;
+    assert!(rt; hear(&mut tables, &mut p, A)? == WAITING);
+    let passed = tables.pass(&p, 999);
+    assert!(rt; passed.acks.as_slice() == [ack].as_slice() && tables.ticks() == 999);
+    assert!(rt; Some(hear(&mut tables, &mut p, B)?) == whole);
+    let mut p = node(IV);
+    let mut tables = Tables::new(rt.alloc(), &p)?;
+    assert!(rt; hear(&mut tables, &mut p, A)? == WAITING);
+    assert!(rt; tables.pass(&p, 1000).acks.is_empty());
+    assert!(rt; hear(&mut tables, &mut p, B)? == WAITING);
+    Ok(())
+}
+
+// A SeqZero without SeqAuth; a segment at odds with its message; a whole message that no key opens, after which another begins under the
+// name; a message of one piece.
+#[test]
+fn segments(rt: HostRuntime) -> Result<(), Fail> {
+    let mut p = node(IV);
+    let mut tables = Tables::new(rt.alloc(), &p)?;
+    let none: &[u8] = b"\x80\x7f\xfc\x01\x00\x00\x00\x00\x00\x00\x00\x00\x00\x00\x00\x00";
+    // The second segment with its last octet changed, which belongs to the TransMIC.
+    let wrong: &[u8] = b"\x80\x26\xac\x21\xcf\xdc\x18\xc5\x2f\xde\xf7\x72\xe0\xe1\x73\x09";
+    let odd: &[u8] = b"\x00\x26\xac\x21\xcf\xdc\x18\xc5\x2f\xde\xf7\x72\xe0\xe1\x73\x09";
+    let one: &[u8] = b"\x80\x00\x14\x00\x01\x02\x03\x04\x05";
+    for (octets, answer) in [
+        (pdu(pair(0x10), (false, 4), 5, ME, none), Answer::Malformed),
+        (pdu(pair(0x11), (false, 4), 5, ME, b"\x80"), Answer::Malformed),
+        (pdu(pair(0x3129ab), (false, 4), 3, ME, FIRST), WAITING),
+        (pdu(pair(0x3129ac), (false, 4), 3, 0xffff, wrong), Answer::Conflict),
+        (pdu(pair(0x3129ad), (false, 4), 3, ME, wrong), Answer::NoKey),
+        (pdu(pair(0x3129ae), (false, 4), 3, ME, wrong), WAITING),
+        (pdu(pair(0x3129af), (false, 4), 3, ME, odd), Answer::NoKey),
+        (pdu(pair(5), (false, 4), 6, ME, one), Answer::NoKey),
+    ] {
+        assert!(rt; hear(&mut tables, &mut p, octets.as_slice())? == answer);
+    }
+    Ok(())
+}
+
+// 512 sources have an entry, and no other has a place.
+#[test]
+fn full_list(rt: HostRuntime) -> Result<(), Fail> {
+    let mut p = node(IV);
+    let mut tables = Tables::new(rt.alloc(), &p)?;
+    for src in 0x101..0x301 {
+        let octets = pdu(pair(1), (true, 0), src, ME, b"\x7f");
+        match hear(&mut tables, &mut p, octets.as_slice())? {
+            Answer::Control { name: n, opcode: 0x7f, .. } => assert!(rt; n == name(src, 1)),
+            _ => assert!(rt; false, "{src}"),
+        }
+    }
+    let other = pdu(pair(1), (true, 0), 0x301, ME, b"\x7f");
+    assert!(rt; hear(&mut tables, &mut p, other.as_slice())? == Answer::ListFull { held: 512 });
+    let again = pdu(pair(1), (true, 1), 0x101, ME, b"\x7f");
+    assert!(rt; hear(&mut tables, &mut p, again.as_slice())? == Answer::Replay { kept: pair(1) });
+    let next = pdu(pair(2), (true, 0), 0x101, ME, b"\x7f");
+    match hear(&mut tables, &mut p, next.as_slice())? {
+        Answer::Control { name: n, .. } => assert!(rt; n == name(0x101, 2)),
+        _ => assert!(rt; false),
+    }
+    Ok(())
+}
+
+fn beacon(key: KeyStep, iv: IvStep) -> Answer {
+    Answer::Beacon { index: 0, key, iv }
+}
+
+// Beacons of another IV Index, and the standard's sample.
+#[test]
+fn beacons(rt: HostRuntime) -> Result<(), Fail> {
+    let sample: &[u8] =
+        b"\x01\x00\x3e\xca\xff\x67\x2f\x67\x33\x70\x12\x34\x56\x78\x8e\xa2\x61\x58\x2f\x36\x4f\x6f";
+    let mut p = node(IV);
+    let tables = Tables::new(rt.alloc(), &p)?;
+    let heard = tables.hear_beacon(&p, sample);
+    assert!(rt; heard.answer == beacon(KeyStep::Same, IvStep::Ignore { rule: 5 }));
+    assert!(rt; tables.hear_beacon(&p, &sample[..21]).answer == Answer::Unread);
+    let p = node(5);
+    let tables = Tables::new(rt.alloc(), &p)?;
+    let recovered = IvState {
+        current: 0x2f,
+        progress: false,
+        hours: 0,
+        since: 0,
+    };
+    for (flags, iv, step) in [
+        (0, 0x2f, IvStep::Recover(recovered)),
+        (0, 0x30, IvStep::Ignore { rule: 2 }),
+        (2, 6, IvStep::Ignore { rule: 4 }),
+        (0, 4, IvStep::Ignore { rule: 1 }),
+    ] {
+        let octets = net_beacon::write(&NK, flags, iv);
+        assert!(rt; tables.hear_beacon(&p, &octets).answer == beacon(KeyStep::Same, step), "{iv}");
+    }
+    Ok(())
+}
+
+// After a Node Reset nothing is read, and nothing changes.
+#[test]
+fn after_reset(rt: HostRuntime) -> Result<(), Fail> {
+    let mut p = node(IV);
+    let mut tables = Tables::new(rt.alloc(), &p)?;
+    assert!(rt; hear(&mut tables, &mut p, A)? == WAITING);
+    p.reset = true;
+    assert!(rt; hear(&mut tables, &mut p, B)? == Answer::Reset);
+    assert!(rt; tables.pass(&p, 1000).answer == Answer::Reset && tables.ticks() == 0);
+    assert!(rt; tables.hear_beacon(&p, &[]).answer == Answer::Reset);
+    p.reset = false;
+    tables.renew_keys(&p);
+    let whole = delivered(3, 0x3129ab, KeyName::Dev, ADD);
+    assert!(rt; Some(hear(&mut tables, &mut p, B)?) == whole);
+    Ok(())
+}
