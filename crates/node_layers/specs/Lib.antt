@@ -5,3 +5,4 @@ pub mod Configuration
 pub mod Publishing
 pub mod Friendship
 pub mod NodeLayers
+pub mod BuiltLayers

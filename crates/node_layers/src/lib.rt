@@ -5,6 +5,7 @@
 //! - `Configuration`, `Models`, `Publishing`: the Configuration Server, the models, and what is published
 //! - `Friendship`: what is stored for Low Power nodes, and what their messages ask for
 //! - `NodeLayers`: the constant, `node_layers`
+//! - `BuiltLayers`: the layers that the machine has so far, `built_layers`
 //!
 //! That it has the properties `AreSafe` of `run_safety` and `AreFit` of `run_definitions` isn't proved yet.
 #![tactic(auto)]

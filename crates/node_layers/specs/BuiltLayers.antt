@@ -1,0 +1,12 @@
+-- The layers that the machine has so far: reassembly. All others have nothing to say.
+use Rattle.node_layers.specs.Reassembly.{acks_at, is_conflict, missing_after, names_in_progress, octets_after}
+use Rattle.run_definitions.specs.Layers.{Layers, quiet_layers}
+
+unfoldable pub built_layers : Layers
+built_layers = record quiet_layers {
+  in_progress = names_in_progress;
+  conflicts = is_conflict;
+  missing = missing_after;
+  whole = octets_after;
+  acks_due = acks_at;
+}
