@@ -1,11 +1,7 @@
-use Rattle.std.proofs.Common.{◌≡◌, ◌∙◌, ◌++◌, ap, sym, List, None, Some, ℕ, cond, []}
-use Rattle.std.specs.Prelude.{◌&&◌, not, All, ◌≤◌}
-use Rattle.std.specs.List.{flat_map}
+use Rattle.std.proofs.Common.{◌≡◌, ◌∙◌, ◌++◌, ap, sym, None, Some, cond, []}
+use Rattle.std.specs.Prelude.{◌&&◌, not}
 use Rattle.layer_definitions.specs.KeyRefresh.{transmit_material}
-use Rattle.layer_definitions.specs.Lower.{last_segment}
 use Rattle.layer_states.specs.Sending.{is_due, is_last, round_of}
-use Rattle.mesh_base.specs.declared.fields.NetMaterial.{NetMaterial}
-use Rattle.mesh_types.specs.declared.jobs.Job.{Job}
 use Rattle.node_layers.specs.Sending.{segment_job}
 use Rattle.run_definitions.specs.Jobs.{under}
 use Rattle.node_records.specs.Tables.{config_in}

@@ -1,0 +1,2 @@
+//! Worked rows of records.
+#![tactic(auto)]
