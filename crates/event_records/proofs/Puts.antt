@@ -1,6 +1,7 @@
 -- What is stored may be put: the record of a new IV state, alone and behind another.
-use Rattle.std.proofs.Common.{◌≡◌, ◌∙◌, ℕ, ◌+◌, ◌-◌, ◌*◌, ◌%◌, ◌^◌, ◌<◌, ◌≤◌, Bool, true, false, cond, List, [], ◌∷◌, length, map, refl, sym, ap, subst, arith}
-use Rattle.std.specs.Prelude.{nat_lt}
+use Rattle.std.proofs.Common.{◌≡◌, ◌∙◌, ℕ, ◌+◌, ◌-◌, ◌*◌, ◌%◌, ◌^◌, ◌<◌, ◌≤◌, Bool, true, false, cond, List, [], ◌∷◌, ◌++◌, length, refl, sym, ap, subst, arith}
+use Rattle.std.specs.Prelude.{◌==◌, nat_lt, replicate}
+use Rattle.std.proofs.lemmas.List.{length-map}
 use Rattle.std.proofs.lemmas.Bool.Decides.{nat_tests}
 use Rattle.event_records.specs.Putting.{ArePuttable}
 use Rattle.event_records.specs.Steps.{LeadsOn}
@@ -9,11 +10,15 @@ use Rattle.mesh_base.specs.IvState.{HasTransmit, transmit_of}
 use Rattle.mesh_base.specs.declared.iv_state.IvState.{IvState}
 use Rattle.mesh_base.specs.declared.iv_state.IvStep.{IvStep}
 use Rattle.mesh_base.specs.declared.iv_state.IvStep.TheVariants.{Begin, Finish, Ignore, Recover, Wait}
+use Rattle.mesh_base.specs.declared.keys.NetKeyRow.{NetKeyRow}
+use Rattle.mesh_types.specs.declared.answers.KeyStep.{KeyStep}
+use Rattle.mesh_types.specs.declared.answers.KeyStep.TheVariants as S
 use Rattle.node_records.specs.Tables.{config_in}
 use Rattle.node_records.specs.declared.persist.Persist.{Persist}
 use Rattle.record_types.specs.declared.records.StoreRecord.{StoreRecord}
 use Rattle.record_types.specs.declared.records.StoreRecord.TheVariants as R
-use Rattle.store_definitions.specs.Config.{Config, changed}
+use Rattle.run_definitions.specs.Stores.{phase_records}
+use Rattle.store_definitions.specs.Config.{Config, change_net, changed, finished_net}
 use Rattle.store_definitions.specs.Numbers.{moved}
 use Rattle.store_definitions.specs.Ranges.{IsInRange, IsMark}
 
@@ -65,3 +70,29 @@ after_hour p q hours since e = (ap (λ (c : Config). c.iv.current) e, ap (λ (c 
 pub after_phase : (p q : Persist) (op index : ℕ) (key : List ℕ) → config_in q ≡ changed (config_in p) (R.NetKey op index key) → (q.iv.current ≡ p.iv.current) × (q.mark ≡ p.mark)
 unfolding changed
 after_phase p q op index key e = (ap (λ (c : Config). c.iv.current) e, ap (λ (c : Config). c.mark) e)
+
+-- The hours, and a phase, before what may be put over the same known IV Index and mark.
+
+pub hour_may : (p : Persist) (hours since : ℕ) (rest : List StoreRecord) → hours < 2 ^ 16 → since < 2 ^ 16
+    → ((q : Persist) → q.iv.current ≡ p.iv.current → q.mark ≡ p.mark → ArePuttable q rest) → ArePuttable p (R.Hour hours since ∷ rest)
+hour_may p hours since rest h s may =
+    ((h, s), tt, (λ full. full), (λ q e. let same = after_hour p q hours since e in may q same.0 same.1))
+
+same_many : (index : ℕ) (f : NetKeyRow → NetKeyRow) (rows : List NetKeyRow) → length rows ≤ 4 → 4 < length (change_net index f rows) → ⊥
+same_many index f rows few full = omega (arith, few, full, length-map rows (λ (r : NetKeyRow). cond (r.index == index) (f r) r))
+
+pub phase_may : (p : Persist) (index : ℕ) (key : KeyStep) (rest : List StoreRecord) → index ≤ 0xfff → length p.nets ≤ 4
+    → ((q : Persist) → q.iv.current ≡ p.iv.current → q.mark ≡ p.mark → ArePuttable q rest) → ArePuttable p (phase_records index key ++ rest)
+phase_may p index S.Same rest width few may = may p refl refl
+phase_may p index S.Phase2 rest width few may = (
+  (omega arith, omega arith, width, refl),
+  tt,
+  same_many index (λ r. record r { phase = 2 }) p.nets few,
+  (λ q e. let same = after_phase p q 3 index (replicate 16 0) e in may q same.0 same.1),
+)
+phase_may p index S.Phase0 rest width few may = (
+  (omega arith, omega arith, width, refl),
+  tt,
+  same_many index finished_net p.nets few,
+  (λ q e. let same = after_phase p q 4 index (replicate 16 0) e in may q same.0 same.1),
+)

@@ -1,7 +1,7 @@
 //! What is stored when a beacon was heard.
 #![tactic(auto)]
 
-ghost use Rattle.std.specs.Prelude.{◌≡◌, ℕ, ◌≤◌, ◌++◌, List};
+ghost use Rattle.std.specs.Prelude.{◌≡◌, ℕ, ◌≤◌, ◌++◌, List, length};
 ghost use Rattle.std.specs.Option.{option_to_list};
 ghost use Rattle.event_records.specs.Putting.{ArePuttable};
 ghost use Rattle.event_records.specs.Steps.{IsStepFrom, LeadsOn};
@@ -43,6 +43,13 @@ fn phase_record(index: u16, key: KeyStep) -> Option<StoreRecord>
     })
 }
 
+// What the type of the table of network keys says of it, as a clause that a proof can cite.
+fn few_nets(p: &Persist)
+    ensures { length p.now.nets ≤ 4 }
+{
+    let _ = p.nets.len();
+}
+
 // What a beacon that does this stores.
 fn step_and_phase(p: &Persist, index: u16, key: KeyStep, iv: &IvStep) -> Records
     requires said { IsSaid p.now }
@@ -52,6 +59,7 @@ fn step_and_phase(p: &Persist, index: u16, key: KeyStep, iv: &IvStep) -> Records
     ensures may { ArePuttable p.now result }
 {
     value_law();
+    few_nets(p);
     let mut records = Records::new();
     add(&mut records, phase_record(index, key));
     add(&mut records, step_record(p, iv));

@@ -1,12 +1,12 @@
 //! The record of a new IV state.
 #![tactic(auto)]
 
-ghost use Rattle.std.specs.Prelude.{◌≡◌, ◌+◌, ◌<◌, ◌≤◌, ◌++◌, length, List, ◌∷◌, []};
+ghost use Rattle.std.specs.Prelude.{◌≡◌, ◌+◌, ◌*◌, ◌^◌, ◌<◌, ◌≤◌, ◌++◌, nat_lt, if◌then◌else◌, length, List, ◌∷◌, []};
 ghost use Rattle.std.specs.Option.{option_to_list};
 ghost use Rattle.event_records.specs.Putting.{ArePuttable};
 ghost use Rattle.event_records.specs.Steps.{LeadsOn};
 ghost use Rattle.iv_update.specs.Steps.{IsLater};
-ghost use Rattle.mesh_base.specs.IvState.{HasTransmit};
+ghost use Rattle.mesh_base.specs.IvState.{HasTransmit, transmit_of};
 ghost use Rattle.node_records.specs.Tables.{config_in};
 ghost use Rattle.node_records.specs.declared.persist.Persist.{Persist};
 ghost use Rattle.run_definitions.specs.Stores.{step_records};
@@ -18,7 +18,28 @@ use mesh_base::iv_state::{IvState, IvStep};
 use node_records::Persist;
 use record_types::records::StoreRecord;
 
-/// The record of a new IV state. Where the transmit IV Index rises, SEQ starts at 0 under it; else the mark stays.
+// The mark under a new IV state: where the transmit IV Index rises, SEQ starts at 0 under it; else the mark stays.
+fn mark_under(p: &Persist, s: &IvState) -> u64
+    requires old { HasTransmit p.now.iv }
+    requires new { HasTransmit s.now }
+    ensures { result ≡ (if nat_lt (transmit_of p.now.iv) (transmit_of s.now) then transmit_of s.now * 2 ^ 25 else p.now.mark) }
+{
+    let transmit = s.transmit();
+    if p.iv.transmit() < transmit {
+        u64::from(transmit) << 25
+    } else {
+        p.mark
+    }
+}
+
+// What the types of a state's numbers say of them, as clauses that a proof can cite.
+fn in_widths(current: u32, hours: u16, since: u16)
+    ensures current { current < 2 ^ 32 }
+    ensures hours { hours < 2 ^ 16 }
+    ensures since { since < 2 ^ 16 }
+{}
+
+/// The record of a new IV state.
 pub(crate) fn moved(p: &Persist, s: &IvState) -> StoreRecord
     requires old { HasTransmit p.now.iv }
     requires new { HasTransmit s.now }
@@ -26,16 +47,11 @@ pub(crate) fn moved(p: &Persist, s: &IvState) -> StoreRecord
     ensures may { IsMark p.now.iv p.now.mark → IsLater p.now.iv s.now → (q : Persist) → q.iv.current ≡ p.now.iv.current → q.mark ≡ p.now.mark
         → ArePuttable q (result ∷ []) }
 {
-    let transmit = s.transmit();
-    let mark = if p.iv.transmit() < transmit {
-        u64::from(transmit) << 25
-    } else {
-        p.mark
-    };
+    in_widths(s.current, s.hours, s.since);
     StoreRecord::Numbers {
         current: s.current,
         progress: s.progress,
-        mark,
+        mark: mark_under(p, s),
         hours: s.hours,
         since: s.since,
     }
