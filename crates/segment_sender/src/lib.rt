@@ -14,4 +14,5 @@ mod senders;
 mod tests;
 
 pub use layer_states::sending::{Acked, DueList, Outgoing, Sending};
+pub use message::round_due;
 pub use senders::{SendFull, Senders};

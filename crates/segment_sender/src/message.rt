@@ -1,7 +1,7 @@
 //! One message, its pieces and its rounds.
 #![tactic(auto)]
 
-ghost use Rattle.std.specs.Prelude.{◌≡◌, ◌+◌, ◌*◌, ◌^◌, ◌≤◌, ◌<◌, ◌++◌, [], ◌∷◌, Some, None, if◌then◌else◌, length, map};
+ghost use Rattle.std.specs.Prelude.{◌≡◌, ◌+◌, ◌*◌, ◌^◌, ◌≤◌, ◌<◌, ◌++◌, ◌&&◌, not, [], ◌∷◌, Some, None, if◌then◌else◌, length, map};
 ghost use Rattle.layer_definitions.specs.Lower.{last_segment as last_segment_in};
 ghost use Rattle.layer_states.specs.Names.{is_unicast as is_unicast_in};
 ghost use Rattle.layer_states.specs.Sending.{begun as begun_in, has_bit as has_bit_in, is_due as is_due_in, is_last as is_last_in, left_after, pieces_of as pieces_in, round_after as round_after_in, round_of as round_in, segments_due, stepped};
@@ -127,14 +127,26 @@ fn round_of(s: &Sending) -> PieceList
     }
 }
 
-// Puts the segments of a round behind the others.
-fn push_round(list: &mut DueList, s: &Sending)
-    requires { length list.old + 32 ≤ 128 }
-    ensures value { list.new ≡ list.old ++ map (λ i. (s.now.message.name, i)) (round_in s.now) }
-    ensures length { length list.new ≤ length list.old + 32 }
+/// The pieces of a message that are due at `now`, in ticks of 10 ms, by their SegO in ascending order: to one element those that aren't
+/// acknowledged, to several all of them; none before the round is due, or where the message has had all its rounds.
+pub fn round_due(now: u64, s: &Sending) -> PieceList
+    ensures value { result ≡ (if is_due_in now s.now && not (is_last_in s.now) then round_in s.now else []) }
+    ensures length { length result ≤ 32 }
 {
-    let round = round_of(s);
-    for i in round.as_slice() {
+    if is_due(now, s) && !is_last(s) {
+        round_of(s)
+    } else {
+        PieceList::new()
+    }
+}
+
+// Puts segments of a message behind the others.
+fn push_round(list: &mut DueList, s: &Sending, round: &[u8])
+    requires { length list.old + length round.now ≤ 128 }
+    ensures value { list.new ≡ list.old ++ map (λ i. (s.now.message.name, i)) round.now }
+    ensures length { length list.new ≡ length list.old + length round.now }
+{
+    for i in round {
         let _ = list.push((s.message.name, *i));
     }
 }
@@ -145,9 +157,7 @@ pub(crate) fn push_due(list: &mut DueList, now: u64, s: &Sending)
     ensures value { list.new ≡ list.old ++ segments_due now s.now }
     ensures length { length list.new ≤ length list.old + 32 }
 {
-    if is_due(now, s) && !is_last(s) {
-        push_round(list, s);
-    }
+    push_round(list, s, round_due(now, s).as_slice());
 }
 
 /// Whether a message is still held at `now`; a round that is due then is counted.

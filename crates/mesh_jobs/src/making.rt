@@ -1,0 +1,18 @@
+//! A job that is made only where its key is held.
+#![tactic(auto)]
+
+ghost use Rattle.std.specs.Prelude.{◌≡◌, ◌+◌, ◌<◌, ◌≤◌, ◌++◌, length};
+ghost use Rattle.std.specs.Option.{option_to_list};
+
+use mesh_types::jobs::{Job, Jobs};
+
+/// Puts a job behind the others, if it was made.
+pub(crate) fn push_made(jobs: &mut Jobs, job: Option<Job>)
+    requires room { length jobs.old < 160 }
+    ensures value { jobs.new ≡ jobs.old ++ option_to_list job }
+    ensures few { length jobs.new ≤ length jobs.old + 1 }
+{
+    if let Some(job) = job {
+        jobs.push(job);
+    }
+}

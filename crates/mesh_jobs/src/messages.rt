@@ -1,0 +1,188 @@
+//! The node's own messages.
+#![tactic(auto)]
+
+ghost use Rattle.std.specs.Prelude.{◌≡◌, ℕ, ◌+◌, ◌<◌, ◌≤◌, ◌^◌, List, [], length};
+ghost use Rattle.std.specs.Option.{option_map_or, option_to_list};
+ghost use Rattle.app_keys.specs.AppRows.{AppRows};
+ghost use Rattle.mesh_base.specs.declared.keys.UpperKey.{UpperKey};
+ghost use Rattle.mesh_jobs.specs.Own.{IsBefriended, IsOutgoing, IsSingle};
+ghost use Rattle.mesh_types.specs.declared.answers.Answer.TheVariants as A;
+ghost use Rattle.mesh_types.specs.declared.events.Event.TheVariants as E;
+ghost use Rattle.node_records.specs.Tables.{config_in};
+ghost use Rattle.run_definitions.specs.History.{Insight, Past};
+ghost use Rattle.run_definitions.specs.Jobs.{first_net as first_net_in, jobs_of, raw_jobs, send_keys as send_keys_in, sent_job as sent_job_in};
+ghost use Rattle.run_definitions.specs.Layers.{Layers};
+
+use crate::elements::element_address;
+use crate::making::push_made;
+use crate::replies::is_stored;
+use crate::segments::push_first_round;
+use app_keys::AppKeys;
+use layer_states::sending::Outgoing;
+use mesh_base::address::Address;
+use mesh_base::keys::UpperKey;
+use mesh_base::octets::Octets;
+use mesh_types::answers::Answer;
+use mesh_types::events::{Event, SendKey};
+use mesh_types::jobs::{Job, Jobs};
+use net_keys::NetKeys;
+use node_records::Persist;
+
+// The index of the first network key, under which goes what no other rule gives one.
+fn first_net(p: &Persist) -> Option<u16>
+    ensures { result ≡ first_net_in (config_in p.now) }
+{
+    match p.nets.as_slice() {
+        [row, ..] => Some(row.index),
+        [] => None,
+    }
+}
+
+// A control PDU from the first element, under the first network key.
+fn raw_job(p: &Persist, nets: &NetKeys, dst: Address, ttl: u8, tpdu: &Octets<16>) -> Option<Job>
+    requires nets { nets.now ≡ p.now.nets }
+    ensures { option_to_list result ≡ raw_jobs (config_in p.now) dst ttl tpdu.now }
+{
+    let net = first_net(p)?;
+    let material = nets.transmit(net)?;
+    Some(Job::Control {
+        material,
+        ttl,
+        src: p.unicast,
+        dst,
+        tpdu: tpdu.copied(),
+        keep: None,
+    })
+}
+
+// The network key index and the key of an own access message.
+fn send_keys(p: &Persist, apps: &AppKeys, key: &SendKey) -> Option<(u16, UpperKey)>
+    requires apps { apps.now ≡ record { apps = p.now.apps; nets = p.now.nets } }
+    ensures { result ≡ send_keys_in (config_in p.now) key.now }
+{
+    match key {
+        SendKey::Own => Some((first_net(p)?, UpperKey::Device(p.dev_key))),
+        SendKey::Other(key) => Some((first_net(p)?, UpperKey::Device(*key))),
+        SendKey::App(index) => apps.transmit(*index),
+    }
+}
+
+// An access message whose payload is that of the event, from an element, under these keys.
+fn sent_job(
+    p: &Persist,
+    nets: &NetKeys,
+    element: u8,
+    dst: Address,
+    ttl: u8,
+    keys: (u16, UpperKey),
+) -> Option<Job>
+    requires nets { nets.now ≡ p.now.nets }
+    requires element { p.now.unicast.0 + element < 2 ^ 16 }
+    ensures { option_to_list result ≡ sent_job_in (config_in p.now) element dst ttl keys }
+{
+    let (net, key) = keys;
+    let material = nets.transmit(net)?;
+    Some(Job::Sent {
+        net,
+        material,
+        key,
+        ttl,
+        src: element_address(p, element),
+        dst,
+    })
+}
+
+// The job of a message that the node is asked to send, by the rule of its key.
+fn send_job(
+    p: &Persist,
+    nets: &NetKeys,
+    apps: &AppKeys,
+    element: u8,
+    dst: Address,
+    ttl: u8,
+    key: &SendKey,
+) -> Option<Job>
+    requires nets { nets.now ≡ p.now.nets }
+    requires apps { apps.now ≡ record { apps = p.now.apps; nets = p.now.nets } }
+    requires element { p.now.unicast.0 + element < 2 ^ 16 }
+    ensures { option_to_list result ≡ option_map_or (sent_job_in (config_in p.now) element dst ttl) (send_keys_in (config_in p.now) key.now) [] }
+{
+    let keys = send_keys(p, apps, key)?;
+    sent_job(p, nets, element, dst, ttl, keys)
+}
+
+// The job of an event that asks for one at most.
+#[tactic(auto, unfolding(run_definitions::specs::Jobs::jobs_of))]
+fn own_job(
+    p: &Persist,
+    nets: &NetKeys,
+    apps: &AppKeys,
+    event: &Event,
+    befriended: bool,
+) -> Option<Job>
+    requires nets { nets.now ≡ p.now.nets }
+    requires apps { apps.now ≡ record { apps = p.now.apps; nets = p.now.nets } }
+    requires single { IsSingle (config_in p.now) event.now }
+    ensures { (layers : Layers) (past : Past) (insight : Insight) → IsBefriended layers past event.now befriended
+        → option_to_list result ≡ jobs_of layers past (config_in p.now) event.now insight A.Planned }
+{
+    match event {
+        Event::Raw { dst, ttl, tpdu } => raw_job(p, nets, *dst, *ttl, tpdu),
+        Event::Send {
+            element,
+            dst,
+            ttl,
+            key,
+            payload,
+        } => {
+            if is_stored(befriended, payload.as_slice()) {
+                return None;
+            }
+            send_job(p, nets, apps, *element, *dst, *ttl, key)
+        }
+        _ => None,
+    }
+}
+
+/// The jobs of an event that asks for one at most: a message or a control PDU that the node is asked to send, where it was answered `planned`;
+/// a beacon heard and octets that were kept ask for none. `befriended` says whether the message goes to an address of a friendship that
+/// stands. `p` is what the records after the event say, and `nets` and `apps` are its keys.
+#[tactic(auto, unfolding(run_definitions::specs::Jobs::jobs_of))]
+pub fn own_jobs(
+    p: &Persist,
+    nets: &NetKeys,
+    apps: &AppKeys,
+    event: &Event,
+    befriended: bool,
+    answer: &Answer,
+) -> Jobs
+    requires nets { nets.now ≡ p.now.nets }
+    requires apps { apps.now ≡ record { apps = p.now.apps; nets = p.now.nets } }
+    requires single { IsSingle (config_in p.now) event.now }
+    ensures value { (layers : Layers) (past : Past) (insight : Insight) → IsBefriended layers past event.now befriended
+        → result ≡ jobs_of layers past (config_in p.now) event.now insight answer.now }
+    ensures few { length result ≤ 1 }
+{
+    let mut jobs = Jobs::new();
+    if let Answer::Planned = answer {
+        push_made(&mut jobs, own_job(p, nets, apps, event, befriended));
+    }
+    jobs
+}
+
+/// The jobs of an own message that begins, where it was answered `begun`: all of its segments. `p` is what the records after the event say,
+/// and `nets` are its keys.
+#[tactic(auto, unfolding(run_definitions::specs::Jobs::jobs_of))]
+pub fn begin_jobs(p: &Persist, nets: &NetKeys, m: &Outgoing, answer: &Answer) -> Jobs
+    requires nets { nets.now ≡ p.now.nets }
+    requires outgoing { IsOutgoing m.now }
+    ensures value { (layers : Layers) (past : Past) (insight : Insight) →
+        result ≡ jobs_of layers past (config_in p.now) (E.Begin m.now.name.pair m.now.dst m.now.name.src m.now.ttl m.now.net m.now.akf m.now.aid m.now.upper) insight answer.now }
+    ensures few { length result ≤ 32 }
+{
+    let mut jobs = Jobs::new();
+    if let Answer::Begun = answer {
+        push_first_round(&mut jobs, p, nets, m);
+    }
+    jobs
+}

@@ -1,0 +1,227 @@
+//! What a network PDU heard asks for.
+#![tactic(auto)]
+
+ghost use Rattle.std.specs.Prelude.{◌≡◌, ℕ, ◌+◌, ◌-◌, ◌<◌, ◌≤◌, ◌^◌, ◌==◌, ◌&&◌, not, nat_le, ◌++◌, List, Option, Some, IfSome, length};
+ghost use Rattle.std.specs.Option.{option_map, option_copied, option_to_list};
+ghost use Rattle.layer_definitions.specs.KeyRefresh.{transmit_material};
+ghost use Rattle.layer_definitions.specs.Lower.{Fits};
+ghost use Rattle.mesh_base.specs.declared.fields.NetMaterial.{NetMaterial};
+ghost use Rattle.mesh_jobs.specs.Hearing.{insight_of, reading_of};
+ghost use Rattle.mesh_jobs.specs.Phases.{phases_of};
+ghost use Rattle.mesh_types.specs.declared.events.Event.TheVariants as E;
+ghost use Rattle.mesh_types.specs.declared.jobs.Job.TheVariants as J;
+ghost use Rattle.node_layers.specs.BuiltLayers.{built_layers};
+ghost use Rattle.node_records.specs.Tables.{config_in};
+ghost use Rattle.run_definitions.specs.Answers.{config_before, is_before_cache as is_before_cache_in};
+ghost use Rattle.run_definitions.specs.History.{Opening, Past};
+ghost use Rattle.run_definitions.specs.Jobs.{ack_job as ack_job_in, ack_jobs, block_asked as block_asked_in, jobs_of, relay_jobs, segment_numbers as segment_numbers_in};
+ghost use Rattle.store_definitions.specs.Config.{is_element as is_element_in};
+
+use crate::acknowledgments::{acknowledgment, all_pieces};
+use crate::elements::{is_element, is_unicast};
+use crate::making::push_made;
+use crate::refresh::{Phases, push_refresh};
+use crate::replies::reply_ttl;
+use mesh_base::fields::NetFields;
+use mesh_base::lower::Lower;
+use mesh_types::answers::Answer;
+use mesh_types::jobs::{Job, Jobs};
+use net_keys::NetKeys;
+use network_layer::NetReading;
+use node_records::Persist;
+
+// Whether a PDU goes on: Relay is on, a TTL is left, and it isn't for an element of this node.
+fn is_relayed(p: &Persist, f: &NetFields) -> bool
+    ensures { result ≡ (p.now.relay == 1 && nat_le 2 f.now.ttl && not (is_element_in (config_in p.now) f.now.dst.0)) }
+{
+    p.relay == 1 && f.ttl >= 2 && !is_element(p, f.dst)
+}
+
+// The fields with one TTL less.
+fn lowered(f: &NetFields) -> NetFields
+    requires { 1 ≤ f.now.ttl }
+    ensures { result ≡ record f.now { ttl = f.now.ttl - 1 } }
+{
+    NetFields {
+        iv: f.iv,
+        ctl: f.ctl,
+        ttl: f.ttl - 1,
+        seq: f.seq,
+        src: f.src,
+        dst: f.dst,
+        tpdu: f.tpdu.copied(),
+    }
+}
+
+// The PDU as it goes on, under the master credentials of the network key that it was heard with.
+fn relay_job(nets: &NetKeys, r: &NetReading) -> Option<Job>
+    requires { 1 ≤ r.now.fields.ttl }
+    ensures { result ≡ option_map (λ (m : NetMaterial). J.Relay m (record r.now.fields { ttl = r.now.fields.ttl - 1 })) (transmit_material nets.now r.now.by.index) }
+{
+    let material = nets.transmit(r.by.index)?;
+    Some(Job::Relay {
+        material,
+        fields: lowered(&r.fields),
+    })
+}
+
+/// Puts the relay of a PDU behind the others, if it goes on: its own SRC, IV Index and SEQ with one TTL less, where Relay is on, TTL is 2 or
+/// more, and DST isn't an element of this node.
+pub fn push_relay(jobs: &mut Jobs, p: &Persist, nets: &NetKeys, r: &NetReading)
+    requires room { length jobs.old < 160 }
+    requires nets { nets.now ≡ p.now.nets }
+    ensures value { jobs.new ≡ jobs.old ++ relay_jobs (config_in p.now) (reading_of r.now) }
+    ensures few { length jobs.new ≤ length jobs.old + 1 }
+{
+    if is_relayed(p, &r.fields) {
+        push_made(jobs, relay_job(nets, r));
+    }
+}
+
+// SeqZero and SegN of a segment.
+fn segment_numbers(low: &Lower) -> Option<(u16, u8)>
+    requires { Fits low.now }
+    ensures value { result ≡ segment_numbers_in low.now }
+    ensures widths { IfSome result (λ n. (n.0 < 2 ^ 13) × (n.1 < 2 ^ 5)) }
+{
+    match low {
+        Lower::AccessPart {
+            seq_zero,
+            seg_n,
+            ..
+        } => Some((*seq_zero, *seg_n)),
+        Lower::ControlPart {
+            seq_zero,
+            seg_n,
+            ..
+        } => Some((*seq_zero, *seg_n)),
+        Lower::Access { .. } => None,
+        Lower::Control { .. } => None,
+    }
+}
+
+// BlockAck of the acknowledgment that an answer asks for, if it asks for one: all pieces of a message that is through, none where there was
+// no room.
+fn block_asked(answer: &Answer, seg_n: u8) -> Option<u32>
+    requires { seg_n < 2 ^ 5 }
+    ensures { result ≡ block_asked_in answer.now seg_n }
+{
+    match answer {
+        Answer::Again => Some(all_pieces(seg_n)),
+        Answer::NoKey => Some(all_pieces(seg_n)),
+        Answer::Delivered { .. } => Some(all_pieces(seg_n)),
+        Answer::Control { .. } => Some(all_pieces(seg_n)),
+        Answer::NoRoom { .. } => Some(0),
+        _ => None,
+    }
+}
+
+// An acknowledgment to the source of a PDU, from the element that it went to.
+fn ack_job(p: &Persist, nets: &NetKeys, r: &NetReading, seq_zero: u16, block: u32) -> Option<Job>
+    requires width { seq_zero < 2 ^ 13 }
+    requires nets { nets.now ≡ p.now.nets }
+    ensures { option_to_list result ≡ ack_job_in (config_in p.now) (reading_of r.now) seq_zero block }
+{
+    let material = nets.transmit(r.by.index)?;
+    Some(Job::Control {
+        material,
+        ttl: reply_ttl(p, r.fields.ttl),
+        src: r.fields.dst,
+        dst: r.fields.src,
+        tpdu: acknowledgment(seq_zero, block),
+        keep: None,
+    })
+}
+
+/// Puts the acknowledgment of a segment behind the others, if its answer asks for one: it went to one element, and its message is through or
+/// found no room. `low` is what the transport PDU of `r` reads as; its fields are within their widths.
+pub fn push_ack(
+    jobs: &mut Jobs,
+    p: &Persist,
+    nets: &NetKeys,
+    r: &NetReading,
+    low: &Lower,
+    answer: &Answer,
+)
+    requires room { length jobs.old < 160 }
+    requires nets { nets.now ≡ p.now.nets }
+    requires fits { Fits low.now }
+    ensures value { jobs.new ≡ jobs.old ++ ack_jobs (config_in p.now) (reading_of r.now) (Some low.now) answer.now }
+    ensures few { length jobs.new ≤ length jobs.old + 1 }
+{
+    if !is_unicast(r.fields.dst) {
+        return;
+    }
+    let Some((seq_zero, seg_n)) = segment_numbers(low) else {
+        return;
+    };
+    let Some(block) = block_asked(answer, seg_n) else {
+        return;
+    };
+    push_made(jobs, ack_job(p, nets, r, seq_zero, block));
+}
+
+// Whether an answer comes before the message cache.
+fn is_before_cache(answer: &Answer) -> bool
+    ensures { result ≡ is_before_cache_in answer.now }
+{
+    match answer {
+        Answer::Unread => true,
+        Answer::BadAddress => true,
+        Answer::Own => true,
+        Answer::Cached => true,
+        Answer::Reset => true,
+        _ => false,
+    }
+}
+
+// Puts the acknowledgment of what was read behind the others, if there is one.
+fn push_heard_ack(
+    jobs: &mut Jobs,
+    p: &Persist,
+    nets: &NetKeys,
+    r: &NetReading,
+    low: Option<&Lower>,
+    answer: &Answer,
+)
+    requires room { length jobs.old < 160 }
+    requires nets { nets.now ≡ p.now.nets }
+    requires fits { IfSome low (λ l. Fits l.now) }
+    ensures value { jobs.new ≡ jobs.old ++ ack_jobs (config_in p.now) (reading_of r.now) (option_copied low.entry) answer.now }
+    ensures few { length jobs.new ≤ length jobs.old + 1 }
+{
+    if let Some(low) = low {
+        push_ack(jobs, p, nets, r, low, answer);
+    }
+}
+
+/// The jobs of a network PDU heard: it goes on, it is acknowledged, and where a Key Refresh phase isn't what it was the node's beacons
+/// follow. `reading` and `low` are what its octets read as, and `low` is within its widths. `p` is what the records after the event say,
+/// `nets` are its keys, and `before` the phases before the event.
+#[tactic(auto, unfolding(node_layers::specs::BuiltLayers::built_layers, run_definitions::specs::Jobs::jobs_of))]
+pub fn pdu_jobs(
+    p: &Persist,
+    nets: &NetKeys,
+    before: &Phases,
+    reading: Option<&NetReading>,
+    low: Option<&Lower>,
+    answer: &Answer,
+) -> Jobs
+    requires nets { nets.now ≡ p.now.nets }
+    requires fits { IfSome low (λ l. Fits l.now) }
+    ensures value { (past : Past) (octets : List ℕ) (opening : Option Opening) → before.now ≡ phases_of (config_before past).nets
+        → result ≡ jobs_of built_layers past (config_in p.now) (E.Net octets) (insight_of (option_copied reading.entry) (option_copied low.entry) opening) answer.now }
+    ensures few { length result ≤ 6 }
+{
+    let mut jobs = Jobs::new();
+    let Some(r) = reading else {
+        return jobs;
+    };
+    if is_before_cache(answer) {
+        return jobs;
+    }
+    push_relay(&mut jobs, p, nets, r);
+    push_heard_ack(&mut jobs, p, nets, r, low, answer);
+    push_refresh(&mut jobs, p, before);
+    jobs
+}

@@ -1,0 +1,154 @@
+//! The segments of an own message (Mesh Profile 1.0.1, section 3.5.3.2).
+#![tactic(auto)]
+
+ghost use Rattle.std.specs.Prelude.{◌≡◌, ℕ, ◌+◌, ◌*◌, ◌<◌, ◌≤◌, ◌^◌, ◌++◌, ◌==◌, Bool, All, length, take, drop};
+ghost use Rattle.std.specs.List.{flat_map};
+ghost use Rattle.layer_definitions.specs.Lower.{Fits, last_segment as last_segment_in, lower_text, segment as segment_in};
+ghost use Rattle.layer_states.specs.Sending.{round_of};
+ghost use Rattle.mesh_base.specs.declared.fields.NetMaterial.{NetMaterial};
+ghost use Rattle.mesh_jobs.specs.Own.{IsHeldWell, IsOutgoing};
+ghost use Rattle.mesh_jobs.specs.Segments.{segments_under};
+ghost use Rattle.mesh_types.specs.declared.jobs.Job.TheVariants as J;
+ghost use Rattle.node_layers.specs.Sending.{round_jobs};
+ghost use Rattle.node_records.specs.Tables.{config_in};
+ghost use Rattle.run_definitions.specs.Jobs.{begin_jobs};
+
+use layer_states::sending::{Outgoing, Sending};
+use lower_transport::write;
+use mesh_base::fields::NetMaterial;
+use mesh_base::lower::Lower;
+use mesh_base::octets::Octets;
+use mesh_types::jobs::{Job, Jobs};
+use net_keys::NetKeys;
+use node_records::Persist;
+use segment_sender::round_due;
+
+/// The octets of an upper transport PDU in each segment but the last.
+const PIECE: usize = 12;
+
+// SegN: the number of the last segment.
+fn last_segment(upper: &[u8]) -> u8
+    requires { length upper.now ≤ 384 }
+    ensures value { result ≡ last_segment_in upper.now }
+    ensures most { result < 2 ^ 5 }
+{
+    (upper.len().saturating_sub(1) / PIECE) as u8
+}
+
+// The octets of one segment.
+fn piece(upper: &[u8], seg_o: u8) -> Octets<12>
+    ensures { result ≡ take 12 (drop (12 * seg_o) upper.now) }
+{
+    let start = usize::from(seg_o) * PIECE;
+    let rest = if start < upper.len() {
+        &upper[start..]
+    } else {
+        &upper[upper.len()..]
+    };
+    let piece = if rest.len() > PIECE {
+        &rest[..PIECE]
+    } else {
+        rest
+    };
+    let mut octets = Octets::new();
+    octets.extend(piece);
+    octets
+}
+
+// A segment of a message, as a lower transport PDU.
+fn segment(m: &Outgoing, seg_o: u8) -> Lower
+    requires outgoing { IsOutgoing m.now }
+    requires place { seg_o ≤ last_segment_in m.now.upper }
+    ensures value { result ≡ segment_in m.now.akf m.now.aid m.now.name.pair.seq m.now.upper seg_o }
+    ensures fits { Fits result }
+{
+    let upper = m.upper.as_slice();
+    Lower::AccessPart {
+        akf: m.akf,
+        aid: m.aid,
+        szmic: false,
+        seq_zero: (m.name.pair.seq % 0x2000) as u16,
+        seg_o,
+        seg_n: last_segment(upper),
+        piece: piece(upper, seg_o),
+    }
+}
+
+// The job of a segment, under this material.
+fn segment_job(material: NetMaterial, m: &Outgoing, seg_o: u8, first: bool) -> Job
+    requires outgoing { IsOutgoing m.now }
+    requires place { seg_o ≤ last_segment_in m.now.upper }
+    ensures { result ≡ J.Segment material m.now.name m.now.ttl m.now.name.src m.now.dst seg_o (last_segment_in m.now.upper) (lower_text (segment_in m.now.akf m.now.aid m.now.name.pair.seq m.now.upper seg_o)) first }
+{
+    Job::Segment {
+        material,
+        name: m.name,
+        ttl: m.ttl,
+        src: m.name.src,
+        dst: m.dst,
+        seg_o,
+        seg_n: last_segment(m.upper.as_slice()),
+        tpdu: write(&segment(m, seg_o)),
+        first,
+    }
+}
+
+/// Puts all segments of a message that begins behind the others, where its network key is held. The first of all is the one that goes under
+/// the pair of SeqAuth.
+pub(crate) fn push_first_round(jobs: &mut Jobs, p: &Persist, nets: &NetKeys, m: &Outgoing)
+    requires room { length jobs.old + 32 ≤ 160 }
+    requires nets { nets.now ≡ p.now.nets }
+    requires outgoing { IsOutgoing m.now }
+    ensures value { jobs.new ≡ jobs.old ++ begin_jobs (config_in p.now) m.now.name.pair m.now.dst m.now.name.src m.now.ttl m.now.net m.now.akf m.now.aid m.now.upper }
+    ensures few { length jobs.new ≤ length jobs.old + 32 }
+{
+    let Some(material) = nets.transmit(m.net) else {
+        return;
+    };
+    for seg_o in 0..last_segment(m.upper.as_slice()) + 1 {
+        jobs.push(segment_job(material, m, seg_o, seg_o == 0));
+    }
+}
+
+// Puts segments of a message behind the others, each of which draws a pair of its own.
+fn push_again(jobs: &mut Jobs, material: NetMaterial, m: &Outgoing, round: &[u8])
+    requires room { length jobs.old + length round.now ≤ 160 }
+    requires outgoing { IsOutgoing m.now }
+    requires places { All (λ i. i ≤ last_segment_in m.now.upper) round.now }
+    ensures value { jobs.new ≡ jobs.old ++ segments_under material m.now round.now }
+    ensures few { length jobs.new ≡ length jobs.old + length round.now }
+{
+    for seg_o in round {
+        jobs.push(segment_job(material, m, *seg_o, false));
+    }
+}
+
+// Puts the segments of one message that are due behind the others.
+fn push_round(jobs: &mut Jobs, p: &Persist, nets: &NetKeys, now: u64, s: &Sending)
+    requires room { length jobs.old + 32 ≤ 160 }
+    requires nets { nets.now ≡ p.now.nets }
+    requires held { IsHeldWell s.now }
+    ensures value { jobs.new ≡ jobs.old ++ round_jobs (config_in p.now) now s.now }
+    ensures few { length jobs.new ≤ length jobs.old + 32 }
+{
+    let round = round_due(now, s);
+    let Some(material) = nets.transmit(s.message.net) else {
+        return;
+    };
+    push_again(jobs, material, &s.message, round.as_slice());
+}
+
+/// Puts the segments that are due at `now`, in ticks of 10 ms, behind the others, in the order in which their messages began: of each
+/// message at most one round. `rows` are the messages as they are held before the time is counted.
+pub fn push_rounds(jobs: &mut Jobs, p: &Persist, nets: &NetKeys, now: u64, rows: &[Sending])
+    requires room { length jobs.old + 128 ≤ 160 }
+    requires nets { nets.now ≡ p.now.nets }
+    requires rows { length rows.now ≤ 4 }
+    requires held { All IsHeldWell rows.now }
+    ensures value { jobs.new ≡ jobs.old ++ flat_map (round_jobs (config_in p.now) now) rows.now }
+    ensures few { length jobs.new ≤ length jobs.old + 128 }
+{
+    for s in rows {
+        push_round(jobs, p, nets, now, s);
+    }
+}

@@ -1,0 +1,111 @@
+//! What is due when time passed.
+#![tactic(auto)]
+
+ghost use Rattle.std.specs.Prelude.{◌≡◌, ℕ, ◌+◌, ◌≤◌, ◌++◌, if◌then◌else◌, [], length};
+ghost use Rattle.std.specs.List.{flat_map};
+ghost use Rattle.std.specs.Option.{option_to_list};
+ghost use Rattle.layer_states.specs.Reassembly.{acks_due};
+ghost use Rattle.mesh_jobs.specs.Ticks.{IsSpan, is_beacon_due as is_beacon_due_in};
+ghost use Rattle.mesh_types.specs.declared.events.Event.TheVariants as E;
+ghost use Rattle.node_layers.specs.BuiltLayers.{built_layers};
+ghost use Rattle.node_layers.specs.Reassembly.{due_jobs, messages};
+ghost use Rattle.node_records.specs.Tables.{config_in};
+ghost use Rattle.run_definitions.specs.Answers.{later};
+ghost use Rattle.run_definitions.specs.History.{Insight, Past};
+ghost use Rattle.run_definitions.specs.Jobs.{beacon_jobs, beacons_due, is_moved as is_moved_in, jobs_of};
+
+use crate::acknowledgments::acknowledgment;
+use crate::beacons::push_beacons;
+use crate::making::push_made;
+use layer_states::reassembly::{AckList, DueAck};
+use mesh_base::iv_state::IvState;
+use mesh_types::answers::Answer;
+use mesh_types::jobs::{Job, Jobs};
+use net_keys::NetKeys;
+use node_records::Persist;
+
+/// Between two multiples of so many ticks the node's beacons are sent once.
+const BEACON_TICKS: u64 = 1000;
+
+/// What a tick event went from, and the time that it leaves.
+#[derive(Clone, Copy, Debug, PartialEq, Eq)]
+pub struct Span {
+    /// The ticks of this life before the event.
+    pub from: u64,
+    /// The ticks of this life after it.
+    pub to: u64,
+    /// The IV state before it.
+    pub iv: IvState,
+}
+
+// An acknowledgment that is due. Its SeqZero is the low 13 bits of SeqAuth.
+fn due_job(p: &Persist, nets: &NetKeys, a: &DueAck) -> Option<Job>
+    requires nets { nets.now ≡ p.now.nets }
+    ensures { option_to_list result ≡ due_jobs (config_in p.now) a.now }
+{
+    let material = nets.transmit(a.net)?;
+    let seq_zero = (a.name.pair.seq % 0x2000) as u16;
+    Some(Job::Control {
+        material,
+        ttl: a.ack_ttl,
+        src: a.dst,
+        dst: a.name.src,
+        tpdu: acknowledgment(seq_zero, a.block),
+        keep: None,
+    })
+}
+
+/// Puts the acknowledgments that are due behind the others, in their order.
+pub fn push_acks(jobs: &mut Jobs, p: &Persist, nets: &NetKeys, acks: &AckList)
+    requires room { length jobs.old + 8 ≤ 160 }
+    requires nets { nets.now ≡ p.now.nets }
+    ensures value { jobs.new ≡ jobs.old ++ flat_map (due_jobs (config_in p.now)) acks.now }
+    ensures few { length jobs.new ≤ length jobs.old + 8 }
+{
+    for a in acks.as_slice() {
+        push_made(jobs, due_job(p, nets, a));
+    }
+}
+
+// Whether the IV Index or the state of its update isn't what it was.
+fn is_moved(s: &IvState, t: &IvState) -> bool
+    ensures { result ≡ is_moved_in s.now t.now }
+{
+    s.current != t.current || s.progress != t.progress
+}
+
+// Whether beacons are due: a multiple of 1000 ticks was passed, or this is another IV state.
+fn is_beacon_due(span: &Span, iv: &IvState) -> bool
+    ensures { result ≡ is_beacon_due_in span.now iv.now }
+{
+    span.from / BEACON_TICKS < span.to / BEACON_TICKS || is_moved(&span.iv, iv)
+}
+
+/// Puts the node's beacons behind the others where a multiple of 1000 ticks was passed or the IV state changed.
+pub fn push_beacons_due(jobs: &mut Jobs, p: &Persist, span: &Span)
+    requires room { length jobs.old + 4 ≤ 160 }
+    ensures value { (past : Past) (ticks : ℕ) → IsSpan past ticks span.now → jobs.new ≡ jobs.old ++ beacons_due past (config_in p.now) ticks }
+    ensures few { length jobs.new ≤ length jobs.old + 4 }
+{
+    if is_beacon_due(span, &p.iv) {
+        push_beacons(jobs, p);
+    }
+}
+
+/// The jobs of a tick event: the acknowledgments that are due, and then the node's beacons, if they are. `p` is what the records after the
+/// event say, and `nets` are its keys.
+#[tactic(auto, unfolding(node_layers::specs::BuiltLayers::built_layers, run_definitions::specs::Jobs::jobs_of))]
+pub fn tick_jobs(p: &Persist, nets: &NetKeys, acks: &AckList, span: &Span, answer: &Answer) -> Jobs
+    requires nets { nets.now ≡ p.now.nets }
+    ensures value { (past : Past) (ticks : ℕ) (insight : Insight) → IsSpan past ticks span.now → acks.now ≡ acks_due (later past ticks) (messages past)
+        → result ≡ jobs_of built_layers past (config_in p.now) (E.Tick ticks) insight answer.now }
+    ensures few { length result ≤ 12 }
+{
+    let mut jobs = Jobs::new();
+    let Answer::Ticked { .. } = answer else {
+        return jobs;
+    };
+    push_acks(&mut jobs, p, nets, acks);
+    push_beacons_due(&mut jobs, p, span);
+    jobs
+}
