@@ -1,0 +1,270 @@
+//! The line of a job, by its kind.
+#![tactic(auto)]
+
+ghost use Rattle.std.specs.Prelude.{◌≡◌, ℕ, ◌^◌, ◌<◌, ◌≤◌, [], ◌∷◌, length, true, false, Some, None, IfSome};
+ghost use Rattle.std.specs.Option.{option_to_list};
+ghost use Rattle.layer_definitions.specs.Network.{HasPdu, net_text};
+ghost use Rattle.mesh_types.specs.declared.events.Event.{Event};
+ghost use Rattle.mesh_types.specs.declared.lines.Outcome.TheVariants as O;
+ghost use Rattle.run_definitions.specs.Lines.{Shows, after_line, drawn_of, is_drawing, is_first, kept_events};
+ghost use Rattle.run_definitions.specs.Order.{is_outside};
+ghost use Rattle.run_definitions.specs.Seals.{own_fields};
+ghost use Rattle.machine_contract.specs.Ranges.{IsEvent, IsJob};
+ghost use Rattle.job_sealing.specs.Sealed.{IsAccess, IsPayloadOf, IsSentLine};
+
+use crate::messages::{Access, UNSEGMENTED, long_line, short_line};
+use crate::segments::{Segment, later_segment, segment_line};
+use mesh_base::address::Address;
+use mesh_base::fields::{NetFields, NetMaterial};
+use mesh_base::octets::Octets;
+use mesh_base::pair::{Name, Pair};
+use mesh_types::events::Event;
+use mesh_types::jobs::Job;
+use mesh_types::lines::Outcome;
+use network_layer::seal;
+
+/// What became of a job, and the event that follows.
+#[derive(Drop)]
+pub struct Line {
+    /// What became of it.
+    pub outcome: Outcome,
+    /// The node's own event that is to be handled next.
+    pub next: Option<Event>,
+}
+
+/// Whether a job draws a pair: each that seals with a number of its own, but the first segment of a message, which goes under SeqAuth.
+pub fn draws(job: &Job) -> bool
+    ensures value { result ≡ is_drawing job.now }
+{
+    match job {
+        Job::Control { .. } | Job::Message { .. } | Job::Sent { .. } => true,
+        Job::Segment { first, .. } => !*first,
+        Job::Relay { .. } | Job::Repeat { .. } | Job::Beacon(_) => false,
+    }
+}
+
+/// The line of a job of this event that draws no pair.
+pub fn plain_line(event: &Event, job: &Job) -> Outcome
+    requires job { IsJob event.now job.now }
+    requires plain { is_drawing job.now ≡ false }
+    ensures shows { Shows event.now job.now result }
+    ensures drawn { drawn_of job.now result ≡ None }
+    ensures next { after_line job.now result ≡ [] }
+{
+    match job {
+        Job::Relay { material, fields } => relayed(material, fields),
+        Job::Segment {
+            material,
+            name,
+            ttl,
+            src,
+            dst,
+            seg_o,
+            seg_n,
+            tpdu,
+            first: _,
+        } => {
+            let segment = Segment {
+                material: *material,
+                name: *name,
+                ttl: *ttl,
+                src: *src,
+                dst: *dst,
+                seg_o: *seg_o,
+                seg_n: *seg_n,
+            };
+            segment_line(&segment, name.pair, tpdu)
+        }
+        Job::Repeat { name, pdu } => Outcome::Rep {
+            name: *name,
+            pdu: pdu.copied(),
+        },
+        Job::Beacon(octets) => Outcome::Bcn(*octets),
+        Job::Control { .. } | Job::Message { .. } | Job::Sent { .. } => unreachable!(),
+    }
+}
+
+/// The line of a job of this event that draws, with the pair drawn for it.
+pub fn drawn_line(event: &Event, job: &Job, pair: Pair) -> Line
+    requires job { IsJob event.now job.now }
+    requires draws { is_drawing job.now ≡ true }
+    requires pair { pair.seq < 2 ^ 24 }
+    ensures shows { Shows event.now job.now result.outcome }
+    ensures drawn { drawn_of job.now result.outcome ≡ Some pair }
+    ensures next { option_to_list result.next ≡ after_line job.now result.outcome }
+    ensures own { IfSome result.next (λ e. is_outside e ≡ false) }
+    ensures range { (elements : ℕ) → IfSome result.next (IsEvent elements) }
+{
+    match job {
+        Job::Control {
+            material,
+            ttl,
+            src,
+            dst,
+            tpdu,
+            keep,
+        } => control_line(material, pair, *ttl, *src, *dst, tpdu, keep),
+        Job::Message {
+            net,
+            material,
+            key,
+            ttl,
+            src,
+            dst,
+            payload,
+            keep,
+        } => {
+            let access = Access {
+                net: *net,
+                material: *material,
+                key: *key,
+                pair,
+                ttl: *ttl,
+                src: *src,
+                dst: *dst,
+            };
+            if payload.as_slice().len() <= UNSEGMENTED {
+                short_line(&access, payload.as_slice(), keep)
+            } else {
+                long_line(&access, payload.as_slice())
+            }
+        }
+        Job::Sent {
+            net,
+            material,
+            key,
+            ttl,
+            src,
+            dst,
+        } => {
+            let access = Access {
+                net: *net,
+                material: *material,
+                key: *key,
+                pair,
+                ttl: *ttl,
+                src: *src,
+                dst: *dst,
+            };
+            sent_line(event, &access)
+        }
+        Job::Segment {
+            material,
+            name,
+            ttl,
+            src,
+            dst,
+            seg_o,
+            seg_n,
+            tpdu,
+            first: _,
+        } => {
+            let segment = Segment {
+                material: *material,
+                name: *name,
+                ttl: *ttl,
+                src: *src,
+                dst: *dst,
+                seg_o: *seg_o,
+                seg_n: *seg_n,
+            };
+            Line {
+                outcome: later_segment(&segment, pair, tpdu),
+                next: None,
+            }
+        }
+        Job::Relay { .. } | Job::Repeat { .. } | Job::Beacon(_) => unreachable!(),
+    }
+}
+
+/// The line of a message whose payload is that of its event, a Send.
+fn sent_line(event: &Event, access: &Access) -> Line
+    requires access { IsAccess access.now }
+    requires payload { IsPayloadOf event.now }
+    ensures sent { IsSentLine event.now access.now result.outcome result.next }
+    ensures own { IfSome result.next (λ e. is_outside e ≡ false) }
+    ensures range { (elements : ℕ) → IfSome result.next (IsEvent elements) }
+{
+    let Event::Send { payload, .. } = event else {
+        unreachable!()
+    };
+    if payload.as_slice().len() <= UNSEGMENTED {
+        short_line(access, payload.as_slice(), &None)
+    } else {
+        long_line(access, payload.as_slice())
+    }
+}
+
+/// A PDU of another node goes on.
+fn relayed(material: &NetMaterial, fields: &NetFields) -> Outcome
+    requires nid { material.now.nid < 2 ^ 7 }
+    requires fields { HasPdu fields.now }
+    ensures value { result ≡ O.Relay (record { iv = fields.now.iv; seq = fields.now.seq }) fields.now.ctl fields.now.ttl fields.now.src fields.now.dst fields.now.tpdu (net_text material.now fields.now) }
+{
+    Outcome::Relay {
+        pair: Pair {
+            iv: fields.iv,
+            seq: fields.seq,
+        },
+        ctl: fields.ctl,
+        ttl: fields.ttl,
+        src: fields.src,
+        dst: fields.dst,
+        tpdu: fields.tpdu.copied(),
+        pdu: seal(material, fields),
+    }
+}
+
+/// A control PDU of this node.
+fn control_line(
+    material: &NetMaterial,
+    pair: Pair,
+    ttl: u8,
+    src: Address,
+    dst: Address,
+    tpdu: &Octets<16>,
+    keep: &Option<(Address, bool)>,
+) -> Line
+    requires nid { material.now.nid < 2 ^ 7 }
+    requires ttl { ttl < 2 ^ 7 }
+    requires least { 1 ≤ length tpdu.now }
+    requires most { length tpdu.now ≤ 12 }
+    requires pair { pair.seq < 2 ^ 24 }
+    ensures value { result.outcome ≡ O.Ctl pair ttl src dst tpdu.now (net_text material.now (own_fields pair true ttl src dst tpdu.now)) }
+    ensures next { option_to_list result.next ≡ kept_events keep.now src pair (net_text material.now (own_fields pair true ttl src dst tpdu.now)) }
+{
+    let fields = NetFields {
+        iv: pair.iv,
+        ctl: true,
+        ttl,
+        seq: pair.seq,
+        src,
+        dst,
+        tpdu: tpdu.copied(),
+    };
+    let pdu = seal(material, &fields);
+    Line {
+        next: kept_event(keep, Name { src, pair }, &pdu),
+        outcome: Outcome::Ctl {
+            pair,
+            ttl,
+            src,
+            dst,
+            tpdu: fields.tpdu,
+            pdu,
+        },
+    }
+}
+
+/// The event that has the octets of an answer to a Poll kept.
+pub fn kept_event(keep: &Option<(Address, bool)>, name: Name, pdu: &Octets<29>) -> Option<Event>
+    ensures value { option_to_list result ≡ kept_events keep.now name.src name.pair pdu.now }
+{
+    let (lpn, fsn) = (*keep)?;
+    Some(Event::Kept {
+        lpn,
+        fsn,
+        name,
+        pdu: pdu.copied(),
+    })
+}

@@ -1,0 +1,24 @@
+use Rattle.std.proofs.Common.{length, ◌<◌, ◌^◌, subst}
+use Rattle.locked_node.specs.Node.{node_marks}
+use Rattle.locked_node.specs.Stands.{IsNode}
+use Rattle.locked_node.proofs.Counts.{few_marks}
+use Rattle.locked_node.proofs.node.Node.known.Goals as goal
+
+pub returns-clause-known : goal.returns-clause-known
+returns-clause-known g c =
+    let h = c.self.invariant in
+    subst (λ v. IsNode g.M.Machine.layers g.M.Machine.image g.F.Flash.chip v) c.self.view_is (record {
+      over = h.over;
+      read = h.read;
+      life = c.tells.ensures.known c.self.inside.flash h.over c.self.inside.machine h.tie;
+      few = h.few;
+      live = h.live;
+      stopped = h.stopped;
+      later = h.later;
+    })
+
+pub returns-clause-few : goal.returns-clause-few
+returns-clause-few g c =
+    let h = c.self.invariant in
+    let life = c.tells.ensures.known c.self.inside.flash h.over c.self.inside.machine h.tie in
+    subst (λ v. length (node_marks v) < 2 ^ 64) c.self.view_is (few_marks _ _ _ life.few h.few)

@@ -1,0 +1,64 @@
+-- The value behind the lock as contracts see it, and its entries.
+use Rattle.std.specs.Prelude.{◌≡◌, ℕ, ◌<◌, ◌^◌, zero, suc, List, [], ◌∷◌, ◌++◌, map, replicate, Option, Some, None, ⊤}
+use Rattle.std.specs.Option.{option_map}
+use Rattle.flash_model.specs.Chip.{Arm, Chip}
+use Rattle.mesh_types.specs.declared.events.Event.{Event}
+use Rattle.mesh_types.specs.declared.history.Entry.{Entry}
+use Rattle.machine_contract.specs.declared.answers.Hand.{Hand}
+use Rattle.machine_contract.specs.declared.answers.Hand.TheVariants as H
+use Rattle.machine_contract.specs.declared.answers.Stop.{Stop}
+use Rattle.machine_contract.specs.declared.answers.Stop.TheVariants as S
+use Rattle.machine_contract.specs.View.{MachineView}
+use Rattle.locked_node.specs.declared.marks.Armed.{Armed}
+use Rattle.locked_node.specs.declared.marks.Mark.{Mark}
+use Rattle.locked_node.specs.declared.marks.Mark.TheVariants as M
+use Rattle.locked_node.specs.declared.marks.Origin.{Origin}
+
+-- the machine, the flash as the life found it, the flash now, and how many bearers have stopped
+pub record NodeView (F : Type 0) : Type 0 where
+  pub machine : MachineView
+  pub start : F
+  pub flash : F
+  pub stops : ℕ
+
+abbrev pub event_in : Hand → Option Event
+event_in H.Nothing = None
+event_in (H.OfEvent event) = Some event
+event_in H.OfRefill = None
+
+-- one mark for each bearer that stopped; the first has the event in hand
+abbrev pub stop_marks : ℕ → Option Event → List Mark
+stop_marks zero event = []
+stop_marks (suc n) event = M.Stopped event ∷ replicate n (M.Stopped None)
+
+abbrev pub marks_of : List Entry → ℕ → Hand → List Mark
+marks_of entries stops hand = map M.Handled entries ++ stop_marks stops (event_in hand)
+
+abbrev pub node_marks : {F : Type 0} → NodeView F → List Mark
+node_marks n = marks_of n.machine.entries n.stops n.machine.hand
+
+abbrev pub armed_by : Arm → Armed
+armed_by a = record { calls = a.calls; mask = a.mask; changes = a.changes }
+
+abbrev pub origin_of : {F : Type 0} → (F → Chip) → NodeView F → Origin F
+origin_of chip n = record {
+  start = n.start;
+  numbers = record { which = n.machine.which; opened = 0 };
+  elements = n.machine.elements;
+  arm = option_map armed_by (chip n.flash).setting.arm;
+}
+
+-- of a bearer that stopped, but for want of memory
+abbrev pub OnStop : Stop → Type 0 → Type 0
+OnStop S.Closed P = P
+OnStop S.Memory P = ⊤
+OnStop S.Flash P = P
+
+-- a mark was put behind the others, with the event in hand if there was one
+pub record IsStopped (event : Event) (old new : List Mark) : Type 0 where
+  pub hand : Option Event
+  pub marks : new ≡ old ++ M.Stopped hand ∷ []
+  pub is : (other : Event) → hand ≡ Some other → other ≡ event
+
+pub record IsStoppedBare (old new : List Mark) : Type 0 where
+  pub marks : new ≡ old ++ M.Stopped None ∷ []

@@ -1,0 +1,35 @@
+-- What holds of the value behind the lock whenever the lock is free.
+use Rattle.std.specs.Prelude.{◌≡◌, ℕ, ◌<◌, ◌≤◌, ◌^◌, Bool, true, false, List}
+use Rattle.flash_model.specs.Chip.{Chip}
+use Rattle.machine_contract.specs.Standing.{IsLifeSoFar}
+use Rattle.machine_contract.specs.View.{MachineView}
+use Rattle.record_types.specs.declared.records.StoreRecord.{StoreRecord}
+use Rattle.run_definitions.specs.Layers.{Layers}
+use Rattle.store_definitions.specs.Recovered.{IsRecovered}
+use Rattle.locked_node.specs.Node.{NodeView}
+
+-- the flash is the one that was found, some calls later
+pub record IsLater (start now : Chip) : Type 0 where
+  pub faults : start.faults ≤ now.faults
+  pub steady : now.steady ≡ start.steady
+  pub began : now.setting.faults ≡ start.setting.faults
+
+-- the machine stands over this flash and the records that the life found, and bearers have stopped exactly if it is closed
+pub record Holds {M F : Type 0} (stands : Chip → List StoreRecord → M → Type 0) (view : M → MachineView) (chip : F → Chip) (machine : M) (start flash : F) (stops : ℕ) : Type 0 where
+  pub over : List StoreRecord
+  pub read : IsRecovered (chip start).now over
+  pub tie : stands (chip flash) over machine
+  pub few : stops < 2 ^ 32
+  pub live : (view machine).closed ≡ false → stops ≡ 0
+  pub stopped : (view machine).closed ≡ true → 0 < stops
+  pub later : IsLater (chip start) (chip flash)
+
+-- the same as a caller sees it
+pub record IsNode {F : Type 0} (layers : Layers) (image : List ℕ → Type 0) (chip : F → Chip) (n : NodeView F) : Type 0 where
+  pub over : List StoreRecord
+  pub read : IsRecovered (chip n.start).now over
+  pub life : IsLifeSoFar layers image (chip n.flash) over n.machine
+  pub few : n.stops < 2 ^ 32
+  pub live : n.machine.closed ≡ false → n.stops ≡ 0
+  pub stopped : n.machine.closed ≡ true → 0 < n.stops
+  pub later : IsLater (chip n.start) (chip n.flash)

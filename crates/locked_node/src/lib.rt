@@ -1,0 +1,14 @@
+//! The value behind a node's lock: the machine with its flash, whose entries are the history and a mark for each bearer that stopped.
+//!
+//! - `known`: a value of the past that is known to proofs, and takes no place
+//! - `marks`: the entries of the lock, and the origin of the value
+//! - `node`: the value, with its calls
+#![tactic(auto)]
+
+mod known;
+mod marks;
+mod node;
+
+pub use known::Known;
+pub use marks::{Armed, Mark, Origin};
+pub use node::Node;

@@ -1,0 +1,36 @@
+//! What a node's lock keeps. No value of these types is made: they stand in contracts alone.
+#![tactic(auto)]
+
+use mesh_types::events::Event;
+use mesh_types::history::Entry;
+use seq_word::Numbers;
+
+/// An entry of the lock.
+pub enum Mark {
+    /// An entry of the history.
+    Handled(Entry),
+    /// A bearer stopped, since the flash failed; with the event that was in hand when it failed, if there was one.
+    Stopped(Option<Event>),
+}
+
+/// The order to tear a call of the flash.
+pub struct Armed {
+    /// How many program and erase calls come before the torn one.
+    pub calls: u64,
+    /// The mask under which it is torn.
+    pub mask: u64,
+    /// What was counted when it was given.
+    pub changes: u64,
+}
+
+/// What doesn't change while the lock stands.
+pub struct Origin<F> {
+    /// The flash as the life found it.
+    pub start: F,
+    /// The counter and the mark that the machine publishes at; where the counter was opened isn't told.
+    pub numbers: Numbers,
+    /// The elements of the node.
+    pub elements: u64,
+    /// The order that the flash was given.
+    pub arm: Option<Armed>,
+}

@@ -1,0 +1,187 @@
+//! The value behind the lock.
+#![tactic(auto)]
+
+ghost use Rattle.std.specs.Prelude.{◌≡◌, ℕ, ◌<◌, ◌^◌, List, [], ◌∷◌, ◌++◌, length, All, true, false, None, Some, IfOk, OnOk, IfErr, IsTrue};
+ghost use Rattle.flash_model.specs.Chip.{Chip, KeepsCount};
+ghost use Rattle.record_types.specs.declared.records.StoreRecord.{StoreRecord};
+ghost use Rattle.run_definitions.specs.Order.{is_outside};
+ghost use Rattle.seq_word.specs.Word.{seq_of};
+ghost use Rattle.store_definitions.specs.Recovered.{IsRecovered};
+ghost use Rattle.turn_lock.specs.Entries.{IsPrefix};
+ghost use Rattle.machine_contract.specs.Ranges.{IsEvent, IsJob, IsQuiet};
+ghost use Rattle.machine_contract.specs.View.{entry_for};
+ghost use Rattle.locked_node.specs.declared.marks.Mark.TheVariants as Marks;
+ghost use Rattle.locked_node.specs.Node.{IsStopped, IsStoppedBare, NodeView, OnStop, node_marks, origin_of};
+ghost use Rattle.locked_node.specs.Stands.{Holds, IsLater, IsNode};
+
+use crate::known::Known;
+use crate::marks::{Mark, Origin};
+use flash_model::Bench;
+use machine_contract::{Answered, Machine, Stop};
+use mesh_types::events::Event;
+use seq_word::Numbers;
+use std::marker::Model;
+use turn_lock::Logged;
+
+/// The machine of a node, with its flash. What it holds whenever the lock is free is told by `known`.
+///
+/// Its entries are those of the machine's history, and behind them a mark for each bearer that stopped since the flash failed. So where a
+/// bearer stopped, the history grows no more.
+#[derive(Drop)]
+pub struct Node<M: Machine, F: Bench> {
+    machine: M,
+    flash: F,
+    start: Known<F>,
+    stops: u32,
+}
+
+impl<M: Machine, F: Bench> Model for Node<M, F> {
+    ghost use Rattle.locked_node.specs.Node.{NodeView};
+    ghost use Rattle.locked_node.specs.Stands.{Holds};
+
+    ghost Value = { NodeView F };
+
+    ghost view = { λ n. record { machine = M.view n.machine; start = n.start; flash = n.flash; stops = n.stops } };
+
+    ghost invariant = { λ n. Holds M.stands M.view F.chip n.machine n.start n.flash n.stops };
+}
+
+impl<M: Machine, F: Bench> Logged for Node<M, F> {
+    type Entry = Mark;
+
+    type Origin = Origin<F>;
+
+    ghost entries = { λ n. node_marks n };
+
+    ghost origin = { λ n. origin_of F.chip n };
+
+    fn count(&self) -> u64 {
+        self.machine.count() + u64::from(self.stops)
+    }
+}
+
+impl<M: Machine, F: Bench> Node<M, F> {
+    /// A machine with its flash, which the life found as `start` says.
+    pub fn new(machine: M, flash: F, start: Known<F>) -> Self
+        requires stands { (over : List StoreRecord) × IsRecovered (F.chip start).now over × M.stands (F.chip flash) over machine }
+        requires usable { (M.view machine).closed ≡ false }
+        requires later { IsLater (F.chip start) (F.chip flash) }
+        ensures value { result ≡ record { machine = M.view machine; start = start; flash = flash; stops = 0 } }
+    {
+        Node {
+            machine,
+            flash,
+            start,
+            stops: 0,
+        }
+    }
+
+    /// Handles an event of a bearer. Where the flash failed, now or before, the bearer's mark is put.
+    ///
+    /// An event is refused for want of memory too where 2^32 - 1 bearers have stopped.
+    pub fn handle(
+        &mut self,
+        n: &Numbers,
+        bearer: u8,
+        number: u32,
+        event: &Event,
+    ) -> Result<Answered, Stop>
+        requires made { self.old.machine.which ≡ n.now.which }
+        requires event { IsEvent self.old.machine.elements event.now }
+        ensures origin { origin_of F.chip self.new ≡ origin_of F.chip self.old }
+        ensures front { IsPrefix (node_marks self.old) (node_marks self.new) }
+        ensures ok { IfOk result (λ r. node_marks self.new ≡ node_marks self.old ++ Marks.Handled (entry_for self.old.machine bearer number event.now r.answer r.jobs) ∷ []) }
+        ensures place { IfOk result (λ r. r.at ≡ length (node_marks self.old)) }
+        ensures jobs { IfOk result (λ r. All (IsJob event.now) r.jobs) }
+        ensures quiet { is_outside event.now ≡ false → IfOk result (λ r. All IsQuiet r.jobs) }
+        ensures stopped { IfErr result (λ e. OnStop e (IsStopped event.now (node_marks self.old) (node_marks self.new))) }
+    {
+        if self.stops == u32::MAX {
+            return Err(Stop::Memory);
+        }
+        match self
+            .machine
+            .handle(n, &mut self.flash, bearer, number, event)
+        {
+            Ok(answered) => Ok(answered),
+            Err(Stop::Memory) => Err(Stop::Memory),
+            Err(Stop::Closed) => {
+                self.stops += 1;
+                Err(Stop::Closed)
+            }
+            Err(Stop::Flash) => {
+                self.stops += 1;
+                Err(Stop::Flash)
+            }
+        }
+    }
+
+    /// Stores a refill where `seen` is the mark that was published last. Where the flash failed, the bearer's mark is put.
+    pub fn refill(&mut self, n: &Numbers, seen: u64) -> Result<u64, Stop>
+        requires made { self.old.machine.which ≡ n.now.which }
+        requires seq { seq_of seen < 2 ^ 24 }
+        ensures origin { origin_of F.chip self.new ≡ origin_of F.chip self.old }
+        ensures front { IsPrefix (node_marks self.old) (node_marks self.new) }
+        ensures ok { OnOk result (node_marks self.new ≡ node_marks self.old) }
+        ensures stopped { IfErr result (λ e. OnStop e (IsStoppedBare (node_marks self.old) (node_marks self.new))) }
+    {
+        if self.stops == u32::MAX {
+            return Err(Stop::Memory);
+        }
+        match self.machine.refill(n, &mut self.flash, seen) {
+            Ok(mark) => Ok(mark),
+            Err(Stop::Memory) => Err(Stop::Memory),
+            Err(Stop::Closed) => {
+                self.stops += 1;
+                Err(Stop::Closed)
+            }
+            Err(Stop::Flash) => {
+                self.stops += 1;
+                Err(Stop::Flash)
+            }
+        }
+    }
+
+    /// Tears a later call of the flash, by the one order that it takes in a life.
+    pub fn arm(&mut self, calls: u32, mask: u8)
+        requires none { (F.chip self.old.flash).setting.arm ≡ None }
+        ensures arm { (F.chip self.new.flash).setting.arm ≡ Some (record { calls = calls; mask = mask; changes = (F.chip self.old.flash).changes }) }
+        ensures frame { self.new ≡ record self.old { flash = self.new.flash } }
+    {
+        self.flash.arm(calls, mask);
+        // They do nothing when they run: the proof uses what they say.
+        M::tells::<F>();
+        M::stays::<F>();
+    }
+
+    /// What holds of it. It does nothing.
+    pub fn known(&self)
+        ensures known { IsNode M.layers M.image F.chip self.now }
+        ensures few { length (node_marks self.now) < 2 ^ 64 }
+    {
+        let _ = &self.machine;
+        // It does nothing when it runs: the proof uses what it says.
+        M::tells::<F>();
+    }
+
+    /// Whether the flash failed.
+    pub fn is_closed(&self) -> bool
+        ensures value { result ≡ self.now.machine.closed }
+    {
+        self.machine.is_closed()
+    }
+
+    /// The machine and the flash.
+    pub fn into_parts(self) -> (M, F)
+        ensures machine { M.view result.0 ≡ self.machine }
+        ensures flash { result.1 ≡ self.flash }
+    {
+        let Node {
+            machine,
+            flash,
+            start: _,
+            stops: _,
+        } = self;
+        (machine, flash)
+    }
+}

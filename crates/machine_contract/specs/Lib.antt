@@ -1,0 +1,6 @@
+pub mod Ranges
+pub mod Opening
+pub mod View
+pub mod Standing
+pub mod Refused
+pub mod Started

@@ -1,0 +1,21 @@
+-- A flash from which a life can be opened.
+use Rattle.std.specs.Prelude.{ℕ, List, ◌++◌, All, IsTrue}
+use Rattle.flash_model.specs.Chip.{Chip}
+use Rattle.record_types.specs.declared.records.StoreRecord.{StoreRecord}
+use Rattle.store_definitions.specs.Alike.{IsAlike}
+use Rattle.store_definitions.specs.Ranges.{IsInRange}
+use Rattle.store_definitions.specs.Recovered.{IsRecovered}
+
+-- of whatever an image of the flash recovers this holds
+abbrev pub EachRecovered : Chip → (List StoreRecord → Type 0) → Type 0
+EachRecovered chip P = (image : List ℕ) (records : List StoreRecord) → chip.images image → IsRecovered image records → P records
+
+-- an honest flash each image of which is one that a life can be opened from
+pub record IsNodeFlash (IsNodeImage : List ℕ → Type 0) (chip : Chip) : Type 0 where
+  pub honest : IsTrue chip.honest
+  pub each : (image : List ℕ) → chip.images image → IsNodeImage image
+
+-- these records say what those of before and the ones behind them say, and all of these are in range
+pub record IsLeft (before more next : List StoreRecord) : Type 0 where
+  pub ranges : All IsInRange (before ++ more)
+  pub alike : IsAlike next (before ++ more)

@@ -1,0 +1,55 @@
+-- What holds of a machine between two calls, of its flash, and of the records that its life opened over.
+use Rattle.std.specs.Prelude.{◌≡◌, ◌⊎◌, ℕ, ◌<◌, ◌≤◌, ◌^◌, Bool, true, false, List, [], ◌∷◌, ◌++◌, length, map, take}
+use Rattle.flash_model.specs.Chip.{Chip}
+use Rattle.mesh_types.specs.declared.events.Event.{Event}
+use Rattle.record_types.specs.declared.records.StoreRecord.{StoreRecord}
+use Rattle.run_definitions.specs.Answers.{answer_of}
+use Rattle.run_definitions.specs.Handling.{AreHandled, records_left}
+use Rattle.run_definitions.specs.History.{Insight, Past, Told}
+use Rattle.run_definitions.specs.Layers.{Layers}
+use Rattle.run_definitions.specs.Readings.{Sees}
+use Rattle.run_definitions.specs.Stores.{stores}
+use Rattle.store_definitions.specs.Config.{config_of}
+use Rattle.store_definitions.specs.Numbers.{fill_of, filled}
+use Rattle.machine_contract.specs.declared.answers.Hand.{Hand}
+use Rattle.machine_contract.specs.declared.answers.Hand.TheVariants as H
+use Rattle.machine_contract.specs.Opening.{EachRecovered, IsLeft, IsNodeFlash}
+use Rattle.machine_contract.specs.View.{MachineView}
+
+-- what stands after these entries and so many refills, in a life that opened over some records
+abbrev pub past_now : Layers → List StoreRecord → List Told → ℕ → Past
+past_now layers over told fills = record { told = told; records = filled fills (records_left layers over [] told) }
+
+-- What a cut may leave in an event: a front of the event's records, behind those of before.
+pub record IsFrontLeft (layers : Layers) (past : Past) (event : Event) (next : List StoreRecord) : Type 0 where
+  pub insight : Insight
+  pub sees : Sees layers past event insight
+  pub count : ℕ
+  pub left : IsLeft past.records (take count (stores layers past event insight (answer_of layers past event insight))) next
+
+-- What an image recovers, by what a failed call had in hand: all records so far, or these and what may be left of the ones in hand.
+abbrev pub IsLeftBy : Layers → Past → Hand → List StoreRecord → Type 0
+IsLeftBy layers past H.Nothing next = IsLeft past.records [] next
+IsLeftBy layers past (H.OfEvent event) next = IsLeft past.records [] next ⊎ IsFrontLeft layers past event next
+IsLeftBy layers past H.OfRefill next = IsLeft past.records [] next ⊎ IsLeft past.records (fill_of (config_of past.records) ∷ []) next
+
+-- The entries so far were handled in order, from the records that the life opened over; an image recovers what they left, with the mark
+-- that is published at most; and the machine is closed only where the flash failed.
+pub record IsLifeSoFar (layers : Layers) (IsNodeImage : List ℕ → Type 0) (chip : Chip) (over : List StoreRecord) (m : MachineView) : Type 0 where
+  pub told : List Told
+  pub entries : map (λ t. t.entry) told ≡ m.entries
+  pub handled : AreHandled layers over [] told
+  pub few : length m.entries < 2 ^ 32
+  pub elements : m.elements ≡ (config_of over).elements
+  pub node : IsNodeFlash IsNodeImage chip
+  pub left : EachRecovered chip (λ next. IsLeftBy layers (past_now layers over told m.fills) m.hand next × (m.mark ≤ (config_of next).mark))
+  pub idle : m.closed ≡ false → m.hand ≡ H.Nothing
+  pub failed : m.closed ≡ true → chip.setting.faults < chip.faults
+
+-- the flash is as it was, but that it may have been given an arm
+pub record IsSameFlash (old new : Chip) : Type 0 where
+  pub honest : new.honest ≡ old.honest
+  pub stays : (image : List ℕ) → new.images image → old.images image
+  pub now : new.now ≡ old.now
+  pub faults : new.faults ≡ old.faults
+  pub began : new.setting.faults ≡ old.setting.faults

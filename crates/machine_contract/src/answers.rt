@@ -1,0 +1,43 @@
+//! What a call of a machine answers.
+#![tactic(auto)]
+
+use mesh_types::answers::Answer;
+use mesh_types::events::Event;
+use mesh_types::jobs::Jobs;
+use thiserror::Error;
+
+/// An event was handled.
+#[derive(Debug, Drop)]
+pub struct Answered {
+    /// The place of its entry in the history, from 0 on.
+    pub at: u32,
+    /// The answer.
+    pub answer: Answer,
+    /// The jobs, in their order.
+    pub jobs: Jobs,
+}
+
+/// Why a machine didn't handle an event, or stored no refill.
+#[derive(Clone, Copy, Debug, PartialEq, Eq, Error)]
+pub enum Stop {
+    /// The flash failed in an earlier call.
+    #[error("the flash failed before")]
+    Closed,
+    /// Memory ran out, before anything changed.
+    #[error("memory ran out")]
+    Memory,
+    /// The flash failed in this call. No entry was appended, and the machine is closed from then on.
+    #[error("the flash failed")]
+    Flash,
+}
+
+/// What the call that closed a machine had in hand.
+#[derive(Debug, Drop)]
+pub enum Hand {
+    /// No call has failed.
+    Nothing,
+    /// This event was to be handled.
+    OfEvent(Event),
+    /// A refill was to be stored.
+    OfRefill,
+}

@@ -1,0 +1,111 @@
+//! The machine of a node.
+#![tactic(auto)]
+
+ghost use Rattle.std.specs.Prelude.{◌≡◌, ℕ, ◌+◌, ◌<◌, ◌^◌, List, [], ◌∷◌, ◌++◌, length, All, true, false, Ok, Err, IsErr, IfOk, OnOk, IfErr};
+ghost use Rattle.flash_model.specs.Chip.{Chip, IsFresh, Keeps};
+ghost use Rattle.record_types.specs.declared.records.StoreRecord.{StoreRecord};
+ghost use Rattle.run_definitions.specs.Layers.{Layers};
+ghost use Rattle.run_definitions.specs.Order.{is_outside};
+ghost use Rattle.seq_word.specs.Word.{seq_of};
+ghost use Rattle.machine_contract.specs.Opening.{IsNodeFlash};
+ghost use Rattle.machine_contract.specs.Ranges.{IsEvent, IsJob, IsQuiet};
+ghost use Rattle.machine_contract.specs.Refused.{IsRefused, IsStartCause};
+ghost use Rattle.machine_contract.specs.Standing.{IsLifeSoFar, IsSameFlash};
+ghost use Rattle.machine_contract.specs.Started.{IsStarted};
+ghost use Rattle.machine_contract.specs.View.{MachineView, entry_for, with_entry};
+
+use crate::answers::{Answered, Hand, Stop};
+use crate::history::History;
+use crate::opening::{StartFault, Started};
+use flash_model::Flash;
+use mesh_types::events::Event;
+use seq_word::{Keeper, Numbers};
+use std::alloc::Global;
+
+/// What handles the events of a node, one after another, over its flash. The flash stays with the caller and is passed to each call: it is
+/// to be the one that the machine was started from, and nothing else is to change it.
+///
+/// `stands` ties a machine to its flash and to the records that its life opened over. `start` gives it, each call keeps it whatever the
+/// call answers, and `tells` says what it means in terms of what the machine shows, its `view`.
+pub trait Machine: Send + Drop {
+    // What the layers above the lower transport layer say of a life.
+    ghost layers: { Layers };
+
+    // What `start` asks of each image of a flash: it recovers a node or a reset.
+    ghost image: { List ℕ → Type 0 };
+
+    ghost view: { Self → MachineView };
+
+    ghost stands: { Chip → List StoreRecord → Self → Type 0 };
+
+    /// Opens a life over what the flash recovers. The flash went through a power cycle, and each image of it recovers a node or a reset.
+    ///
+    /// The counter opens at the mark that the records say.
+    fn start<F: Flash>(alloc: Global, flash: &mut F) -> Result<Started<Self>, StartFault>
+        requires fresh { IsFresh (F.chip flash.old) }
+        requires node { IsNodeFlash image (F.chip flash.old) }
+        ensures ok { IfOk result (IsStarted view stands (F.chip flash.old) (F.chip flash.new)) }
+        ensures cause { IfErr result (IsStartCause image (F.chip flash.old) (F.chip flash.new)) }
+        ensures frame { Keeps (F.chip flash.old) (F.chip flash.new) };
+
+    /// Handles an event of a bearer, which is the one with this number among its events, from 1 on.
+    fn handle<F: Flash>(
+        &mut self,
+        n: &Numbers,
+        flash: &mut F,
+        bearer: u8,
+        number: u32,
+        event: &Event,
+    ) -> Result<Answered, Stop>
+        requires made { (view self.old).which ≡ n.now.which }
+        requires event { IsEvent (view self.old).elements event.now }
+
+        ensures ok { IfOk result (λ r. view self.new ≡ with_entry (view self.old) (entry_for (view self.old) bearer number event.now r.answer r.jobs) (view self.new).mark) }
+        ensures place { IfOk result (λ r. r.at ≡ length (view self.old).entries) }
+        ensures usable { OnOk result ((view self.old).closed ≡ false) }
+        ensures jobs { IfOk result (λ r. All (IsJob event.now) r.jobs) }
+        // After the lines of what isn't from outside nothing is handled.
+        ensures quiet { is_outside event.now ≡ false → IfOk result (λ r. All IsQuiet r.jobs) }
+
+        ensures refused { IfErr result (IsRefused F.chip (Hand.OfEvent event.now) (view self.old) (view self.new) flash.old flash.new) }
+        ensures closed { (view self.old).closed ≡ true → result ≡ Err Stop.Closed }
+
+        ensures kept { (over : List StoreRecord) → stands (F.chip flash.old) over self.old → stands (F.chip flash.new) over self.new }
+        ensures frame { Keeps (F.chip flash.old) (F.chip flash.new) };
+
+    /// Stores a refill, and publishes its mark, where `seen` is the mark published last; else nothing changes. Returns the mark that is
+    /// published then.
+    fn refill<F: Flash>(&mut self, n: &Numbers, flash: &mut F, seen: u64) -> Result<u64, Stop>
+        requires made { (view self.old).which ≡ n.now.which }
+        requires seq { seq_of seen < 2 ^ 24 }
+
+        ensures ok { OnOk result (view self.new ≡ record (view self.old) { fills = (view self.new).fills; mark = (view self.new).mark }) }
+        ensures value { IfOk result (λ mark. mark ≡ (view self.new).mark) }
+
+        ensures refused { IfErr result (IsRefused F.chip Hand.OfRefill (view self.old) (view self.new) flash.old flash.new) }
+
+        ensures kept { (over : List StoreRecord) → stands (F.chip flash.old) over self.old → stands (F.chip flash.new) over self.new }
+        ensures frame { Keeps (F.chip flash.old) (F.chip flash.new) };
+
+    /// Whether an earlier call failed at the flash.
+    fn is_closed(&self) -> bool
+        ensures value { result ≡ (view self.now).closed };
+
+    /// The number of entries so far.
+    fn count(&self) -> u64
+        ensures value { result ≡ length (view self.now).entries };
+
+    /// Ends the machine.
+    fn finish(self) -> (History, Keeper)
+        ensures entries { result.0.entries.items ≡ (view self).entries }
+        ensures refills { result.0.refills ≡ (view self).fills }
+        ensures keeper { (result.1.which ≡ (view self).which) × (result.1.mark ≡ (view self).mark) };
+
+    /// What a machine that stands tells of its life. It does nothing.
+    fn tells<F: Flash>()
+        ensures known { (f : F) (over : List StoreRecord) (m : Self) → stands (F.chip f) over m → IsLifeSoFar layers image (F.chip f) over (view m) };
+
+    /// A machine stands over the same flash, also where that was given an arm. It does nothing.
+    fn stays<F: Flash>()
+        ensures kept { (f g : F) (over : List StoreRecord) (m : Self) → IsSameFlash (F.chip f) (F.chip g) → stands (F.chip f) over m → stands (F.chip g) over m };
+}

@@ -1,0 +1,4 @@
+pub mod Walking
+pub mod Lists
+pub mod Doing
+pub mod Turning

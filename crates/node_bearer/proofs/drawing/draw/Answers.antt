@@ -1,0 +1,40 @@
+use Rattle.std.proofs.Common.{◌∙◌, ◌++◌, ap, append_assoc}
+use Rattle.node_bearer.proofs.Doing.{did_looked}
+use Rattle.node_bearer.proofs.Turning.{contains_spent}
+use Rattle.node_bearer.proofs.drawing.draw.Goals as goal
+
+pub returns-in-Err-Spent-clause-did : goal.returns-in-Err-Spent-clause-did
+returns-in-Err-Spent-clause-did g c = λ k first tasks rest h.
+    let b = c.loop.b in
+    let e = c.in-Err-Spent.ensures in
+    let cause = rw c.in-Err-Spent.field-0-is at e.cause in (
+      did_looked k first tasks rest b.pass.own b.pass.seen b.lines.items b.number b.drawer c.draw.new.d e.err.drawn e.err.noted e.looks (c.loop.invariant.did k first tasks rest h),
+      contains_spent c.draw.new.d.looks cause.1.looks cause.3.0 _ cause.3.1,
+    )
+
+pub loop-preserved : goal.loop-preserved
+loop-preserved g c =
+    let b = c.loop.b in
+    let e = c.in-Err-Dry.ensures in
+    let was = c.loop.invariant in
+    record {
+      can_next = tt;
+      is_finite = tt;
+      rider = c.raise.ensures.rider;
+      on = record {
+        rest = was.on.rest ++ c.raise.ensures.on.rest;
+        more = c.raise.ensures.on.more ∙ ap (λ l. l ++ c.raise.ensures.on.rest) was.on.more ∙ append_assoc _ was.on.rest c.raise.ensures.on.rest;
+        noted = c.raise.ensures.on.noted ∙ e.err.noted ∙ was.on.noted;
+        stop = c.raise.ensures.on.stop ∙ was.on.stop;
+      };
+      frame = c.raise.ensures.frame ∙ was.frame;
+      did = λ k first tasks rest h. c.in-Ok-raise.ensures.did k first tasks rest
+          (did_looked k first tasks rest b.pass.own b.pass.seen b.lines.items b.number b.drawer c.draw.new.d e.err.drawn e.err.noted e.looks (was.did k first tasks rest h));
+    }
+
+pub returns-in-Err-clause-stopped : goal.returns-in-Err-clause-stopped
+returns-in-Err-clause-stopped g c = λ k first tasks rest h.
+    let b = c.loop.b in
+    let e = c.in-Err-Dry.ensures in
+    c.in-Err.ensures.stopped k first tasks rest
+    (did_looked k first tasks rest b.pass.own b.pass.seen b.lines.items b.number b.drawer c.draw.new.d e.err.drawn e.err.noted e.looks (c.loop.invariant.did k first tasks rest h))

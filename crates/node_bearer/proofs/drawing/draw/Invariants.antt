@@ -1,0 +1,15 @@
+-- What the bearer did is as it was before the tries so far.
+use Rattle.std.proofs.Common.{◌≡◌, ℕ, List}
+use Rattle.run_definitions.specs.Order.{Task}
+use Rattle.node_bearer.specs.Did.{DidBy, GoesOn, IsRider}
+use Rattle.node_bearer.proofs.drawing.draw.Given as goal
+
+abbrev pub invariant-loop : goal.invariant-loop
+invariant-loop g l = record {
+  can_next : (goal.iterator-loop g).can_next l.iterator';
+  is_finite : (goal.iterator-loop g).is_finite l.iterator';
+  rider : IsRider l.n l.turn l.b;
+  on : GoesOn l.initial.b l.b;
+  frame : l.b.lines ≡ l.initial.b.lines;
+  did : (k first : ℕ) (tasks rest : List Task) → DidBy k first tasks rest l.initial.b → DidBy k first tasks rest l.b;
+}

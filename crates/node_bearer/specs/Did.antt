@@ -1,0 +1,106 @@
+-- What a bearer did with its tasks.
+use Rattle.std.specs.Prelude.{◌≡◌, ℕ, ◌+◌, ◌*◌, ◌^◌, ◌<◌, false, IsTrue, List, [], ◌∷◌, ◌++◌, map, length, All, AllPairs, Option, Some, ⊤}
+use Rattle.std.specs.List.{Contains, range_with_len}
+use Rattle.mesh_base.specs.Pairs.{word}
+use Rattle.mesh_base.specs.declared.pair.Pair.{Pair}
+use Rattle.mesh_types.specs.declared.events.Event.{Event}
+use Rattle.mesh_types.specs.declared.history.Sent.{Sent}
+use Rattle.machine_contract.specs.declared.answers.Stop.{Stop}
+use Rattle.machine_contract.specs.Ranges.{IsEvent}
+use Rattle.run_definitions.specs.Order.{Placed, Task, Walks, handle, follow, is_outside}
+use Rattle.seq_word.specs.Seen.{DrawerView, NumbersView}
+use Rattle.seq_word.specs.Seen as seen
+use Rattle.seq_word.specs.declared.looks.Look.TheVariants as saw
+use Rattle.turn_lock.specs.Views.{IsPassOf, TurnView}
+use Rattle.locked_node.specs.declared.marks.Mark.{Mark}
+use Rattle.locked_node.specs.declared.marks.Mark.TheVariants as M
+use Rattle.locked_node.specs.declared.marks.Origin.{Origin}
+use Rattle.locked_node.specs.Node.{NodeView}
+use Rattle.node_bearer.specs.Marked.{AreShown}
+use Rattle.node_bearer.specs.declared.bearer.Bearer.{Bearer}
+use Rattle.node_bearer.specs.declared.bearer.Drawn.{Drawn}
+use Rattle.node_bearer.specs.declared.bearer.Drawn.TheVariants as D
+
+abbrev pub marks_at : List Placed → List (ℕ × Mark)
+marks_at entries = map (λ p. (p.at, M.Handled p.entry)) entries
+
+-- With these tasks bearer k, whose last number before was `first`, made these entries of its own and these lines, and drew the words that
+-- the lines show; these tasks are left.
+pub record Did (k first : ℕ) (tasks left : List Task) (own : List (ℕ × Mark)) (marks : List Mark) (lines : List Sent) (number : ℕ) (d : DrawerView) : Type 0 where
+  pub entries : List Placed
+  pub own_are : own ≡ marks_at entries
+  pub walks : Walks tasks entries lines left
+  pub bearer : All (λ p. p.entry.bearer ≡ k) entries
+  pub numbers : map (λ p. p.entry.number) entries ≡ range_with_len (first + 1) (length entries)
+  pub count : number ≡ first + length entries
+  pub shown : AreShown marks lines d.drawn d.looks
+  pub rise : AllPairs (λ x y. x < y) d.drawn
+  pub above : All (λ x. All (λ y. y < x) d.noted) d.drawn
+
+-- a task that is to have this event handled
+abbrev pub IsFor : Event → Task → Type 0
+IsFor event (handle e) = (e ≡ event) × IsTrue (is_outside event)
+IsFor event (follow e) = e ≡ event
+IsFor event _ = ⊥
+
+-- the next of these tasks is so
+abbrev pub IsNext : Event → List Task → Type 0
+IsNext event [] = ⊥
+IsNext event (task ∷ tasks) = IsFor event task
+
+abbrev pub BearerOf : Type 0 → Type 0
+BearerOf F = Bearer (NodeView F) Mark (Origin F)
+
+abbrev pub DidBy : {F : Type 0} → ℕ → ℕ → List Task → List Task → BearerOf F → Type 0
+DidBy k first tasks left b = Did k first tasks left b.pass.own b.pass.seen b.lines.items b.number b.drawer
+
+-- a bearer that stopped, but for want of memory: its own entries end with its mark, and an event in hand is that of its next task
+pub record Broke {F : Type 0} (k first : ℕ) (tasks : List Task) (b : BearerOf F) : Type 0 where
+  pub left : List Task
+  pub before : List (ℕ × Mark)
+  pub at : ℕ
+  pub hand : Option Event
+  pub own : b.pass.own ≡ before ++ (at, M.Stopped hand) ∷ []
+  pub did : Did k first tasks left before b.pass.seen b.lines.items b.number b.drawer
+  pub next : (event : Event) → hand ≡ Some event → IsNext event left
+
+-- a pair more was drawn, above all before it
+pub record DrewPair (p : Pair) (d e : DrawerView) : Type 0 where
+  pub drawn : e.drawn ≡ d.drawn ++ word p ∷ []
+  pub noted : e.noted ≡ d.noted
+  pub looks : seen.IsPrefix d.looks e.looks
+  pub above : All (λ x. x < word p) d.drawn
+  pub over : All (λ x. x < word p) d.noted
+  pub seq : p.seq < 2 ^ 24
+
+pub record Drew {F : Type 0} (p : Pair) (k first : ℕ) (tasks left : List Task) (b : BearerOf F) : Type 0 where
+  pub before : DrawerView
+  pub did : Did k first tasks left b.pass.own b.pass.seen b.lines.items b.number before
+  pub pair : DrewPair p before b.drawer
+
+-- what a draw left: a pair more, or the end of an IV Index was seen
+abbrev pub DrewBy : {F : Type 0} → Drawn → ℕ → ℕ → List Task → List Task → BearerOf F → Type 0
+DrewBy (D.Pair p) k first tasks left b = Drew p k first tasks left b
+DrewBy (D.Spent iv) k first tasks left b = DidBy k first tasks left b × Contains b.drawer.looks (saw.Counter (iv * 2 ^ 25 + 2 ^ 24))
+
+abbrev pub IsUnspent : Drawn → Type 0
+IsUnspent (D.Pair p) = p.seq < 2 ^ 24
+IsUnspent (D.Spent iv) = ⊤
+
+-- a bearer of this lock, which is outside, and draws at these words; the machine behind the lock publishes at them
+pub record IsRider {F : Type 0} (n : NumbersView) (turn : TurnView (NodeView F)) (b : BearerOf F) : Type 0 where
+  pub made : turn.first.machine.which ≡ n.which
+  pub draws : b.drawer.which ≡ n.which
+  pub pass : IsPassOf turn b.pass
+  pub outside : b.pass.inside ≡ false
+  pub parts : b.pass.parts ≡ 1
+
+-- between two calls a bearer has seen more, and has not stopped
+pub record GoesOn {F : Type 0} (old new : BearerOf F) : Type 0 where
+  pub rest : List Mark
+  pub more : new.pass.seen ≡ old.pass.seen ++ rest
+  pub noted : new.drawer.noted ≡ old.drawer.noted
+  pub stop : new.stop ≡ old.stop
+
+abbrev pub AreEvents : ℕ → List Event → Type 0
+AreEvents elements events = All (λ e. IsTrue (is_outside e) × IsEvent elements e) events

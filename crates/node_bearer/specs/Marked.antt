@@ -1,0 +1,51 @@
+-- Lines and the entries that they are of, where entries stand among the marks of a node's lock.
+use Rattle.std.specs.Prelude.{◌≡◌, ℕ, ◌+◌, ◌*◌, ◌^◌, ◌<◌, List, [], ◌∷◌, map, All, Option, Some, None, option_and_then, ⊤}
+use Rattle.std.specs.List.{Contains, slice_get}
+use Rattle.std.specs.Option.{option_map}
+use Rattle.mesh_base.specs.Pairs.{word}
+use Rattle.mesh_types.specs.declared.events.Event.{Event}
+use Rattle.mesh_types.specs.declared.history.Entry.{Entry}
+use Rattle.mesh_types.specs.declared.history.Sent.{Sent}
+use Rattle.mesh_types.specs.declared.jobs.Job.{Job}
+use Rattle.mesh_types.specs.declared.lines.Outcome.{Outcome}
+use Rattle.mesh_types.specs.declared.lines.Outcome.TheVariants as O
+use Rattle.report_definitions.specs.Record.{Shown}
+use Rattle.run_definitions.specs.RunOf.{draws}
+use Rattle.seq_word.specs.declared.looks.Look.{Look}
+use Rattle.seq_word.specs.declared.looks.Look.TheVariants as saw
+use Rattle.locked_node.specs.declared.marks.Mark.{Mark}
+use Rattle.locked_node.specs.declared.marks.Mark.TheVariants as M
+
+-- what a line shows of the entry that stands at its place
+abbrev pub shown_at : Mark → Sent → Option Shown
+shown_at (M.Handled e) s = option_map (λ job. record { entry = e; job = job; outcome = s.outcome }) (slice_get e.jobs s.job)
+shown_at (M.Stopped hand) s = None
+
+abbrev pub shown_in : List Mark → Sent → Option Shown
+shown_in marks s = option_and_then (λ mark. shown_at mark s) (slice_get marks s.entry)
+
+-- no number was left only where the counter was seen at the end of that IV Index
+abbrev pub IsSpentSeen : List Look → Outcome → Type 0
+IsSpentSeen looks (O.Spent iv) = Contains looks (saw.Counter (iv * 2 ^ 25 + 2 ^ 24))
+IsSpentSeen looks _ = ⊤
+
+-- The entry and the job of each line are there; the lines draw these words, each with a SEQ below 2^24.
+pub record AreShown (marks : List Mark) (lines : List Sent) (drawn : List ℕ) (looks : List Look) : Type 0 where
+  pub shows : List Shown
+  pub found : map (shown_in marks) lines ≡ map Some shows
+  pub drawing : map word (draws shows) ≡ drawn
+  pub seq : All (λ p. p.seq < 2 ^ 24) (draws shows)
+  pub spent : All (λ s. IsSpentSeen looks s.outcome) shows
+
+-- at this place stands the entry of this event, which has these jobs
+pub record HasEntry (marks : List Mark) (at : ℕ) (event : Event) (jobs : List Job) : Type 0 where
+  pub entry : Entry
+  pub here : slice_get marks at ≡ Some (M.Handled entry)
+  pub event_is : entry.event ≡ event
+  pub jobs_are : entry.jobs ≡ jobs
+
+-- and this is one of them
+pub record HasJob (marks : List Mark) (at j : ℕ) (event : Event) (job : Job) : Type 0 where
+  pub jobs : List Job
+  pub entry : HasEntry marks at event jobs
+  pub place : slice_get jobs j ≡ Some job

@@ -1,0 +1,84 @@
+//! What a bearer does under the lock.
+#![tactic(auto)]
+
+ghost use Rattle.std.specs.Prelude.{◌≡◌, ℕ, ◌<◌, ◌^◌, List, ◌∷◌, ◌++◌, All, true, false, IfOk, OnOk, IfErr};
+ghost use Rattle.machine_contract.specs.Ranges.{IsEvent, IsJob, IsQuiet};
+ghost use Rattle.run_definitions.specs.Order.{Task, is_outside, write_tasks};
+ghost use Rattle.seq_word.specs.Word.{seq_of};
+ghost use Rattle.locked_node.specs.Node.{OnStop};
+ghost use Rattle.node_bearer.specs.Did.{Broke, DidBy, GoesOn, IsFor, IsRider};
+ghost use Rattle.node_bearer.specs.Marked.{HasEntry};
+
+use crate::bearer::Bearer;
+use flash_model::Bench;
+use locked_node::Node;
+use machine_contract::{Answered, Machine, Stop};
+use mesh_types::events::Event;
+use seq_word::Numbers;
+use std::sync::Wait;
+use turn_lock::Turn;
+
+/// Has an event handled. The bearer is the one of this place, `k`.
+pub fn act<M: Machine, F: Bench>(
+    rt: &impl Wait,
+    n: &Numbers,
+    turn: &Turn<Node<M, F>>,
+    k: u8,
+    b: &mut Bearer<Node<M, F>>,
+    event: &Event,
+) -> Result<Answered, Stop>
+    requires rider { IsRider n.now turn.now b.old }
+    requires event { IsEvent turn.now.first.machine.elements event.now }
+    ensures rider { IsRider n.now turn.now b.new }
+    ensures on { GoesOn b.old b.new }
+    ensures frame { (b.new.lines ≡ b.old.lines) × (b.new.drawer ≡ b.old.drawer) }
+    ensures did { (first : ℕ) (tasks rest : List Task) (task : Task) → IsFor event.now task → DidBy k first tasks (task ∷ rest) b.old
+        → IfOk result (λ a. DidBy k first tasks (write_tasks a.at 0 event.now a.jobs ++ rest) b.new) }
+    ensures entry { IfOk result (λ a. HasEntry b.new.pass.seen a.at event.now a.jobs) }
+    ensures jobs { IfOk result (λ a. All (IsJob event.now) a.jobs) }
+    ensures quiet { is_outside event.now ≡ false → IfOk result (λ a. All IsQuiet a.jobs) }
+    ensures stopped { (first : ℕ) (tasks rest : List Task) (task : Task) → IsFor event.now task → DidBy k first tasks (task ∷ rest) b.old
+        → IfErr result (λ e. OnStop e (Broke k first tasks b.new)) }
+{
+    if b.number == u32::MAX {
+        return Err(Stop::Memory);
+    }
+    let mut node = turn.enter(rt, &mut b.pass);
+    let result = node.handle(n, k, b.number + 1, event);
+    node.known();
+    turn.leave(&mut b.pass, node);
+    match result {
+        Ok(answered) => {
+            b.number += 1;
+            Ok(answered)
+        }
+        Err(stop) => Err(stop),
+    }
+}
+
+/// Has a refill stored, where `mark` is still the mark that was published last, and can be raised.
+pub fn refill<M: Machine, F: Bench>(
+    rt: &impl Wait,
+    n: &Numbers,
+    turn: &Turn<Node<M, F>>,
+    b: &mut Bearer<Node<M, F>>,
+    mark: u64,
+) -> Result<(), Stop>
+    requires rider { IsRider n.now turn.now b.old }
+    requires seq { seq_of mark < 2 ^ 24 }
+    ensures rider { IsRider n.now turn.now b.new }
+    ensures on { GoesOn b.old b.new }
+    ensures frame { (b.new.lines ≡ b.old.lines) × (b.new.drawer ≡ b.old.drawer) }
+    ensures did { (k first : ℕ) (tasks rest : List Task) → DidBy k first tasks rest b.old → OnOk result (DidBy k first tasks rest b.new) }
+    ensures stopped { (k first : ℕ) (tasks rest : List Task) → DidBy k first tasks rest b.old
+        → IfErr result (λ e. OnStop e (Broke k first tasks b.new)) }
+{
+    let mut node = turn.enter(rt, &mut b.pass);
+    let result = node.refill(n, mark);
+    node.known();
+    turn.leave(&mut b.pass, node);
+    match result {
+        Ok(_) => Ok(()),
+        Err(stop) => Err(stop),
+    }
+}

@@ -1,0 +1,19 @@
+//! One bearer of a node, which takes its events to the machine behind the lock and does the jobs that they give it.
+//!
+//! - `bearer`: what a bearer has; `gate`: who is told of its steps
+//! - `acting`: an event is handled under the lock, and a refill is stored
+//! - `drawing`: a sequence number is drawn, without the lock
+//! - `jobs`: jobs are sealed and noted
+//! - `working`: all events of a bearer
+#![tactic(auto)]
+
+mod acting;
+mod bearer;
+mod drawing;
+mod gate;
+mod jobs;
+mod working;
+
+pub use bearer::{Bearer, Drawn};
+pub use gate::{FreeGate, Gate};
+pub use working::work;

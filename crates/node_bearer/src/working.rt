@@ -1,0 +1,89 @@
+//! All events of a bearer.
+#![tactic(auto)]
+
+ghost use Rattle.std.specs.Prelude.{◌≡◌, ℕ, List, [], ◌∷◌, ◌++◌, map, IsTrue, IfErr, OnOk};
+ghost use Rattle.machine_contract.specs.Ranges.{IsEvent};
+ghost use Rattle.run_definitions.specs.Order.{Task, handle, is_outside};
+ghost use Rattle.locked_node.specs.Node.{OnStop};
+ghost use Rattle.node_bearer.specs.Did.{AreEvents, Broke, DidBy, GoesOn, IsRider};
+
+use crate::acting::act;
+use crate::bearer::Bearer;
+use crate::gate::Gate;
+use crate::jobs::do_jobs;
+use flash_model::Bench;
+use locked_node::Node;
+use machine_contract::{Machine, Stop};
+use mesh_types::events::Event;
+use seq_word::Numbers;
+use std::sync::Wait;
+use turn_lock::Turn;
+
+/// Has an event from outside handled, and does all that follows from it.
+fn do_event<M: Machine, F: Bench, G: Gate>(
+    rt: &impl Wait,
+    n: &Numbers,
+    turn: &Turn<Node<M, F>>,
+    gate: &G,
+    k: u8,
+    b: &mut Bearer<Node<M, F>>,
+    event: &Event,
+) -> Result<(), Stop>
+    requires rider { IsRider n.now turn.now b.old }
+    requires event { IsEvent turn.now.first.machine.elements event.now }
+    requires outside { IsTrue (is_outside event.now) }
+    ensures rider { IsRider n.now turn.now b.new }
+    ensures on { GoesOn b.old b.new }
+    ensures did { (first : ℕ) (tasks rest : List Task) → DidBy k first tasks (handle event.now ∷ rest) b.old → OnOk result (DidBy k first tasks rest b.new) }
+    ensures stopped { (first : ℕ) (tasks rest : List Task) → DidBy k first tasks (handle event.now ∷ rest) b.old
+        → IfErr result (λ e. OnStop e (Broke k first tasks b.new)) }
+{
+    let number = b.number.saturating_add(1);
+    gate.before(k, number);
+    match act(rt, n, turn, k, b, event) {
+        Ok(answered) => {
+            gate.between(k, number);
+            let done = do_jobs(
+                rt,
+                n,
+                turn,
+                k,
+                b,
+                answered.at,
+                event,
+                answered.jobs.as_slice(),
+            );
+            gate.after(k, number);
+            done
+        }
+        Err(stop) => Err(stop),
+    }
+}
+
+/// Has all events of a bearer handled, in their order, and does all that follows from each before it comes to the next. It stops at the
+/// first refusal.
+pub fn work<M: Machine, F: Bench, G: Gate>(
+    rt: &impl Wait,
+    n: &Numbers,
+    turn: &Turn<Node<M, F>>,
+    gate: &G,
+    k: u8,
+    b: &mut Bearer<Node<M, F>>,
+    events: &[Event],
+) -> Result<(), Stop>
+    requires rider { IsRider n.now turn.now b.old }
+    requires events { AreEvents turn.now.first.machine.elements events.now }
+    ensures rider { IsRider n.now turn.now b.new }
+    ensures on { GoesOn b.old b.new }
+    ensures did { (first : ℕ) (tasks : List Task) → DidBy k first tasks (map handle events.now) b.old → OnOk result (DidBy k first tasks [] b.new) }
+    ensures stopped { (first : ℕ) (tasks : List Task) → DidBy k first tasks (map handle events.now) b.old
+        → IfErr result (λ e. OnStop e (Broke k first tasks b.new)) }
+{
+    for event in events {
+        match do_event(rt, n, turn, gate, k, b, event) {
+            Ok(()) => {}
+            Err(stop) => return Err(stop),
+        }
+    }
+    Ok(())
+}
