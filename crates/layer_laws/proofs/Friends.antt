@@ -30,7 +30,7 @@ inside_pick : {A : Type 0} (P : A → Type 0) (b : Bool) (x : A) (o : Option A) 
 inside_pick P true x o h k = h
 inside_pick P false x o h k = k
 
-every_found : {A : Type 0} (P : A → Type 0) (test : A → Bool) (xs : List A) → Every P xs → Inside P (find test xs)
+pub every_found : {A : Type 0} (P : A → Type 0) (test : A → Bool) (xs : List A) → Every P xs → Inside P (find test xs)
 every_found P test [] h = tt
 every_found P test (x ∷ xs) h = inside_pick P (test x) x (find test xs) h.0 (every_found P test xs h.1)
 

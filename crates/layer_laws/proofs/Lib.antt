@@ -3,5 +3,8 @@ pub mod Node
 pub mod Parts
 pub mod Friends
 pub mod FriendCalls
+pub mod Acts
+pub mod Stored
+pub mod Messages
 pub mod Safe
 pub mod Built

@@ -96,3 +96,7 @@ option_cases G (Some x) h k = k x refl
 pub result_cases : {A B : Type 0} (G : Type 0) (o : Result A B) → ((x : A) → o ≡ Ok x → G) → ((y : B) → o ≡ Err y → G) → G
 result_cases G (Ok x) h k = h x refl
 result_cases G (Err y) h k = k y refl
+
+pub when : (G : Type 0) (b : Bool) → (b ≡ true → G) → (b ≡ false → G) → G
+when G true h k = h refl
+when G false h k = k refl
