@@ -1,34 +1,20 @@
 -- What configuration messages store: each record is a change, in range, within the limits, and keeps the node whole.
-use Rattle.std.proofs.Common.{◌≡◌, ℕ, zero, suc, ◌+◌, ◌-◌, ◌*◌, ◌/◌, ◌%◌, ◌^◌, ◌<◌, ◌≤◌, ◌⊎◌, inl, inr, lit<, lit≤, Bool, true, false, cond, not, ◌&&◌, ◌||◌, eqb, ltb, leb, List, [], ◌∷◌, ◌++◌, length, take, drop, map, filter, find, replicate, refl, sym, subst, ap, ◌∙◌, arith, Option, Some, None, Result, Ok, Err, is_some, IsTrue, bytes_eq, length-take, length-drop}
-use Rattle.std.specs.Bool.{⊤}
-use Rattle.std.specs.List.{AllByRecursion as Every, list_any}
+use Rattle.std.proofs.Common.{◌≡◌, ℕ, ◌^◌, ◌<◌, Bool, true, false, cond, not, ◌&&◌, ◌||◌, eqb, leb, List, length, filter, refl, subst, arith, Option, Some, None, Result, Ok, Err, is_some, bytes_eq}
+use Rattle.std.specs.List.{list_any}
 use Rattle.std.proofs.lemmas.Bool.Decides.{nat_tests}
-use Rattle.std.proofs.lemmas.List.Elements.{All-from_recursion}
-use Rattle.config_definitions.specs.Answers.{config_answer, first_answers, last_answers, middle_answers}
-use Rattle.config_definitions.specs.Features.{composition_get, feature_record, is_default_ttl, is_octet, is_switch, node_reset, octet_get, octet_set, poll_timeout_get, proxy_set, relay_get, relay_set}
-use Rattle.config_definitions.specs.Keys.{app_key_add, app_key_delete, app_key_get, app_key_removal, app_key_set, app_key_update, has_net, is_next, net_key_add, net_key_delete, net_key_get, net_key_removal, net_key_set, net_key_update, no_key, phase_end, phase_get, phase_of, phase_set, phase_two}
-use Rattle.config_definitions.specs.Models.{app_bind, app_unbind, bind_set, count_of_model, has_app, is_subscribed, group_add, group_delete, group_overwrite, group_set, has_model, is_full, is_full_of_others, label_add, label_delete, label_overwrite, label_set, model_number, model_of, on_model, subscriptions_delete, subscriptions_removal}
-use Rattle.config_definitions.specs.Params.{address_of, first_index, index_of, is_key, is_model, second_index}
-use Rattle.config_definitions.specs.Publishing.{beat_set, is_same_row, heartbeat_get, heartbeat_set, is_model_row, is_publish_ttl, publication_get, publication_set, publication_shown, row_set}
+use Rattle.config_definitions.specs.Keys.{app_key_add, app_key_delete, app_key_update, has_net, is_next, net_key_add, net_key_delete, net_key_update, no_key, phase_end, phase_of, phase_two}
+use Rattle.config_definitions.specs.Models.{app_bind, app_unbind, count_of_model, has_app, is_subscribed, group_add, group_delete, group_overwrite, has_model, is_full, is_full_of_others, label_add, label_delete, label_overwrite, model_number, model_of, on_model, subscriptions_delete}
+use Rattle.config_definitions.specs.Publishing.{is_same_row, is_model_row, row_set}
 use Rattle.config_definitions.specs.declared.acts.ConfigAct.{ConfigAct}
 use Rattle.config_definitions.specs.declared.acts.Outcome.{Outcome}
 use Rattle.config_definitions.specs.declared.acts.Status.{Status}
-use Rattle.config_definitions.specs.declared.acts.Status.TheVariants as S
-use Rattle.layer_definitions.specs.KeyRefresh.{app_row, net_index, net_row}
+use Rattle.layer_definitions.specs.KeyRefresh.{app_row, net_row}
 use Rattle.layer_definitions.specs.Labels.{is_virtual}
-use Rattle.layer_definitions.specs.Order.{put_by}
 use Rattle.mesh_base.specs.declared.address.Address.{Address}
-use Rattle.mesh_base.specs.declared.keys.AppKeyRow.{AppKeyRow}
-use Rattle.mesh_base.specs.declared.keys.NetKeyRow.{NetKeyRow}
-use Rattle.model_states.specs.declared.publication.HeartbeatRow.{HeartbeatRow}
-use Rattle.node_records.proofs.Rising.{Rises}
 use Rattle.record_types.specs.declared.records.PublishRow.{PublishRow}
 use Rattle.record_types.specs.declared.records.StoreRecord.{StoreRecord}
 use Rattle.record_types.specs.declared.records.StoreRecord.TheVariants as R
-use Rattle.run_safety.specs.Safety.{IsChange}
-use Rattle.store_definitions.specs.Config.{Config, apps_after, binds_after, is_element, is_label, is_sub, labels_after, nets_after, publication_index, subs_after, is_bind}
-use Rattle.store_definitions.specs.Node.{IsWhole, KeepsWhole}
-use Rattle.store_definitions.specs.Ranges.{IsInRange, IsKey}
+use Rattle.store_definitions.specs.Config.{Config, is_element, is_label, is_sub, is_bind}
 use Rattle.layer_laws.proofs.Lists.{Inside, option_cases, when}
 
 -- How a message ends, where what it stores, if it does, is so.

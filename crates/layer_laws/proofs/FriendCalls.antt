@@ -1,26 +1,22 @@
 -- What the entries of a life do with friendships, and what control messages ask to be sent.
-use Rattle.std.proofs.Common.{◌≡◌, ℕ, ◌+◌, ◌-◌, Bool, true, false, cond, eqb, List, [], ◌∷◌, ◌++◌, map, filter, fold, refl, sym, subst, ap, Option, Some, None, Result, Ok, Err, is_some, is_none}
+use Rattle.std.proofs.Common.{◌≡◌, ℕ, ◌-◌, Bool, true, false, eqb, List, [], ◌∷◌, ◌++◌, map, filter, fold, refl, subst, Option, Some, None, is_none}
 use Rattle.std.specs.Bool.{⊤}
-use Rattle.std.specs.List.{AllByRecursion as Every, flat_map, list_any}
-use Rattle.std.specs.Option.{option_map, option_map_or, option_to_list}
+use Rattle.std.specs.List.{AllByRecursion as Every}
+use Rattle.std.specs.Option.{option_map_or, option_to_list}
 use Rattle.layer_definitions.specs.Control.{control_text}
 use Rattle.layer_definitions.specs.ControlReading.{control_of}
 use Rattle.layer_definitions.specs.KeyRefresh.{net_row}
 use Rattle.layer_definitions.specs.Network.{net_text}
-use Rattle.layer_states.specs.Friends.{FriendCall, FriendsState, after, clear, end_all, is_cleared, is_friend, keep, list_add, list_remove, offered, poll, poll_result, put, put_own, request, tick}
-use Rattle.layer_states.specs.declared.friends.FriendFault.{FriendFault}
+use Rattle.layer_states.specs.Friends.{FriendCall, FriendsState, after, clear, end_all, list_add, list_remove, offered, poll, poll_result, put, put_own, request}
 use Rattle.layer_states.specs.declared.friends.OwnShort.{OwnShort}
 use Rattle.layer_states.specs.declared.friends.PollAnswer.{PollAnswer}
 use Rattle.layer_states.specs.declared.friends.PollAnswer.TheVariants as P
-use Rattle.layer_states.specs.declared.friends.Polled.{Polled}
 use Rattle.mesh_base.specs.declared.address.Address.{Address}
 use Rattle.mesh_base.specs.declared.control.ControlMsg.{ControlMsg}
 use Rattle.mesh_base.specs.declared.control.ControlMsg.TheVariants as C
-use Rattle.mesh_base.specs.declared.control.Offer.{Offer}
 use Rattle.mesh_base.specs.declared.control.Request.{Request}
 use Rattle.mesh_base.specs.declared.fields.NetFields.{NetFields}
 use Rattle.mesh_base.specs.declared.fields.NetMaterial.{NetMaterial}
-use Rattle.mesh_base.specs.declared.keys.NetKeyRow.{NetKeyRow}
 use Rattle.mesh_base.specs.declared.keys.UpperKey.{UpperKey}
 use Rattle.mesh_base.specs.declared.pair.Name.{Name}
 use Rattle.mesh_types.specs.declared.answers.Answer.{Answer}
@@ -30,24 +26,23 @@ use Rattle.mesh_types.specs.declared.events.Event.TheVariants as E
 use Rattle.mesh_types.specs.declared.jobs.Job.{Job}
 use Rattle.mesh_types.specs.declared.jobs.Job.TheVariants as J
 use Rattle.node_layers.specs.Configuration.{ends_friendships}
-use Rattle.node_layers.specs.Friendship.{act_of, answer_jobs, answered_calls, calls_by_answer, calls_of_message, clear_jobs, cleared_jobs, config_after, confirm_jobs, control_calls, control_jobs, ended_calls, friends, friends_from, friends_with, heard_by, heard_calls, if_so, is_by_friend, is_by_master, is_request, is_short, jobs_of_control, kept_calls, no_friends, offer_jobs, own_control, own_short, poll_jobs, publication_short, replies_to, send_calls, stored, stored_octets, update_of}
+use Rattle.node_layers.specs.Friendship.{act_of, answer_jobs, answered_calls, calls_by_answer, calls_of_message, clear_jobs, cleared_jobs, config_after, confirm_jobs, control_calls, control_jobs, ended_calls, friends, friends_from, friends_with, heard_by, heard_calls, if_so, is_by_friend, is_by_master, is_request, is_short, jobs_of_control, kept_calls, no_friends, offer_jobs, own_control, own_short, poll_jobs, publication_short, replies_to, send_calls, stored, stored_octets}
 use Rattle.node_layers.specs.Models.{delivered_by}
-use Rattle.node_layers.specs.Publishing.{Publication, publications_due}
+use Rattle.node_layers.specs.Publishing.{publications_due}
 use Rattle.run_definitions.specs.Answers.{config_before, is_before_cache, name_of}
 use Rattle.run_definitions.specs.Handling.{past_of}
-use Rattle.run_definitions.specs.History.{Insight, OfBeacon, OfNothing, OfPdu, Opening, Past, Reading, Told, now_of}
-use Rattle.run_definitions.specs.Jobs.{element_address, send_keys, under}
+use Rattle.run_definitions.specs.History.{Insight, OfBeacon, OfNothing, OfPdu, Past, Reading, Told, now_of}
+use Rattle.run_definitions.specs.Jobs.{element_address, send_keys}
 use Rattle.run_definitions.specs.Layers.{AccessMessage, ControlMessage}
 use Rattle.run_safety.proofs.Lists.{every_append}
-use Rattle.store_definitions.specs.Config.{Config, config_of}
+use Rattle.store_definitions.specs.Config.{Config}
 use Rattle.layer_laws.proofs.Friends.{GoodAnswer, GoodCall, GoodResult, GoodState, calls_good, result_good}
-use Rattle.layer_laws.proofs.Lists.{Inside, by_test, every_filter, every_flat_any, every_mapped, every_one, every_option, every_pick, option_cases, result_cases, through_fold}
+use Rattle.layer_laws.proofs.Lists.{by_test, every_filter, every_flat_any, every_mapped, every_pick, option_cases, result_cases}
 use Rattle.layer_laws.proofs.Parts.{every_under}
 
 -- what an entry has heard, kept and sent
 module _ (H : NetFields → Type 0) (K : Name → List ℕ → Type 0) (O : OwnShort → Type 0) (lowered : (f : NetFields) (ttl : ℕ) → H f → H (record f { ttl = ttl }))
-  (texts : (m : NetMaterial) (f : NetFields) → H f → K (name_of f) (net_text m f)) where
-
+    (texts : (m : NetMaterial) (f : NetFields) → H f → K (name_of f) (net_text m f)) where
   abbrev Good : FriendCall → Type 0
   Good call = GoodCall H K O lowered call
 
@@ -161,11 +156,10 @@ module _ (H : NetFields → Type 0) (K : Name → List ℕ → Type 0) (O : OwnS
 
   -- What control messages ask to be sent, where `Fits` is so of the jobs that are made.
   module _ (c : Config) (Fits : Job → Type 0)
-    (control_fits : (m : NetMaterial) (ttl : ℕ) (dst : Address) (tpdu : List ℕ) (kept : Option (Address × Bool)) → Fits (J.Control m ttl (element_address c 0) dst tpdu kept))
-    (relay_fits : (m : NetMaterial) (f : NetFields) → H f → Fits (J.Relay m f))
-    (own_fits : (m : NetMaterial) (o : OwnShort) (kept : Option (Address × Bool)) → O o → Fits (J.Message o.net m o.key o.ttl o.src o.dst o.payload kept))
-    (repeat_fits : (name : Name) (pdu : List ℕ) → K name pdu → Fits (J.Repeat name pdu)) where
-
+      (control_fits : (m : NetMaterial) (ttl : ℕ) (dst : Address) (tpdu : List ℕ) (kept : Option (Address × Bool)) → Fits (J.Control m ttl (element_address c 0) dst tpdu kept))
+      (relay_fits : (m : NetMaterial) (f : NetFields) → H f → Fits (J.Relay m f))
+      (own_fits : (m : NetMaterial) (o : OwnShort) (kept : Option (Address × Bool)) → O o → Fits (J.Message o.net m o.key o.ttl o.src o.dst o.payload kept))
+      (repeat_fits : (name : Name) (pdu : List ℕ) → K name pdu → Fits (J.Repeat name pdu)) where
     answer_fits : (r : Reading) (fsn : Bool) (a : PollAnswer) → GoodAnswer H K O lowered a → Every Fits (answer_jobs c r fsn a)
     answer_fits r fsn P.Update g = (control_fits r.by.material 0 r.fields.src _ (Some (r.fields.src, fsn)), tt)
     answer_fits r fsn (P.Stored f) g = (relay_fits r.by.material f g, tt)

@@ -1,10 +1,9 @@
 -- What friendships hold comes from the calls on them: the PDUs and messages of a queue, and the octets that are kept.
-use Rattle.std.proofs.Common.{◌≡◌, ℕ, zero, suc, ◌-◌, Bool, true, false, cond, List, [], ◌∷◌, ◌++◌, drop, map, filter, find, fold, refl, Option, Some, None, Result, Ok, Err, is_some}
+use Rattle.std.proofs.Common.{ℕ, zero, suc, ◌-◌, Bool, true, false, cond, List, [], ◌∷◌, ◌++◌, drop, find, fold, Option, Some, None, Result, Ok, Err, is_some}
 use Rattle.std.specs.Bool.{⊤}
-use Rattle.std.specs.List.{AllByRecursion as Every, list_any}
-use Rattle.std.specs.Option.{option_map, option_map_or}
-use Rattle.layer_definitions.specs.Network.{net_text}
-use Rattle.layer_states.specs.Friends.{FriendCall, FriendsState, after, answer_again, answer_next, change_where, clear, end_all, is_again, is_cleared, is_friend, is_noted, is_of, keep, list_add, list_changed, list_remove, list_with, list_without, offer_slot, others, poll, poll_answer, poll_clear, poll_result, polled, put, put_own, queue_left, queued, request, request_fault, requested, slots_after, standing, tick, with_kept}
+use Rattle.std.specs.List.{AllByRecursion as Every}
+use Rattle.std.specs.Option.{option_map_or}
+use Rattle.layer_states.specs.Friends.{FriendCall, FriendsState, after, answer_again, answer_next, change_where, clear, end_all, is_again, is_friend, is_noted, is_of, keep, list_add, list_changed, list_remove, list_with, list_without, offer_slot, others, poll, poll_answer, poll_clear, poll_result, polled, put, put_own, queue_left, queued, request, request_fault, requested, slots_after, standing, tick, with_kept}
 use Rattle.layer_states.specs.declared.friends.FriendFault.{FriendFault}
 use Rattle.layer_states.specs.declared.friends.FriendFault.TheVariants.{Stranger}
 use Rattle.layer_states.specs.declared.friends.Friendship.{Friendship}
@@ -21,7 +20,7 @@ use Rattle.mesh_base.specs.declared.pair.Name.{Name}
 use Rattle.run_safety.proofs.Lists.{every_append}
 use Rattle.layer_laws.proofs.Lists.{Inside, every_filter, every_mapped, every_pick, through_fold}
 
-every_drop : {A : Type 0} (P : A → Type 0) (n : ℕ) (xs : List A) → Every P xs → Every P (drop n xs)
+pub every_drop : {A : Type 0} (P : A → Type 0) (n : ℕ) (xs : List A) → Every P xs → Every P (drop n xs)
 every_drop P zero xs h = h
 every_drop P (suc n) [] h = tt
 every_drop P (suc n) (x ∷ xs) h = every_drop P n xs h.1

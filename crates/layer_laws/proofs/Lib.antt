@@ -6,5 +6,9 @@ pub mod FriendCalls
 pub mod Acts
 pub mod Stored
 pub mod Messages
+pub mod Levels
+pub mod Changes
 pub mod Safe
+pub mod Own
+pub mod Fit
 pub mod Built

@@ -1,10 +1,10 @@
 -- The layers of this node are safe.
-use Rattle.std.proofs.Common.{◌≡◌, ◌⊎◌, ℕ, Bool, true, false, cond, List, [], ◌∷◌, ◌++◌, inl, inr, refl, ap, Option, Some, None}
+use Rattle.std.proofs.Common.{◌≡◌, ◌⊎◌, ℕ, List, [], ◌∷◌, ◌++◌, inl, inr, refl, ap, Some, None}
 use Rattle.std.specs.Bool.{⊤}
 use Rattle.std.specs.List.{AllByRecursion as Every, Contains, flat_map, fold}
 use Rattle.std.proofs.lemmas.List.Elements.{All-contains_itself, All-from_recursion, recursion_from_All}
 use Rattle.layer_definitions.specs.Network.{net_text}
-use Rattle.layer_states.specs.Sending.{is_due, is_last, round_of}
+use Rattle.layer_states.specs.Sending.{round_of}
 use Rattle.layer_states.specs.Friends.{FriendsState, after, tick}
 use Rattle.layer_states.specs.declared.friends.OwnShort.{OwnShort}
 use Rattle.layer_states.specs.declared.sending.Sending.{Sending}
@@ -15,21 +15,20 @@ use Rattle.mesh_types.specs.declared.answers.Answer.{Answer}
 use Rattle.mesh_types.specs.declared.answers.Answer.TheVariants as A
 use Rattle.mesh_types.specs.declared.events.Event.{Event}
 use Rattle.mesh_types.specs.declared.events.Event.TheVariants as E
-use Rattle.mesh_types.specs.declared.jobs.Job.{Job}
-use Rattle.model_states.specs.declared.publication.HeartbeatRow.{HeartbeatRow}
 use Rattle.model_states.specs.Publication.{heartbeat_due}
 use Rattle.node_layers.specs.Friendship.{control_jobs, ended_calls, friends, replies_to}
-use Rattle.node_layers.specs.NodeLayers.{node_layers, published_at, published_jobs, replies_of, reply_job, reply_jobs}
+use Rattle.node_layers.specs.NodeLayers.{changes_of, node_layers, published_at, published_jobs, replies_of, reply_job, reply_jobs}
 use Rattle.node_layers.specs.Publishing.{Publication, heartbeat_job, heartbeat_jobs, publication_job, publications_due, published}
 use Rattle.node_layers.specs.Reassembly.{acks_at, due_job, due_jobs}
 use Rattle.node_layers.specs.Sending.{messages, round_jobs, segment_job, segments_at}
-use Rattle.run_definitions.specs.Answers.{config_before, is_before_cache, later, name_of}
+use Rattle.run_definitions.specs.Answers.{config_before, later, name_of}
 use Rattle.run_definitions.specs.History.{Insight, OfBeacon, OfNothing, OfPdu, Past, Told}
 use Rattle.run_definitions.specs.Layers.{AccessMessage, ControlMessage}
-use Rattle.run_safety.proofs.Lists.{every_append, every_map}
+use Rattle.run_safety.proofs.Lists.{every_append}
 use Rattle.run_safety.specs.Safety.{AreSafe, IsChange, IsFitJob, IsTextHeard, WasHeard, WasKept}
 use Rattle.store_definitions.specs.Config.{Config, config_of}
-use Rattle.layer_laws.proofs.FriendCalls.{EntriesGood, EntryGood, HeardGood, KeptGood, SendGood, control_jobs_fit, friends_good}
+use Rattle.layer_laws.proofs.Changes.{changes_are}
+use Rattle.layer_laws.proofs.FriendCalls.{EntriesGood, HeardGood, KeptGood, SendGood, control_jobs_fit, friends_good}
 use Rattle.layer_laws.proofs.Friends.{GoodState}
 use Rattle.layer_laws.proofs.Lists.{every_flat_any, every_pick, option_cases}
 use Rattle.layer_laws.proofs.Parts.{every_under}
@@ -86,14 +85,16 @@ module _ (all : Past) where
 
   entries_in : (before ts : List Told) → Every (Contains all.told) ts → EntriesGood (WasHeard all) Kept AnyOwn lowered texts before ts
   entries_in before [] h = tt
-  entries_in before (t ∷ ts) h =
-      (record {
-        heard = heard_in t h.0 t.insight t.entry.answer refl refl;
-        kept = λ a. kept_in t h.0 t.entry.event refl a;
-        sent = send_in (config_of t.records) t.entry.event;
-        replied = λ st m. any_own _;
-        publishes = λ ticks. any_own _;
-      }, entries_in (before ++ t ∷ []) ts h.1)
+  entries_in before (t ∷ ts) h = (
+    record {
+      heard = heard_in t h.0 t.insight t.entry.answer refl refl;
+      kept = λ a. kept_in t h.0 t.entry.event refl a;
+      sent = send_in (config_of t.records) t.entry.event;
+      replied = λ st m. any_own _;
+      publishes = λ ticks. any_own _;
+    },
+    entries_in (before ++ t ∷ []) ts h.1,
+  )
 
   friends_held : GoodState (WasHeard all) Kept AnyOwn lowered (friends all)
   friends_held = friends_good (WasHeard all) Kept AnyOwn lowered texts all (entries_in [] all.told (recursion_from_All (Contains all.told) all.told (All-contains_itself all.told)))
@@ -137,3 +138,14 @@ published_safe past c ticks =
     let st : FriendsState = after (friends past) (tick (later past ticks)) in
     every_append (IsFitJob past) (flat_map (published_jobs c st) (publications_due past c ticks)) (heartbeat_jobs past c ticks)
     (every_flat_any (IsFitJob past) (published_jobs c st) (publication_safe past c st) (publications_due past c ticks)) (heartbeat_safe past c ticks)
+
+pub node_safe : AreSafe node_layers
+unfolding node_layers
+node_safe = record {
+  acks_due = λ past c ticks. All-from_recursion (IsFitJob past) (acks_at past c ticks) (acks_safe past c ticks);
+  segments_due = λ past c ticks. All-from_recursion (IsFitJob past) (segments_at past c ticks) (segments_safe past c ticks);
+  control_jobs = λ past c m. All-from_recursion (IsFitJob past) (control_jobs past c m) (control_safe past c m);
+  replies = λ past c m. All-from_recursion (IsFitJob past) (replies_of past c m) (replies_safe past c m);
+  published = λ past c ticks. All-from_recursion (IsFitJob past) (published_at past c ticks) (published_safe past c ticks);
+  changes = λ past m. All-from_recursion IsChange (changes_of past m) (changes_are past m);
+}

@@ -1,8 +1,7 @@
 -- What a record of a configuration message is: a change, and in a sound node in range, within the limits, and one that keeps it whole.
-use Rattle.std.proofs.Common.{◌≡◌, ℕ, zero, suc, ◌+◌, ◌-◌, ◌*◌, ◌/◌, ◌%◌, ◌^◌, ◌<◌, ◌≤◌, inl, inr, Bool, true, false, cond, not, ◌&&◌, ◌||◌, eqb, ltb, leb, List, [], ◌∷◌, ◌++◌, length, take, drop, map, filter, find, replicate, refl, sym, subst, ap, ◌∙◌, arith, Option, Some, None, Result, Ok, Err, is_some, IsTrue, length-append}
+use Rattle.std.proofs.Common.{◌≡◌, ℕ, suc, ◌+◌, ◌*◌, ◌/◌, ◌%◌, ◌^◌, ◌<◌, ◌≤◌, Bool, true, false, cond, not, ◌&&◌, ◌||◌, eqb, ltb, leb, List, [], ◌∷◌, ◌++◌, length, filter, find, replicate, refl, subst, ap, ◌∙◌, arith, Some, None, is_some, length-append}
 use Rattle.std.specs.Bool.{⊤}
 use Rattle.std.specs.List.{AllByRecursion as Every, list_any}
-use Rattle.std.specs.Option.{option_map_or}
 use Rattle.std.proofs.lemmas.Bool.Decides.{nat_tests}
 use Rattle.std.proofs.lemmas.List.{length-map}
 use Rattle.std.proofs.lemmas.List.Elements.{All-from_recursion, recursion_from_All}
@@ -19,11 +18,11 @@ use Rattle.record_types.specs.declared.records.PublishRow.{PublishRow}
 use Rattle.record_types.specs.declared.records.StoreRecord.{StoreRecord}
 use Rattle.record_types.specs.declared.records.StoreRecord.TheVariants as R
 use Rattle.run_safety.specs.Safety.{IsChange}
-use Rattle.store_definitions.specs.Config.{Config, apps_after, binds_after, is_bind, is_element, is_label, is_sub, labels_after, labels_without, nets_after, publication_index, subs_after, subs_without}
-use Rattle.store_definitions.specs.Node.{HasNext, IsPhased, IsWhole, KeepsWhole, has_other_net, is_held}
+use Rattle.store_definitions.specs.Config.{Config, apps_after, binds_after, is_bind, is_label, is_sub, labels_after, labels_without, nets_after, publication_index, subs_after, subs_without}
+use Rattle.store_definitions.specs.Node.{HasNext, IsPhased, IsWhole, KeepsWhole, has_other_net}
 use Rattle.store_definitions.specs.Ranges.{IsInRange, IsKey}
 use Rattle.layer_laws.proofs.Friends.{every_found}
-use Rattle.layer_laws.proofs.Lists.{Inside, and_true, option_cases, when}
+use Rattle.layer_laws.proofs.Lists.{Inside, and_true, when}
 
 -- Octets.
 abbrev pub Octets : List ℕ → Type 0
