@@ -21,10 +21,10 @@ built_safe = record {
 pub built_fit : AreFit built_layers
 unfolding built_layers
 built_fit = record {
-  changes = λ past m h whole. tt;
+  changes = λ past m h whole order octets. tt;
   acks_due = λ past c ticks h s. All-from_recursion (IsOwn c) _ (acks_own built_layers built_safe past c ticks h s);
-  segments_due = λ past c ticks h s. All-nil (IsOwn c);
-  control_jobs = λ past c m h s. All-nil (IsOwn c);
-  replies = λ past c m h s. All-nil (IsOwn c);
-  published = λ past c ticks h s. All-nil (IsOwn c);
+  segments_due = λ past c ticks h own s. All-nil (IsOwn c);
+  control_jobs = λ past c m h whole own s. All-nil (IsOwn c);
+  replies = λ past c m h whole s. All-nil (IsOwn c);
+  published = λ past c ticks h whole s. All-nil (IsOwn c);
 }

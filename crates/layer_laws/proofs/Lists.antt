@@ -1,5 +1,5 @@
 -- What holds of each element of a list, by recursion, through the calls that make lists.
-use Rattle.std.proofs.Common.{◌≡◌, ℕ, zero, suc, Bool, true, false, cond, ◌&&◌, ◌||◌, List, [], ◌∷◌, map, filter, refl, Option, Some, None}
+use Rattle.std.proofs.Common.{◌≡◌, ℕ, zero, suc, Bool, true, false, cond, ◌&&◌, ◌||◌, List, [], ◌∷◌, map, filter, refl, Option, Some, None, Result, Ok, Err}
 use Rattle.std.specs.Prelude.{slice_index_or, slice_set}
 use Rattle.std.specs.Bool.{⊤}
 use Rattle.std.specs.List.{AllByRecursion as Every, cons_option, filter_map, flat_map, list_any, fold}
@@ -87,3 +87,16 @@ none_any p k (x ∷ xs) = or_false (p x) (list_any p xs) (k x) (none_any p k xs)
 pub by_test : {A : Type 0} (P : A → Type 0) (b : Bool) (x y : A) → (b ≡ true → P x) → (b ≡ false → P y) → P (cond b x y)
 by_test P true x y h k = h refl
 by_test P false x y h k = k refl
+
+-- by what an option or a result is
+pub option_cases : {A : Type 0} (G : Type 0) (o : Option A) → (o ≡ None → G) → ((x : A) → o ≡ Some x → G) → G
+option_cases G None h k = h refl
+option_cases G (Some x) h k = k x refl
+
+pub result_cases : {A B : Type 0} (G : Type 0) (o : Result A B) → ((x : A) → o ≡ Ok x → G) → ((y : B) → o ≡ Err y → G) → G
+result_cases G (Ok x) h k = h x refl
+result_cases G (Err y) h k = k y refl
+
+pub when : (G : Type 0) (b : Bool) → (b ≡ true → G) → (b ≡ false → G) → G
+when G true h k = h refl
+when G false h k = k refl

@@ -46,7 +46,7 @@ abbrev pub IsNoIdentity : StoreRecord → Type 0
 IsNoIdentity (R.Identity unicast elements dev_key) = ⊥
 IsNoIdentity _ = ⊤
 
-same_changed : (c : Config) (r : StoreRecord) → IsNoIdentity r → IsSameNode c (changed c r)
+pub same_changed : (c : Config) (r : StoreRecord) → IsNoIdentity r → IsSameNode c (changed c r)
 unfolding changed
 same_changed c (R.Identity unicast elements dev_key) h = absurd h
 same_changed c _ h = record { unicast = refl; elements = refl }
@@ -78,7 +78,7 @@ phase_none index S.Same = tt
 phase_none index S.Phase2 = (tt, tt)
 phase_none index S.Phase0 = (tt, tt)
 
-change_none : (r : StoreRecord) → IsChange r → IsNoIdentity r
+pub change_none : (r : StoreRecord) → IsChange r → IsNoIdentity r
 change_none (R.Identity unicast elements dev_key) h = h
 change_none _ h = tt
 

@@ -2,6 +2,7 @@
 #![tactic(auto)]
 
 ghost use Rattle.node_layers.specs.BuiltLayers.{built_layers};
+ghost use Rattle.node_layers.specs.NodeLayers.{node_layers};
 ghost use Rattle.run_definitions.specs.Fit.{AreFit};
 ghost use Rattle.run_safety.specs.Safety.{AreSafe};
 
@@ -10,4 +11,11 @@ ghost use Rattle.run_safety.specs.Safety.{AreSafe};
 pub fn built_law()
     ensures safe { AreSafe built_layers }
     ensures fit { AreFit built_layers }
+{}
+
+/// The law of all layers of the node: a run of it reuses no nonce and delivers nothing twice; what it stores for a message is in range, within
+/// the limits of the store, and keeps the node whole; and what it sends comes from an element.
+pub fn node_law()
+    ensures safe { AreSafe node_layers }
+    ensures fit { AreFit node_layers }
 {}

@@ -9,7 +9,7 @@
 //! - `Segments`, `Steps`: what the laws of `laws` say: the answer to a segment by the state of reassembly, and that an entry more is one step of
 //!   each state
 //!
-//! That it has the properties `AreSafe` of `run_safety` and `AreFit` of `run_definitions` is what `layer_laws` is for.
+//! That both have the properties `AreSafe` of `run_safety` and `AreFit` of `run_definitions` is proved in `layer_laws`.
 #![tactic(auto)]
 
 pub mod laws;
