@@ -1,6 +1,5 @@
 -- What a life asks of the layers above the lower transport layer beside safety: what they store is fit for the store, and what they send
 -- comes from this node.
-use Rattle.std.specs.Prelude.{◌≡◌, ℕ, ◌^◌, ◌<◌, true, List, [], ◌∷◌, ◌++◌, None, All, ⊤}
 use Rattle.std.specs.Prelude.{◌≡◌, ℕ, ◌<◌, ◌^◌, true, List, [], ◌∷◌, ◌++◌, None, All, ⊤}
 use Rattle.mesh_types.specs.declared.events.Event.{Event}
 use Rattle.mesh_types.specs.declared.events.Event.TheVariants as E
@@ -36,37 +35,16 @@ pub record HasElements (past : Past) (c : Config) : Type 0 where
   pub unicast : c.unicast ≡ (config_before past).unicast
   pub elements : c.elements ≡ (config_before past).elements
 
--- the address that a `begin` event sends from is an element's
-abbrev pub BeginsOwn : Config → Event → Type 0
-BeginsOwn c (E.Begin pair dst src ttl net akf aid upper) = is_element c src.0 ≡ true
-BeginsOwn c _ = ⊤
-
--- What stands before an event of a node that can be run: `begin` entries follow the lines of own messages, so they send from its elements.
-pub record IsNodePast (layers : Layers) (past : Past) : Type 0 where
-  pub handled : IsPast layers past
-  pub whole : IsWhole (config_before past)
-  pub begins : All (λ t. BeginsOwn (config_before past) t.entry.event) past.told
-
--- A payload that was opened is octets.
-abbrev pub AreOctets : List ℕ → Type 0
-AreOctets payload = All (λ octet. octet < 2 ^ 8) payload
-
-pub record AreFit (layers : Layers) : Type 0 where
-  -- after the record of a message
-  pub changes : (past : Past) (m : AccessMessage) → IsNodePast layers past → AreOctets m.payload
-      → AreStorable (past.records ++ R.Replay m.name None ∷ []) (layers.changes past m)
-  pub acks_due : (past : Past) (c : Config) (ticks : ℕ) → IsNodePast layers past → HasElements past c → All (IsOwn c) (layers.acks_due past c ticks)
-  pub segments_due : (past : Past) (c : Config) (ticks : ℕ) → IsNodePast layers past → HasElements past c → All (IsOwn c) (layers.segments_due past c ticks)
-  pub control_jobs : (past : Past) (c : Config) (m : ControlMessage) → IsNodePast layers past → HasElements past c → All (IsOwn c) (layers.control_jobs past c m)
-  pub replies : (past : Past) (c : Config) (m : AccessMessage) → IsNodePast layers past → HasElements past c → All (IsOwn c) (layers.replies past c m)
-  pub published : (past : Past) (c : Config) (ticks : ℕ) → IsNodePast layers past → HasElements past c → All (IsOwn c) (layers.published past c ticks)
 -- An event of this node: what it is asked to send, and a segmented message that begins, go from an element.
 abbrev pub IsOwnEvent : Config → Event → Type 0
 IsOwnEvent c (E.Send element dst ttl key payload) = element < c.elements
 IsOwnEvent c (E.Begin pair dst src ttl net akf aid upper) = is_element c src.0 ≡ true
 IsOwnEvent c _ = ⊤
+
 abbrev pub HasOwnEvents : Past → Type 0
 HasOwnEvents past = All (λ t. IsOwnEvent (config_before past) t.entry.event) past.told
+
+pub record AreFit (layers : Layers) : Type 0 where
   -- after the record of a message in a node that is whole, whose records may each follow those before it
   pub changes : (past : Past) (m : AccessMessage) → IsPast layers past → IsWhole (config_before past) → AreInOrder [] past.records
       → All (λ octet. octet < 2 ^ 8) m.payload → AreStorable (past.records ++ R.Replay m.name None ∷ []) (layers.changes past m)
