@@ -41,10 +41,7 @@ impl Reserve {
     /// Opens the words of a store that was provisioned or mounted: the next number is the stored mark, and so is the mark. No number that
     /// may have been drawn before is below it. The words come with a first seat that draws. An error says that memory ran out; the store is
     /// dropped then, and is mounted again.
-    pub fn start(
-        alloc: Global,
-        store: Store,
-    ) -> Result<(Reserve, Numbers, Drawer), AllocError>
+    pub fn start(alloc: Global, store: Store) -> Result<(Reserve, Numbers, Drawer), AllocError>
         ensures opened { IfOk result (λ t. t.1.opened ≡ store.persist.mark) }
         ensures keeper { IfOk result (λ t. t.0.keeper ≡ record { which = t.1.which; mark = store.persist.mark; advances = [] }) }
         ensures drawer { IfOk result (λ t. t.2 ≡ fresh t.1.which [] 1024) }

@@ -24,6 +24,7 @@ const FIRST: u64 = 0x0024_68ac_f000_0000;
 
 // SEQ 0 under IV Index 5, and under 6.
 const FIVE: u64 = 0x0a00_0000;
+
 const SIX: u64 = 0x0c00_0000;
 
 fn node(iv: u32, flags: u8) -> Provision
@@ -63,13 +64,19 @@ fn blocks_as_they_are_drawn(rt: HostRuntime) -> Result<(), Fail> {
     let (first, second) = (FIRST + 256, FIRST + 512);
     assert_eq!(rt;
         numbers.try_draw(&mut drawer),
-        Err(Miss::Dry { next: FIRST, mark: FIRST })
+        Err(Miss::Dry {
+            next: FIRST,
+            mark: FIRST
+        })
     );
     assert_eq!(rt; reserve.refill(&numbers, &mut flash, FIRST), Ok(first));
     assert_eq!(rt; draw_some(&numbers, &mut drawer, 256), Some(0xff));
     assert_eq!(rt;
         numbers.try_draw(&mut drawer),
-        Err(Miss::Dry { next: first, mark: first })
+        Err(Miss::Dry {
+            next: first,
+            mark: first
+        })
     );
     assert_eq!(rt; reserve.refill(&numbers, &mut flash, first), Ok(second));
     assert_eq!(rt; draw_some(&numbers, &mut drawer, 1), Some(0x100));
@@ -79,7 +86,10 @@ fn blocks_as_they_are_drawn(rt: HostRuntime) -> Result<(), Fail> {
     let (_reserve, numbers, mut drawer) = Reserve::start(rt.alloc(), store)?;
     assert_eq!(rt;
         numbers.try_draw(&mut drawer),
-        Err(Miss::Dry { next: second, mark: second })
+        Err(Miss::Dry {
+            next: second,
+            mark: second
+        })
     );
     Ok(())
 }
@@ -91,9 +101,15 @@ fn a_mark_seen_before_a_refill(rt: HostRuntime) -> Result<(), Fail> {
     let store = Store::provision(&mut flash, &node(0x12345678, 0))?;
     let (mut reserve, numbers, _drawer) = Reserve::start(rt.alloc(), store)?;
     assert_eq!(rt; flash.changes(), 8);
-    assert_eq!(rt; reserve.refill(&numbers, &mut flash, FIRST), Ok(FIRST + 256));
+    assert_eq!(rt;
+        reserve.refill(&numbers, &mut flash, FIRST),
+        Ok(FIRST + 256)
+    );
     assert_eq!(rt; flash.changes(), 10);
-    assert_eq!(rt; reserve.refill(&numbers, &mut flash, FIRST), Ok(FIRST + 256));
+    assert_eq!(rt;
+        reserve.refill(&numbers, &mut flash, FIRST),
+        Ok(FIRST + 256)
+    );
     assert_eq!(rt; flash.changes(), 10);
     assert_eq!(rt; reserve.store.persist().mark, FIRST + 256);
     Ok(())
@@ -111,15 +127,28 @@ fn a_cut_of_a_refill(rt: HostRuntime) -> Result<(), Fail> {
             assert_eq!(rt; reserve.refill(&numbers, &mut flash, FIRST), Ok(first));
             flash.power_cycle();
             flash.arm(calls, mask);
-            assert_eq!(rt; reserve.refill(&numbers, &mut flash, first), Err(KeepFault::Flash));
-            assert_eq!(rt; reserve.refill(&numbers, &mut flash, first), Err(KeepFault::Closed));
+            assert_eq!(rt;
+                reserve.refill(&numbers, &mut flash, first),
+                Err(KeepFault::Flash)
+            );
+            assert_eq!(rt;
+                reserve.refill(&numbers, &mut flash, first),
+                Err(KeepFault::Closed)
+            );
             assert_eq!(rt; draw_some(&numbers, &mut drawer, 256), Some(0xff));
             assert_eq!(rt;
                 numbers.try_draw(&mut drawer),
-                Err(Miss::Dry { next: first, mark: first })
+                Err(Miss::Dry {
+                    next: first,
+                    mark: first
+                })
             );
             flash.power_cycle();
-            let mark = if calls == 1 && mask == 0xff { second } else { first };
+            let mark = if calls == 1 && mask == 0xff {
+                second
+            } else {
+                first
+            };
             assert_eq!(rt; Store::mount(&mut flash)?.persist().mark, mark);
         }
     }
@@ -127,7 +156,11 @@ fn a_cut_of_a_refill(rt: HostRuntime) -> Result<(), Fail> {
 }
 
 /// Moves to IV Index 6 in Normal Operation, where that is no fall.
-fn finish(reserve: &mut Reserve, numbers: &Numbers, flash: &mut MemFlash) -> Option<Result<(), KeepFault>>
+fn finish(
+    reserve: &mut Reserve,
+    numbers: &Numbers,
+    flash: &mut MemFlash,
+) -> Option<Result<(), KeepFault>>
     requires made { reserve.old.keeper.which ≡ numbers.now.which }
     requires published { IsPublished reserve.old.store reserve.old.keeper }
     ensures made { reserve.new.keeper.which ≡ reserve.old.keeper.which }
@@ -158,7 +191,10 @@ fn numbers_under_a_new_iv_index(rt: HostRuntime) -> Result<(), Fail> {
     assert_eq!(rt; flash.changes(), 12);
     assert_eq!(rt;
         numbers.try_draw(&mut drawer),
-        Err(Miss::Dry { next: SIX, mark: SIX })
+        Err(Miss::Dry {
+            next: SIX,
+            mark: SIX
+        })
     );
     assert_eq!(rt; reserve.refill(&numbers, &mut flash, SIX), Ok(SIX + 256));
     assert_eq!(rt; numbers.try_draw(&mut drawer), Ok(Pair { iv: 6, seq: 0 }));
@@ -183,12 +219,21 @@ fn a_cut_of_the_end_of_an_iv_update(rt: HostRuntime) -> Result<(), Fail> {
             flash.arm(calls, mask);
             assert_eq!(rt; reserve.refill(&numbers, &mut flash, FIVE), Ok(FIVE + 256));
             assert_eq!(rt; numbers.try_draw(&mut drawer), Ok(Pair { iv: 5, seq: 0 }));
-            let hours = StoreRecord::Hour { hours: 96, since: 288 };
+            let hours = StoreRecord::Hour {
+                hours: 96,
+                since: 288,
+            };
             assert_eq!(rt; reserve.store.put(&mut flash, &hours), Ok(()));
             let _published = reserve.store.persist();
-            assert_eq!(rt; finish(&mut reserve, &numbers, &mut flash), Some(Err(KeepFault::Flash)));
+            assert_eq!(rt;
+                finish(&mut reserve, &numbers, &mut flash),
+                Some(Err(KeepFault::Flash))
+            );
             assert_eq!(rt; flash.changes(), calls + 1);
-            assert_eq!(rt; finish(&mut reserve, &numbers, &mut flash), Some(Err(KeepFault::Closed)));
+            assert_eq!(rt;
+                finish(&mut reserve, &numbers, &mut flash),
+                Some(Err(KeepFault::Closed))
+            );
             assert_eq!(rt; numbers.try_draw(&mut drawer), Ok(Pair { iv: 5, seq: 1 }));
             flash.power_cycle();
             let found = Store::mount(&mut flash)?;
