@@ -12,7 +12,7 @@ use flash_model::{Bench, MemFlash};
 use mesh_base::address::Address;
 use mesh_base::iv_state::IvState;
 use mesh_base::pair::Pair;
-use node_store::{Provision, Store};
+use node_store::{Provision, PutFault, Store};
 use record_types::records::StoreRecord;
 use seq_word::{Drawer, Miss, Numbers};
 use std::test::Fail;
@@ -46,7 +46,7 @@ fn node(iv: u32, flags: u8) -> Provision
 /// Draws so many numbers, and gives SEQ of the last.
 fn draw_some(numbers: &Numbers, drawer: &mut Drawer, count: u32) -> Option<u32>
     requires { drawer.old.which ≡ numbers.now.which }
-    ensures { drawer.new.which ≡ drawer.old.which }
+    ensures { drawer.new.which ≡ numbers.now.which }
 {
     let mut last = None;
     for _ in 0..count {
@@ -167,16 +167,31 @@ fn finish(
     ensures published { IsPublished reserve.new.store reserve.new.keeper }
 {
     let iv = reserve.store.persist().iv;
-    if 6 < iv.current || 6 < iv.transmit() {
-        return None;
-    }
     let to = IvState {
         current: 6,
         progress: false,
         hours: 0,
         since: iv.since,
     };
+    if to.current < iv.current || to.transmit() < iv.transmit() {
+        return None;
+    }
     Some(reserve.move_iv(numbers, flash, &to))
+}
+
+/// Stores hours, which leaves the mark as it is.
+#[tactic(auto, unfolding(store_definitions::specs::Config::changed))]
+fn put_hours(reserve: &mut Reserve, flash: &mut MemFlash) -> Result<(), PutFault>
+    requires { IsPublished reserve.old.store reserve.old.keeper }
+    ensures published { IsPublished reserve.new.store reserve.new.keeper }
+    ensures keeper { reserve.new.keeper ≡ reserve.old.keeper }
+{
+    let hours = StoreRecord::Hour {
+        hours: 96,
+        since: 288,
+    };
+    reserve.store.put(flash, &hours)?;
+    Ok(())
 }
 
 // An IV Update ends: numbers go on at SEQ 0 under the new IV Index, and what was reserved under the old one is passed over.
@@ -219,12 +234,7 @@ fn a_cut_of_the_end_of_an_iv_update(rt: HostRuntime) -> Result<(), Fail> {
             flash.arm(calls, mask);
             assert_eq!(rt; reserve.refill(&numbers, &mut flash, FIVE), Ok(FIVE + 256));
             assert_eq!(rt; numbers.try_draw(&mut drawer), Ok(Pair { iv: 5, seq: 0 }));
-            let hours = StoreRecord::Hour {
-                hours: 96,
-                since: 288,
-            };
-            assert_eq!(rt; reserve.store.put(&mut flash, &hours), Ok(()));
-            let _published = reserve.store.persist();
+            assert_eq!(rt; put_hours(&mut reserve, &mut flash), Ok(()));
             assert_eq!(rt;
                 finish(&mut reserve, &numbers, &mut flash),
                 Some(Err(KeepFault::Flash))
