@@ -42,9 +42,7 @@ fn net_row(rows: &[NetKeyRow], index: u16) -> Option<&NetKeyRow>
 fn key_step(row: Option<&NetKeyRow>, b: &Beacon) -> KeyStep
     ensures { result ≡ key_step_in (option_copied row.entry) b.now }
 {
-    let Some(row) = row else {
-        return KeyStep::Same
-    };
+    let Some(row) = row else { return KeyStep::Same };
     if b.fresh && b.refresh && row.phase == 1 {
         KeyStep::Phase2
     } else if b.fresh && !b.refresh && row.phase >= 1 {
@@ -63,7 +61,14 @@ fn beacon_answer(p: &Persist, b: &Beacon) -> Answer
     Answer::Beacon {
         index: b.index,
         key: key_step(net_row(rows, b.index), b),
-        iv: on_beacon(&p.iv, net_row(rows, 0).is_some(), b.index, b.iv, b.update, false),
+        iv: on_beacon(
+            &p.iv,
+            net_row(rows, 0).is_some(),
+            b.index,
+            b.iv,
+            b.update,
+            false,
+        ),
     }
 }
 

@@ -2,7 +2,7 @@
 //! of the one beacon, are sample data of the Mesh Profile.
 #![tactic(auto)]
 
-ghost use Rattle.std.specs.Prelude.{◌≡◌, IsTrue};
+ghost use Rattle.std.specs.Prelude.{◌≡◌, [], ◌∷◌};
 ghost use Rattle.mesh_base.specs.IvState.{HasTransmit};
 ghost use Rattle.mesh_hearing.specs.Tables.{IsFit};
 ghost use Rattle.mesh_reading.specs.Held.{AreHeldKeys};
@@ -20,7 +20,7 @@ use mesh_base::upper::UpperFields;
 use mesh_types::answers::{Answer, KeyName, KeyStep};
 use net_keys::master;
 use node_records::Persist;
-use std::alloc::AllocError;
+use std::alloc::{AllocError, Global};
 use std::test::Fail;
 
 const NK: [u8; 16] = [
@@ -63,10 +63,42 @@ fn name(src: u16, seq: u32) -> Name {
     }
 }
 
+const NET_ROW: NetKeyRow = NetKeyRow {
+    index: 0,
+    phase: 0,
+    key: NK,
+    next: None,
+};
+
+const APP_ROW: AppKeyRow = AppKeyRow {
+    net: 0,
+    index: 0x123,
+    key: AK,
+    next: None,
+};
+
+// A table of one network key, and one of one application key.
+fn one_net() -> Table<NetKeyRow, 4>
+    ensures { result ≡ NET_ROW ∷ [] }
+{
+    let mut rows = Table::new();
+    rows.push(NET_ROW).unwrap();
+    rows
+}
+
+fn one_app() -> Table<AppKeyRow, 8>
+    ensures { result ≡ APP_ROW ∷ [] }
+{
+    let mut rows = Table::new();
+    rows.push(APP_ROW).unwrap();
+    rows
+}
+
 // What the records of a node say that was just provisioned with one network key, under this IV Index.
 fn node(iv: u32) -> Persist
     ensures keys { AreHeldKeys (config_in result) }
     ensures transmit { HasTransmit result.iv }
+    ensures nets { result.nets ≡ NET_ROW ∷ [] }
 {
     let mut p = Persist::new();
     p.unicast = Address(ME);
@@ -78,15 +110,7 @@ fn node(iv: u32) -> Persist
         hours: 0,
         since: 192,
     };
-    let row = NetKeyRow {
-        index: 0,
-        phase: 0,
-        key: NK,
-        next: None,
-    };
-    let mut nets = Table::new();
-    let _ = nets.push(row);
-    p.nets = nets;
+    p.nets = one_net();
     p.apps = Table::new();
     p
 }
@@ -131,14 +155,31 @@ fn remember(p: &mut Persist, answer: &Answer)
     }
 }
 
-// The answer to octets heard, after which the replay list has what was accepted.
-fn hear(tables: &mut Tables, p: &mut Persist, octets: &[u8]) -> Result<Answer, AllocError>
-    requires { IsFit tables.old p.old }
-    ensures { IsFit tables.new p.new }
-{
-    let hearing = tables.hear(p, octets)?;
-    remember(p, &hearing.answer);
-    Ok(hearing.answer)
+// The tables of a life, with a store of this value.
+#[derive(Drop)]
+struct Life {
+    tables: Tables,
+    p: Persist,
+    ghost fit: { IsFit tables p },
+    ghost keys: { AreHeldKeys (config_in p) },
+    ghost transmit: { HasTransmit p.iv },
+}
+
+impl Life {
+    fn new(alloc: Global, p: Persist) -> Result<Life, AllocError>
+        requires keys { AreHeldKeys (config_in p) }
+        requires transmit { HasTransmit p.iv }
+    {
+        let tables = Tables::new(alloc, &p)?;
+        Ok(Life { tables, p })
+    }
+
+    // The answer to octets heard, after which the replay list has what was accepted.
+    fn hear(&mut self, octets: &[u8]) -> Result<Answer, AllocError> {
+        let hearing = self.tables.hear(&self.p, octets)?;
+        remember(&mut self.p, &hearing.answer);
+        Ok(hearing.answer)
+    }
 }
 
 fn delivered(src: u16, seq: u32, key: KeyName, payload: &[u8]) -> Option<Answer> {
@@ -159,29 +200,26 @@ const WAITING: Answer = Answer::Waiting { missing: 1 };
 #[test]
 fn two_segments(rt: HostRuntime) -> Result<(), Fail> {
     let whole = delivered(3, 0x3129ab, KeyName::Dev, ADD);
-    let mut p = node(IV);
-    let mut tables = Tables::new(rt.alloc(), &p)?;
-    assert!(rt; hear(&mut tables, &mut p, B)? == WAITING);
-    assert!(rt; Some(hear(&mut tables, &mut p, A)?) == whole);
-    let mut p = node(IV);
-    let mut tables = Tables::new(rt.alloc(), &p)?;
-    assert!(rt; hear(&mut tables, &mut p, A)? == WAITING);
-    assert!(rt; Some(hear(&mut tables, &mut p, B)?) == whole);
-    assert!(rt; hear(&mut tables, &mut p, A)? == Answer::Cached);
+    let mut life = Life::new(rt.alloc(), node(IV))?;
+    assert!(rt; life.hear(B)? == WAITING);
+    assert!(rt; Some(life.hear(A)?) == whole);
+    let mut life = Life::new(rt.alloc(), node(IV))?;
+    assert!(rt; life.hear(A)? == WAITING);
+    assert!(rt; Some(life.hear(B)?) == whole);
+    assert!(rt; life.hear(A)? == Answer::Cached);
     let copy = pdu(pair(0x3129ad), (false, 4), 3, ME, FIRST);
-    assert!(rt; hear(&mut tables, &mut p, copy.as_slice())? == Answer::Again);
+    assert!(rt; life.hear(copy.as_slice())? == Answer::Again);
     let kept = pair(0x3129ab);
-    let mut tables = Tables::new(rt.alloc(), &p)?;
-    assert!(rt; hear(&mut tables, &mut p, A)? == Answer::Replay { kept });
-    assert!(rt; hear(&mut tables, &mut p, B)? == Answer::Replay { kept });
+    let mut life = Life::new(rt.alloc(), p)?;
+    assert!(rt; life.hear(A)? == Answer::Replay { kept });
+    assert!(rt; life.hear(B)? == Answer::Replay { kept });
     Ok(())
 }
 
 // The rows of the network layer, each before those below it, and PDUs of three IV Indexes.
 #[test]
 fn network_rows(rt: HostRuntime) -> Result<(), Fail> {
-    let mut p = node(5);
-    let mut tables = Tables::new(rt.alloc(), &p)?;
+    let mut life = Life::new(rt.alloc(), node(5))?;
     for (iv, seq, src, dst, answer) in [
         (5, 1, 0x8005, ME, Answer::BadAddress),
         (5, 1, 0, ME, Answer::BadAddress),
@@ -198,7 +236,10 @@ fn network_rows(rt: HostRuntime) -> Result<(), Fail> {
         (5, 4, 5, 0xfffc, Answer::NotMine),
     ] {
         let octets = pdu(Pair { iv, seq }, (true, 5), src, dst, b"\x7f");
-        assert!(rt; hear(&mut tables, &mut p, octets.as_slice())? == answer, "{iv} {seq} {src} {dst}");
+        assert!(rt;
+            life.hear(octets.as_slice())? == answer,
+            "{iv} {seq} {src} {dst}"
+        );
     }
     Ok(())
 }
@@ -206,20 +247,109 @@ fn network_rows(rt: HostRuntime) -> Result<(), Fail> {
 // No octet of a PDU can be changed in a bit.
 #[test]
 fn flipped(rt: HostRuntime) -> Result<(), Fail> {
-    let mut p = node(IV);
-    let mut tables = Tables::new(rt.alloc(), &p)?;
-    let mut octets = Octets::<29>::new();
-    octets.extend(A);
+    let mut life = Life::new(rt.alloc(), node(IV))?;
     let mut bits = [0; 29];
     bits.copy_from_slice(A);
     for place in 0..29 {
-        for bit in [1, 0x80] {
-            bits[place] ^= bit;
-            assert!(rt; hear(&mut tables, &mut p, &bits)? == Answer::Unread, "octet {place}");
-            bits[place] ^= bit;
-        }
+        bits[place] ^= 1;
+        assert!(rt; life.hear(&bits)? == Answer::Unread, "octet {place}");
+        bits[place] ^= 0x81;
+        assert!(rt; life.hear(&bits)? == Answer::Unread, "octet {place}");
+        bits[place] ^= 0x80;
     }
-    assert!(rt; hear(&mut tables, &mut p, &bits)? == WAITING);
+    assert!(rt; life.hear(&bits)? == WAITING);
+    Ok(())
+}
+
+// An unsegmented access message under this key, sealed with this label, if there is one; no octets where there is no such PDU.
+fn access(key: &UpperKey, seq: u32, dst: u16, label: Option<[u8; 16]>, first: u8) -> Octets<29> {
+    let fields = UpperFields {
+        pair: pair(seq),
+        src: Address(3),
+        dst: Address(dst),
+        long_mic: false,
+        label,
+    };
+    let upper = upper_transport::seal_access(key, &fields, b"\x82\x02");
+    let mut tpdu = Octets::<385>::new();
+    tpdu.extend(&[first]);
+    tpdu.extend(upper.as_slice());
+    pdu(pair(seq), (false, 4), 3, dst, tpdu.as_slice())
+}
+
+// The label of the standard's sample, whose virtual address is 9736.
+const LABEL: [u8; 16] = [
+    0xf4, 0xa0, 0x02, 0xc7, 0xfb, 0x1e, 0x4c, 0xa0, 0xa4, 0x69, 0xa0, 0x21, 0xde, 0x0d, 0xb8, 0x75,
+];
+
+// The same with an application key, that label behind another one, and a group.
+fn subscriber() -> Persist
+    ensures keys { AreHeldKeys (config_in result) }
+    ensures transmit { HasTransmit result.iv }
+{
+    let mut p = node(IV);
+    p.apps = one_app();
+    let mut labels = Table::new();
+    let _ = labels.push((Address(ME), 0x1000, [7; 16]));
+    let _ = labels.push((Address(ME), 0x1000, LABEL));
+    p.labels = labels;
+    let mut subs = Table::new();
+    let _ = subs.push((Address(ME), 0x1000, Address(0xc001)));
+    p.subs = subs;
+    p
+}
+
+// Groups and virtual addresses are the node's by its subscriptions; an application key opens what it sealed, with the label that was used.
+#[test]
+fn keys_and_labels(rt: HostRuntime) -> Result<(), Fail> {
+    let mut life = Life::new(rt.alloc(), subscriber())?;
+    assert!(rt; life.hear(A)? == Answer::Replay { kept });
+    assert!(rt; life.hear(B)? == Answer::Replay { kept });
+    Ok(())
+}
+
+// The rows of the network layer, each before those below it, and PDUs of three IV Indexes.
+#[test]
+fn network_rows(rt: HostRuntime) -> Result<(), Fail> {
+    let mut life = Life::new(rt.alloc(), node(5))?;
+    for (iv, seq, src, dst, answer) in [
+        (5, 1, 0x8005, ME, Answer::BadAddress),
+        (5, 1, 0, ME, Answer::BadAddress),
+        (5, 1, ME, 0, Answer::BadAddress),
+        (5, 0, ME, 9, Answer::Own),
+        (5, 0, ME, 9, Answer::Own),
+        (5, 0, ME, ME, Answer::Own),
+        (5, 1, 5, 9, Answer::NotMine),
+        (5, 1, 5, 9, Answer::Cached),
+        (4, 1, 5, 9, Answer::NotMine),
+        (3, 1, 5, 9, Answer::Unread),
+        (5, 2, 5, 0xc001, Answer::NotMine),
+        (5, 3, 5, 0x8001, Answer::NotMine),
+        (5, 4, 5, 0xfffc, Answer::NotMine),
+    ] {
+        let octets = pdu(Pair { iv, seq }, (true, 5), src, dst, b"\x7f");
+        assert!(rt;
+            life.hear(octets.as_slice())? == answer,
+            "{iv} {seq} {src} {dst}"
+        );
+    }
+    Ok(())
+}
+
+// No octet of a PDU can be changed in a bit.
+#[test]
+fn flipped(rt: HostRuntime) -> Result<(), Fail> {
+    let mut life = Life::new(rt.alloc(), node(IV))?;
+    let mut bits = [0; 29];
+    bits.copy_from_slice(A);
+    for place in 0..29 {
+        bits[place] ^= 1;
+        assert!(rt; life.hear(&bits)? == Answer::Unread, "octet {place}");
+        bits[place] ^= 0x81;
+        assert!(rt; life.hear(&bits)? == Answer::Unread, "octet {place}");
+        bits[place] ^= 0x80;
+    }
+    assert!(rt; life.hear(&bits)? == WAITING);
     Ok(())
 }
 
@@ -263,7 +393,7 @@ fn keys_and_labels(rt: HostRuntime) -> Result<(), Fail> {
     let mut subs = Table::new();
     let _ = subs.push((Address(ME), 0x1000, Address(0xc001)));
     p.subs = subs;
-    let mut tables = Tables::new(rt.alloc(), &p)?;
+    let mut life = Life::new(rt.alloc(), p)?;
     let app = UpperKey::App {
         index: 0x123,
         aid: 0x26,
@@ -271,19 +401,41 @@ fn keys_and_labels(rt: HostRuntime) -> Result<(), Fail> {
     };
     let device = UpperKey::Device(DK);
     for (octets, dst, key) in [
-        (access(&app, 1, ME, None, 0x66), ME, Some(KeyName::App(0x123))),
-        (access(&app, 2, 0xc001, None, 0x66), 0xc001, Some(KeyName::App(0x123))),
-        (access(&app, 3, 0x9736, Some(label), 0x66), 0x9736, Some(KeyName::App(0x123))),
+        (
+            access(&app, 1, ME, None, 0x66),
+            ME,
+            Some(KeyName::App(0x123)),
+        ),
+        (
+            access(&app, 2, 0xc001, None, 0x66),
+            0xc001,
+            Some(KeyName::App(0x123)),
+        ),
+        (
+            access(&app, 3, 0x9736, Some(LABEL), 0x66),
+            0x9736,
+            Some(KeyName::App(0x123)),
+        ),
         (access(&app, 4, 0x9736, Some([7; 16]), 0x66), 0x9736, None),
         (access(&app, 5, ME, None, 0x65), ME, None),
         (access(&device, 6, ME, None, 0), ME, Some(KeyName::Dev)),
         (access(&device, 7, 0xc001, None, 0), 0xc001, None),
         (access(&device, 8, ME, None, 0x66), ME, None),
     ] {
-        let answer = hear(&mut tables, &mut p, octets.as_slice())?;
+        let answer = life.hear(octets.as_slice())?;
         match (answer, key) {
-            (Answer::Delivered { dst: to, key: by, payload, .. }, Some(key)) => {
-                assert!(rt; to.0 == dst && by == key && payload.as_slice() == b"\x82\x02".as_slice());
+            (
+                Answer::Delivered {
+                    dst: to,
+                    key: by,
+                    payload,
+                    ..
+                },
+                Some(key),
+            ) => {
+                assert!(rt;
+                    to.0 == dst && by == key && payload.as_slice() == b"\x82\x02".as_slice()
+                );
             }
             (Answer::NoKey, None) => {}
             _ => assert!(rt; false, "to {dst}"),
@@ -301,19 +453,18 @@ fn first_part(seq: u32, src: u16) -> Octets<29> {
 // Eight messages are in progress; a ninth has room when their time is over.
 #[test]
 fn ninth(rt: HostRuntime) -> Result<(), Fail> {
-    let mut p = node(IV);
-    let mut tables = Tables::new(rt.alloc(), &p)?;
+    let mut life = Life::new(rt.alloc(), node(IV))?;
     let mut held = [Name::default(); 8];
     for i in 0..8 {
         let src = 0x101 + i as u16;
         held[i] = name(src, 0);
-        assert!(rt; hear(&mut tables, &mut p, first_part(0, src).as_slice())? == WAITING);
+        assert!(rt; life.hear(first_part(0, src).as_slice())? == WAITING);
     }
-    let ninth = hear(&mut tables, &mut p, first_part(0, 0x109).as_slice())?;
+    let ninth = life.hear(first_part(0, 0x109).as_slice())?;
     assert!(rt; ninth == Answer::NoRoom { held });
-    let passed = tables.pass(&p, 1000);
+    let passed = life.tables.pass(&life.p, 1000);
     assert!(rt; passed.answer == Answer::Ticked { now: 1000 } && passed.acks.is_empty());
-    assert!(rt; hear(&mut tables, &mut p, first_part(1, 0x109).as_slice())? == WAITING);
+    assert!(rt; life.hear(first_part(1, 0x109).as_slice())? == WAITING);
     Ok(())
 }
 
@@ -328,17 +479,15 @@ fn between_segments(rt: HostRuntime) -> Result<(), Fail> {
         block: 1,
     };
     let whole = delivered(3, 0x3129ab, KeyName::Dev, ADD);
-    let mut p = node(IV);
-    let mut tables = Tables::new(rt.alloc(), &p)?;
-    assert!(rt; hear(&mut tables, &mut p, A)? == WAITING);
-    let passed = tables.pass(&p, 999);
-    assert!(rt; passed.acks.as_slice() == [ack].as_slice() && tables.ticks() == 999);
-    assert!(rt; Some(hear(&mut tables, &mut p, B)?) == whole);
-    let mut p = node(IV);
-    let mut tables = Tables::new(rt.alloc(), &p)?;
-    assert!(rt; hear(&mut tables, &mut p, A)? == WAITING);
-    assert!(rt; tables.pass(&p, 1000).acks.is_empty());
-    assert!(rt; hear(&mut tables, &mut p, B)? == WAITING);
+    let mut life = Life::new(rt.alloc(), node(IV))?;
+    assert!(rt; life.hear(A)? == WAITING);
+    let passed = life.tables.pass(&life.p, 999);
+    assert!(rt; passed.acks.as_slice() == [ack].as_slice() && life.tables.ticks() == 999);
+    assert!(rt; Some(life.hear(B)?) == whole);
+    let mut life = Life::new(rt.alloc(), node(IV))?;
+    assert!(rt; life.hear(A)? == WAITING);
+    assert!(rt; life.tables.pass(&life.p, 1000).acks.is_empty());
+    assert!(rt; life.hear(B)? == WAITING);
     Ok(())
 }
 
@@ -346,8 +495,7 @@ fn between_segments(rt: HostRuntime) -> Result<(), Fail> {
 // name; a message of one piece.
 #[test]
 fn segments(rt: HostRuntime) -> Result<(), Fail> {
-    let mut p = node(IV);
-    let mut tables = Tables::new(rt.alloc(), &p)?;
+    let mut life = Life::new(rt.alloc(), node(IV))?;
     let none: &[u8] = b"\x80\x7f\xfc\x01\x00\x00\x00\x00\x00\x00\x00\x00\x00\x00\x00\x00";
     // The second segment with its last octet changed, which belongs to the TransMIC.
     let wrong: &[u8] = b"\x80\x26\xac\x21\xcf\xdc\x18\xc5\x2f\xde\xf7\x72\xe0\xe1\x73\x09";
@@ -355,15 +503,21 @@ fn segments(rt: HostRuntime) -> Result<(), Fail> {
     let one: &[u8] = b"\x80\x00\x14\x00\x01\x02\x03\x04\x05";
     for (octets, answer) in [
         (pdu(pair(0x10), (false, 4), 5, ME, none), Answer::Malformed),
-        (pdu(pair(0x11), (false, 4), 5, ME, b"\x80"), Answer::Malformed),
+        (
+            pdu(pair(0x11), (false, 4), 5, ME, b"\x80"),
+            Answer::Malformed,
+        ),
         (pdu(pair(0x3129ab), (false, 4), 3, ME, FIRST), WAITING),
-        (pdu(pair(0x3129ac), (false, 4), 3, 0xffff, wrong), Answer::Conflict),
+        (
+            pdu(pair(0x3129ac), (false, 4), 3, 0xffff, wrong),
+            Answer::Conflict,
+        ),
         (pdu(pair(0x3129ad), (false, 4), 3, ME, wrong), Answer::NoKey),
         (pdu(pair(0x3129ae), (false, 4), 3, ME, wrong), WAITING),
         (pdu(pair(0x3129af), (false, 4), 3, ME, odd), Answer::NoKey),
         (pdu(pair(5), (false, 4), 6, ME, one), Answer::NoKey),
     ] {
-        assert!(rt; hear(&mut tables, &mut p, octets.as_slice())? == answer);
+        assert!(rt; life.hear(octets.as_slice())? == answer);
     }
     Ok(())
 }
@@ -371,21 +525,24 @@ fn segments(rt: HostRuntime) -> Result<(), Fail> {
 // 512 sources have an entry, and no other has a place.
 #[test]
 fn full_list(rt: HostRuntime) -> Result<(), Fail> {
-    let mut p = node(IV);
-    let mut tables = Tables::new(rt.alloc(), &p)?;
+    let mut life = Life::new(rt.alloc(), node(IV))?;
     for src in 0x101..0x301 {
         let octets = pdu(pair(1), (true, 0), src, ME, b"\x7f");
-        match hear(&mut tables, &mut p, octets.as_slice())? {
-            Answer::Control { name: n, opcode: 0x7f, .. } => assert!(rt; n == name(src, 1)),
+        match life.hear(octets.as_slice())? {
+            Answer::Control {
+                name: n,
+                opcode: 0x7f,
+                ..
+            } => assert!(rt; n == name(src, 1)),
             _ => assert!(rt; false, "{src}"),
         }
     }
     let other = pdu(pair(1), (true, 0), 0x301, ME, b"\x7f");
-    assert!(rt; hear(&mut tables, &mut p, other.as_slice())? == Answer::ListFull { held: 512 });
+    assert!(rt; life.hear(other.as_slice())? == Answer::ListFull { held: 512 });
     let again = pdu(pair(1), (true, 1), 0x101, ME, b"\x7f");
-    assert!(rt; hear(&mut tables, &mut p, again.as_slice())? == Answer::Replay { kept: pair(1) });
+    assert!(rt; life.hear(again.as_slice())? == Answer::Replay { kept: pair(1) });
     let next = pdu(pair(2), (true, 0), 0x101, ME, b"\x7f");
-    match hear(&mut tables, &mut p, next.as_slice())? {
+    match life.hear(next.as_slice())? {
         Answer::Control { name: n, .. } => assert!(rt; n == name(0x101, 2)),
         _ => assert!(rt; false),
     }
@@ -401,7 +558,7 @@ fn beacon(key: KeyStep, iv: IvStep) -> Answer {
 fn beacons(rt: HostRuntime) -> Result<(), Fail> {
     let sample: &[u8] =
         b"\x01\x00\x3e\xca\xff\x67\x2f\x67\x33\x70\x12\x34\x56\x78\x8e\xa2\x61\x58\x2f\x36\x4f\x6f";
-    let mut p = node(IV);
+    let p = node(IV);
     let tables = Tables::new(rt.alloc(), &p)?;
     let heard = tables.hear_beacon(&p, sample);
     assert!(rt; heard.answer == beacon(KeyStep::Same, IvStep::Ignore { rule: 5 }));
@@ -421,7 +578,10 @@ fn beacons(rt: HostRuntime) -> Result<(), Fail> {
         (0, 4, IvStep::Ignore { rule: 1 }),
     ] {
         let octets = net_beacon::write(&NK, flags, iv);
-        assert!(rt; tables.hear_beacon(&p, &octets).answer == beacon(KeyStep::Same, step), "{iv}");
+        assert!(rt;
+            tables.hear_beacon(&p, &octets).answer == beacon(KeyStep::Same, step),
+            "{iv}"
+        );
     }
     Ok(())
 }
@@ -429,16 +589,15 @@ fn beacons(rt: HostRuntime) -> Result<(), Fail> {
 // After a Node Reset nothing is read, and nothing changes.
 #[test]
 fn after_reset(rt: HostRuntime) -> Result<(), Fail> {
-    let mut p = node(IV);
-    let mut tables = Tables::new(rt.alloc(), &p)?;
-    assert!(rt; hear(&mut tables, &mut p, A)? == WAITING);
-    p.reset = true;
-    assert!(rt; hear(&mut tables, &mut p, B)? == Answer::Reset);
-    assert!(rt; tables.pass(&p, 1000).answer == Answer::Reset && tables.ticks() == 0);
-    assert!(rt; tables.hear_beacon(&p, &[]).answer == Answer::Reset);
-    p.reset = false;
-    tables.renew_keys(&p);
+    let mut life = Life::new(rt.alloc(), node(IV))?;
+    assert!(rt; life.hear(A)? == WAITING);
+    life.p.reset = true;
+    assert!(rt; life.hear(B)? == Answer::Reset);
+    assert!(rt; life.tables.pass(&life.p, 1000).answer == Answer::Reset && life.tables.ticks() == 0);
+    assert!(rt; life.tables.hear_beacon(&life.p, &[]).answer == Answer::Reset);
+    life.p.reset = false;
+    life.tables.renew_keys(&life.p);
     let whole = delivered(3, 0x3129ab, KeyName::Dev, ADD);
-    assert!(rt; Some(hear(&mut tables, &mut p, B)?) == whole);
+    assert!(rt; Some(life.hear(B)?) == whole);
     Ok(())
 }
