@@ -1,16 +1,17 @@
 //! A Secure Network beacon heard (Mesh Profile 1.0.1, sections 3.9.3, 3.10.4 and 3.10.5).
 #![tactic(auto)]
 
-ghost use Rattle.std.specs.Prelude.{◌≡◌, ◌==◌, ℕ, false, Some, None, is_some};
+ghost use Rattle.std.specs.Prelude.{◌≡◌, ◌++◌, ◌∷◌, [], List};
 ghost use Rattle.std.specs.Option.{option_copied};
 ghost use Rattle.layer_definitions.specs.KeyRefresh.{net_row as net_row_in};
 ghost use Rattle.mesh_base.specs.IvState.{HasTransmit};
 ghost use Rattle.mesh_hearing.specs.Below.{beacon_row};
-ghost use Rattle.mesh_hearing.specs.Heard.{IsBeaconHeard};
+ghost use Rattle.mesh_hearing.specs.Heard.{beacon_insight, IsBeaconHeard};
+ghost use Rattle.mesh_hearing.specs.Tables.{AreTablesOf};
 ghost use Rattle.node_records.specs.Meaning.{IsMeaningOf};
 ghost use Rattle.node_records.specs.Tables.{config_in};
 ghost use Rattle.run_definitions.specs.Answers.{key_step as key_step_in};
-ghost use Rattle.run_definitions.specs.History.{Past};
+ghost use Rattle.run_definitions.specs.History.{Past, Told};
 
 use crate::tables::Tables;
 use iv_update::on_beacon;
@@ -77,6 +78,8 @@ impl Tables {
     pub fn hear_beacon(&self, p: &Persist, octets: &[u8]) -> BeaconHearing
         requires { HasTransmit p.now.iv }
         ensures heard { (past : Past) → IsMeaningOf past.records p.now → IsBeaconHeard past octets.now result }
+        ensures tables { (told : List Told) (e : Told) → AreTablesOf self.now told → e.insight ≡ beacon_insight result → e.entry.answer ≡ result.answer
+            → AreTablesOf self.now (told ++ e ∷ []) }
     {
         node_records::laws::order_law();
         net_beacon::beacon_law();
