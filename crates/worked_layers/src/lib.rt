@@ -1,0 +1,9 @@
+//! Worked cases of the layers of a node: laws by computation, each the contract of a function that does nothing. What octets are read as is
+//! given in each case; keys may be any, and the answers and jobs are those that were worked out by hand.
+//!
+//! - `Walk` (in `specs/`): an event that is handled, and the node of the cases
+//! - `Segments`: segmented messages heard
+//! - `laws`: the laws
+#![tactic(auto)]
+
+pub mod laws;
