@@ -1,1 +1,4 @@
 pub mod Segments
+pub mod Friendship
+pub mod Models
+pub mod Sending

@@ -1,2 +1,5 @@
 pub mod Walk
 pub mod Segments
+pub mod Friendship
+pub mod Models
+pub mod Sending

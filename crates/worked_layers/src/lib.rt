@@ -3,6 +3,9 @@
 //!
 //! - `Walk` (in `specs/`): an event that is handled, and the node of the cases
 //! - `Segments`: segmented messages heard
+//! - `Friendship`: a friendship, and what is stored for it
+//! - `Models`: the configuration, the models and the heartbeat
+//! - `Sending`: own segmented messages, and PDUs that go on
 //! - `laws`: the laws
 #![tactic(auto)]
 
