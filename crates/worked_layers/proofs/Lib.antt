@@ -2,3 +2,4 @@ pub mod Segments
 pub mod Friendship
 pub mod Models
 pub mod Sending
+pub mod Published

@@ -8,7 +8,7 @@ use Rattle.run_definitions.specs.Answers.{answer_of}
 use Rattle.run_definitions.specs.Jobs.{jobs_of}
 use Rattle.run_definitions.specs.Stores.{stores}
 use Rattle.store_definitions.specs.Config.{changed}
-use Rattle.worked_layers.specs.Segments.{SegmentsHeard, SegmentsRepeated, SegmentsTimed}
+use Rattle.worked_layers.specs.Segments.{SegmentsHeard, SegmentsRepeated, SegmentsTimed, SegmentsUnopened}
 
 pub segments_heard : SegmentsHeard
 unfolding node_layers answer_of jobs_of stores changed seq_auth lower_text config_answer first_answers middle_answers last_answers octets_of
@@ -21,3 +21,7 @@ segments_repeated net_key dev_key a b piece_a piece_b = record { cached = refl; 
 pub segments_timed : SegmentsTimed
 unfolding node_layers answer_of jobs_of stores changed seq_auth lower_text config_answer first_answers middle_answers last_answers octets_of
 segments_timed net_key dev_key a b piece_a piece_b = record { acknowledges = refl; delivers = refl; forgets = refl; waits = refl }
+
+pub segments_unopened : SegmentsUnopened
+unfolding node_layers answer_of jobs_of stores changed seq_auth lower_text octets_of
+segments_unopened net_key dev_key a b piece_a piece_b = record { no_key = refl; begins_anew = refl }

@@ -70,6 +70,13 @@ module _ (net_key dev_key a b piece_a piece_b : List ℕ) where
     pub waits_too : handled first (E.Net b) (insight 0x3129ac 1 piece_b None) ≡ record { answer = A.Waiting 1; jobs = [] }
     pub delivers_too : handled after_b (E.Net a) (insight 0x3129ab 0 piece_a (Some add)) ≡ delivered
 
+  -- piece 1, by which no key opens the message: acknowledged all the same, and the message is done
+  pub record IsUnopened : Type 0 where
+    pub no_key : handled after_a (E.Net b) (insight 0x3129ac 1 piece_b None)
+        ≡ record { answer = A.NoKey; jobs = acknowledged (0x00 ∷ 0x26 ∷ 0xac ∷ 0x00 ∷ 0x00 ∷ 0x00 ∷ 0x03 ∷ []) ∷ [] }
+    pub begins_anew : handled (then_at after_a (E.Net b) (insight 0x3129ac 1 piece_b None) A.NoKey []) (E.Net a) (insight 0x3129ad 0 piece_a None)
+        ≡ record { answer = A.Waiting 1; jobs = [] }
+
   abbrev after_both : Past
   after_both = then_at after_a (E.Net b) (insight 0x3129ac 1 piece_b (Some add)) delivered.answer kept
 
@@ -100,3 +107,6 @@ SegmentsRepeated = (net_key dev_key a b piece_a piece_b : List ℕ) → IsAddRep
 
 abbrev pub SegmentsTimed : Type 0
 SegmentsTimed = (net_key dev_key a b piece_a piece_b : List ℕ) → IsTimePassed net_key dev_key a b piece_a piece_b
+
+abbrev pub SegmentsUnopened : Type 0
+SegmentsUnopened = (net_key dev_key a b piece_a piece_b : List ℕ) → IsUnopened net_key dev_key a b piece_a piece_b

@@ -3,15 +3,17 @@
 
 ghost use Rattle.worked_layers.specs.Friendship.{FriendshipStands, MessagesAreStored};
 ghost use Rattle.worked_layers.specs.Models.{HeartBeats, LevelMoves, OnOffSwitches};
-ghost use Rattle.worked_layers.specs.Segments.{SegmentsHeard, SegmentsRepeated, SegmentsTimed};
+ghost use Rattle.worked_layers.specs.Published.{LabelsAreHeard, StatusIsPublished};
+ghost use Rattle.worked_layers.specs.Segments.{SegmentsHeard, SegmentsRepeated, SegmentsTimed, SegmentsUnopened};
 ghost use Rattle.worked_layers.specs.Sending.{EightAreHeld, PdusGoOn, SegmentsAreSent, UpdateWaits};
 
 /// An AppKey Add in two pieces, in either order: the second is delivered, acknowledged with both bits, stored and answered; a piece once more is
-/// in the message cache, or acknowledged again; and after 10 seconds the first piece is forgotten.
+/// in the message cache, or acknowledged again; after 10 seconds the first piece is forgotten; and a message that no key opens is done.
 pub fn segment_rows()
     ensures heard { SegmentsHeard }
     ensures repeated { SegmentsRepeated }
     ensures timed { SegmentsTimed }
+    ensures unopened { SegmentsUnopened }
 {}
 
 /// A Friend Request is answered by an Offer, a Poll by an Update, the same Poll by the octets once more; a short message to the Low Power node
@@ -38,4 +40,11 @@ pub fn sending_rows()
     ensures room { EightAreHeld }
     ensures begin { SegmentsAreSent }
     ensures update { UpdateWaits }
+{}
+
+/// A model subscribes to a label, whose virtual address is put in, and takes a message that opened by it; and a model publishes its Status once
+/// its period is over.
+pub fn published_rows()
+    ensures label { LabelsAreHeard }
+    ensures publication { StatusIsPublished }
 {}

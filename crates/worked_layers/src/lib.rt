@@ -6,6 +6,7 @@
 //! - `Friendship`: a friendship, and what is stored for it
 //! - `Models`: the configuration, the models and the heartbeat
 //! - `Sending`: own segmented messages, and PDUs that go on
+//! - `Published`: labels, and what models publish
 //! - `laws`: the laws
 #![tactic(auto)]
 
