@@ -1,5 +1,5 @@
 -- The Configuration Server of a life: which messages it takes, and what each asks for (Mesh Profile 1.0.1, section 4.4.1).
-use Rattle.std.specs.Prelude.{ℕ, ◌==◌, ◌&&◌, Bool, true, false, if◌then◌else◌, List, [], ◌∷◌, bytes_eq, Option, Some, None}
+use Rattle.std.specs.Prelude.{ℕ, ◌==◌, ◌&&◌, Bool, true, false, if◌then◌else◌, List, [], ◌∷◌, bytes_eq, Option, None}
 use Rattle.config_definitions.specs.Answers.{config_answer}
 use Rattle.config_definitions.specs.declared.acts.ConfigAct.{ConfigAct}
 use Rattle.mesh_base.specs.declared.address.Address.{Address}

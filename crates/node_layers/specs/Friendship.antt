@@ -1,9 +1,9 @@
 -- Friendship in a life: what its entries do with the friendships, and what the messages of Low Power nodes ask for (Mesh Profile 1.0.1, sections
 -- 3.6.6 and 3.5.5). A message of this node that goes unsegmented to an address of a friendship is stored, whether the node was asked to send
 -- it, replies with it, or publishes it.
-use Rattle.std.specs.Prelude.{ℕ, ◌+◌, ◌-◌, ◌==◌, ◌&&◌, ◌||◌, not, nat_le, Bool, true, false, if◌then◌else◌, List, [], ◌∷◌, ◌++◌, length, map, filter, fold, drop, Option, Some, None, is_none, is_some, Result, Ok, Err}
-use Rattle.std.specs.List.{find, flat_map, list_any}
-use Rattle.std.specs.Option.{option_map, option_map_or, option_to_list}
+use Rattle.std.specs.Prelude.{ℕ, ◌+◌, ◌-◌, ◌==◌, ◌&&◌, nat_le, Bool, true, false, if◌then◌else◌, List, [], ◌∷◌, ◌++◌, length, map, filter, fold, Option, Some, None, is_none, Result, Ok, Err}
+use Rattle.std.specs.List.{flat_map, list_any}
+use Rattle.std.specs.Option.{option_map_or, option_to_list}
 use Rattle.config_definitions.specs.declared.acts.ConfigAct.{ConfigAct}
 use Rattle.layer_definitions.specs.Control.{control_text}
 use Rattle.layer_definitions.specs.ControlReading.{control_of}
@@ -12,7 +12,6 @@ use Rattle.layer_definitions.specs.Network.{net_text}
 use Rattle.layer_states.specs.Friends.{FriendCall, FriendsState, after, end_all, keep, list_add, list_remove, poll, put, put_own, request, tick, clear, offered, poll_result, is_cleared, is_friend, is_of, heard_of, is_noted, poll_timeouts}
 use Rattle.layer_states.specs.Friends as F
 use Rattle.layer_states.specs.declared.friends.FriendFault.{FriendFault}
-use Rattle.layer_states.specs.declared.friends.Friendship.{Friendship}
 use Rattle.layer_states.specs.declared.friends.OwnShort.{OwnShort}
 use Rattle.layer_states.specs.declared.friends.PollAnswer.{PollAnswer}
 use Rattle.layer_states.specs.declared.friends.PollAnswer.TheVariants as P
@@ -23,11 +22,8 @@ use Rattle.mesh_base.specs.declared.control.ControlMsg.TheVariants as C
 use Rattle.mesh_base.specs.declared.control.Offer.{Offer}
 use Rattle.mesh_base.specs.declared.control.Request.{Request}
 use Rattle.mesh_base.specs.declared.fields.Heard.{Heard}
-use Rattle.mesh_base.specs.declared.fields.NetFields.{NetFields}
 use Rattle.mesh_base.specs.declared.fields.NetMaterial.{NetMaterial}
-use Rattle.mesh_base.specs.declared.keys.NetKeyRow.{NetKeyRow}
 use Rattle.mesh_base.specs.declared.keys.UpperKey.{UpperKey}
-use Rattle.mesh_base.specs.declared.pair.Name.{Name}
 use Rattle.mesh_types.specs.declared.answers.Answer.{Answer}
 use Rattle.mesh_types.specs.declared.answers.Answer.TheVariants as A
 use Rattle.mesh_types.specs.declared.events.Event.{Event}
@@ -38,12 +34,12 @@ use Rattle.model_states.specs.Publication.{heartbeat_shown}
 use Rattle.node_layers.specs.Configuration.{config_act, ends_friendships}
 use Rattle.node_layers.specs.Models.{delivered_by, model_replies}
 use Rattle.node_layers.specs.Publishing.{Publication, publications_due, published}
-use Rattle.run_definitions.specs.Answers.{config_before, is_before_cache, is_unicast, name_of}
+use Rattle.run_definitions.specs.Answers.{config_before, is_before_cache, name_of}
 use Rattle.run_definitions.specs.Handling.{past_of}
-use Rattle.run_definitions.specs.History.{Insight, OfPdu, Past, Reading, Told, now_of, ticks_after}
+use Rattle.run_definitions.specs.History.{Insight, OfPdu, Past, Reading, Told, now_of}
 use Rattle.run_definitions.specs.Jobs.{element_address, reply_ttl, send_keys, under}
 use Rattle.run_definitions.specs.Layers.{AccessMessage, ControlMessage}
-use Rattle.store_definitions.specs.Config.{Config, config_of, changed}
+use Rattle.store_definitions.specs.Config.{Config, changed}
 
 -- Replies: of the Configuration Server, then of the models by element, each with the place of its element.
 

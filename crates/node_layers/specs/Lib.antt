@@ -6,3 +6,5 @@ pub mod Publishing
 pub mod Friendship
 pub mod NodeLayers
 pub mod BuiltLayers
+pub mod Segments
+pub mod Steps

@@ -1,8 +1,8 @@
 -- The Generic OnOff Servers and Generic Level Servers of a life: which messages they take, and the state that each is in (Mesh Model 1.0.1,
 -- sections 3.3.1 and 3.3.2; Mesh Profile 1.0.1, section 3.7).
-use Rattle.std.specs.Prelude.{ℕ, ◌+◌, ◌*◌, ◌==◌, ◌&&◌, ◌||◌, not, Bool, true, false, if◌then◌else◌, List, [], ◌∷◌, ◌++◌, bytes_eq, slice_index, map, fold, Option, Some, None}
+use Rattle.std.specs.Prelude.{ℕ, ◌==◌, ◌&&◌, ◌||◌, Bool, false, if◌then◌else◌, List, [], ◌∷◌, ◌++◌, bytes_eq, slice_index, map, fold, Option, None}
 use Rattle.std.specs.Int.{cast_signed, cast_unsigned, w16}
-use Rattle.std.specs.List.{filter_map, flat_map, list_any, range_with_len}
+use Rattle.std.specs.List.{flat_map, list_any, range_with_len}
 use Rattle.std.specs.Option.{option_map_or, option_to_list}
 use Rattle.mesh_base.specs.declared.address.Address.{Address}
 use Rattle.mesh_base.specs.declared.keys.UpperKey.{UpperKey}
@@ -20,7 +20,7 @@ use Rattle.run_definitions.specs.History.{Past, Told, now_of, ticks_after}
 use Rattle.run_definitions.specs.Jobs.{element_address}
 use Rattle.run_definitions.specs.Layers.{AccessMessage}
 use Rattle.run_definitions.specs.Stores.{message_of}
-use Rattle.store_definitions.specs.Config.{Config, config_of, is_element}
+use Rattle.store_definitions.specs.Config.{Config, config_of}
 
 -- the models by their numbers
 abbrev pub onoff_server : ℕ

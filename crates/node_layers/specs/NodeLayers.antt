@@ -1,5 +1,5 @@
 -- What the layers above the lower transport layer say of a life, for this node: one constant.
-use Rattle.std.specs.Prelude.{ℕ, Bool, List, [], ◌∷◌, ◌++◌, fold, None}
+use Rattle.std.specs.Prelude.{ℕ, List, [], ◌++◌, fold, None}
 use Rattle.std.specs.List.{flat_map}
 use Rattle.std.specs.Option.{option_map_or, option_to_list}
 use Rattle.config_definitions.specs.declared.acts.ConfigAct.{ConfigAct}

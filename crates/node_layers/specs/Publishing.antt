@@ -1,7 +1,7 @@
 -- What the node publishes of itself in a life, and its heartbeats (Mesh Profile 1.0.1, sections 4.2.2 and 4.2.17).
-use Rattle.std.specs.Prelude.{ℕ, ◌+◌, ◌-◌, ◌*◌, ◌==◌, ◌&&◌, ◌||◌, Bool, true, false, if◌then◌else◌, List, [], ◌∷◌, ◌++◌, filter, Option, Some, None, option_and_then}
-use Rattle.std.specs.List.{filter_map, flat_map, list_any}
-use Rattle.std.specs.Option.{option_map, option_map_or, option_to_list}
+use Rattle.std.specs.Prelude.{ℕ, ◌+◌, ◌-◌, ◌==◌, ◌&&◌, ◌||◌, Bool, if◌then◌else◌, List, [], ◌∷◌, filter, Option, Some, None}
+use Rattle.std.specs.List.{filter_map, list_any}
+use Rattle.std.specs.Option.{option_map, option_map_or}
 use Rattle.cipher_definitions.specs.Octets.{two_octets}
 use Rattle.config_definitions.specs.declared.acts.ConfigAct.{ConfigAct}
 use Rattle.layer_definitions.specs.KeyRefresh.{transmit_app}
@@ -20,7 +20,7 @@ use Rattle.node_layers.specs.Models.{delivered_by, first_records, level_server, 
 use Rattle.record_types.specs.declared.records.PublishRow.{PublishRow}
 use Rattle.record_types.specs.declared.records.StoreRecord.{StoreRecord}
 use Rattle.record_types.specs.declared.records.StoreRecord.TheVariants as R
-use Rattle.run_definitions.specs.Answers.{config_before, later}
+use Rattle.run_definitions.specs.Answers.{later}
 use Rattle.run_definitions.specs.History.{Past, Told, ticks_after}
 use Rattle.run_definitions.specs.Jobs.{element_address, under}
 use Rattle.run_definitions.specs.Layers.{AccessMessage}

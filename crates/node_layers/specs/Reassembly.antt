@@ -3,7 +3,7 @@ use Rattle.std.specs.Prelude.{ℕ, ◌+◌, ◌%◌, ◌^◌, Bool, if◌then◌
 use Rattle.std.specs.List.{filter_map, flat_map, slice_get}
 use Rattle.std.specs.Option.{option_map_or}
 use Rattle.layer_definitions.specs.Lower.{acknowledgment, lower_text}
-use Rattle.layer_states.specs.Reassembly.{PartCall, take_part, release, tick, after, due_ack, in_progress, is_at_odds, is_segment, live, message_for, missing_of, names_of, place_of, seg_n_of, whole_of, with_piece}
+use Rattle.layer_states.specs.Reassembly.{PartCall, take_part, release, tick, due_ack, in_progress, is_at_odds, is_segment, live, message_for, missing_of, names_of, place_of, seg_n_of, whole_of, with_piece}
 use Rattle.layer_states.specs.declared.reassembly.Assembly.{Assembly}
 use Rattle.layer_states.specs.declared.reassembly.DueAck.{DueAck}
 use Rattle.layer_states.specs.declared.reassembly.PartHeard.{PartHeard}

@@ -1,5 +1,5 @@
 -- Own segmented messages in a life: those that are held, and the segments that are due (Mesh Profile 1.0.1, section 3.5.3.2).
-use Rattle.std.specs.Prelude.{ℕ, ◌==◌, ◌&&◌, not, Bool, false, if◌then◌else◌, List, [], ◌∷◌, ◌++◌, length}
+use Rattle.std.specs.Prelude.{ℕ, ◌&&◌, not, false, if◌then◌else◌, List, [], ◌∷◌, ◌++◌, length}
 use Rattle.std.specs.List.{flat_map}
 use Rattle.layer_definitions.specs.ControlReading.{control_of}
 use Rattle.layer_definitions.specs.Lower.{last_segment, lower_text, segment}

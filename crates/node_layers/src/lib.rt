@@ -6,6 +6,10 @@
 //! - `Friendship`: what is stored for Low Power nodes, and what their messages ask for
 //! - `NodeLayers`: the constant, `node_layers`
 //! - `BuiltLayers`: the layers that the machine has so far, `built_layers`
+//! - `Segments`, `Steps`: what the laws of `laws` say: the answer to a segment by the state of reassembly, and that an entry more is one step of
+//!   each state
 //!
-//! That it has the properties `AreSafe` of `run_safety` and `AreFit` of `run_definitions` isn't proved yet.
+//! That both have the properties `AreSafe` of `run_safety` and `AreFit` of `run_definitions` is proved in `layer_laws`.
 #![tactic(auto)]
+
+pub mod laws;

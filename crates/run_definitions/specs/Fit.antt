@@ -1,6 +1,8 @@
 -- What a life asks of the layers above the lower transport layer beside safety: what they store is fit for the store, and what they send
 -- comes from this node.
-use Rattle.std.specs.Prelude.{◌≡◌, ℕ, true, List, [], ◌∷◌, ◌++◌, None, All, ⊤}
+use Rattle.std.specs.Prelude.{◌≡◌, ℕ, ◌<◌, ◌^◌, true, List, [], ◌∷◌, ◌++◌, None, All, ⊤}
+use Rattle.mesh_types.specs.declared.events.Event.{Event}
+use Rattle.mesh_types.specs.declared.events.Event.TheVariants as E
 use Rattle.mesh_types.specs.declared.jobs.Job.{Job}
 use Rattle.mesh_types.specs.declared.jobs.Job.TheVariants as J
 use Rattle.record_types.specs.declared.records.StoreRecord.{StoreRecord}
@@ -10,7 +12,7 @@ use Rattle.run_definitions.specs.Handling.{IsPast}
 use Rattle.run_definitions.specs.History.{Past}
 use Rattle.run_definitions.specs.Layers.{AccessMessage, ControlMessage, Layers}
 use Rattle.store_definitions.specs.Config.{Config, config_of, is_element}
-use Rattle.store_definitions.specs.Following.{Follows}
+use Rattle.store_definitions.specs.Following.{AreInOrder, Follows}
 use Rattle.store_definitions.specs.Node.{IsWhole, KeepsWhole}
 use Rattle.store_definitions.specs.Ranges.{IsInRange}
 
@@ -32,12 +34,26 @@ pub record HasElements (past : Past) (c : Config) : Type 0 where
   pub unicast : c.unicast ≡ (config_before past).unicast
   pub elements : c.elements ≡ (config_before past).elements
 
+-- An event of this node: what it is asked to send, and a segmented message that begins, go from an element.
+abbrev pub IsOwnEvent : Config → Event → Type 0
+IsOwnEvent c (E.Send element dst ttl key payload) = element < c.elements
+IsOwnEvent c (E.Begin pair dst src ttl net akf aid upper) = is_element c src.0 ≡ true
+IsOwnEvent c _ = ⊤
+
+abbrev pub HasOwnEvents : Past → Type 0
+HasOwnEvents past = All (λ t. IsOwnEvent (config_before past) t.entry.event) past.told
+
 pub record AreFit (layers : Layers) : Type 0 where
-  -- after the record of a message in a node that is whole
-  pub changes : (past : Past) (m : AccessMessage) → IsPast layers past → IsWhole (config_before past)
-      → AreStorable (past.records ++ R.Replay m.name None ∷ []) (layers.changes past m)
+  -- after the record of a message in a node that is whole, whose records may each follow those before it
+  pub changes : (past : Past) (m : AccessMessage) → IsPast layers past → IsWhole (config_before past) → AreInOrder [] past.records
+      → All (λ octet. octet < 2 ^ 8) m.payload → AreStorable (past.records ++ R.Replay m.name None ∷ []) (layers.changes past m)
   pub acks_due : (past : Past) (c : Config) (ticks : ℕ) → IsPast layers past → HasElements past c → All (IsOwn c) (layers.acks_due past c ticks)
-  pub segments_due : (past : Past) (c : Config) (ticks : ℕ) → IsPast layers past → HasElements past c → All (IsOwn c) (layers.segments_due past c ticks)
-  pub control_jobs : (past : Past) (c : Config) (m : ControlMessage) → IsPast layers past → HasElements past c → All (IsOwn c) (layers.control_jobs past c m)
-  pub replies : (past : Past) (c : Config) (m : AccessMessage) → IsPast layers past → HasElements past c → All (IsOwn c) (layers.replies past c m)
-  pub published : (past : Past) (c : Config) (ticks : ℕ) → IsPast layers past → HasElements past c → All (IsOwn c) (layers.published past c ticks)
+  pub segments_due : (past : Past) (c : Config) (ticks : ℕ) → IsPast layers past → HasOwnEvents past → HasElements past c
+      → All (IsOwn c) (layers.segments_due past c ticks)
+  -- in a node that is whole
+  pub control_jobs : (past : Past) (c : Config) (m : ControlMessage) → IsPast layers past → IsWhole (config_before past) → HasOwnEvents past
+      → HasElements past c → All (IsOwn c) (layers.control_jobs past c m)
+  pub replies : (past : Past) (c : Config) (m : AccessMessage) → IsPast layers past → IsWhole (config_before past) → HasElements past c
+      → All (IsOwn c) (layers.replies past c m)
+  pub published : (past : Past) (c : Config) (ticks : ℕ) → IsPast layers past → IsWhole (config_before past) → HasElements past c
+      → All (IsOwn c) (layers.published past c ticks)

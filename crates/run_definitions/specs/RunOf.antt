@@ -1,16 +1,12 @@
 -- When a record is one of a run: the relation of a life to its plan, and of a run to its script.
 use Rattle.std.specs.Prelude.{◌≡◌, ◌≢◌, ℕ, ◌+◌, ◌*◌, ◌^◌, ◌<◌, ◌≤◌, ◌==◌, Bool, true, false, IsTrue, List, [], ◌∷◌, ◌++◌, length, map, filter, take, All, AllPairs, Option, Some, ⊤}
 use Rattle.std.specs.List.{filter_map, flat_map, range_with_len, slice_get}
-use Rattle.mesh_base.specs.IvState.{transmit_of}
-use Rattle.mesh_base.specs.declared.address.Address.{Address}
-use Rattle.mesh_base.specs.declared.iv_state.IvState.{IvState}
 use Rattle.mesh_base.specs.declared.pair.Pair.{Pair}
 use Rattle.mesh_types.specs.declared.events.Event.{Event}
 use Rattle.mesh_types.specs.declared.history.Entry.{Entry}
 use Rattle.mesh_types.specs.declared.lines.Outcome.{Outcome}
 use Rattle.mesh_types.specs.declared.lines.Outcome.TheVariants as O
 use Rattle.record_types.specs.declared.records.StoreRecord.{StoreRecord}
-use Rattle.record_types.specs.declared.records.StoreRecord.TheVariants as R
 use Rattle.mesh_types.specs.declared.report.End.{End}
 use Rattle.mesh_types.specs.declared.report.End.TheVariants as F
 use Rattle.mesh_types.specs.declared.report.Opened.{Opened}

@@ -1,0 +1,14 @@
+pub mod Lists
+pub mod Node
+pub mod Parts
+pub mod Friends
+pub mod FriendCalls
+pub mod Acts
+pub mod Stored
+pub mod Messages
+pub mod Levels
+pub mod Changes
+pub mod Safe
+pub mod Own
+pub mod Fit
+pub mod Built
