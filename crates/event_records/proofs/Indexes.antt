@@ -1,7 +1,7 @@
 -- The index of each network key that records in range say has 12 bits.
-use Rattle.std.proofs.Common.{◌≡◌, ◌∙◌, ℕ, ◌+◌, ◌<◌, ◌≤◌, Bool, true, false, cond, List, [], ◌∷◌, ◌++◌, length, get_or, map, ap, sym, subst, arith, Option, Some, None, zero, suc, refl}
-use Rattle.std.specs.Prelude.{◌==◌, nat_lt, All, fold, filter, not, slice_get}
-use Rattle.std.proofs.lemmas.List.Elements.{All-append, All-cons, All-filter, All-head, All-map, All-tail}
+use Rattle.std.proofs.Common.{◌≡◌, ℕ, ◌≤◌, Bool, true, false, cond, List, [], ◌∷◌, ap, sym, subst, arith, Option, Some, None, zero, suc}
+use Rattle.std.specs.Prelude.{◌==◌, nat_lt, All, fold, not, slice_get}
+use Rattle.std.proofs.lemmas.List.Elements.{All-append, All-cons, All-filter, All-head, All-tail}
 use Rattle.event_records.specs.Indexes.{HasIndexWidth}
 use Rattle.layer_definitions.specs.Beacon.{BeaconSource, ReadsBeacon}
 use Rattle.layer_definitions.specs.KeyRefresh.{beacon_keys, keys_of, net_index}
@@ -12,7 +12,7 @@ use Rattle.node_records.specs.Meaning.{IsSaid}
 use Rattle.node_records.specs.declared.persist.Persist.{Persist}
 use Rattle.record_types.specs.declared.records.StoreRecord.{StoreRecord}
 use Rattle.record_types.specs.declared.records.StoreRecord.TheVariants as R
-use Rattle.store_definitions.specs.Config.{Config, change_net, changed, config_of, finished_net, nets_after, no_config}
+use Rattle.store_definitions.specs.Config.{Config, change_net, changed, finished_net, nets_after, no_config}
 use Rattle.store_definitions.specs.Ranges.{IsInRange}
 
 abbrev AreWide : List NetKeyRow → Type 0
