@@ -1,12 +1,12 @@
 -- What is stored may be put: the record of a new IV state, alone and behind another.
-use Rattle.std.proofs.Common.{◌≡◌, ◌∙◌, ℕ, ◌+◌, ◌-◌, ◌*◌, ◌%◌, ◌^◌, ◌<◌, ◌≤◌, Bool, true, false, cond, List, [], ◌∷◌, ◌++◌, length, refl, sym, ap, subst, arith}
+use Rattle.std.proofs.Common.{◌≡◌, ◌∙◌, ℕ, ◌+◌, ◌*◌, ◌^◌, ◌<◌, ◌≤◌, true, false, cond, List, [], ◌∷◌, ◌++◌, length, refl, sym, ap, subst, arith}
 use Rattle.std.specs.Prelude.{◌==◌, nat_lt, replicate}
 use Rattle.std.proofs.lemmas.List.{length-map}
 use Rattle.std.proofs.lemmas.Bool.Decides.{nat_tests}
 use Rattle.event_records.specs.Putting.{ArePuttable}
 use Rattle.event_records.specs.Steps.{LeadsOn}
 use Rattle.iv_update.specs.Steps.{IsLater, state_after}
-use Rattle.mesh_base.specs.IvState.{HasTransmit, transmit_of}
+use Rattle.mesh_base.specs.IvState.{transmit_of}
 use Rattle.mesh_base.specs.declared.iv_state.IvState.{IvState}
 use Rattle.mesh_base.specs.declared.iv_state.IvStep.{IvStep}
 use Rattle.mesh_base.specs.declared.iv_state.IvStep.TheVariants.{Begin, Finish, Ignore, Recover, Wait}
@@ -20,7 +20,7 @@ use Rattle.record_types.specs.declared.records.StoreRecord.TheVariants as R
 use Rattle.run_definitions.specs.Stores.{phase_records}
 use Rattle.store_definitions.specs.Config.{Config, change_net, changed, finished_net}
 use Rattle.store_definitions.specs.Numbers.{moved}
-use Rattle.store_definitions.specs.Ranges.{IsInRange, IsMark}
+use Rattle.store_definitions.specs.Ranges.{IsMark}
 
 -- a step that leads to a later state, whatever state it was made of
 pub leads : (s base : IvState) (step : IvStep) → IsLater s (state_after base step) → LeadsOn s step
