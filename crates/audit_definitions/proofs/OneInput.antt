@@ -25,7 +25,7 @@ pub not_with_k : (t : List ℕ) (l : ReportLine) → slice_index t 0 ≡ 107 →
 not_with_k t l k h = first_octet l (ap (λ x. slice_index x 0) h.text ∙ k)
 
 pub not_key : (t : List ℕ) (n : ScriptNet) (l : ReportLine) → IsKeyLine t n → IsReportLine t l → ⊥
-not_key t n l k h = not_with_k t l (ap (λ x. slice_index x 0) k.line) h
+not_key t n l k h = not_with_k t l (ap (λ x. slice_index x 0) k.text) h
 
 -- a line has one key
 same_word : (w v : List ℕ) → codes "key " ++ w ++ 10 ∷ [] ≡ codes "key " ++ v ++ 10 ∷ [] → w ≡ v
@@ -36,8 +36,8 @@ same_word w v e =
 
 pub one_key : (t : List ℕ) (n m : ScriptNet) → IsKeyLine t n → IsKeyLine t m → n ≡ m
 one_key t n m h k =
-    let word : h.word ≡ k.word = same_word h.word k.word (sym h.line ∙ k.line) in
-    let e : Some n ≡ Some m = sym h.net ∙ ap net_word word ∙ k.net in
+    let word : h.word ≡ k.word = same_word h.word k.word (sym h.text ∙ k.text) in
+    let e : Some n ≡ Some m = sym h.means ∙ ap net_word word ∙ k.means in
     cc
 
 pub one_report : (ts : List (List ℕ)) (ls ms : List ReportLine) → AreReportLines ts ls → AreReportLines ts ms → ls ≡ ms

@@ -51,12 +51,12 @@ same_verdict nets lines (V.Bad b) (V.Bad d) h k =
     let s = same_place _ _ (h.1 (V.Bad d) k.0) (k.1 (V.Bad b) h.0) in
     let f : b ≡ d = s.line in
     cc
-same_verdict nets lines (V.Reuse a b) (V.Twice c d) h k = let s = same_place _ _ (h.1 (V.Twice c d) k.0) (k.1 (V.Reuse a b) h.0) in let e : 0 ≡ 1 = s.kind in absurd (omega arith)
-same_verdict nets lines (V.Reuse a b) (V.Bad d) h k = let s = same_place _ _ (h.1 (V.Bad d) k.0) (k.1 (V.Reuse a b) h.0) in let e : 0 ≡ 2 = s.kind in absurd (omega arith)
-same_verdict nets lines (V.Twice a b) (V.Reuse c d) h k = let s = same_place _ _ (h.1 (V.Reuse c d) k.0) (k.1 (V.Twice a b) h.0) in let e : 1 ≡ 0 = s.kind in absurd (omega arith)
-same_verdict nets lines (V.Twice a b) (V.Bad d) h k = let s = same_place _ _ (h.1 (V.Bad d) k.0) (k.1 (V.Twice a b) h.0) in let e : 1 ≡ 2 = s.kind in absurd (omega arith)
-same_verdict nets lines (V.Bad b) (V.Reuse c d) h k = let s = same_place _ _ (h.1 (V.Reuse c d) k.0) (k.1 (V.Bad b) h.0) in let e : 2 ≡ 0 = s.kind in absurd (omega arith)
-same_verdict nets lines (V.Bad b) (V.Twice c d) h k = let s = same_place _ _ (h.1 (V.Twice c d) k.0) (k.1 (V.Bad b) h.0) in let e : 2 ≡ 1 = s.kind in absurd (omega arith)
+same_verdict nets lines (V.Reuse a b) (V.Twice c d) h k = let s = same_place _ _ (h.1 (V.Twice c d) k.0) (k.1 (V.Reuse a b) h.0) in let e : ◌≡◌ {A = ℕ} 0 1 = s.kind in absurd (omega arith)
+same_verdict nets lines (V.Reuse a b) (V.Bad d) h k = let s = same_place _ _ (h.1 (V.Bad d) k.0) (k.1 (V.Reuse a b) h.0) in let e : ◌≡◌ {A = ℕ} 0 2 = s.kind in absurd (omega arith)
+same_verdict nets lines (V.Twice a b) (V.Reuse c d) h k = let s = same_place _ _ (h.1 (V.Reuse c d) k.0) (k.1 (V.Twice a b) h.0) in let e : ◌≡◌ {A = ℕ} 1 0 = s.kind in absurd (omega arith)
+same_verdict nets lines (V.Twice a b) (V.Bad d) h k = let s = same_place _ _ (h.1 (V.Bad d) k.0) (k.1 (V.Twice a b) h.0) in let e : ◌≡◌ {A = ℕ} 1 2 = s.kind in absurd (omega arith)
+same_verdict nets lines (V.Bad b) (V.Reuse c d) h k = let s = same_place _ _ (h.1 (V.Reuse c d) k.0) (k.1 (V.Bad b) h.0) in let e : ◌≡◌ {A = ℕ} 2 0 = s.kind in absurd (omega arith)
+same_verdict nets lines (V.Bad b) (V.Twice c d) h k = let s = same_place _ _ (h.1 (V.Twice c d) k.0) (k.1 (V.Bad b) h.0) in let e : ◌≡◌ {A = ℕ} 2 1 = s.kind in absurd (omega arith)
 
 pub one_verdict : HaveOneVerdict
 one_verdict text v w h k =

@@ -17,10 +17,10 @@ abbrev pub lines_of : List ℕ → List (List ℕ)
 lines_of text = with_lf (slice_split (λ b. b == 10) text)
 
 -- `key`, one space, NET as in a script, and LF
-pub record IsKeyLine (line : List ℕ) (net : ScriptNet) : Type 0 where
+pub record IsKeyLine (octets : List ℕ) (net : ScriptNet) : Type 0 where
   pub word : List ℕ
-  pub line : line ≡ codes "key " ++ word ++ 10 ∷ []
-  pub net : net_word word ≡ Some net
+  pub text : octets ≡ codes "key " ++ word ++ 10 ∷ []
+  pub means : net_word word ≡ Some net
 
 -- each line is the report line at its place
 abbrev pub AreReportLines : List (List ℕ) → List ReportLine → Type 0

@@ -1,7 +1,6 @@
 -- What lines of a report show: the network PDUs that went out, the payloads that were sealed, and the messages that were accepted.
-use Rattle.std.specs.Prelude.{◌≡◌, ℕ, true, false, List, Option, Some, None, Contains}
+use Rattle.std.specs.Prelude.{◌≡◌, ℕ, true, false, List, Option, Some, None, option_and_then, Contains}
 use Rattle.std.specs.List.{filter_map}
-use Rattle.std.specs.Option.{option_map}
 use Rattle.layer_definitions.specs.Network.{HasPdu, IsInWidths, net_text}
 use Rattle.mesh_base.specs.declared.address.Address.{Address}
 use Rattle.mesh_base.specs.declared.fields.NetFields.{NetFields}
@@ -63,18 +62,18 @@ accepted_as _ = None
 
 -- The same of a line.
 
-abbrev pub of_result : {X : Type 0} → (Outcome → Option X) → ReportLine → Option X
-of_result f (L.Sent bearer entry job outcome hex) = f outcome
-of_result f _ = None
+abbrev pub result_of : ReportLine → Option Outcome
+result_of (L.Sent bearer entry job outcome hex) = Some outcome
+result_of _ = None
 
 abbrev pub sealed : ReportLine → Option Sealed
-sealed line = of_result sealed_by line
+sealed line = option_and_then sealed_by (result_of line)
 
 abbrev pub message : ReportLine → Option Message
-message line = of_result message_by line
+message line = option_and_then message_by (result_of line)
 
 abbrev pub own_source : ReportLine → Option Address
-own_source line = of_result own_by line
+own_source line = option_and_then own_by (result_of line)
 
 abbrev pub accepted : ReportLine → Option Name
 accepted (L.Entry at bearer number kind answer) = accepted_as answer

@@ -6,20 +6,19 @@ use Rattle.mesh_base.specs.declared.address.Address.{Address}
 use Rattle.mesh_base.specs.declared.pair.Name.{Name}
 use Rattle.mesh_types.specs.declared.lines.Outcome.{Outcome}
 use Rattle.mesh_types.specs.declared.report.ReportLine.{ReportLine}
-use Rattle.mesh_types.specs.declared.report.ReportLine.TheVariants as L
 use Rattle.script_definitions.specs.declared.line.ScriptNet.{ScriptNet}
 use Rattle.audit_definitions.specs.Input.{IsInput}
-use Rattle.audit_definitions.specs.Seals.{Sealed, Message, sealed, sealed_by, message, accepted, IsOwn, IsSealedSo}
+use Rattle.audit_definitions.specs.Seals.{Sealed, Message, result_of, sealed, sealed_by, message, accepted, IsOwn, IsSealedSo}
 use Rattle.audit_definitions.specs.declared.verdict.Verdict.{Verdict}
 use Rattle.audit_definitions.specs.declared.verdict.Verdict.TheVariants as V
 
 -- a network nonce of an own source was used for two PDUs
-pub record ReusesNetworkNonce (own : Address → Type 0) (l m : ReportLine) : Type 0 where
+pub record ReusesNetworkNonce (Own : Address → Type 0) (l m : ReportLine) : Type 0 where
   pub one : Sealed
   pub two : Sealed
   pub first : sealed l ≡ Some one
   pub second : sealed m ≡ Some two
-  pub own : own one.name.src
+  pub own : Own one.name.src
   pub name : one.name ≡ two.name
   pub differ : one.octets ≢ two.octets
 
@@ -45,14 +44,11 @@ pub record Accepts (l m : ReportLine) : Type 0 where
 
 -- a line shows octets that aren't those of the PDU that it tells, under any key
 pub record IsBadLine (nets : List ScriptNet) (l : ReportLine) : Type 0 where
-  pub bearer : ℕ
-  pub entry : ℕ
-  pub job : ℕ
   pub outcome : Outcome
-  pub sealed : Sealed
-  pub line : l ≡ L.Sent bearer entry job outcome true
-  pub shown : sealed_by outcome ≡ Some sealed
-  pub other : IsSealedSo nets outcome sealed.octets → ⊥
+  pub shown : Sealed
+  pub result : result_of l ≡ Some outcome
+  pub sealed : sealed_by outcome ≡ Some shown
+  pub other : IsSealedSo nets outcome shown.octets → ⊥
 
 -- The line with this number is l. The lines of keys are counted, too: so many stand before the report.
 abbrev pub IsLineAt : ℕ → List ReportLine → ℕ → ReportLine → Type 0

@@ -7,6 +7,8 @@
 #![tactic(auto)]
 
 pub mod laws;
+#[cfg(test)]
+mod tests;
 pub mod verdict;
 
 pub use crate::verdict::Verdict;
