@@ -1,5 +1,5 @@
 -- The fields of an answer's words, and the answer that they give back.
-use Rattle.std.proofs.Common.{◌≡◌, ℕ, suc, ◌+◌, ◌^◌, ◌<◌, List, [], ◌∷◌, ◌++◌, length, Option, Some, refl, sym, ap, ◌∙◌, arith, codes, append-nil}
+use Rattle.std.proofs.Common.{◌≡◌, ℕ, ◌+◌, ◌^◌, List, [], ◌∷◌, ◌++◌, length, Some, refl, arith, codes}
 use Rattle.std.specs.Fmt.{decimal}
 use Rattle.std.specs.List.{flat_map, AllByRecursion}
 use Rattle.hex.specs.Hex.{encode_lower}
@@ -17,10 +17,9 @@ use Rattle.mesh_types.specs.declared.answers.KeyStep.TheVariants as S
 use Rattle.mesh_types.specs.declared.events.Kind.{Kind}
 use Rattle.mesh_types.specs.declared.events.Kind.TheVariants as K
 use Rattle.report_definitions.specs.Report.{answer_text, key_text, key_step_text, iv_step_text, kind_text, params_text}
-use Rattle.report_definitions.specs.Text.{hex_digits, pair_text, name_text, octets_text, word_text, address_text}
-use Rattle.script_definitions.specs.Digits.{number_word}
+use Rattle.report_definitions.specs.Text.{hex_digits, pair_text, name_text, octets_text, word_text}
 use Rattle.script_definitions.specs.Words.{word_at}
-use Rattle.report_reader.specs.Forms.{below_word, decimal_from, pair_at, name_at}
+use Rattle.report_reader.specs.Forms.{pair_at, name_at}
 use Rattle.report_reader.specs.Answers.{kind_word, plain_answer, no_room, delivered, params_word, control, key_step_word, iv_step_at, beacon, told_answer, answer_of}
 use Rattle.report_reader.specs.ReportLine.{IsName, IsOctets, IsToldAnswer}
 use Rattle.report_reader.proofs.Back.{number_back, address_back, octets_back, params_back, key_field, key_back}

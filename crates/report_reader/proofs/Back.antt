@@ -1,19 +1,18 @@
 -- What a field gives back that was written from a value.
-use Rattle.std.proofs.Common.{◌≡◌, ℕ, zero, suc, ◌+◌, ◌*◌, ◌/◌, ◌%◌, ◌^◌, ◌<◌, ◌≤◌, ◌==◌, ◌&&◌, nat_le, Bool, true, false, List, [], ◌∷◌, ◌++◌, length, slice_index, Option, Some, None, Ok, refl, sym, ap, ◌∙◌, inl, inr, arith, eq-eqb, nat_eq, codes}
+use Rattle.std.proofs.Common.{◌≡◌, ℕ, zero, suc, ◌+◌, ◌*◌, ◌/◌, ◌%◌, ◌^◌, ◌<◌, ◌&&◌, nat_le, Bool, true, false, List, [], ◌∷◌, ◌++◌, length, slice_index, Some, None, refl, sym, ap, ◌∙◌, inl, inr, arith, eq-eqb, nat_eq, codes}
 use Rattle.std.proofs.Math.Nat.{div-div-eq-div-mul, pow-succ', div-eq_of_lt}
 use Rattle.std.proofs.lemmas.Bool.{cases_Bool}
 use Rattle.std.proofs.lemmas.Bool.Decides.{nat_tests}
 use Rattle.std.proofs.lemmas.Slice.Eq.{bytes_eq-Decides}
-use Rattle.std.specs.Result.{result_ok}
 use Rattle.std.specs.Str.{bytes_eq}
-use Rattle.hex.specs.Hex.{IsBytes, lower_digits, hex_digit_value, encode_with, encode_lower, decode_of, decode_sized}
+use Rattle.hex.specs.Hex.{IsBytes, lower_digits, encode_with, encode_lower}
 use Rattle.hex.proofs.HexLemmas.{IsDigits-lower_digits, length-encode_with, decode_of-encode_lower, decode_sized-twice}
 use Rattle.mesh_base.specs.declared.address.Address.{Address}
 use Rattle.mesh_types.specs.declared.answers.KeyName.{KeyName}
 use Rattle.mesh_types.specs.declared.answers.KeyName.TheVariants as N
 use Rattle.report_definitions.specs.Text.{hex_digits}
 use Rattle.script_definitions.specs.Digits.{number_from, number_word}
-use Rattle.script_definitions.specs.Forms.{address_word, bit_word}
+use Rattle.script_definitions.specs.Forms.{address_word}
 use Rattle.report_reader.specs.Forms.{key_name_word, octets_word}
 use Rattle.report_reader.specs.Answers.{params_word}
 use Rattle.report_reader.specs.Outcomes.{beacon_word}

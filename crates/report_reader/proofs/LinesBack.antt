@@ -1,6 +1,6 @@
 -- The fields of a line's text, and the line that they give back.
-use Rattle.std.proofs.Common.{◌≡◌, ℕ, suc, ◌+◌, ◌*◌, ◌/◌, ◌%◌, ◌^◌, ◌<◌, ◌≤◌, ◌==◌, Bool, true, false, if◌then◌else◌, List, [], ◌∷◌, ◌++◌, length, Option, Some, None, refl, sym, ap, ◌∙◌, inl, inr, arith, eq-eqb, codes, append_assoc}
-use Rattle.std.proofs.lemmas.Bool.{cases_Bool, cases_eq}
+use Rattle.std.proofs.Common.{◌≡◌, ℕ, ◌+◌, ◌*◌, ◌%◌, ◌^◌, ◌<◌, ◌≤◌, ◌==◌, Bool, true, false, if◌then◌else◌, List, [], ◌∷◌, ◌++◌, Some, None, refl, sym, ap, ◌∙◌, inl, inr, arith, codes}
+use Rattle.std.proofs.lemmas.Bool.{cases_eq}
 use Rattle.std.proofs.lemmas.Bool.Decides.{nat_tests}
 use Rattle.std.specs.Fmt.{decimal}
 use Rattle.std.specs.Str.{bytes_eq}
@@ -11,7 +11,7 @@ use Rattle.mesh_types.specs.declared.report.ReportLine.TheVariants as L
 use Rattle.report_definitions.specs.Report.{line_text, words_text, state_text, next_text}
 use Rattle.report_definitions.specs.Text.{hex_digits, word_text}
 use Rattle.script_definitions.specs.Digits.{number_from, number_word}
-use Rattle.report_reader.specs.Forms.{is_gap, fields_of}
+use Rattle.report_reader.specs.Forms.{fields_of}
 use Rattle.report_reader.specs.Lines.{bearer_word, next_word, opening_state, opened, life, entry, sent, line_of}
 use Rattle.report_reader.specs.ReportLine.{IsTold, IsToldOpening, IsReportLine, HaveOneLine}
 use Rattle.report_reader.proofs.AnswersBack.{kind_field, adds_kind, kind_back, answer_fields, adds_answer, answer_back, adds_digits, adds_decimal}

@@ -1,5 +1,5 @@
 -- The fields of a result's words, and the outcome that they give back.
-use Rattle.std.proofs.Common.{◌≡◌, ℕ, ◌+◌, ◌^◌, ◌<◌, Bool, true, false, List, [], ◌∷◌, ◌++◌, length, Option, Some, refl, sym, ap, ◌∙◌, arith, codes}
+use Rattle.std.proofs.Common.{◌≡◌, ℕ, ◌^◌, Bool, true, false, List, [], ◌∷◌, ◌++◌, Some, refl, arith, codes}
 use Rattle.std.specs.Fmt.{decimal}
 use Rattle.hex.specs.Hex.{encode_lower}
 use Rattle.mesh_base.specs.declared.address.Address.{Address}
@@ -9,7 +9,7 @@ use Rattle.report_definitions.specs.Report.{outcome_text, control_bit_text}
 use Rattle.report_definitions.specs.Text.{hex_digits, route_text}
 use Rattle.script_definitions.specs.Forms.{bit_word}
 use Rattle.report_reader.specs.Forms.{pair_at, name_at, route_at}
-use Rattle.report_reader.specs.Outcomes.{ctl, msg, long, seg, relay, rep, beacon_word, outcome_of}
+use Rattle.report_reader.specs.Outcomes.{ctl, msg, long, seg, relay, rep, outcome_of}
 use Rattle.report_reader.specs.ReportLine.{IsToldOutcome}
 use Rattle.report_reader.proofs.AnswersBack.{pair_fields, name_fields, adds_digits, adds_decimal, adds_octets, adds_pair, adds_key}
 use Rattle.report_reader.proofs.Back.{number_back, address_back, octets_back, beacon_back, key_field, key_back}
