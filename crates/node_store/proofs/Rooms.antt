@@ -1,5 +1,5 @@
 -- A compaction to the records that say a value anew, over the chip before and after.
-use Rattle.std.proofs.Common.{◌≡◌, ◌⊎◌, ⊎_elim, ℕ, ◌+◌, ◌*◌, ◌≤◌, List, Bool, true, false, Some, refl, ap, subst, ◌∙◌, arith}
+use Rattle.std.proofs.Common.{◌≡◌, ⊎_elim, ℕ, ◌≤◌, List, Bool, true, false, Some, refl, ap, subst, ◌∙◌, arith}
 use Rattle.std.specs.Prelude.{map, length, ◌==◌, if◌then◌else◌}
 use Rattle.std.proofs.lemmas.Bool.{eqb-true}
 use Rattle.flash_model.specs.Chip.{Chip, LeavesOnly}
@@ -15,7 +15,7 @@ use Rattle.slot_journal.specs.Tie.{IsCompacted, IsJournalOf}
 use Rattle.slot_journal.specs.View.{JournalView}
 use Rattle.node_store.specs.Calls.{compaction, room_of}
 use Rattle.node_store.specs.Mounted.{IsRead}
-use Rattle.node_store.specs.Tie.{Holds, IsExactly, IsHeld, IsStoreOf}
+use Rattle.node_store.specs.Tie.{IsExactly, IsHeld, IsStoreOf}
 use Rattle.node_store.specs.View.{StoreView}
 use Rattle.node_store.proofs.Holding.{alike_same}
 

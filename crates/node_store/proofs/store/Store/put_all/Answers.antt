@@ -1,4 +1,4 @@
-use Rattle.std.proofs.Common.{◌≡◌, ℕ, ◌+◌, ◌*◌, ◌<◌, ◌≤◌, ◌++◌, length, take, refl, sym, ◌∙◌, arith, true≢false}
+use Rattle.std.proofs.Common.{◌≡◌, ℕ, ◌+◌, ◌*◌, ◌<◌, ◌++◌, length, take, refl, sym, ◌∙◌, arith, true≢false}
 use Rattle.flash_model.proofs.Runs.{at_most_more, begins_none, keeps_more, keeps_none}
 use Rattle.node_records.specs.Tables.{config_in}
 use Rattle.node_store.proofs.Mounts.{err_of, on_err_all}

@@ -1,4 +1,4 @@
-use Rattle.std.proofs.Common.{◌≡◌, ℕ, ◌+◌, ◌*◌, ◌≤◌, List, ◌++◌, false}
+use Rattle.std.proofs.Common.{◌≡◌, ◌+◌, ◌*◌, ◌≤◌, List, ◌++◌, false}
 use Rattle.std.specs.Prelude.{length, take, drop, fold, IsTrue}
 use Rattle.flash_model.specs.Arming.{Begins, BeginsAtMost}
 use Rattle.flash_model.specs.Chip.{Keeps}
