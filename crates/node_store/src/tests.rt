@@ -603,19 +603,19 @@ fn cut_put(
     Ok((put, found.persist().entry(Address(0x0003))))
 }
 
-/// What is answered and found where so many calls come and this one is cut.
-fn expected(calls: u32, cut: (u32, u8)) -> (Result<(), PutFault>, Option<Pair>) {
-    let pair = |seq| {
-        Some(Pair {
-            iv: 0x12345678,
-            seq,
-        })
+/// What is answered and found where so many calls come, this one is cut, and this SEQ was found before.
+fn expected(calls: u32, cut: (u32, u8), before: u32) -> (Result<(), PutFault>, Option<Pair>) {
+    let whole = cut.0 >= calls || cut.0 + 1 == calls && cut.1 == 0xff;
+    let pair = Pair {
+        iv: 0x12345678,
+        seq: if whole { 2 } else { before },
     };
-    if cut.0 >= calls {
-        return (Ok(()), pair(2));
-    }
-    let whole = cut.0 + 1 == calls && cut.1 == 0xff;
-    (Err(PutFault::Flash), pair(if whole { 2 } else { 1 }))
+    let put = if cut.0 >= calls {
+        Ok(())
+    } else {
+        Err(PutFault::Flash)
+    };
+    (put, Some(pair))
 }
 
 // Twenty calls: eight erases, two for each of four slots, two for the header, and two for the record. From the whole header on the bank has
@@ -624,18 +624,20 @@ fn expected(calls: u32, cut: (u32, u8)) -> (Result<(), PutFault>, Option<Pair>) 
 fn a_cut_while_a_put_compacts(rt: HostRuntime) -> Result<(), Fail> {
     for call in 0..20 {
         for mask in MASKS {
-            let left = if call > 17 || call == 17 && mask == 0xff {
+            let mut flash = full_bank(rt.alloc())?;
+            let first = (call, mask);
+            assert_eq!(rt; cut_put(&mut flash, call, mask)?, expected(20, first, 1));
+            let left = if call > 17 || first == (17, 0xff) {
                 2
             } else {
                 20
             };
-            let mut flash = full_bank(rt.alloc())?;
+            let before = if first == (19, 0xff) { 2 } else { 1 };
+            let second = (19 - call, mask);
             assert_eq!(rt;
-                cut_put(&mut flash, call, mask)?,
-                expected(20, (call, mask))
+                cut_put(&mut flash, second.0, mask)?,
+                expected(left, second, before)
             );
-            let again = (19 - call, mask);
-            assert_eq!(rt; cut_put(&mut flash, again.0, mask)?, expected(left, again));
         }
     }
     Ok(())
