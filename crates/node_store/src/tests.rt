@@ -246,6 +246,44 @@ fn a_cut_while_a_record_is_put(rt: HostRuntime) -> Result<(), Fail> {
     Ok(())
 }
 
+/// Puts an hour and a Default TTL, one after the other.
+fn put_two<F: Flash>(store: &mut Store, flash: &mut F) -> Result<(), PutFault> {
+    let items = [
+        StoreRecord::Hour {
+            hours: 1,
+            since: 193,
+        },
+        StoreRecord::Feature { which: 2, value: 5 },
+    ];
+    store.put_all(flash, &items)
+}
+
+// Two program calls for each record. What is found are the first few.
+#[test]
+fn a_cut_while_two_records_are_put(rt: HostRuntime) -> Result<(), Fail> {
+    for calls in 0..5 {
+        for mask in MASKS {
+            let mut flash = MemFlash::new(rt.alloc())?;
+            let mut store = Store::provision(&mut flash, &node())?;
+            flash.power_cycle();
+            flash.arm(calls, mask);
+            let whole = if calls == 4 {
+                Ok(())
+            } else {
+                Err(PutFault::Flash)
+            };
+            assert_eq!(rt; put_two(&mut store, &mut flash), whole);
+            flash.power_cycle();
+            let found = Store::mount(&mut flash)?;
+            let hour = calls > 1 || calls == 1 && mask == 0xff;
+            let ttl = calls > 3 || calls == 3 && mask == 0xff;
+            assert_eq!(rt; found.persist().iv.hours, if hour { 1 } else { 0 });
+            assert_eq!(rt; found.persist().ttl, if ttl { 5 } else { 7 });
+        }
+    }
+    Ok(())
+}
+
 #[test]
 fn a_full_replay_list_and_a_full_bank(rt: HostRuntime) -> Result<(), Fail> {
     let mut flash = MemFlash::new(rt.alloc())?;
