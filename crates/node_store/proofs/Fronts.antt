@@ -1,5 +1,5 @@
 -- Several records, one after another, over the chip before and after.
-use Rattle.std.proofs.Common.{◌≡◌, ◌⊎◌, inl, inr, ⊎_elim, ℕ, ◌+◌, ◌*◌, ◌<◌, ◌≤◌, List, [], ◌∷◌, ◌++◌, Bool, true, false, refl, ap, sym, subst, ◌∙◌, append_assoc, arith}
+use Rattle.std.proofs.Common.{◌≡◌, ◌⊎◌, ⊎_elim, ℕ, ◌+◌, ◌*◌, ◌<◌, ◌≤◌, List, [], ◌∷◌, ◌++◌, Bool, true, false, refl, ap, sym, subst, ◌∙◌, append_assoc, arith}
 use Rattle.std.specs.Prelude.{length, take, drop, fold, get_or, ◌==◌, if◌then◌else◌}
 use Rattle.std.proofs.lemmas.Bool.{eqb-true}
 use Rattle.std.proofs.lemmas.List.{append-nil, drop_more, take_all, take_more}
@@ -7,15 +7,14 @@ use Rattle.std.proofs.lemmas.List.Sums.{fold_more}
 use Rattle.flash_model.specs.Arming.{Begins, BeginsAtMost}
 use Rattle.flash_model.specs.Chip.{Chip, LeavesOnly}
 use Rattle.flash_model.proofs.Leaves.{IsOnlyNow, leaves_join, leaves_none, leaves_weaker}
-use Rattle.flash_model.proofs.Runs.{at_most_more, begins_more}
+use Rattle.flash_model.proofs.Runs.{begins_more}
 use Rattle.record_types.specs.declared.records.StoreRecord.{StoreRecord}
 use Rattle.store_definitions.specs.Config.{Config, changed, config_of}
 use Rattle.node_records.specs.declared.persist.Persist.{Persist}
 use Rattle.node_records.specs.Meaning.{IsMeaningOf}
-use Rattle.node_records.specs.Tables.{config_in}
 use Rattle.node_snapshot.specs.Snapshot.{snapshot_of}
 use Rattle.node_store.specs.Calls.{calls_of, compaction, used_with_room}
-use Rattle.node_store.specs.Several.{IsAfter, MayPut}
+use Rattle.node_store.specs.Several.{MayPut}
 use Rattle.node_store.specs.Tie.{HasMarkFrom, Holds, IsFront, IsHeld, IsNotBelow, IsPut, IsStoreOf}
 use Rattle.node_store.specs.View.{StoreView}
 use Rattle.node_store.proofs.Follows.{mark_before, mark_from}

@@ -1,6 +1,5 @@
 -- What an image holds, up to lists that say the same, and the tie of a store and its flash.
-use Rattle.std.proofs.Common.{◌≡◌, ◌⊎◌, inl, inr, ⊎_elim, ℕ, ◌≤◌, List, [], ◌∷◌, ◌++◌, refl, ap, sym, subst, ◌∙◌}
-use Rattle.std.specs.Prelude.{false}
+use Rattle.std.proofs.Common.{◌≡◌, ⊎_elim, ℕ, List, [], ◌∷◌, ◌++◌, refl, ap, sym, subst, ◌∙◌}
 use Rattle.flash_model.specs.Chip.{Chip, LeavesOnly, Stays}
 use Rattle.flash_model.proofs.Leaves.{IsOnlyNow, leaves_none, leaves_weaker}
 use Rattle.record_types.specs.declared.records.StoreRecord.{StoreRecord}
@@ -16,7 +15,7 @@ use Rattle.slot_journal.specs.Headers.{IsTidy}
 use Rattle.slot_journal.specs.Tie.{IsJournalOf, IsMounted as IsJournalMounted}
 use Rattle.slot_journal.specs.View.{JournalView}
 use Rattle.node_store.specs.Mounted.{IsRead}
-use Rattle.node_store.specs.Tie.{HasMark, HasMarkFrom, Holds, IsExactly, IsHeld, IsNode, IsPut, IsStoreOf}
+use Rattle.node_store.specs.Tie.{HasMark, Holds, IsExactly, IsHeld, IsNode, IsPut, IsStoreOf}
 use Rattle.node_store.specs.View.{StoreView}
 
 -- Lists that say the same.

@@ -8,10 +8,10 @@ use Rattle.flash_model.proofs.Leaves.{leaves_join, leaves_weaker}
 use Rattle.slot_definitions.specs.Slots.{Held, held_by, recovered}
 use Rattle.record_types.specs.declared.records.StoreRecord.{StoreRecord}
 use Rattle.store_definitions.specs.Alike.{IsAlike}
-use Rattle.store_definitions.specs.Config.{Config, config_of}
+use Rattle.store_definitions.specs.Config.{Config}
 use Rattle.store_definitions.specs.Following.{Follows}
 use Rattle.store_definitions.specs.Ranges.{IsInRange}
-use Rattle.store_definitions.specs.Recovered.{record_text, HasOneName, IsRecovered}
+use Rattle.store_definitions.specs.Recovered.{record_text, IsRecovered}
 use Rattle.node_records.specs.Full.{IsFull}
 use Rattle.node_records.specs.Meaning.{IsMeaningOf}
 use Rattle.node_records.proofs.Alike.{alike_push}

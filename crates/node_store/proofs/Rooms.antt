@@ -1,6 +1,7 @@
 -- A compaction to the records that say a value anew, over the chip before and after.
-use Rattle.std.proofs.Common.{◌≡◌, ◌⊎◌, inl, inr, ⊎_elim, ℕ, ◌+◌, ◌*◌, ◌<◌, ◌≤◌, List, Some, ap, sym, subst, ◌∙◌, arith}
-use Rattle.std.specs.Prelude.{map}
+use Rattle.std.proofs.Common.{◌≡◌, ⊎_elim, ℕ, ◌≤◌, List, Bool, true, false, Some, refl, ap, subst, ◌∙◌, arith}
+use Rattle.std.specs.Prelude.{map, length, ◌==◌, if◌then◌else◌}
+use Rattle.std.proofs.lemmas.Bool.{eqb-true}
 use Rattle.flash_model.specs.Chip.{Chip, LeavesOnly}
 use Rattle.flash_model.proofs.Leaves.{leaves_weaker}
 use Rattle.mesh_base.specs.declared.slot.Slot.{Slot}
@@ -12,8 +13,10 @@ use Rattle.node_records.proofs.Alike.{alike_by}
 use Rattle.node_snapshot.specs.Snapshot.{IsSnapshot, snapshot_of}
 use Rattle.slot_journal.specs.Tie.{IsCompacted, IsJournalOf}
 use Rattle.slot_journal.specs.View.{JournalView}
+use Rattle.node_store.specs.Calls.{compaction, room_of}
 use Rattle.node_store.specs.Mounted.{IsRead}
-use Rattle.node_store.specs.Tie.{Holds, IsExactly, IsHeld, IsStoreOf}
+use Rattle.node_store.specs.Tie.{IsExactly, IsHeld, IsStoreOf}
+use Rattle.node_store.specs.View.{StoreView}
 use Rattle.node_store.proofs.Holding.{alike_same}
 
 -- content with the slots of a snapshot in format 02
@@ -53,3 +56,11 @@ module _ (old : Chip) (journal : JournalView) (p : Persist) (found : List StoreR
     };
     alike = alike_by (snapshot_of p) found p says.meaning tie.meaning;
   }
+
+-- the calls for room are at most those of the largest snapshot
+pub room_few : (s : StoreView) → (s.journal.used ≡ 1023 → length (snapshot_of s.persist) ≤ 404) → room_of s ≤ 818
+room_few s few = by_test (s.journal.used == 1023) refl
+  where
+    by_test : (b : Bool) → (s.journal.used == 1023) ≡ b → (if b then compaction s.persist else 0) ≤ 818
+    by_test true e = let h = few (eqb-true s.journal.used 1023 e) in omega (arith, h)
+    by_test false e = omega arith

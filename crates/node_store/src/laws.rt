@@ -1,7 +1,7 @@
 //! Laws about what a flash is mounted as, and about the tie of a store and its flash. Each is the contract of a function that does nothing.
 #![tactic(auto)]
 
-ghost use Rattle.std.specs.Prelude.{◌≡◌, ℕ, List, [], ◌∷◌, ◌++◌, true, false};
+ghost use Rattle.std.specs.Prelude.{◌≡◌, ℕ, ◌≤◌, List, [], ◌∷◌, ◌++◌, length, take, true, false};
 ghost use Rattle.flash_model.specs.Chip.{LeavesOnly, Stays};
 ghost use Rattle.record_types.specs.declared.records.StoreRecord.{StoreRecord};
 ghost use Rattle.node_records.specs.Meaning.{IsMeaningOf};
@@ -11,7 +11,7 @@ ghost use Rattle.store_definitions.specs.Node.{IsNodeOrReset};
 ghost use Rattle.node_store.specs.declared.mounting.StoreFault.{StoreFault};
 ghost use Rattle.node_store.specs.Causes.{IsFoundAs};
 ghost use Rattle.node_store.specs.Mounted.{IsRead};
-ghost use Rattle.node_store.specs.Tie.{Holds, IsExactly, IsHeld, IsNode, IsPut, IsStoreOf};
+ghost use Rattle.node_store.specs.Tie.{Holds, IsExactly, IsFront, IsHeld, IsNode, IsPut, IsStoreOf};
 ghost use Rattle.node_store.specs.View.{StoreView};
 
 use flash_model::Flash;
@@ -34,11 +34,19 @@ pub fn tie_law<F: Flash>()
     ensures exactly { (flash : F) (store : StoreView) (records : List StoreRecord) → IsExactly (F.chip flash) store records → IsStoreOf (F.chip flash) store records }
 {}
 
-/// What an image holds: each list that says the same, and lists that one image holds say the same. An image that holds the records of a
-/// node that can be run, or of one that was reset, is such a node; so is what a put leaves where it stays one with the new record.
+/// What an image holds: each list that says the same, and lists that one image holds say the same. It is mounted as the list that it
+/// recovers: no refusal has a cause, but that of a Node Reset where a Reset record is among the records.
 pub fn held_law()
     ensures alike { (content : List ℕ) (a b : List StoreRecord) → IsAlike a b → Holds content a → Holds content b }
     ensures once { (content : List ℕ) (a b : List StoreRecord) → Holds content a → Holds content b → IsAlike a b }
-    ensures node { (content : List ℕ) (records : List StoreRecord) → IsHeld records content → IsNodeOrReset records → IsNode content }
+    ensures stands { (content : List ℕ) (records : List StoreRecord) → Holds content records → (config_of records).reset ≡ false → (fault : StoreFault) → IsFoundAs content fault → ⊥ }
+    ensures was_reset { (content : List ℕ) (records : List StoreRecord) → Holds content records → (config_of records).reset ≡ true → (fault : StoreFault) → IsFoundAs content fault → fault ≡ StoreFault.WasReset }
+{}
+
+/// An image that holds the records of a node that can be run, or of one that was reset, is such a node. So is what a put or several leave,
+/// where the records stay so with each new one.
+pub fn image_law()
+    ensures held { (content : List ℕ) (records : List StoreRecord) → IsHeld records content → IsNodeOrReset records → IsNode content }
     ensures put { (content : List ℕ) (records : List StoreRecord) (item : StoreRecord) → IsPut records item content → IsNodeOrReset records → IsNodeOrReset (records ++ item ∷ []) → IsNode content }
+    ensures front { (content : List ℕ) (records items : List StoreRecord) → IsFront records items content → ((n : ℕ) → n ≤ length items → IsNodeOrReset (records ++ take n items)) → IsNode content }
 {}

@@ -93,6 +93,7 @@ impl Store {
 
         // of every flash, honest or not
         ensures usable { IfOk result (λ s. s.journal.closed ≡ false) }
+        ensures format { IfOk result (λ s. s.journal.version ≡ 2) }
         ensures no_fault { OnOk result ((F.chip flash.new).faults ≡ (F.chip flash.old).faults) }
         ensures refused { IfErr result (λ e. IsNotFlash e → ((F.chip flash.new).faults ≡ (F.chip flash.old).faults) × (IsTrue (F.chip flash.old).steady → (F.chip flash.new).changes ≡ (F.chip flash.old).changes)) }
         ensures sure { IsTrue (F.chip flash.old).sure → IfErr result IsNotFlash }
@@ -109,7 +110,11 @@ impl Store {
 }
 
 /// A journal in format 02: one of format 01 is compacted to the records that say its value anew.
-fn migrated<F: Flash>(journal: Journal, persist: &Persist, flash: &mut F) -> Result<Journal, FlashFailed>
+fn migrated<F: Flash>(
+    journal: Journal,
+    persist: &Persist,
+    flash: &mut F,
+) -> Result<Journal, FlashFailed>
     requires said { IsSaid persist.now }
     requires usable { journal.closed ≡ false }
     ensures format { IfOk result (λ j. j.version ≡ 2) }

@@ -69,6 +69,7 @@ impl Store {
         ensures any_moment { (records : List StoreRecord) → IsStoreOf (F.chip flash.old) self.old records → LeavesOnly (F.chip flash.old) (F.chip flash.new) (IsHeld records) }
         ensures calls { IsTrue (F.chip flash.old).steady → OnOk result (Begins (room_of self.old) (F.chip flash.old) (F.chip flash.new)) }
         ensures most_calls { IsTrue (F.chip flash.old).steady → BeginsAtMost (room_of self.old) (F.chip flash.old) (F.chip flash.new) }
+        ensures bounded { room_of self.old ≤ 818 }
         ensures reads { (F.chip flash.new).reads ≡ (F.chip flash.old).reads }
         ensures no_fault { OnOk result ((F.chip flash.new).faults ≡ (F.chip flash.old).faults) }
         ensures sure { IsTrue (F.chip flash.old).sure → IsOk result }

@@ -18,7 +18,11 @@ impl Store {
     /// say what those of before say with the first few of the new ones behind them. It reads nothing.
     ///
     /// Each record may be put behind those before it, so it passes no limit.
-    pub fn put_all<F: Flash>(&mut self, flash: &mut F, items: &[StoreRecord]) -> Result<(), PutFault>
+    pub fn put_all<F: Flash>(
+        &mut self,
+        flash: &mut F,
+        items: &[StoreRecord],
+    ) -> Result<(), PutFault>
         requires may { MayPut self.old.persist items.now }
 
         ensures closed { self.old.journal.closed ≡ true → (result ≡ Err PutFault.Closed) × (self.new ≡ self.old) × (flash.new ≡ flash.old) }
@@ -33,9 +37,11 @@ impl Store {
         ensures any_moment { (records : List StoreRecord) → IsStoreOf (F.chip flash.old) self.old records → LeavesOnly (F.chip flash.old) (F.chip flash.new) (IsFront records items.now) }
         ensures mark { (records : List StoreRecord) → IsStoreOf (F.chip flash.old) self.old records → LeavesOnly (F.chip flash.old) (F.chip flash.new) (HasMarkFrom self.old.persist.mark) }
 
-        // over a steady flash: two program calls for each record where there is room for all
+        // over a steady flash: two program calls for each record where there is room for all, and at most these where it fails; never more
+        // than a compaction takes for each
         ensures calls { IsTrue (F.chip flash.old).steady → self.old.journal.used + length items.now ≤ 1023 → OnOk result (Begins (2 * length items.now) (F.chip flash.old) (F.chip flash.new)) }
         ensures most_calls { IsTrue (F.chip flash.old).steady → self.old.journal.used + length items.now ≤ 1023 → BeginsAtMost (2 * length items.now) (F.chip flash.old) (F.chip flash.new) }
+        ensures bounded { IsTrue (F.chip flash.old).steady → BeginsAtMost (820 * length items.now) (F.chip flash.old) (F.chip flash.new) }
 
         // of every flash, honest or not
         ensures reads { (F.chip flash.new).reads ≡ (F.chip flash.old).reads }

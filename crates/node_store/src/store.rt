@@ -136,6 +136,7 @@ impl Store {
         // over a steady flash: two program calls, behind those of a compaction where all slots are used, and at most these where it fails
         ensures calls { IsTrue (F.chip flash.old).steady → OnOk result (Begins (calls_of self.old) (F.chip flash.old) (F.chip flash.new)) }
         ensures most_calls { IsTrue (F.chip flash.old).steady → BeginsAtMost (calls_of self.old) (F.chip flash.old) (F.chip flash.new) }
+        ensures bounded { IsTrue (F.chip flash.old).steady → BeginsAtMost 820 (F.chip flash.old) (F.chip flash.new) }
 
         // of every flash, honest or not
         ensures reads { (F.chip flash.new).reads ≡ (F.chip flash.old).reads }

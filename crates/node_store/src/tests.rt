@@ -246,6 +246,44 @@ fn a_cut_while_a_record_is_put(rt: HostRuntime) -> Result<(), Fail> {
     Ok(())
 }
 
+/// Puts an hour and a Default TTL, one after the other.
+fn put_two<F: Flash>(store: &mut Store, flash: &mut F) -> Result<(), PutFault> {
+    let items = [
+        StoreRecord::Hour {
+            hours: 1,
+            since: 193,
+        },
+        StoreRecord::Feature { which: 2, value: 5 },
+    ];
+    store.put_all(flash, &items)
+}
+
+// Two program calls for each record. What is found are the first few.
+#[test]
+fn a_cut_while_two_records_are_put(rt: HostRuntime) -> Result<(), Fail> {
+    for calls in 0..5 {
+        for mask in MASKS {
+            let mut flash = MemFlash::new(rt.alloc())?;
+            let mut store = Store::provision(&mut flash, &node())?;
+            flash.power_cycle();
+            flash.arm(calls, mask);
+            let whole = if calls == 4 {
+                Ok(())
+            } else {
+                Err(PutFault::Flash)
+            };
+            assert_eq!(rt; put_two(&mut store, &mut flash), whole);
+            flash.power_cycle();
+            let found = Store::mount(&mut flash)?;
+            let hour = calls > 1 || calls == 1 && mask == 0xff;
+            let ttl = calls > 3 || calls == 3 && mask == 0xff;
+            assert_eq!(rt; found.persist().iv.hours, if hour { 1 } else { 0 });
+            assert_eq!(rt; found.persist().ttl, if ttl { 5 } else { 7 });
+        }
+    }
+    Ok(())
+}
+
 #[test]
 fn a_full_replay_list_and_a_full_bank(rt: HostRuntime) -> Result<(), Fail> {
     let mut flash = MemFlash::new(rt.alloc())?;
@@ -455,7 +493,10 @@ fn refusal_behind(alloc: Global, slots: &[Slot]) -> Result<Option<StoreFault>, F
 fn what_is_damaged_behind_a_node(rt: HostRuntime) -> Result<(), Fail> {
     let unknown = slot(0x20, &[]);
     // Progress 02.
-    let progress = slot(2, &[0x12, 0x34, 0x56, 0x78, 2, 0x00, 0x24, 0x68, 0xac, 0xf0]);
+    let progress = slot(
+        2,
+        &[0x12, 0x34, 0x56, 0x78, 2, 0x00, 0x24, 0x68, 0xac, 0xf0],
+    );
     let at = |slot| Some(StoreFault::Damaged { slot });
     let cases = [
         (unknown, RESET, at(4)),
@@ -560,41 +601,28 @@ fn cut_twice(
 }
 
 // Sixteen calls: eight erases, two for each of three slots, and two for the header. Only a whole last one leaves the new bank; then the
-// next mount makes no call.
+// next mount makes no call, and isn't cut.
 #[test]
 fn a_cut_while_a_mount_migrates(rt: HostRuntime) -> Result<(), Fail> {
     let mut flash = MemFlash::new(rt.alloc())?;
     let want = Store::provision(&mut flash, &node())?;
-    for (first, mask) in cuts(rt.alloc(), 16)? {
-        let left = if (first, mask) == (15, 0xff) { None } else { Some(StoreFault::Flash) };
-        for (second, again) in cuts(rt.alloc(), 16)? {
-            let (one, two, found) = cut_twice(rt.alloc(), (first, mask), (second, again))?;
+    for call in 0..16 {
+        for mask in MASKS {
+            let (one, two, found) = cut_twice(rt.alloc(), (call, mask), (15 - call, mask))?;
             assert_eq!(rt; one, Some(StoreFault::Flash));
-            assert_eq!(rt; two, left);
+            assert_eq!(rt; two.is_none(), call == 15 && mask == 0xff);
             assert!(rt; *found.persist() == *want.persist());
         }
     }
     Ok(())
 }
 
-/// Each call number below `calls` with each mask.
-fn cuts(alloc: Global, calls: u32) -> Result<Vec<(u32, u8)>, Fail> {
-    let mut cuts = Vec::new(alloc);
-    for call in 0..calls {
-        for mask in MASKS {
-            cuts.push((call, mask))?;
-        }
-    }
-    Ok(cuts)
-}
-
-/// A node whose bank is full: 1,020 messages of one source stand behind its first records.
+/// A node that heard a message, and whose bank is full: its last slot has a written octet.
 fn full_bank(alloc: Global) -> Result<MemFlash, Fail> {
     let mut flash = MemFlash::new(alloc)?;
     let mut store = Store::provision(&mut flash, &node())?;
-    for seq in 1..1021 {
-        hear(&mut store, &mut flash, 0x0003, seq)?;
-    }
+    hear(&mut store, &mut flash, 0x0003, 1)?;
+    flash.program(32 * 1023, &[0x00])?;
     Ok(flash)
 }
 
@@ -607,38 +635,47 @@ fn cut_put(
     flash.power_cycle();
     flash.arm(calls, mask);
     let mut store = Store::mount(flash)?;
-    let put = hear(&mut store, flash, 0x0003, 1021);
+    let put = hear(&mut store, flash, 0x0003, 2);
     flash.power_cycle();
     let found = Store::mount(flash)?;
     Ok((put, found.persist().entry(Address(0x0003))))
 }
 
-/// What is answered and found where so many calls come and this one is cut.
-fn expected(calls: u32, cut: (u32, u8)) -> (Result<(), PutFault>, Option<Pair>) {
-    let pair = |seq| {
-        Some(Pair {
-            iv: 0x12345678,
-            seq,
-        })
+/// What is answered and found where so many calls come, this one is cut, and this SEQ was found before.
+fn expected(calls: u32, cut: (u32, u8), before: u32) -> (Result<(), PutFault>, Option<Pair>) {
+    let whole = cut.0 >= calls || cut.0 + 1 == calls && cut.1 == 0xff;
+    let pair = Pair {
+        iv: 0x12345678,
+        seq: if whole { 2 } else { before },
     };
-    if cut.0 >= calls {
-        return (Ok(()), pair(1021));
-    }
-    let whole = cut.0 + 1 == calls && cut.1 == 0xff;
-    (Err(PutFault::Flash), pair(if whole { 1021 } else { 1020 }))
+    let put = if cut.0 >= calls {
+        Ok(())
+    } else {
+        Err(PutFault::Flash)
+    };
+    (put, Some(pair))
 }
 
 // Twenty calls: eight erases, two for each of four slots, two for the header, and two for the record. From the whole header on the bank has
-// room, and the next put makes two calls.
+// room, and the put behind the next mount makes two calls.
 #[test]
 fn a_cut_while_a_put_compacts(rt: HostRuntime) -> Result<(), Fail> {
-    for first in cuts(rt.alloc(), 20)? {
-        let left = if first.0 > 17 || first == (17, 0xff) { 2 } else { 20 };
-        for second in 0..20 {
+    for call in 0..20 {
+        for mask in MASKS {
             let mut flash = full_bank(rt.alloc())?;
-            assert_eq!(rt; cut_put(&mut flash, first.0, first.1)?, expected(20, first));
-            let again = (second, first.1);
-            assert_eq!(rt; cut_put(&mut flash, second, first.1)?, expected(left, again));
+            let first = (call, mask);
+            assert_eq!(rt; cut_put(&mut flash, call, mask)?, expected(20, first, 1));
+            let left = if call > 17 || first == (17, 0xff) {
+                2
+            } else {
+                20
+            };
+            let before = if first == (19, 0xff) { 2 } else { 1 };
+            let second = (19 - call, mask);
+            assert_eq!(rt;
+                cut_put(&mut flash, second.0, mask)?,
+                expected(left, second, before)
+            );
         }
     }
     Ok(())

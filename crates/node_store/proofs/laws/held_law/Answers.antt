@@ -1,14 +1,13 @@
-use Rattle.node_store.proofs.Holding.{held_node, holds_alike, holds_once, put_node}
+use Rattle.std.proofs.Common.{ap, ◌∙◌}
+use Rattle.store_definitions.specs.Config.{Config}
+use Rattle.node_store.proofs.Found.{only_reset, stands}
+use Rattle.node_store.proofs.Holding.{holds_alike, holds_once}
 use Rattle.node_store.proofs.laws.held_law.Goals as goal
 
-pub returns-clause-alike : goal.returns-clause-alike
-returns-clause-alike c = holds_alike
-
-pub returns-clause-once : goal.returns-clause-once
-returns-clause-once c = holds_once
-
-pub returns-clause-node : goal.returns-clause-node
-returns-clause-node c content records held whole = held_node content records held.tidy held.holds whole
-
-pub returns-clause-put : goal.returns-clause-put
-returns-clause-put c = put_node
+pub returns : goal.returns
+returns c = record {
+  alike = holds_alike;
+  once = holds_once;
+  stands = λ content records h here fault found. stands content h.found fault h.read (ap (λ (d : Config). d.reset) h.alike.config ∙ here) found;
+  was_reset = λ content records h is fault found. only_reset content h.found fault h.read (ap (λ (d : Config). d.reset) h.alike.config ∙ is) found;
+}

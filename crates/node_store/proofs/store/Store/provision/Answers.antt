@@ -6,7 +6,6 @@ use Rattle.store_definitions.specs.Recovered.{IsRecovered}
 use Rattle.store_definitions.specs.Provisioning.{provisioned}
 use Rattle.slot_journal.specs.Format.{IsFormatted}
 use Rattle.node_store.specs.Provisioning.{provisioning}
-use Rattle.node_store.specs.Tie.{IsExactly}
 use Rattle.node_store.proofs.Holding.{exactly_store}
 use Rattle.node_store.proofs.Made.{made_leaves, made_read, provisioned_names, provisioned_order}
 use Rattle.node_store.proofs.store.Store.provision.Goals as goal

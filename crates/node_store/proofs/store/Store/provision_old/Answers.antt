@@ -1,4 +1,4 @@
-use Rattle.std.proofs.Common.{List, Some, refl, ap, subst, ◌∙◌}
+use Rattle.std.proofs.Common.{List, Some, ap, subst, ◌∙◌}
 use Rattle.mesh_base.specs.declared.slot.Slot.{Slot}
 use Rattle.flash_model.specs.Chip.{LeavesOnly}
 use Rattle.slot_definitions.specs.Slots.{Held}

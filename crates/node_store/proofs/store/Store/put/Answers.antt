@@ -1,4 +1,4 @@
-use Rattle.std.proofs.Common.{◌++◌, [], ◌∷◌}
+use Rattle.std.proofs.Common.{◌++◌, [], ◌∷◌, ◌∙◌, arith}
 use Rattle.flash_model.specs.Chip.{LeavesOnly}
 use Rattle.node_store.specs.Tie.{IsHeld, IsPut, IsStoreOf}
 use Rattle.node_store.proofs.Holding.{held_unchanged}
@@ -133,3 +133,22 @@ returns-clause-durable g c records tie image is =
     let new = g.F.Flash.chip c.add.new.flash in
     let there : IsStoreOf mid c.make_room.new.self records = c.in_ok-make_room.ensures.kept records tie in
     put_durable new c.add.new.self (records ++ c.args.item.now ∷ []) (c.in_ok-add.ensures.kept records there) image is
+
+pub returns-in_err-make_room-clause-bounded : goal.returns-in_err-make_room-clause-bounded
+returns-in_err-make_room-clause-bounded g c steady = let most = c.in_err-make_room.ensures.most_calls steady in let few = c.in_err-make_room.ensures.bounded in omega (arith, most, few)
+
+pub returns-in_err-add-clause-bounded : goal.returns-in_err-add-clause-bounded
+returns-in_err-add-clause-bounded g c steady =
+    let room = c.in_ok-make_room.ensures in
+    let first = room.most_calls steady in
+    let few = room.bounded in
+    let second = c.in_err-add.ensures.most_calls (room.frame.steady ∙ steady) in
+    omega (arith, first, few, second)
+
+pub returns-clause-bounded : goal.returns-clause-bounded
+returns-clause-bounded g c steady =
+    let room = c.in_ok-make_room.ensures in
+    let first = room.most_calls steady in
+    let few = room.bounded in
+    let second = c.in_ok-add.ensures.most_calls (room.frame.steady ∙ steady) in
+    omega (arith, first, few, second)

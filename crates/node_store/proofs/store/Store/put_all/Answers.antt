@@ -1,5 +1,5 @@
-use Rattle.std.proofs.Common.{◌≡◌, ◌≤◌, ◌++◌, length, take, refl, sym, ◌∙◌, arith, true≢false}
-use Rattle.flash_model.proofs.Runs.{begins_none, keeps_more, keeps_none}
+use Rattle.std.proofs.Common.{◌≡◌, ℕ, ◌+◌, ◌*◌, ◌<◌, ◌++◌, length, take, refl, sym, ◌∙◌, arith, true≢false}
+use Rattle.flash_model.proofs.Runs.{at_most_more, begins_none, keeps_more, keeps_none}
 use Rattle.node_records.specs.Tables.{config_in}
 use Rattle.node_store.proofs.Mounts.{err_of, on_err_all}
 use Rattle.node_store.proofs.Puts.{put_durable}
@@ -19,6 +19,7 @@ loop-item-init g c =
       value = λ records meaning. value_none records c.args.items.now c.args.self.now.persist meaning;
       fronts = λ records tie. fronts_none chip c.args.self.now records c.args.items.now tie (laws.only_now flash);
       calls = λ steady room. (begins_none chip (laws.counted flash), omega arith);
+      spent = λ steady. omega arith;
       reads = refl;
       faults = refl;
     }
@@ -48,6 +49,7 @@ loop-item-preserved g c =
           let all = records ++ take i items in
           fronts_more items i _ less start first records mid store fronts new after may.1 put.value (put.kept all fronts.tie) (put.any_moment all fronts.tie) (put.mark all fronts.tie);
       calls = λ steady room. calls_more (length items) i start mid new first store less room (before.calls steady room) after (put.calls (before.keeps.steady ∙ steady)) put.used;
+      spent = λ steady. at_most_more (820 * i) 820 (820 * (i + 1)) start mid new (omega arith) (before.spent steady) (put.bounded (before.keeps.steady ∙ steady));
       reads = put.reads ∙ before.reads;
       faults = put.no_fault ∙ before.faults;
     }
@@ -89,6 +91,23 @@ returns-in_err-put-clause-most_calls g c steady room =
     let before = c.loop-item.invariant in
     calls_at_most (length c.args.items.now) c.loop-item.item-index (g.F.Flash.chip c.args.flash.now) (g.F.Flash.chip c.loop-item.flash) (g.F.Flash.chip c.put.new.flash) c.args.self.now c.loop-item.self
     c.loop-item-test.true room (before.calls steady room) (c.in_err-put.ensures.most_calls (before.keeps.steady ∙ steady))
+
+pub returns-in_err-put-clause-bounded : goal.returns-in_err-put-clause-bounded
+returns-in_err-put-clause-bounded g c steady =
+    let before = c.loop-item.invariant in
+    let i = c.loop-item.item-index in
+    let n : ℕ = length c.args.items.now in
+    let less : i < n = c.loop-item-test.true in
+    at_most_more (820 * i) 820 (820 * n) (g.F.Flash.chip c.args.flash.now) (g.F.Flash.chip c.loop-item.flash) (g.F.Flash.chip c.put.new.flash) (omega (arith, less)) (before.spent steady)
+    (c.in_err-put.ensures.bounded (before.keeps.steady ∙ steady))
+
+pub returns-clause-bounded : goal.returns-clause-bounded
+returns-clause-bounded g c steady =
+    let i = c.loop-item.item-index in
+    let n : ℕ = length c.args.items.now in
+    let all : i ≡ n = omega (arith, c.loop-item-test.false, c.loop-item.auto.item-index-end) in
+    let spent = c.loop-item.invariant.spent steady in
+    omega (arith, all, spent)
 
 pub returns-in_err-put-clause-sure : goal.returns-in_err-put-clause-sure
 returns-in_err-put-clause-sure g c sure open_before =
