@@ -1,5 +1,5 @@
 -- What isn't refused is newer.
-use Rattle.std.proofs.Common.{◌≡◌, Bool, true, false, refl, Option, Some, None, sym, true≢false}
+use Rattle.std.proofs.Common.{◌≡◌, Bool, true, false, refl, Option, Some, None}
 use Rattle.std.specs.Prelude.{IsTrue}
 use Rattle.mesh_base.specs.declared.pair.Pair.{Pair}
 use Rattle.mesh_base.specs.Pairs.{is_newer}

@@ -1,14 +1,16 @@
 //! Messages that are accepted and refused, what a cut leaves, and a full list whose entries expire.
 #![tactic(auto)]
 
-ghost use Rattle.std.specs.Prelude.{◌≡◌, ◌≤◌, ◌<◌, ◌^◌};
+ghost use Rattle.std.specs.Prelude.{◌≡◌, ◌≤◌, ◌<◌, ◌^◌, false};
+ghost use Rattle.record_types.specs.declared.records.StoreRecord.{StoreRecord};
+ghost use Rattle.store_definitions.specs.Ranges.{IsInRange};
 ghost use Rattle.node_store.specs.Provisioning.{IsProvision};
 
 use super::*;
 use flash_model::{Bench, MemFlash};
 use mesh_base::address::Address;
 use mesh_base::pair::{Name, Pair};
-use node_store::{Provision, Store};
+use node_store::{Provision, PutFault, Store};
 use record_types::records::StoreRecord;
 use std::test::Fail;
 
@@ -64,6 +66,31 @@ fn hear_all(store: &mut Store, flash: &mut MemFlash, count: u16) -> bool
         all = all && hear(store, flash, 0x0101 + n, 5, 1) == Some(Ok(()));
     }
     all
+}
+
+/// The state after IV Index Recovery to 0000002f, with the first number under it as mark.
+fn recovered() -> StoreRecord
+    ensures value { result ≡ StoreRecord.Numbers 0x2f false 0x5e000000 0 0 }
+    ensures range { IsInRange result }
+{
+    StoreRecord::Numbers {
+        current: 0x2f,
+        progress: false,
+        mark: 0x5e00_0000,
+        hours: 0,
+        since: 0,
+    }
+}
+
+/// Stores it, where nothing falls.
+fn recover(store: &mut Store, flash: &mut MemFlash) -> Option<Result<(), PutFault>> {
+    let current = store.persist().iv.current;
+    let mark = store.persist().mark;
+    if current <= 0x2f && mark <= 0x5e00_0000 {
+        Some(store.put(flash, &recovered()))
+    } else {
+        None
+    }
 }
 
 #[test]
@@ -132,16 +159,7 @@ fn a_full_list_and_expiry(rt: HostRuntime) -> Result<(), Fail> {
     assert_eq!(rt; hear(&mut store, &mut flash, 0x0301, 5, 1), full);
     assert_eq!(rt; hear(&mut store, &mut flash, 0x0101, 5, 2), Some(Ok(())));
     assert_eq!(rt; hear(&mut store, &mut flash, 0x0301, 5, 2), full);
-    let recovered = StoreRecord::Numbers {
-        current: 0x2f,
-        progress: false,
-        mark: 0x2f << 25,
-        hours: 0,
-        since: 0,
-    };
-    let below = store.persist().iv.current <= 0x2f && store.persist().mark <= 0x2f << 25;
-    assert!(rt; below);
-    assert_eq!(rt; store.put(&mut flash, &recovered), Ok(()));
+    assert_eq!(rt; recover(&mut store, &mut flash), Some(Ok(())));
     assert_eq!(rt; hear(&mut store, &mut flash, 0x0301, 0x2f, 2), Some(Ok(())));
     assert_eq!(rt; hear(&mut store, &mut flash, 0x0101, 0x2e, 0), Some(Ok(())));
     flash.power_cycle();

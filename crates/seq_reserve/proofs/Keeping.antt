@@ -1,18 +1,18 @@
 -- The mark is durable, and the record of a call is the one that the records say.
-use Rattle.std.proofs.Common.{◌≡◌, inl, ℕ, ◌≤◌, List, [], ◌∷◌, ◌++◌, ap, ◌∙◌, sym, subst, arith}
+use Rattle.std.proofs.Common.{◌≡◌, ℕ, ◌≤◌, List, ap, ◌∙◌, arith}
 use Rattle.flash_model.specs.Chip.{Chip, LeavesOnly}
 use Rattle.flash_model.proofs.Leaves.{IsOnlyNow, leaves_none}
 use Rattle.mesh_base.specs.declared.iv_state.IvState.{IvState}
 use Rattle.node_records.specs.declared.persist.Persist.{Persist}
 use Rattle.node_records.specs.Meaning.{IsMeaningOf}
 use Rattle.node_records.specs.Tables.{config_in}
-use Rattle.node_store.specs.Tie.{HasMark, HasMarkFrom, Holds, IsHeld, IsPut, IsStoreOf}
+use Rattle.node_store.specs.Tie.{HasMarkFrom, IsPut, IsStoreOf}
 use Rattle.node_store.specs.View.{StoreView}
 use Rattle.node_store.proofs.Holding.{held_unchanged, holds_mark, store_images, store_meaning}
 use Rattle.node_store.proofs.Puts.{room_moment}
 use Rattle.record_types.specs.declared.records.StoreRecord.{StoreRecord}
 use Rattle.seq_reserve.specs.Reserving.{IsDurable}
-use Rattle.store_definitions.specs.Config.{Config, changed, config_of}
+use Rattle.store_definitions.specs.Config.{Config, config_of}
 use Rattle.store_definitions.specs.Numbers.{fill_of, moved}
 
 -- of a store of this flash the mark that it says is durable

@@ -1,9 +1,9 @@
 -- The calls as steps of the world.
-use Rattle.std.proofs.Common.{◌≡◌, ℕ, ◌+◌, ◌*◌, ◌^◌, ◌<◌, ◌≤◌, Bool, true, false, refl, List, [], ◌∷◌, ◌++◌, ap, ◌∙◌, sym, subst, arith, true≢false}
+use Rattle.std.proofs.Common.{◌≡◌, ℕ, ◌+◌, ◌≤◌, Bool, true, false, List, [], ◌∷◌, ◌++◌, ◌∙◌, sym, subst, arith}
 use Rattle.std.specs.Prelude.{nat_lt, if◌then◌else◌}
 use Rattle.mesh_base.specs.IvState.{transmit_of}
 use Rattle.mesh_base.specs.declared.iv_state.IvState.{IvState}
-use Rattle.mesh_world.specs.World.{World, WorldStep, after}
+use Rattle.mesh_world.specs.World.{World, after}
 use Rattle.mesh_world.specs.World.WorldStep.{Advance, Publish, Reserve}
 use Rattle.node_records.specs.declared.persist.Persist.{Persist}
 use Rattle.node_records.specs.Meaning.{IsMeaningOf, IsSaid}

@@ -1,5 +1,5 @@
 -- Records as steps of the world.
-use Rattle.std.proofs.Common.{◌≡◌, ◌⊎◌, inl, inr, ⊎_elim, ℕ, ◌+◌, ◌*◌, ◌^◌, ◌<◌, ◌≤◌, Bool, true, false, refl, List, [], ◌∷◌, ◌++◌, Option, Some, None, ap, ◌∙◌, sym, subst, arith, IfSome, true≢false}
+use Rattle.std.proofs.Common.{◌≡◌, ◌⊎◌, inl, inr, ⊎_elim, ℕ, ◌+◌, ◌*◌, ◌^◌, ◌≤◌, Bool, true, false, refl, List, [], ◌∷◌, ◌++◌, Option, Some, None, ap, ◌∙◌, sym, subst, arith, IfSome, true≢false}
 use Rattle.std.specs.Prelude.{◌==◌, if◌then◌else◌, IsTrue, IsSomeAnd}
 use Rattle.std.proofs.lemmas.Bool.Decides.{nat_tests}
 use Rattle.mesh_base.specs.IvState.{transmit_of}
@@ -7,7 +7,7 @@ use Rattle.mesh_base.specs.declared.address.Address.{Address}
 use Rattle.mesh_base.specs.declared.pair.Name.{Name}
 use Rattle.mesh_base.specs.declared.pair.Pair.{Pair}
 use Rattle.mesh_base.specs.Pairs.{is_expired, is_newer, newer_of}
-use Rattle.mesh_world.specs.World.{after, provisioned, IsAboveEntry, IsAllowed, IsExpired, IsNewer, IsRead, World, WorldStep}
+use Rattle.mesh_world.specs.World.{after, provisioned, IsAboveEntry, IsAllowed, IsExpired, IsNewer, IsRead, World}
 use Rattle.mesh_world.specs.World.WorldStep.{Accept, Advance, Cut, Expire, Publish, Reserve}
 use Rattle.node_records.specs.declared.persist.Persist.{Persist}
 use Rattle.node_records.specs.Meaning.{IsMeaningOf}
@@ -17,7 +17,7 @@ use Rattle.node_records.proofs.Meanings.{config_push, kept_push}
 use Rattle.record_types.specs.declared.records.StoreRecord.{StoreRecord}
 use Rattle.record_types.specs.declared.records.StoreRecord.TheVariants as R
 use Rattle.store_definitions.specs.Config.{Config, changed, config_of}
-use Rattle.store_definitions.specs.Entries.{entry_of, greatest_with, kept_after, kept_of, unexpired}
+use Rattle.store_definitions.specs.Entries.{greatest_with, kept_after, kept_of, unexpired}
 use Rattle.store_definitions.specs.Provisioning as node
 use Rattle.store_world.specs.Standing.{entry_with, GoesBy, IsAboveKept, IsWorldOf}
 

@@ -1,6 +1,5 @@
-use Rattle.std.proofs.Common.{◌≡◌, List, [], ◌∷◌, ◌++◌, ap, ◌∙◌, sym, subst, true≢false}
+use Rattle.std.proofs.Common.{[], ◌∷◌, ◌++◌, ap, ◌∙◌, sym, subst, true≢false}
 use Rattle.flash_model.specs.Chip.{LeavesOnly}
-use Rattle.mesh_base.specs.declared.pair.Pair.{Pair}
 use Rattle.node_records.specs.declared.persist.Persist.{Persist}
 use Rattle.node_records.specs.Meaning.{IsMeaningOf, IsSaid}
 use Rattle.node_records.specs.Tables.{config_in, entry_in}
@@ -11,7 +10,7 @@ use Rattle.record_types.specs.declared.records.StoreRecord.{StoreRecord}
 use Rattle.store_definitions.specs.Config.{changed}
 use Rattle.store_world.specs.Standing.{IsAboveKept}
 use Rattle.store_world.proofs.Steps as step
-use Rattle.rpl_journal.specs.Accepting.{accepting, IsNoNewer}
+use Rattle.rpl_journal.specs.Accepting.{accepting}
 use Rattle.rpl_journal.proofs.Newer.{above_of}
 use Rattle.rpl_journal.proofs.accepting.accept.Goals as goal
 

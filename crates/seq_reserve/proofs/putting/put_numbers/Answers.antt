@@ -1,4 +1,3 @@
-use Rattle.std.proofs.Common.{◌≤◌, ℕ, List}
 use Rattle.seq_reserve.proofs.Keeping.{durable_by, durable_of}
 use Rattle.seq_reserve.proofs.Worlds.{put_step}
 use Rattle.seq_reserve.proofs.putting.put_numbers.Goals as goal

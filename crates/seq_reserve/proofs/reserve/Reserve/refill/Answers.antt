@@ -8,7 +8,7 @@ use Rattle.record_types.specs.declared.records.StoreRecord.{StoreRecord}
 use Rattle.seq_reserve.specs.Reserving.{IsDurable}
 use Rattle.seq_word.specs.Seen.{KeeperView}
 use Rattle.seq_word.specs.Word.{IsWord}
-use Rattle.store_definitions.specs.Config.{Config, changed}
+use Rattle.store_definitions.specs.Config.{changed}
 use Rattle.store_definitions.specs.Numbers.{fill_of}
 use Rattle.seq_reserve.proofs.Keeping.{durable_of, fill_said, mark_none, put_none}
 use Rattle.seq_reserve.proofs.Marks.{mark_filled, mark_word}
