@@ -131,7 +131,7 @@ module _ {F : Type 0} (old new : NodeView F) (d e : DrawerView) (events : List (
   done_at : (k : ℕ) (b : BearerOf F) → k < length w.bearers → slice_index_or dones k (done_of b) ≡ done_of (slice_index_or w.bearers k b)
   done_at k b lt = ap (λ xs. slice_index_or xs k (done_of b)) w.left ∙ index_map done_of w.bearers k b (done_of b) lt
 
-  part_at : (k : ℕ) (b : BearerOf F) → k < length w.bearers → PartOf k (list_at events k) (slice_index_or w.before k b) (slice_index_or w.bearers k b)
+  pub part_at : (k : ℕ) (b : BearerOf F) → k < length w.bearers → PartOf k (list_at events k) (slice_index_or w.before k b) (slice_index_or w.bearers k b)
   part_at k b lt =
       part_of_worked k (list_at events k) (slice_index_or w.before k b) (slice_index_or w.bearers k b)
       (λ h. memory k (done_of b) (omega (arith, lt, dones_long)) (ap (λ x. x.stop) (done_at k b lt) ∙ h)) (w.worked k b (omega (arith, lt, w.long)))
@@ -143,7 +143,7 @@ module _ {F : Type 0} (old new : NodeView F) (d e : DrawerView) (events : List (
       let within : j < length w.bearers = omega (arith, lt, lists_long) in
       ap (filter (is_by k)) (index_map own_of w.bearers j b [] within) ∙ (part_at j b within).did.other k (λ h. n (ap suc (sym h)))
 
-  entries_at : (k : ℕ) (b : BearerOf F) (lt : k < length w.bearers) → of_bearer k part.entries ≡ (part_at k b lt).did.entries
+  pub entries_at : (k : ℕ) (b : BearerOf F) (lt : k < length w.bearers) → of_bearer k part.entries ≡ (part_at k b lt).did.entries
   entries_at k b lt =
       let p = (part_at k b lt).did in
       entries_of_bearer k (added (node_marks old) (node_marks new)) p.entries
