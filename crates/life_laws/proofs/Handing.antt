@@ -1,30 +1,29 @@
 -- The event in hand of a node whose flash failed is the next of some bearer.
-use Rattle.std.proofs.Common.{◌≡◌, ◌≢◌, ◌∙◌, ℕ, zero, suc, ◌+◌, ◌<◌, ◌≤◌, ◌⊎◌, inl, inr, ⊎_elim, Bool, true, false, true≢false, List, [], ◌∷◌, ◌++◌, length, map, Option, Some, None, refl, sym, ap, subst, arith, append-nil, append_assoc, length-append}
+use Rattle.std.proofs.Common.{◌≡◌, ◌≢◌, ◌∙◌, ℕ, zero, suc, ◌+◌, ◌<◌, ◌≤◌, ◌⊎◌, inl, inr, ⊎_elim, Bool, true, false, true≢false, List, [], ◌∷◌, ◌++◌, length, map, Option, Some, None, refl, sym, ap, subst, arith, append-nil, length-append}
 use Rattle.std.specs.Prelude.{◌==◌, replicate, slice_index_or}
-use Rattle.std.specs.List.{Contains, enumerate_from, filter, flat_map, slice_get}
+use Rattle.std.specs.List.{Contains, enumerate_from, filter, slice_get}
 use Rattle.std.proofs.lemmas.Grind.{flat_map-append}
 use Rattle.std.proofs.lemmas.List.{length-map, map-append}
 use Rattle.std.proofs.lemmas.List.Elements.{Contains-append_right, filter-append}
 use Rattle.mesh_types.specs.declared.events.Event.{Event}
 use Rattle.mesh_types.specs.declared.history.Entry.{Entry}
-use Rattle.machine_contract.specs.declared.answers.Hand.TheVariants as H
 use Rattle.machine_contract.specs.declared.answers.Stop.{Stop}
 use Rattle.machine_contract.specs.declared.answers.Stop.TheVariants as S
 use Rattle.report_definitions.specs.Record.{list_at}
-use Rattle.run_definitions.specs.Order.{Does, Part, Placed, Task, handle, is_outside, of_bearer}
+use Rattle.run_definitions.specs.Order.{Does, Part, Placed, handle, is_outside, of_bearer}
 use Rattle.seq_word.specs.Seen.{DrawerView}
 use Rattle.turn_lock.specs.Entries.{added}
 use Rattle.turn_lock.proofs.Kept.{kept_at}
 use Rattle.locked_node.specs.declared.marks.Mark.{Mark}
 use Rattle.locked_node.specs.declared.marks.Mark.TheVariants as M
 use Rattle.locked_node.specs.Node.{NodeView, event_in, node_marks, stop_marks}
-use Rattle.node_bearer.specs.Did.{BearerOf, Broke, Did, IsNext, marks_at}
+use Rattle.node_bearer.specs.Did.{BearerOf, Broke, IsNext, marks_at}
 use Rattle.node_bearer.proofs.Lists.{get_longer}
 use Rattle.node_phase.specs.declared.bearers.Done.{Done}
 use Rattle.node_phase.specs.Part.{AreThrough, HadMemory, part_of, placed_of}
 use Rattle.node_phase.specs.Worked.{WasPhase, Worked, done_of, own_of}
 use Rattle.node_phase.proofs.Mine.{is_by, keep_mine, placed_marks, stop_dropped}
-use Rattle.node_phase.proofs.Parting.{entries_at, first_of, index_map, part_at, parts_of_phase}
+use Rattle.node_phase.proofs.Parting.{entries_at, index_map, part_at, parts_of_phase}
 use Rattle.life_laws.specs.Hands.{AreHandledAll, IsNextIn, events_of, outs}
 use Rattle.life_laws.specs.Phases.{entries_by}
 use Rattle.life_laws.proofs.Placing.{CameTo, came_to, of_bearer_from}

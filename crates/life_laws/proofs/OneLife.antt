@@ -1,12 +1,11 @@
 -- A life is one of its plan.
-use Rattle.std.proofs.Common.{◌≡◌, ◌∙◌, ◌≢◌, ◌⊎◌, ⊎_elim, ℕ, zero, suc, ◌<◌, ◌≤◌, true, false, true≢false, Bool, List, [], ◌∷◌, ◌++◌, length, map, take, refl, sym, ap, subst, arith}
+use Rattle.std.proofs.Common.{◌≡◌, ◌∙◌, ◌≢◌, ◌⊎◌, ⊎_elim, ℕ, zero, suc, ◌<◌, ◌≤◌, true, false, true≢false, Bool, List, [], ◌∷◌, length, map, take, refl, sym, ap, subst, arith}
 use Rattle.std.specs.Prelude.{◌^◌, All, AllPairs, IsTrue}
 use Rattle.std.specs.List.{filter, filter_map, flat_map, range_with_len, slice_get}
 use Rattle.std.proofs.lemmas.List.Elements.{All-nil}
 use Rattle.mesh_types.specs.declared.answers.Answer.{Answer}
 use Rattle.mesh_types.specs.declared.events.Event.{Event}
 use Rattle.mesh_types.specs.declared.events.Event.TheVariants as E
-use Rattle.mesh_types.specs.declared.report.End.TheVariants as F
 use Rattle.mesh_types.specs.declared.report.Opened.TheVariants as W
 use Rattle.record_types.specs.declared.records.StoreRecord.{StoreRecord}
 use Rattle.report_definitions.specs.Record.{Life, Shown, list_at, shown, shown_of}
@@ -20,7 +19,7 @@ use Rattle.run_definitions.specs.Handling.{AreHandled}
 use Rattle.run_definitions.specs.History.{Insight, Past, Told}
 use Rattle.run_definitions.specs.Layers.{Layers}
 use Rattle.run_definitions.specs.Order.{Step, is_cut, is_outside, phases_of}
-use Rattle.run_definitions.specs.RunOf.{IsDrawn, IsNumbered, IsSpentRight, Leaves, LifeOf, Opens, Outlasts, cut_at_start, draws, is_on, no_record, of_event, of_refill, opens, past_at_end, plan_events, was_reset}
+use Rattle.run_definitions.specs.RunOf.{IsDrawn, IsNumbered, IsSpentRight, Leaves, LifeOf, Opens, draws, is_on, no_record, of_event, of_refill, opens, past_at_end, plan_events}
 use Rattle.run_definitions.specs.Stores.{stores}
 use Rattle.store_definitions.specs.Config.{config_of}
 use Rattle.machine_contract.specs.declared.answers.Hand.{Hand}

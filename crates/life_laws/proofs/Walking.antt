@@ -1,7 +1,7 @@
 -- The events from outside in what a bearer did.
-use Rattle.std.proofs.Common.{◌≡◌, ◌∙◌, ℕ, zero, suc, ◌+◌, true, false, true≢false, List, [], ◌∷◌, ◌++◌, length, map, Option, Some, None, refl, sym, ap, subst, arith, append_assoc, append-nil, Bool}
-use Rattle.std.specs.Prelude.{IsTrue, ⊤}
-use Rattle.std.specs.List.{filter, slice_get}
+use Rattle.std.proofs.Common.{◌≡◌, ◌∙◌, ℕ, ◌+◌, true, false, true≢false, List, [], ◌∷◌, ◌++◌, length, map, Option, Some, None, refl, sym, ap, append-nil, Bool}
+use Rattle.std.specs.Prelude.{⊤}
+use Rattle.std.specs.List.{slice_get}
 use Rattle.mesh_base.specs.declared.address.Address.{Address}
 use Rattle.mesh_base.specs.declared.pair.Pair.{Pair}
 use Rattle.mesh_types.specs.declared.events.Event.{Event}
@@ -12,8 +12,8 @@ use Rattle.mesh_types.specs.declared.jobs.Job.TheVariants as J
 use Rattle.mesh_types.specs.declared.lines.Outcome.{Outcome}
 use Rattle.mesh_types.specs.declared.lines.Outcome.TheVariants as O
 use Rattle.run_definitions.specs.Lines.{after_line, kept_events}
-use Rattle.run_definitions.specs.Order.{Placed, Task, Walks, follow, follows, handle, handles, is_outside, job_tasks, stops, write, write_tasks, writes}
-use Rattle.node_bearer.specs.Did.{IsFor, IsNext}
+use Rattle.run_definitions.specs.Order.{Placed, Task, Walks, follow, follows, handle, handles, is_outside, stops, write, write_tasks, writes}
+use Rattle.node_bearer.specs.Did.{IsNext}
 use Rattle.node_phase.proofs.Mine.{kept_no, kept_yes}
 use Rattle.life_laws.specs.Hands.{outs}
 

@@ -1,5 +1,5 @@
 -- What a bearer handled, and what it has to handle next.
-use Rattle.std.specs.Prelude.{◌≡◌, ℕ, true, List, length, map, Some}
+use Rattle.std.specs.Prelude.{◌≡◌, ℕ, List, length, map, Some}
 use Rattle.std.specs.List.{filter, flat_map, slice_get}
 use Rattle.mesh_types.specs.declared.events.Event.{Event}
 use Rattle.mesh_types.specs.declared.history.Entry.{Entry}

@@ -1,6 +1,6 @@
 -- From what the bearers did to the part of a phase.
-use Rattle.std.proofs.Common.{◌≡◌, ◌≢◌, ◌∙◌, ℕ, zero, suc, ◌+◌, ◌<◌, ◌≤◌, Bool, true, false, List, [], ◌∷◌, ◌++◌, length, map, Option, Some, None, refl, sym, ap, subst, arith}
-use Rattle.std.specs.Prelude.{All, nat_lt, slice_index_or}
+use Rattle.std.proofs.Common.{◌≡◌, ◌≢◌, ◌∙◌, ℕ, zero, suc, ◌+◌, ◌<◌, ◌≤◌, Bool, true, false, List, [], ◌∷◌, length, map, Option, Some, None, refl, sym, ap, subst, arith}
+use Rattle.std.specs.Prelude.{nat_lt, slice_index_or}
 use Rattle.std.specs.Option.{option_map_or}
 use Rattle.std.proofs.lemmas.Bool.Decides.{nat_tests}
 use Rattle.std.proofs.lemmas.List.{length-map}
@@ -14,8 +14,7 @@ use Rattle.report_definitions.specs.Record.{list_at}
 use Rattle.run_definitions.specs.Order.{Part, Placed, Task, Walks, handle, of_bearer, stops}
 use Rattle.seq_word.specs.Seen.{DrawerView}
 use Rattle.locked_node.specs.declared.marks.Mark.{Mark}
-use Rattle.node_bearer.specs.Did.{BearerOf, Broke, Did, DidBy, marks_at}
-use Rattle.node_bearer.specs.Marked.{AreShown}
+use Rattle.node_bearer.specs.Did.{BearerOf, Broke, Did, marks_at}
 use Rattle.locked_node.specs.Node.{NodeView, node_marks}
 use Rattle.turn_lock.specs.Entries.{added}
 use Rattle.turn_lock.proofs.Kept.{kept_at}

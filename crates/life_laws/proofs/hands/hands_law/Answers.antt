@@ -1,4 +1,4 @@
-use Rattle.std.proofs.Common.{◌≡◌, ℕ, zero, suc, ◌<◌, refl, arith}
+use Rattle.std.proofs.Common.{refl}
 use Rattle.life_laws.proofs.Handing.{handled_more, next_by_stops}
 use Rattle.life_laws.proofs.hands.hands_law.Goals as goal
 
