@@ -1,13 +1,12 @@
 -- The pairs of a life.
-use Rattle.std.proofs.Common.{◌≡◌, ◌≢◌, ◌∙◌, ℕ, ◌<◌, ◌≤◌, List, sym, ap, subst, arith}
-use Rattle.std.specs.Prelude.{All, AllPairs, ⊤, slice_index_or}
-use Rattle.std.specs.List.{Contains, filter_map, flat_map}
+use Rattle.std.proofs.Common.{◌≢◌, ℕ, ◌<◌, ◌≤◌, List, arith}
+use Rattle.std.specs.Prelude.{All, slice_index_or}
+use Rattle.std.specs.List.{Contains}
 use Rattle.std.proofs.lemmas.List.Elements.{All-contains, Contains-get_or}
-use Rattle.mesh_base.specs.Pairs.{word}
 use Rattle.mesh_types.specs.declared.lines.Outcome.{Outcome}
 use Rattle.mesh_types.specs.declared.lines.Outcome.TheVariants as O
 use Rattle.record_types.specs.declared.records.StoreRecord.{StoreRecord}
-use Rattle.report_definitions.specs.Record.{Life, shown, shown_of}
+use Rattle.report_definitions.specs.Record.{Life, shown}
 use Rattle.run_definitions.specs.RunOf.{IsDrawn, IsSpentRight, draws}
 use Rattle.seq_word.specs.Rule.{times}
 use Rattle.seq_word.specs.Seen.{DrawerView}

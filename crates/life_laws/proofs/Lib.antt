@@ -3,3 +3,6 @@ pub mod Ordering
 pub mod Stopping
 pub mod Pairing
 pub mod Drawing
+pub mod Walking
+pub mod Handing
+pub mod OneLife

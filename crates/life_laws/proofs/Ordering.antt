@@ -1,7 +1,7 @@
 -- One phase more.
 use Rattle.std.proofs.Common.{◌≡◌, ◌∙◌, ℕ, ◌+◌, ◌≤◌, Bool, true, List, [], ◌∷◌, ◌++◌, length, map, refl, sym, ap, subst, arith, append-nil, append_assoc, length-append}
 use Rattle.std.specs.Prelude.{◌==◌}
-use Rattle.std.specs.List.{filter, flat_map, range_with_len}
+use Rattle.std.specs.List.{flat_map, range_with_len}
 use Rattle.std.proofs.lemmas.Grind.{flat_map-append}
 use Rattle.std.proofs.lemmas.List.{length-map, map-append}
 use Rattle.std.proofs.lemmas.List.Elements.{filter-append}
@@ -16,7 +16,7 @@ use Rattle.node_phase.specs.declared.bearers.Done.{Done}
 use Rattle.node_phase.specs.Part.{AreThrough, HadMemory, lines_of, number_at, part_of}
 use Rattle.node_phase.specs.Worked.{WasPhase}
 use Rattle.node_phase.proofs.Parting.{parts_of_phase}
-use Rattle.life_laws.specs.Phases.{AreDone, AreNumbered, AreOrdered, FallInto, PhasesDone, both_of, entries_by}
+use Rattle.life_laws.specs.Phases.{AreDone, AreNumbered, AreOrdered, FallInto, both_of, entries_by}
 use Rattle.life_laws.proofs.Placing.{CameTo, came_to, list_at_both, numbers_of, of_bearer_from, placed_append, range_append}
 
 pub none_done : (sends : List (List Sent)) (counts : List ℕ) → ((k : ℕ) → list_at sends k ≡ []) → ((k : ℕ) → number_at counts k ≡ 0) → AreDone [] [] sends counts

@@ -1,12 +1,12 @@
 -- The lines of one phase more, and their pairs.
-use Rattle.std.proofs.Common.{◌≡◌, ◌≢◌, ◌∙◌, ℕ, zero, suc, ◌+◌, ◌<◌, ◌≤◌, Bool, true, false, cond, List, [], ◌∷◌, ◌++◌, length, map, Option, Some, None, refl, sym, ap, subst, arith, append-nil, append_assoc, length-append}
-use Rattle.std.specs.Prelude.{◌^◌, ◌==◌, All, AllPairs, ⊤, option_and_then, replicate, slice_index_or}
+use Rattle.std.proofs.Common.{◌≡◌, ◌≢◌, ◌∙◌, ℕ, zero, suc, ◌+◌, ◌<◌, Bool, true, false, List, [], ◌∷◌, ◌++◌, length, map, Option, Some, None, refl, sym, ap, subst, arith, length-append}
+use Rattle.std.specs.Prelude.{◌^◌, ◌==◌, All, AllPairs, option_and_then, replicate, slice_index_or}
 use Rattle.std.specs.List.{Contains, filter, filter_map, flat_map, slice_get}
 use Rattle.std.proofs.lemmas.List.Sums.{length-filter}
 use Rattle.node_phase.proofs.Mine.{kept_no, kept_yes}
 use Rattle.std.specs.Option.{option_map}
 use Rattle.std.proofs.lemmas.List.{length-map, map-append}
-use Rattle.std.proofs.lemmas.List.Elements.{All-append, All-contains, All-nil, All-head, All-push, All-tail, Contains-append_left, Contains-append_right, Contains-get_or, filter-append, filter_map-append}
+use Rattle.std.proofs.lemmas.List.Elements.{All-append, All-contains, All-nil, All-head, All-tail, Contains-append_left, Contains-append_right, Contains-get_or, filter-append, filter_map-append}
 use Rattle.std.proofs.lemmas.List.Kept.{AllPairs-cons}
 use Rattle.std.proofs.lemmas.Bool.Decides.{nat_tests}
 use Rattle.mesh_base.specs.Pairs.{word}
@@ -25,7 +25,6 @@ use Rattle.run_definitions.specs.RunOf.{draws}
 use Rattle.seq_word.specs.Rule.{times}
 use Rattle.seq_word.specs.Seen.{DrawerView}
 use Rattle.seq_word.specs.declared.looks.Look.{Look}
-use Rattle.turn_lock.specs.Entries.{IsPrefix}
 use Rattle.locked_node.specs.declared.marks.Mark.{Mark}
 use Rattle.locked_node.specs.declared.marks.Mark.TheVariants as M
 use Rattle.locked_node.specs.Node.{NodeView, event_in, node_marks, stop_marks}
@@ -36,7 +35,7 @@ use Rattle.node_bearer.proofs.Lists.{get_longer}
 use Rattle.node_phase.specs.declared.bearers.Done.{Done}
 use Rattle.node_phase.specs.Part.{HadMemory, lines_of}
 use Rattle.node_phase.specs.Worked.{WasPhase, Worked, done_of, drawn_by, looks_by}
-use Rattle.node_phase.proofs.Parting.{first_of, index_map}
+use Rattle.node_phase.proofs.Parting.{index_map}
 use Rattle.life_laws.specs.Pairs.{AreShownBy, PairsSo, ShowsIn, all_of}
 use Rattle.life_laws.specs.Phases.{both_of}
 use Rattle.life_laws.proofs.Placing.{CameTo, came_to}

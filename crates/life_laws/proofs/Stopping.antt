@@ -1,6 +1,6 @@
 -- Stop marks of bearers, and those of the node.
-use Rattle.std.proofs.Common.{◌≡◌, ◌≢◌, ◌∙◌, ℕ, zero, suc, ◌+◌, ◌<◌, ◌≤◌, ◌⊎◌, inl, inr, ⊎_elim, Bool, true, false, true≢false, List, [], ◌∷◌, ◌++◌, length, map, Option, Some, None, refl, sym, ap, subst, arith, append-nil}
-use Rattle.std.specs.Prelude.{All, slice_index_or}
+use Rattle.std.proofs.Common.{◌≡◌, ◌≢◌, ◌∙◌, ℕ, zero, suc, ◌+◌, ◌<◌, ◌⊎◌, inl, inr, ⊎_elim, Bool, true, false, true≢false, List, [], ◌∷◌, ◌++◌, length, map, Option, Some, refl, sym, ap, subst, arith, append-nil}
+use Rattle.std.specs.Prelude.{slice_index_or}
 use Rattle.std.specs.List.{Contains, enumerate_from, filter}
 use Rattle.std.proofs.lemmas.List.{length-map}
 use Rattle.std.proofs.lemmas.List.Elements.{Contains-append_right}
@@ -11,7 +11,7 @@ use Rattle.machine_contract.specs.declared.answers.Stop.TheVariants as S
 use Rattle.report_definitions.specs.Record.{list_at}
 use Rattle.run_definitions.specs.Order.{Placed, handle}
 use Rattle.seq_word.specs.Seen.{DrawerView}
-use Rattle.turn_lock.specs.Entries.{Holds, added}
+use Rattle.turn_lock.specs.Entries.{added}
 use Rattle.turn_lock.proofs.Kept.{kept_at}
 use Rattle.locked_node.specs.declared.marks.Mark.{Mark}
 use Rattle.locked_node.specs.declared.marks.Mark.TheVariants as M
@@ -20,7 +20,6 @@ use Rattle.node_bearer.specs.Did.{BearerOf, Broke, marks_at}
 use Rattle.node_phase.specs.declared.bearers.Done.{Done}
 use Rattle.node_phase.specs.Part.{AreThrough}
 use Rattle.node_phase.specs.Worked.{WasPhase, done_of, own_of}
-use Rattle.node_phase.proofs.Mine.{kept_yes}
 use Rattle.node_phase.proofs.Parting.{first_of, index_map}
 use Rattle.life_laws.specs.Stopped.{HasStopped}
 use Rattle.life_laws.proofs.Placing.{CameTo, came_to}

@@ -1,3 +1,4 @@
 pub mod Phases
 pub mod Stopped
 pub mod Pairs
+pub mod Hands

@@ -1,5 +1,5 @@
 -- Phases that are through, and one more.
-use Rattle.std.specs.Prelude.{◌≡◌, ℕ, ◌+◌, ◌==◌, Bool, List, [], ◌∷◌, ◌++◌, map, length}
+use Rattle.std.specs.Prelude.{◌≡◌, ℕ, ◌==◌, Bool, List, [], ◌∷◌, ◌++◌, map, length}
 use Rattle.std.specs.List.{filter, flat_map, range_with_len}
 use Rattle.mesh_types.specs.declared.events.Event.{Event}
 use Rattle.mesh_types.specs.declared.history.Entry.{Entry}
@@ -7,7 +7,6 @@ use Rattle.mesh_types.specs.declared.history.Sent.{Sent}
 use Rattle.report_definitions.specs.Record.{list_at}
 use Rattle.run_definitions.specs.Order.{Part, PartsOf, placed_from}
 use Rattle.node_phase.specs.Part.{number_at}
-use Rattle.node_phase.specs.declared.bearers.Done.{Done}
 
 -- Whatever phases follow, with their parts: these phases with these parts come before them.
 pub record PhasesDone (phases : List (List (List Event))) (parts : List Part) : Type 0 where

@@ -1,7 +1,6 @@
 -- What a node shows of bearers that stopped.
-use Rattle.std.specs.Prelude.{◌≡◌, ◌⊎◌, ℕ, ◌<◌, List, Some}
+use Rattle.std.specs.Prelude.{◌≡◌, ◌⊎◌, List, Some}
 use Rattle.std.specs.List.{Contains}
-use Rattle.machine_contract.specs.declared.answers.Stop.{Stop}
 use Rattle.machine_contract.specs.declared.answers.Stop.TheVariants as S
 use Rattle.node_phase.specs.declared.bearers.Done.{Done}
 

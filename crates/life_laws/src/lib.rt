@@ -3,9 +3,13 @@
 //!
 //! - `order`: the entries and the lines of several phases fall into parts, and each bearer's entries are numbered
 //! - `pairs`: the pairs that the lines draw
+//! - `hands`: what bearers handled of their events, and the event in hand of a node whose flash failed
+//! - `living`: a life as one of its plan
 //! - `stops`: what a bearer that stopped says of the node
 #![tactic(auto)]
 
+pub mod hands;
+pub mod living;
 pub mod order;
 pub mod pairs;
 pub mod stops;

@@ -1,5 +1,5 @@
 -- The value behind the lock as contracts see it, and its entries.
-use Rattle.std.specs.Prelude.{◌≡◌, ℕ, ◌<◌, ◌^◌, zero, suc, List, [], ◌∷◌, ◌++◌, map, replicate, Option, Some, None, ⊤}
+use Rattle.std.specs.Prelude.{◌≡◌, ℕ, zero, suc, List, [], ◌∷◌, ◌++◌, map, replicate, Option, Some, None, ⊤}
 use Rattle.std.specs.Option.{option_map}
 use Rattle.flash_model.specs.Chip.{Arm, Chip}
 use Rattle.mesh_types.specs.declared.events.Event.{Event}

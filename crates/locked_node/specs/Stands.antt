@@ -1,5 +1,5 @@
 -- What holds of the value behind the lock whenever the lock is free.
-use Rattle.std.specs.Prelude.{◌≡◌, ℕ, ◌<◌, ◌≤◌, ◌^◌, Bool, true, false, List}
+use Rattle.std.specs.Prelude.{◌≡◌, ℕ, ◌<◌, ◌≤◌, ◌^◌, true, false, List}
 use Rattle.flash_model.specs.Chip.{Chip}
 use Rattle.machine_contract.specs.Standing.{IsLifeSoFar}
 use Rattle.machine_contract.specs.View.{MachineView}

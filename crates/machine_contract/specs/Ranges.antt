@@ -1,8 +1,5 @@
 -- The ranges of the fields of events and jobs. The Rust types say the others.
-use Rattle.std.specs.Prelude.{◌≡◌, ℕ, ◌^◌, ◌<◌, ◌≤◌, IsFalse, List, length, ⊤}
-use Rattle.mesh_base.specs.declared.address.Address.{Address}
-use Rattle.mesh_base.specs.declared.fields.NetFields.{NetFields}
-use Rattle.mesh_base.specs.declared.fields.NetMaterial.{NetMaterial}
+use Rattle.std.specs.Prelude.{◌≡◌, ℕ, ◌^◌, ◌<◌, ◌≤◌, IsFalse, length, ⊤}
 use Rattle.mesh_base.specs.declared.keys.UpperKey.{UpperKey}
 use Rattle.mesh_base.specs.declared.keys.UpperKey.TheVariants as U
 use Rattle.layer_definitions.specs.Network.{HasPdu}

@@ -1,11 +1,10 @@
 -- What a machine opens with.
-use Rattle.std.specs.Prelude.{◌≡◌, ℕ, false, List, []}
+use Rattle.std.specs.Prelude.{◌≡◌, false, List, []}
 use Rattle.flash_model.specs.Chip.{Chip}
 use Rattle.record_types.specs.declared.records.StoreRecord.{StoreRecord}
 use Rattle.seq_word.specs.Seen.{fresh}
 use Rattle.store_definitions.specs.Config.{config_of}
 use Rattle.store_definitions.specs.Recovered.{IsRecovered}
-use Rattle.machine_contract.specs.declared.answers.Hand.TheVariants as H
 use Rattle.machine_contract.specs.declared.opening.Started.{Started}
 use Rattle.machine_contract.specs.View.{MachineView}
 

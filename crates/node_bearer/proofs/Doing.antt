@@ -1,7 +1,7 @@
 -- What a bearer did, with one step more.
-use Rattle.std.proofs.Common.{◌≡◌, ◌∙◌, ℕ, zero, suc, ◌+◌, ◌*◌, ◌^◌, ◌<◌, false, true≢false, List, [], ◌∷◌, ◌++◌, length, map, Option, Some, None, refl, sym, ap, arith, subst, length-append, append-nil, append_assoc}
-use Rattle.std.specs.Prelude.{All, AllPairs, slice_get, ⊤}
-use Rattle.std.specs.List.{Contains, filter_map, range_with_len}
+use Rattle.std.proofs.Common.{◌≡◌, ◌∙◌, ℕ, suc, ◌+◌, ◌^◌, ◌<◌, false, true≢false, List, [], ◌∷◌, ◌++◌, length, map, Option, Some, None, refl, sym, ap, arith, subst, length-append, append-nil, append_assoc}
+use Rattle.std.specs.Prelude.{All, AllPairs, slice_get}
+use Rattle.std.specs.List.{range_with_len}
 use Rattle.std.specs.Option.{option_to_list}
 use Rattle.std.proofs.lemmas.List.{map-append}
 use Rattle.std.proofs.lemmas.List.Elements.{All-append, All-cons, All-nil, All-push, Contains-append_left, filter_map-append}
@@ -24,9 +24,9 @@ use Rattle.seq_word.specs.declared.looks.Look.{Look}
 use Rattle.turn_lock.specs.Entries.{IsPrefix, added}
 use Rattle.locked_node.specs.declared.marks.Mark.{Mark}
 use Rattle.locked_node.specs.declared.marks.Mark.TheVariants as M
-use Rattle.node_bearer.specs.Did.{Did, DrewPair, IsFor, marks_at}
-use Rattle.node_bearer.specs.Marked.{AreShown, HasEntry, HasJob, IsSpentSeen, shown_in}
-use Rattle.node_bearer.proofs.Lists.{added_none, added_one, found_longer, get_last, pairs_more, range_more}
+use Rattle.node_bearer.specs.Did.{Did, DrewPair, IsFor}
+use Rattle.node_bearer.specs.Marked.{AreShown, HasJob, IsSpentSeen, shown_in}
+use Rattle.node_bearer.proofs.Lists.{added_one, found_longer, pairs_more, range_more}
 use Rattle.node_bearer.proofs.Walking.{acts, walk_more}
 
 -- more is seen of the marks

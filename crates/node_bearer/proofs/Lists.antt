@@ -1,13 +1,13 @@
 -- Lists with one item more, and what stands at a place of a longer list.
-use Rattle.std.proofs.Common.{◌≡◌, ◌∙◌, ℕ, zero, suc, ◌+◌, ◌<◌, List, [], ◌∷◌, ◌++◌, length, drop, map, Option, Some, None, refl, sym, ap, arith, subst, length-append, append-nil}
-use Rattle.std.specs.Prelude.{slice_get, AllPairs, All, option_and_then, slice_index_or}
+use Rattle.std.proofs.Common.{◌≡◌, ◌∙◌, ℕ, zero, suc, ◌+◌, ◌<◌, List, [], ◌∷◌, ◌++◌, length, drop, map, Option, Some, None, refl, sym, ap, arith, append-nil}
+use Rattle.std.specs.Prelude.{slice_get, AllPairs, All, option_and_then}
 use Rattle.std.specs.List.{enumerate_from, range_with_len}
 use Rattle.std.proofs.Math.Seq.{drop-append_seam}
 use Rattle.std.proofs.lemmas.List.Elements.{All-head, All-push, All-tail}
 use Rattle.std.proofs.lemmas.List.Kept.{AllPairs-cons}
 use Rattle.mesh_types.specs.declared.history.Sent.{Sent}
 use Rattle.report_definitions.specs.Record.{Shown}
-use Rattle.turn_lock.specs.Entries.{IsPrefix, added}
+use Rattle.turn_lock.specs.Entries.{added}
 use Rattle.locked_node.specs.declared.marks.Mark.{Mark}
 use Rattle.node_bearer.specs.Marked.{shown_at, shown_in}
 

@@ -5,7 +5,6 @@ use Rattle.mesh_base.specs.Pairs.{word}
 use Rattle.mesh_base.specs.declared.pair.Pair.{Pair}
 use Rattle.mesh_types.specs.declared.events.Event.{Event}
 use Rattle.mesh_types.specs.declared.history.Sent.{Sent}
-use Rattle.machine_contract.specs.declared.answers.Stop.{Stop}
 use Rattle.machine_contract.specs.Ranges.{IsEvent}
 use Rattle.run_definitions.specs.Order.{Placed, Task, Walks, handle, follow, is_outside}
 use Rattle.seq_word.specs.Seen.{DrawerView, NumbersView}

@@ -1,16 +1,15 @@
 -- A bearer's own entries among those of all.
-use Rattle.std.proofs.Common.{◌≡◌, ◌≢◌, ◌∙◌, ℕ, zero, suc, ◌+◌, ◌<◌, Bool, true, false, List, [], ◌∷◌, ◌++◌, length, map, Option, Some, None, refl, sym, ap, subst, arith, append-nil}
+use Rattle.std.proofs.Common.{◌≡◌, ◌≢◌, ◌∙◌, ℕ, Bool, true, false, List, [], ◌∷◌, ◌++◌, Option, refl, sym, ap, arith, append-nil}
 use Rattle.std.specs.Prelude.{All, ◌==◌}
-use Rattle.std.specs.List.{filter, filter_map}
+use Rattle.std.specs.List.{filter}
 use Rattle.std.proofs.lemmas.List.Elements.{All-head, All-tail, filter-append}
 use Rattle.std.proofs.lemmas.Bool.Decides.{nat_tests}
 use Rattle.mesh_types.specs.declared.events.Event.{Event}
-use Rattle.mesh_types.specs.declared.history.Entry.{Entry}
 use Rattle.run_definitions.specs.Order.{Placed, of_bearer}
 use Rattle.locked_node.specs.declared.marks.Mark.{Mark}
 use Rattle.locked_node.specs.declared.marks.Mark.TheVariants as M
 use Rattle.node_bearer.specs.Did.{marks_at}
-use Rattle.node_phase.specs.Part.{is_of, placed_at, placed_of}
+use Rattle.node_phase.specs.Part.{is_of, placed_of}
 
 is_yes : (a b : ℕ) → a ≡ b → (a == b) ≡ true
 is_yes a b e = grind (arith, nat_tests)

@@ -1,6 +1,6 @@
 -- From what the bearers did to the part of a phase.
-use Rattle.std.proofs.Common.{◌≡◌, ◌≢◌, ◌∙◌, ℕ, zero, suc, ◌+◌, ◌<◌, ◌≤◌, Bool, true, false, List, [], ◌∷◌, ◌++◌, length, map, Option, Some, None, refl, sym, ap, subst, arith}
-use Rattle.std.specs.Prelude.{All, nat_lt, slice_index_or}
+use Rattle.std.proofs.Common.{◌≡◌, ◌≢◌, ◌∙◌, ℕ, zero, suc, ◌+◌, ◌<◌, ◌≤◌, Bool, true, false, List, [], ◌∷◌, length, map, Option, Some, None, refl, sym, ap, subst, arith}
+use Rattle.std.specs.Prelude.{nat_lt, slice_index_or}
 use Rattle.std.specs.Option.{option_map_or}
 use Rattle.std.proofs.lemmas.Bool.Decides.{nat_tests}
 use Rattle.std.proofs.lemmas.List.{length-map}
@@ -14,8 +14,7 @@ use Rattle.report_definitions.specs.Record.{list_at}
 use Rattle.run_definitions.specs.Order.{Part, Placed, Task, Walks, handle, of_bearer, stops}
 use Rattle.seq_word.specs.Seen.{DrawerView}
 use Rattle.locked_node.specs.declared.marks.Mark.{Mark}
-use Rattle.node_bearer.specs.Did.{BearerOf, Broke, Did, DidBy, marks_at}
-use Rattle.node_bearer.specs.Marked.{AreShown}
+use Rattle.node_bearer.specs.Did.{BearerOf, Broke, Did, marks_at}
 use Rattle.locked_node.specs.Node.{NodeView, node_marks}
 use Rattle.turn_lock.specs.Entries.{added}
 use Rattle.turn_lock.proofs.Kept.{kept_at}
@@ -131,7 +130,7 @@ module _ {F : Type 0} (old new : NodeView F) (d e : DrawerView) (events : List (
   done_at : (k : ℕ) (b : BearerOf F) → k < length w.bearers → slice_index_or dones k (done_of b) ≡ done_of (slice_index_or w.bearers k b)
   done_at k b lt = ap (λ xs. slice_index_or xs k (done_of b)) w.left ∙ index_map done_of w.bearers k b (done_of b) lt
 
-  part_at : (k : ℕ) (b : BearerOf F) → k < length w.bearers → PartOf k (list_at events k) (slice_index_or w.before k b) (slice_index_or w.bearers k b)
+  pub part_at : (k : ℕ) (b : BearerOf F) → k < length w.bearers → PartOf k (list_at events k) (slice_index_or w.before k b) (slice_index_or w.bearers k b)
   part_at k b lt =
       part_of_worked k (list_at events k) (slice_index_or w.before k b) (slice_index_or w.bearers k b)
       (λ h. memory k (done_of b) (omega (arith, lt, dones_long)) (ap (λ x. x.stop) (done_at k b lt) ∙ h)) (w.worked k b (omega (arith, lt, w.long)))
@@ -143,7 +142,7 @@ module _ {F : Type 0} (old new : NodeView F) (d e : DrawerView) (events : List (
       let within : j < length w.bearers = omega (arith, lt, lists_long) in
       ap (filter (is_by k)) (index_map own_of w.bearers j b [] within) ∙ (part_at j b within).did.other k (λ h. n (ap suc (sym h)))
 
-  entries_at : (k : ℕ) (b : BearerOf F) (lt : k < length w.bearers) → of_bearer k part.entries ≡ (part_at k b lt).did.entries
+  pub entries_at : (k : ℕ) (b : BearerOf F) (lt : k < length w.bearers) → of_bearer k part.entries ≡ (part_at k b lt).did.entries
   entries_at k b lt =
       let p = (part_at k b lt).did in
       entries_of_bearer k (added (node_marks old) (node_marks new)) p.entries

@@ -1,5 +1,5 @@
 -- What bearers did in a phase.
-use Rattle.std.specs.Prelude.{◌≡◌, ℕ, ◌<◌, List, [], ◌∷◌, ◌++◌, map, length, All, Bool, Option, Some, None, slice_index_or}
+use Rattle.std.specs.Prelude.{◌≡◌, ℕ, ◌<◌, List, [], ◌∷◌, ◌++◌, map, length, All, Bool, Some, None, slice_index_or}
 use Rattle.std.specs.List.{filter, flat_map}
 use Rattle.mesh_types.specs.declared.events.Event.{Event}
 use Rattle.machine_contract.specs.declared.answers.Stop.{Stop}

@@ -1,7 +1,7 @@
 use Rattle.std.proofs.Common.{refl, ap, sym, ◌∙◌}
 use Rattle.mesh_types.specs.declared.jobs.Job.TheVariants as J
 use Rattle.mesh_types.specs.declared.lines.Outcome.TheVariants as O
-use Rattle.run_definitions.specs.Lines.{Shows, is_drawing, shows_bcn, shows_first, shows_relay, shows_rep}
+use Rattle.run_definitions.specs.Lines.{is_drawing, shows_bcn, shows_first, shows_relay, shows_rep}
 use Rattle.job_sealing.proofs.Showing.{is_true, shown}
 use Rattle.job_sealing.proofs.lines.plain_line.Goals as goal
 

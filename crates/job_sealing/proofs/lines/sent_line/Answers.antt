@@ -1,5 +1,4 @@
 use Rattle.std.proofs.Common.{ap, ◌∙◌, length, arith}
-use Rattle.std.specs.Prelude.{None}
 use Rattle.job_sealing.specs.Sealed.{begins, long_outcome, short_outcome}
 use Rattle.job_sealing.proofs.Showing.{sent_long, sent_short}
 use Rattle.job_sealing.proofs.lines.sent_line.Goals as goal

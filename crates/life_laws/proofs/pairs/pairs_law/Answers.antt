@@ -1,4 +1,4 @@
-use Rattle.std.proofs.Common.{ℕ, List, ap, sym, ◌∙◌}
+use Rattle.std.proofs.Common.{ap, sym, ◌∙◌}
 use Rattle.std.specs.Prelude.{replicate, []}
 use Rattle.seq_word.specs.Rule.{times}
 use Rattle.life_laws.proofs.Pairing.{empty_all, no_pairs, pairs_more}

@@ -1,4 +1,4 @@
-use Rattle.std.proofs.Common.{◌+◌, ◌∙◌, ◌∷◌, ◌++◌, ap, drop, map, refl, subst, sym}
+use Rattle.std.proofs.Common.{◌+◌, ◌∙◌, ◌∷◌, ◌++◌, ap, drop, subst, sym}
 use Rattle.std.proofs.lemmas.List.{at_drop_more}
 use Rattle.run_definitions.specs.Order.{write, write_tasks}
 use Rattle.node_bearer.specs.Did.{DidBy}

@@ -1,4 +1,4 @@
-use Rattle.std.proofs.Common.{◌+◌, ◌∙◌, ◌∷◌, ◌++◌, ap, drop, map, refl, subst, sym}
+use Rattle.std.proofs.Common.{◌++◌, map, subst}
 use Rattle.std.specs.Prelude.{IfSome}
 use Rattle.std.specs.Option.{option_to_list}
 use Rattle.machine_contract.specs.Ranges.{IsEvent}

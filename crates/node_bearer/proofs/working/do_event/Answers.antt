@@ -1,4 +1,4 @@
-use Rattle.std.proofs.Common.{◌+◌, ◌∙◌, ◌∷◌, ◌++◌, ap, drop, map, refl, subst, sym}
+use Rattle.std.proofs.Common.{◌++◌, refl, subst, sym}
 use Rattle.run_definitions.specs.Order.{handle, write_tasks}
 use Rattle.node_bearer.specs.Did.{DidBy}
 use Rattle.node_bearer.proofs.working.do_event.Goals as goal

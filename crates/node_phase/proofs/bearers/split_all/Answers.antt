@@ -1,7 +1,7 @@
-use Rattle.std.proofs.Common.{◌≡◌, ◌∙◌, ◌+◌, ◌-◌, ◌++◌, ◌∷◌, [], length, map, ap, refl, sym, subst, arith}
+use Rattle.std.proofs.Common.{◌≡◌, ◌∙◌, ◌-◌, ◌++◌, ap, refl, sym, subst, arith}
 use Rattle.std.specs.Prelude.{All}
 use Rattle.std.proofs.lemmas.List.Elements.{All-push}
-use Rattle.node_bearer.specs.Did.{BearerOf, IsRider}
+use Rattle.node_bearer.specs.Did.{IsRider}
 use Rattle.node_phase.specs.Worked.{IsFresh}
 use Rattle.node_phase.proofs.Fresh.{drawer_with, long_more, numbers_more, pass_with}
 use Rattle.node_phase.proofs.bearers.split_all.Goals as goal

@@ -2,7 +2,6 @@ use Rattle.std.proofs.Common.{◌+◌, refl, subst}
 use Rattle.machine_contract.specs.declared.answers.Hand.TheVariants as H
 use Rattle.machine_contract.specs.Refused.{IsRefused}
 use Rattle.turn_lock.specs.Entries.{IsPrefix}
-use Rattle.locked_node.specs.declared.marks.Mark.{Mark}
 use Rattle.locked_node.specs.Node.{NodeView, node_marks}
 use Rattle.locked_node.proofs.Counts.{front_more}
 use Rattle.locked_node.proofs.node.Node.handle.Goals as goal

@@ -1,0 +1,199 @@
+-- The event in hand of a node whose flash failed is the next of some bearer.
+use Rattle.std.proofs.Common.{◌≡◌, ◌≢◌, ◌∙◌, ℕ, zero, suc, ◌+◌, ◌<◌, ◌≤◌, ◌⊎◌, inl, inr, ⊎_elim, Bool, true, false, true≢false, List, [], ◌∷◌, ◌++◌, length, map, Option, Some, None, refl, sym, ap, subst, arith, append-nil, length-append}
+use Rattle.std.specs.Prelude.{◌==◌, replicate, slice_index_or}
+use Rattle.std.specs.List.{Contains, enumerate_from, filter, slice_get}
+use Rattle.std.proofs.lemmas.Grind.{flat_map-append}
+use Rattle.std.proofs.lemmas.List.{length-map, map-append}
+use Rattle.std.proofs.lemmas.List.Elements.{Contains-append_right, filter-append}
+use Rattle.mesh_types.specs.declared.events.Event.{Event}
+use Rattle.mesh_types.specs.declared.history.Entry.{Entry}
+use Rattle.machine_contract.specs.declared.answers.Stop.{Stop}
+use Rattle.machine_contract.specs.declared.answers.Stop.TheVariants as S
+use Rattle.report_definitions.specs.Record.{list_at}
+use Rattle.run_definitions.specs.Order.{Does, Part, Placed, handle, is_outside, of_bearer}
+use Rattle.seq_word.specs.Seen.{DrawerView}
+use Rattle.turn_lock.specs.Entries.{added}
+use Rattle.turn_lock.proofs.Kept.{kept_at}
+use Rattle.locked_node.specs.declared.marks.Mark.{Mark}
+use Rattle.locked_node.specs.declared.marks.Mark.TheVariants as M
+use Rattle.locked_node.specs.Node.{NodeView, event_in, node_marks, stop_marks}
+use Rattle.node_bearer.specs.Did.{BearerOf, Broke, IsNext, marks_at}
+use Rattle.node_bearer.proofs.Lists.{get_longer}
+use Rattle.node_phase.specs.declared.bearers.Done.{Done}
+use Rattle.node_phase.specs.Part.{AreThrough, HadMemory, part_of, placed_of}
+use Rattle.node_phase.specs.Worked.{WasPhase, Worked, done_of, own_of}
+use Rattle.node_phase.proofs.Mine.{is_by, keep_mine, placed_marks, stop_dropped}
+use Rattle.node_phase.proofs.Parting.{entries_at, index_map, part_at, parts_of_phase}
+use Rattle.life_laws.specs.Hands.{AreHandledAll, IsNextIn, events_of, outs}
+use Rattle.life_laws.specs.Phases.{entries_by}
+use Rattle.life_laws.proofs.Placing.{CameTo, came_to, of_bearer_from}
+use Rattle.life_laws.proofs.Walking.{next_out, outs_all}
+
+outs_append : (xs ys : List Entry) → outs (xs ++ ys) ≡ outs xs ++ outs ys
+outs_append xs ys = ap (filter is_outside) (map-append (λ (e : Entry). e.event) xs ys) ∙ filter-append is_outside (map (λ (e : Entry). e.event) xs) (map (λ (e : Entry). e.event) ys)
+
+get_shift : {A : Type 0} (xs ys : List A) (m : ℕ) → slice_get (xs ++ ys) (length xs + m) ≡ slice_get ys m
+get_shift [] ys m = ap (slice_get ys) (omega arith)
+get_shift (x ∷ xs) ys m = let one : suc (length xs) + m ≡ suc (length xs + m) = omega arith in ap (slice_get (x ∷ (xs ++ ys))) one ∙ get_shift xs ys m
+
+abbrev has_event : ℕ × Mark → Bool
+has_event (at, M.Handled e) = false
+has_event (at, M.Stopped None) = false
+has_event (at, M.Stopped (Some event)) = true
+
+no_event : (ps : List Placed) → filter has_event (marks_at ps) ≡ []
+no_event [] = refl
+no_event (p ∷ ps) = no_event ps
+
+some_event : (n : ℕ) (es : List Entry) (k : ℕ) (event : Event) → filter has_event (enumerate_from n (map M.Handled es ++ stop_marks (suc k) (Some event))) ≡ [] → ⊥
+some_event n [] k event h = cc
+some_event n (e ∷ es) k event h = some_event (n + 1) es k event h
+
+none_later : (n k at : ℕ) (event : Event) → Contains (enumerate_from n (replicate k (M.Stopped None))) (at, M.Stopped (Some event)) → ⊥
+none_later n zero at event (j, lt, e) = absurd (omega (arith, lt))
+none_later n (suc k) at event (zero, lt, e) = true≢false (sym (ap has_event e))
+none_later n (suc k) at event (suc j, lt, e) = none_later (n + 1) k at event (j, omega (arith, lt), e)
+
+abbrev event_of : Mark → Option Event
+event_of (M.Handled e) = None
+event_of (M.Stopped hand) = hand
+
+one_event : (n : ℕ) (es : List Entry) (k : ℕ) (event other : Event) (at : ℕ) → Contains (enumerate_from n (map M.Handled es ++ stop_marks k (Some event))) (at, M.Stopped (Some other)) → other ≡ event
+one_event n [] zero event other at (j, lt, e) = absurd (omega (arith, lt))
+one_event n [] (suc k) event other at (zero, lt, e) = let same : Some event ≡ Some other = ap (λ x. event_of x.1) e in cc
+one_event n [] (suc k) event other at (suc j, lt, e) = absurd (none_later (n + 1) k at other (j, omega (arith, lt), e))
+one_event n (x ∷ es) k event other at (zero, lt, e) = absurd (true≢false (sym (ap has_event e)))
+one_event n (x ∷ es) k event other at (suc j, lt, e) = one_event (n + 1) es k event other at (j, omega (arith, lt), e)
+
+less_or : (j n : ℕ) → (j < n) ⊎ (n ≤ j)
+less_or j zero = inr (omega arith)
+less_or zero (suc n) = inl (omega arith)
+less_or (suc j) (suc n) = ⊎_elim (λ lt. inl (omega (arith, lt))) (λ le. inr (omega (arith, le))) (less_or j n)
+
+empty_or : {A : Type 0} (xs : List A) → (xs ≡ []) ⊎ (xs ≢ [])
+empty_or [] = inl refl
+empty_or (x ∷ xs) = inr (λ h. cc)
+
+module _ {F : Type 0} (phases : List (List (List Event))) (old new : NodeView F) (d e : DrawerView) (events : List (List Event)) (counts : List ℕ) (dones : List Done)
+    (h : AreHandledAll phases old.machine.entries) (w : WasPhase old new d e events counts dones) (memory : HadMemory dones) (few : length events ≤ length counts) (none : old.stops ≡ 0) where
+  abbrev came : CameTo old new
+  came = came_to old new none w.front
+
+  abbrev part : Part
+  part = part_of old new dones
+
+  by_bearer : (k : ℕ) → entries_by k new.machine.entries ≡ entries_by k old.machine.entries ++ entries_by k came.more
+  by_bearer k = ap (entries_by k) came.is ∙ filter-append (λ (x : Entry). x.bearer == k) old.machine.entries came.more
+
+  more_by : (k : ℕ) → map (λ (q : Placed). q.entry) (of_bearer k part.entries) ≡ entries_by k came.more
+  more_by k = ap (λ l. map (λ (q : Placed). q.entry) (of_bearer k l)) came.placed ∙ of_bearer_from k (length old.machine.entries) came.more
+
+  outs_by : (k : ℕ) → outs (entries_by k new.machine.entries) ≡ events_of phases k ++ outs (map (λ (q : Placed). q.entry) (of_bearer k part.entries))
+  outs_by k =
+      ap outs (by_bearer k) ∙ outs_append (entries_by k old.machine.entries) (entries_by k came.more) ∙ ap (λ l. l ++ outs (entries_by k came.more)) (h k)
+      ∙ ap (λ l. events_of phases k ++ outs l) (sym (more_by k))
+
+  events_more : (k : ℕ) (rest : List (List (List Event))) → events_of (phases ++ events ∷ rest) k ≡ events_of phases k ++ (list_at events k ++ events_of rest k)
+  events_more k rest = flat_map-append (λ (evs : List (List Event)). list_at evs k) phases (events ∷ rest)
+
+  pub handled_more : AreThrough dones → AreHandledAll (phases ++ events ∷ []) new.machine.entries
+  handled_more through k =
+      let p = (parts_of_phase old new d e events counts dones w memory few k).0 in
+      let does : Does events part k [] = subst (Does events part k) (p.all through) p.does in
+      outs_by k ∙ ap (λ l. events_of phases k ++ l) (outs_all (list_at events k) (of_bearer k part.entries) (list_at part.sends k) does ∙ sym (append-nil (list_at events k))) ∙ sym (events_more k [])
+
+  abbrev lists : List (List (ℕ × Mark))
+  lists = [] ∷ map own_of w.bearers
+
+  lists_long : length lists ≡ suc (length w.bearers)
+  lists_long = ap suc (length-map w.bearers own_of)
+
+  -- the first of the bearers whose own entries have a mark with an event
+  find : (b : BearerOf F) (n : ℕ) → n ≤ length w.bearers → ((j : ℕ) → j < n → filter has_event (slice_index_or w.bearers j b).pass.own ≡ [])
+      ⊎ ((j : ℕ) × (j < length w.bearers) × (filter has_event (slice_index_or w.bearers j b).pass.own ≢ []))
+  find b zero le = inl (λ j lt. absurd (omega (arith, lt)))
+  find b (suc n) le =
+      ⊎_elim (λ all. ⊎_elim (λ empty. inl (λ j lt. by_place j (less_or j n) all empty lt)) (λ some. inr (n, omega (arith, le), some)) (empty_or (filter has_event (slice_index_or w.bearers n b).pass.own))) (λ found. inr found)
+      (find b n (omega (arith, le))) where
+        by_place : (j : ℕ) → (j < n) ⊎ (n ≤ j) → ((j : ℕ) → j < n → filter has_event (slice_index_or w.bearers j b).pass.own ≡ []) → filter has_event (slice_index_or w.bearers n b).pass.own ≡ [] → j < suc n
+            → filter has_event (slice_index_or w.bearers j b).pass.own ≡ []
+        by_place j (inl lt) all last bound = all j lt
+        by_place j (inr le) all last bound = let same : n ≡ j = omega (arith, le, bound) in subst (λ i. filter has_event (slice_index_or w.bearers i b).pass.own ≡ []) same last
+
+  -- a bearer that was broken off at this event
+  next_of : (event : Event) (m : ℕ) → new.stops ≡ suc m → event_in new.machine.hand ≡ Some event → is_outside event ≡ true → (rest : List (List (List Event)))
+      → (j : ℕ) (b : BearerOf F) (lt : j < length w.bearers) → Broke j (slice_index_or w.before j b).number (map handle (list_at events j)) (slice_index_or w.bearers j b)
+      → filter has_event (slice_index_or w.bearers j b).pass.own ≢ [] → IsNextIn (phases ++ events ∷ rest) new.machine.entries event
+  next_of event m stops hand out rest j b lt broke some = by_hand broke.hand refl where
+    by_hand : (o : Option Event) → broke.hand ≡ o → IsNextIn (phases ++ events ∷ rest) new.machine.entries event
+    by_hand None is =
+        absurd (some (ap (filter has_event) (broke.own ∙ ap (λ o. broke.before ++ (broke.at, M.Stopped o) ∷ []) is) ∙ filter-append has_event broke.before ((broke.at, M.Stopped None) ∷ [])
+        ∙ append-nil (filter has_event broke.before) ∙ ap (filter has_event) broke.did.own_are ∙ no_event broke.did.entries))
+    by_hand (Some ev) is =
+        let own = broke.own ∙ ap (λ o. broke.before ++ (broke.at, M.Stopped o) ∷ []) is in
+        let held = (w.holds j b lt).has (broke.at, M.Stopped (Some ev))
+        (subst (λ l. Contains l (broke.at, M.Stopped (Some ev))) (sym own) (Contains-append_right broke.before ((broke.at, M.Stopped (Some ev)) ∷ []) (broke.at, M.Stopped (Some ev)) (0, omega arith, refl))) in
+        let marks = came.marks ∙ ap (λ o. enumerate_from (length old.machine.entries) (map M.Handled came.more ++ stop_marks new.stops o)) hand in
+        let same : ev ≡ event = one_event (length old.machine.entries) came.more new.stops event ev broke.at (subst (λ l. Contains l (broke.at, M.Stopped (Some ev))) marks held) in
+        let next = subst (λ x. IsNext x broke.left) same (broke.next ev is) in
+        let here = next_out (list_at events j) broke.did.entries (slice_index_or w.bearers j b).lines.items event broke.left broke.did.walks next out in
+        let kept : filter (is_by j) (slice_index_or w.bearers j b).pass.own ≡ marks_at broke.did.entries =
+        ap (filter (is_by j)) broke.own ∙ stop_dropped j broke.at broke.hand broke.before ∙ ap (filter (is_by j)) broke.did.own_are ∙ keep_mine j broke.did.entries broke.did.bearer in
+        let p = (part_at old new d e events counts dones w memory few j b lt).did in
+        let entries : of_bearer j part.entries ≡ broke.did.entries =
+        entries_at old new d e events counts dones w memory few j b lt ∙ sym (placed_marks p.entries) ∙ ap placed_of (sym p.kept ∙ kept) ∙ placed_marks broke.did.entries in
+        let through : length (outs (entries_by j new.machine.entries)) ≡ length (events_of phases j) + length (outs (map (λ (q : Placed). q.entry) broke.did.entries)) =
+        ap length (outs_by j) ∙ length-append (events_of phases j) (outs (map (λ (q : Placed). q.entry) (of_bearer j part.entries)))
+        ∙ ap (λ l. length (events_of phases j) + length (outs (map (λ (q : Placed). q.entry) l))) entries in
+        record {
+          bearer = j;
+          next = ap (λ l. slice_get l (length (outs (entries_by j new.machine.entries)))) (events_more j rest) ∙ ap (slice_get (events_of phases j ++ (list_at events j ++ events_of rest j))) through
+              ∙ get_shift (events_of phases j) (list_at events j ++ events_of rest j) (length (outs (map (λ (q : Placed). q.entry) broke.did.entries)))
+              ∙ get_longer (list_at events j) (events_of rest j) (length (outs (map (λ (q : Placed). q.entry) broke.did.entries))) event here;
+        }
+
+  by_stop : (event : Event) (m : ℕ) → new.stops ≡ suc m → event_in new.machine.hand ≡ Some event → is_outside event ≡ true → (rest : List (List (List Event)))
+      → (j : ℕ) (b : BearerOf F) (lt : j < length w.bearers) → (s : Option Stop) → (slice_index_or w.bearers j b).stop ≡ s
+      → Worked j (list_at events j) (slice_index_or w.before j b) (slice_index_or w.bearers j b) → filter has_event (slice_index_or w.bearers j b).pass.own ≢ []
+      → IsNextIn (phases ++ events ∷ rest) new.machine.entries event
+  by_stop event m stops hand out rest j b lt None is worked some =
+      let did = worked.did is in
+      absurd (some (ap (filter has_event) did.own_are ∙ no_event did.entries))
+  by_stop event m stops hand out rest j b lt (Some S.Closed) is worked some = next_of event m stops hand out rest j b lt (worked.broke S.Closed is) some
+  by_stop event m stops hand out rest j b lt (Some S.Memory) is worked some =
+      absurd (memory j (done_of b) (omega (arith, lt, ap length w.left, length-map w.bearers done_of)) (ap (λ xs. (slice_index_or xs j (done_of b)).stop) w.left ∙ ap (λ x. x.stop) (index_map done_of w.bearers j b (done_of b) lt) ∙ is))
+  by_stop event m stops hand out rest j b lt (Some S.Flash) is worked some = next_of event m stops hand out rest j b lt (worked.broke S.Flash is) some
+
+  -- if no bearer had a mark with an event, the node had none
+  nobody : (event : Event) (m : ℕ) → new.stops ≡ suc m → event_in new.machine.hand ≡ Some event → ((j : ℕ) → j < length lists → j ≢ 0 → filter has_event (slice_index_or lists j []) ≡ []) → ⊥
+  nobody event m stops hand all =
+      let kept : filter has_event (added (node_marks old) (node_marks new)) ≡ [] = w.kept has_event [] (kept_at has_event 0 lists [] [] (omega (arith, lists_long)) refl all) in
+      let marks = came.marks ∙ ap (λ o. enumerate_from (length old.machine.entries) (map M.Handled came.more ++ stop_marks new.stops o)) hand
+      ∙ ap (λ n. enumerate_from (length old.machine.entries) (map M.Handled came.more ++ stop_marks n (Some event))) stops in
+      some_event (length old.machine.entries) came.more m event (ap (filter has_event) (sym marks) ∙ kept)
+
+  all_lists : (b : BearerOf F) → ((j : ℕ) → j < length w.bearers → filter has_event (slice_index_or w.bearers j b).pass.own ≡ []) → (j : ℕ) → j < length lists → j ≢ 0 → filter has_event (slice_index_or lists j []) ≡ []
+  all_lists b all zero lt n = absurd (n refl)
+  all_lists b all (suc j) lt n =
+      let within : j < length w.bearers = omega (arith, lt, lists_long) in
+      ap (filter has_event) (index_map own_of w.bearers j b [] within) ∙ all j within
+
+  by_list : (bs : List (BearerOf F)) → w.bearers ≡ bs → (event : Event) (m : ℕ) → new.stops ≡ suc m → event_in new.machine.hand ≡ Some event → is_outside event ≡ true → (rest : List (List (List Event)))
+      → IsNextIn (phases ++ events ∷ rest) new.machine.entries event
+  by_list [] is event m stops hand out rest = absurd (nobody event m stops hand (λ j lt n. absurd (omega (arith, lt, lists_long, ap length is, pos j n)))) where
+    pos : (j : ℕ) → j ≢ 0 → 0 < j
+    pos zero n = absurd (n refl)
+    pos (suc j) n = omega arith
+  by_list (b ∷ bs) is event m stops hand out rest =
+      ⊎_elim (λ all. absurd (nobody event m stops hand (all_lists b all)))
+      (λ found. by_stop event m stops hand out rest found.0 b found.1 (slice_index_or w.bearers found.0 b).stop refl (w.worked found.0 b (omega (arith, found.1, w.long))) found.2)
+      (find b (length w.bearers) (omega arith))
+
+  pub next_in : (event : Event) (m : ℕ) → new.stops ≡ suc m → event_in new.machine.hand ≡ Some event → is_outside event ≡ true → (rest : List (List (List Event)))
+      → IsNextIn (phases ++ events ∷ rest) new.machine.entries event
+  next_in event m stops hand out rest = by_list w.bearers refl event m stops hand out rest
+
+  pub next_by_stops : (event : Event) (n : ℕ) → new.stops ≡ n → 0 < new.stops → event_in new.machine.hand ≡ Some event → is_outside event ≡ true → (rest : List (List (List Event)))
+      → IsNextIn (phases ++ events ∷ rest) new.machine.entries event
+  next_by_stops event zero is some hand out rest = absurd (omega (arith, is, some))
+  next_by_stops event (suc m) is some hand out rest = next_in event m is hand out rest
