@@ -38,7 +38,6 @@ record LeastReuse (own : ℕ → Bool) (nets : List ScriptNet) (lines : List Rep
 
 module _ (own : ℕ → Bool) (nets : List ScriptNet) (lines : List ReportLine) (own_is : (a : ℕ) → own a ≡ list_any (is_own_source a) lines)
     (j : ℕ) (l : ReportLine) (at_j : slice_get lines j ≡ Some l) (clean : Clean own (map material_of nets) lines j) where
-
   no_clash : (f : ReportLine → Option (Key × List ℕ)) → IsClean same_key same_key-Decides f octets_differ octets_steady lines j
       → clash_at f (length nets) lines j l ≡ None → (i : ℕ) → i < j → Clash f lines i j → ⊥
   no_clash f c none i lt h =

@@ -41,7 +41,7 @@ map_step f n ls j l g h number lt at count old new q =
     let place : n + length (take j ls) + 1 ≡ number = let long = length_front ls j lt in omega (arith, long, count) in
     new q ∙ ap (λ (o : Option (ℕ × List ℕ)). or_else o (pick same_key (f l) q number None)) (old q)
     ∙ sym (ap (λ (xs : List ReportLine). first same_key f n q xs) front ∙ first_push same_key same_key-Decides f n q (take j ls) l
-      ∙ ap (λ (k : ℕ). or_else (first same_key f n q (take j ls)) (pick same_key (f l) q k None)) place)
+    ∙ ap (λ (k : ℕ). or_else (first same_key f n q (take j ls)) (pick same_key (f l) q k None)) place)
 
 -- what clashes, by functions that agree
 clash_by : (d : List ℕ → List ℕ → Bool) (g h : Key → Option (ℕ × List ℕ)) (fact : Option (Key × List ℕ)) → ((q : Key) → g q ≡ h q) → clash_of d g fact ≡ clash_of d h fact
@@ -60,7 +60,6 @@ module _ (own : ℕ → Bool) (nets : List ScriptNet) (lines : List ReportLine) 
     (pdus_are : (q : Key) → pdus q ≡ first same_key (pdu_fact own) (length nets) q (take j lines))
     (messages_are : (q : Key) → messages q ≡ first same_key message_fact (length nets) q (take j lines))
     (names_are : (q : Key) → names q ≡ first same_key accepted_fact (length nets) q (take j lines)) where
-
   reuse_is : least (differing (known_of pdus (pdu_fact own l))) (differing (known_of messages (message_fact l)))
       ≡ least (clash_at (pdu_fact own) (length nets) lines j l) (clash_at message_fact (length nets) lines j l)
   reuse_is =

@@ -7,29 +7,66 @@ use std::process::Abort;
 use std::test::Fail;
 
 const KEY: &[u8] = b"key 7dd7364cd842ad18c17c2b820c84c3d6\n";
+
 const OTHER_KEY: &[u8] = b"key f7a2a44f8e8a8029064f173ddc1e2b00\n";
+
 const FRIEND_KEY: &[u8] = b"key 7dd7364cd842ad18c17c2b820c84c3d6/0201/1201/0000/0000\n";
 
-const CTL: &[u8] = b"s b0 2.1 ctl 12345678 000001 00 1201 fffd 034b50057e400000010000 68eca487516765b5e5bfdacbaf6cb7fb6bff871f035444ce83a670df\n";
-const OTHER_MIC: &[u8] = b"s b0 2.1 ctl 12345678 000001 00 1201 fffd 034b50057e400000010000 68eca487516765b5e5bfdacbaf6cb7fb6bff871f035444ce83a670e0\n";
-const OTHER_TPDU: &[u8] = b"s b0 2.1 ctl 12345678 000001 00 1201 fffd 034b50057e400000010001 68eca487516765b5e5bfdacbaf6cb7fb6bff871f035444ce83a670df\n";
-const OTHER_TTL: &[u8] = b"s b0 2.1 ctl 12345678 000001 01 1201 fffd 034b50057e400000010000 68eca487516765b5e5bfdacbaf6cb7fb6bff871f035444ce83a670df\n";
-const OTHER_IV: &[u8] = b"s b0 2.1 ctl 12345679 000001 00 1201 fffd 034b50057e400000010000 e82a8c95f0f8bc0f39f01de6585dd9d5188eb8896a1f933fe2a5bb71\n";
-const OTHER_KEYS_CTL: &[u8] = b"s b0 2.1 ctl 12345678 000001 00 1201 fffd 034b50057e400000010000 7f42cf513aea44c1b2673f702718f57911bbbb83b17cd16e024a52c8\n";
-const FRIEND_CTL: &[u8] = b"s b0 1.1 ctl 12345678 000001 00 1201 0201 02001234567800 6cb1e147a360bee17535e43d31d3368f6ba832e423386cfe\n";
-const MSG: &[u8] = b"s b0 2.2 msg 12345678 000001 07 1201 0003 dev 800300563412 68ee347ef23b31d9d617707711c71730e177a52c166c61b0\n";
-const SEG: &[u8] = b"s b0 4.1 seg 12345678 000002 07 1201 0003 0 1 000001 68ed3e14c3f5a76ef1c78fc55466b85ed67f61b2a0bf500f1707827e51\n";
-const RELAY: &[u8] = b"s b0 1.1 relay 12345678 000010 1 01 0005 0009 7f 68b2afd5caeec24e7c5f9e81eab563ed2383\n";
-const RELAY_AGAIN: &[u8] = b"s b1 1.1 relay 12345678 000010 1 02 0005 0009 7f 688d7cdc9489d50a535be5c9a02e0c5a672c\n";
-const CTL_OF_5: &[u8] = b"s b0 1.1 ctl 12345678 000011 02 0005 0009 7f 684f4f443cf1ce58df864687294b014b6b97\n";
+const CTL: &[u8] =
+    b"s b0 2.1 ctl 12345678 000001 00 1201 fffd 034b50057e400000010000 68eca487516765b5e5bfdacbaf6cb7fb6bff871f035444ce83a670df\n";
+
+const OTHER_MIC: &[u8] =
+    b"s b0 2.1 ctl 12345678 000001 00 1201 fffd 034b50057e400000010000 68eca487516765b5e5bfdacbaf6cb7fb6bff871f035444ce83a670e0\n";
+
+const OTHER_TPDU: &[u8] =
+    b"s b0 2.1 ctl 12345678 000001 00 1201 fffd 034b50057e400000010001 68eca487516765b5e5bfdacbaf6cb7fb6bff871f035444ce83a670df\n";
+
+const OTHER_TTL: &[u8] =
+    b"s b0 2.1 ctl 12345678 000001 01 1201 fffd 034b50057e400000010000 68eca487516765b5e5bfdacbaf6cb7fb6bff871f035444ce83a670df\n";
+
+const OTHER_IV: &[u8] =
+    b"s b0 2.1 ctl 12345679 000001 00 1201 fffd 034b50057e400000010000 e82a8c95f0f8bc0f39f01de6585dd9d5188eb8896a1f933fe2a5bb71\n";
+
+const OTHER_KEYS_CTL: &[u8] =
+    b"s b0 2.1 ctl 12345678 000001 00 1201 fffd 034b50057e400000010000 7f42cf513aea44c1b2673f702718f57911bbbb83b17cd16e024a52c8\n";
+
+const FRIEND_CTL: &[u8] =
+    b"s b0 1.1 ctl 12345678 000001 00 1201 0201 02001234567800 6cb1e147a360bee17535e43d31d3368f6ba832e423386cfe\n";
+
+const MSG: &[u8] =
+    b"s b0 2.2 msg 12345678 000001 07 1201 0003 dev 800300563412 68ee347ef23b31d9d617707711c71730e177a52c166c61b0\n";
+
+const SEG: &[u8] =
+    b"s b0 4.1 seg 12345678 000002 07 1201 0003 0 1 000001 68ed3e14c3f5a76ef1c78fc55466b85ed67f61b2a0bf500f1707827e51\n";
+
+const RELAY: &[u8] =
+    b"s b0 1.1 relay 12345678 000010 1 01 0005 0009 7f 68b2afd5caeec24e7c5f9e81eab563ed2383\n";
+
+const RELAY_AGAIN: &[u8] =
+    b"s b1 1.1 relay 12345678 000010 1 02 0005 0009 7f 688d7cdc9489d50a535be5c9a02e0c5a672c\n";
+
+const CTL_OF_5: &[u8] =
+    b"s b0 1.1 ctl 12345678 000011 02 0005 0009 7f 684f4f443cf1ce58df864687294b014b6b97\n";
+
 const LONG: &[u8] = b"s b0 1.1 long 12345678 000001 07 1201 0003 dev 7f7f7f7f7f7f7f7f7f7f7f7f\n";
-const OTHER_LONG: &[u8] = b"s b0 1.1 long 12345678 000001 07 1201 0003 dev 7f7f7f7f7f7f7f7f7f7f7f7e\n";
-const LONG_BY_APP: &[u8] = b"s b0 1.1 long 12345678 000001 07 1201 0003 app:000 7f7f7f7f7f7f7f7f7f7f7f7e\n";
-const LONG_TO_4: &[u8] = b"s b0 1.1 long 12345678 000001 07 1201 0004 dev 7f7f7f7f7f7f7f7f7f7f7f7e\n";
+
+const OTHER_LONG: &[u8] =
+    b"s b0 1.1 long 12345678 000001 07 1201 0003 dev 7f7f7f7f7f7f7f7f7f7f7f7e\n";
+
+const LONG_BY_APP: &[u8] =
+    b"s b0 1.1 long 12345678 000001 07 1201 0003 app:000 7f7f7f7f7f7f7f7f7f7f7f7e\n";
+
+const LONG_TO_4: &[u8] =
+    b"s b0 1.1 long 12345678 000001 07 1201 0004 dev 7f7f7f7f7f7f7f7f7f7f7f7e\n";
+
 const ACCEPTED: &[u8] = b"e 1 b0 1 net control 0101 1201 12345678 000001 7f -\n";
+
 const ACCEPTED_OF_102: &[u8] = b"e 1 b0 1 net control 0102 1201 12345678 000001 7f -\n";
+
 const ACCEPTED_LATER: &[u8] = b"e 1 b0 1 net control 0101 1201 12345679 000001 7f -\n";
+
 const DELIVERED: &[u8] = b"e 2 b0 2 net delivered 0101 1201 12345678 000001 dev 8008ff\n";
+
 const END: &[u8] = b"end\n";
 
 /// The pieces of a text, one behind the other.
@@ -76,7 +113,11 @@ fn sound_logs(rt: HostRuntime) -> Result<(), Fail> {
 fn reused_nonces(rt: HostRuntime) -> Result<(), Fail> {
     let reuse = |a: u32, b: u32| Ok(Verdict::Reuse { a, b });
     says(&rt, &[KEY, CTL, OTHER_MIC], reuse(2, 3))?;
-    says(&rt, &[KEY, CTL, END, CTL, OTHER_MIC, OTHER_MIC], reuse(2, 5))?;
+    says(
+        &rt,
+        &[KEY, CTL, END, CTL, OTHER_MIC, OTHER_MIC],
+        reuse(2, 5),
+    )?;
     says(&rt, &[KEY, CTL, MSG], reuse(2, 3))?;
     says(&rt, &[LONG, OTHER_LONG], reuse(1, 2))?;
     says(&rt, &[KEY, LONG, CTL, MSG], reuse(2, 4))?;
@@ -126,7 +167,13 @@ fn other_texts(rt: HostRuntime) -> Result<(), Fail> {
 fn tells_the_line(rt: HostRuntime) -> Result<(), Fail> {
     let text = joined(rt.alloc(), &[KEY, CTL, OTHER_MIC])?;
     assert!(rt; text.len() <= 4_194_304);
-    assert_eq!(rt; audit_report(rt.alloc(), text.as_slice())?.as_slice(), b"reuse 2 3\n".as_slice());
-    assert_eq!(rt; audit_report(rt.alloc(), b"")?.as_slice(), b"sound 0\n".as_slice());
+    assert_eq!(rt;
+        audit_report(rt.alloc(), text.as_slice())?.as_slice(),
+        b"reuse 2 3\n".as_slice()
+    );
+    assert_eq!(rt;
+        audit_report(rt.alloc(), b"")?.as_slice(),
+        b"sound 0\n".as_slice()
+    );
     Ok(())
 }
