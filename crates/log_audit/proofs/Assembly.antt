@@ -24,7 +24,7 @@ use Rattle.log_audit.proofs.Meanings.{octets_differ, octets_steady, reuse_of_pdu
 
 -- What is known, as what clashes.
 
-differs_as : (g : Key → Option (ℕ × List ℕ)) (fact : Option (Key × List ℕ)) → differing (known_of g fact) ≡ clash_of octets_differ g fact
+pub differs_as : (g : Key → Option (ℕ × List ℕ)) (fact : Option (Key × List ℕ)) → differing (known_of g fact) ≡ clash_of octets_differ g fact
 differs_as g None = refl
 differs_as g (Some x) = by (g x.0) x.1
   where
@@ -36,17 +36,17 @@ differs_as g (Some x) = by (g x.0) x.1
           | false ↦ refl
         ]
 
-abbrev always : List ℕ → List ℕ → Bool
+abbrev pub always : List ℕ → List ℕ → Bool
 always v w = true
 
-always_steady : (u v w : List ℕ) → always u v ≡ false → always u w ≡ false → always v w ≡ false
+pub always_steady : (u v w : List ℕ) → always u v ≡ false → always u w ≡ false → always v w ≡ false
 always_steady u v w e f = e
 
-abbrev line_of_known : Option (ℕ × Bool) → Option ℕ
+abbrev pub line_of_known : Option (ℕ × Bool) → Option ℕ
 line_of_known None = None
 line_of_known (Some u) = Some u.0
 
-known_as : (g : Key → Option (ℕ × List ℕ)) (fact : Option (Key × List ℕ)) → line_of_known (known_of g fact) ≡ clash_of always g fact
+pub known_as : (g : Key → Option (ℕ × List ℕ)) (fact : Option (Key × List ℕ)) → line_of_known (known_of g fact) ≡ clash_of always g fact
 known_as g None = refl
 known_as g (Some x) = by (g x.0) x.1
   where
@@ -101,8 +101,8 @@ so_under nets o octets h = record {
   sealed = record { fields = h.fields; told = h.told; has_pdu = h.has_pdu; in_widths = h.in_widths; text = h.text };
 }
 
-bad_under : (nets : List ScriptNet) (l : ReportLine) → IsBadLine nets l → IsBadUnder (map material_of nets) l
+pub bad_under : (nets : List ScriptNet) (l : ReportLine) → IsBadLine nets l → IsBadUnder (map material_of nets) l
 bad_under nets l h = record { outcome = h.outcome; shown = h.shown; result = h.result; sealed = h.sealed; other = λ k. h.other (under_so nets h.outcome h.shown.octets k) }
 
-under_bad : (nets : List ScriptNet) (l : ReportLine) → IsBadUnder (map material_of nets) l → IsBadLine nets l
+pub under_bad : (nets : List ScriptNet) (l : ReportLine) → IsBadUnder (map material_of nets) l → IsBadLine nets l
 under_bad nets l h = record { outcome = h.outcome; shown = h.shown; result = h.result; sealed = h.sealed; other = λ k. h.other (so_under nets h.outcome h.shown.octets k) }

@@ -23,7 +23,6 @@ take_get (x ∷ ls) (suc j) (suc i) l lt e = take_get ls j i l (omega arith) e
 
 module _ {K V : Type 0} (same : K → K → Bool) (dec : (x y : K) → Decides (same x y) (x ≡ y)) (f : ReportLine → Option (K × V)) (differs : V → V → Bool)
     (steady : (u v w : V) → differs u v ≡ false → differs u w ≡ false → differs v w ≡ false) where
-
   -- the line at a place has this fact
   pub record Has (ls : List ReportLine) (i : ℕ) (q : K) (v : V) : Type 0 where
     pub line : ReportLine

@@ -44,7 +44,7 @@ pub record Clean (own : ℕ → Bool) (ms : List NetMaterial) (lines : List Repo
   pub good : (m : ℕ) (x : ReportLine) → m < j → slice_get lines m ≡ Some x → IsBadUnder ms x → ⊥
 
 module _ (own : ℕ → Bool) (nets : List ScriptNet) (lines : List ReportLine) (own_is : (a : ℕ) → own a ≡ list_any (is_own_source a) lines) where
-  reuse_clash : (i m : ℕ) (x y : ReportLine) → slice_get lines i ≡ Some x → slice_get lines m ≡ Some y → Reuses (IsOwn lines) x y
+  pub reuse_clash : (i m : ℕ) (x y : ReportLine) → slice_get lines i ≡ Some x → slice_get lines m ≡ Some y → Reuses (IsOwn lines) x y
       → Clash (pdu_fact own) lines i m ⊎ Clash message_fact lines i m
   reuse_clash i m x y e g (inl h) =
       let d = pdus_of own (IsOwn lines) (λ a k. own_is a.0 ∙ own_listed lines a k) x y h in
@@ -67,7 +67,7 @@ module _ (own : ℕ → Bool) (nets : List ScriptNet) (lines : List ReportLine) 
         differ = d.differ;
       }
 
-  again_of : (i m : ℕ) (x y : ReportLine) → slice_get lines i ≡ Some x → slice_get lines m ≡ Some y → Accepts x y → Again lines i m
+  pub again_of : (i m : ℕ) (x y : ReportLine) → slice_get lines i ≡ Some x → slice_get lines m ≡ Some y → Accepts x y → Again lines i m
   again_of i m x y e g h =
       let d = names_of x y h in
       record {

@@ -8,3 +8,6 @@ pub mod Clashes
 pub mod Meanings
 pub mod Assembly
 pub mod Deciding
+pub mod Finding
+pub mod Loop
+pub mod Materials

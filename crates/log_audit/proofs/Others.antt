@@ -61,7 +61,7 @@ others zero at (x ∷ lines) (n ∷ ns) ls t h k e other end (m ∷ ms) ks g = g
 others (suc room) at (x ∷ lines) (n ∷ ns) ls t h k e other end (m ∷ ms) ks g =
     let place : length (n ∷ ns) + at ≡ suc (length ns + at) = omega arith in
     others room at lines ns ls t h.1 k e other
-    (λ z. elim (end z) [ | inl full ↦ inl (omega arith) | inr none ↦ inr none ])
+    (λ z. elim (end z) [ inl full ↦ inl (omega arith) | inr none ↦ inr none ])
     ms ks (subst (λ (i : ℕ). AreLines room (take i lines) ms ks) place g.1)
 
 -- a place has a line behind it

@@ -1,5 +1,5 @@
 -- The parts of an input.
-use Rattle.std.specs.Prelude.{◌≡◌, ℕ, ◌+◌,  ◌≤◌, ◌⊎◌, List, [], ◌∷◌, length, take, drop, Some, ⊤}
+use Rattle.std.specs.Prelude.{◌≡◌, ℕ, ◌+◌, ◌≤◌, ◌⊎◌, List, [], ◌∷◌, length, take, drop, Some, ⊤}
 use Rattle.std.specs.List.{slice_get}
 use Rattle.mesh_types.specs.declared.report.ReportLine.{ReportLine}
 use Rattle.report_reader.specs.ReportLine.{IsNoReportLine}

@@ -154,7 +154,11 @@ pub fn accepted_fact(line: &ReportLine) -> Option<Fact>
 }
 
 /// Notes the fact of the line with this number, unless its key is known. The answer is what was known of it.
-pub fn seen(uses: &mut Uses, fact: Option<Fact>, number: u32) -> Result<Option<(u32, bool)>, AllocError>
+pub fn seen(
+    uses: &mut Uses,
+    fact: Option<Fact>,
+    number: u32,
+) -> Result<Option<(u32, bool)>, AllocError>
     ensures answer { IfOk result (λ r. r ≡ known_of (λ q. get key_cmp uses.old q) fact) }
     ensures noted { OnOk result ((q : KeyOf) → get key_cmp uses.new q ≡ or_else (get key_cmp uses.old q) (pick same_key fact q number None)) }
 {

@@ -78,6 +78,7 @@ pub fn read_keys(alloc: Global, bytes: &[u8]) -> Result<(Vec<ScriptNet>, &[u8]),
 pub fn read_lines(alloc: Global, bytes: &[u8], before: u32) -> Result<Vec<ReportLine>, AuditStop>
     requires { before + length bytes.now < 2 ^ 32 }
     ensures ok { IfOk result (λ lines. AreReportLines (lines_of bytes.now) lines.items) }
+    ensures count { IfOk result (λ lines. length lines.items ≤ length bytes.now) }
     ensures cause { IfErr result (IsReportStop bytes.now before) }
 {
     let mut lines = Vec::new(alloc);
@@ -136,6 +137,7 @@ fn keys_of(alloc: Global, bytes: &[u8]) -> Result<(Vec<ScriptNet>, &[u8]), Audit
 pub fn read_input(alloc: Global, bytes: &[u8]) -> Result<Input, AuditStop>
     requires { length bytes.now ≤ 4194304 }
     ensures ok { IfOk result (λ i. IsInput bytes.now i.keys.items i.lines.items) }
+    ensures count { IfOk result (λ i. (length i.keys.items ≤ 16) × (length i.lines.items ≤ length bytes.now)) }
     ensures cause { IfErr result (IsStop bytes.now) }
 {
     let (keys, rest) = keys_of(alloc, bytes)?;

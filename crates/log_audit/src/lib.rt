@@ -1,13 +1,21 @@
 //! The audit of a log: keys and lines of a report to the first thing that is wrong with them. What an input and a verdict are is
 //! defined in `audit_definitions`.
 //!
+//! - `auditing`: `audit`, and `audit_report` with the line of its verdict
 //! - `input`: a text to its keys and report lines
+//! - `verdicts`: the first thing that is wrong
+//! - `facts`, `seen`: what a line is compared by, and what the lines before it used and accepted
 //! - `seals`: whether the octets of a line are those of the PDU that it tells
-//! - `seen`: what the lines before a line used and accepted
 #![tactic(auto)]
 
-pub mod facts;
+pub mod auditing;
+mod facts;
 pub mod input;
-pub mod seals;
-pub mod seen;
-pub mod verdicts;
+mod seals;
+mod seen;
+#[cfg(test)]
+mod tests;
+mod verdicts;
+
+pub use crate::auditing::{audit, audit_report};
+pub use crate::input::AuditStop;

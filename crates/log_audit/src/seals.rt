@@ -46,7 +46,14 @@ fn are_same(a: bool, b: bool) -> bool
 }
 
 /// Whether a network PDU has this header and this destination.
-fn has_header(fields: &NetFields, pair: Pair, ctl: bool, ttl: u8, src: Address, dst: Address) -> bool
+fn has_header(
+    fields: &NetFields,
+    pair: Pair,
+    ctl: bool,
+    ttl: u8,
+    src: Address,
+    dst: Address,
+) -> bool
     ensures value { IsTrue result ↔ HasHeader fields.now pair ctl ttl src dst }
 {
     fields.iv == pair.iv

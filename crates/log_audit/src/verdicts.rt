@@ -40,7 +40,12 @@ fn least(a: Option<u32>, b: Option<u32>) -> Option<u32>
 }
 
 /// What is wrong at the line with this number.
-fn wrong_at(reuse: Option<u32>, name: Option<(u32, bool)>, bad: bool, number: u32) -> Option<Verdict>
+fn wrong_at(
+    reuse: Option<u32>,
+    name: Option<(u32, bool)>,
+    bad: bool,
+    number: u32,
+) -> Option<Verdict>
     ensures value { result ≡ wrong_at reuse name bad number }
 {
     match (reuse, name) {
