@@ -83,10 +83,10 @@ is_less a b e = grind (arith, nat_tests)
 
 module _ {T E : Type 0} (r : Result T E) (c : Config) (old new : KeeperView) where
   on_ok_by : (P Q : Type 0) → (P → Q) → OnOk r P → OnOk r Q
-  on_ok_by P Q f = (elim r as (λ (s : Result T E). OnOk s P → OnOk s Q) [ | Ok x ↦ λ h. f h | Err e ↦ λ h. tt ])
+  on_ok_by P Q f = (elim r as (λ (s : Result T E). OnOk s P → OnOk s Q) [ Ok x ↦ λ h. f h | Err e ↦ λ h. tt ])
 
   on_ok_all : (Q : Type 0) → Q → OnOk r Q
-  on_ok_all Q h = (elim r as (λ (s : Result T E). OnOk s Q) [ | Ok x ↦ h | Err e ↦ tt ])
+  on_ok_all Q h = (elim r as (λ (s : Result T E). OnOk s Q) [ Ok x ↦ h | Err e ↦ tt ])
 
   -- the counter stays where the IV Index to send with does
   stays_to : (words : List ℕ) → words ≡ [] → new ≡ old → moved_to new ≡ moved_to old ++ words

@@ -1,4 +1,4 @@
-use Rattle.std.proofs.Common.{◌≡◌, ◌∙◌, List, [], ◌∷◌, ◌++◌, sym, subst}
+use Rattle.std.proofs.Common.{◌≡◌, ◌∙◌, [], ◌∷◌, ◌++◌, sym, subst}
 use Rattle.std.specs.Prelude.{OnOk}
 use Rattle.event_records.specs.Putting.{IsMoveTo}
 use Rattle.flash_model.specs.Chip.{LeavesOnly}

@@ -1,4 +1,4 @@
-use Rattle.std.proofs.Common.{◌≡◌, ◌∙◌, ℕ, ◌≤◌, List, ◌++◌, length, take, refl, sym, subst, arith, true≢false}
+use Rattle.std.proofs.Common.{◌∙◌, ◌++◌, length, take, refl, sym, subst, arith, true≢false}
 use Rattle.std.proofs.lemmas.List.{append-nil}
 use Rattle.event_storing.specs.Storing.{moved_to}
 use Rattle.flash_model.proofs.Runs.{begins_none, keeps_more, keeps_none}

@@ -1,4 +1,4 @@
-use Rattle.std.proofs.Common.{◌≡◌, ℕ, ◌+◌, ◌*◌, ◌≤◌, List, ◌++◌, false}
+use Rattle.std.proofs.Common.{◌≡◌, ◌+◌, ◌*◌, ◌≤◌, List, ◌++◌, false}
 use Rattle.std.specs.Prelude.{length, take, drop, fold, IsTrue}
 use Rattle.event_records.specs.Putting.{AreMoves, ArePuttable}
 use Rattle.event_storing.specs.Storing.{advances_of, moved_to}
