@@ -7,7 +7,7 @@ ghost use Rattle.mesh_base.specs.IvState.{HasTransmit};
 ghost use Rattle.mesh_reading.specs.Held.{AreHeldKeys};
 ghost use Rattle.node_records.specs.Tables.{config_in};
 
-use crate::{DueAck, Tables};
+use crate::{DueAck, Passed, Tables};
 use mesh_base::address::Address;
 use mesh_base::fields::NetFields;
 use mesh_base::iv_state::{IvState, IvStep};
@@ -189,6 +189,27 @@ impl Life {
     fn begin_anew(&mut self, alloc: Global) -> Result<(), AllocError> {
         self.tables = Tables::new(alloc, &self.p)?;
         Ok(())
+    }
+
+    fn pass(&mut self, ticks: u32) -> Passed {
+        self.tables.pass(&self.p, ticks)
+    }
+
+    // A Node Reset comes or is undone.
+    fn set_reset(&mut self, reset: bool) {
+        self.p.reset = reset;
+    }
+
+    fn renew_keys(&mut self) {
+        self.tables.renew_keys(&self.p);
+    }
+
+    fn ticks(&self) -> u64 {
+        self.tables.ticks()
+    }
+
+    fn beacon(&self, octets: &[u8]) -> Answer {
+        self.tables.hear_beacon(&self.p, octets).answer
     }
 
     // The answer to octets heard, after which the replay list has what was accepted.
@@ -427,7 +448,7 @@ fn ninth(rt: HostRuntime) -> Result<(), Fail> {
     }
     let ninth = life.hear(first_part(0, 0x109).as_slice())?;
     assert!(rt; ninth == Answer::NoRoom { held });
-    let passed = life.tables.pass(&life.p, 1000);
+    let passed = life.pass(1000);
     assert!(rt; passed.answer == Answer::Ticked { now: 1000 } && passed.acks.is_empty());
     assert!(rt; life.answers(first_part(1, 0x109).as_slice(), &WAITING)?);
     Ok(())
@@ -446,12 +467,12 @@ fn between_segments(rt: HostRuntime) -> Result<(), Fail> {
     let whole = delivered(3, 0x3129ab, KeyName::Dev, ADD);
     let mut life = Life::new(rt.alloc(), node(IV))?;
     assert!(rt; life.answers(A, &WAITING)?);
-    let passed = life.tables.pass(&life.p, 999);
-    assert!(rt; passed.acks.as_slice() == [ack].as_slice() && life.tables.ticks() == 999);
+    let passed = life.pass(999);
+    assert!(rt; passed.acks.as_slice() == [ack].as_slice() && life.ticks() == 999);
     assert!(rt; Some(life.hear(B)?) == whole);
     let mut life = Life::new(rt.alloc(), node(IV))?;
     assert!(rt; life.answers(A, &WAITING)?);
-    assert!(rt; life.tables.pass(&life.p, 1000).acks.is_empty());
+    assert!(rt; life.pass(1000).acks.is_empty());
     assert!(rt; life.answers(B, &WAITING)?);
     Ok(())
 }
@@ -530,13 +551,16 @@ fn beacon(key: KeyStep, iv: IvStep) -> Answer {
 fn beacons(rt: HostRuntime) -> Result<(), Fail> {
     let sample: &[u8] =
         b"\x01\x00\x3e\xca\xff\x67\x2f\x67\x33\x70\x12\x34\x56\x78\x8e\xa2\x61\x58\x2f\x36\x4f\x6f";
-    let p = node(IV);
-    let tables = Tables::new(rt.alloc(), &p)?;
-    let heard = tables.hear_beacon(&p, sample);
-    assert!(rt; heard.answer == beacon(KeyStep::Same, IvStep::Ignore { rule: 5 }));
-    assert!(rt; tables.hear_beacon(&p, &sample[..21]).answer == Answer::Unread);
-    let p = node(5);
-    let tables = Tables::new(rt.alloc(), &p)?;
+    let life = Life::new(rt.alloc(), node(IV))?;
+    assert!(rt; life.beacon(sample) == beacon(KeyStep::Same, IvStep::Ignore { rule: 5 }));
+    assert!(rt; life.beacon(&sample[..21]) == Answer::Unread);
+    Ok(())
+}
+
+// Beacons of other IV Indexes.
+#[test]
+fn later_beacons(rt: HostRuntime) -> Result<(), Fail> {
+    let life = Life::new(rt.alloc(), node(5))?;
     let recovered = IvState {
         current: 0x2f,
         progress: false,
@@ -549,11 +573,8 @@ fn beacons(rt: HostRuntime) -> Result<(), Fail> {
         (2, 6, IvStep::Ignore { rule: 4 }),
         (0, 4, IvStep::Ignore { rule: 1 }),
     ] {
-        let octets = net_beacon::write(&NK, flags, iv);
-        assert!(rt;
-            tables.hear_beacon(&p, &octets).answer == beacon(KeyStep::Same, step),
-            "{iv}"
-        );
+        let answer = life.beacon(&net_beacon::write(&NK, flags, iv));
+        assert!(rt; answer == beacon(KeyStep::Same, step), "{iv}");
     }
     Ok(())
 }
@@ -563,14 +584,12 @@ fn beacons(rt: HostRuntime) -> Result<(), Fail> {
 fn after_reset(rt: HostRuntime) -> Result<(), Fail> {
     let mut life = Life::new(rt.alloc(), node(IV))?;
     assert!(rt; life.answers(A, &WAITING)?);
-    life.p.reset = true;
+    life.set_reset(true);
     assert!(rt; life.answers(B, &Answer::Reset)?);
-    assert!(rt;
-        life.tables.pass(&life.p, 1000).answer == Answer::Reset && life.tables.ticks() == 0
-    );
-    assert!(rt; life.tables.hear_beacon(&life.p, &[]).answer == Answer::Reset);
-    life.p.reset = false;
-    life.tables.renew_keys(&life.p);
+    assert!(rt; life.pass(1000).answer == Answer::Reset && life.ticks() == 0);
+    assert!(rt; life.beacon(&[]) == Answer::Reset);
+    life.set_reset(false);
+    life.renew_keys();
     let whole = delivered(3, 0x3129ab, KeyName::Dev, ADD);
     assert!(rt; Some(life.hear(B)?) == whole);
     Ok(())
