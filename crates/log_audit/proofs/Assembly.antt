@@ -1,26 +1,21 @@
 -- The first thing that is wrong, from what is known at each line.
-use Rattle.std.proofs.Common.{◌≡◌, ℕ, zero, suc, ◌+◌, ◌<◌, ◌≤◌, ◌⊎◌, min, not, Bool, true, false, if◌then◌else◌, List, [], ◌∷◌, length, take, map, Option, Some, None, refl, sym, ap, subst, ◌∙◌, inl, inr, arith}
-use Rattle.std.specs.List.{slice_get, slice_index_or, list_any}
+use Rattle.std.proofs.Common.{◌≡◌, ℕ, zero, suc, ◌<◌, not, Bool, true, false, if◌then◌else◌, List, [], ◌∷◌, length, map, Option, Some, None, refl, ap, ◌∙◌, arith}
+use Rattle.std.specs.List.{slice_get, slice_index_or}
 use Rattle.layer_definitions.specs.Network.{net_text}
 use Rattle.mesh_types.specs.declared.lines.Outcome.{Outcome}
 use Rattle.log_audit.specs.Told.{IsSealedUnder}
 use Rattle.std.specs.Option.{option_map}
 use Rattle.std.specs.Str.{bytes_eq}
-use Rattle.mesh_base.specs.declared.address.Address.{Address}
 use Rattle.mesh_base.specs.declared.fields.NetMaterial.{NetMaterial}
 use Rattle.mesh_types.specs.declared.report.ReportLine.{ReportLine}
 use Rattle.script_definitions.specs.Events.{material_of}
 use Rattle.script_definitions.specs.declared.line.ScriptNet.{ScriptNet}
-use Rattle.audit_definitions.specs.Seals.{IsOwn, IsSealedSo}
-use Rattle.audit_definitions.specs.Verdicts.{Reuses, Accepts, IsBadLine, IsLineAt, Two, IsWrong, Place, place, IsUpTo, IsVerdictOf}
-use Rattle.audit_definitions.specs.declared.verdict.Verdict.{Verdict}
-use Rattle.audit_definitions.specs.declared.verdict.Verdict.TheVariants as V
-use Rattle.log_audit.specs.Facts.{Key, same_key, known_of, pdu_fact, message_fact, accepted_fact, is_own_source}
-use Rattle.log_audit.specs.Uses.{first, clash_of, clash_with}
-use Rattle.log_audit.specs.Wrong.{differing, least, wrong_at, IsBadUnder}
-use Rattle.log_audit.proofs.Clashes.{Has, IsClean, LeastClash, clash_none, clash_some, clean_more}
-use Rattle.log_audit.proofs.KeyOrder.{same_key-Decides}
-use Rattle.log_audit.proofs.Meanings.{octets_differ, octets_steady, reuse_of_pdus, reuse_of_messages, twice_of, pdus_of, messages_of, names_of, own_found, own_listed}
+use Rattle.audit_definitions.specs.Seals.{IsSealedSo}
+use Rattle.audit_definitions.specs.Verdicts.{IsBadLine}
+use Rattle.log_audit.specs.Facts.{Key, known_of}
+use Rattle.log_audit.specs.Uses.{clash_of, clash_with}
+use Rattle.log_audit.specs.Wrong.{differing, IsBadUnder}
+use Rattle.log_audit.proofs.Meanings.{octets_differ}
 
 -- What is known, as what clashes.
 

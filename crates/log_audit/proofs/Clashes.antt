@@ -1,11 +1,11 @@
 -- Two lines that use one key for two things.
-use Rattle.std.proofs.Common.{◌≡◌, ℕ, zero, suc, ◌+◌, ◌<◌, ◌≤◌, ◌⊎◌, Bool, true, false, List, [], ◌∷◌, length, take, Option, Some, None, refl, sym, ap, subst, ◌∙◌, inl, inr, arith}
+use Rattle.std.proofs.Common.{◌≡◌, ℕ, zero, suc, ◌+◌, ◌<◌, ◌≤◌, Bool, true, false, List, [], ◌∷◌, take, Option, Some, None, refl, sym, ap, subst, ◌∙◌, inl, inr, arith}
 use Rattle.std.specs.Bool.{Decides}
 use Rattle.std.specs.List.{slice_get}
 use Rattle.std.proofs.lemmas.Bool.{cases_Bool, cases_lt}
 use Rattle.mesh_types.specs.declared.report.ReportLine.{ReportLine}
 use Rattle.log_audit.specs.Uses.{first, clash_of, clash_with}
-use Rattle.log_audit.proofs.Firsts.{Found, found, missing}
+use Rattle.log_audit.proofs.Firsts.{found, missing}
 
 -- a place of a front is a place of the list
 pub get_take : (ls : List ReportLine) (j i : ℕ) (l : ReportLine) → slice_get (take j ls) i ≡ Some l → (i < j) × (slice_get ls i ≡ Some l)

@@ -1,23 +1,21 @@
 -- The verdict, from what is known at each line.
-use Rattle.std.proofs.Common.{◌≡◌, ℕ, zero, suc, ◌+◌, ◌<◌, ◌≤◌, ◌⊎◌, min, Bool, true, false, List, [], ◌∷◌, length, take, map, Option, Some, None, refl, sym, ap, subst, ◌∙◌, inl, inr, arith}
+use Rattle.std.proofs.Common.{◌≡◌, ℕ, zero, suc, ◌+◌, ◌<◌, ◌⊎◌, Bool, true, false, List, [], ◌∷◌, length, map, Option, Some, refl, sym, ◌∙◌, inl, inr, arith}
 use Rattle.std.specs.List.{slice_get, list_any}
 use Rattle.std.proofs.lemmas.Bool.{cases_lt}
-use Rattle.mesh_base.specs.declared.address.Address.{Address}
 use Rattle.mesh_base.specs.declared.fields.NetMaterial.{NetMaterial}
 use Rattle.mesh_types.specs.declared.report.ReportLine.{ReportLine}
 use Rattle.script_definitions.specs.Events.{material_of}
 use Rattle.script_definitions.specs.declared.line.ScriptNet.{ScriptNet}
 use Rattle.audit_definitions.specs.Seals.{IsOwn}
-use Rattle.audit_definitions.specs.Verdicts.{Reuses, Accepts, IsBadLine, IsLineAt, Two, IsWrong, Place, place, IsUpTo, IsVerdictOf}
+use Rattle.audit_definitions.specs.Verdicts.{Reuses, Accepts, IsWrong, place, IsVerdictOf}
 use Rattle.audit_definitions.specs.declared.verdict.Verdict.{Verdict}
 use Rattle.audit_definitions.specs.declared.verdict.Verdict.TheVariants as V
 use Rattle.log_audit.specs.Facts.{Key, same_key, pdu_fact, message_fact, accepted_fact, is_own_source}
-use Rattle.log_audit.specs.Uses.{first, clash_of}
-use Rattle.log_audit.specs.Wrong.{least, IsBadUnder}
-use Rattle.log_audit.proofs.Assembly.{always, always_steady, bad_under, under_bad}
-use Rattle.log_audit.proofs.Clashes.{Has, IsClean, LeastClash, clash_none, clash_some, clean_more}
+use Rattle.log_audit.specs.Wrong.{IsBadUnder}
+use Rattle.log_audit.proofs.Assembly.{always, always_steady, bad_under}
+use Rattle.log_audit.proofs.Clashes.{Has, IsClean}
 use Rattle.log_audit.proofs.KeyOrder.{same_key-Decides}
-use Rattle.log_audit.proofs.Meanings.{octets_differ, octets_steady, reuse_of_pdus, reuse_of_messages, twice_of, pdus_of, messages_of, names_of, own_found, own_listed}
+use Rattle.log_audit.proofs.Meanings.{octets_differ, octets_steady, pdus_of, messages_of, names_of, own_listed}
 
 -- a clash of one kind
 pub record Clash (f : ReportLine → Option (Key × List ℕ)) (lines : List ReportLine) (i m : ℕ) : Type 0 where

@@ -1,19 +1,19 @@
 -- What is wrong at a line comes first.
-use Rattle.std.proofs.Common.{◌≡◌, ℕ, zero, suc, ◌+◌, ◌<◌, ◌≤◌, ◌⊎◌, min, Bool, true, false, List, [], ◌∷◌, length, take, map, Option, Some, None, refl, sym, ap, subst, ◌∙◌, inl, inr, arith}
+use Rattle.std.proofs.Common.{◌≡◌, ℕ, ◌+◌, ◌<◌, ◌≤◌, ◌⊎◌, min, Bool, true, false, List, length, take, map, Option, Some, None, refl, sym, ap, subst, ◌∙◌, inl, inr, arith}
 use Rattle.std.specs.List.{slice_get, list_any}
 use Rattle.std.proofs.lemmas.Bool.{cases_lt}
 use Rattle.mesh_types.specs.declared.report.ReportLine.{ReportLine}
 use Rattle.script_definitions.specs.Events.{material_of}
 use Rattle.script_definitions.specs.declared.line.ScriptNet.{ScriptNet}
 use Rattle.audit_definitions.specs.Seals.{IsOwn}
-use Rattle.audit_definitions.specs.Verdicts.{Reuses, Accepts, IsWrong, place, IsUpTo, IsVerdictOf}
+use Rattle.audit_definitions.specs.Verdicts.{Reuses, IsWrong, place, IsUpTo, IsVerdictOf}
 use Rattle.audit_definitions.specs.declared.verdict.Verdict.{Verdict}
 use Rattle.audit_definitions.specs.declared.verdict.Verdict.TheVariants as V
 use Rattle.log_audit.specs.Facts.{Key, same_key, pdu_fact, message_fact, accepted_fact, is_own_source}
 use Rattle.log_audit.specs.Uses.{first, clash_of}
 use Rattle.log_audit.specs.Wrong.{least, IsBadUnder}
 use Rattle.log_audit.proofs.Assembly.{always, always_steady, under_bad}
-use Rattle.log_audit.proofs.Clashes.{Has, IsClean, LeastClash, clash_none, clash_some, clean_more}
+use Rattle.log_audit.proofs.Clashes.{IsClean, LeastClash, clash_none, clash_some, clean_more}
 use Rattle.log_audit.proofs.Deciding.{Clash, Again, Clean, reuse_clash, again_of, later}
 use Rattle.log_audit.proofs.KeyOrder.{same_key-Decides}
 use Rattle.log_audit.proofs.Meanings.{octets_differ, octets_steady, reuse_of_pdus, reuse_of_messages, twice_of, own_found}

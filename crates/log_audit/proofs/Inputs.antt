@@ -1,12 +1,11 @@
 -- The lines of an input, one by one.
-use Rattle.std.proofs.Common.{◌≡◌, ℕ, zero, suc, ◌+◌, ◌-◌, ◌<◌, ◌≤◌, ◌⊎◌, List, [], ◌∷◌, ◌++◌, length, take, drop, Option, Some, None, refl, sym, ap, subst, ◌∙◌, inl, inr, arith}
+use Rattle.std.proofs.Common.{◌≡◌, ℕ, zero, suc, ◌+◌, ◌≤◌, List, [], ◌∷◌, ◌++◌, length, take, drop, Some, sym, ap, subst, ◌∙◌, arith}
 use Rattle.std.specs.List.{slice_get}
 use Rattle.std.proofs.lemmas.List.{drop-drop, length_push}
 use Rattle.mesh_types.specs.declared.report.ReportLine.{ReportLine}
-use Rattle.report_reader.specs.ReportLine.{IsReportLine, IsNoReportLine}
+use Rattle.report_reader.specs.ReportLine.{IsReportLine}
 use Rattle.script_definitions.specs.declared.line.ScriptNet.{ScriptNet}
-use Rattle.audit_definitions.specs.Input.{IsKeyLine, AreReportLines, AreLines, lines_of}
-use Rattle.audit_definitions.proofs.OneInput.{not_key}
+use Rattle.audit_definitions.specs.Input.{IsKeyLine, AreReportLines, lines_of}
 use Rattle.log_audit.specs.Reading.{AreKeyLines}
 use Rattle.log_audit.proofs.Cuts.{no_lines}
 

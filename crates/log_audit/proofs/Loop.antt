@@ -1,9 +1,8 @@
 -- One line of the loop that looks for the verdict.
-use Rattle.std.proofs.Common.{◌≡◌, ℕ, zero, suc, ◌+◌, ◌<◌, ◌≤◌, min, Bool, true, false, List, [], ◌∷◌, ◌++◌, length, get_or, take, map, Option, Some, None, refl, sym, ap, subst, ◌∙◌, arith}
+use Rattle.std.proofs.Common.{◌≡◌, ℕ, zero, suc, ◌+◌, ◌<◌, Bool, true, false, List, [], ◌∷◌, ◌++◌, length, get_or, take, map, Option, Some, None, refl, sym, ap, subst, ◌∙◌, arith}
 use Rattle.std.specs.Bool.{OnTrue, OnFalse}
 use Rattle.std.specs.List.{slice_get, list_any}
 use Rattle.std.proofs.lemmas.List.{take_more}
-use Rattle.mesh_base.specs.declared.fields.NetMaterial.{NetMaterial}
 use Rattle.mesh_types.specs.declared.report.ReportLine.{ReportLine}
 use Rattle.script_definitions.specs.Events.{material_of}
 use Rattle.script_definitions.specs.declared.line.ScriptNet.{ScriptNet}
@@ -14,7 +13,7 @@ use Rattle.log_audit.specs.Facts.{Key, same_key, known_of, pdu_fact, message_fac
 use Rattle.log_audit.specs.Uses.{first, pick, or_else, clash_of}
 use Rattle.log_audit.specs.Wrong.{differing, least, wrong_at, IsBadUnder}
 use Rattle.log_audit.proofs.Assembly.{always, differs_as, known_as, line_of_known}
-use Rattle.log_audit.proofs.Deciding.{Clean, all_sound}
+use Rattle.log_audit.proofs.Deciding.{Clean}
 use Rattle.log_audit.proofs.Finding.{clash_at, again_at, reuse_first, twice_first, bad_first, next_clean}
 use Rattle.log_audit.proofs.Firsts.{first_push}
 use Rattle.log_audit.proofs.KeyOrder.{same_key-Decides}

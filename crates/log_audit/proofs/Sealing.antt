@@ -1,7 +1,7 @@
 -- A line's octets against what it tells.
-use Rattle.std.proofs.Common.{◌≡◌, ℕ, ◌+◌, ◌<◌, ◌≤◌, ◌^◌, ◌⊎◌, Bool, true, false, List, Option, Some, None, refl, sym, ap, subst, ◌∙◌, inl, inr, arith}
+use Rattle.std.proofs.Common.{◌≡◌, ℕ, ◌<◌, ◌^◌, Bool, true, false, List, refl, sym, ap, subst, inl}
 use Rattle.audit_definitions.specs.Seals.{AreToldBy}
-use Rattle.layer_definitions.specs.Network.{HasPdu, IsInWidths, ReadsUnder, net_text}
+use Rattle.layer_definitions.specs.Network.{ReadsUnder}
 use Rattle.layer_definitions.proofs.NetworkLaws.{reading-one, reading-own}
 use Rattle.mesh_base.specs.declared.address.Address.{Address}
 use Rattle.mesh_base.specs.declared.fields.NetFields.{NetFields}

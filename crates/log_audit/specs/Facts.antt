@@ -4,12 +4,11 @@ use Rattle.std.specs.Option.{option_map, option_map_or}
 use Rattle.std.specs.Str.{bytes_eq}
 use Rattle.std.specs.Ordering.{nat_cmp, ordering_then, is_eq}
 use Rattle.std.specs.declared.cmp.Ordering.{Ordering}
-use Rattle.mesh_base.specs.declared.address.Address.{Address}
 use Rattle.mesh_base.specs.declared.pair.Name.{Name}
 use Rattle.mesh_types.specs.declared.answers.KeyName.{KeyName}
 use Rattle.mesh_types.specs.declared.answers.KeyName.TheVariants as N
 use Rattle.mesh_types.specs.declared.report.ReportLine.{ReportLine}
-use Rattle.audit_definitions.specs.Seals.{Sealed, Message, sealed, message, accepted, own_source}
+use Rattle.audit_definitions.specs.Seals.{Message, sealed, message, accepted, own_source}
 
 -- a key in its order: SRC, IV Index and SEQ; DST, and the name of a key
 abbrev pub Key : Type 0

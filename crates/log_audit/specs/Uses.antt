@@ -1,6 +1,5 @@
 -- The first use of a key among the lines before a line. A line may have a fact: a key, and what it is used for.
-use Rattle.std.specs.Prelude.{ℕ, ◌+◌, Bool, true, false, if◌then◌else◌, List, [], ◌∷◌, Option, Some, None}
-use Rattle.std.specs.Str.{bytes_eq}
+use Rattle.std.specs.Prelude.{ℕ, ◌+◌, Bool, if◌then◌else◌, List, [], ◌∷◌, Option, Some, None}
 use Rattle.mesh_types.specs.declared.report.ReportLine.{ReportLine}
 
 -- the fact of the line with this number, if it has this key, before what is found behind it

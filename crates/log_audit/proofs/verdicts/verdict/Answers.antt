@@ -1,14 +1,12 @@
-use Rattle.std.proofs.Common.{◌≡◌, ℕ, ◌+◌, Bool, true, false, List, length, map, take, None, refl, sym, ap, subst, ◌∙◌, arith}
-use Rattle.std.specs.Bool.{OnTrue, OnFalse}
+use Rattle.std.proofs.Common.{◌≡◌, ℕ, ◌+◌, List, length, map, take, None, refl, sym, ap, subst, ◌∙◌, arith}
 use Rattle.std.specs.BTreeMap.{get}
 use Rattle.std.specs.BTreeSet.{contains}
 use Rattle.std.specs.Ordering.{nat_cmp}
 use Rattle.mesh_base.specs.declared.fields.NetMaterial.{NetMaterial}
 use Rattle.script_definitions.specs.Events.{material_of}
-use Rattle.script_definitions.specs.declared.line.ScriptNet.{ScriptNet}
 use Rattle.log_audit.specs.Facts.{Key, key_cmp, same_key, known_of, pdu_fact, message_fact, accepted_fact}
 use Rattle.log_audit.specs.Uses.{first, pick, or_else}
-use Rattle.log_audit.specs.Wrong.{differing, least, wrong_at, IsBadUnder}
+use Rattle.log_audit.specs.Wrong.{differing, wrong_at, IsBadUnder}
 use Rattle.log_audit.proofs.Deciding.{Clean, all_sound}
 use Rattle.log_audit.proofs.Loop.{place_get, map_step, decide_some, decide_none, on_true, on_false}
 use Rattle.log_audit.proofs.verdicts.verdict.Goals as goal
