@@ -12,5 +12,7 @@
 
 mod one;
 mod several;
+#[cfg(test)]
+mod tests;
 
 pub use several::store_records;
