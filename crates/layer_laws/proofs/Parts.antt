@@ -21,7 +21,8 @@ use Rattle.mesh_types.specs.declared.answers.Answer.TheVariants as A
 use Rattle.mesh_types.specs.declared.events.Event.{Event}
 use Rattle.mesh_types.specs.declared.jobs.Job.{Job}
 use Rattle.node_layers.specs.Reassembly.{acks_at, calls_at, calls_from, due_job, due_jobs, message_calls, messages, named_calls, part_calls, part_heard, tick_calls, whole_calls}
-use Rattle.run_definitions.specs.Answers.{config_before, is_group, is_mine, is_unicast, later, message_name, network_answer}
+use Rattle.layer_states.specs.Names.{is_unicast}
+use Rattle.run_definitions.specs.Answers.{config_before, is_group, is_mine, later, message_name, network_answer}
 use Rattle.run_definitions.specs.Fit.{HasElements, IsOwn}
 use Rattle.run_definitions.specs.Handling.{IsPast, past_of}
 use Rattle.run_definitions.specs.History.{Insight, OfBeacon, OfNothing, OfPdu, Opening, Past, Reading, Told, ticks_after}

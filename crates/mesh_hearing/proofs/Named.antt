@@ -5,7 +5,7 @@ use Rattle.std.specs.List.{filter_map, list_any}
 use Rattle.std.specs.Option.{option_map, option_or, option_to_list}
 use Rattle.layer_definitions.specs.Lower.{is_control}
 use Rattle.layer_states.specs.Names.{is_name}
-use Rattle.layer_states.specs.Reassembly.{PartCall, after, form_of, release, take_part}
+use Rattle.layer_states.specs.Reassembly.{PartCall, after, form_of, release, take_part, is_segment}
 use Rattle.layer_states.specs.Reassembly as state
 use Rattle.layer_states.specs.declared.reassembly.Assembly.{Assembly}
 use Rattle.layer_states.specs.declared.reassembly.Taken.{Taken}
@@ -30,7 +30,7 @@ use Rattle.node_layers.specs.BuiltLayers.{built_layers}
 use Rattle.node_layers.specs.Reassembly.{messages, named_calls, octets_after, part_heard}
 use Rattle.node_records.specs.Tables.{config_in}
 use Rattle.node_records.specs.declared.persist.Persist.{Persist}
-use Rattle.run_definitions.specs.Answers.{config_before, is_accepted_segmented, is_again, is_entry, is_segment, lower_answer, replayed, segment_answer, whole_answer}
+use Rattle.run_definitions.specs.Answers.{config_before, is_accepted_segmented, is_again, is_entry, lower_answer, replayed, segment_answer, whole_answer}
 use Rattle.run_definitions.specs.History.{Insight, OfBeacon, OfNothing, OfPdu, Opening, Past, Reading, Told, now_of}
 use Rattle.run_definitions.specs.Readings.{IsOpened}
 use Rattle.run_definitions.specs.Uses.{accepted}

@@ -12,7 +12,8 @@ use Rattle.mesh_hearing.specs.Below.{own_address, sender_answer}
 use Rattle.mesh_types.specs.declared.answers.Answer.{Answer}
 use Rattle.mesh_types.specs.declared.answers.Answer.TheVariants as A
 use Rattle.node_layers.specs.Steps.{cached_names}
-use Rattle.run_definitions.specs.Answers.{config_before, is_cached, is_mine, is_unicast, name_of, network_answer}
+use Rattle.layer_states.specs.Names.{is_unicast}
+use Rattle.run_definitions.specs.Answers.{config_before, is_cached, is_mine, name_of, network_answer}
 use Rattle.run_definitions.specs.History.{Past, Reading}
 use Rattle.run_definitions.specs.Readings.{labels_tried}
 use Rattle.store_definitions.specs.Config.{Config, config_of, is_element}

@@ -4,7 +4,7 @@ use Rattle.std.specs.List.{list_any}
 use Rattle.std.specs.Option.{option_map}
 use Rattle.layer_definitions.specs.IvIndex.{iv_next}
 use Rattle.layer_definitions.specs.KeyRefresh.{net_row}
-use Rattle.layer_states.specs.Reassembly.{PartCall, take_part}
+use Rattle.layer_states.specs.Reassembly.{PartCall, take_part, is_segment}
 use Rattle.layer_states.specs.declared.reassembly.Assembly.{Assembly}
 use Rattle.mesh_base.specs.declared.address.Address.{Address}
 use Rattle.mesh_base.specs.declared.beacon.Beacon.{Beacon}
@@ -25,7 +25,8 @@ use Rattle.node_layers.specs.Reassembly.{messages, octets_after, part_heard}
 use Rattle.node_layers.specs.Steps.{segmented_names}
 use Rattle.node_records.specs.Meaning.{IsMeaningOf}
 use Rattle.node_records.specs.declared.persist.Persist.{Persist}
-use Rattle.run_definitions.specs.Answers.{answer_of, config_before, is_again, is_before_cache, is_group, is_segment, is_unicast, key_step, message_name, name_of, named_answer, opened_answer, replayed, segment_answer, transport_answer, whole_answer}
+use Rattle.layer_states.specs.Names.{is_unicast}
+use Rattle.run_definitions.specs.Answers.{answer_of, config_before, is_again, is_before_cache, is_group, key_step, message_name, name_of, named_answer, opened_answer, replayed, segment_answer, transport_answer, whole_answer}
 use Rattle.run_definitions.specs.History.{Past, Reading, now_of}
 use Rattle.run_definitions.specs.Readings.{IsLowerPdu, IsOpened, IsOpenedFor, IsOpening, IsOpeningOf, Sees, fields_heard, keys_tried}
 use Rattle.store_definitions.specs.Config.{Config, is_element}

@@ -19,7 +19,7 @@ ghost use Rattle.node_layers.specs.Reassembly.{named_calls, part_heard as part_h
 ghost use Rattle.node_layers.specs.Segments.{taken_answer};
 ghost use Rattle.node_layers.specs.Steps.{segmented_name, segmented_names};
 ghost use Rattle.node_records.specs.Tables.{config_in, entry_in};
-ghost use Rattle.run_definitions.specs.Answers.{is_again as is_again_in, is_entry as is_entry_in, is_segment as is_segment_in, message_name as message_name_in, message_pair as message_pair_in, replayed as replayed_in};
+ghost use Rattle.run_definitions.specs.Answers.{is_again as is_again_in, is_entry as is_entry_in, message_name as message_name_in, message_pair as message_pair_in, replayed as replayed_in};
 ghost use Rattle.run_definitions.specs.History.{Past};
 ghost use Rattle.run_definitions.specs.Jobs.{reply_ttl as reply_ttl_in};
 ghost use Rattle.run_definitions.specs.Uses.{accepted as accepted_in};
@@ -38,7 +38,7 @@ use segment_reassembly::{PartHeard, Parts, Taken};
 
 // Whether a lower transport PDU is a segment.
 fn is_segment(low: &Lower) -> bool
-    ensures value { result ≡ is_segment_in low.now }
+    ensures value { result ≡ is_segment_of low.now }
     ensures same { result ≡ is_segment_of low.now }
 {
     matches!(low, Lower::AccessPart { .. } | Lower::ControlPart { .. })
@@ -186,7 +186,7 @@ fn take_low(
     requires time { now ≤ 2 ^ 48 }
     ensures value { (past : Past) (again : List NameIn) → StandsBelow past p.now parts.old again now → IsTakenAs past (reading_of r.now) low.now name.now result }
     ensures part { IfErr result (λ a. is_of_part a ≡ true) }
-    ensures segment { OnErr result (IsTrue (is_segment_in low.now)) }
+    ensures segment { OnErr result (IsTrue (is_segment_of low.now)) }
     ensures parts { parts.new ≡ fold after parts.old (taken_calls now (config_in p.now) (reading_of r.now) low.now name.now) }
     ensures control { IfOk result (λ octets. is_control low.now ≡ true → length octets ≤ 256) }
 {

@@ -19,7 +19,9 @@ use Rattle.node_layers.specs.Reassembly as parts
 use Rattle.node_layers.specs.Sending as own
 use Rattle.node_layers.specs.Steps.{CacheGoesOn, FriendsGoOn, LevelGoesOn, OnOffGoesOn, OwnGoOn, PartsGoOn, PublishedGoesOn, SegmentedGoesOn, SegmentedIsAny, TimeGoesOn, cached_names, segmented_name, segmented_names, with_entry}
 use Rattle.record_types.specs.declared.records.StoreRecord.{StoreRecord}
-use Rattle.run_definitions.specs.Answers.{cached_name, is_accepted_segmented, is_before_cache, is_name, is_segment}
+use Rattle.layer_states.specs.Names.{is_name}
+use Rattle.layer_states.specs.Reassembly.{is_segment}
+use Rattle.run_definitions.specs.Answers.{cached_name, is_accepted_segmented, is_before_cache}
 use Rattle.run_definitions.specs.Handling.{past_of}
 use Rattle.run_definitions.specs.History.{Insight, OfBeacon, OfNothing, OfPdu, Told, now_of, ticks_after}
 use Rattle.run_definitions.specs.Uses.{accepted}

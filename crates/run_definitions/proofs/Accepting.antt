@@ -96,11 +96,11 @@ whole_accepts layers past r (Control opcode params) m opening n e = let (same, p
 whole_accepts layers past r (ControlPart opcode seq_zero seg_o seg_n piece) m opening n e = let (same, place) = placed_accepts past m _ n e in (some_is same, place)
 
 -- what the table says of a name that it accepts
-record Passes (past : Past) (n : Name) : Type 0 where
-  newer : replayed (entry_of past.records n.src.0) n.pair ≡ None
-  place : HasPlace past n
+pub record Passes (past : Past) (n : Name) : Type 0 where
+  pub newer : replayed (entry_of past.records n.src.0) n.pair ≡ None
+  pub place : HasPlace past n
 
-named_accepts : (layers : Layers) (past : Past) (r : Reading) (low : Lower) (m : Option Name) (opening : Option Opening) (n : Name)
+pub named_accepts : (layers : Layers) (past : Past) (r : Reading) (low : Lower) (m : Option Name) (opening : Option Opening) (n : Name)
     → accepted (named_answer layers past r low m opening) ≡ Some n → (m ≡ Some n) × Passes past n
 named_accepts layers past r low None opening n e = absurd cc
 named_accepts layers past r low (Some m) opening n e =
