@@ -1,12 +1,12 @@
--- What is stored may be put: the record of a new IV state, alone and behind another.
-use Rattle.std.proofs.Common.{◌≡◌, ◌∙◌, ℕ, ◌+◌, ◌-◌, ◌*◌, ◌%◌, ◌^◌, ◌<◌, ◌≤◌, Bool, true, false, cond, List, [], ◌∷◌, ◌++◌, length, refl, sym, ap, subst, arith}
+-- What is stored may be put, and is a move: the record of a new IV state, alone and behind another.
+use Rattle.std.proofs.Common.{◌≡◌, ◌∙◌, ℕ, ◌+◌, ◌-◌, ◌*◌, ◌^◌, ◌<◌, ◌≤◌, true, false, cond, List, [], ◌∷◌, ◌++◌, length, refl, sym, ap, subst, arith}
 use Rattle.std.specs.Prelude.{◌==◌, nat_lt, replicate}
 use Rattle.std.proofs.lemmas.List.{length-map}
 use Rattle.std.proofs.lemmas.Bool.Decides.{nat_tests}
-use Rattle.event_records.specs.Putting.{ArePuttable}
+use Rattle.event_records.specs.Putting.{AreMoves, ArePuttable}
 use Rattle.event_records.specs.Steps.{LeadsOn}
 use Rattle.iv_update.specs.Steps.{IsLater, state_after}
-use Rattle.mesh_base.specs.IvState.{HasTransmit, transmit_of}
+use Rattle.mesh_base.specs.IvState.{transmit_of}
 use Rattle.mesh_base.specs.declared.iv_state.IvState.{IvState}
 use Rattle.mesh_base.specs.declared.iv_state.IvStep.{IvStep}
 use Rattle.mesh_base.specs.declared.iv_state.IvStep.TheVariants.{Begin, Finish, Ignore, Recover, Wait}
@@ -20,7 +20,7 @@ use Rattle.record_types.specs.declared.records.StoreRecord.TheVariants as R
 use Rattle.run_definitions.specs.Stores.{phase_records}
 use Rattle.store_definitions.specs.Config.{Config, change_net, changed, finished_net}
 use Rattle.store_definitions.specs.Numbers.{moved}
-use Rattle.store_definitions.specs.Ranges.{IsInRange, IsMark}
+use Rattle.store_definitions.specs.Ranges.{IsMark}
 
 -- a step that leads to a later state, whatever state it was made of
 pub leads : (s base : IvState) (step : IvStep) → IsLater s (state_after base step) → LeadsOn s step
@@ -96,3 +96,40 @@ phase_may p index S.Phase0 rest width few may = (
   same_many index finished_net p.nets few,
   (λ q e. let same = after_phase p q 4 index (replicate 16 0) e in may q same.0 same.1),
 )
+
+-- The move to a state, over any value with the same known IV Index, progress and mark.
+
+same_transmit : (a b : IvState) → a.current ≡ b.current → a.progress ≡ b.progress → transmit_of a ≡ transmit_of b
+unfolding transmit_of
+same_transmit a b current progress = (λ i. current i - (cond (progress i) 1 0))
+
+same_moved : (c d : Config) (s : IvState) → transmit_of d.iv ≡ transmit_of c.iv → d.mark ≡ c.mark → moved c s ≡ moved d s
+same_moved c d s transmit mark =
+    (λ i. R.Numbers s.current s.progress (cond (nat_lt (sym transmit i) (transmit_of s)) (transmit_of s * 2 ^ 25) (sym mark i)) s.hours s.since)
+
+pub moved_move : (c d : Config) (s : IvState) → IsLater c.iv s → d.iv.current ≡ c.iv.current → d.iv.progress ≡ c.iv.progress → d.mark ≡ c.mark
+    → AreMoves d (moved c s ∷ [])
+moved_move c d s later current progress mark =
+    let transmit = same_transmit d.iv c.iv current progress in (
+      record {
+        transmit = later.has_transmit;
+        current = omega (arith, later.current, current);
+        rises = omega (arith, later.transmit, transmit);
+        item_is = same_moved c d s transmit mark;
+      },
+      tt,
+    )
+
+-- The hours, and a phase, before moves over the same.
+
+pub hour_moves : (c : Config) (hours since : ℕ) (rest : List StoreRecord)
+    → ((d : Config) → d.iv.current ≡ c.iv.current → d.iv.progress ≡ c.iv.progress → d.mark ≡ c.mark → AreMoves d rest) → AreMoves c (R.Hour hours since ∷ rest)
+unfolding changed
+hour_moves c hours since rest moves = (tt, moves (changed c (R.Hour hours since)) refl refl refl)
+
+pub phase_moves : (c : Config) (index : ℕ) (key : KeyStep) (rest : List StoreRecord)
+    → ((d : Config) → d.iv.current ≡ c.iv.current → d.iv.progress ≡ c.iv.progress → d.mark ≡ c.mark → AreMoves d rest) → AreMoves c (phase_records index key ++ rest)
+unfolding changed
+phase_moves c index S.Same rest moves = moves c refl refl refl
+phase_moves c index S.Phase2 rest moves = (tt, moves (changed c (R.NetKey 3 index (replicate 16 0))) refl refl refl)
+phase_moves c index S.Phase0 rest moves = (tt, moves (changed c (R.NetKey 4 index (replicate 16 0))) refl refl refl)

@@ -3,7 +3,7 @@
 
 ghost use Rattle.std.specs.Prelude.{◌≡◌, ℕ, ◌≤◌, ◌++◌, List, length};
 ghost use Rattle.std.specs.Option.{option_to_list};
-ghost use Rattle.event_records.specs.Putting.{ArePuttable};
+ghost use Rattle.event_records.specs.Putting.{AreMoves, ArePuttable};
 ghost use Rattle.event_records.specs.Steps.{IsStepFrom, LeadsOn};
 ghost use Rattle.mesh_types.specs.declared.events.Event.TheVariants as E;
 ghost use Rattle.node_records.specs.Meaning.{IsSaid};
@@ -57,6 +57,7 @@ fn step_and_phase(p: &Persist, index: u16, key: KeyStep, iv: &IvStep) -> Records
     requires step { LeadsOn p.now.iv iv.now }
     ensures value { result ≡ phase_records index key ++ step_records (config_in p.now) iv.now }
     ensures may { ArePuttable p.now result }
+    ensures moves { AreMoves (config_in p.now) result }
 {
     value_law();
     few_nets(p);
@@ -67,7 +68,8 @@ fn step_and_phase(p: &Persist, index: u16, key: KeyStep, iv: &IvStep) -> Records
 }
 
 /// What a beacon heard stores, by its answer: the record of the phase of its network key, if that changes, and then that of a new IV state, if
-/// there is one. `p` is what the records before the event say. Each record may be put behind those before it.
+/// there is one. `p` is what the records before the event say. Each record may be put behind those before it,
+/// and that of a new IV state is a move to a state that may follow.
 #[tactic(auto, unfolding(run_definitions::specs::Stores::stores))]
 pub fn beacon_records(p: &Persist, answer: &Answer) -> Records
     requires said { IsSaid p.now }
@@ -75,6 +77,7 @@ pub fn beacon_records(p: &Persist, answer: &Answer) -> Records
     ensures value { (layers : Layers) (past : Past) (octets : List ℕ) (insight : Insight) → config_in p.now ≡ config_before past
         → result ≡ stores layers past (E.Bcn octets) insight answer.now }
     ensures may { ArePuttable p.now result }
+    ensures moves { AreMoves (config_in p.now) result }
 {
     match answer {
         Answer::Beacon { index, key, iv } => step_and_phase(p, *index, *key, iv),

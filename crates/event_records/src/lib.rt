@@ -5,14 +5,17 @@
 //! - `ticks`: time that passed
 //! - `beacons`: a beacon heard
 //! - `messages`: a network PDU heard
+//! - `laws`: what is known of the index of a network key
 #![tactic(auto)]
 
 mod beacons;
+mod laws;
 mod messages;
 mod numbers;
 mod ticks;
 
 pub use beacons::beacon_records;
+pub use laws::index_law;
 use mesh_base::table::Table;
 pub use messages::heard_records;
 use record_types::records::StoreRecord;

@@ -2,12 +2,14 @@
 #![tactic(auto)]
 
 ghost use Rattle.std.specs.Prelude.{◌≡◌, ℕ, ◌<◌, ◌^◌, List, All, IfSome};
+ghost use Rattle.event_records.specs.Putting.{AreMoves};
 ghost use Rattle.mesh_base.specs.declared.pair.Name.{Name};
 ghost use Rattle.mesh_types.specs.declared.events.Event.TheVariants as E;
 ghost use Rattle.node_layers.specs.BuiltLayers.{built_layers};
 ghost use Rattle.run_definitions.specs.History.{Insight, Past};
 ghost use Rattle.run_definitions.specs.Stores.{stores};
 ghost use Rattle.run_definitions.specs.Uses.{accepted as accepted_in};
+ghost use Rattle.store_definitions.specs.Config.{Config};
 ghost use Rattle.store_definitions.specs.Ranges.{IsInRange};
 
 use crate::Records;
@@ -33,6 +35,7 @@ pub fn heard_records(answer: &Answer) -> Records
     requires { IfSome (accepted_in answer.now) (λ (name : Name). name.pair.seq < 2 ^ 24) }
     ensures value { (past : Past) (octets : List ℕ) (insight : Insight) → result ≡ stores built_layers past (E.Net octets) insight answer.now }
     ensures ranges { All IsInRange result }
+    ensures moves { (c : Config) → AreMoves c result }
 {
     let mut records = Records::new();
     if let Some(first) = accepted(answer) {

@@ -3,13 +3,14 @@
 
 ghost use Rattle.std.specs.Prelude.{◌≡◌, ◌+◌, ◌*◌, ◌^◌, ◌<◌, ◌≤◌, ◌++◌, nat_lt, if◌then◌else◌, length, List, ◌∷◌, []};
 ghost use Rattle.std.specs.Option.{option_to_list};
-ghost use Rattle.event_records.specs.Putting.{ArePuttable};
+ghost use Rattle.event_records.specs.Putting.{AreMoves, ArePuttable};
 ghost use Rattle.event_records.specs.Steps.{LeadsOn};
 ghost use Rattle.iv_update.specs.Steps.{IsLater};
 ghost use Rattle.mesh_base.specs.IvState.{HasTransmit, transmit_of};
 ghost use Rattle.node_records.specs.Tables.{config_in};
 ghost use Rattle.node_records.specs.declared.persist.Persist.{Persist};
 ghost use Rattle.run_definitions.specs.Stores.{step_records};
+ghost use Rattle.store_definitions.specs.Config.{Config};
 ghost use Rattle.store_definitions.specs.Numbers.{moved as moved_in};
 ghost use Rattle.store_definitions.specs.Ranges.{IsMark};
 
@@ -46,6 +47,8 @@ pub(crate) fn moved(p: &Persist, s: &IvState) -> StoreRecord
     ensures value { result ≡ moved_in (config_in p.now) s.now }
     ensures may { IsMark p.now.iv p.now.mark → IsLater p.now.iv s.now → (q : Persist) → q.iv.current ≡ p.now.iv.current → q.mark ≡ p.now.mark
         → ArePuttable q (result ∷ []) }
+    ensures moves { IsLater p.now.iv s.now → (c : Config) → c.iv.current ≡ p.now.iv.current → c.iv.progress ≡ p.now.iv.progress → c.mark ≡ p.now.mark
+        → AreMoves c (result ∷ []) }
 {
     in_widths(s.current, s.hours, s.since);
     StoreRecord::Numbers {
@@ -64,6 +67,8 @@ pub(crate) fn step_record(p: &Persist, step: &IvStep) -> Option<StoreRecord>
     ensures value { option_to_list result ≡ step_records (config_in p.now) step.now }
     ensures may { IsMark p.now.iv p.now.mark → (q : Persist) → q.iv.current ≡ p.now.iv.current → q.mark ≡ p.now.mark
         → ArePuttable q (option_to_list result) }
+    ensures moves { (c : Config) → c.iv.current ≡ p.now.iv.current → c.iv.progress ≡ p.now.iv.progress → c.mark ≡ p.now.mark
+        → AreMoves c (option_to_list result) }
 {
     match step {
         IvStep::Begin(s) => Some(moved(p, s)),

@@ -2,7 +2,7 @@
 #![tactic(auto)]
 
 ghost use Rattle.std.specs.Prelude.{◌≡◌, ℕ, ◌-◌, ◌/◌, ◌≤◌, ◌^◌};
-ghost use Rattle.event_records.specs.Putting.{ArePuttable};
+ghost use Rattle.event_records.specs.Putting.{AreMoves, ArePuttable};
 ghost use Rattle.event_records.specs.Steps.{hour_records as hour_records_in};
 ghost use Rattle.mesh_types.specs.declared.events.Event.TheVariants as E;
 ghost use Rattle.node_records.specs.Meaning.{IsSaid};
@@ -36,6 +36,7 @@ fn hour_records(p: &Persist, passed: u32, busy: bool) -> Records
     requires said { IsSaid p.now }
     ensures value { result ≡ hour_records_in (config_in p.now) passed busy }
     ensures may { ArePuttable p.now result }
+    ensures moves { AreMoves (config_in p.now) result }
 {
     let mut records = Records::new();
     if passed == 0 {
@@ -58,7 +59,7 @@ fn hour_records(p: &Persist, passed: u32, busy: bool) -> Records
 
 /// What a tick event stores, from the ticks of this life before it to those after it, at most 2^48: where hours passed, their record, and then
 /// that of a new IV state, if there is one. `p` is what the records before the event say, and `busy` says that an own segmented message is
-/// unacknowledged. Each record may be put behind those before it.
+/// unacknowledged. Each record may be put behind those before it, and that of a new IV state is a move to a state that may follow.
 #[tactic(auto, unfolding(run_definitions::specs::Stores::stores))]
 pub fn tick_records(p: &Persist, from: u64, to: u64, busy: bool, answer: &Answer) -> Records
     requires said { IsSaid p.now }
@@ -66,6 +67,7 @@ pub fn tick_records(p: &Persist, from: u64, to: u64, busy: bool, answer: &Answer
     ensures value { (layers : Layers) (past : Past) (ticks : ℕ) (insight : Insight) → config_in p.now ≡ config_before past → from ≡ now_of past.told
         → to ≡ later past ticks → busy ≡ is_busy layers past → result ≡ stores layers past (E.Tick ticks) insight answer.now }
     ensures may { ArePuttable p.now result }
+    ensures moves { AreMoves (config_in p.now) result }
 {
     match answer {
         Answer::Ticked { .. } => hour_records(p, hours_passed(from, to), busy),

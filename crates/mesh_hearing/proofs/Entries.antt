@@ -25,17 +25,17 @@ again_more names (Some n) = refl
 pub goes_on : GoOn
 goes_on t told e h = record {
   cache =
-    ap (λ names. cache_after names (cached_name e.insight (is_before_cache e.entry.answer))) h.cache
-    ∙ cache_more (cached_names told) (cached_name e.insight (is_before_cache e.entry.answer))
-    ∙ sym (cache_goes_on told e);
+      ap (λ names. cache_after names (cached_name e.insight (is_before_cache e.entry.answer))) h.cache
+      ∙ cache_more (cached_names told) (cached_name e.insight (is_before_cache e.entry.answer))
+      ∙ sym (cache_goes_on told e);
   parts =
-    ap (λ n. fold after t.parts (message_calls n (config_of e.records) e.insight e.entry.answer ++ tick_calls e.entry.answer)) h.ticks
-    ∙ ap (λ ps. fold after ps (calls_at (now_of told) e)) h.parts
-    ∙ sym (parts_go_on told e []);
+      ap (λ n. fold after t.parts (message_calls n (config_of e.records) e.insight e.entry.answer ++ tick_calls e.entry.answer)) h.ticks
+      ∙ ap (λ ps. fold after ps (calls_at (now_of told) e)) h.parts
+      ∙ sym (parts_go_on told e []);
   again =
-    ap (λ names. again_after names (segmented_name e.insight e.entry.answer)) h.again
-    ∙ again_more (segmented_names told) (segmented_name e.insight e.entry.answer)
-    ∙ sym (segmented_goes_on told e);
+      ap (λ names. again_after names (segmented_name e.insight e.entry.answer)) h.again
+      ∙ again_more (segmented_names told) (segmented_name e.insight e.entry.answer)
+      ∙ sym (segmented_goes_on told e);
   ticks = ap (λ n. ticks_after n e.entry.answer) h.ticks ∙ sym (time_goes_on told e);
 }
 

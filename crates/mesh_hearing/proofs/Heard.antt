@@ -46,9 +46,11 @@ pub reads : (past : Past) (p : Persist) (keys : HeldKeys) (octets : List ℕ) (r
     → (place : ℕ) × Reads (heard_keys keys.nets) p.iv.current octets r.fields place r.by → IsReading built_layers past octets (Some (reading_of r))
 unfolding built_layers
 reads past p keys octets r m k (place, read) =
-    let current : p.iv.current ≡ (config_before past).iv.current = ap (λ (c : Config). c.iv.current) m.config in
-    (place, subst (λ ks. Reads ks (config_before past).iv.current octets r.fields place r.by) (keys_are past p keys m k)
-    (subst (λ iv. Reads (heard_keys keys.nets) iv octets r.fields place r.by) current read))
+    let current : p.iv.current ≡ (config_before past).iv.current = ap (λ (c : Config). c.iv.current) m.config in (
+      place,
+      subst (λ ks. Reads ks (config_before past).iv.current octets r.fields place r.by) (keys_are past p keys m k)
+          (subst (λ iv. Reads (heard_keys keys.nets) iv octets r.fields place r.by) current read),
+    )
 
 unread_under : (keys : List Heard) (current : ℕ) (octets : List ℕ) → IsUnread keys current octets
     → (f : NetFields) (place : ℕ) (by : Heard) → Reads keys current octets f place by → ⊥

@@ -9,10 +9,11 @@ use Rattle.layer_states.specs.declared.reassembly.Assembly.{Assembly}
 use Rattle.layer_states.specs.declared.reassembly.DueAck.{DueAck}
 use Rattle.mesh_base.specs.declared.beacon.Beacon.{Beacon}
 use Rattle.mesh_base.specs.declared.keys.NetKeyRow.{NetKeyRow}
+use Rattle.mesh_hearing.proofs.Entries.{goes_on}
 use Rattle.mesh_hearing.proofs.Heard.{tables_more}
 use Rattle.mesh_hearing.specs.Below.{beacon_row}
 use Rattle.mesh_hearing.specs.Heard.{IsBeaconHeard, IsPassed}
-use Rattle.mesh_hearing.specs.Tables.{AreTablesOf, TablesView}
+use Rattle.mesh_hearing.specs.Tables.{AreTablesOf, TablesView, tables_after}
 use Rattle.mesh_types.specs.declared.answers.Answer.{Answer}
 use Rattle.mesh_types.specs.declared.answers.Answer.TheVariants as A
 use Rattle.mesh_types.specs.declared.events.Event.TheVariants as E
@@ -86,6 +87,19 @@ beacon_reset past p octets m e =
       sees = sees_nothing {event = E.Bcn octets} (ap (λ b. not b) reset);
       answer = reset_answer past octets OfNothing reset;
     }
+
+-- No table changes.
+
+pub quiet_more : (told : List Told) (t : TablesView) (e : Told) (i : Insight) (a : Answer) → AreTablesOf t told → e.insight ≡ i → e.entry.answer ≡ a
+    → ((c : Config) → tables_after t c i a ≡ t) → AreTablesOf t (told ++ e ∷ [])
+quiet_more told t e i a h ei ea same =
+    let by_insight = subst (λ x. AreTablesOf (tables_after t (config_of e.records) x e.entry.answer) (told ++ e ∷ [])) ei (goes_on t told e h) in
+    let by_answer = subst (λ x. AreTablesOf (tables_after t (config_of e.records) i x) (told ++ e ∷ [])) ea by_insight in
+    subst (λ x. AreTablesOf x (told ++ e ∷ [])) (same (config_of e.records)) by_answer
+
+pub beacon_more : (told : List Told) (t : TablesView) (e : Told) (c : Config) (b : Beacon) (a : Answer) → AreTablesOf t told → e.insight ≡ OfBeacon (Some b)
+    → e.entry.answer ≡ a → a ≡ beacon_row c b → AreTablesOf t (told ++ e ∷ [])
+beacon_more told t e c b a h ei ea is = quiet_more told t e (OfBeacon (Some b)) (beacon_row c b) h ei (ea ∙ is) (λ _. refl)
 
 -- Time.
 

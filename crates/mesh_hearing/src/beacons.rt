@@ -1,16 +1,17 @@
 //! A Secure Network beacon heard (Mesh Profile 1.0.1, sections 3.9.3, 3.10.4 and 3.10.5).
 #![tactic(auto)]
 
-ghost use Rattle.std.specs.Prelude.{◌≡◌, ◌==◌, ℕ, false, Some, None, is_some};
+ghost use Rattle.std.specs.Prelude.{◌≡◌, ◌++◌, ◌∷◌, [], List};
 ghost use Rattle.std.specs.Option.{option_copied};
 ghost use Rattle.layer_definitions.specs.KeyRefresh.{net_row as net_row_in};
 ghost use Rattle.mesh_base.specs.IvState.{HasTransmit};
 ghost use Rattle.mesh_hearing.specs.Below.{beacon_row};
-ghost use Rattle.mesh_hearing.specs.Heard.{IsBeaconHeard};
+ghost use Rattle.mesh_hearing.specs.Heard.{beacon_insight, IsBeaconHeard};
+ghost use Rattle.mesh_hearing.specs.Tables.{AreTablesOf};
 ghost use Rattle.node_records.specs.Meaning.{IsMeaningOf};
 ghost use Rattle.node_records.specs.Tables.{config_in};
 ghost use Rattle.run_definitions.specs.Answers.{key_step as key_step_in};
-ghost use Rattle.run_definitions.specs.History.{Past};
+ghost use Rattle.run_definitions.specs.History.{Past, Told};
 
 use crate::tables::Tables;
 use iv_update::on_beacon;
@@ -42,9 +43,7 @@ fn net_row(rows: &[NetKeyRow], index: u16) -> Option<&NetKeyRow>
 fn key_step(row: Option<&NetKeyRow>, b: &Beacon) -> KeyStep
     ensures { result ≡ key_step_in (option_copied row.entry) b.now }
 {
-    let Some(row) = row else {
-        return KeyStep::Same
-    };
+    let Some(row) = row else { return KeyStep::Same };
     if b.fresh && b.refresh && row.phase == 1 {
         KeyStep::Phase2
     } else if b.fresh && !b.refresh && row.phase >= 1 {
@@ -63,7 +62,14 @@ fn beacon_answer(p: &Persist, b: &Beacon) -> Answer
     Answer::Beacon {
         index: b.index,
         key: key_step(net_row(rows, b.index), b),
-        iv: on_beacon(&p.iv, net_row(rows, 0).is_some(), b.index, b.iv, b.update, false),
+        iv: on_beacon(
+            &p.iv,
+            net_row(rows, 0).is_some(),
+            b.index,
+            b.iv,
+            b.update,
+            false,
+        ),
     }
 }
 
@@ -72,6 +78,8 @@ impl Tables {
     pub fn hear_beacon(&self, p: &Persist, octets: &[u8]) -> BeaconHearing
         requires { HasTransmit p.now.iv }
         ensures heard { (past : Past) → IsMeaningOf past.records p.now → IsBeaconHeard past octets.now result }
+        ensures tables { (told : List Told) (e : Told) → AreTablesOf self.now told → e.insight ≡ beacon_insight result → e.entry.answer ≡ result.answer
+            → AreTablesOf self.now (told ++ e ∷ []) }
     {
         node_records::laws::order_law();
         net_beacon::beacon_law();

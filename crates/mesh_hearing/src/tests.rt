@@ -2,9 +2,8 @@
 //! of the one beacon, are sample data of the Mesh Profile.
 #![tactic(auto)]
 
-ghost use Rattle.std.specs.Prelude.{◌≡◌, IsTrue};
+ghost use Rattle.std.specs.Prelude.{◌≡◌, [], ◌∷◌};
 ghost use Rattle.mesh_base.specs.IvState.{HasTransmit};
-ghost use Rattle.mesh_hearing.specs.Tables.{IsFit};
 ghost use Rattle.mesh_reading.specs.Held.{AreHeldKeys};
 ghost use Rattle.node_records.specs.Tables.{config_in};
 
@@ -20,7 +19,8 @@ use mesh_base::upper::UpperFields;
 use mesh_types::answers::{Answer, KeyName, KeyStep};
 use net_keys::master;
 use node_records::Persist;
-use std::alloc::AllocError;
+use std::alloc::{AllocError, Global};
+use std::marker::Model;
 use std::test::Fail;
 
 const NK: [u8; 16] = [
@@ -63,10 +63,42 @@ fn name(src: u16, seq: u32) -> Name {
     }
 }
 
+const NET_ROW: NetKeyRow = NetKeyRow {
+    index: 0,
+    phase: 0,
+    key: NK,
+    next: None,
+};
+
+const APP_ROW: AppKeyRow = AppKeyRow {
+    net: 0,
+    index: 0x123,
+    key: AK,
+    next: None,
+};
+
+// A table of one network key, and one of one application key.
+fn one_net() -> Table<NetKeyRow, 4>
+    ensures { result ≡ NET_ROW ∷ [] }
+{
+    let mut rows = Table::new();
+    rows.push(NET_ROW).unwrap();
+    rows
+}
+
+fn one_app() -> Table<AppKeyRow, 8>
+    ensures { result ≡ APP_ROW ∷ [] }
+{
+    let mut rows = Table::new();
+    rows.push(APP_ROW).unwrap();
+    rows
+}
+
 // What the records of a node say that was just provisioned with one network key, under this IV Index.
 fn node(iv: u32) -> Persist
     ensures keys { AreHeldKeys (config_in result) }
     ensures transmit { HasTransmit result.iv }
+    ensures nets { result.nets ≡ NET_ROW ∷ [] }
 {
     let mut p = Persist::new();
     p.unicast = Address(ME);
@@ -78,15 +110,7 @@ fn node(iv: u32) -> Persist
         hours: 0,
         since: 192,
     };
-    let row = NetKeyRow {
-        index: 0,
-        phase: 0,
-        key: NK,
-        next: None,
-    };
-    let mut nets = Table::new();
-    let _ = nets.push(row);
-    p.nets = nets;
+    p.nets = one_net();
     p.apps = Table::new();
     p
 }
@@ -131,14 +155,48 @@ fn remember(p: &mut Persist, answer: &Answer)
     }
 }
 
-// The answer to octets heard, after which the replay list has what was accepted.
-fn hear(tables: &mut Tables, p: &mut Persist, octets: &[u8]) -> Result<Answer, AllocError>
-    requires { IsFit tables.old p.old }
-    ensures { IsFit tables.new p.new }
-{
-    let hearing = tables.hear(p, octets)?;
-    remember(p, &hearing.answer);
-    Ok(hearing.answer)
+// The tables of a life, with a store of this value.
+#[derive(Drop)]
+struct Life {
+    tables: Tables,
+    p: Persist,
+}
+
+impl Model for Life {
+    ghost use Rattle.mesh_base.specs.IvState.{HasTransmit};
+    ghost use Rattle.mesh_hearing.specs.Tables.{IsFit, TablesView};
+    ghost use Rattle.mesh_reading.specs.Held.{AreHeldKeys};
+    ghost use Rattle.node_records.specs.Tables.{config_in};
+    ghost use Rattle.node_records.specs.declared.persist.Persist.{Persist};
+
+    ghost Value = { TablesView × Persist };
+
+    ghost view = { λ l. (l.tables, l.p) };
+
+    ghost invariant = { λ l. IsFit l.tables l.p × AreHeldKeys (config_in l.p) × HasTransmit l.p.iv };
+}
+
+impl Life {
+    fn new(alloc: Global, p: Persist) -> Result<Life, AllocError>
+        requires keys { AreHeldKeys (config_in p) }
+        requires transmit { HasTransmit p.iv }
+    {
+        let tables = Tables::new(alloc, &p)?;
+        Ok(Life { tables, p })
+    }
+
+    // The next life over the same store.
+    fn begin_anew(&mut self, alloc: Global) -> Result<(), AllocError> {
+        self.tables = Tables::new(alloc, &self.p)?;
+        Ok(())
+    }
+
+    // The answer to octets heard, after which the replay list has what was accepted.
+    fn hear(&mut self, octets: &[u8]) -> Result<Answer, AllocError> {
+        let hearing = self.tables.hear(&self.p, octets)?;
+        remember(&mut self.p, &hearing.answer);
+        Ok(hearing.answer)
+    }
 }
 
 fn delivered(src: u16, seq: u32, key: KeyName, payload: &[u8]) -> Option<Answer> {
@@ -155,50 +213,94 @@ fn delivered(src: u16, seq: u32, key: KeyName, payload: &[u8]) -> Option<Answer>
 
 const WAITING: Answer = Answer::Waiting { missing: 1 };
 
+// Which row of the table of answers.
+#[derive(Clone, Copy, Debug, PartialEq, Eq)]
+enum Row {
+    Unread,
+    BadAddress,
+    Own,
+    Cached,
+    NotMine,
+    Malformed,
+    Conflict,
+    Waiting,
+    NoKey,
+    Other,
+}
+
+fn row_of(answer: &Answer) -> Row {
+    match answer {
+        Answer::Unread => Row::Unread,
+        Answer::BadAddress => Row::BadAddress,
+        Answer::Own => Row::Own,
+        Answer::Cached => Row::Cached,
+        Answer::NotMine => Row::NotMine,
+        Answer::Malformed => Row::Malformed,
+        Answer::Conflict => Row::Conflict,
+        Answer::Waiting { .. } => Row::Waiting,
+        Answer::NoKey => Row::NoKey,
+        _ => Row::Other,
+    }
+}
+
+impl Life {
+    fn row(&mut self, octets: &[u8]) -> Result<Row, AllocError> {
+        let answer = self.hear(octets)?;
+        Ok(row_of(&answer))
+    }
+
+    // Whether this is the answer to octets heard.
+    fn answers(&mut self, octets: &[u8], answer: &Answer) -> Result<bool, AllocError> {
+        let heard = self.hear(octets)?;
+        Ok(heard == *answer)
+    }
+}
+
 // Both orders of two segments; each PDU again; a later copy of a segment; both in the next life.
 #[test]
 fn two_segments(rt: HostRuntime) -> Result<(), Fail> {
     let whole = delivered(3, 0x3129ab, KeyName::Dev, ADD);
-    let mut p = node(IV);
-    let mut tables = Tables::new(rt.alloc(), &p)?;
-    assert!(rt; hear(&mut tables, &mut p, B)? == WAITING);
-    assert!(rt; Some(hear(&mut tables, &mut p, A)?) == whole);
-    let mut p = node(IV);
-    let mut tables = Tables::new(rt.alloc(), &p)?;
-    assert!(rt; hear(&mut tables, &mut p, A)? == WAITING);
-    assert!(rt; Some(hear(&mut tables, &mut p, B)?) == whole);
-    assert!(rt; hear(&mut tables, &mut p, A)? == Answer::Cached);
+    let mut life = Life::new(rt.alloc(), node(IV))?;
+    assert!(rt; life.answers(B, &WAITING)?);
+    assert!(rt; Some(life.hear(A)?) == whole);
+    let mut life = Life::new(rt.alloc(), node(IV))?;
+    assert!(rt; life.answers(A, &WAITING)?);
+    assert!(rt; Some(life.hear(B)?) == whole);
+    assert!(rt; life.answers(A, &Answer::Cached)?);
     let copy = pdu(pair(0x3129ad), (false, 4), 3, ME, FIRST);
-    assert!(rt; hear(&mut tables, &mut p, copy.as_slice())? == Answer::Again);
+    assert!(rt; life.answers(copy.as_slice(), &Answer::Again)?);
     let kept = pair(0x3129ab);
-    let mut tables = Tables::new(rt.alloc(), &p)?;
-    assert!(rt; hear(&mut tables, &mut p, A)? == Answer::Replay { kept });
-    assert!(rt; hear(&mut tables, &mut p, B)? == Answer::Replay { kept });
+    life.begin_anew(rt.alloc())?;
+    assert!(rt; life.answers(A, &Answer::Replay { kept })?);
+    assert!(rt; life.answers(B, &Answer::Replay { kept })?);
     Ok(())
 }
+
+// IV Index, SEQ, SRC and DST of a control PDU under the known IV Index 5, and its row.
+const NETWORK_ROWS: [(u32, u32, u16, u16, Row); 13] = [
+    (5, 1, 0x8005, ME, Row::BadAddress),
+    (5, 1, 0, ME, Row::BadAddress),
+    (5, 1, ME, 0, Row::BadAddress),
+    (5, 0, ME, 9, Row::Own),
+    (5, 0, ME, 9, Row::Own),
+    (5, 0, ME, ME, Row::Own),
+    (5, 1, 5, 9, Row::NotMine),
+    (5, 1, 5, 9, Row::Cached),
+    (4, 1, 5, 9, Row::NotMine),
+    (3, 1, 5, 9, Row::Unread),
+    (5, 2, 5, 0xc001, Row::NotMine),
+    (5, 3, 5, 0x8001, Row::NotMine),
+    (5, 4, 5, 0xfffc, Row::NotMine),
+];
 
 // The rows of the network layer, each before those below it, and PDUs of three IV Indexes.
 #[test]
 fn network_rows(rt: HostRuntime) -> Result<(), Fail> {
-    let mut p = node(5);
-    let mut tables = Tables::new(rt.alloc(), &p)?;
-    for (iv, seq, src, dst, answer) in [
-        (5, 1, 0x8005, ME, Answer::BadAddress),
-        (5, 1, 0, ME, Answer::BadAddress),
-        (5, 1, ME, 0, Answer::BadAddress),
-        (5, 0, ME, 9, Answer::Own),
-        (5, 0, ME, 9, Answer::Own),
-        (5, 0, ME, ME, Answer::Own),
-        (5, 1, 5, 9, Answer::NotMine),
-        (5, 1, 5, 9, Answer::Cached),
-        (4, 1, 5, 9, Answer::NotMine),
-        (3, 1, 5, 9, Answer::Unread),
-        (5, 2, 5, 0xc001, Answer::NotMine),
-        (5, 3, 5, 0x8001, Answer::NotMine),
-        (5, 4, 5, 0xfffc, Answer::NotMine),
-    ] {
+    let mut life = Life::new(rt.alloc(), node(5))?;
+    for (iv, seq, src, dst, row) in NETWORK_ROWS {
         let octets = pdu(Pair { iv, seq }, (true, 5), src, dst, b"\x7f");
-        assert!(rt; hear(&mut tables, &mut p, octets.as_slice())? == answer, "{iv} {seq} {src} {dst}");
+        let heard = life.row(octets.as_slice())?;
+        assert!(rt; heard == row, "{iv} {seq} {src} {dst}");
     }
     Ok(())
 }
@@ -206,20 +308,18 @@ fn network_rows(rt: HostRuntime) -> Result<(), Fail> {
 // No octet of a PDU can be changed in a bit.
 #[test]
 fn flipped(rt: HostRuntime) -> Result<(), Fail> {
-    let mut p = node(IV);
-    let mut tables = Tables::new(rt.alloc(), &p)?;
-    let mut octets = Octets::<29>::new();
-    octets.extend(A);
+    let mut life = Life::new(rt.alloc(), node(IV))?;
     let mut bits = [0; 29];
     bits.copy_from_slice(A);
     for place in 0..29 {
-        for bit in [1, 0x80] {
-            bits[place] ^= bit;
-            assert!(rt; hear(&mut tables, &mut p, &bits)? == Answer::Unread, "octet {place}");
-            bits[place] ^= bit;
-        }
+        bits[place] ^= 1;
+        let low = life.row(&bits)?;
+        bits[place] ^= 0x81;
+        let high = life.row(&bits)?;
+        bits[place] ^= 0x80;
+        assert!(rt; low == Row::Unread && high == Row::Unread, "octet {place}");
     }
-    assert!(rt; hear(&mut tables, &mut p, &bits)? == WAITING);
+    assert!(rt; life.answers(&bits, &WAITING)?);
     Ok(())
 }
 
@@ -239,55 +339,72 @@ fn access(key: &UpperKey, seq: u32, dst: u16, label: Option<[u8; 16]>, first: u8
     pdu(pair(seq), (false, 4), 3, dst, tpdu.as_slice())
 }
 
-// Groups and virtual addresses are the node's by its subscriptions; an application key opens what it sealed, with the label that was used.
-#[test]
-fn keys_and_labels(rt: HostRuntime) -> Result<(), Fail> {
+// The label of the standard's sample, whose virtual address is 9736.
+const LABEL: [u8; 16] = [
+    0xf4, 0xa0, 0x02, 0xc7, 0xfb, 0x1e, 0x4c, 0xa0, 0xa4, 0x69, 0xa0, 0x21, 0xde, 0x0d, 0xb8, 0x75,
+];
+
+// The same with an application key, that label behind another one, and a group.
+fn subscriber() -> Persist
+    ensures keys { AreHeldKeys (config_in result) }
+    ensures transmit { HasTransmit result.iv }
+{
     let mut p = node(IV);
-    let mut apps = Table::new();
-    let _ = apps.push(AppKeyRow {
-        net: 0,
-        index: 0x123,
-        key: AK,
-        next: None,
-    });
-    p.apps = apps;
-    // The label of the standard's sample, whose virtual address is 9736, behind another label.
-    let label = [
-        0xf4, 0xa0, 0x02, 0xc7, 0xfb, 0x1e, 0x4c, 0xa0, 0xa4, 0x69, 0xa0, 0x21, 0xde, 0x0d, 0xb8,
-        0x75,
-    ];
+    p.apps = one_app();
     let mut labels = Table::new();
     let _ = labels.push((Address(ME), 0x1000, [7; 16]));
-    let _ = labels.push((Address(ME), 0x1000, label));
+    let _ = labels.push((Address(ME), 0x1000, LABEL));
     p.labels = labels;
     let mut subs = Table::new();
     let _ = subs.push((Address(ME), 0x1000, Address(0xc001)));
     p.subs = subs;
-    let mut tables = Tables::new(rt.alloc(), &p)?;
+    p
+}
+
+impl Life {
+    // The key by which an access message is delivered, if it is.
+    fn delivers(&mut self, octets: &[u8]) -> Result<Option<KeyName>, AllocError> {
+        match self.hear(octets)? {
+            Answer::Delivered { key, .. } => Ok(Some(key)),
+            _ => Ok(None),
+        }
+    }
+}
+
+// Groups and virtual addresses are the node's by its subscriptions; an application key opens what it sealed, with the label that was used.
+#[test]
+fn keys_and_labels(rt: HostRuntime) -> Result<(), Fail> {
+    let mut life = Life::new(rt.alloc(), subscriber())?;
     let app = UpperKey::App {
         index: 0x123,
         aid: 0x26,
         key: AK,
     };
+    let by_app = Some(KeyName::App(0x123));
+    for (seq, dst, label) in [(1, ME, None), (2, 0xc001, None), (3, 0x9736, Some(LABEL))] {
+        let octets = access(&app, seq, dst, label, 0x66);
+        let key = life.delivers(octets.as_slice())?;
+        assert!(rt; key == by_app, "to {dst}");
+    }
+    for (seq, dst, label, first) in [(4, 0x9736, Some([7; 16]), 0x66), (5, ME, None, 0x65)] {
+        let octets = access(&app, seq, dst, label, first);
+        let row = life.row(octets.as_slice())?;
+        assert!(rt; row == Row::NoKey, "to {dst}");
+    }
+    Ok(())
+}
+
+// The device key opens what goes to an element.
+#[test]
+fn device_key(rt: HostRuntime) -> Result<(), Fail> {
+    let mut life = Life::new(rt.alloc(), subscriber())?;
     let device = UpperKey::Device(DK);
-    for (octets, dst, key) in [
-        (access(&app, 1, ME, None, 0x66), ME, Some(KeyName::App(0x123))),
-        (access(&app, 2, 0xc001, None, 0x66), 0xc001, Some(KeyName::App(0x123))),
-        (access(&app, 3, 0x9736, Some(label), 0x66), 0x9736, Some(KeyName::App(0x123))),
-        (access(&app, 4, 0x9736, Some([7; 16]), 0x66), 0x9736, None),
-        (access(&app, 5, ME, None, 0x65), ME, None),
-        (access(&device, 6, ME, None, 0), ME, Some(KeyName::Dev)),
-        (access(&device, 7, 0xc001, None, 0), 0xc001, None),
-        (access(&device, 8, ME, None, 0x66), ME, None),
-    ] {
-        let answer = hear(&mut tables, &mut p, octets.as_slice())?;
-        match (answer, key) {
-            (Answer::Delivered { dst: to, key: by, payload, .. }, Some(key)) => {
-                assert!(rt; to.0 == dst && by == key && payload.as_slice() == b"\x82\x02".as_slice());
-            }
-            (Answer::NoKey, None) => {}
-            _ => assert!(rt; false, "to {dst}"),
-        }
+    let own = access(&device, 6, ME, None, 0);
+    assert!(rt; life.delivers(own.as_slice())? == Some(KeyName::Dev));
+    for (seq, dst, first) in [(7, 0xc001, 0), (8, ME, 0x66)] {
+        let octets = access(&device, seq, dst, None, first);
+        let row = life.row(octets.as_slice())?;
+        assert!(rt; row == Row::NoKey, "to {dst}");
     }
     Ok(())
 }
@@ -301,19 +418,18 @@ fn first_part(seq: u32, src: u16) -> Octets<29> {
 // Eight messages are in progress; a ninth has room when their time is over.
 #[test]
 fn ninth(rt: HostRuntime) -> Result<(), Fail> {
-    let mut p = node(IV);
-    let mut tables = Tables::new(rt.alloc(), &p)?;
+    let mut life = Life::new(rt.alloc(), node(IV))?;
     let mut held = [Name::default(); 8];
     for i in 0..8 {
         let src = 0x101 + i as u16;
         held[i] = name(src, 0);
-        assert!(rt; hear(&mut tables, &mut p, first_part(0, src).as_slice())? == WAITING);
+        assert!(rt; life.answers(first_part(0, src).as_slice(), &WAITING)?);
     }
-    let ninth = hear(&mut tables, &mut p, first_part(0, 0x109).as_slice())?;
+    let ninth = life.hear(first_part(0, 0x109).as_slice())?;
     assert!(rt; ninth == Answer::NoRoom { held });
-    let passed = tables.pass(&p, 1000);
+    let passed = life.tables.pass(&life.p, 1000);
     assert!(rt; passed.answer == Answer::Ticked { now: 1000 } && passed.acks.is_empty());
-    assert!(rt; hear(&mut tables, &mut p, first_part(1, 0x109).as_slice())? == WAITING);
+    assert!(rt; life.answers(first_part(1, 0x109).as_slice(), &WAITING)?);
     Ok(())
 }
 
@@ -328,67 +444,80 @@ fn between_segments(rt: HostRuntime) -> Result<(), Fail> {
         block: 1,
     };
     let whole = delivered(3, 0x3129ab, KeyName::Dev, ADD);
-    let mut p = node(IV);
-    let mut tables = Tables::new(rt.alloc(), &p)?;
-    assert!(rt; hear(&mut tables, &mut p, A)? == WAITING);
-    let passed = tables.pass(&p, 999);
-    assert!(rt; passed.acks.as_slice() == [ack].as_slice() && tables.ticks() == 999);
-    assert!(rt; Some(hear(&mut tables, &mut p, B)?) == whole);
-    let mut p = node(IV);
-    let mut tables = Tables::new(rt.alloc(), &p)?;
-    assert!(rt; hear(&mut tables, &mut p, A)? == WAITING);
-    assert!(rt; tables.pass(&p, 1000).acks.is_empty());
-    assert!(rt; hear(&mut tables, &mut p, B)? == WAITING);
+    let mut life = Life::new(rt.alloc(), node(IV))?;
+    assert!(rt; life.answers(A, &WAITING)?);
+    let passed = life.tables.pass(&life.p, 999);
+    assert!(rt; passed.acks.as_slice() == [ack].as_slice() && life.tables.ticks() == 999);
+    assert!(rt; Some(life.hear(B)?) == whole);
+    let mut life = Life::new(rt.alloc(), node(IV))?;
+    assert!(rt; life.answers(A, &WAITING)?);
+    assert!(rt; life.tables.pass(&life.p, 1000).acks.is_empty());
+    assert!(rt; life.answers(B, &WAITING)?);
     Ok(())
 }
+
+// The second segment with its last octet changed, which belongs to the TransMIC; and the same octets without SEG.
+const WRONG: &[u8] = b"\x80\x26\xac\x21\xcf\xdc\x18\xc5\x2f\xde\xf7\x72\xe0\xe1\x73\x09";
+
+const WHOLE: &[u8] = b"\x00\x26\xac\x21\xcf\xdc\x18\xc5\x2f\xde\xf7\x72\xe0\xe1\x73\x09";
+
+// A segment with SeqZero 1fff, and the one segment of a message with SeqZero 0005.
+const LATE: &[u8] = b"\x80\x7f\xfc\x01\x00\x00\x00\x00\x00\x00\x00\x00\x00\x00\x00\x00";
+
+const ONE: &[u8] = b"\x80\x00\x14\x00\x01\x02\x03\x04\x05";
+
+// SEQ, SRC, DST and the transport PDU of an access PDU, and its row.
+const SEGMENT_ROWS: [(u32, u16, u16, &[u8], Row); 8] = [
+    (0x10, 5, ME, LATE, Row::Malformed),
+    (0x11, 5, ME, b"\x80", Row::Malformed),
+    (0x3129ab, 3, ME, FIRST, Row::Waiting),
+    (0x3129ac, 3, 0xffff, WRONG, Row::Conflict),
+    (0x3129ad, 3, ME, WRONG, Row::NoKey),
+    (0x3129ae, 3, ME, WRONG, Row::Waiting),
+    (0x3129af, 3, ME, WHOLE, Row::NoKey),
+    (5, 6, ME, ONE, Row::NoKey),
+];
 
 // A SeqZero without SeqAuth; a segment at odds with its message; a whole message that no key opens, after which another begins under the
 // name; a message of one piece.
 #[test]
 fn segments(rt: HostRuntime) -> Result<(), Fail> {
-    let mut p = node(IV);
-    let mut tables = Tables::new(rt.alloc(), &p)?;
-    let none: &[u8] = b"\x80\x7f\xfc\x01\x00\x00\x00\x00\x00\x00\x00\x00\x00\x00\x00\x00";
-    // The second segment with its last octet changed, which belongs to the TransMIC.
-    let wrong: &[u8] = b"\x80\x26\xac\x21\xcf\xdc\x18\xc5\x2f\xde\xf7\x72\xe0\xe1\x73\x09";
-    let odd: &[u8] = b"\x00\x26\xac\x21\xcf\xdc\x18\xc5\x2f\xde\xf7\x72\xe0\xe1\x73\x09";
-    let one: &[u8] = b"\x80\x00\x14\x00\x01\x02\x03\x04\x05";
-    for (octets, answer) in [
-        (pdu(pair(0x10), (false, 4), 5, ME, none), Answer::Malformed),
-        (pdu(pair(0x11), (false, 4), 5, ME, b"\x80"), Answer::Malformed),
-        (pdu(pair(0x3129ab), (false, 4), 3, ME, FIRST), WAITING),
-        (pdu(pair(0x3129ac), (false, 4), 3, 0xffff, wrong), Answer::Conflict),
-        (pdu(pair(0x3129ad), (false, 4), 3, ME, wrong), Answer::NoKey),
-        (pdu(pair(0x3129ae), (false, 4), 3, ME, wrong), WAITING),
-        (pdu(pair(0x3129af), (false, 4), 3, ME, odd), Answer::NoKey),
-        (pdu(pair(5), (false, 4), 6, ME, one), Answer::NoKey),
-    ] {
-        assert!(rt; hear(&mut tables, &mut p, octets.as_slice())? == answer);
+    let mut life = Life::new(rt.alloc(), node(IV))?;
+    for (seq, src, dst, tpdu, row) in SEGMENT_ROWS {
+        let octets = pdu(pair(seq), (false, 4), src, dst, tpdu);
+        let heard = life.row(octets.as_slice())?;
+        assert!(rt; heard == row, "{seq}");
     }
     Ok(())
+}
+
+impl Life {
+    // The name of the control message that octets are, if they are one.
+    fn controls(&mut self, octets: &[u8]) -> Result<Option<Name>, AllocError> {
+        match self.hear(octets)? {
+            Answer::Control { name, .. } => Ok(Some(name)),
+            _ => Ok(None),
+        }
+    }
 }
 
 // 512 sources have an entry, and no other has a place.
 #[test]
 fn full_list(rt: HostRuntime) -> Result<(), Fail> {
-    let mut p = node(IV);
-    let mut tables = Tables::new(rt.alloc(), &p)?;
+    let mut life = Life::new(rt.alloc(), node(IV))?;
     for src in 0x101..0x301 {
         let octets = pdu(pair(1), (true, 0), src, ME, b"\x7f");
-        match hear(&mut tables, &mut p, octets.as_slice())? {
-            Answer::Control { name: n, opcode: 0x7f, .. } => assert!(rt; n == name(src, 1)),
-            _ => assert!(rt; false, "{src}"),
-        }
+        assert!(rt;
+            life.controls(octets.as_slice())? == Some(name(src, 1)),
+            "{src}"
+        );
     }
     let other = pdu(pair(1), (true, 0), 0x301, ME, b"\x7f");
-    assert!(rt; hear(&mut tables, &mut p, other.as_slice())? == Answer::ListFull { held: 512 });
-    let again = pdu(pair(1), (true, 1), 0x101, ME, b"\x7f");
-    assert!(rt; hear(&mut tables, &mut p, again.as_slice())? == Answer::Replay { kept: pair(1) });
+    assert!(rt; life.answers(other.as_slice(), &Answer::ListFull { held: 512 })?);
+    let again = pdu(pair(1), (true, 0), 0x101, 0xffff, b"\x7e");
+    assert!(rt; life.answers(again.as_slice(), &Answer::Replay { kept: pair(1) })?);
     let next = pdu(pair(2), (true, 0), 0x101, ME, b"\x7f");
-    match hear(&mut tables, &mut p, next.as_slice())? {
-        Answer::Control { name: n, .. } => assert!(rt; n == name(0x101, 2)),
-        _ => assert!(rt; false),
-    }
+    assert!(rt; life.controls(next.as_slice())? == Some(name(0x101, 2)));
     Ok(())
 }
 
@@ -401,7 +530,7 @@ fn beacon(key: KeyStep, iv: IvStep) -> Answer {
 fn beacons(rt: HostRuntime) -> Result<(), Fail> {
     let sample: &[u8] =
         b"\x01\x00\x3e\xca\xff\x67\x2f\x67\x33\x70\x12\x34\x56\x78\x8e\xa2\x61\x58\x2f\x36\x4f\x6f";
-    let mut p = node(IV);
+    let p = node(IV);
     let tables = Tables::new(rt.alloc(), &p)?;
     let heard = tables.hear_beacon(&p, sample);
     assert!(rt; heard.answer == beacon(KeyStep::Same, IvStep::Ignore { rule: 5 }));
@@ -421,7 +550,10 @@ fn beacons(rt: HostRuntime) -> Result<(), Fail> {
         (0, 4, IvStep::Ignore { rule: 1 }),
     ] {
         let octets = net_beacon::write(&NK, flags, iv);
-        assert!(rt; tables.hear_beacon(&p, &octets).answer == beacon(KeyStep::Same, step), "{iv}");
+        assert!(rt;
+            tables.hear_beacon(&p, &octets).answer == beacon(KeyStep::Same, step),
+            "{iv}"
+        );
     }
     Ok(())
 }
@@ -429,16 +561,17 @@ fn beacons(rt: HostRuntime) -> Result<(), Fail> {
 // After a Node Reset nothing is read, and nothing changes.
 #[test]
 fn after_reset(rt: HostRuntime) -> Result<(), Fail> {
-    let mut p = node(IV);
-    let mut tables = Tables::new(rt.alloc(), &p)?;
-    assert!(rt; hear(&mut tables, &mut p, A)? == WAITING);
-    p.reset = true;
-    assert!(rt; hear(&mut tables, &mut p, B)? == Answer::Reset);
-    assert!(rt; tables.pass(&p, 1000).answer == Answer::Reset && tables.ticks() == 0);
-    assert!(rt; tables.hear_beacon(&p, &[]).answer == Answer::Reset);
-    p.reset = false;
-    tables.renew_keys(&p);
+    let mut life = Life::new(rt.alloc(), node(IV))?;
+    assert!(rt; life.answers(A, &WAITING)?);
+    life.p.reset = true;
+    assert!(rt; life.answers(B, &Answer::Reset)?);
+    assert!(rt;
+        life.tables.pass(&life.p, 1000).answer == Answer::Reset && life.tables.ticks() == 0
+    );
+    assert!(rt; life.tables.hear_beacon(&life.p, &[]).answer == Answer::Reset);
+    life.p.reset = false;
+    life.tables.renew_keys(&life.p);
     let whole = delivered(3, 0x3129ab, KeyName::Dev, ADD);
-    assert!(rt; Some(hear(&mut tables, &mut p, B)?) == whole);
+    assert!(rt; Some(life.hear(B)?) == whole);
     Ok(())
 }

@@ -8,7 +8,7 @@ ghost use Rattle.mesh_world.specs.World.{World};
 ghost use Rattle.mesh_world.specs.World.WorldStep.{Accept};
 ghost use Rattle.node_records.specs.Meaning.{IsMeaningOf};
 ghost use Rattle.node_records.specs.Tables.{config_in, entry_in};
-ghost use Rattle.node_store.specs.Calls.{calls_of};
+ghost use Rattle.node_store.specs.Calls.{calls_of, used_with_room};
 ghost use Rattle.node_store.specs.Tie.{HasMark, Holds, IsPut, IsStoreOf};
 ghost use Rattle.record_types.specs.declared.records.StoreRecord.{StoreRecord};
 ghost use Rattle.rpl_journal.specs.Accepting.{accepting, IsNoNewer, IsReadUnder};
@@ -117,6 +117,7 @@ pub fn accept<F: Flash>(store: &mut Store, flash: &mut F, name: &Name) -> Result
     ensures same_config { config_in store.new.persist ≡ config_in store.old.persist }
     ensures refused { OnErr result (store.new.persist ≡ store.old.persist) }
     ensures usable { OnOk result (store.new.journal.closed ≡ false) }
+    ensures used { OnOk result (store.new.journal.used ≡ used_with_room store.old + 1) }
     ensures steps { (w : World) (published : ℕ) → IsWorldOf w store.old.persist published → OnOk result (GoesBy (Accept name.now ∷ []) w store.new.persist published) }
 
     // of a store of this flash

@@ -79,7 +79,10 @@ fn each_message_once(rt: HostRuntime) -> Result<(), Fail> {
     assert_eq!(rt; hear(&mut store, &mut flash, 0x0101, 5, 1), old);
     assert_eq!(rt; hear(&mut store, &mut flash, 0x0101, 4, 9), old);
     assert_eq!(rt; flash.changes(), 10);
-    assert_eq!(rt; check(store.persist(), &name(0x0101, 5, 2)), Err(Old { kept }));
+    assert_eq!(rt;
+        check(store.persist(), &name(0x0101, 5, 2)),
+        Err(Old { kept })
+    );
     assert_eq!(rt; check(store.persist(), &name(0x0101, 5, 3)), Ok(()));
     assert_eq!(rt; check(store.persist(), &name(0x0101, 6, 0)), Ok(()));
     assert_eq!(rt; hear(&mut store, &mut flash, 0x0102, 4, 9), Some(Ok(())));

@@ -10,10 +10,10 @@
 #![tactic(auto)]
 
 mod counted;
-mod digits;
+pub mod digits;
 mod draft;
 mod event_lines;
-mod forms;
+pub mod forms;
 mod node_lines;
 mod outside_lines;
 pub mod reading;

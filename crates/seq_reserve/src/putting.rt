@@ -8,7 +8,7 @@ ghost use Rattle.mesh_world.specs.World.{World};
 ghost use Rattle.mesh_world.specs.World.WorldStep.{Reserve};
 ghost use Rattle.node_records.specs.Meaning.{IsMeaningOf, IsSaid};
 ghost use Rattle.node_records.specs.Tables.{config_in};
-ghost use Rattle.node_store.specs.Calls.{calls_of};
+ghost use Rattle.node_store.specs.Calls.{calls_of, used_with_room};
 ghost use Rattle.node_store.specs.Tie.{HasMarkFrom, IsNotBelow, IsPut, IsStoreOf};
 ghost use Rattle.record_types.specs.declared.records.StoreRecord.{StoreRecord};
 ghost use Rattle.record_types.specs.declared.records.StoreRecord.TheVariants as R;
@@ -37,6 +37,7 @@ pub(crate) fn put_numbers<F: Flash>(
     ensures cause { store.old.journal.closed ≡ false → OnErr result ((result ≡ Err KeepFault.Flash) × (store.new.journal.closed ≡ true) × ((F.chip flash.old).faults < (F.chip flash.new).faults)) }
     ensures refused { OnErr result (store.new.persist ≡ store.old.persist) }
     ensures usable { OnOk result (store.new.journal.closed ≡ false) }
+    ensures used { OnOk result (store.new.journal.used ≡ used_with_room store.old + 1) }
     ensures change { OnOk result (config_in store.new.persist ≡ changed (config_in store.old.persist) item.now) }
     ensures meaning { OnOk result ((records : List StoreRecord) → IsMeaningOf records store.old.persist → IsMeaningOf (records ++ item.now ∷ []) store.new.persist) }
     ensures steps { (w : World) (published : ℕ) → IsWorldOf w store.old.persist published → OnOk result (GoesBy (numbers_step item.now) w store.new.persist published) }

@@ -8,7 +8,7 @@ ghost use Rattle.mesh_base.specs.IvState.{HasTransmit, transmit_of};
 ghost use Rattle.mesh_world.specs.World.{World};
 ghost use Rattle.node_records.specs.Meaning.{IsMeaningOf};
 ghost use Rattle.node_records.specs.Tables.{config_in};
-ghost use Rattle.node_store.specs.Calls.{calls_of};
+ghost use Rattle.node_store.specs.Calls.{calls_of, used_with_room};
 ghost use Rattle.node_store.specs.Tie.{HasMarkFrom, IsPut, IsStoreOf};
 ghost use Rattle.record_types.specs.declared.records.StoreRecord.{StoreRecord};
 ghost use Rattle.seq_reserve.specs.Reserving.{first_word, IsDurable, IsPublished, moving, refilling};
@@ -41,10 +41,7 @@ impl Reserve {
     /// Opens the words of a store that was provisioned or mounted: the next number is the stored mark, and so is the mark. No number that
     /// may have been drawn before is below it. The words come with a first seat that draws. An error says that memory ran out; the store is
     /// dropped then, and is mounted again.
-    pub fn start(
-        alloc: Global,
-        store: Store,
-    ) -> Result<(Reserve, Numbers, Drawer), AllocError>
+    pub fn start(alloc: Global, store: Store) -> Result<(Reserve, Numbers, Drawer), AllocError>
         ensures opened { IfOk result (λ t. t.1.opened ≡ store.persist.mark) }
         ensures keeper { IfOk result (λ t. t.0.keeper ≡ record { which = t.1.which; mark = store.persist.mark; advances = [] }) }
         ensures drawer { IfOk result (λ t. t.2 ≡ fresh t.1.which [] 1024) }
@@ -75,6 +72,8 @@ impl Reserve {
         ensures nothing { seen ≢ self.old.keeper.mark → (result ≡ Ok self.old.keeper.mark) × (self.new ≡ self.old) × (flash.new ≡ flash.old) }
         ensures filled { seen ≡ self.old.keeper.mark → OnOk result ((self.new.keeper ≡ record self.old.keeper { mark = seen + 256 }) × (config_in self.new.store.persist ≡ changed (config_in self.old.store.persist) (fill_of (config_in self.old.store.persist)))) }
         ensures meaning { (records : List StoreRecord) → IsMeaningOf records self.old.store.persist → seen ≡ self.old.keeper.mark → OnOk result (IsMeaningOf (records ++ fill_of (config_of records) ∷ []) self.new.store.persist) }
+        ensures usable { seen ≡ self.old.keeper.mark → OnOk result (self.new.store.journal.closed ≡ false) }
+        ensures used { seen ≡ self.old.keeper.mark → OnOk result (self.new.store.journal.used ≡ used_with_room self.old.store + 1) }
         ensures refused { OnErr result ((self.new.keeper ≡ self.old.keeper) × (self.new.store.persist ≡ self.old.store.persist)) }
         ensures closed { seen ≡ self.old.keeper.mark → self.old.store.journal.closed ≡ true → (result ≡ Err KeepFault.Closed) × (self.new ≡ self.old) × (flash.new ≡ flash.old) }
         ensures cause { seen ≡ self.old.keeper.mark → self.old.store.journal.closed ≡ false → OnErr result ((result ≡ Err KeepFault.Flash) × (self.new.store.journal.closed ≡ true) × ((F.chip flash.old).faults < (F.chip flash.new).faults)) }
@@ -131,6 +130,8 @@ impl Reserve {
         ensures advanced { transmit_of self.old.store.persist.iv < transmit_of to.now → OnOk result ((self.new.keeper.mark ≡ first_word to.now) × ((found : ℕ) × (self.new.keeper.advances ≡ self.old.keeper.advances ++ (found, first_word to.now) ∷ []))) }
         ensures change { OnOk result (config_in self.new.store.persist ≡ changed (config_in self.old.store.persist) (moved (config_in self.old.store.persist) to.now)) }
         ensures meaning { (records : List StoreRecord) → IsMeaningOf records self.old.store.persist → OnOk result (IsMeaningOf (records ++ moved (config_of records) to.now ∷ []) self.new.store.persist) }
+        ensures usable { OnOk result (self.new.store.journal.closed ≡ false) }
+        ensures used { OnOk result (self.new.store.journal.used ≡ used_with_room self.old.store + 1) }
         ensures refused { OnErr result ((self.new.keeper ≡ self.old.keeper) × (self.new.store.persist ≡ self.old.store.persist)) }
         ensures closed { self.old.store.journal.closed ≡ true → (result ≡ Err KeepFault.Closed) × (self.new ≡ self.old) × (flash.new ≡ flash.old) }
         ensures cause { self.old.store.journal.closed ≡ false → OnErr result ((result ≡ Err KeepFault.Flash) × (self.new.store.journal.closed ≡ true) × ((F.chip flash.old).faults < (F.chip flash.new).faults)) }

@@ -12,7 +12,7 @@ use flash_model::{Bench, MemFlash};
 use mesh_base::address::Address;
 use mesh_base::iv_state::IvState;
 use mesh_base::pair::Pair;
-use node_store::{Provision, Store};
+use node_store::{Provision, PutFault, Store};
 use record_types::records::StoreRecord;
 use seq_word::{Drawer, Miss, Numbers};
 use std::test::Fail;
@@ -24,6 +24,7 @@ const FIRST: u64 = 0x0024_68ac_f000_0000;
 
 // SEQ 0 under IV Index 5, and under 6.
 const FIVE: u64 = 0x0a00_0000;
+
 const SIX: u64 = 0x0c00_0000;
 
 fn node(iv: u32, flags: u8) -> Provision
@@ -45,7 +46,7 @@ fn node(iv: u32, flags: u8) -> Provision
 /// Draws so many numbers, and gives SEQ of the last.
 fn draw_some(numbers: &Numbers, drawer: &mut Drawer, count: u32) -> Option<u32>
     requires { drawer.old.which ≡ numbers.now.which }
-    ensures { drawer.new.which ≡ drawer.old.which }
+    ensures { drawer.new.which ≡ numbers.now.which }
 {
     let mut last = None;
     for _ in 0..count {
@@ -63,13 +64,19 @@ fn blocks_as_they_are_drawn(rt: HostRuntime) -> Result<(), Fail> {
     let (first, second) = (FIRST + 256, FIRST + 512);
     assert_eq!(rt;
         numbers.try_draw(&mut drawer),
-        Err(Miss::Dry { next: FIRST, mark: FIRST })
+        Err(Miss::Dry {
+            next: FIRST,
+            mark: FIRST
+        })
     );
     assert_eq!(rt; reserve.refill(&numbers, &mut flash, FIRST), Ok(first));
     assert_eq!(rt; draw_some(&numbers, &mut drawer, 256), Some(0xff));
     assert_eq!(rt;
         numbers.try_draw(&mut drawer),
-        Err(Miss::Dry { next: first, mark: first })
+        Err(Miss::Dry {
+            next: first,
+            mark: first
+        })
     );
     assert_eq!(rt; reserve.refill(&numbers, &mut flash, first), Ok(second));
     assert_eq!(rt; draw_some(&numbers, &mut drawer, 1), Some(0x100));
@@ -79,7 +86,10 @@ fn blocks_as_they_are_drawn(rt: HostRuntime) -> Result<(), Fail> {
     let (_reserve, numbers, mut drawer) = Reserve::start(rt.alloc(), store)?;
     assert_eq!(rt;
         numbers.try_draw(&mut drawer),
-        Err(Miss::Dry { next: second, mark: second })
+        Err(Miss::Dry {
+            next: second,
+            mark: second
+        })
     );
     Ok(())
 }
@@ -91,9 +101,15 @@ fn a_mark_seen_before_a_refill(rt: HostRuntime) -> Result<(), Fail> {
     let store = Store::provision(&mut flash, &node(0x12345678, 0))?;
     let (mut reserve, numbers, _drawer) = Reserve::start(rt.alloc(), store)?;
     assert_eq!(rt; flash.changes(), 8);
-    assert_eq!(rt; reserve.refill(&numbers, &mut flash, FIRST), Ok(FIRST + 256));
+    assert_eq!(rt;
+        reserve.refill(&numbers, &mut flash, FIRST),
+        Ok(FIRST + 256)
+    );
     assert_eq!(rt; flash.changes(), 10);
-    assert_eq!(rt; reserve.refill(&numbers, &mut flash, FIRST), Ok(FIRST + 256));
+    assert_eq!(rt;
+        reserve.refill(&numbers, &mut flash, FIRST),
+        Ok(FIRST + 256)
+    );
     assert_eq!(rt; flash.changes(), 10);
     assert_eq!(rt; reserve.store.persist().mark, FIRST + 256);
     Ok(())
@@ -111,15 +127,28 @@ fn a_cut_of_a_refill(rt: HostRuntime) -> Result<(), Fail> {
             assert_eq!(rt; reserve.refill(&numbers, &mut flash, FIRST), Ok(first));
             flash.power_cycle();
             flash.arm(calls, mask);
-            assert_eq!(rt; reserve.refill(&numbers, &mut flash, first), Err(KeepFault::Flash));
-            assert_eq!(rt; reserve.refill(&numbers, &mut flash, first), Err(KeepFault::Closed));
+            assert_eq!(rt;
+                reserve.refill(&numbers, &mut flash, first),
+                Err(KeepFault::Flash)
+            );
+            assert_eq!(rt;
+                reserve.refill(&numbers, &mut flash, first),
+                Err(KeepFault::Closed)
+            );
             assert_eq!(rt; draw_some(&numbers, &mut drawer, 256), Some(0xff));
             assert_eq!(rt;
                 numbers.try_draw(&mut drawer),
-                Err(Miss::Dry { next: first, mark: first })
+                Err(Miss::Dry {
+                    next: first,
+                    mark: first
+                })
             );
             flash.power_cycle();
-            let mark = if calls == 1 && mask == 0xff { second } else { first };
+            let mark = if calls == 1 && mask == 0xff {
+                second
+            } else {
+                first
+            };
             assert_eq!(rt; Store::mount(&mut flash)?.persist().mark, mark);
         }
     }
@@ -127,23 +156,42 @@ fn a_cut_of_a_refill(rt: HostRuntime) -> Result<(), Fail> {
 }
 
 /// Moves to IV Index 6 in Normal Operation, where that is no fall.
-fn finish(reserve: &mut Reserve, numbers: &Numbers, flash: &mut MemFlash) -> Option<Result<(), KeepFault>>
+fn finish(
+    reserve: &mut Reserve,
+    numbers: &Numbers,
+    flash: &mut MemFlash,
+) -> Option<Result<(), KeepFault>>
     requires made { reserve.old.keeper.which ≡ numbers.now.which }
     requires published { IsPublished reserve.old.store reserve.old.keeper }
     ensures made { reserve.new.keeper.which ≡ reserve.old.keeper.which }
     ensures published { IsPublished reserve.new.store reserve.new.keeper }
 {
     let iv = reserve.store.persist().iv;
-    if 6 < iv.current || 6 < iv.transmit() {
-        return None;
-    }
     let to = IvState {
         current: 6,
         progress: false,
         hours: 0,
         since: iv.since,
     };
+    if to.current < iv.current || to.transmit() < iv.transmit() {
+        return None;
+    }
     Some(reserve.move_iv(numbers, flash, &to))
+}
+
+/// Stores hours, which leaves the mark as it is.
+#[tactic(auto, unfolding(store_definitions::specs::Config::changed))]
+fn put_hours(reserve: &mut Reserve, flash: &mut MemFlash) -> Result<(), PutFault>
+    requires { IsPublished reserve.old.store reserve.old.keeper }
+    ensures published { IsPublished reserve.new.store reserve.new.keeper }
+    ensures keeper { reserve.new.keeper ≡ reserve.old.keeper }
+{
+    let hours = StoreRecord::Hour {
+        hours: 96,
+        since: 288,
+    };
+    reserve.store.put(flash, &hours)?;
+    Ok(())
 }
 
 // An IV Update ends: numbers go on at SEQ 0 under the new IV Index, and what was reserved under the old one is passed over.
@@ -158,7 +206,10 @@ fn numbers_under_a_new_iv_index(rt: HostRuntime) -> Result<(), Fail> {
     assert_eq!(rt; flash.changes(), 12);
     assert_eq!(rt;
         numbers.try_draw(&mut drawer),
-        Err(Miss::Dry { next: SIX, mark: SIX })
+        Err(Miss::Dry {
+            next: SIX,
+            mark: SIX
+        })
     );
     assert_eq!(rt; reserve.refill(&numbers, &mut flash, SIX), Ok(SIX + 256));
     assert_eq!(rt; numbers.try_draw(&mut drawer), Ok(Pair { iv: 6, seq: 0 }));
@@ -183,12 +234,16 @@ fn a_cut_of_the_end_of_an_iv_update(rt: HostRuntime) -> Result<(), Fail> {
             flash.arm(calls, mask);
             assert_eq!(rt; reserve.refill(&numbers, &mut flash, FIVE), Ok(FIVE + 256));
             assert_eq!(rt; numbers.try_draw(&mut drawer), Ok(Pair { iv: 5, seq: 0 }));
-            let hours = StoreRecord::Hour { hours: 96, since: 288 };
-            assert_eq!(rt; reserve.store.put(&mut flash, &hours), Ok(()));
-            let _published = reserve.store.persist();
-            assert_eq!(rt; finish(&mut reserve, &numbers, &mut flash), Some(Err(KeepFault::Flash)));
+            assert_eq!(rt; put_hours(&mut reserve, &mut flash), Ok(()));
+            assert_eq!(rt;
+                finish(&mut reserve, &numbers, &mut flash),
+                Some(Err(KeepFault::Flash))
+            );
             assert_eq!(rt; flash.changes(), calls + 1);
-            assert_eq!(rt; finish(&mut reserve, &numbers, &mut flash), Some(Err(KeepFault::Closed)));
+            assert_eq!(rt;
+                finish(&mut reserve, &numbers, &mut flash),
+                Some(Err(KeepFault::Closed))
+            );
             assert_eq!(rt; numbers.try_draw(&mut drawer), Ok(Pair { iv: 5, seq: 1 }));
             flash.power_cycle();
             let found = Store::mount(&mut flash)?;

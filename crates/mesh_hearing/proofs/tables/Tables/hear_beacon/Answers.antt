@@ -1,13 +1,19 @@
-use Rattle.std.proofs.Common.{refl, subst}
+use Rattle.std.proofs.Common.{None, refl, subst}
 use Rattle.layer_definitions.specs.Beacon.{ReadsBeacon}
 use Rattle.layer_definitions.specs.KeyRefresh.{beacon_keys, net_index}
 use Rattle.layer_definitions.specs.Order.{by_index}
+use Rattle.mesh_types.specs.declared.answers.Answer.TheVariants as A
 use Rattle.net_beacon.specs.Reading.{IsUnread}
-use Rattle.mesh_hearing.proofs.Passing.{beacon_heard, beacon_reset, beacon_unread}
+use Rattle.mesh_hearing.proofs.Passing.{beacon_heard, beacon_more, beacon_reset, beacon_unread, quiet_more}
+use Rattle.node_records.specs.Tables.{config_in}
+use Rattle.run_definitions.specs.History.{OfBeacon, OfNothing}
 use Rattle.mesh_hearing.proofs.tables.Tables.hear_beacon.Goals as goal
 
 pub returns-then-p : goal.returns-then-p
-returns-then-p c = record { heard = λ past m. beacon_reset past c.args.p.now c.args.octets.now m c.if-p.true }
+returns-then-p c = record {
+  heard = λ past m. beacon_reset past c.args.p.now c.args.octets.now m c.if-p.true;
+  tables = λ told e h i a. quiet_more told c.args.self.now e OfNothing A.Reset h i a (λ _. refl);
+}
 
 pub returns-in-Ok : goal.returns-in-Ok
 returns-in-Ok c = record {
@@ -16,6 +22,8 @@ returns-in-Ok c = record {
       (c.order_law.ensures.nets past.records)
       (subst (λ rows. ReadsBeacon (beacon_keys (by_index net_index rows)) c.args.octets.now c.in-Ok.beacon) c.as_slice.ensures.value c.in-Ok.ensures.ok)
       c.beacon_answer.ensures.value;
+  tables = λ told e h i a.
+      beacon_more told c.args.self.now e (config_in c.args.p.now) c.in-Ok.beacon c.beacon_answer.result h i a c.beacon_answer.ensures.value;
 }
 
 pub returns-in-Err : goal.returns-in-Err
@@ -23,4 +31,5 @@ returns-in-Err c = record {
   heard = λ past m.
       beacon_unread past c.args.p.now c.args.octets.now m c.if-p.false c.beacon_law.ensures.order (c.order_law.ensures.nets past.records)
       (subst (λ rows. IsUnread (beacon_keys (by_index net_index rows)) c.args.octets.now) c.as_slice.ensures.value (c.in-Err.ensures.unread.0 refl));
+  tables = λ told e h i a. quiet_more told c.args.self.now e (OfBeacon None) A.Unread h i a (λ _. refl);
 }

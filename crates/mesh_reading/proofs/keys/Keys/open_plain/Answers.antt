@@ -9,5 +9,5 @@ returns-in-Ok c =
     let keys = ap (λ (k : HeldKeys). app_keys k.apps c.args.net c.args.aid) c.self.view_is in
     record {
       value = opened_plain (app_keys c.args.self.now.apps c.args.net c.args.aid) _ c.as_slice.result.now c.args.f.now c.args.upper.now c.in-Ok.opened.at
-      c.in-Ok.opened.payload _ (c.values.ensures.fitting c.args.net c.args.aid ∙ keys) (c.as_slice.ensures.value ∙ c.candidates-keys.ensures.value ∙ keys) c.in-Ok.ensures.ok;
+          c.in-Ok.opened.payload _ (c.values.ensures.fitting c.args.net c.args.aid ∙ keys) (c.as_slice.ensures.value ∙ c.candidates-keys.ensures.value ∙ keys) c.in-Ok.ensures.ok;
     }

@@ -69,13 +69,12 @@ returns-clause-advanced g c less =
     c.raises-rises.ensures ∙ ap (λ (x : Persist). nat_lt (transmit_of x.iv) (transmit_of to)) c.persist.ensures.value in
     let t : nat_lt (transmit_of p.iv) (transmit_of to) ≡ true = less_true _ _ less in
     let first : q.mark ≡ first_word to = first_by _ q.mark (first_word to) p.mark t (mark_moved p q to item is c.in_ok-put_numbers.ensures.change) in
-    let advanced = c.go_on.ensures.advanced (rises ∙ t) in
-    (
+    let advanced = c.go_on.ensures.advanced (rises ∙ t) in (
       c.go_on.ensures.published (rises ∙ t) ∙ ap (λ (x : Persist). x.mark) c.persist-3.ensures.value ∙ first,
       (
         advanced.0,
-        subst (λ n. c.go_on.new.keeper.advances ≡ c.args.self.now.keeper.advances ++ (advanced.0, n * 2 ^ 25) ∷ []) c.transmit.ensures.value advanced.1
-      )
+        subst (λ n. c.go_on.new.keeper.advances ≡ c.args.self.now.keeper.advances ++ (advanced.0, n * 2 ^ 25) ∷ []) c.transmit.ensures.value advanced.1,
+      ),
     )
 
 pub returns-clause-published : goal.returns-clause-published

@@ -61,10 +61,9 @@ returns-clause-filled g c seen =
     let up : c.put_numbers.new.store.persist.mark ≡ p.mark + 256 = mark_filled p c.put_numbers.new.store.persist item is c.in_ok-put_numbers.ensures.change in
     let mark : c.persist-3.result.now.mark ≡ c.args.seen + 256 =
     ap (λ (x : Persist). x.mark) c.persist-3.ensures.value ∙ up ∙ ap (λ n. n + 256) (sym (seen ∙ c.requires.published)) in
-    let with_mark : ℕ → KeeperView = λ n. record { which = k.which; mark = n; advances = k.advances } in
-    (
+    let with_mark : ℕ → KeeperView = λ n. record { which = k.which; mark = n; advances = k.advances } in (
       c.publish.ensures.value ∙ ap with_mark mark,
-      c.in_ok-put_numbers.ensures.change ∙ ap (λ (i : StoreRecord). changed (config_in p) i) is
+      c.in_ok-put_numbers.ensures.change ∙ ap (λ (i : StoreRecord). changed (config_in p) i) is,
     )
 
 pub returns-clause-steps : goal.returns-clause-steps

@@ -1,0 +1,350 @@
+-- The lines of one phase more, and their pairs.
+use Rattle.std.proofs.Common.{◌≡◌, ◌≢◌, ◌∙◌, ℕ, zero, suc, ◌+◌, ◌<◌, ◌≤◌, Bool, true, false, cond, List, [], ◌∷◌, ◌++◌, length, map, Option, Some, None, refl, sym, ap, subst, arith, append-nil, append_assoc, length-append}
+use Rattle.std.specs.Prelude.{◌^◌, ◌==◌, All, AllPairs, ⊤, option_and_then, replicate, slice_index_or}
+use Rattle.std.specs.List.{Contains, filter, filter_map, flat_map, slice_get}
+use Rattle.std.proofs.lemmas.List.Sums.{length-filter}
+use Rattle.node_phase.proofs.Mine.{kept_no, kept_yes}
+use Rattle.std.specs.Option.{option_map}
+use Rattle.std.proofs.lemmas.List.{length-map, map-append}
+use Rattle.std.proofs.lemmas.List.Elements.{All-append, All-contains, All-nil, All-head, All-push, All-tail, Contains-append_left, Contains-append_right, Contains-get_or, filter-append, filter_map-append}
+use Rattle.std.proofs.lemmas.List.Kept.{AllPairs-cons}
+use Rattle.std.proofs.lemmas.Bool.Decides.{nat_tests}
+use Rattle.mesh_base.specs.Pairs.{word}
+use Rattle.mesh_base.specs.declared.pair.Pair.{Pair}
+use Rattle.machine_contract.specs.declared.answers.Stop.{Stop}
+use Rattle.machine_contract.specs.declared.answers.Stop.TheVariants as S
+use Rattle.mesh_types.specs.declared.events.Event.{Event}
+use Rattle.mesh_types.specs.declared.history.Entry.{Entry}
+use Rattle.mesh_types.specs.declared.history.Sent.{Sent}
+use Rattle.mesh_types.specs.declared.lines.Outcome.{Outcome}
+use Rattle.mesh_types.specs.declared.lines.Outcome.TheVariants as O
+use Rattle.report_definitions.specs.Record.{Shown, list_at, shown_of}
+use Rattle.run_definitions.specs.Lines.{drawn_of}
+use Rattle.run_definitions.specs.Order.{Task, handle}
+use Rattle.run_definitions.specs.RunOf.{draws}
+use Rattle.seq_word.specs.Rule.{times}
+use Rattle.seq_word.specs.Seen.{DrawerView}
+use Rattle.seq_word.specs.declared.looks.Look.{Look}
+use Rattle.turn_lock.specs.Entries.{IsPrefix}
+use Rattle.locked_node.specs.declared.marks.Mark.{Mark}
+use Rattle.locked_node.specs.declared.marks.Mark.TheVariants as M
+use Rattle.locked_node.specs.Node.{NodeView, event_in, node_marks, stop_marks}
+use Rattle.node_bearer.specs.Did.{BearerOf, Did}
+use Rattle.node_bearer.specs.Marked.{AreShown, IsSpentSeen, shown_at, shown_in}
+use Rattle.node_bearer.proofs.Doing.{shown_prefix}
+use Rattle.node_bearer.proofs.Lists.{get_longer}
+use Rattle.node_phase.specs.declared.bearers.Done.{Done}
+use Rattle.node_phase.specs.Part.{HadMemory, lines_of}
+use Rattle.node_phase.specs.Worked.{WasPhase, Worked, done_of, drawn_by, looks_by}
+use Rattle.node_phase.proofs.Parting.{first_of, index_map}
+use Rattle.life_laws.specs.Pairs.{AreShownBy, PairsSo, ShowsIn, all_of}
+use Rattle.life_laws.specs.Phases.{both_of}
+use Rattle.life_laws.proofs.Placing.{CameTo, came_to}
+
+-- An entry that is shown among the marks is among the entries.
+stop_is_none : (k : ℕ) (i : ℕ) (e : Entry) → slice_get (replicate k (M.Stopped None)) i ≡ Some (M.Handled e) → ⊥
+stop_is_none zero i e h = cc
+stop_is_none (suc k) zero e h = cc
+stop_is_none (suc k) (suc i) e h = stop_is_none k i e h
+
+unmarked : (es : List Entry) (k : ℕ) (event : Option Event) (i : ℕ) (e : Entry) → slice_get (map M.Handled es ++ stop_marks k event) i ≡ Some (M.Handled e) → slice_get es i ≡ Some e
+unmarked [] zero event i e h = cc
+unmarked [] (suc k) event zero e h = cc
+unmarked [] (suc k) event (suc i) e h = absurd (stop_is_none k i e h)
+unmarked (x ∷ es) k event zero e h = let one : M.Handled x ≡ M.Handled e = cc in cc
+unmarked (x ∷ es) k event (suc i) e h = unmarked es k event i e h
+
+shown_mark : (es : List Entry) (k : ℕ) (event : Option Event) (s : Sent) (y : Shown) (o : Option Mark) → slice_get (map M.Handled es ++ stop_marks k event) s.entry ≡ o
+    → option_and_then (λ m. shown_at m s) o ≡ Some y → shown_of es s ≡ Some y
+shown_mark es k event s y None e h = cc
+shown_mark es k event s y (Some (M.Stopped hand)) e h = cc
+shown_mark es k event s y (Some (M.Handled x)) e h = rw (unmarked es k event s.entry x e) h
+
+found_entries : (es : List Entry) (k : ℕ) (event : Option Event) (lines : List Sent) (shows : List Shown) → map (shown_in (map M.Handled es ++ stop_marks k event)) lines ≡ map Some shows
+    → map (shown_of es) lines ≡ map Some shows
+found_entries es k event [] shows h = h
+found_entries es k event (s ∷ lines) [] h = cc
+found_entries es k event (s ∷ lines) (y ∷ shows) h =
+    let head : shown_in (map M.Handled es ++ stop_marks k event) s ≡ Some y = cc in
+    let tail : map (shown_in (map M.Handled es ++ stop_marks k event)) lines ≡ map Some shows = cc in
+    let one = shown_mark es k event s y (slice_get (map M.Handled es ++ stop_marks k event) s.entry) refl head in
+    let more = found_entries es k event lines shows tail in
+    cc
+
+-- more entries, and more looks
+shown_of_more : (es more : List Entry) (s : Sent) (y : Shown) (o : Option Entry) → slice_get es s.entry ≡ o
+    → option_and_then (λ e. option_map (λ j. record { entry = e; job = j; outcome = s.outcome }) (slice_get e.jobs s.job)) o ≡ Some y → shown_of (es ++ more) s ≡ Some y
+shown_of_more es more s y None e h = cc
+shown_of_more es more s y (Some x) e h = rw (get_longer es more s.entry x e) h
+
+found_more : (es more : List Entry) (lines : List Sent) (shows : List Shown) → map (shown_of es) lines ≡ map Some shows → map (shown_of (es ++ more)) lines ≡ map Some shows
+found_more es more [] shows h = h
+found_more es more (s ∷ lines) [] h = cc
+found_more es more (s ∷ lines) (y ∷ shows) h =
+    let head : shown_of es s ≡ Some y = cc in
+    let tail : map (shown_of es) lines ≡ map Some shows = cc in
+    let one = shown_of_more es more s y (slice_get es s.entry) refl head in
+    let rest = found_more es more lines shows tail in
+    cc
+
+spent_in : (looks more : List Look) (o : Outcome) → ((x : Look) → Contains looks x → Contains more x) → IsSpentSeen looks o → IsSpentSeen more o
+spent_in looks more (O.Spent iv) f h = f _ h
+spent_in looks more _ f h = tt
+
+shows_more : (es new : List Entry) (lines : List Sent) (drawn : List ℕ) (looks more : List Look) (came : List Entry) → new ≡ es ++ came → ((x : Look) → Contains looks x → Contains more x)
+    → ShowsIn es lines drawn looks → ShowsIn new lines drawn more
+shows_more es new lines drawn looks more came is f h = record {
+  shows = h.shows;
+  found = subst (λ l. map (shown_of l) lines ≡ map Some h.shows) (sym is) (found_more es came lines h.shows h.found);
+  drawing = h.drawing;
+  seq = h.seq;
+  spent = λ k d lt. spent_in looks more _ f (h.spent k d lt);
+}
+
+-- lines behind others
+shows_both : (es : List Entry) (a b : List Sent) (v w : List ℕ) (looks : List Look) → ShowsIn es a v looks → ShowsIn es b w looks → ShowsIn es (a ++ b) (v ++ w) looks
+shows_both es a b v w looks h k =
+    let more : draws (h.shows ++ k.shows) ≡ draws h.shows ++ draws k.shows = filter_map-append (λ (s : Shown). drawn_of s.job s.outcome) h.shows k.shows in
+    record {
+      shows = h.shows ++ k.shows;
+      found = map-append (shown_of es) a b ∙ ap (λ l. l ++ map (shown_of es) b) h.found ∙ ap (λ l. map Some h.shows ++ l) k.found ∙ sym (map-append Some h.shows k.shows);
+      drawing = ap (map word) more ∙ map-append word (draws h.shows) (draws k.shows) ∙ ap (λ l. l ++ map word (draws k.shows)) h.drawing ∙ ap (λ l. v ++ l) k.drawing;
+      seq = subst (All (λ p. p.seq < 2 ^ 24)) (sym more) (All-append (λ p. p.seq < 2 ^ 24) (draws h.shows) (draws k.shows) h.seq k.seq);
+      spent = All-append (λ s. IsSpentSeen looks s.outcome) h.shows k.shows h.spent k.spent;
+    }
+
+pairs_append : (xs ys : List ℕ) → AllPairs (λ a b. a < b) xs → AllPairs (λ a b. a < b) ys → All (λ y. All (λ x. x < y) xs) ys → AllPairs (λ a b. a < b) (xs ++ ys)
+pairs_append [] ys p q h = q
+pairs_append (x ∷ xs) ys p q h =
+    AllPairs-cons (λ a b. a < b) x (xs ++ ys)
+    (All-append (λ b. x < b) xs ys (λ k d lt. p 0 (suc k) d (omega arith) (omega (arith, lt))) (λ k d lt. All-head (λ z. z < slice_index_or ys k d) x xs (h k d lt)))
+    (pairs_append xs ys (λ i j d lt within. p (suc i) (suc j) d (omega (arith, lt)) (omega (arith, within))) q (λ k d lt. All-tail (λ z. z < slice_index_or ys k d) x xs (h k d lt)))
+
+-- how often a word stands there
+abbrev is_word : ℕ → ℕ → Bool
+is_word x y = y == x
+
+times_kept : (x : ℕ) (xs : List ℕ) → times x xs ≡ length (filter (is_word x) xs)
+times_kept x xs = sym (length-filter (is_word x) xs)
+
+times_append : (x : ℕ) (xs ys : List ℕ) → times x (xs ++ ys) ≡ times x xs + times x ys
+times_append x xs ys =
+    let both : length (filter (is_word x) (xs ++ ys)) ≡ length (filter (is_word x) xs) + length (filter (is_word x) ys) =
+    ap length (filter-append (is_word x) xs ys) ∙ length-append (filter (is_word x) xs) (filter (is_word x) ys) in
+    omega (arith, both, times_kept x (xs ++ ys), times_kept x xs, times_kept x ys)
+
+word_is : (x y : ℕ) → y ≡ x → is_word x y ≡ true
+word_is x y e = grind (arith, nat_tests)
+
+is_word_of : (x y : ℕ) → is_word x y ≡ true → y ≡ x
+is_word_of x y e = grind (arith, nat_tests)
+
+contains_kept : (x : ℕ) (xs : List ℕ) → Contains xs x → 0 < length (filter (is_word x) xs)
+contains_kept x [] (k, lt, e) = absurd (omega (arith, lt))
+contains_kept x (y ∷ xs) (zero, lt, e) = omega (arith, ap length (kept_yes (is_word x) y xs (word_is x y e)))
+contains_kept x (y ∷ xs) (suc k, lt, e) = by_test (is_word x y) refl (contains_kept x xs (k, omega (arith, lt), e)) where
+  by_test : (b : Bool) → is_word x y ≡ b → 0 < length (filter (is_word x) xs) → 0 < length (filter (is_word x) (y ∷ xs))
+  by_test true here h = omega (arith, ap length (kept_yes (is_word x) y xs here))
+  by_test false other h = omega (arith, h, ap length (kept_no (is_word x) y xs other))
+
+contains_times : (x : ℕ) (xs : List ℕ) → Contains xs x → 0 < times x xs
+contains_times x xs h = omega (arith, contains_kept x xs h, times_kept x xs)
+
+kept_contains : (x : ℕ) (xs : List ℕ) → 0 < length (filter (is_word x) xs) → Contains xs x
+kept_contains x [] h = absurd (omega (arith, h))
+kept_contains x (y ∷ xs) h = by_test (is_word x y) refl (kept_contains x xs) where
+  by_test : (b : Bool) → is_word x y ≡ b → (0 < length (filter (is_word x) xs) → Contains xs x) → Contains (y ∷ xs) x
+  by_test true here rest = (0, omega arith, is_word_of x y here)
+  by_test false other rest =
+      let c = rest (omega (arith, h, ap length (kept_no (is_word x) y xs other))) in
+      (suc c.0, omega (arith, c.1), c.2)
+
+times_contains : (x : ℕ) (xs : List ℕ) → 0 < times x xs → Contains xs x
+times_contains x xs h = kept_contains x xs (omega (arith, h, times_kept x xs))
+
+contains_flat : {A B : Type 0} (f : A → List B) (xs : List A) (k : ℕ) (d : A) (x : B) → k < length xs → Contains (f (slice_index_or xs k d)) x → Contains (flat_map f xs) x
+contains_flat f [] k d x lt h = absurd (omega (arith, lt))
+contains_flat f (y ∷ xs) zero d x lt h = Contains-append_left (f y) (flat_map f xs) x h
+contains_flat f (y ∷ xs) (suc k) d x lt h = Contains-append_right (f y) (flat_map f xs) x (contains_flat f xs k d x (omega (arith, lt)) h)
+
+-- what one bearer did in the phase, among the entries and the looks behind it
+record ShownOf {F : Type 0} (entries : List Entry) (d : DrawerView) (looks : List Look) (b : BearerOf F) : Type 0 where
+  pub shown : ShowsIn entries b.lines.items b.drawer.drawn looks
+  pub rise : AllPairs (λ x y. x < y) b.drawer.drawn
+  pub above : All (λ x. All (λ y. y < x) d.drawn) b.drawer.drawn
+
+-- each list of bearers, behind those of before
+shown_all : {F : Type 0} (entries : List Entry) (d : DrawerView) (looks : List Look) (sends : List (List Sent)) (drawns : List (List ℕ)) (bs : List (BearerOf F))
+    → AreShownBy entries sends drawns looks → ((x : ℕ) → Contains (all_of drawns) x → Contains d.drawn x) → All (ShownOf entries d looks) bs → length sends ≡ length bs
+    → AreShownBy entries (both_of sends (map lines_of (map done_of bs))) (both_of drawns (map drawn_by bs)) looks
+shown_all entries d looks [] [] [] h within each same = tt
+shown_all entries d looks [] [] (b ∷ bs) h within each same = absurd (omega (arith, same))
+shown_all entries d looks [] (w ∷ drawns) bs h within each same = absurd h
+shown_all entries d looks (s ∷ sends) [] bs h within each same = absurd h
+shown_all entries d looks (s ∷ sends) (w ∷ drawns) [] h within each same = absurd (omega (arith, same))
+shown_all entries d looks (s ∷ sends) (w ∷ drawns) (b ∷ bs) h within each same =
+    let one = All-head (ShownOf entries d looks) b bs each in
+    let below : All (λ y. All (λ x. x < y) w) b.drawer.drawn =
+    λ k e lt j f lt'. All-contains (λ x. x < slice_index_or b.drawer.drawn k e) d.drawn (slice_index_or w j f) (one.above k e lt)
+    (within (slice_index_or w j f) (Contains-append_left w (all_of drawns) (slice_index_or w j f) (Contains-get_or w j f lt'))) in (
+      shows_both entries s b.lines.items w b.drawer.drawn looks h.0 one.shown,
+      pairs_append w b.drawer.drawn h.1 one.rise below,
+      shown_all entries d looks sends drawns bs h.2 (λ x c. within x (Contains-append_right w (all_of drawns) x c)) (All-tail (ShownOf entries d looks) b bs each) (omega (arith, same)),
+    )
+
+shown_later : (es new : List Entry) (looks more : List Look) (came : List Entry) → new ≡ es ++ came → ((x : Look) → Contains looks x → Contains more x)
+    → (sends : List (List Sent)) (drawns : List (List ℕ)) → AreShownBy es sends drawns looks → AreShownBy new sends drawns more
+shown_later es new looks more came is f [] [] h = tt
+shown_later es new looks more came is f [] (w ∷ drawns) h = absurd h
+shown_later es new looks more came is f (s ∷ sends) [] h = absurd h
+shown_later es new looks more came is f (s ∷ sends) (w ∷ drawns) h = (shows_more es new s w looks more came is f h.0, h.1, shown_later es new looks more came is f sends drawns h.2)
+
+flat_of : {F : Type 0} (bs : List (BearerOf F)) → all_of (map drawn_by bs) ≡ flat_map drawn_by bs
+flat_of [] = refl
+flat_of (b ∷ bs) = ap (λ l. b.drawer.drawn ++ l) (flat_of bs)
+
+counted_both : {F : Type 0} (x : ℕ) (drawns : List (List ℕ)) (bs : List (BearerOf F)) → times x (all_of (both_of drawns (map drawn_by bs))) ≡ times x (all_of drawns) + times x (flat_map drawn_by bs)
+counted_both x [] bs = omega (arith, ap (times x) (flat_of bs))
+counted_both x (w ∷ drawns) [] = omega arith
+counted_both x (w ∷ drawns) (b ∷ bs) =
+    omega (
+      arith,
+      times_append x (w ++ b.drawer.drawn) (all_of (both_of drawns (map drawn_by bs))),
+      times_append x w b.drawer.drawn,
+      counted_both x drawns bs,
+      times_append x w (all_of drawns),
+      times_append x b.drawer.drawn (flat_map drawn_by bs),
+    )
+
+-- what a bearer showed, whether it stopped or not
+record Showed {F : Type 0} (b : BearerOf F) : Type 0 where
+  pub shown : AreShown b.pass.seen b.lines.items b.drawer.drawn b.drawer.looks
+  pub rise : AllPairs (λ x y. x < y) b.drawer.drawn
+  pub above : All (λ x. All (λ y. y < x) b.drawer.noted) b.drawer.drawn
+
+module _ {F : Type 0} (k : ℕ) (events : List Event) (old b : BearerOf F) where
+  showed_did : (first : ℕ) (tasks left : List Task) (own : List (ℕ × Mark)) → Did k first tasks left own b.pass.seen b.lines.items b.number b.drawer → Showed b
+  showed_did first tasks left own h = record { shown = h.shown; rise = h.rise; above = h.above }
+
+  showed_by : (s : Option Stop) → b.stop ≡ s → s ≢ Some S.Memory → Worked k events old b → Showed b
+  showed_by None is m w = showed_did old.number (map handle events) [] b.pass.own (w.did is)
+  showed_by (Some S.Closed) is m w = let x = w.broke S.Closed is in showed_did old.number (map handle events) x.left x.before x.did
+  showed_by (Some S.Memory) is m w = absurd (m refl)
+  showed_by (Some S.Flash) is m w = let x = w.broke S.Flash is in showed_did old.number (map handle events) x.left x.before x.did
+
+all_right : (P : ℕ → Type 0) (xs ys : List ℕ) → All P (xs ++ ys) → All P ys
+all_right P xs ys h k d lt = All-contains P (xs ++ ys) (slice_index_or ys k d) h (Contains-append_right xs ys (slice_index_or ys k d) (Contains-get_or ys k d lt))
+
+pub within_drawn : (drawns : List (List ℕ)) (d : List ℕ) → ((x : ℕ) → times x (all_of drawns) ≡ times x d) → (x : ℕ) → Contains (all_of drawns) x → Contains d x
+within_drawn drawns d counted x c = times_contains x d (omega (arith, counted x, contains_times x (all_of drawns) c))
+
+module _ {F : Type 0} (old new : NodeView F) (d e : DrawerView) (events : List (List Event)) (counts : List ℕ) (dones : List Done) (sends : List (List Sent))
+    (h : PairsSo old.machine.entries sends d) (w : WasPhase old new d e events counts dones) (memory : HadMemory dones) (none : old.stops ≡ 0) (many : length sends ≡ length counts) where
+  abbrev came : CameTo old new
+  came = came_to old new none w.front
+
+  same_count : length sends ≡ length w.bearers
+  same_count = omega (arith, many, ap length w.numbers, length-map w.before (λ b. b.number), w.long)
+
+  dones_long : length dones ≡ length w.bearers
+  dones_long = ap length w.left ∙ length-map w.bearers done_of
+
+  had_memory : (k : ℕ) (b : BearerOf F) → k < length w.bearers → (slice_index_or w.bearers k b).stop ≢ Some S.Memory
+  had_memory k b lt is =
+      memory k (done_of b) (omega (arith, lt, dones_long)) (ap (λ xs. (slice_index_or xs k (done_of b)).stop) w.left ∙ ap (λ x. x.stop) (index_map done_of w.bearers k b (done_of b) lt) ∙ is)
+
+  marks : node_marks new ≡ map M.Handled new.machine.entries ++ stop_marks new.stops (event_in new.machine.hand)
+  marks = refl
+
+  each : All (ShownOf new.machine.entries d e.looks) w.bearers
+  each k b lt =
+      let mine = slice_index_or w.bearers k b in
+      let within : k < length w.before = omega (arith, lt, w.long) in
+      let worked = w.worked k b within in
+      let showed = showed_by k (list_at events k) (slice_index_or w.before k b) mine mine.stop refl (had_memory k b lt) worked in
+      let shown = shown_prefix mine.pass.seen (node_marks new) mine.lines.items mine.drawer.drawn mine.drawer.looks (w.seen k b lt) showed.shown in
+      let noted : mine.drawer.noted ≡ d.noted ++ d.drawn = worked.noted ∙ w.noted k b within in
+      record {
+        shown = record {
+          shows = shown.shows;
+          found = found_entries new.machine.entries new.stops (event_in new.machine.hand) mine.lines.items shown.shows shown.found;
+          drawing = shown.drawing;
+          seq = shown.seq;
+          spent = λ j s lt'. spent_in mine.drawer.looks e.looks _ (λ x c. subst (λ l. Contains l x) (sym w.looks) (Contains-append_right d.looks (flat_map looks_by w.bearers) x (contains_flat looks_by w.bearers k b x lt c))) (shown.spent j s lt');
+        };
+        rise = showed.rise;
+        above = λ j x lt'. all_right (λ y. y < slice_index_or mine.drawer.drawn j x) d.noted d.drawn (subst (All (λ y. y < slice_index_or mine.drawer.drawn j x)) noted (showed.above j x lt'));
+      }
+
+  pub pairs_more : PairsSo new.machine.entries (both_of sends (map lines_of dones)) e
+  pairs_more = record {
+    drawns = both_of h.drawns (map drawn_by w.bearers);
+    shown = subst (λ ds. AreShownBy new.machine.entries (both_of sends (map lines_of ds)) (both_of h.drawns (map drawn_by w.bearers)) e.looks) (sym w.left)
+        (shown_all new.machine.entries d e.looks sends h.drawns w.bearers
+        (shown_later old.machine.entries new.machine.entries d.looks e.looks came.more came.is (λ x c. subst (λ l. Contains l x) (sym w.looks) (Contains-append_left d.looks (flat_map looks_by w.bearers) x c)) sends h.drawns h.shown)
+        (within_drawn h.drawns d.drawn h.counted) each same_count);
+    counted = λ x. omega (arith, counted_both x h.drawns w.bearers, h.counted x, ap (times x) w.drawn, times_append x d.drawn (flat_map drawn_by w.bearers));
+  }
+
+-- The lines of all bearers together.
+pub record Sum (entries : List Entry) (sends : List (List Sent)) (drawns : List (List ℕ)) (looks : List Look) : Type 0 where
+  pub drawing : map word (draws (flat_map (filter_map (shown_of entries)) sends)) ≡ all_of drawns
+  pub seq : All (λ p. p.seq < 2 ^ 24) (draws (flat_map (filter_map (shown_of entries)) sends))
+  pub spent : All (λ s. IsSpentSeen looks s.outcome) (flat_map (filter_map (shown_of entries)) sends)
+
+pub filter_found : {A B : Type 0} (f : A → Option B) (xs : List A) (ys : List B) → map f xs ≡ map Some ys → filter_map f xs ≡ ys
+filter_found f [] [] h = refl
+filter_found f [] (y ∷ ys) h = cc
+filter_found f (x ∷ xs) [] h = cc
+filter_found f (x ∷ xs) (y ∷ ys) h =
+    let head : f x ≡ Some y = cc in
+    let tail : map f xs ≡ map Some ys = cc in
+    rw head (ap (λ l. y ∷ l) (filter_found f xs ys tail))
+
+pub sum_up : (entries : List Entry) (sends : List (List Sent)) (drawns : List (List ℕ)) (looks : List Look) → AreShownBy entries sends drawns looks → Sum entries sends drawns looks
+sum_up entries [] [] looks h = record { drawing = refl; seq = All-nil (λ p. p.seq < 2 ^ 24); spent = All-nil (λ (s : Shown). IsSpentSeen looks s.outcome) }
+sum_up entries [] (w ∷ drawns) looks h = absurd h
+sum_up entries (s ∷ sends) [] looks h = absurd h
+sum_up entries (s ∷ sends) (w ∷ drawns) looks h =
+    let rest = sum_up entries sends drawns looks h.2 in
+    let others = flat_map (filter_map (shown_of entries)) sends in
+    let mine = filter_found (shown_of entries) s h.0.shows h.0.found in
+    let all : filter_map (shown_of entries) s ++ others ≡ h.0.shows ++ others = ap (λ l. l ++ others) mine in
+    let more : draws (filter_map (shown_of entries) s ++ others) ≡ draws h.0.shows ++ draws others = ap draws all ∙ filter_map-append (λ (x : Shown). drawn_of x.job x.outcome) h.0.shows others in
+    record {
+      drawing = ap (map word) more ∙ map-append word (draws h.0.shows) (draws others) ∙ ap (λ l. l ++ map word (draws others)) h.0.drawing ∙ ap (λ l. w ++ l) rest.drawing;
+      seq = subst (All (λ p. p.seq < 2 ^ 24)) (sym more) (All-append (λ p. p.seq < 2 ^ 24) (draws h.0.shows) (draws others) h.0.seq rest.seq);
+      spent = subst (All (λ x. IsSpentSeen looks x.outcome)) (sym all) (All-append (λ (x : Shown). IsSpentSeen looks x.outcome) h.0.shows others h.0.spent rest.spent);
+    }
+
+-- from words to their pairs
+pub all_words : (P : ℕ → Type 0) (ps : List Pair) (ws : List ℕ) → map word ps ≡ ws → All P ws → All (λ p. P (word p)) ps
+all_words P ps ws is h k p lt = subst P (index_map word ps k p (word p) lt) (subst (All P) (sym is) h k (word p) (omega (arith, lt, length-map ps word)))
+
+pub pairs_words : (R : ℕ → ℕ → Type 0) (ps : List Pair) (ws : List ℕ) → map word ps ≡ ws → AllPairs R ws → AllPairs (λ p q. R (word p) (word q)) ps
+pairs_words R ps ws is h i j p lt within =
+    let long = length-map ps word in
+    subst (λ x. R x (word (slice_index_or ps j p))) (index_map word ps i p (word p) (omega (arith, lt, within)))
+    (subst (λ y. R (slice_index_or (map word ps) i (word p)) y) (index_map word ps j p (word p) within)
+    (subst (AllPairs R) (sym is) h i j (word p) lt (omega (arith, within, long))))
+
+pub rise_at : (entries : List Entry) (sends : List (List Sent)) (drawns : List (List ℕ)) (looks : List Look) → AreShownBy entries sends drawns looks
+    → (k : ℕ) → AllPairs (λ p q. word p < word q) (draws (filter_map (shown_of entries) (list_at sends k)))
+rise_at entries [] [] looks h k = λ i j p lt within. absurd (omega (arith, within))
+rise_at entries [] (w ∷ drawns) looks h k = absurd h
+rise_at entries (s ∷ sends) [] looks h k = absurd h
+rise_at entries (s ∷ sends) (w ∷ drawns) looks h zero =
+    pairs_words (λ a b. a < b) (draws (filter_map (shown_of entries) s)) w (ap (λ l. map word (draws l)) (filter_found (shown_of entries) s h.0.shows h.0.found) ∙ h.0.drawing) h.1
+rise_at entries (s ∷ sends) (w ∷ drawns) looks h (suc k) = rise_at entries sends drawns looks h.2 k
+
+pub no_pairs : (n : ℕ) (looks : List Look) → AreShownBy [] (replicate n []) (replicate n []) looks
+no_pairs zero looks = tt
+no_pairs (suc n) looks = (
+  record { shows = []; found = refl; drawing = refl; seq = All-nil (λ p. p.seq < 2 ^ 24); spent = All-nil (λ (s : Shown). IsSpentSeen looks s.outcome) },
+  (λ i j d lt within. absurd (omega (arith, within))),
+  no_pairs n looks,
+)
+
+pub empty_all : {A : Type 0} (n : ℕ) → all_of {A = A} (replicate n []) ≡ []
+empty_all zero = refl
+empty_all (suc n) = empty_all n

@@ -1,0 +1,10 @@
+pub mod Cuts
+pub mod Inputs
+pub mod Others
+pub mod Firsts
+pub mod Sealing
+pub mod KeyOrder
+pub mod Clashes
+pub mod Meanings
+pub mod Assembly
+pub mod Deciding

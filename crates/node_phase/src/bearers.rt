@@ -1,0 +1,113 @@
+//! Bearers before and after a phase.
+#![tactic(auto)]
+
+ghost use Rattle.std.specs.Prelude.{◌≡◌, ℕ, ◌+◌, ◌<◌, [], ◌∷◌, ◌++◌, map, length, All, Bool, false, IfOk};
+ghost use Rattle.std.specs.List.{filter, flat_map, sum_by};
+ghost use Rattle.turn_lock.specs.Entries.{Holds, IsPrefix, KeptOf};
+ghost use Rattle.turn_lock.specs.Views.{IsPassOf};
+ghost use Rattle.locked_node.specs.declared.marks.Mark.{Mark};
+ghost use Rattle.node_bearer.specs.Did.{IsRider};
+ghost use Rattle.node_phase.specs.Worked.{IsFresh, done_of, drawn_by, looks_by, own_of};
+
+use flash_model::Bench;
+use locked_node::{Mark, Node};
+use machine_contract::{Machine, Stop};
+use mesh_types::history::Sent;
+use node_bearer::Bearer;
+use seq_word::{Drawer, Numbers};
+use std::alloc::{AllocError, Global};
+use turn_lock::laws::{kept_law, merge_law};
+use turn_lock::{Pass, Turn};
+
+/// What is left of a bearer behind a phase.
+#[derive(Drop)]
+pub struct Done {
+    /// What became of its jobs in the phase, in their order.
+    pub lines: Vec<Sent>,
+    /// The number of its last entry in this life, or 0.
+    pub number: u32,
+    /// Why it stopped.
+    pub stop: Option<Stop>,
+}
+
+/// A bearer for each of these numbers, which is that of its last entry so far.
+pub fn split_all<M: Machine, F: Bench>(
+    alloc: Global,
+    n: &Numbers,
+    turn: &Turn<Node<M, F>>,
+    drawer: &mut Drawer,
+    pass: &mut Pass<Node<M, F>>,
+    counts: &[u32],
+) -> Result<Vec<Bearer<Node<M, F>>>, AllocError>
+    requires made { turn.now.first.machine.which ≡ n.now.which }
+    requires draws { drawer.old.which ≡ n.now.which }
+    requires pass { IsPassOf turn.now pass.old × (pass.old.inside ≡ false) }
+    requires parts { length counts.now < pass.old.parts }
+    ensures drawer { drawer.new ≡ record drawer.old { parts = drawer.new.parts } }
+    ensures pass { pass.new ≡ record pass.old { parts = pass.new.parts } }
+    ensures parts { IfOk result (λ v. pass.new.parts + length v.items ≡ pass.old.parts) }
+    ensures numbers { IfOk result (λ v. map (λ b. b.number) v.items ≡ counts.now) }
+    ensures riders { IfOk result (λ v. All (IsRider n.now turn.now) v.items) }
+    ensures fresh { IfOk result (λ v. All IsFresh v.items) }
+    ensures noted { IfOk result (λ v. All (λ b. b.drawer.noted ≡ drawer.old.noted ++ drawer.old.drawn) v.items) }
+{
+    let mut bearers = Vec::new(alloc);
+    for number in counts {
+        let seat = n.split(drawer);
+        let own = turn.split(pass);
+        bearers.push(Bearer {
+            drawer: seat,
+            pass: own,
+            lines: Vec::new(alloc),
+            number: *number,
+            stop: None,
+        })?;
+    }
+    Ok(bearers)
+}
+
+/// Takes all bearers in: what they drew and saw goes to the drawer, and their entries to the pass.
+pub fn join_all<M: Machine, F: Bench>(
+    alloc: Global,
+    n: &Numbers,
+    turn: &Turn<Node<M, F>>,
+    drawer: &mut Drawer,
+    pass: &mut Pass<Node<M, F>>,
+    bearers: Vec<Bearer<Node<M, F>>>,
+) -> Result<Vec<Done>, AllocError>
+    requires draws { drawer.old.which ≡ n.now.which }
+    requires pass { IsPassOf turn.now pass.old × (pass.old.inside ≡ false) }
+    requires riders { All (IsRider n.now turn.now) bearers.items }
+    ensures which { drawer.new.which ≡ drawer.old.which }
+    ensures pass { IfOk result (λ v. IsPassOf turn.now pass.new × (pass.new.inside ≡ false)) }
+    ensures parts { IfOk result (λ v. pass.new.parts ≡ pass.old.parts + length bearers.items) }
+    ensures drawn { IfOk result (λ v. drawer.new.drawn ≡ drawer.old.drawn ++ flat_map drawn_by bearers.items) }
+    ensures looks { IfOk result (λ v. drawer.new.looks ≡ drawer.old.looks ++ flat_map looks_by bearers.items) }
+    ensures noted { IfOk result (λ v. drawer.new.noted ≡ drawer.old.noted ++ flat_map (λ b. b.drawer.noted) bearers.items) }
+    ensures kept { (keep : ℕ × Mark → Bool) (ys : _) → KeptOf keep (pass.old.own ∷ map own_of bearers.items) ys → IfOk result (λ v. filter keep pass.new.own ≡ ys) }
+    ensures seen { IfOk result (λ v. All (λ b. IsPrefix b.pass.seen pass.new.seen) bearers.items) }
+    ensures holds { IfOk result (λ v. All (λ b. Holds b.pass.own pass.new.own) bearers.items) }
+    ensures dones { IfOk result (λ v. v.items ≡ map done_of bearers.items) }
+{
+    // They do nothing when they run: the proof uses what they say.
+    kept_law::<Mark>();
+    merge_law::<Mark>();
+    let mut dones = Vec::new(alloc);
+    for bearer in bearers {
+        let Bearer {
+            drawer: seat,
+            pass: own,
+            lines,
+            number,
+            stop,
+        } = bearer;
+        n.join(drawer, seat);
+        turn.join(pass, own);
+        dones.push(Done {
+            lines,
+            number,
+            stop,
+        })?;
+    }
+    Ok(dones)
+}

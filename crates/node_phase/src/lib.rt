@@ -1,0 +1,16 @@
+//! One phase of a life: bearers that run beside one another over one node, and stop together.
+//!
+//! - `bearers`: a bearer for each list of events, and what is left of bearers that are through
+//! - `threads`: all bearers at once, each on a thread
+//! - `phase`: the whole, from a node to the node
+//! - `laws`: what a phase is in the terms of a run
+#![tactic(auto)]
+
+mod bearers;
+pub mod laws;
+mod phase;
+mod threads;
+
+pub use bearers::Done;
+pub use node_bearer::{FreeGate, Gate};
+pub use phase::run_phase;

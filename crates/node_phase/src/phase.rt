@@ -1,0 +1,54 @@
+//! A whole phase.
+#![tactic(auto)]
+
+ghost use Rattle.std.specs.Prelude.{◌≡◌, ◌≤◌, length, map, All, IfOk};
+ghost use Rattle.locked_node.specs.Node.{origin_of};
+ghost use Rattle.node_bearer.specs.Did.{AreEvents};
+ghost use Rattle.node_phase.specs.Worked.{WasPhase};
+
+use crate::bearers::{Done, join_all, split_all};
+use crate::threads::work_all;
+use flash_model::Bench;
+use locked_node::Node;
+use machine_contract::Machine;
+use mesh_types::events::Event;
+use node_bearer::Gate;
+use seq_word::{Drawer, Numbers};
+use std::alloc::{AllocError, Global};
+use std::sync::Wait;
+use std::thread::Threads;
+use turn_lock::Turn;
+
+/// Has a bearer for each list of events do all that it has, all of them at once; and returns the node behind them, with what is left of
+/// each. `counts` has for each the number of its last entry so far.
+///
+/// At most 8 bearers.
+pub fn run_phase<M: Machine, F: Bench, G: Gate, R: Threads + Wait + Sync>(
+    rt: &R,
+    alloc: Global,
+    n: &Numbers,
+    drawer: &mut Drawer,
+    node: Node<M, F>,
+    gate: &G,
+    plan: &[Vec<Event>],
+    counts: &[u32],
+) -> Result<(Node<M, F>, Vec<Done>), AllocError>
+    requires made { node.machine.which ≡ n.now.which }
+    requires draws { drawer.old.which ≡ n.now.which }
+    requires few { length counts.now ≤ 8 }
+    requires plan { length plan.now ≡ length counts.now }
+    requires events { All (λ v. AreEvents node.machine.elements v.items) plan.now }
+    ensures which { drawer.new.which ≡ drawer.old.which }
+    ensures origin { IfOk result (λ r. origin_of F.chip r.0 ≡ origin_of F.chip node) }
+    ensures was { IfOk result (λ r. WasPhase node r.0 drawer.old drawer.new (map (λ v. v.items) plan.now) counts.now r.1.items) }
+{
+    // It does nothing when it runs: the proof uses what it says.
+    node.known();
+    let (turn, mut pass) = Turn::start(alloc, node)?;
+    let mut bearers = split_all(alloc, n, &turn, drawer, &mut pass, counts)?;
+    work_all(rt, n, &turn, gate, plan, bearers.as_mut_slice());
+    let dones = join_all(alloc, n, &turn, drawer, &mut pass, bearers)?;
+    let node = turn.enter(rt, &mut pass);
+    turn.close(pass);
+    Ok((node, dones))
+}

@@ -1,0 +1,72 @@
+//! All bearers of a phase, each on a thread.
+#![tactic(auto)]
+
+ghost use Rattle.std.specs.Prelude.{◌≡◌, ℕ, ◌<◌, ◌≤◌, length, All, slice_index_or};
+ghost use Rattle.node_bearer.specs.Did.{AreEvents, IsRider};
+ghost use Rattle.node_phase.specs.Worked.{IsFresh, Worked};
+
+use flash_model::Bench;
+use locked_node::Node;
+use machine_contract::Machine;
+use mesh_types::events::Event;
+use node_bearer::{Bearer, Gate, work};
+use seq_word::Numbers;
+use std::sync::Wait;
+use std::thread;
+use std::thread::Threads;
+use turn_lock::Turn;
+
+/// One bearer, at all its events.
+fn work_phase<M: Machine, F: Bench, G: Gate>(
+    rt: &impl Wait,
+    n: &Numbers,
+    turn: &Turn<Node<M, F>>,
+    gate: &G,
+    k: u8,
+    b: &mut Bearer<Node<M, F>>,
+    events: &[Event],
+)
+    requires rider { IsRider n.now turn.now b.old }
+    requires fresh { IsFresh b.old }
+    requires events { AreEvents turn.now.first.machine.elements events.now }
+    ensures rider { IsRider n.now turn.now b.new }
+    ensures worked { Worked k events.now b.old b.new }
+{
+    b.stop = work(rt, n, turn, gate, k, b, events).err();
+}
+
+/// All bearers at once: bearer `k` at the events of place `k`.
+pub fn work_all<M: Machine, F: Bench, G: Gate, R: Threads + Wait + Sync>(
+    rt: &R,
+    n: &Numbers,
+    turn: &Turn<Node<M, F>>,
+    gate: &G,
+    plan: &[Vec<Event>],
+    bearers: &mut [Bearer<Node<M, F>>],
+)
+    requires few { length bearers.old ≤ 8 }
+    requires plan { length plan.now ≡ length bearers.old }
+    requires riders { All (IsRider n.now turn.now) bearers.old }
+    requires fresh { All IsFresh bearers.old }
+    requires events { All (λ v. AreEvents turn.now.first.machine.elements v.items) plan.now }
+    ensures riders { All (IsRider n.now turn.now) bearers.new }
+    ensures count { length bearers.new ≡ length bearers.old }
+    ensures worked { (k : ℕ) (p : _) (b : _) → k < length bearers.old → Worked k (slice_index_or plan.now k p).items (slice_index_or bearers.old k b) (slice_index_or bearers.new k b) }
+{
+    thread::for_each_mut(
+        rt,
+        bearers,
+        8,
+        &|i, b: &mut Bearer<Node<M, F>>|
+            requires at { i < length plan.now }
+            requires few { length plan.now ≤ 8 }
+            requires rider { IsRider n.now turn.now b.now }
+            requires fresh { IsFresh b.now }
+            requires events { All (λ v. AreEvents turn.now.first.machine.elements v.items) plan.now }
+            ensures rider { IsRider n.entry.now turn.entry.now b.exit.now }
+            ensures worked { (p : _) → Worked i (slice_index_or plan.entry.now i p).items b.entry.now b.exit.now }
+        {
+            work_phase(rt, n, turn, gate, i as u8, b, &plan[i]);
+        },
+    );
+}

@@ -1,0 +1,5 @@
+pub mod Segments
+pub mod Friendship
+pub mod Models
+pub mod Sending
+pub mod Published

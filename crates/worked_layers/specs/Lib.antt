@@ -1,0 +1,6 @@
+pub mod Walk
+pub mod Segments
+pub mod Friendship
+pub mod Models
+pub mod Sending
+pub mod Published

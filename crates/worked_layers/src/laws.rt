@@ -1,0 +1,50 @@
+//! Worked cases, as contracts of functions that do nothing.
+#![tactic(auto)]
+
+ghost use Rattle.worked_layers.specs.Friendship.{FriendshipStands, MessagesAreStored};
+ghost use Rattle.worked_layers.specs.Models.{HeartBeats, LevelMoves, OnOffSwitches};
+ghost use Rattle.worked_layers.specs.Published.{LabelsAreHeard, StatusIsPublished};
+ghost use Rattle.worked_layers.specs.Segments.{SegmentsHeard, SegmentsRepeated, SegmentsTimed, SegmentsUnopened};
+ghost use Rattle.worked_layers.specs.Sending.{EightAreHeld, PdusGoOn, SegmentsAreSent, UpdateWaits};
+
+/// An AppKey Add in two pieces, in either order: the second is delivered, acknowledged with both bits, stored and answered; a piece once more is
+/// in the message cache, or acknowledged again; after 10 seconds the first piece is forgotten; and a message that no key opens is done.
+pub fn segment_rows()
+    ensures heard { SegmentsHeard }
+    ensures repeated { SegmentsRepeated }
+    ensures timed { SegmentsTimed }
+    ensures unopened { SegmentsUnopened }
+{}
+
+/// A Friend Request is answered by an Offer, a Poll by an Update, the same Poll by the octets once more; a short message to the Low Power node
+/// is stored, and answers its next Poll; a long one is sent, and begins no segments; and what came under the friendship goes on under the
+/// master credentials.
+pub fn friendship_rows()
+    ensures stands { FriendshipStands }
+    ensures stored { MessagesAreStored }
+{}
+
+/// A binding, then OnOff is set and kept for the next life; Level moves half of its way in half of its time; and a heartbeat is sent twice, a
+/// second apart.
+pub fn model_rows()
+    ensures onoff { OnOffSwitches }
+    ensures level { LevelMoves }
+    ensures heartbeat { HeartBeats }
+{}
+
+/// A PDU to another node goes on with one TTL less, from TTL 2 on; of nine messages in segments the ninth finds no room until the others are
+/// forgotten; an own message of two segments is begun, a fifth one isn't, and its segments go once more when their round is due; and an
+/// IV Update that is in progress waits for its acknowledgment.
+pub fn sending_rows()
+    ensures relay { PdusGoOn }
+    ensures room { EightAreHeld }
+    ensures begin { SegmentsAreSent }
+    ensures update { UpdateWaits }
+{}
+
+/// A model subscribes to a label, whose virtual address is put in, and takes a message that opened by it; and a model publishes its Status once
+/// its period is over.
+pub fn published_rows()
+    ensures label { LabelsAreHeard }
+    ensures publication { StatusIsPublished }
+{}

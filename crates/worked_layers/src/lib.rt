@@ -1,0 +1,13 @@
+//! Worked cases of the layers of a node: laws by computation, each the contract of a function that does nothing. What octets are read as is
+//! given in each case; keys may be any, and the answers and jobs are those that were worked out by hand.
+//!
+//! - `Walk` (in `specs/`): an event that is handled, and the node of the cases
+//! - `Segments`: segmented messages heard
+//! - `Friendship`: a friendship, and what is stored for it
+//! - `Models`: the configuration, the models and the heartbeat
+//! - `Sending`: own segmented messages, and PDUs that go on
+//! - `Published`: labels, and what models publish
+//! - `laws`: the laws
+#![tactic(auto)]
+
+pub mod laws;
