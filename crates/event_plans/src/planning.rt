@@ -4,10 +4,11 @@
 ghost use Rattle.std.specs.Prelude.{◌≡◌, ◌+◌, ◌≤◌, ◌^◌, min, [], IfOk, OnErr};
 ghost use Rattle.event_plans.specs.Plans.{IsPlanned, IsSomePast, IsStanding};
 ghost use Rattle.event_plans.specs.declared.plan.Basis.TheVariants as B;
-ghost use Rattle.event_records.specs.Putting.{ArePuttable};
+ghost use Rattle.event_records.specs.Putting.{AreMoves, ArePuttable};
 ghost use Rattle.mesh_hearing.specs.Tables.{IsFit};
 ghost use Rattle.mesh_types.specs.declared.events.Event.TheVariants as E;
 ghost use Rattle.node_records.specs.Meaning.{IsSaid};
+ghost use Rattle.node_records.specs.Tables.{config_in};
 ghost use Rattle.run_definitions.specs.History.{Past};
 
 use crate::answers::{begin_answer, raw_answer, send_answer};
@@ -31,6 +32,7 @@ fn plan_pdu(tables: &mut Tables, p: &Persist, octets: &[u8]) -> Result<Plan, All
     requires fit { IsFit tables.old p.now }
     ensures planned { (past : Past) → IsStanding past p.now tables.old → IfOk result (λ plan. IsPlanned past (E.Net octets.now) plan tables.new) }
     ensures may { IfOk result (λ plan. ArePuttable p.now plan.records) }
+    ensures moves { IfOk result (λ plan. AreMoves (config_in p.now) plan.records) }
     ensures fit { IsFit tables.new p.now }
     ensures unchanged { OnErr result (tables.new ≡ tables.old) }
 {
@@ -56,6 +58,7 @@ fn plan_beacon(tables: &Tables, p: &Persist, octets: &[u8]) -> Plan
     requires said { IsSaid p.now }
     ensures planned { (past : Past) → IsStanding past p.now tables.now → IsPlanned past (E.Bcn octets.now) result tables.now }
     ensures may { ArePuttable p.now result.records }
+    ensures moves { AreMoves (config_in p.now) result.records }
 {
     value_law();
     steps_law();
@@ -86,6 +89,7 @@ fn plan_tick(tables: &mut Tables, p: &Persist, ticks: u32) -> Plan
     requires said { IsSaid p.now }
     ensures planned { (past : Past) → IsStanding past p.now tables.old → IsPlanned past (E.Tick ticks) result tables.new }
     ensures may { ArePuttable p.now result.records }
+    ensures moves { AreMoves (config_in p.now) result.records }
     ensures keys { tables.new.keys ≡ tables.old.keys }
 {
     let from = tables.ticks();
@@ -116,13 +120,15 @@ fn own_plan(answer: Answer) -> Plan
 /// The plan of an event, where the records before it say `p`, and the tables with this event. An error says that memory ran out, and then
 /// the tables are as before.
 ///
-/// `p` and the tables stand for some past. Each record of the plan may be put behind those before it.
+/// `p` and the tables stand for some past. Each record of the plan may be put behind those before it, and each Numbers record
+/// is a move to an IV state that may follow.
 pub fn plan_event(tables: &mut Tables, p: &Persist, event: &Event) -> Result<Plan, AllocError>
     requires standing { IsSomePast p.now tables.old }
     requires fit { IsFit tables.old p.now }
     requires said { IsSaid p.now }
     ensures planned { (past : Past) → IsStanding past p.now tables.old → IfOk result (λ plan. IsPlanned past event.now plan tables.new) }
     ensures may { IfOk result (λ plan. ArePuttable p.now plan.records) }
+    ensures moves { IfOk result (λ plan. AreMoves (config_in p.now) plan.records) }
     ensures fit { IsFit tables.new p.now }
     ensures unchanged { OnErr result (tables.new ≡ tables.old) }
 {
