@@ -1,0 +1,32 @@
+use Rattle.std.proofs.Common.{◌≡◌, ◌+◌, ◌*◌, ◌≤◌, List, ◌++◌, false}
+use Rattle.std.specs.Prelude.{length, take, drop, fold, IsTrue}
+use Rattle.event_records.specs.Putting.{AreMoves, ArePuttable}
+use Rattle.event_storing.specs.Storing.{advances_of, moved_to}
+use Rattle.flash_model.specs.Arming.{Begins}
+use Rattle.flash_model.specs.Chip.{Keeps}
+use Rattle.record_types.specs.declared.records.StoreRecord.{StoreRecord}
+use Rattle.node_records.specs.Meaning.{IsMeaningOf}
+use Rattle.node_records.specs.Tables.{config_in}
+use Rattle.node_store.specs.Tie.{IsStoreOf}
+use Rattle.node_store.proofs.Fronts.{Fronts}
+use Rattle.seq_reserve.specs.Reserving.{IsDurable, IsPublished}
+use Rattle.store_definitions.specs.Config.{changed}
+use Rattle.event_storing.proofs.several.store_each.Given as goal
+
+abbrev pub invariant-loop-item : goal.invariant-loop-item
+invariant-loop-item g l = record {
+  keeps : Keeps (g.F.Flash.chip l.initial.flash) (g.F.Flash.chip l.flash);
+  usable : l.reserve.store.journal.closed ≡ false;
+  published : IsPublished l.reserve.store l.reserve.keeper;
+  made : l.reserve.keeper.which ≡ l.initial.reserve.keeper.which;
+  may : ArePuttable l.reserve.store.persist (drop l.item-index l.items);
+  moves : AreMoves (config_in l.reserve.store.persist) (drop l.item-index l.items);
+  config : config_in l.reserve.store.persist ≡ fold changed (config_in l.initial.reserve.store.persist) (take l.item-index l.items);
+  value : (records : List StoreRecord) → IsMeaningOf records l.initial.reserve.store.persist → IsMeaningOf (records ++ take l.item-index l.items) l.reserve.store.persist;
+  advanced : moved_to l.reserve.keeper ≡ moved_to l.initial.reserve.keeper ++ advances_of (config_in l.initial.reserve.store.persist) (take l.item-index l.items);
+  fronts : (records : List StoreRecord) → IsStoreOf (g.F.Flash.chip l.initial.flash) l.initial.reserve.store records → Fronts (g.F.Flash.chip l.initial.flash) l.initial.reserve.store records l.items l.item-index (g.F.Flash.chip l.flash) l.reserve.store;
+  durable : (records : List StoreRecord) → IsStoreOf (g.F.Flash.chip l.initial.flash) l.initial.reserve.store records → IsDurable (g.F.Flash.chip l.flash) l.reserve.keeper.mark;
+  calls : IsTrue (g.F.Flash.chip l.initial.flash).steady → l.initial.reserve.store.journal.used + length l.items ≤ 1023 → Begins (2 * l.item-index) (g.F.Flash.chip l.initial.flash) (g.F.Flash.chip l.flash) × (l.reserve.store.journal.used ≡ l.initial.reserve.store.journal.used + l.item-index);
+  reads : (g.F.Flash.chip l.flash).reads ≡ (g.F.Flash.chip l.initial.flash).reads;
+  faults : (g.F.Flash.chip l.flash).faults ≡ (g.F.Flash.chip l.initial.flash).faults;
+}
