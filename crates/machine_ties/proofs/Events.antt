@@ -1,10 +1,11 @@
 -- What an event that was planned leaves, whether its records were stored or not.
 use Rattle.std.proofs.Common.{◌≡◌, ℕ, ◌+◌, ◌≤◌, ◌<◌, ◌^◌, Bool, true, false, List, [], ◌∷◌, ◌++◌, length, refl, ap, sym, subst, ◌∙◌, arith}
-use Rattle.std.specs.Prelude.{All}
+use Rattle.std.specs.Prelude.{All, fold}
 use Rattle.std.specs.List.{AllByRecursion as Every}
 use Rattle.std.proofs.lemmas.List.Elements.{recursion_from_All}
 use Rattle.event_plans.proofs.Narrow.{narrow_of}
 use Rattle.event_plans.specs.Plans.{IsPlanned, IsSomePast, IsSomePlan, insight_in}
+use Rattle.event_plans.specs.Sending.{IsSendable}
 use Rattle.event_plans.specs.declared.plan.Plan.{Plan}
 use Rattle.event_records.specs.Putting.{ArePuttable}
 use Rattle.flash_model.specs.Chip.{Chip, Keeps, Setting}
@@ -13,7 +14,7 @@ use Rattle.machine_contract.specs.Standing.{past_now}
 use Rattle.machine_contract.specs.declared.answers.Hand.TheVariants as H
 use Rattle.machine_ties.proofs.Acks.{IsShortTold}
 use Rattle.machine_ties.proofs.Asked.{jobs_quiet, jobs_ranged}
-use Rattle.machine_ties.proofs.Fronts.{all_ranges, all_whole, puttable_kept}
+use Rattle.machine_ties.proofs.Fronts.{IsSameNode, all_ranges, all_whole, kept_node, puttable_kept}
 use Rattle.machine_ties.proofs.Lists.{every_map}
 use Rattle.machine_ties.proofs.Standings.{before_more, entered_stands, stopped_stands, told_by}
 use Rattle.machine_ties.proofs.Stored.{stores_keep}
@@ -22,6 +23,7 @@ use Rattle.machine_ties.specs.Ties.{IsBefore, IsCutIn, IsReady, Stands, entered,
 use Rattle.machine_ties.specs.Views.{NodeMachine}
 use Rattle.mesh_hearing.specs.Tables.{AreTablesOf, IsFit, TablesView}
 use Rattle.mesh_types.specs.declared.events.Event.{Event}
+use Rattle.mesh_types.specs.declared.events.Event.TheVariants as E
 use Rattle.mesh_types.specs.declared.history.Entry.{Entry}
 use Rattle.mesh_types.specs.declared.jobs.Job.{Job}
 use Rattle.node_layers.specs.BuiltLayers.{built_layers}
@@ -39,7 +41,8 @@ use Rattle.run_definitions.specs.Readings.{Sees}
 use Rattle.run_definitions.specs.Stores.{stores}
 use Rattle.seq_reserve.specs.Reserving.{IsPublished}
 use Rattle.seq_reserve.specs.declared.reserve.Reserve.{Reserve}
-use Rattle.store_definitions.specs.Config.{Config, config_of}
+use Rattle.store_definitions.specs.Config.{Config, changed, config_of}
+use Rattle.store_definitions.specs.Node.{IsWhole}
 use Rattle.store_definitions.specs.Ranges.{IsInRange}
 
 -- The records of a plan keep the node whole.
@@ -80,6 +83,12 @@ plan_stores : (past : Past) (event : Event) (plan : Plan) (t : TablesView) (p : 
 plan_stores past event plan t p entry planned e =
     planned.records ∙ ap (λ x. stores built_layers past x (insight_in plan.basis) plan.answer) (sym e.is_of)
     ∙ ap (λ a. stores built_layers past entry.event (insight_in plan.basis) a) (sym e.has)
+
+-- what the store says after an event, and the elements of the node
+pub record IsAfter (elements : ℕ) (p : Persist) : Type 0 where
+  pub whole : IsWhole (config_in p)
+  pub same : elements ≡ p.elements
+  pub unicast : p.unicast.0 + p.elements ≤ 2 ^ 15
 
 module _ (law : KeptLaw) (m : NodeMachine) (event : Event) (plan : Plan) (planned_tables : TablesView) where
   -- where all records were stored
@@ -167,3 +176,30 @@ module _ (law : KeptLaw) (m : NodeMachine) (event : Event) (plan : Plan) (planne
       → is_outside event ≡ false → All IsQuiet jobs
   event_quiet ready p jobs is e =
       subst (λ l. All IsQuiet l) (sym is) (jobs_quiet ready.past (config_in p) event (insight_in plan.basis) plan.answer e)
+
+  pub event_after : (ready : IsReady m) (p : Persist) → IsPlanned ready.past event plan planned_tables → ArePuttable m.reserve.store.persist plan.records
+      → IsMeaningOf (ready.past.records ++ plan.records) p → config_in p ≡ fold changed (config_in m.reserve.store.persist) plan.records
+      → IsAfter m.elements p
+  event_after ready p planned may meaning change =
+      let past : Past = ready.past in
+      let kept : AreKept (config_of past.records) plan.records = plan_kept past m event plan planned_tables ready.before planned may in
+      let whole : IsWhole (config_in p) = subst IsWhole (sym meaning.config) (all_whole law past.records plan.records kept ready.before.whole) in
+      let same : IsSameNode (config_in m.reserve.store.persist) (fold changed (config_in m.reserve.store.persist) plan.records) =
+      kept_node (config_in m.reserve.store.persist) plan.records (subst (λ c. AreKept c plan.records) (sym ready.before.standing.meaning.config) kept) in
+      record {
+        whole = whole;
+        same = ready.elements ∙ sym (ap (λ (c : Config). c.elements) change ∙ same.elements);
+        unicast = whole.last;
+      }
+
+  pub event_sendable : (p : Persist) → IsAfter m.elements p → IsEvent m.elements event → IsSendable (config_in p) event
+  event_sendable p after e = by_event event e
+    where
+      by_event : (x : Event) → IsEvent m.elements x → IsSendable (config_in p) x
+      by_event (E.Send element dst ttl key payload) h = omega (arith, h.0, after.same, after.unicast)
+      by_event (E.Begin pair dst src ttl net akf aid upper) h = (omega (arith, h.4), h.2, h.3)
+      by_event (E.Net octets) h = tt
+      by_event (E.Bcn octets) h = tt
+      by_event (E.Raw dst ttl tpdu) h = tt
+      by_event (E.Tick ticks) h = tt
+      by_event (E.Kept lpn fsn name pdu) h = tt

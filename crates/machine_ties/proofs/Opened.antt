@@ -6,17 +6,21 @@ use Rattle.std.proofs.lemmas.List.Elements.{All-from_recursion}
 use Rattle.event_plans.specs.Plans.{IsStanding}
 use Rattle.flash_model.specs.Chip.{Chip, IsFresh, LeavesOnly}
 use Rattle.machine_contract.specs.Opening.{EachRecovered, IsLeft, IsNodeFlash}
-use Rattle.machine_contract.specs.Refused.{IsUntouched}
+use Rattle.machine_contract.specs.Refused.{IsStartCause, IsUntouched, WasReset}
 use Rattle.machine_contract.specs.Standing.{IsLifeSoFar, IsSameFlash, past_now}
 use Rattle.machine_contract.specs.declared.answers.Hand.TheVariants as H
 use Rattle.machine_ties.proofs.Images.{held_left, store_left, store_mark, store_node}
 use Rattle.machine_ties.proofs.Lists.{all_nothing}
+use Rattle.machine_ties.specs.Opening.{start_fault_of}
 use Rattle.machine_ties.specs.Ties.{IsBefore, IsOver, IsReady, Stands, opened}
 use Rattle.machine_ties.specs.Views.{NodeMachine, shown}
 use Rattle.mesh_hearing.specs.Tables.{AreTablesOf, IsFit, TablesView}
 use Rattle.node_layers.specs.BuiltLayers.{built_layers}
 use Rattle.node_records.specs.Meaning.{IsMeaningOf}
 use Rattle.node_store.proofs.Holding.{held_node, holds_exactly, store_meaning}
+use Rattle.node_store.specs.Causes.{IsFoundAs, IsStoreCause}
+use Rattle.node_store.specs.declared.mounting.StoreFault.{StoreFault}
+use Rattle.node_store.specs.declared.mounting.StoreFault.TheVariants as F
 use Rattle.node_store.specs.Mounted.{IsRead}
 use Rattle.node_store.specs.Tie.{Holds, IsExactly, IsFront, IsHeld, IsNode, IsPut, IsStoreOf}
 use Rattle.node_store.specs.View.{StoreView}
@@ -116,3 +120,25 @@ stands_same old new over m same s = record {
   usable = λ e. record { store = store_same old new m.reserve.store _ same (s.usable e).store; before = (s.usable e).before };
   began = omega (arith, s.began, same.faults, same.began);
 }
+
+-- The causes of a store that isn't mounted.
+
+abbrev pub AreMounted : Type 0
+AreMounted = (content : List ℕ) (records : List StoreRecord) → IsRead content records → (config_of records).reset ≡ false → (fault : StoreFault) → IsFoundAs content fault → ⊥
+
+found_reset : (content : List ℕ) (records : List StoreRecord) (fault : StoreFault) → AreMounted → IsRead content records → IsFoundAs content fault → (config_of records).reset ≡ true
+found_reset content records fault law read found = pick (config_of records).reset refl
+  where
+    pick : (b : Bool) → (config_of records).reset ≡ b → (config_of records).reset ≡ true
+    pick true e = e
+    pick false e = absurd (law content records read e fault found)
+
+was_reset : (old : Chip) (node : IsNode old.now) (fault : StoreFault) → AreMounted → IsFoundAs old.now fault → WasReset old
+was_reset old node fault law found = record { over = node.records; read = node.read.held; reset = found_reset old.now node.records fault law node.read found }
+
+pub start_cause : (old new : Chip) (node : IsNode old.now) (fault : StoreFault) → AreMounted → IsTrue old.honest → IsStoreCause old new fault → IsUntouched IsNode old new
+    → IsStartCause IsNode old new (start_fault_of fault)
+start_cause old new node F.Flash law honest cause same = (cause, same)
+start_cause old new node F.NoNode law honest cause same = (was_reset old node F.NoNode law (cause honest), same)
+start_cause old new node (F.Damaged n) law honest cause same = (was_reset old node (F.Damaged n) law (cause honest), same)
+start_cause old new node F.WasReset law honest cause same = (was_reset old node F.WasReset law (cause honest), same)

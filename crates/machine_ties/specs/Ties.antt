@@ -9,6 +9,8 @@ use Rattle.machine_ties.specs.Views.{NodeMachine, shown}
 use Rattle.mesh_hearing.specs.Tables.{IsFit, TablesView}
 use Rattle.mesh_types.specs.declared.history.Entry.{Entry}
 use Rattle.node_layers.specs.BuiltLayers.{built_layers}
+use Rattle.node_records.specs.Meaning.{IsMeaningOf}
+use Rattle.node_records.specs.declared.persist.Persist.{Persist}
 use Rattle.node_store.specs.Tie.{IsFront, IsNode, IsStoreOf}
 use Rattle.record_types.specs.declared.records.StoreRecord.{StoreRecord}
 use Rattle.run_definitions.specs.History.{Past, Told}
@@ -78,3 +80,9 @@ opened reserve tables elements = record {
   hand = H.Nothing;
   elements = elements;
 }
+
+-- a store whose value says the records of a node that can be run
+pub record IsNodeStore (over : List StoreRecord) (p : Persist) : Type 0 where
+  pub meaning : IsMeaningOf over p
+  pub ranges : All IsInRange over
+  pub whole : IsWhole (config_of over)
