@@ -1,6 +1,6 @@
 -- What is stored for an accepted message: its SEQ has 24 bits, and there is a place for it.
-use Rattle.std.proofs.Common.{◌≡◌, ◌≢◌, ℕ, ◌-◌, ◌+◌, ◌<◌, ◌≤◌, ◌^◌, ◌⊎◌, inl, inr, Bool, true, false, cond, not, eqb, ◌||◌, List, [], ◌∷◌, refl, ap, sym, subst, ◌∙◌, arith, Option, Some, None}
-use Rattle.std.specs.Prelude.{IsTrue, IfSome, All, is_some, unwrap_or, ◌%◌}
+use Rattle.std.proofs.Common.{◌≡◌, ℕ, ◌-◌, ◌<◌, ◌^◌, inl, inr, Bool, true, false, cond, not, eqb, ◌||◌, List, [], ◌∷◌, refl, ap, sym, subst, ◌∙◌, arith, Option, Some, None}
+use Rattle.std.specs.Prelude.{IsTrue, IfSome, All, is_some, ◌%◌}
 use Rattle.std.specs.List.{AllByRecursion as Every}
 use Rattle.std.specs.Option.{option_map, option_map_or}
 use Rattle.std.proofs.lemmas.List.Elements.{recursion_from_All}
@@ -22,16 +22,16 @@ use Rattle.node_records.specs.Meaning.{IsMeaningOf}
 use Rattle.node_records.specs.declared.persist.Persist.{Persist}
 use Rattle.record_types.specs.declared.records.StoreRecord.{StoreRecord}
 use Rattle.record_types.specs.declared.records.StoreRecord.TheVariants as R
-use Rattle.run_definitions.proofs.Accepting.{HasPlace, Passes, Refuses, named_accepts, no_answer, past_refusal, refused, refuses_pick, some_is}
+use Rattle.run_definitions.proofs.Accepting.{HasPlace, Refuses, named_accepts, no_answer, past_refusal, refused, refuses_pick, some_is}
 use Rattle.run_definitions.specs.Answers.{answer_of, config_before, is_cached, is_mine, message_name, message_pair, network_answer, pair_of, pdu_answer, transport_answer}
 use Rattle.run_definitions.specs.History.{Insight, OfBeacon, OfNothing, OfPdu, Opening, Past, Reading}
 use Rattle.run_definitions.specs.Layers.{AccessMessage}
-use Rattle.run_definitions.specs.Readings.{Sees, sees_beacon, sees_nothing, sees_pdu}
+use Rattle.run_definitions.specs.Readings.{Sees, sees_pdu}
 use Rattle.run_definitions.specs.Stores.{message_of, stores}
 use Rattle.run_definitions.specs.Uses.{accepted}
 use Rattle.store_definitions.specs.Config.{is_element}
 use Rattle.store_definitions.specs.Entries.{entry_of, has_room}
-use Rattle.store_definitions.specs.Following.{HasNoPlace, PassesLimit}
+use Rattle.store_definitions.specs.Following.{PassesLimit}
 use Rattle.store_definitions.specs.Ranges.{IsInRange}
 
 -- The SEQ of a message.

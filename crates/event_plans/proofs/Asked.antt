@@ -1,6 +1,5 @@
 -- What the plan of an event says for its jobs.
 use Rattle.std.proofs.Common.{◌≡◌, ℕ, Bool, true, false, cond, List, [], refl, ap, sym, subst, ◌∙◌, Option, Some, None, Bor}
-use Rattle.std.specs.Bool.{⊤}
 use Rattle.std.specs.Prelude.{IfSome, MatchOption}
 use Rattle.std.specs.Option.{option_copied, option_map}
 use Rattle.event_plans.specs.Plans.{insight_in}
@@ -21,7 +20,7 @@ use Rattle.node_layers.specs.BuiltLayers.{built_layers}
 use Rattle.run_definitions.specs.Answers.{answer_of, config_before, is_busy, later, network_answer}
 use Rattle.run_definitions.specs.History.{Insight, OfNothing, OfPdu, Opening, Past, Reading}
 use Rattle.run_definitions.specs.Jobs.{jobs_of}
-use Rattle.run_definitions.specs.Readings.{IsLowerPdu, Sees, sees_nothing, sees_pdu}
+use Rattle.run_definitions.specs.Readings.{IsLowerPdu, Sees, sees_pdu}
 use Rattle.store_definitions.specs.Config.{Config}
 
 lower_fits : (o : Option Answer) (r : Reading) (low : Lower) → MatchOption o (IsLowerPdu r.fields (Some low)) (λ answer. Some low ≡ None) → Fits low

@@ -1,7 +1,7 @@
 -- What is stored for a beacon: its index has 12 bits, and its step is one of the table.
-use Rattle.std.proofs.Common.{◌≡◌, ℕ, ◌≤◌, zero, suc, Bool, true, false, cond, List, [], ◌∷◌, ◌++◌, refl, ap, sym, subst, ◌∙◌, Option, Some, None}
+use Rattle.std.proofs.Common.{◌≡◌, ℕ, ◌≤◌, zero, suc, Bool, true, false, cond, List, [], ◌∷◌, ◌++◌, ap, sym, subst, Option, Some, None}
 use Rattle.std.specs.Prelude.{All, is_some}
-use Rattle.std.specs.List.{AllByRecursion as Every, flat_map, slice_get}
+use Rattle.std.specs.List.{AllByRecursion as Every, slice_get}
 use Rattle.event_plans.proofs.Narrow.{IsIndexed, narrow_of}
 use Rattle.event_records.specs.Steps.{IsStepFrom}
 use Rattle.iv_update.specs.Steps.{IsLater, state_after}
@@ -18,10 +18,10 @@ use Rattle.mesh_types.specs.declared.events.Event.TheVariants as E
 use Rattle.node_layers.specs.BuiltLayers.{built_layers}
 use Rattle.node_records.specs.Meaning.{IsMeaningOf}
 use Rattle.node_records.specs.declared.persist.Persist.{Persist}
-use Rattle.run_definitions.specs.Answers.{answer_of, beacon_answer, config_before, is_busy, key_step}
+use Rattle.run_definitions.specs.Answers.{answer_of, beacon_answer, config_before, is_busy}
 use Rattle.run_definitions.specs.History.{Insight, OfBeacon, OfNothing, OfPdu, Past}
-use Rattle.run_definitions.specs.Readings.{Sees, sees_beacon, sees_nothing}
-use Rattle.store_definitions.specs.Config.{Config, config_of}
+use Rattle.run_definitions.specs.Readings.{Sees, sees_beacon}
+use Rattle.store_definitions.specs.Config.{Config}
 use Rattle.store_definitions.specs.Ranges.{IsInRange}
 
 every_append : {X : Type 0} (P : X → Type 0) (xs ys : List X) → Every P xs → Every P ys → Every P (xs ++ ys)

@@ -1,9 +1,9 @@
 -- What the ranges of records say of the widths of what they leave.
-use Rattle.std.proofs.Common.{◌≡◌, ℕ, ◌+◌, ◌≤◌, ◌<◌, ◌^◌, Bool, true, false, cond, not, ◌||◌, ◌&&◌, ltb, leb, eqb, List, [], ◌∷◌, ◌++◌, refl, ap, subst, sym, arith}
+use Rattle.std.proofs.Common.{◌≡◌, ℕ, ◌≤◌, ◌<◌, ◌^◌, Bool, true, false, cond, not, ltb, eqb, List, [], ◌∷◌, refl, subst, sym, arith}
 use Rattle.std.specs.Prelude.{IsTrue, All, fold, filter, Some, None, ◌==◌, if◌then◌else◌}
 use Rattle.std.specs.List.{AllByRecursion as Every}
 use Rattle.std.proofs.lemmas.Bool.Decides.{nat_tests}
-use Rattle.std.proofs.lemmas.List.Elements.{All-from_recursion, recursion_from_All}
+use Rattle.std.proofs.lemmas.List.Elements.{recursion_from_All}
 use Rattle.layer_definitions.specs.KeyRefresh.{net_index}
 use Rattle.layer_definitions.specs.Order.{put_by}
 use Rattle.mesh_base.specs.declared.keys.NetKeyRow.{NetKeyRow}

@@ -1,7 +1,7 @@
 -- Events whose answer says no time leave the tables, where no network PDU was read.
-use Rattle.std.proofs.Common.{◌≡◌, ℕ, Bool, true, false, cond, eqb, List, [], ◌∷◌, ◌++◌, refl, ap, sym, subst, ◌∙◌, Option, Some, None}
+use Rattle.std.proofs.Common.{◌≡◌, ℕ, Bool, true, false, cond, eqb, List, [], ◌∷◌, ◌++◌, refl, ap, sym, subst, ◌∙◌, Some, None}
 use Rattle.std.specs.Bool.{⊤}
-use Rattle.std.specs.Prelude.{fold, is_some, ◌||◌}
+use Rattle.std.specs.Prelude.{is_some, ◌||◌}
 use Rattle.std.specs.List.{list_any}
 use Rattle.event_plans.specs.Own.{begin_row, keyed_row, raw_row, send_row}
 use Rattle.event_plans.specs.Plans.{IsBasisOf, IsPlanned, IsStanding}
@@ -14,9 +14,6 @@ use Rattle.node_records.specs.Meaning.{IsMeaningOf}
 use Rattle.node_records.specs.Tables.{config_in}
 use Rattle.node_records.specs.declared.persist.Persist.{Persist}
 use Rattle.event_plans.specs.declared.plan.Basis.TheVariants as B
-use Rattle.layer_states.specs.Reassembly.{after}
-use Rattle.layer_states.specs.declared.reassembly.Assembly.{Assembly}
-use Rattle.mesh_base.specs.declared.beacon.Beacon.{Beacon}
 use Rattle.mesh_base.specs.declared.pair.Pair.{Pair}
 use Rattle.mesh_hearing.specs.Heard.{beacon_insight}
 use Rattle.mesh_hearing.specs.declared.beacons.BeaconHearing.{BeaconHearing}

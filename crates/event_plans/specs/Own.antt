@@ -1,5 +1,5 @@
 -- The answers to what the node is asked to send, by what the records say.
-use Rattle.std.specs.Prelude.{ℕ, ◌==◌, not, if◌then◌else◌}
+use Rattle.std.specs.Prelude.{◌==◌, not, if◌then◌else◌}
 use Rattle.std.specs.List.{list_any}
 use Rattle.mesh_base.specs.IvState.{transmit_of}
 use Rattle.mesh_base.specs.declared.keys.AppKeyRow.{AppKeyRow}

@@ -1,5 +1,5 @@
 -- What the plan of an event is, by the definitions of a life.
-use Rattle.std.specs.Prelude.{◌≡◌, ◌<◌, ◌^◌, ◌++◌, ⊤, false, if◌then◌else◌, All, List, [], ◌∷◌}
+use Rattle.std.specs.Prelude.{◌≡◌, ◌++◌, ⊤, false, if◌then◌else◌, All, [], ◌∷◌}
 use Rattle.std.specs.Option.{option_map}
 use Rattle.event_plans.specs.declared.plan.Basis.{Basis}
 use Rattle.event_plans.specs.declared.plan.Basis.TheVariants as B
@@ -19,7 +19,6 @@ use Rattle.run_definitions.specs.Answers.{answer_of, config_before, later}
 use Rattle.run_definitions.specs.History.{Insight, OfBeacon, OfNothing, OfPdu, Past, Told}
 use Rattle.run_definitions.specs.Readings.{Sees}
 use Rattle.run_definitions.specs.Stores.{stores}
-use Rattle.store_definitions.specs.Config.{config_of}
 use Rattle.store_definitions.specs.Ranges.{IsInRange}
 
 -- What stands before an event: the store's value says its records, which are in range, and the tables are those of its entries.

@@ -1,13 +1,12 @@
 -- The jobs of an event are within their ranges.
-use Rattle.std.proofs.Common.{◌≡◌, ℕ, zero, suc, ◌+◌, ◌-◌, ◌*◌, ◌/◌, ◌%◌, ◌<◌, ◌≤◌, ◌^◌, Bool, true, false, cond, not, eqb, leb, ◌&&◌, List, [], ◌∷◌, ◌++◌, length, map, take, drop, refl, ap, sym, subst, ◌∙◌, arith, Option, Some, None, length-append}
-use Rattle.std.specs.Bool.{⊤}
+use Rattle.std.proofs.Common.{◌≡◌, ℕ, zero, suc, ◌-◌, ◌*◌, ◌/◌, ◌%◌, ◌<◌, ◌≤◌, ◌^◌, Bool, false, List, [], ◌∷◌, ◌++◌, length, take, drop, refl, arith, Option, Some, None}
 use Rattle.std.specs.Prelude.{All, option_and_then}
-use Rattle.std.specs.List.{AllByRecursion as Every, flat_map, range_with_len}
+use Rattle.std.specs.List.{AllByRecursion as Every, range_with_len}
 use Rattle.std.specs.Option.{option_map, option_map_or, option_to_list}
 use Rattle.std.proofs.lemmas.List.Elements.{All-from_recursion}
 use Rattle.cipher_definitions.specs.Kdf.{aid, k2, k2_number, k4, master_credentials}
-use Rattle.layer_definitions.specs.KeyRefresh.{app_key, app_row, master_material, net_row, own_beacon, transmit_app, transmit_key, transmit_material, transmit_value}
-use Rattle.layer_definitions.specs.Lower.{acknowledgment, lower_text, segment}
+use Rattle.layer_definitions.specs.KeyRefresh.{app_key, app_row, master_material, net_row, own_beacon, transmit_app, transmit_key, transmit_value}
+use Rattle.layer_definitions.specs.Lower.{lower_text, segment}
 use Rattle.layer_definitions.specs.Network.{HasPdu}
 use Rattle.layer_states.specs.Reassembly.{acks_due}
 use Rattle.layer_states.specs.declared.reassembly.DueAck.{DueAck}
@@ -15,7 +14,6 @@ use Rattle.machine_contract.specs.Ranges.{IsEvent, IsJob, IsQuiet, IsUpperKey}
 use Rattle.machine_ties.proofs.Acks.{IsShort, IsShortTold, acks_short, reply_short}
 use Rattle.machine_ties.proofs.Lists.{Inside, every_append, every_flat, every_flat_any, every_made, every_pick}
 use Rattle.mesh_base.specs.declared.address.Address.{Address}
-use Rattle.mesh_base.specs.declared.fields.NetFields.{NetFields}
 use Rattle.mesh_base.specs.declared.fields.NetMaterial.{NetMaterial}
 use Rattle.mesh_base.specs.declared.keys.AppKeyRow.{AppKeyRow}
 use Rattle.mesh_base.specs.declared.keys.NetKeyRow.{NetKeyRow}
@@ -31,17 +29,16 @@ use Rattle.mesh_types.specs.declared.events.SendKey.{SendKey}
 use Rattle.mesh_types.specs.declared.events.SendKey.TheVariants as K
 use Rattle.mesh_types.specs.declared.jobs.Job.{Job}
 use Rattle.mesh_types.specs.declared.jobs.Job.TheVariants as J
-use Rattle.mesh_types.specs.declared.lines.Outcome.{Outcome}
 use Rattle.node_layers.specs.BuiltLayers.{built_layers}
 use Rattle.node_layers.specs.Reassembly.{acks_at, due_job, due_jobs, messages}
 use Rattle.run_definitions.specs.Answers.{config_before, is_before_cache, later}
-use Rattle.run_definitions.specs.History.{Insight, OfBeacon, OfNothing, OfPdu, Opening, Past, Reading}
-use Rattle.run_definitions.specs.Jobs.{ack_asked, ack_job, ack_jobs, beacon_jobs, beacons_due, begin_jobs, block_asked, element_address, first_net, first_round_job, jobs_of, message_jobs, pdu_jobs, raw_jobs, refresh_jobs, relay_jobs, reply_ttl, segment_numbers, send_jobs, send_keys, sent_job, under}
+use Rattle.run_definitions.specs.History.{Insight, OfBeacon, OfNothing, OfPdu, Past, Reading}
+use Rattle.run_definitions.specs.Jobs.{ack_asked, ack_job, ack_jobs, beacon_jobs, beacons_due, begin_jobs, block_asked, element_address, first_net, first_round_job, jobs_of, message_jobs, pdu_jobs, raw_jobs, refresh_jobs, relay_jobs, segment_numbers, send_jobs, send_keys, sent_job, under}
 use Rattle.run_definitions.specs.Layers.{AccessMessage}
 use Rattle.run_definitions.specs.Order.{is_outside}
-use Rattle.run_definitions.specs.Readings.{Sees, sees_beacon, sees_nothing, sees_pdu}
+use Rattle.run_definitions.specs.Readings.{Sees, sees_pdu}
 use Rattle.run_definitions.specs.Stores.{message_of}
-use Rattle.store_definitions.specs.Config.{Config, is_element}
+use Rattle.store_definitions.specs.Config.{Config}
 
 -- Widths of what is derived.
 

@@ -1,10 +1,9 @@
 -- What an event that was planned leaves, whether its records were stored or not.
-use Rattle.std.proofs.Common.{◌≡◌, ℕ, ◌+◌, ◌≤◌, ◌<◌, ◌^◌, Bool, true, false, List, [], ◌∷◌, ◌++◌, length, refl, ap, sym, subst, ◌∙◌, arith}
+use Rattle.std.proofs.Common.{◌≡◌, ℕ, ◌+◌, ◌≤◌, ◌<◌, ◌^◌, false, List, [], ◌∷◌, ◌++◌, length, refl, ap, sym, subst, ◌∙◌, arith}
 use Rattle.std.specs.Prelude.{All, fold}
-use Rattle.std.specs.List.{AllByRecursion as Every}
 use Rattle.std.proofs.lemmas.List.Elements.{recursion_from_All}
 use Rattle.event_plans.proofs.Narrow.{narrow_of}
-use Rattle.event_plans.specs.Plans.{IsPlanned, IsSomePast, IsSomePlan, insight_in}
+use Rattle.event_plans.specs.Plans.{IsPlanned, insight_in}
 use Rattle.event_plans.specs.Sending.{IsSendable}
 use Rattle.event_plans.specs.declared.plan.Plan.{Plan}
 use Rattle.event_records.specs.Putting.{ArePuttable}

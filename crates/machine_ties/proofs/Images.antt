@@ -1,5 +1,5 @@
 -- What the images of a flash recover.
-use Rattle.std.proofs.Common.{◌≡◌, ℕ, ◌≤◌, List, [], ◌∷◌, ◌++◌, append-nil, take, refl, ap, sym, subst, ◌∙◌, arith}
+use Rattle.std.proofs.Common.{◌≡◌, ℕ, ◌≤◌, List, [], ◌++◌, append-nil, take, ap, sym, subst, ◌∙◌, arith}
 use Rattle.std.specs.Prelude.{All}
 use Rattle.flash_model.specs.Chip.{Chip}
 use Rattle.machine_contract.specs.Opening.{EachRecovered, IsLeft, IsNodeFlash}
@@ -7,7 +7,7 @@ use Rattle.machine_ties.proofs.Fronts.{front_ranges, front_whole}
 use Rattle.machine_ties.proofs.Lists.{all_nothing}
 use Rattle.machine_ties.specs.Kept.{AreKept, KeptLaw}
 use Rattle.node_store.proofs.Holding.{alike_sym, held_node, holds_recovered, store_images, store_meaning}
-use Rattle.node_store.specs.Tie.{Holds, IsFront, IsHeld, IsNode, IsPut, IsStoreOf}
+use Rattle.node_store.specs.Tie.{Holds, IsFront, IsHeld, IsNode, IsStoreOf}
 use Rattle.node_store.specs.View.{StoreView}
 use Rattle.record_types.specs.declared.records.StoreRecord.{StoreRecord}
 use Rattle.store_definitions.specs.Alike.{IsAlike}

@@ -1,5 +1,5 @@
 -- What holds of each item.
-use Rattle.std.proofs.Common.{◌≡◌, ℕ, suc, zero, Bool, true, false, cond, List, [], ◌∷◌, ◌++◌, take, map, filter, append-nil, sym, subst, Option, Some, None}
+use Rattle.std.proofs.Common.{ℕ, suc, zero, Bool, true, false, cond, List, [], ◌∷◌, ◌++◌, take, map, filter, append-nil, sym, subst, Option, Some, None}
 use Rattle.std.specs.Bool.{⊤}
 use Rattle.std.specs.Prelude.{All, fold, slice_index_or, slice_set}
 use Rattle.std.specs.List.{AllByRecursion as Every, cons_option, filter_map, flat_map}

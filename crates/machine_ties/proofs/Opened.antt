@@ -1,31 +1,26 @@
 -- What a life opens with, what a refused opening leaves, and what an arm leaves.
-use Rattle.std.proofs.Common.{◌≡◌, ℕ, ◌+◌, ◌≤◌, ◌<◌, ◌^◌, ◌⊎◌, inl, inr, Bool, true, false, List, [], ◌∷◌, ◌++◌, length, take, append-nil, refl, ap, sym, subst, ◌∙◌, arith, true≢false}
+use Rattle.std.proofs.Common.{◌≡◌, ℕ, ◌≤◌, Bool, true, false, List, [], append-nil, refl, ap, sym, subst, ◌∙◌, arith, true≢false}
 use Rattle.std.specs.Prelude.{All, IsTrue}
-use Rattle.std.specs.List.{AllByRecursion as Every}
 use Rattle.std.proofs.lemmas.List.Elements.{All-from_recursion}
-use Rattle.event_plans.specs.Plans.{IsStanding}
-use Rattle.flash_model.specs.Chip.{Chip, IsFresh, LeavesOnly}
-use Rattle.machine_contract.specs.Opening.{EachRecovered, IsLeft, IsNodeFlash}
+use Rattle.flash_model.specs.Chip.{Chip}
 use Rattle.machine_contract.specs.Refused.{IsStartCause, IsUntouched, WasReset}
-use Rattle.machine_contract.specs.Standing.{IsLifeSoFar, IsSameFlash, past_now}
-use Rattle.machine_contract.specs.declared.answers.Hand.TheVariants as H
+use Rattle.machine_contract.specs.Standing.{IsSameFlash}
 use Rattle.machine_ties.proofs.Images.{held_left, store_left, store_mark, store_node}
 use Rattle.machine_ties.proofs.Lists.{all_nothing}
 use Rattle.machine_ties.specs.Opening.{start_fault_of}
-use Rattle.machine_ties.specs.Ties.{IsBefore, IsOver, IsReady, Stands, opened}
-use Rattle.machine_ties.specs.Views.{NodeMachine, shown}
+use Rattle.machine_ties.specs.Ties.{IsBefore, IsReady, Stands, opened}
+use Rattle.machine_ties.specs.Views.{NodeMachine}
 use Rattle.mesh_hearing.specs.Tables.{AreTablesOf, IsFit, TablesView}
-use Rattle.node_layers.specs.BuiltLayers.{built_layers}
 use Rattle.node_records.specs.Meaning.{IsMeaningOf}
-use Rattle.node_store.proofs.Holding.{held_node, holds_exactly, store_meaning}
+use Rattle.node_store.proofs.Holding.{held_node, store_meaning}
 use Rattle.node_store.specs.Causes.{IsFoundAs, IsStoreCause}
 use Rattle.node_store.specs.declared.mounting.StoreFault.{StoreFault}
 use Rattle.node_store.specs.declared.mounting.StoreFault.TheVariants as F
 use Rattle.node_store.specs.Mounted.{IsRead}
-use Rattle.node_store.specs.Tie.{Holds, IsExactly, IsFront, IsHeld, IsNode, IsPut, IsStoreOf}
+use Rattle.node_store.specs.Tie.{Holds, IsHeld, IsNode, IsStoreOf}
 use Rattle.node_store.specs.View.{StoreView}
 use Rattle.record_types.specs.declared.records.StoreRecord.{StoreRecord}
-use Rattle.run_definitions.specs.History.{Past, Told}
+use Rattle.run_definitions.specs.History.{Told}
 use Rattle.seq_reserve.specs.Reserving.{IsPublished}
 use Rattle.seq_reserve.specs.declared.reserve.Reserve.{Reserve}
 use Rattle.slot_journal.specs.Headers.{IsTidy}
@@ -33,7 +28,6 @@ use Rattle.slot_journal.specs.Tie.{IsMounted as IsJournalMounted}
 use Rattle.store_definitions.specs.Config.{Config, config_of}
 use Rattle.store_definitions.specs.Node.{IsWhole}
 use Rattle.store_definitions.specs.Ranges.{IsInRange}
-use Rattle.store_definitions.specs.Recovered.{IsRecovered}
 
 opened_before : (over : List StoreRecord) (r : Reserve) (t : TablesView) (elements : ℕ) → IsMeaningOf over r.store.persist → All IsInRange over → IsWhole (config_of over)
     → AreTablesOf t [] → IsBefore (record { told = []; records = over }) (opened r t elements)

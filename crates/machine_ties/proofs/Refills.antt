@@ -1,5 +1,5 @@
 -- What a refill leaves, whether its record was stored or not.
-use Rattle.std.proofs.Common.{◌≡◌, ℕ, ◌+◌, ◌*◌, ◌%◌, ◌≤◌, ◌<◌, ◌^◌, ◌⊎◌, inl, inr, ⊎_elim, Bool, true, false, List, [], ◌∷◌, ◌++◌, take, append-nil, refl, ap, sym, subst, ◌∙◌, arith}
+use Rattle.std.proofs.Common.{◌≡◌, ℕ, ◌<◌, ◌^◌, ⊎_elim, false, List, [], ◌∷◌, ◌++◌, append-nil, ap, sym, subst, ◌∙◌, arith}
 use Rattle.std.specs.Prelude.{All, IsTrue}
 use Rattle.flash_model.specs.Chip.{Chip, Keeps, Setting}
 use Rattle.machine_contract.specs.Standing.{past_now}
@@ -22,7 +22,6 @@ use Rattle.seq_reserve.specs.Reserving.{IsDurable, IsPublished}
 use Rattle.seq_reserve.specs.declared.reserve.Reserve.{Reserve}
 use Rattle.seq_word.specs.Word.{seq_of}
 use Rattle.store_definitions.specs.Config.{Config, config_of}
-use Rattle.store_definitions.specs.Node.{IsWhole}
 use Rattle.store_definitions.specs.Numbers.{fill_of}
 use Rattle.store_definitions.specs.Ranges.{IsInRange}
 

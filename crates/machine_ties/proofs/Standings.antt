@@ -1,39 +1,32 @@
 -- What each call leaves of what holds of a machine.
-use Rattle.std.proofs.Common.{◌≡◌, ℕ, ◌+◌, ◌≤◌, ◌<◌, ◌^◌, suc, zero, ◌⊎◌, inl, inr, Bool, true, false, List, [], ◌∷◌, ◌++◌, length, map, append-nil, take, refl, ap, sym, subst, ◌∙◌, arith, true≢false, add-one, length-append}
-use Rattle.std.specs.Prelude.{All, IsTrue}
+use Rattle.std.proofs.Common.{◌≡◌, ℕ, ◌+◌, ◌≤◌, ◌<◌, ◌^◌, suc, zero, ◌⊎◌, inl, inr, false, List, [], ◌∷◌, ◌++◌, length, take, refl, ap, sym, subst, ◌∙◌, arith, true≢false, add-one, length-append}
+use Rattle.std.specs.Prelude.{All}
 use Rattle.std.proofs.lemmas.List.{map-append}
-use Rattle.event_plans.specs.Plans.{IsPlanned, IsStanding, insight_in}
-use Rattle.event_plans.specs.declared.plan.Plan.{Plan}
 use Rattle.flash_model.specs.Chip.{Chip, Keeps}
-use Rattle.machine_contract.specs.declared.answers.Hand.{Hand}
 use Rattle.machine_contract.specs.declared.answers.Hand.TheVariants as H
-use Rattle.machine_contract.specs.Opening.{EachRecovered, IsLeft, IsNodeFlash}
-use Rattle.machine_contract.specs.Standing.{IsFrontLeft, IsLeftBy, IsLifeSoFar, IsSameFlash, past_now}
+use Rattle.machine_contract.specs.Opening.{IsLeft}
+use Rattle.machine_contract.specs.Standing.{IsLeftBy, past_now}
 use Rattle.machine_ties.proofs.Fronts.{all_ranges, all_whole}
 use Rattle.machine_ties.proofs.Images.{front_left, front_node, store_left, store_mark, store_node}
 use Rattle.machine_ties.proofs.Lists.{all_append, all_one}
 use Rattle.machine_ties.proofs.Lives.{filled_more, handled_more, left_more}
 use Rattle.machine_ties.specs.Kept.{AreKept, KeptLaw}
-use Rattle.machine_ties.specs.Ties.{IsBefore, IsCutIn, IsOver, IsReady, IsSound, Stands, entered, refilled, stopped}
-use Rattle.machine_ties.specs.Views.{NodeMachine, shown}
-use Rattle.mesh_hearing.specs.Tables.{AreTablesOf, IsFit, TablesView}
+use Rattle.machine_ties.specs.Ties.{IsBefore, IsCutIn, IsOver, Stands, entered, refilled, stopped}
+use Rattle.machine_ties.specs.Views.{NodeMachine}
+use Rattle.mesh_hearing.specs.Tables.{AreTablesOf, TablesView}
 use Rattle.mesh_types.specs.declared.events.Event.{Event}
 use Rattle.mesh_types.specs.declared.history.Entry.{Entry}
 use Rattle.node_layers.specs.BuiltLayers.{built_layers}
 use Rattle.node_records.specs.Meaning.{IsMeaningOf}
-use Rattle.node_records.specs.declared.persist.Persist.{Persist}
-use Rattle.node_store.specs.Tie.{IsFront, IsNode, IsStoreOf}
-use Rattle.node_store.specs.View.{StoreView}
+use Rattle.node_store.specs.Tie.{IsStoreOf}
 use Rattle.record_types.specs.declared.records.StoreRecord.{StoreRecord}
 use Rattle.run_definitions.specs.Answers.{answer_of}
-use Rattle.run_definitions.specs.Handling.{AreHandled, Handles, past_of, records_left}
+use Rattle.run_definitions.specs.Handling.{Handles, records_left}
 use Rattle.run_definitions.specs.History.{Insight, Past, Told}
-use Rattle.run_definitions.specs.Jobs.{jobs_of}
 use Rattle.run_definitions.specs.Readings.{Sees}
-use Rattle.run_definitions.specs.Stores.{records_after, stores}
+use Rattle.run_definitions.specs.Stores.{stores}
 use Rattle.seq_reserve.specs.declared.reserve.Reserve.{Reserve}
 use Rattle.store_definitions.specs.Config.{config_of}
-use Rattle.store_definitions.specs.Node.{IsWhole}
 use Rattle.store_definitions.specs.Numbers.{fill_of, filled}
 use Rattle.store_definitions.specs.Ranges.{IsInRange}
 
@@ -91,7 +84,7 @@ module _ (law : KeptLaw) (old new : Chip) (over : List StoreRecord) (m : NodeMac
           node = store_node new r.store all store before.whole;
           left = λ image next held found. (
             subst (λ h. IsLeftBy built_layers (past_now built_layers over (past.told ++ t ∷ []) 0) h next) (sym (s.life.idle runs))
-            (subst (λ l. IsLeft l [] next) (sym left_is) (store_left new r.store all store before.standing.ranges image next held found)),
+                (subst (λ l. IsLeft l [] next) (sym left_is) (store_left new r.store all store before.standing.ranges image next held found)),
             store_mark new r.store all r.keeper.mark store mark image next held found,
           );
           idle = s.life.idle;
@@ -187,7 +180,7 @@ module _ (law : KeptLaw) (old new : Chip) (over : List StoreRecord) (m : NodeMac
           node = store_node new r.store all store before.whole;
           left = λ image next held found. (
             subst (λ h. IsLeftBy built_layers (past_now built_layers over past.told (m.fills + 1)) h next) (sym (s.life.idle runs))
-            (subst (λ l. IsLeft l [] next) (sym left_is) (store_left new r.store all store before.standing.ranges image next held found)),
+                (subst (λ l. IsLeft l [] next) (sym left_is) (store_left new r.store all store before.standing.ranges image next held found)),
             store_mark new r.store all r.keeper.mark store mark image next held found,
           );
           idle = s.life.idle;

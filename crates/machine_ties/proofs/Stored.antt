@@ -1,7 +1,7 @@
 -- What an event stores keeps the node whole.
-use Rattle.std.proofs.Common.{◌≡◌, ℕ, ◌≤◌, ◌<◌, suc, Bool, true, false, cond, eqb, leb, ◌&&◌, not, List, [], ◌∷◌, ◌++◌, refl, ap, sym, subst, ◌∙◌, arith, Option, Some, None, true≢false}
+use Rattle.std.proofs.Common.{◌≡◌, ℕ, ◌<◌, suc, Bool, true, false, cond, eqb, leb, ◌&&◌, not, List, [], ◌∷◌, ◌++◌, refl, ap, sym, subst, ◌∙◌, arith, Option, Some, None}
 use Rattle.std.specs.Bool.{⊤}
-use Rattle.std.specs.Prelude.{All, is_some}
+use Rattle.std.specs.Prelude.{All}
 use Rattle.std.specs.List.{AllByRecursion as Every}
 use Rattle.std.proofs.lemmas.Bool.Decides.{nat_tests}
 use Rattle.std.proofs.lemmas.List.Elements.{All-from_recursion, recursion_from_All}
@@ -27,7 +27,7 @@ use Rattle.run_definitions.specs.Answers.{answer_of, beacon_answer, config_befor
 use Rattle.run_definitions.specs.History.{Insight, OfBeacon, OfNothing, OfPdu, Past}
 use Rattle.run_definitions.specs.Stores.{hours_passed, hours_step, phase_records, step_records, stores}
 use Rattle.run_definitions.specs.Uses.{accepted}
-use Rattle.store_definitions.specs.Config.{Config, changed, config_of}
+use Rattle.store_definitions.specs.Config.{Config, config_of}
 use Rattle.store_definitions.specs.Node.{HasNext, IsPhased, IsWhole}
 
 steps_keep : (c d : Config) (step : IvStep) → KeepWhole c (step_records d step)
@@ -59,9 +59,10 @@ next_all (x ∷ xs) n index r h k e phase = pick (eqb x.index index) refl e (λ 
     isnt_index f g = grind (arith, nat_tests)
 
     pick : (b : Bool) → eqb x.index index ≡ b → cond b (Some x) (net_row xs index) ≡ Some r → (net_row xs index ≡ Some r → Every (HasNext index) xs) → Every (HasNext index) (x ∷ xs)
-    pick true f g rest =
-        ((λ same. k.0.next ∙ ap (λ n. leb 1 n) (ap (λ (row : NetKeyRow). row.phase) (same_row g) ∙ phase)),
-        others_next index (suc x.index) xs (omega (arith, is_index f)) h.1)
+    pick true f g rest = (
+      (λ same. k.0.next ∙ ap (λ n. leb 1 n) (ap (λ (row : NetKeyRow). row.phase) (same_row g) ∙ phase)),
+      others_next index (suc x.index) xs (omega (arith, is_index f)) h.1,
+    )
     pick false f g rest = ((λ same. absurd (isnt_index f same)), rest g)
 
 phase_is : (o : Option NetKeyRow) (b : Beacon) → key_step o b ≡ S.Phase2 → (r : NetKeyRow) × ((o ≡ Some r) × (r.phase ≡ 1))

@@ -1,8 +1,7 @@
-use Rattle.std.proofs.Common.{◌≡◌, ap, subst, sym, ◌∙◌}
+use Rattle.std.proofs.Common.{ap, subst, sym, ◌∙◌}
 use Rattle.event_plans.proofs.Asked.{pdu_fits, reset_jobs, unread_insight}
-use Rattle.event_plans.specs.Plans.{IsBasisOf, insight_in}
+use Rattle.event_plans.specs.Plans.{IsBasisOf}
 use Rattle.event_plans.specs.declared.plan.Basis.{Basis}
-use Rattle.event_plans.specs.declared.plan.Basis.TheVariants as B
 use Rattle.mesh_types.specs.declared.events.Event.TheVariants as E
 use Rattle.node_layers.specs.BuiltLayers.{built_layers}
 use Rattle.node_records.specs.Tables.{config_in}

@@ -1,4 +1,4 @@
-use Rattle.std.proofs.Common.{◌≡◌, ap, subst, sym, ◌∙◌}
+use Rattle.std.proofs.Common.{subst, ◌∙◌}
 use Rattle.event_plans.proofs.Asked.{no_time_jobs, told_time}
 use Rattle.event_plans.specs.Plans.{IsBasisOf, insight_in}
 use Rattle.event_plans.specs.declared.plan.Basis.{Basis}

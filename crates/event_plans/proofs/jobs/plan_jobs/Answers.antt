@@ -1,4 +1,4 @@
-use Rattle.std.proofs.Common.{◌≡◌, ap, subst, sym, ◌∙◌}
+use Rattle.std.proofs.Common.{◌≡◌, subst, sym}
 use Rattle.event_plans.proofs.Asked.{unbefriended}
 use Rattle.event_plans.specs.Plans.{IsPlanned, insight_in}
 use Rattle.mesh_types.specs.declared.events.Event.{Event}

@@ -1,6 +1,6 @@
-use Rattle.std.proofs.Common.{ap, subst, sym, ◌∙◌}
+use Rattle.std.proofs.Common.{subst, sym}
 use Rattle.event_plans.proofs.Beacons.{beacon_step}
-use Rattle.event_plans.proofs.Own.{IsNoPdu, IsTimeless, beacon_no_pdu, beacon_timeless, tables_stay}
+use Rattle.event_plans.proofs.Own.{IsTimeless, beacon_no_pdu, beacon_timeless, tables_stay}
 use Rattle.mesh_hearing.specs.Heard.{beacon_insight}
 use Rattle.node_layers.specs.BuiltLayers.{built_layers}
 use Rattle.event_plans.proofs.planning.plan_beacon.Goals as goal

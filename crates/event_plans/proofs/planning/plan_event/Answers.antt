@@ -34,4 +34,3 @@ returns-in-Kept-clause-planned c past h =
     subst (λ (e : Event). IsPlanned past e c.own_plan-in-Kept.result t) (sym c.in-Kept.is)
     (subst (λ (plan : Plan). IsPlanned past (E.Kept c.in-Kept.lpn c.in-Kept.fsn c.in-Kept.name c.in-Kept.pdu) plan t) (sym c.own_plan-in-Kept.ensures)
     (kept_planned c.tables_law.ensures.more past t c.in-Kept.lpn c.in-Kept.fsn c.in-Kept.name c.in-Kept.pdu h.tables))
-

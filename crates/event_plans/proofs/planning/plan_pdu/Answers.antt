@@ -1,4 +1,3 @@
-use Rattle.std.proofs.Common.{ap, ◌∙◌}
 use Rattle.event_plans.proofs.Accepts.{heard_puttable, seq_of_answer}
 use Rattle.mesh_hearing.specs.Heard.{insight_of}
 use Rattle.event_plans.proofs.planning.plan_pdu.Goals as goal

@@ -4,7 +4,7 @@ use Rattle.layer_states.specs.Reassembly.{acks_due}
 use Rattle.node_layers.specs.BuiltLayers.{built_layers}
 use Rattle.node_layers.specs.Reassembly.{messages}
 use Rattle.run_definitions.specs.Answers.{later}
-use Rattle.run_definitions.specs.History.{OfNothing, now_of}
+use Rattle.run_definitions.specs.History.{OfNothing}
 use Rattle.store_definitions.specs.Config.{Config}
 use Rattle.event_plans.proofs.planning.plan_tick.Goals as goal
 
