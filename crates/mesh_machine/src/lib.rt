@@ -13,5 +13,7 @@
 mod entering;
 mod machine;
 mod opening;
+#[cfg(test)]
+mod tests;
 
 pub use machine::MeshMachine;
