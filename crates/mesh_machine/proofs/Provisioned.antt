@@ -1,6 +1,6 @@
 -- A flash on which a node was provisioned.
-use Rattle.std.proofs.Common.{◌≡◌, ◌≢◌, ℕ, ◌+◌, ◌*◌, ◌≤◌, ◌<◌, ◌^◌, List, [], ◌∷◌, true, refl, ap, sym, subst, ◌∙◌, arith, None}
-use Rattle.std.specs.Prelude.{All, IsTrue}
+use Rattle.std.proofs.Common.{◌≡◌, [], ◌∷◌, true, refl, sym, subst, arith, None}
+use Rattle.std.specs.Prelude.{All}
 use Rattle.std.proofs.lemmas.List.Elements.{All-from_recursion}
 use Rattle.flash_model.specs.Chip.{Chip, IsFresh}
 use Rattle.machine_contract.specs.Opening.{IsNodeFlash}

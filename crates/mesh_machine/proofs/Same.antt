@@ -1,5 +1,5 @@
 -- Records that leave the keys as they are.
-use Rattle.std.proofs.Common.{◌≡◌, Bool, true, false, ◌||◌, List, [], ◌∷◌, refl, ap, sym, subst, ◌∙◌}
+use Rattle.std.proofs.Common.{◌≡◌, Bool, true, false, ◌||◌, List, [], ◌∷◌, refl, ap, sym, ◌∙◌}
 use Rattle.std.specs.Prelude.{fold}
 use Rattle.std.specs.List.{list_any}
 use Rattle.mesh_hearing.specs.Tables.{TablesView}

@@ -1,4 +1,4 @@
-use Rattle.std.proofs.Common.{◌≡◌, List, false, ap, sym, subst, ◌∙◌}
+use Rattle.std.proofs.Common.{◌≡◌, List, false, ap, sym, subst}
 use Rattle.machine_ties.proofs.Opened.{opened_ready}
 use Rattle.machine_ties.specs.Ties.{IsNodeStore, IsReady, opened}
 use Rattle.mesh_hearing.specs.Tables.{IsFit}

@@ -1,27 +1,23 @@
-use Rattle.std.proofs.Common.{◌≡◌, ◌++◌, [], ◌∷◌, ℕ, ◌<◌, ◌+◌, ◌^◌, List, length, true, false, refl, ap, sym, subst, ◌∙◌}
-use Rattle.std.specs.Prelude.{All}
+use Rattle.std.proofs.Common.{◌≡◌, ◌++◌, [], ◌∷◌, ◌<◌, ◌+◌, ◌^◌, List, length, refl, ap, sym, subst, ◌∙◌}
 use Rattle.event_plans.specs.Plans.{IsPlanned, IsStanding, insight_in}
 use Rattle.event_plans.specs.Sending.{IsSendable}
-use Rattle.event_plans.specs.declared.plan.Plan.{Plan}
 use Rattle.event_records.specs.Putting.{ArePuttable}
-use Rattle.machine_contract.specs.Ranges.{IsEvent, IsJob}
+use Rattle.machine_contract.specs.Ranges.{IsEvent}
 use Rattle.machine_contract.specs.Standing.{past_now}
 use Rattle.machine_contract.specs.declared.answers.Hand.TheVariants as H
 use Rattle.machine_ties.proofs.Events.{IsAfter, IsEntryOf, event_after, event_jobs, event_quiet, event_ready, event_sendable, event_stands, event_stops}
-use Rattle.machine_ties.specs.Ties.{IsBefore, IsCutIn, IsOver, IsReady, Stands, entered, stopped}
+use Rattle.machine_ties.specs.Ties.{IsCutIn, IsOver, IsReady, Stands, entered, stopped}
 use Rattle.machine_ties.specs.Views.{NodeMachine}
-use Rattle.mesh_hearing.specs.Tables.{AreTablesOf, IsFit, TablesView}
+use Rattle.mesh_hearing.specs.Tables.{IsFit, TablesView}
 use Rattle.mesh_reading.specs.Held.{AreHeldKeys}
 use Rattle.mesh_types.specs.declared.events.Event.{Event}
 use Rattle.mesh_types.specs.declared.history.Entry.{Entry}
-use Rattle.mesh_types.specs.declared.jobs.Job.{Job}
 use Rattle.node_layers.specs.BuiltLayers.{built_layers}
 use Rattle.node_records.specs.Meaning.{IsMeaningOf}
 use Rattle.node_records.specs.Tables.{config_in}
 use Rattle.node_records.specs.declared.persist.Persist.{Persist}
 use Rattle.run_definitions.specs.History.{Past}
 use Rattle.run_definitions.specs.Jobs.{jobs_of}
-use Rattle.store_definitions.specs.Config.{Config, config_of}
 use Rattle.store_definitions.specs.Node.{IsWhole}
 use Rattle.mesh_machine.proofs.machine.MeshMachine.handle_event.Goals as goal
 

@@ -1,10 +1,9 @@
-use Rattle.std.proofs.Common.{◌≡◌, ◌≤◌, ℕ, List, [], false, refl, ap, sym, subst, ◌∙◌, arith}
+use Rattle.std.proofs.Common.{◌≡◌, false, ap, sym, subst, ◌∙◌, arith}
 use Rattle.flash_model.specs.Chip.{Setting}
 use Rattle.machine_contract.specs.Refused.{IsStartCause, IsUntouched}
-use Rattle.machine_contract.specs.Started.{IsStarted}
 use Rattle.machine_contract.specs.declared.opening.StartFault.{StartFault}
 use Rattle.machine_ties.proofs.Opened.{opened_stands, start_cause, untouched}
-use Rattle.machine_ties.specs.Ties.{IsNodeStore, Stands, opened}
+use Rattle.machine_ties.specs.Ties.{Stands, opened}
 use Rattle.machine_ties.specs.Views.{NodeMachine}
 use Rattle.node_records.specs.Meaning.{IsMeaningOf}
 use Rattle.node_store.proofs.Holding.{holds_exactly, store_meaning}
