@@ -1,7 +1,7 @@
 //! The machine of a node.
 #![tactic(auto)]
 
-ghost use Rattle.std.specs.Prelude.{◌≡◌, ℕ, ◌+◌, ◌<◌, ◌^◌, List, [], ◌∷◌, ◌++◌, length, All, true, false, Ok, Err, IsErr, IfOk, OnOk, IfErr};
+ghost use Rattle.std.specs.Prelude.{◌≡◌, ℕ, ◌+◌, ◌<◌, ◌≤◌, ◌^◌, List, [], ◌∷◌, ◌++◌, length, All, true, false, Ok, Err, IsErr, IfOk, OnOk, IfErr};
 ghost use Rattle.flash_model.specs.Chip.{Chip, IsFresh, Keeps};
 ghost use Rattle.record_types.specs.declared.records.StoreRecord.{StoreRecord};
 ghost use Rattle.run_definitions.specs.Layers.{Layers};
@@ -38,12 +38,14 @@ pub trait Machine: Send + Drop {
 
     ghost stands: { Chip → List StoreRecord → Self → Type 0 };
 
-    /// Opens a life over what the flash recovers. The flash went through a power cycle, and each image of it recovers a node or a reset.
+    /// Opens a life over what the flash recovers. The flash went through a power cycle, since when its count of faults didn't fall, and each
+    /// image of it recovers a node or a reset.
     ///
     /// The counter opens at the mark that the records say.
     fn start<F: Flash>(alloc: Global, flash: &mut F) -> Result<Started<Self>, StartFault>
         requires fresh { IsFresh (F.chip flash.old) }
         requires node { IsNodeFlash image (F.chip flash.old) }
+        requires began { (F.chip flash.old).setting.faults ≤ (F.chip flash.old).faults }
         ensures ok { IfOk result (IsStarted view stands (F.chip flash.old) (F.chip flash.new)) }
         ensures cause { IfErr result (IsStartCause image (F.chip flash.old) (F.chip flash.new)) }
         ensures frame { Keeps (F.chip flash.old) (F.chip flash.new) };

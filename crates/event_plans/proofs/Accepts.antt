@@ -1,0 +1,150 @@
+-- What is stored for an accepted message: its SEQ has 24 bits, and there is a place for it.
+use Rattle.std.proofs.Common.{◌≡◌, ℕ, ◌-◌, ◌<◌, ◌^◌, inl, inr, Bool, true, false, cond, not, eqb, ◌||◌, List, [], ◌∷◌, refl, ap, sym, subst, ◌∙◌, arith, Option, Some, None}
+use Rattle.std.specs.Prelude.{IsTrue, IfSome, All, is_some, ◌%◌}
+use Rattle.std.specs.List.{AllByRecursion as Every}
+use Rattle.std.specs.Option.{option_map, option_map_or}
+use Rattle.std.proofs.lemmas.List.Elements.{recursion_from_All}
+use Rattle.event_records.specs.Putting.{ArePuttable}
+use Rattle.layer_definitions.specs.Lower.{seq_auth}
+use Rattle.layer_states.specs.Names.{is_unicast}
+use Rattle.mesh_base.specs.declared.fields.NetFields.{NetFields}
+use Rattle.mesh_base.specs.declared.lower.Lower.{Lower}
+use Rattle.mesh_base.specs.declared.lower.Lower.TheVariants.{Access, Control, AccessPart, ControlPart}
+use Rattle.mesh_base.specs.declared.pair.Name.{Name}
+use Rattle.mesh_base.specs.declared.pair.Pair.{Pair}
+use Rattle.mesh_types.specs.declared.answers.Answer.{Answer}
+use Rattle.mesh_types.specs.declared.answers.Answer.TheVariants as A
+use Rattle.mesh_types.specs.declared.events.Event.TheVariants as E
+use Rattle.node_layers.specs.BuiltLayers.{built_layers}
+use Rattle.node_records.proofs.Room.{full_passes}
+use Rattle.node_records.specs.Full.{IsFull}
+use Rattle.node_records.specs.Meaning.{IsMeaningOf}
+use Rattle.node_records.specs.declared.persist.Persist.{Persist}
+use Rattle.record_types.specs.declared.records.StoreRecord.{StoreRecord}
+use Rattle.record_types.specs.declared.records.StoreRecord.TheVariants as R
+use Rattle.run_definitions.proofs.Accepting.{HasPlace, Refuses, named_accepts, no_answer, past_refusal, refused, refuses_pick, some_is}
+use Rattle.run_definitions.specs.Answers.{answer_of, config_before, is_cached, is_mine, message_name, message_pair, network_answer, pair_of, pdu_answer, transport_answer}
+use Rattle.run_definitions.specs.History.{Insight, OfBeacon, OfNothing, OfPdu, Opening, Past, Reading}
+use Rattle.run_definitions.specs.Layers.{AccessMessage}
+use Rattle.run_definitions.specs.Readings.{Sees, sees_pdu}
+use Rattle.run_definitions.specs.Stores.{message_of, stores}
+use Rattle.run_definitions.specs.Uses.{accepted}
+use Rattle.store_definitions.specs.Config.{is_element}
+use Rattle.store_definitions.specs.Entries.{entry_of, has_room}
+use Rattle.store_definitions.specs.Following.{PassesLimit}
+use Rattle.store_definitions.specs.Ranges.{IsInRange}
+
+-- The SEQ of a message.
+
+auth_seq : (p q : Pair) (z : ℕ) → seq_auth p z ≡ Some q → p.seq < 2 ^ 24 → q.seq < 2 ^ 24
+unfolding seq_auth
+auth_seq p q z e h = pick _ e
+  where
+    pick : (b : Bool) → cond b (Some (record { iv = p.iv; seq = p.seq - (p.seq - z) % 2 ^ 13 })) None ≡ Some q → q.seq < 2 ^ 24
+    pick true e = subst (λ n. n < 2 ^ 24) (ap (λ (x : Pair). x.seq) (some_is e)) (omega (arith, h))
+    pick false e = absurd cc
+
+pair_seq : (f : NetFields) (low : Lower) (p : Pair) → message_pair f low ≡ Some p → f.seq < 2 ^ 24 → p.seq < 2 ^ 24
+pair_seq f (Access akf aid upper) p e h = subst (λ n. n < 2 ^ 24) (ap (λ (x : Pair). x.seq) (some_is e)) h
+pair_seq f (Control opcode params) p e h = subst (λ n. n < 2 ^ 24) (ap (λ (x : Pair). x.seq) (some_is e)) h
+pair_seq f (AccessPart akf aid szmic seq_zero seg_o seg_n piece) p e h = auth_seq (pair_of f) p seq_zero e h
+pair_seq f (ControlPart opcode seq_zero seg_o seg_n piece) p e h = auth_seq (pair_of f) p seq_zero e h
+
+name_seq : (f : NetFields) (low : Lower) (n : Name) → message_name f low ≡ Some n → f.seq < 2 ^ 24 → n.pair.seq < 2 ^ 24
+name_seq f low n e h = pick (message_pair f low) refl e
+  where
+    pick : (o : Option Pair) → message_pair f low ≡ o → option_map (λ (p : Pair). let m : Name = record { src = f.src; pair = p } in m) o ≡ Some n → n.pair.seq < 2 ^ 24
+    pick None is e = absurd cc
+    pick (Some p) is e = subst (λ k. k < 2 ^ 24) (ap (λ (x : Name). x.pair.seq) (some_is e)) (pair_seq f low p is h)
+
+-- An accepted message: what its PDU and the table of answers say of it.
+pub record IsTaken (past : Past) (n : Name) : Type 0 where
+  pub seq : n.pair.seq < 2 ^ 24
+  pub place : HasPlace past n
+
+network_refuses : (past : Past) (r : Reading) → Refuses (network_answer past r)
+network_refuses past r =
+    refuses_pick (not (is_unicast r.fields.src) || eqb r.fields.dst.0 0) (Some A.BadAddress) _ (refused refl)
+    (refuses_pick (is_element (config_before past) r.fields.src.0) (Some A.Own) _ (refused refl)
+    (refuses_pick (is_cached past r.fields) (Some A.Cached) _ (refused refl)
+    (refuses_pick (not (is_mine (config_before past) r.fields.dst)) (Some A.NotMine) None (refused refl) no_answer)))
+
+transport_taken : (past : Past) (r : Reading) (low : Option Lower) (opening : Option Opening) (n : Name) → r.fields.seq < 2 ^ 24
+    → accepted (transport_answer built_layers past r low opening) ≡ Some n → IsTaken past n
+transport_taken past r None opening n h e = absurd cc
+transport_taken past r (Some low) opening n h e =
+    let (named, passes) = named_accepts built_layers past r low (message_name r.fields low) opening n e in
+    record { seq = name_seq r.fields low n named h; place = passes.place }
+
+unless : (b : Bool) (a : Answer) (n : Name) → accepted (cond b A.Reset a) ≡ Some n → accepted a ≡ Some n
+unless true a n e = absurd cc
+unless false a n e = e
+
+pub heard_taken : (past : Past) (octets : List ℕ) (i : Insight) (n : Name) → Sees built_layers past (E.Net octets) i
+    → accepted (answer_of built_layers past (E.Net octets) i) ≡ Some n → IsTaken past n
+unfolding answer_of
+heard_taken past octets (OfPdu (Some r) low opening) n (sees_pdu reset reads lower opens) e =
+    let inner = unless (config_before past).reset (pdu_answer built_layers past (OfPdu (Some r) low opening)) n e in
+    let (none, taken) = past_refusal (network_answer past r) (transport_answer built_layers past r low opening) n (network_refuses past r) inner in
+    transport_taken past r low opening n reads.1.reads.has_pdu.seq taken
+heard_taken past octets (OfPdu None low opening) n h e = absurd (none_taken (unless (config_before past).reset A.Unread n e))
+  where
+    none_taken : accepted A.Unread ≡ Some n → ⊥
+    none_taken e = cc
+heard_taken past octets (OfBeacon b) n h e = absurd (none_taken (unless (config_before past).reset A.Unread n e))
+  where
+    none_taken : accepted A.Unread ≡ Some n → ⊥
+    none_taken e = cc
+heard_taken past octets OfNothing n h e = absurd (none_taken (unless (config_before past).reset A.Unread n e))
+  where
+    none_taken : accepted A.Unread ≡ Some n → ⊥
+    none_taken e = cc
+
+has_no : (o : Option Pair) (room : Bool) → IsTrue (is_some o || room) → o ≡ None → room ≡ false → ⊥
+has_no None true h e f = absurd cc
+has_no None false h e f = absurd cc
+has_no (Some p) room h e f = absurd cc
+
+not_full : (past : Past) (p : Persist) (n : Name) → IsMeaningOf past.records p → HasPlace past n → IsFull p (R.Replay n None) → ⊥
+not_full past p n m place full = no_limit ((full_passes past.records p (R.Replay n None) m).0 full)
+  where
+    no_limit : PassesLimit past.records (R.Replay n None) → ⊥
+    no_limit (inl h) = has_no (entry_of past.records n.src.0) (has_room past.records n.src.0) place h.0 h.1
+    no_limit (inr h) = absurd h
+
+-- The records of an answer.
+
+abbrev pub replay_of : Option Name → List StoreRecord
+replay_of None = []
+replay_of (Some n) = R.Replay n None ∷ []
+
+pub seq_of_answer : (past : Past) (octets : List ℕ) (i : Insight) (a : Answer) → Sees built_layers past (E.Net octets) i → a ≡ answer_of built_layers past (E.Net octets) i
+    → IfSome (accepted a) (λ (n : Name). n.pair.seq < 2 ^ 24)
+seq_of_answer past octets i a sees is = pick (accepted a) refl
+  where
+    pick : (o : Option Name) → accepted a ≡ o → IfSome o (λ (n : Name). n.pair.seq < 2 ^ 24)
+    pick None e = tt
+    pick (Some n) e = (heard_taken past octets i n sees (ap accepted (sym is) ∙ e)).seq
+
+pub stores_replay : (past : Past) (octets : List ℕ) (i : Insight) (a : Answer) → stores built_layers past (E.Net octets) i a ≡ replay_of (accepted a)
+unfolding built_layers stores
+stores_replay past octets i (A.Delivered name dst key payload) = ap (λ l. R.Replay name None ∷ l) (no_more (message_of i name dst))
+  where
+    no_more : (o : Option AccessMessage) → option_map_or (λ (m : AccessMessage). let l : List StoreRecord = [] in l) o [] ≡ []
+    no_more None = refl
+    no_more (Some m) = refl
+stores_replay past octets i (A.Control name dst opcode params) = refl
+stores_replay past octets i _ = refl
+
+pub heard_puttable : (past : Past) (p : Persist) (octets : List ℕ) (i : Insight) (a : Answer) (records : List StoreRecord) → IsMeaningOf past.records p
+    → Sees built_layers past (E.Net octets) i → a ≡ answer_of built_layers past (E.Net octets) i → records ≡ stores built_layers past (E.Net octets) i a
+    → All IsInRange records → ArePuttable p records
+heard_puttable past p octets i a records m sees is stored ranges =
+    subst (λ l. ArePuttable p l) (sym all) (pick (accepted a) refl (recursion_from_All IsInRange (replay_of (accepted a)) (subst (λ l. All IsInRange l) all ranges)))
+  where
+    all : records ≡ replay_of (accepted a)
+    all = stored ∙ stores_replay past octets i a
+
+    pick : (o : Option Name) → accepted a ≡ o → Every IsInRange (replay_of o) → ArePuttable p (replay_of o)
+    pick None e range = tt
+    pick (Some n) e range = (range.0, tt, not_full past p n m (heard_taken past octets i n sees (ap accepted (sym is) ∙ e)).place, λ q h. tt)

@@ -1,0 +1,5 @@
+pub mod Narrow
+pub mod Accepts
+pub mod Beacons
+pub mod Own
+pub mod Asked

@@ -1,0 +1,28 @@
+-- The answers to what the node is asked to send, by what the records say.
+use Rattle.std.specs.Prelude.{◌==◌, not, if◌then◌else◌}
+use Rattle.std.specs.List.{list_any}
+use Rattle.mesh_base.specs.IvState.{transmit_of}
+use Rattle.mesh_base.specs.declared.keys.AppKeyRow.{AppKeyRow}
+use Rattle.mesh_base.specs.declared.pair.Pair.{Pair}
+use Rattle.mesh_types.specs.declared.answers.Answer.{Answer}
+use Rattle.mesh_types.specs.declared.answers.Answer.TheVariants as A
+use Rattle.mesh_types.specs.declared.events.SendKey.{SendKey}
+use Rattle.mesh_types.specs.declared.events.SendKey.TheVariants as K
+use Rattle.store_definitions.specs.Config.{Config}
+
+-- a control PDU
+abbrev pub raw_row : Config → Answer
+raw_row c = if c.reset then A.Reset else A.Planned
+
+-- an access message, by its key
+abbrev pub keyed_row : Config → SendKey → Answer
+keyed_row c K.Own = A.Planned
+keyed_row c (K.Other key) = A.Planned
+keyed_row c (K.App index) = if list_any (λ (r : AppKeyRow). r.index == index) c.apps then A.Planned else A.NoAppKey index
+
+abbrev pub send_row : Config → SendKey → Answer
+send_row c key = if c.reset then A.Reset else keyed_row c key
+
+-- a segmented message that begins, where no friendship and no other segmented message is in the way
+abbrev pub begin_row : Config → Pair → Answer
+begin_row c pair = if not (pair.iv == transmit_of c.iv) then A.Moved (transmit_of c.iv) else A.Begun

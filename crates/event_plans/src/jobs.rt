@@ -1,0 +1,114 @@
+//! The jobs of a plan.
+#![tactic(auto)]
+
+ghost use Rattle.std.specs.Prelude.{◌≡◌};
+ghost use Rattle.event_plans.specs.Plans.{IsPlanned, IsSomePlan, insight_in};
+ghost use Rattle.event_plans.specs.Sending.{IsSendable};
+ghost use Rattle.mesh_hearing.specs.Tables.{TablesView};
+ghost use Rattle.mesh_types.specs.declared.events.Event.TheVariants as E;
+ghost use Rattle.mesh_reading.specs.Held.{held_in};
+ghost use Rattle.node_layers.specs.BuiltLayers.{built_layers};
+ghost use Rattle.node_records.specs.Tables.{config_in};
+ghost use Rattle.run_definitions.specs.History.{Past};
+ghost use Rattle.run_definitions.specs.Jobs.{jobs_of};
+
+use crate::plan::{Basis, Plan};
+use layer_states::sending::Outgoing;
+use mesh_base::octets::Octets;
+use mesh_base::pair::Name;
+use mesh_hearing::Keys;
+use mesh_jobs::{begin_jobs, own_jobs, pdu_jobs, tick_jobs};
+use mesh_types::answers::Answer;
+use mesh_types::events::Event;
+use mesh_types::jobs::Jobs;
+use node_records::Persist;
+
+// Of a network PDU heard.
+fn heard_jobs(p: &Persist, keys: &Keys, octets: &Octets<40>, plan: &Plan) -> Jobs
+    requires keys { keys.now ≡ held_in (config_in p.now) }
+    requires planned { IsSomePlan (E.Net octets.now) plan.now }
+    ensures value { (past : Past) (t : TablesView) → IsPlanned past (E.Net octets.now) plan.now t
+        → result ≡ jobs_of built_layers past (config_in p.now) (E.Net octets.now) (insight_in plan.now.basis) plan.now.answer }
+{
+    let _ = octets;
+    match &plan.basis {
+        Basis::Pdu {
+            reset,
+            reading,
+            low,
+            phases,
+            ..
+        } => {
+            if *reset {
+                return Jobs::new();
+            }
+            pdu_jobs(
+                p,
+                keys.nets(),
+                phases,
+                reading.as_ref(),
+                low.as_ref(),
+                &plan.answer,
+            )
+        }
+        Basis::Beacon { .. } => Jobs::new(),
+        Basis::Time { .. } => Jobs::new(),
+        Basis::Own => Jobs::new(),
+    }
+}
+
+// Of time that passed.
+fn passed_jobs(p: &Persist, keys: &Keys, ticks: u32, plan: &Plan) -> Jobs
+    requires keys { keys.now ≡ held_in (config_in p.now) }
+    ensures value { (past : Past) (t : TablesView) → IsPlanned past (E.Tick ticks) plan.now t
+        → result ≡ jobs_of built_layers past (config_in p.now) (E.Tick ticks) (insight_in plan.now.basis) plan.now.answer }
+{
+    let Answer::Ticked { .. } = &plan.answer else {
+        return Jobs::new();
+    };
+    match &plan.basis {
+        Basis::Time { acks, span } => tick_jobs(p, keys.nets(), acks, span, &plan.answer),
+        Basis::Pdu { .. } => Jobs::new(),
+        Basis::Beacon { .. } => Jobs::new(),
+        Basis::Own => Jobs::new(),
+    }
+}
+
+/// The jobs of an event that was planned so. `p` is what the records after the event say, and `keys` are its keys.
+pub fn plan_jobs(p: &Persist, keys: &Keys, event: &Event, plan: &Plan) -> Jobs
+    requires keys { keys.now ≡ held_in (config_in p.now) }
+    requires planned { IsSomePlan event.now plan.now }
+    requires sendable { IsSendable (config_in p.now) event.now }
+    ensures value { (past : Past) (t : TablesView) → IsPlanned past event.now plan.now t
+        → result ≡ jobs_of built_layers past (config_in p.now) event.now (insight_in plan.now.basis) plan.now.answer }
+{
+    match event {
+        Event::Net(octets) => heard_jobs(p, keys, octets, plan),
+        Event::Tick(ticks) => passed_jobs(p, keys, *ticks, plan),
+        Event::Begin {
+            pair,
+            dst,
+            src,
+            ttl,
+            net,
+            akf,
+            aid,
+            upper,
+        } => {
+            let message = Outgoing {
+                name: Name {
+                    src: *src,
+                    pair: *pair,
+                },
+                dst: *dst,
+                ttl: *ttl,
+                net: *net,
+                akf: *akf,
+                aid: *aid,
+                upper: upper.copied(),
+            };
+            begin_jobs(p, keys.nets(), &message, &plan.answer)
+        }
+        _ => own_jobs(p, keys.nets(), keys.apps(), event, false, &plan.answer),
+    }
+}

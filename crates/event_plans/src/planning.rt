@@ -1,0 +1,147 @@
+//! The plan of an event.
+#![tactic(auto)]
+
+ghost use Rattle.std.specs.Prelude.{◌≡◌, ◌+◌, ◌≤◌, ◌^◌, min, [], IfOk, OnErr};
+ghost use Rattle.event_plans.specs.Plans.{IsPlanned, IsSomePast, IsStanding};
+ghost use Rattle.event_plans.specs.declared.plan.Basis.TheVariants as B;
+ghost use Rattle.event_records.specs.Putting.{AreMoves, ArePuttable};
+ghost use Rattle.mesh_hearing.specs.Tables.{IsFit};
+ghost use Rattle.mesh_types.specs.declared.events.Event.TheVariants as E;
+ghost use Rattle.node_records.specs.Meaning.{IsSaid};
+ghost use Rattle.node_records.specs.Tables.{config_in};
+ghost use Rattle.run_definitions.specs.History.{Past};
+
+use crate::answers::{begin_answer, raw_answer, send_answer};
+use crate::plan::{Basis, Plan};
+use event_records::{Records, beacon_records, heard_records, tick_records};
+use iv_update::steps_law;
+use mesh_hearing::{Tables, tables_law};
+use mesh_jobs::{Span, held_phases};
+use mesh_types::answers::Answer;
+use mesh_types::events::Event;
+use node_records::Persist;
+use node_records::laws::value_law;
+use std::alloc::AllocError;
+
+/// The ticks of a life stop here.
+const MOST_TICKS: u64 = 1 << 48;
+
+// Of a network PDU heard.
+fn plan_pdu(tables: &mut Tables, p: &Persist, octets: &[u8]) -> Result<Plan, AllocError>
+    requires standing { IsSomePast p.now tables.old }
+    requires fit { IsFit tables.old p.now }
+    ensures planned { (past : Past) → IsStanding past p.now tables.old → IfOk result (λ plan. IsPlanned past (E.Net octets.now) plan tables.new) }
+    ensures may { IfOk result (λ plan. ArePuttable p.now plan.records) }
+    ensures moves { IfOk result (λ plan. AreMoves (config_in p.now) plan.records) }
+    ensures fit { IsFit tables.new p.now }
+    ensures unchanged { OnErr result (tables.new ≡ tables.old) }
+{
+    let phases = held_phases(p);
+    let heard = tables.hear(p, octets)?;
+    let records = heard_records(&heard.answer);
+    Ok(Plan {
+        answer: heard.answer,
+        records,
+        basis: Basis::Pdu {
+            reset: heard.reset,
+            reading: heard.reading,
+            low: heard.low,
+            opened: heard.opened,
+            phases,
+        },
+    })
+}
+
+// Of a beacon heard.
+fn plan_beacon(tables: &Tables, p: &Persist, octets: &[u8]) -> Plan
+    requires standing { IsSomePast p.now tables.now }
+    requires said { IsSaid p.now }
+    ensures planned { (past : Past) → IsStanding past p.now tables.now → IsPlanned past (E.Bcn octets.now) result tables.now }
+    ensures may { ArePuttable p.now result.records }
+    ensures moves { AreMoves (config_in p.now) result.records }
+{
+    value_law();
+    steps_law();
+    tables_law();
+    let heard = tables.hear_beacon(p, octets);
+    let records = beacon_records(p, &heard.answer);
+    Plan {
+        answer: heard.answer,
+        records,
+        basis: Basis::Beacon {
+            reset: heard.reset,
+            beacon: heard.beacon,
+        },
+    }
+}
+
+// The ticks of a life when so many more have passed.
+fn later(from: u64, ticks: u32) -> u64
+    requires { from ≤ 2 ^ 48 }
+    ensures value { result ≡ min (2 ^ 48) (from + ticks) }
+    ensures most { result ≤ 2 ^ 48 }
+{
+    (from + u64::from(ticks)).min(MOST_TICKS)
+}
+
+// Of time that passed.
+fn plan_tick(tables: &mut Tables, p: &Persist, ticks: u32) -> Plan
+    requires said { IsSaid p.now }
+    ensures planned { (past : Past) → IsStanding past p.now tables.old → IsPlanned past (E.Tick ticks) result tables.new }
+    ensures may { ArePuttable p.now result.records }
+    ensures moves { AreMoves (config_in p.now) result.records }
+    ensures keys { tables.new.keys ≡ tables.old.keys }
+{
+    let from = tables.ticks();
+    let to = later(from, ticks);
+    let passed = tables.pass(p, ticks);
+    let records = tick_records(p, from, to, false, &passed.answer);
+    Plan {
+        answer: passed.answer,
+        records,
+        basis: Basis::Time {
+            acks: passed.acks,
+            span: Span { from, to, iv: p.iv },
+        },
+    }
+}
+
+// Of an event that stores nothing.
+fn own_plan(answer: Answer) -> Plan
+    ensures { result ≡ record { answer = answer; records = []; basis = B.Own } }
+{
+    Plan {
+        answer,
+        records: Records::new(),
+        basis: Basis::Own,
+    }
+}
+
+/// The plan of an event, where the records before it say `p`, and the tables with this event. An error says that memory ran out, and then
+/// the tables are as before.
+///
+/// `p` and the tables stand for some past. Each record of the plan may be put behind those before it, and each Numbers record
+/// is a move to an IV state that may follow.
+pub fn plan_event(tables: &mut Tables, p: &Persist, event: &Event) -> Result<Plan, AllocError>
+    requires standing { IsSomePast p.now tables.old }
+    requires fit { IsFit tables.old p.now }
+    requires said { IsSaid p.now }
+    ensures planned { (past : Past) → IsStanding past p.now tables.old → IfOk result (λ plan. IsPlanned past event.now plan tables.new) }
+    ensures may { IfOk result (λ plan. ArePuttable p.now plan.records) }
+    ensures moves { IfOk result (λ plan. AreMoves (config_in p.now) plan.records) }
+    ensures fit { IsFit tables.new p.now }
+    ensures unchanged { OnErr result (tables.new ≡ tables.old) }
+{
+    value_law();
+    // It does nothing when it runs: the proof uses what it says.
+    tables_law();
+    match event {
+        Event::Net(octets) => plan_pdu(tables, p, octets.as_slice()),
+        Event::Bcn(octets) => Ok(plan_beacon(tables, p, octets.as_slice())),
+        Event::Tick(ticks) => Ok(plan_tick(tables, p, *ticks)),
+        Event::Send { key, .. } => Ok(own_plan(send_answer(p, key))),
+        Event::Raw { .. } => Ok(own_plan(raw_answer(p))),
+        Event::Begin { pair, .. } => Ok(own_plan(begin_answer(p, pair))),
+        Event::Kept { .. } => Ok(own_plan(Answer::Dropped)),
+    }
+}

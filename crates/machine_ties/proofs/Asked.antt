@@ -1,0 +1,242 @@
+-- The jobs of an event are within their ranges.
+use Rattle.std.proofs.Common.{◌≡◌, ℕ, zero, suc, ◌-◌, ◌*◌, ◌/◌, ◌%◌, ◌<◌, ◌≤◌, ◌^◌, Bool, false, List, [], ◌∷◌, ◌++◌, length, take, drop, refl, arith, Option, Some, None}
+use Rattle.std.specs.Prelude.{All, option_and_then}
+use Rattle.std.specs.List.{AllByRecursion as Every, range_with_len}
+use Rattle.std.specs.Option.{option_map, option_map_or, option_to_list}
+use Rattle.std.proofs.lemmas.List.Elements.{All-from_recursion}
+use Rattle.cipher_definitions.specs.Kdf.{aid, k2, k2_number, k4, master_credentials}
+use Rattle.layer_definitions.specs.KeyRefresh.{app_key, app_row, master_material, net_row, own_beacon, transmit_app, transmit_key, transmit_value}
+use Rattle.layer_definitions.specs.Lower.{lower_text, segment}
+use Rattle.layer_definitions.specs.Network.{HasPdu}
+use Rattle.layer_states.specs.Reassembly.{acks_due}
+use Rattle.layer_states.specs.declared.reassembly.DueAck.{DueAck}
+use Rattle.machine_contract.specs.Ranges.{IsEvent, IsJob, IsQuiet, IsUpperKey}
+use Rattle.machine_ties.proofs.Acks.{IsShort, IsShortTold, acks_short, reply_short}
+use Rattle.machine_ties.proofs.Lists.{Inside, every_append, every_flat, every_flat_any, every_made, every_pick}
+use Rattle.mesh_base.specs.declared.address.Address.{Address}
+use Rattle.mesh_base.specs.declared.fields.NetMaterial.{NetMaterial}
+use Rattle.mesh_base.specs.declared.keys.AppKeyRow.{AppKeyRow}
+use Rattle.mesh_base.specs.declared.keys.NetKeyRow.{NetKeyRow}
+use Rattle.mesh_base.specs.declared.keys.UpperKey.{UpperKey}
+use Rattle.mesh_base.specs.declared.keys.UpperKey.TheVariants as U
+use Rattle.mesh_base.specs.declared.lower.Lower.{Lower}
+use Rattle.mesh_base.specs.declared.pair.Pair.{Pair}
+use Rattle.mesh_types.specs.declared.answers.Answer.{Answer}
+use Rattle.mesh_types.specs.declared.answers.Answer.TheVariants as A
+use Rattle.mesh_types.specs.declared.events.Event.{Event}
+use Rattle.mesh_types.specs.declared.events.Event.TheVariants as E
+use Rattle.mesh_types.specs.declared.events.SendKey.{SendKey}
+use Rattle.mesh_types.specs.declared.events.SendKey.TheVariants as K
+use Rattle.mesh_types.specs.declared.jobs.Job.{Job}
+use Rattle.mesh_types.specs.declared.jobs.Job.TheVariants as J
+use Rattle.node_layers.specs.BuiltLayers.{built_layers}
+use Rattle.node_layers.specs.Reassembly.{acks_at, due_job, due_jobs, messages}
+use Rattle.run_definitions.specs.Answers.{config_before, is_before_cache, later}
+use Rattle.run_definitions.specs.History.{Insight, OfBeacon, OfNothing, OfPdu, Past, Reading}
+use Rattle.run_definitions.specs.Jobs.{ack_asked, ack_job, ack_jobs, beacon_jobs, beacons_due, begin_jobs, block_asked, element_address, first_net, first_round_job, jobs_of, message_jobs, pdu_jobs, raw_jobs, refresh_jobs, relay_jobs, segment_numbers, send_jobs, send_keys, sent_job, under}
+use Rattle.run_definitions.specs.Layers.{AccessMessage}
+use Rattle.run_definitions.specs.Order.{is_outside}
+use Rattle.run_definitions.specs.Readings.{Sees, sees_pdu}
+use Rattle.run_definitions.specs.Stores.{message_of}
+use Rattle.store_definitions.specs.Config.{Config}
+
+-- Widths of what is derived.
+
+low_seven : (x : ℕ) → x % 2 ^ 263 / 2 ^ 256 < 2 ^ 7
+low_seven x = omega arith
+
+low_six : (x : ℕ) → x % 2 ^ 6 < 2 ^ 6
+low_six x = omega arith
+
+nid_width : (key : List ℕ) → (master_material key).nid < 2 ^ 7
+unfolding master_material master_credentials k2 k2_number
+nid_width key = low_seven _
+
+aid_width : (key : List ℕ) → aid key < 2 ^ 6
+unfolding aid k4
+aid_width key = low_six _
+
+every_under : (P : Job → Type 0) (c : Config) (net : ℕ) (job : NetMaterial → Job) → ((m : NetMaterial) → m.nid < 2 ^ 7 → P (job m)) → Every P (under c net job)
+every_under P c net job k = made (net_row c.nets net)
+  where
+    made : (o : Option NetKeyRow) → Every P (option_to_list (option_map job (option_map (λ (r : NetKeyRow). master_material (transmit_key r)) o)))
+    made None = tt
+    made (Some r) = (k (master_material (transmit_key r)) (nid_width (transmit_key r)), tt)
+
+take_few : (n : ℕ) (xs : List ℕ) → length (take n xs) ≤ n
+take_few zero xs = omega arith
+take_few (suc n) [] = omega arith
+take_few (suc n) (x ∷ xs) = omega (arith, take_few n xs)
+
+-- Of a network PDU.
+
+module _ (event : Event) where
+  relay_in : (c : Config) (r : Reading) → HasPdu r.fields → Every (IsJob event) (relay_jobs c r)
+  relay_in c r h =
+      every_pick (IsJob event) _ _ []
+      (every_under (IsJob event) c r.by.index (λ m. J.Relay m (record r.fields { ttl = r.fields.ttl - 1 }))
+      (λ m nid. (nid, record { ttl = omega (arith, h.ttl); seq = h.seq; least = h.least; most = h.most })))
+      tt
+
+  ack_in : (c : Config) (r : Reading) (seq_zero block : ℕ) → IsShort c.ttl → Every (IsJob event) (ack_job c r seq_zero block)
+  unfolding lower_text
+  ack_in c r seq_zero block h =
+      every_under (IsJob event) c r.by.index _ (λ m nid. (nid, reply_short c r.fields.ttl h, omega arith, omega arith))
+
+  asked_in : (c : Config) (r : Reading) (a : Answer) (numbers : Option (ℕ × ℕ)) → IsShort c.ttl → Every (IsJob event) (ack_asked c r a numbers)
+  asked_in c r a None h = tt
+  asked_in c r a (Some numbers) h = pick (block_asked a numbers.1)
+    where
+      pick : (o : Option ℕ) → Every (IsJob event) (option_map_or (ack_job c r numbers.0) o [])
+      pick None = tt
+      pick (Some block) = ack_in c r numbers.0 block h
+
+  acks_in : (c : Config) (r : Reading) (low : Option Lower) (a : Answer) → IsShort c.ttl → Every (IsJob event) (ack_jobs c r low a)
+  acks_in c r None a h = tt
+  acks_in c r (Some low) a h = every_pick (IsJob event) _ _ [] (asked_in c r a (segment_numbers low) h) tt
+
+  beacons_in : (c : Config) → Every (IsJob event) (beacon_jobs c)
+  beacons_in c = every_pick (IsJob event) _ _ [] (every_made (IsJob event) (λ (r : NetKeyRow). J.Beacon (own_beacon c.iv r)) (λ r. tt) c.nets) tt
+
+  refresh_in : (before c : Config) → Every (IsJob event) (refresh_jobs before c)
+  refresh_in before c = every_pick (IsJob event) _ _ [] (beacons_in c) tt
+
+  due_beacons_in : (past : Past) (c : Config) (ticks : ℕ) → Every (IsJob event) (beacons_due past c ticks)
+  due_beacons_in past c ticks = every_pick (IsJob event) _ _ [] (beacons_in c) tt
+
+  message_in : (past : Past) (c : Config) (r : Reading) (i : Insight) (a : Answer) → Every (IsJob event) (message_jobs built_layers past c r i a)
+  unfolding built_layers
+  message_in past c r i (A.Control name dst opcode params) = tt
+  message_in past c r i (A.Delivered name dst key payload) = pick (message_of i name dst)
+    where
+      pick : (o : Option AccessMessage) → Every (IsJob event) (option_map_or (λ (m : AccessMessage). let l : List Job = [] in l) o [])
+      pick None = tt
+      pick (Some m) = tt
+  message_in past c r i _ = tt
+
+  pdu_in : (past : Past) (c : Config) (octets : List ℕ) (i : Insight) (a : Answer) → Sees built_layers past (E.Net octets) i → IsShort c.ttl → Every (IsJob event) (pdu_jobs built_layers past c i a)
+  pdu_in past c octets (OfPdu (Some r) low opening) a (sees_pdu reset reads lower opens) h =
+      let refresh : List Job = refresh_jobs (config_before past) c in
+      let messages : List Job = message_jobs built_layers past c r (OfPdu (Some r) low opening) a in
+      every_pick (IsJob event) (is_before_cache a) [] (relay_jobs c r ++ ack_jobs c r low a ++ messages ++ refresh) tt
+      (every_append (IsJob event) (relay_jobs c r ++ ack_jobs c r low a ++ messages) refresh
+      (every_append (IsJob event) (relay_jobs c r ++ ack_jobs c r low a) messages
+      (every_append (IsJob event) (relay_jobs c r) (ack_jobs c r low a) (relay_in c r reads.1.reads.has_pdu) (acks_in c r low a h))
+      (message_in past c r (OfPdu (Some r) low opening) a))
+      (refresh_in (config_before past) c))
+  pdu_in past c octets (OfPdu None low opening) a s h = tt
+  pdu_in past c octets (OfBeacon b) a s h = tt
+  pdu_in past c octets OfNothing a s h = tt
+
+  -- Of a tick.
+
+  due_in : (c : Config) (d : DueAck) → IsShort d.ack_ttl → Every (IsJob event) (due_jobs c d)
+  unfolding lower_text
+  due_in c d h = every_under (IsJob event) c d.net (due_job d) (λ m nid. (nid, h, omega arith, omega arith))
+
+  tick_in : (past : Past) (c : Config) (ticks : ℕ) (i : Insight) (now : ℕ) → Every IsShortTold past.told → Every (IsJob event) (jobs_of built_layers past c (E.Tick ticks) i (A.Ticked now))
+  unfolding built_layers jobs_of
+  tick_in past c ticks i now h =
+      every_append (IsJob event) (acks_at past c ticks ++ [] ++ beacons_due past c ticks) []
+      (every_append (IsJob event) (acks_at past c ticks ++ []) (beacons_due past c ticks)
+      (every_append (IsJob event) (acks_at past c ticks) []
+      (every_flat (λ (d : DueAck). IsShort d.ack_ttl) (IsJob event) (due_jobs c) (due_in c) (acks_due (later past ticks) (messages past)) (acks_short past (later past ticks) h))
+      tt)
+      (due_beacons_in past c ticks))
+      tt
+
+  raw_in : (c : Config) (dst : Address) (ttl : ℕ) (tpdu : List ℕ) → ttl < 2 ^ 7 → 1 ≤ length tpdu → length tpdu ≤ 12 → Every (IsJob event) (raw_jobs c dst ttl tpdu)
+  raw_in c dst ttl tpdu short least most = pick (first_net c)
+    where
+      pick : (o : Option ℕ) → Every (IsJob event) (option_map_or (λ net. under c net (λ m. J.Control m ttl (element_address c 0) dst tpdu None)) o [])
+      pick None = tt
+      pick (Some net) = every_under (IsJob event) c net _ (λ m nid. (nid, short, least, most))
+
+  -- Of a segmented message that begins.
+
+  segment_length : (akf : Bool) (id seq : ℕ) (upper : List ℕ) (seg_o : ℕ) → length (lower_text (segment akf id seq upper seg_o)) ≡ suc (suc (suc (suc (length (take 12 (drop (12 * seg_o) upper))))))
+  unfolding lower_text
+  segment_length akf id seq upper seg_o = refl
+
+  begin_in : (c : Config) (pair : Pair) (dst src : Address) (ttl net : ℕ) (akf : Bool) (id : ℕ) (upper : List ℕ) → pair.seq < 2 ^ 24 → ttl < 2 ^ 7
+      → Every (IsJob event) (begin_jobs c pair dst src ttl net akf id upper)
+  begin_in c pair dst src ttl net akf id upper seq short =
+      every_flat_any (IsJob event) _
+      (λ seg_o. every_under (IsJob event) c net (first_round_job pair dst src ttl akf id upper seg_o)
+      (λ m nid. (nid, short, seq, omega (arith, segment_length akf id pair.seq upper seg_o), omega (arith, segment_length akf id pair.seq upper seg_o, take_few 12 (drop (12 * seg_o) upper)))))
+      (range_with_len 0 _)
+
+-- Of a message that the node is asked to send.
+
+app_width : (c : Config) (index : ℕ) → Inside (λ (keys : ℕ × UpperKey). IsUpperKey keys.1) (transmit_app c.apps c.nets index)
+app_width c index = pick (app_row c.apps index)
+  where
+    rows : (r : AppKeyRow) (o : Option NetKeyRow) → Inside (λ (keys : ℕ × UpperKey). IsUpperKey keys.1) (option_map (λ (net : NetKeyRow). (r.net, app_key index (transmit_value r net))) o)
+    rows r None = tt
+    rows r (Some net) = aid_width (transmit_value r net)
+
+    pick : (o : Option AppKeyRow) → Inside (λ (keys : ℕ × UpperKey). IsUpperKey keys.1) (option_and_then (λ (r : AppKeyRow). option_map (λ (net : NetKeyRow). (r.net, app_key index (transmit_value r net))) (net_row c.nets r.net)) o)
+    pick None = tt
+    pick (Some r) = rows r (net_row c.nets r.net)
+
+keys_width : (c : Config) (key : SendKey) → Inside (λ (keys : ℕ × UpperKey). IsUpperKey keys.1) (send_keys c key)
+keys_width c K.Own = pick (first_net c)
+  where
+    pick : (o : Option ℕ) → Inside (λ (keys : ℕ × UpperKey). IsUpperKey keys.1) (option_map (λ net. (net, U.Device c.dev_key)) o)
+    pick None = tt
+    pick (Some net) = tt
+keys_width c (K.Other key) = pick (first_net c)
+  where
+    pick : (o : Option ℕ) → Inside (λ (keys : ℕ × UpperKey). IsUpperKey keys.1) (option_map (λ net. (net, U.Device key)) o)
+    pick None = tt
+    pick (Some net) = tt
+keys_width c (K.App index) = app_width c index
+
+send_in : (past : Past) (c : Config) (element : ℕ) (dst : Address) (ttl : ℕ) (key : SendKey) (payload : List ℕ) → ttl < 2 ^ 7 → 1 ≤ length payload → length payload ≤ 380
+    → Every (IsJob (E.Send element dst ttl key payload)) (send_jobs built_layers past c element dst ttl key payload)
+unfolding built_layers
+send_in past c element dst ttl key payload short least most = pick (send_keys c key) (keys_width c key)
+  where
+    pick : (o : Option (ℕ × UpperKey)) → Inside (λ (keys : ℕ × UpperKey). IsUpperKey keys.1) o
+        → Every (IsJob (E.Send element dst ttl key payload)) (option_map_or (sent_job c element dst ttl) o [])
+    pick None h = tt
+    pick (Some keys) h = every_under (IsJob (E.Send element dst ttl key payload)) c keys.0 _ (λ m nid. (nid, short, h, least, most))
+
+every_job : (past : Past) (c : Config) (event : Event) (i : Insight) (a : Answer) (elements : ℕ) → Sees built_layers past event i → IsEvent elements event → IsShort c.ttl
+    → Every IsShortTold past.told → Every (IsJob event) (jobs_of built_layers past c event i a)
+unfolding jobs_of
+every_job past c (E.Net octets) i a elements s e h k = pdu_in (E.Net octets) past c octets i a s h
+every_job past c (E.Bcn octets) i a elements s e h k = tt
+every_job past c (E.Send element dst ttl key payload) i A.Planned elements s e h k = send_in past c element dst ttl key payload e.3 e.5 e.6
+every_job past c (E.Send element dst ttl key payload) i _ elements s e h k = tt
+every_job past c (E.Raw dst ttl tpdu) i A.Planned elements s e h k = raw_in (E.Raw dst ttl tpdu) c dst ttl tpdu e.1 e.2 e.3
+every_job past c (E.Raw dst ttl tpdu) i _ elements s e h k = tt
+every_job past c (E.Tick ticks) i (A.Ticked now) elements s e h k = tick_in (E.Tick ticks) past c ticks i now k
+every_job past c (E.Tick ticks) i _ elements s e h k = tt
+every_job past c (E.Begin pair dst src ttl net akf id upper) i A.Begun elements s e h k = begin_in (E.Begin pair dst src ttl net akf id upper) c pair dst src ttl net akf id upper e.0 e.1
+every_job past c (E.Begin pair dst src ttl net akf id upper) i _ elements s e h k = tt
+every_job past c (E.Kept lpn fsn name pdu) i a elements s e h k = tt
+
+pub jobs_ranged : (past : Past) (c : Config) (event : Event) (i : Insight) (a : Answer) (elements : ℕ) → Sees built_layers past event i → IsEvent elements event → IsShort c.ttl
+    → Every IsShortTold past.told → All (IsJob event) (jobs_of built_layers past c event i a)
+jobs_ranged past c event i a elements s e h k = All-from_recursion (IsJob event) _ (every_job past c event i a elements s e h k)
+
+-- After the lines of a segmented message nothing is handled.
+
+begun_quiet : (c : Config) (pair : Pair) (dst src : Address) (ttl net : ℕ) (akf : Bool) (id : ℕ) (upper : List ℕ) → Every IsQuiet (begin_jobs c pair dst src ttl net akf id upper)
+begun_quiet c pair dst src ttl net akf id upper =
+    every_flat_any IsQuiet _ (λ seg_o. every_under IsQuiet c net (first_round_job pair dst src ttl akf id upper seg_o) (λ m nid outcome. refl)) (range_with_len 0 _)
+
+every_quiet : (past : Past) (c : Config) (event : Event) (i : Insight) (a : Answer) → is_outside event ≡ false → Every IsQuiet (jobs_of built_layers past c event i a)
+unfolding jobs_of
+every_quiet past c (E.Begin pair dst src ttl net akf id upper) i A.Begun e = begun_quiet c pair dst src ttl net akf id upper
+every_quiet past c (E.Begin pair dst src ttl net akf id upper) i _ e = tt
+every_quiet past c (E.Kept lpn fsn name pdu) i a e = tt
+every_quiet past c (E.Net octets) i a e = absurd cc
+every_quiet past c (E.Bcn octets) i a e = absurd cc
+every_quiet past c (E.Send element dst ttl key payload) i a e = absurd cc
+every_quiet past c (E.Raw dst ttl tpdu) i a e = absurd cc
+every_quiet past c (E.Tick ticks) i a e = absurd cc
+
+pub jobs_quiet : (past : Past) (c : Config) (event : Event) (i : Insight) (a : Answer) → is_outside event ≡ false → All IsQuiet (jobs_of built_layers past c event i a)
+jobs_quiet past c event i a e = All-from_recursion IsQuiet _ (every_quiet past c event i a e)

@@ -1,0 +1,11 @@
+pub mod Lists
+pub mod Lives
+pub mod Fronts
+pub mod Images
+pub mod Acks
+pub mod Asked
+pub mod Stored
+pub mod Standings
+pub mod Events
+pub mod Refills
+pub mod Opened

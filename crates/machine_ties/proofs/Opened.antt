@@ -1,0 +1,138 @@
+-- What a life opens with, what a refused opening leaves, and what an arm leaves.
+use Rattle.std.proofs.Common.{◌≡◌, ℕ, ◌≤◌, Bool, true, false, List, [], append-nil, refl, ap, sym, subst, ◌∙◌, arith, true≢false}
+use Rattle.std.specs.Prelude.{All, IsTrue}
+use Rattle.std.proofs.lemmas.List.Elements.{All-from_recursion}
+use Rattle.flash_model.specs.Chip.{Chip}
+use Rattle.machine_contract.specs.Refused.{IsStartCause, IsUntouched, WasReset}
+use Rattle.machine_contract.specs.Standing.{IsSameFlash}
+use Rattle.machine_ties.proofs.Images.{held_left, store_left, store_mark, store_node}
+use Rattle.machine_ties.proofs.Lists.{all_nothing}
+use Rattle.machine_ties.specs.Opening.{start_fault_of}
+use Rattle.machine_ties.specs.Ties.{IsBefore, IsReady, Stands, opened}
+use Rattle.machine_ties.specs.Views.{NodeMachine}
+use Rattle.mesh_hearing.specs.Tables.{AreTablesOf, IsFit, TablesView}
+use Rattle.node_records.specs.Meaning.{IsMeaningOf}
+use Rattle.node_store.proofs.Holding.{held_node, store_meaning}
+use Rattle.node_store.specs.Causes.{IsFoundAs, IsStoreCause}
+use Rattle.node_store.specs.declared.mounting.StoreFault.{StoreFault}
+use Rattle.node_store.specs.declared.mounting.StoreFault.TheVariants as F
+use Rattle.node_store.specs.Mounted.{IsRead}
+use Rattle.node_store.specs.Tie.{Holds, IsHeld, IsNode, IsStoreOf}
+use Rattle.node_store.specs.View.{StoreView}
+use Rattle.record_types.specs.declared.records.StoreRecord.{StoreRecord}
+use Rattle.run_definitions.specs.History.{Told}
+use Rattle.seq_reserve.specs.Reserving.{IsPublished}
+use Rattle.seq_reserve.specs.declared.reserve.Reserve.{Reserve}
+use Rattle.slot_journal.specs.Headers.{IsTidy}
+use Rattle.slot_journal.specs.Tie.{IsMounted as IsJournalMounted}
+use Rattle.store_definitions.specs.Config.{Config, config_of}
+use Rattle.store_definitions.specs.Node.{IsWhole}
+use Rattle.store_definitions.specs.Ranges.{IsInRange}
+
+opened_before : (over : List StoreRecord) (r : Reserve) (t : TablesView) (elements : ℕ) → IsMeaningOf over r.store.persist → All IsInRange over → IsWhole (config_of over)
+    → AreTablesOf t [] → IsBefore (record { told = []; records = over }) (opened r t elements)
+opened_before over r t elements meaning ranges whole tables = record {
+  standing = record { meaning = meaning; tables = tables; ranges = ranges };
+  whole = whole;
+  told = All-from_recursion (λ (x : Told). All IsInRange x.records) [] tt;
+}
+
+pub opened_stands : (chip : Chip) (over : List StoreRecord) (r : Reserve) (t : TablesView) (elements : ℕ) → IsStoreOf chip r.store over → All IsInRange over → IsWhole (config_of over)
+    → AreTablesOf t [] → IsPublished r.store r.keeper → elements ≡ r.store.persist.elements → chip.setting.faults ≤ chip.faults
+    → Stands chip over (opened r t elements)
+opened_stands chip over r t elements store ranges whole tables published is began =
+    let meaning = store_meaning chip r.store over store in
+    record {
+      life = record {
+        told = [];
+        entries = refl;
+        handled = tt;
+        few = omega arith;
+        elements = is ∙ ap (λ (c : Config). c.elements) meaning.config;
+        node = store_node chip r.store over store whole;
+        left = λ image next held found. (store_left chip r.store over store ranges image next held found, store_mark chip r.store over r.keeper.mark store published image next held found);
+        idle = λ e. refl;
+        failed = λ e. absurd (true≢false (sym e));
+      };
+      usable = λ e. record { store = store; before = opened_before over r t elements meaning ranges whole tables };
+      began = began;
+    }
+
+pub opened_ready : (over : List StoreRecord) (r : Reserve) (t : TablesView) (elements : ℕ) → IsMeaningOf over r.store.persist → All IsInRange over → IsWhole (config_of over)
+    → AreTablesOf t [] → IsPublished r.store r.keeper → IsFit t r.store.persist → r.store.journal.closed ≡ false → elements ≡ r.store.persist.elements
+    → IsReady (opened r t elements)
+opened_ready over r t elements meaning ranges whole tables published fit usable is = record {
+  past = record { told = []; records = over };
+  before = opened_before over r t elements meaning ranges whole tables;
+  published = published;
+  fit = fit;
+  usable = usable;
+  elements = is;
+}
+
+-- A mount whose every image holds the records leaves the node.
+pub untouched : (old new : Chip) (node : IsNode old.now) → ((c : List ℕ) → new.images c → IsHeld node.records c) → IsTrue new.honest → IsUntouched IsNode old new
+untouched old new node held honest = record {
+  over = node.records;
+  read = node.read.held;
+  node = record { honest = honest; each = λ image is. held_node image node.records (held image is).tidy (held image is).holds node.whole };
+  left = λ image next is found.
+      held_left image node.records [] next (all_nothing IsInRange node.records node.read.held.ranges)
+      (subst (λ l. Holds image l) (sym (append-nil node.records)) (held image is).holds) found;
+}
+
+-- The flash is as it was, but that it may have been given an arm.
+
+store_same : (old new : Chip) (store : StoreView) (records : List StoreRecord) → IsSameFlash old new → IsStoreOf old store records → IsStoreOf new store records
+store_same old new store records same tie = record {
+  found = tie.found;
+  exact = record {
+    journal = record {
+      fresh = record { honest = same.honest ∙ tie.exact.journal.fresh.honest; only = λ c image. tie.exact.journal.fresh.only c (same.stays c image) ∙ sym same.now };
+      tidy = subst IsTidy (sym same.now) tie.exact.journal.tidy;
+      mounted = subst (λ (c : List ℕ). IsJournalMounted c store.journal) (sym same.now) tie.exact.journal.mounted;
+    };
+    read = subst (λ (c : List ℕ). IsRead c tie.found) (sym same.now) tie.exact.read;
+    meaning = tie.exact.meaning;
+  };
+  alike = tie.alike;
+}
+
+pub stands_same : (old new : Chip) (over : List StoreRecord) (m : NodeMachine) → IsSameFlash old new → Stands old over m → Stands new over m
+stands_same old new over m same s = record {
+  life = record {
+    told = s.life.told;
+    entries = s.life.entries;
+    handled = s.life.handled;
+    few = s.life.few;
+    elements = s.life.elements;
+    node = record { honest = same.honest ∙ s.life.node.honest; each = λ image is. s.life.node.each image (same.stays image is) };
+    left = λ image next is found. s.life.left image next (same.stays image is) found;
+    idle = s.life.idle;
+    failed = λ e. omega (arith, s.life.failed e, same.faults, same.began);
+  };
+  usable = λ e. record { store = store_same old new m.reserve.store _ same (s.usable e).store; before = (s.usable e).before };
+  began = omega (arith, s.began, same.faults, same.began);
+}
+
+-- The causes of a store that isn't mounted.
+
+abbrev pub AreMounted : Type 0
+AreMounted = (content : List ℕ) (records : List StoreRecord) → IsRead content records → (config_of records).reset ≡ false → (fault : StoreFault) → IsFoundAs content fault → ⊥
+
+found_reset : (content : List ℕ) (records : List StoreRecord) (fault : StoreFault) → AreMounted → IsRead content records → IsFoundAs content fault → (config_of records).reset ≡ true
+found_reset content records fault law read found = pick (config_of records).reset refl
+  where
+    pick : (b : Bool) → (config_of records).reset ≡ b → (config_of records).reset ≡ true
+    pick true e = e
+    pick false e = absurd (law content records read e fault found)
+
+was_reset : (old : Chip) (node : IsNode old.now) (fault : StoreFault) → AreMounted → IsFoundAs old.now fault → WasReset old
+was_reset old node fault law found = record { over = node.records; read = node.read.held; reset = found_reset old.now node.records fault law node.read found }
+
+pub start_cause : (old new : Chip) (node : IsNode old.now) (fault : StoreFault) → AreMounted → IsTrue old.honest → IsStoreCause old new fault → IsUntouched IsNode old new
+    → IsStartCause IsNode old new (start_fault_of fault)
+start_cause old new node F.Flash law honest cause same = (cause, same)
+start_cause old new node F.NoNode law honest cause same = (was_reset old node F.NoNode law (cause honest), same)
+start_cause old new node (F.Damaged n) law honest cause same = (was_reset old node (F.Damaged n) law (cause honest), same)
+start_cause old new node F.WasReset law honest cause same = (was_reset old node F.WasReset law (cause honest), same)

@@ -1,0 +1,191 @@
+-- What each call leaves of what holds of a machine.
+use Rattle.std.proofs.Common.{◌≡◌, ℕ, ◌+◌, ◌≤◌, ◌<◌, ◌^◌, suc, zero, ◌⊎◌, inl, inr, false, List, [], ◌∷◌, ◌++◌, length, take, refl, ap, sym, subst, ◌∙◌, arith, true≢false, add-one, length-append}
+use Rattle.std.specs.Prelude.{All}
+use Rattle.std.proofs.lemmas.List.{map-append}
+use Rattle.flash_model.specs.Chip.{Chip, Keeps}
+use Rattle.machine_contract.specs.declared.answers.Hand.TheVariants as H
+use Rattle.machine_contract.specs.Opening.{IsLeft}
+use Rattle.machine_contract.specs.Standing.{IsLeftBy, past_now}
+use Rattle.machine_ties.proofs.Fronts.{all_ranges, all_whole}
+use Rattle.machine_ties.proofs.Images.{front_left, front_node, store_left, store_mark, store_node}
+use Rattle.machine_ties.proofs.Lists.{all_append, all_one}
+use Rattle.machine_ties.proofs.Lives.{filled_more, handled_more, left_more}
+use Rattle.machine_ties.specs.Kept.{AreKept, KeptLaw}
+use Rattle.machine_ties.specs.Ties.{IsBefore, IsCutIn, IsOver, Stands, entered, refilled, stopped}
+use Rattle.machine_ties.specs.Views.{NodeMachine}
+use Rattle.mesh_hearing.specs.Tables.{AreTablesOf, TablesView}
+use Rattle.mesh_types.specs.declared.events.Event.{Event}
+use Rattle.mesh_types.specs.declared.history.Entry.{Entry}
+use Rattle.node_layers.specs.BuiltLayers.{built_layers}
+use Rattle.node_records.specs.Meaning.{IsMeaningOf}
+use Rattle.node_store.specs.Tie.{IsStoreOf}
+use Rattle.record_types.specs.declared.records.StoreRecord.{StoreRecord}
+use Rattle.run_definitions.specs.Answers.{answer_of}
+use Rattle.run_definitions.specs.Handling.{Handles, records_left}
+use Rattle.run_definitions.specs.History.{Insight, Past, Told}
+use Rattle.run_definitions.specs.Readings.{Sees}
+use Rattle.run_definitions.specs.Stores.{stores}
+use Rattle.seq_reserve.specs.declared.reserve.Reserve.{Reserve}
+use Rattle.store_definitions.specs.Config.{config_of}
+use Rattle.store_definitions.specs.Numbers.{fill_of, filled}
+use Rattle.store_definitions.specs.Ranges.{IsInRange}
+
+-- the entry of a plan, with what its octets were read as
+abbrev pub told_by : Past → Entry → Insight → Told
+told_by past entry insight = record { entry = entry; insight = insight; records = past.records }
+
+abbrev with_told : Past → Told → List StoreRecord → Past
+with_told past t records = record { told = past.told ++ t ∷ []; records = records }
+
+-- What stands before the next event.
+pub before_more : KeptLaw → (past : Past) (m : NodeMachine) (r : Reserve) (tables : TablesView) (entry : Entry) (insight : Insight) (records : List StoreRecord)
+    → IsBefore past m → AreKept (config_of past.records) records → IsMeaningOf (past.records ++ records) r.store.persist
+    → AreTablesOf tables (past.told ++ told_by past entry insight ∷ [])
+    → IsBefore (with_told past (told_by past entry insight) (past.records ++ records)) (entered m r tables entry)
+before_more law past m r tables entry insight records h kept meaning tied = record {
+  standing = record { meaning = meaning; tables = tied; ranges = all_ranges past.records records kept h.standing.ranges };
+  whole = all_whole law past.records records kept h.whole;
+  told = all_append (λ (t : Told). All IsInRange t.records) past.told (told_by past entry insight ∷ []) h.told (all_one (λ (t : Told). All IsInRange t.records) (told_by past entry insight) h.standing.ranges);
+}
+
+-- A machine with an entry more.
+
+entered_left : (over : List StoreRecord) (told : List Told) (n : ℕ) (t : Told) → t.records ≡ filled n (records_left built_layers over [] told)
+    → records_left built_layers over [] (told ++ t ∷ []) ≡ filled n (records_left built_layers over [] told) ++ stores built_layers (past_now built_layers over told n) t.entry.event t.insight t.entry.answer
+entered_left over told n t e =
+    left_more built_layers over [] told t
+    ∙ ap (λ l. l ++ stores built_layers (record { told = told; records = l }) t.entry.event t.insight t.entry.answer) e
+
+module _ (law : KeptLaw) (old new : Chip) (over : List StoreRecord) (m : NodeMachine) (s : Stands old over m) (runs : m.closed ≡ false) where
+  abbrev past : Past
+  past = past_now built_layers over s.life.told m.fills
+
+  pub entered_stands : (r : Reserve) (tables : TablesView) (entry : Entry) (insight : Insight) (records : List StoreRecord)
+      → entry.fills ≡ m.fills → Handles built_layers past (told_by past entry insight)
+      → records ≡ stores built_layers past entry.event insight entry.answer → AreKept (config_of past.records) records
+      → AreTablesOf tables (past.told ++ told_by past entry insight ∷ []) → length m.entries + 1 < 2 ^ 32
+      → IsStoreOf new r.store (past.records ++ records) → r.keeper.mark ≡ r.store.persist.mark → Keeps old new
+      → IsMeaningOf (past.records ++ records) r.store.persist
+      → new.setting.faults ≤ new.faults
+      → Stands new over (entered m r tables entry)
+  entered_stands r tables entry insight records fills handles is kept tied few store mark keeps meaning began =
+      let t : Told = told_by past entry insight in
+      let all : List StoreRecord = past.records ++ records in
+      let left_is : records_left built_layers over [] (past.told ++ t ∷ []) ≡ all =
+      entered_left over past.told m.fills t refl ∙ ap (λ l. past.records ++ l) (sym is) in
+      let before : IsBefore (with_told past t all) (entered m r tables entry) = before_more law past m r tables entry insight records (s.usable runs).before kept meaning tied in
+      record {
+        life = record {
+          told = past.told ++ t ∷ [];
+          entries = map-append (λ (x : Told). x.entry) past.told (t ∷ []) ∙ ap (λ l. l ++ entry ∷ []) s.life.entries;
+          handled = handled_more built_layers over [] past.told t s.life.handled (ap (λ n. filled n (records_left built_layers over [] past.told)) (sym fills)) handles;
+          few = omega (arith, few, length-append m.entries (entry ∷ []));
+          elements = s.life.elements;
+          node = store_node new r.store all store before.whole;
+          left = λ image next held found. (
+            subst (λ h. IsLeftBy built_layers (past_now built_layers over (past.told ++ t ∷ []) 0) h next) (sym (s.life.idle runs))
+                (subst (λ l. IsLeft l [] next) (sym left_is) (store_left new r.store all store before.standing.ranges image next held found)),
+            store_mark new r.store all r.keeper.mark store mark image next held found,
+          );
+          idle = s.life.idle;
+          failed = λ closed. absurd (true≢false (sym closed ∙ runs));
+        };
+        usable = λ e. subst (λ l. IsOver new (record { told = past.told ++ t ∷ []; records = l }) (entered m r tables entry)) (sym left_is) (record { store = store; before = before });
+        began = began;
+      }
+
+  -- A machine that a failed event closed.
+  pub stopped_stands : (r : Reserve) (tables : TablesView) (event : Event) (insight : Insight) (records : List StoreRecord)
+      → Sees built_layers past event insight
+      → records ≡ stores built_layers past event insight (answer_of built_layers past event insight) → AreKept (config_of past.records) records
+      → IsCutIn new past.records records r.keeper.mark → new.setting.faults < new.faults
+      → Stands new over (stopped m r tables (H.OfEvent event))
+  stopped_stands r tables event insight records sees is kept cut rose = record {
+    life = record {
+      told = past.told;
+      entries = s.life.entries;
+      handled = s.life.handled;
+      few = s.life.few;
+      elements = s.life.elements;
+      node = record { honest = cut.honest; each = λ image held. front_node law image past.records records (cut.fronts image held) kept (s.usable runs).before.whole };
+      left = λ image next held found. (
+        inr (record {
+          insight = insight;
+          sees = sees;
+          count = (cut.fronts image held).n;
+          left = subst (λ l. IsLeft past.records (take (cut.fronts image held).n l) next) is
+              (front_left image past.records records next (cut.fronts image held) kept (s.usable runs).before.standing.ranges found);
+        }),
+        cut.durable image held next found,
+      );
+      idle = λ e. absurd (true≢false e);
+      failed = λ e. rose;
+    };
+    usable = λ e. absurd (true≢false e);
+    began = omega (arith, rose);
+  }
+
+  -- A machine that a failed refill closed.
+  pub unfilled_stands : (r : Reserve) → AreKept (config_of past.records) (fill_of (config_of past.records) ∷ [])
+      → IsCutIn new past.records (fill_of (config_of past.records) ∷ []) r.keeper.mark → new.setting.faults < new.faults
+      → Stands new over (stopped m r m.tables H.OfRefill)
+  unfilled_stands r kept cut rose = record {
+    life = record {
+      told = past.told;
+      entries = s.life.entries;
+      handled = s.life.handled;
+      few = s.life.few;
+      elements = s.life.elements;
+      node = record { honest = cut.honest; each = λ image held. front_node law image past.records _ (cut.fronts image held) kept (s.usable runs).before.whole };
+      left = λ image next held found. (
+        by_count (cut.fronts image held).n next (front_left image past.records _ next (cut.fronts image held) kept (s.usable runs).before.standing.ranges found),
+        cut.durable image held next found,
+      );
+      idle = λ e. absurd (true≢false e);
+      failed = λ e. rose;
+    };
+    usable = λ e. absurd (true≢false e);
+    began = omega (arith, rose);
+  }
+    where
+      by_count : (n : ℕ) (next : List StoreRecord) → IsLeft past.records (take n (fill_of (config_of past.records) ∷ [])) next
+          → IsLeft past.records [] next ⊎ IsLeft past.records (fill_of (config_of past.records) ∷ []) next
+      by_count zero next h = inl h
+      by_count (suc zero) next h = inr h
+      by_count (suc (suc n)) next h = inr h
+
+  -- A machine with a refill more.
+  pub refilled_stands : (r : Reserve) → AreKept (config_of past.records) (fill_of (config_of past.records) ∷ [])
+      → IsStoreOf new r.store (past.records ++ fill_of (config_of past.records) ∷ []) → r.keeper.mark ≡ r.store.persist.mark
+      → IsMeaningOf (past.records ++ fill_of (config_of past.records) ∷ []) r.store.persist → new.setting.faults ≤ new.faults
+      → Stands new over (refilled m r)
+  refilled_stands r kept store mark meaning began =
+      let item : List StoreRecord = fill_of (config_of past.records) ∷ [] in
+      let all : List StoreRecord = past.records ++ item in
+      let left_is : filled (m.fills + 1) (records_left built_layers over [] past.told) ≡ all =
+      ap (λ n. filled n (records_left built_layers over [] past.told)) (add-one m.fills) ∙ filled_more m.fills (records_left built_layers over [] past.told) in
+      let h : IsBefore past m = (s.usable runs).before in
+      let before : IsBefore (record { told = past.told; records = all }) (refilled m r) = record {
+        standing = record { meaning = meaning; tables = h.standing.tables; ranges = all_ranges past.records item kept h.standing.ranges };
+        whole = all_whole law past.records item kept h.whole;
+        told = h.told;
+      } in
+      record {
+        life = record {
+          told = past.told;
+          entries = s.life.entries;
+          handled = s.life.handled;
+          few = s.life.few;
+          elements = s.life.elements;
+          node = store_node new r.store all store before.whole;
+          left = λ image next held found. (
+            subst (λ h. IsLeftBy built_layers (past_now built_layers over past.told (m.fills + 1)) h next) (sym (s.life.idle runs))
+                (subst (λ l. IsLeft l [] next) (sym left_is) (store_left new r.store all store before.standing.ranges image next held found)),
+            store_mark new r.store all r.keeper.mark store mark image next held found,
+          );
+          idle = s.life.idle;
+          failed = λ closed. absurd (true≢false (sym closed ∙ runs));
+        };
+        usable = λ e. subst (λ l. IsOver new (record { told = past.told; records = l }) (refilled m r)) (sym left_is) (record { store = store; before = before });
+        began = began;
+      }

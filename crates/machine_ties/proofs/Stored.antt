@@ -1,0 +1,149 @@
+-- What an event stores keeps the node whole.
+use Rattle.std.proofs.Common.{◌≡◌, ℕ, ◌<◌, suc, Bool, true, false, cond, eqb, leb, ◌&&◌, not, List, [], ◌∷◌, ◌++◌, refl, ap, sym, subst, ◌∙◌, arith, Option, Some, None}
+use Rattle.std.specs.Bool.{⊤}
+use Rattle.std.specs.Prelude.{All}
+use Rattle.std.specs.List.{AllByRecursion as Every}
+use Rattle.std.proofs.lemmas.Bool.Decides.{nat_tests}
+use Rattle.std.proofs.lemmas.List.Elements.{All-from_recursion, recursion_from_All}
+use Rattle.event_plans.proofs.Accepts.{replay_of, stores_replay}
+use Rattle.layer_definitions.specs.KeyRefresh.{net_index, net_row}
+use Rattle.machine_ties.specs.Kept.{KeepWhole}
+use Rattle.mesh_base.specs.declared.beacon.Beacon.{Beacon}
+use Rattle.mesh_base.specs.declared.iv_state.IvStep.{IvStep}
+use Rattle.mesh_base.specs.declared.iv_state.IvStep.TheVariants as I
+use Rattle.mesh_base.specs.declared.keys.NetKeyRow.{NetKeyRow}
+use Rattle.mesh_base.specs.declared.pair.Name.{Name}
+use Rattle.mesh_types.specs.declared.answers.Answer.{Answer}
+use Rattle.mesh_types.specs.declared.answers.Answer.TheVariants as A
+use Rattle.mesh_types.specs.declared.answers.KeyStep.{KeyStep}
+use Rattle.mesh_types.specs.declared.answers.KeyStep.TheVariants as S
+use Rattle.mesh_types.specs.declared.events.Event.{Event}
+use Rattle.mesh_types.specs.declared.events.Event.TheVariants as E
+use Rattle.node_layers.specs.BuiltLayers.{built_layers}
+use Rattle.node_records.proofs.Rising.{RisesFrom, keyed_of}
+use Rattle.record_types.specs.declared.records.StoreRecord.{StoreRecord}
+use Rattle.record_types.specs.declared.records.StoreRecord.TheVariants as R
+use Rattle.run_definitions.specs.Answers.{answer_of, beacon_answer, config_before, key_step}
+use Rattle.run_definitions.specs.History.{Insight, OfBeacon, OfNothing, OfPdu, Past}
+use Rattle.run_definitions.specs.Stores.{hours_passed, hours_step, phase_records, step_records, stores}
+use Rattle.run_definitions.specs.Uses.{accepted}
+use Rattle.store_definitions.specs.Config.{Config, config_of}
+use Rattle.store_definitions.specs.Node.{HasNext, IsPhased, IsWhole}
+
+steps_keep : (c d : Config) (step : IvStep) → KeepWhole c (step_records d step)
+steps_keep c d (I.Ignore rule) = tt
+steps_keep c d (I.Begin s) = (tt, tt, tt)
+steps_keep c d (I.Finish s) = (tt, tt, tt)
+steps_keep c d (I.Recover s) = (tt, tt, tt)
+steps_keep c d I.Wait = tt
+
+-- Phase 2 comes where there is a next key.
+
+others_next : (index n : ℕ) (rows : List NetKeyRow) → index < n → RisesFrom net_index n rows → Every (HasNext index) rows
+others_next index n [] less h = tt
+others_next index n (x ∷ xs) less h =
+    ((λ e. absurd (omega (arith, e, h.0))), others_next index (suc x.index) xs (omega (arith, h.0)) h.1)
+
+same_row : {a b : NetKeyRow} → Some a ≡ Some b → a ≡ b
+same_row e = cc
+
+next_all : (rows : List NetKeyRow) (n index : ℕ) (r : NetKeyRow) → RisesFrom net_index n rows → Every IsPhased rows → net_row rows index ≡ Some r → r.phase ≡ 1
+    → Every (HasNext index) rows
+next_all [] n index r h k e phase = tt
+next_all (x ∷ xs) n index r h k e phase = pick (eqb x.index index) refl e (λ g. next_all xs (suc x.index) index r h.1 k.1 g phase)
+  where
+    is_index : eqb x.index index ≡ true → x.index ≡ index
+    is_index f = grind (arith, nat_tests)
+
+    isnt_index : eqb x.index index ≡ false → x.index ≡ index → ⊥
+    isnt_index f g = grind (arith, nat_tests)
+
+    pick : (b : Bool) → eqb x.index index ≡ b → cond b (Some x) (net_row xs index) ≡ Some r → (net_row xs index ≡ Some r → Every (HasNext index) xs) → Every (HasNext index) (x ∷ xs)
+    pick true f g rest = (
+      (λ same. k.0.next ∙ ap (λ n. leb 1 n) (ap (λ (row : NetKeyRow). row.phase) (same_row g) ∙ phase)),
+      others_next index (suc x.index) xs (omega (arith, is_index f)) h.1,
+    )
+    pick false f g rest = ((λ same. absurd (isnt_index f same)), rest g)
+
+phase_is : (o : Option NetKeyRow) (b : Beacon) → key_step o b ≡ S.Phase2 → (r : NetKeyRow) × ((o ≡ Some r) × (r.phase ≡ 1))
+phase_is None b e = absurd cc
+phase_is (Some r) b e = (r, (refl, pick b.fresh b.refresh (eqb r.phase 1) (b.fresh && not b.refresh && leb 1 r.phase) refl e))
+  where
+    is_one : eqb r.phase 1 ≡ true → r.phase ≡ 1
+    is_one f = grind (arith, nat_tests)
+
+    pick : (x y z w : Bool) → eqb r.phase 1 ≡ z → cond (x && y && z) S.Phase2 (cond w S.Phase0 S.Same) ≡ S.Phase2 → r.phase ≡ 1
+    pick true true true w f g = is_one f
+    pick true true false true f g = absurd cc
+    pick true true false false f g = absurd cc
+    pick true false z true f g = absurd cc
+    pick true false z false f g = absurd cc
+    pick false y z true f g = absurd cc
+    pick false y z false f g = absurd cc
+
+phase_next : (records : List StoreRecord) (b : Beacon) → IsWhole (config_of records) → key_step (net_row (config_of records).nets b.index) b ≡ S.Phase2
+    → All (HasNext b.index) (config_of records).nets
+phase_next records b whole e =
+    let nets = (config_of records).nets in
+    let (r, (is, phase)) = phase_is (net_row nets b.index) b e in
+    All-from_recursion (HasNext b.index) nets (next_all nets 0 b.index r (keyed_of records).nets (recursion_from_All IsPhased nets whole.phased) is phase)
+
+phases_keep : (c d : Config) (index : ℕ) (k : KeyStep) (iv : IvStep) → (k ≡ S.Phase2 → All (HasNext index) c.nets) → KeepWhole c (phase_records index k ++ step_records d iv)
+phases_keep c d index S.Same iv h = steps_keep c d iv
+phases_keep c d index S.Phase2 iv h = (((λ e. h refl), (λ e. absurd (omega (arith, e)))), tt, steps_keep _ d iv)
+phases_keep c d index S.Phase0 iv h = (((λ e. absurd (omega (arith, e))), (λ e. absurd (omega (arith, e)))), tt, steps_keep _ d iv)
+
+-- Events.
+
+bcn_keep : (past : Past) (octets : List ℕ) (i : Insight) → IsWhole (config_of past.records)
+    → KeepWhole (config_of past.records) (stores built_layers past (E.Bcn octets) i (answer_of built_layers past (E.Bcn octets) i))
+unfolding answer_of stores
+bcn_keep past octets i whole = pick (config_before past).reset i
+  where
+    pick : (reset : Bool) (i : Insight) → KeepWhole (config_of past.records) (stores built_layers past (E.Bcn octets) i (cond reset A.Reset (beacon_answer built_layers past i)))
+    pick true i = tt
+    pick false (OfBeacon (Some b)) = phases_keep (config_of past.records) (config_of past.records) b.index (key_step (net_row (config_of past.records).nets b.index) b) _ (phase_next past.records b whole)
+    pick false (OfBeacon None) = tt
+    pick false (OfPdu r low opening) = tt
+    pick false OfNothing = tt
+
+tick_keep : (past : Past) (ticks : ℕ) (i : Insight) (a : Answer) → KeepWhole (config_of past.records) (stores built_layers past (E.Tick ticks) i a)
+unfolding stores
+tick_keep past ticks i (A.Ticked now) = pick (eqb (hours_passed past ticks) 0)
+  where
+    pick : (b : Bool) → KeepWhole (config_of past.records) (cond b [] (R.Hour (hours_step built_layers past ticks).0.hours (hours_step built_layers past ticks).0.since ∷ step_records (config_before past) (hours_step built_layers past ticks).1))
+    pick true = tt
+    pick false = (tt, tt, steps_keep _ (config_before past) (hours_step built_layers past ticks).1)
+tick_keep past ticks i _ = tt
+
+replays_keep : (c : Config) (o : Option Name) → KeepWhole c (replay_of o)
+replays_keep c None = tt
+replays_keep c (Some n) = (tt, tt, tt)
+
+-- an event that brings no octets and no time
+abbrev IsOwn : Event → Type 0
+IsOwn (E.Net octets) = ⊥
+IsOwn (E.Bcn octets) = ⊥
+IsOwn (E.Tick ticks) = ⊥
+IsOwn _ = ⊤
+
+other_keep : (past : Past) (event : Event) (i : Insight) → IsOwn event → KeepWhole (config_of past.records) (stores built_layers past event i (answer_of built_layers past event i))
+unfolding stores
+other_keep past (E.Net octets) i h = absurd h
+other_keep past (E.Bcn octets) i h = absurd h
+other_keep past (E.Tick ticks) i h = absurd h
+other_keep past (E.Send element dst ttl key payload) i h = tt
+other_keep past (E.Raw dst ttl tpdu) i h = tt
+other_keep past (E.Begin pair dst src ttl net akf aid upper) i h = tt
+other_keep past (E.Kept lpn fsn name pdu) i h = tt
+
+pub stores_keep : (past : Past) (event : Event) (i : Insight) → IsWhole (config_of past.records)
+    → KeepWhole (config_of past.records) (stores built_layers past event i (answer_of built_layers past event i))
+stores_keep past (E.Net octets) i whole =
+    subst (λ l. KeepWhole (config_of past.records) l) (sym (stores_replay past octets i (answer_of built_layers past (E.Net octets) i))) (replays_keep (config_of past.records) (accepted (answer_of built_layers past (E.Net octets) i)))
+stores_keep past (E.Bcn octets) i whole = bcn_keep past octets i whole
+stores_keep past (E.Tick ticks) i whole = tick_keep past ticks i (answer_of built_layers past (E.Tick ticks) i)
+stores_keep past (E.Send element dst ttl key payload) i whole = other_keep past (E.Send element dst ttl key payload) i tt
+stores_keep past (E.Raw dst ttl tpdu) i whole = other_keep past (E.Raw dst ttl tpdu) i tt
+stores_keep past (E.Begin pair dst src ttl net akf aid upper) i whole = other_keep past (E.Begin pair dst src ttl net akf aid upper) i tt
+stores_keep past (E.Kept lpn fsn name pdu) i whole = other_keep past (E.Kept lpn fsn name pdu) i tt

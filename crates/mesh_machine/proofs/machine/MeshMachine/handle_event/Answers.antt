@@ -1,0 +1,173 @@
+use Rattle.std.proofs.Common.{◌≡◌, ◌++◌, [], ◌∷◌, ◌<◌, ◌+◌, ◌^◌, List, length, refl, ap, sym, subst, ◌∙◌}
+use Rattle.event_plans.specs.Plans.{IsPlanned, IsStanding, insight_in}
+use Rattle.event_plans.specs.Sending.{IsSendable}
+use Rattle.event_records.specs.Putting.{ArePuttable}
+use Rattle.machine_contract.specs.Ranges.{IsEvent}
+use Rattle.machine_contract.specs.Standing.{past_now}
+use Rattle.machine_contract.specs.declared.answers.Hand.TheVariants as H
+use Rattle.machine_ties.proofs.Events.{IsAfter, IsEntryOf, event_after, event_jobs, event_quiet, event_ready, event_sendable, event_stands, event_stops}
+use Rattle.machine_ties.specs.Ties.{IsCutIn, IsOver, IsReady, Stands, entered, stopped}
+use Rattle.machine_ties.specs.Views.{NodeMachine}
+use Rattle.mesh_hearing.specs.Tables.{IsFit, TablesView}
+use Rattle.mesh_reading.specs.Held.{AreHeldKeys}
+use Rattle.mesh_types.specs.declared.events.Event.{Event}
+use Rattle.mesh_types.specs.declared.history.Entry.{Entry}
+use Rattle.node_layers.specs.BuiltLayers.{built_layers}
+use Rattle.node_records.specs.Meaning.{IsMeaningOf}
+use Rattle.node_records.specs.Tables.{config_in}
+use Rattle.node_records.specs.declared.persist.Persist.{Persist}
+use Rattle.run_definitions.specs.History.{Past}
+use Rattle.run_definitions.specs.Jobs.{jobs_of}
+use Rattle.store_definitions.specs.Node.{IsWhole}
+use Rattle.mesh_machine.proofs.machine.MeshMachine.handle_event.Goals as goal
+
+pub returns-in-Err-clause-kept : goal.returns-in-Err-clause-kept
+returns-in-Err-clause-kept g c over stands =
+    let i = c.self.inside in
+    let m : NodeMachine = record { reserve = i.reserve; tables = i.tables; entries = i.history.items; fills = i.fills; closed = i.closed; hand = i.hand; elements = i.elements } in
+    let same : record m { tables = c.prepare.new.tables; entries = c.prepare.new.history.items } ≡ m =
+    ap (λ (t : TablesView). record m { tables = t; entries = c.prepare.new.history.items }) c.in-Err.ensures.unchanged ∙ ap (λ (l : List Entry). record m { entries = l }) c.prepare.ensures.entries in
+    subst (λ (v : NodeMachine). Stands (g.F.Flash.chip c.args.flash.now) over v) (sym (same ∙ c.self.view_is)) stands
+
+pub returns-in-Err-store_records-clause-kept : goal.returns-in-Err-store_records-clause-kept
+returns-in-Err-store_records-clause-kept g c over stands =
+    let i = c.self.inside in
+    let m : NodeMachine = record { reserve = i.reserve; tables = i.tables; entries = i.history.items; fills = i.fills; closed = i.closed; hand = i.hand; elements = i.elements } in
+    let s : Stands (g.F.Flash.chip c.args.flash.now) over m = subst (λ (v : NodeMachine). Stands (g.F.Flash.chip c.args.flash.now) over v) (sym c.self.view_is) stands in
+    let past : Past = past_now built_layers over s.life.told i.fills in
+    let h : IsOver (g.F.Flash.chip c.args.flash.now) past m = s.usable c.if-self.false in
+    let may : ArePuttable i.reserve.store.persist c.in-Ok.plan.records = subst (λ (p : Persist). ArePuttable p c.in-Ok.plan.records) c.persist.ensures.value c.in-Ok.ensures.may in
+    let planned : IsPlanned past c.args.event.now c.in-Ok.plan c.prepare.new.tables =
+    c.in-Ok.ensures.planned past (subst (λ (p : Persist). IsStanding past p i.tables) (sym c.persist.ensures.value) h.before.standing) in
+    let r = c.store_records.new.reserve in
+    let new = g.F.Flash.chip c.store_records.new.flash in
+    let ready : IsReady m = c.self.invariant c.if-self.false in
+    let cut : IsCutIn new past.records c.in-Ok.plan.records r.keeper.mark = record {
+      honest = c.store_records.ensures.frame.honest ∙ s.life.node.honest;
+      fronts = c.store_records.ensures.fronts past.records h.store;
+      durable = c.store_records.ensures.durable past.records h.store;
+    } in
+    let base : Stands new over (stopped m r c.prepare.new.tables (H.OfEvent c.args.event.now)) =
+    event_stops c.node_law.ensures.kept m c.args.event.now c.in-Ok.plan c.prepare.new.tables (g.F.Flash.chip c.args.flash.now) new over s c.if-self.false r c.prepare.new.tables planned may cut
+    (c.in-Err-store_records.ensures.cause ready.usable).2 c.store_records.ensures.frame in
+    subst (λ (e : Event). Stands new over (record (stopped m r c.prepare.new.tables (H.OfEvent e)) { entries = c.prepare.new.history.items })) (sym c.copied.ensures.value)
+    (subst (λ (l : List Entry). Stands new over (record (stopped m r c.prepare.new.tables (H.OfEvent c.args.event.now)) { entries = l })) (sym c.prepare.ensures.entries) base)
+
+pub renew-requires-clause-held : goal.renew-requires-clause-held
+renew-requires-clause-held g c =
+    let i = c.self.inside in
+    let m : NodeMachine = record { reserve = i.reserve; tables = i.tables; entries = i.history.items; fills = i.fills; closed = i.closed; hand = i.hand; elements = i.elements } in
+    let ready : IsReady m = c.self.invariant c.if-self.false in
+    let may : ArePuttable i.reserve.store.persist c.in-Ok.plan.records = subst (λ (p : Persist). ArePuttable p c.in-Ok.plan.records) c.persist.ensures.value c.in-Ok.ensures.may in
+    let planned : IsPlanned ready.past c.args.event.now c.in-Ok.plan c.prepare.new.tables =
+    c.in-Ok.ensures.planned ready.past (subst (λ (p : Persist). IsStanding ready.past p i.tables) (sym c.persist.ensures.value) ready.before.standing) in
+    let q : Persist = c.store_records.new.reserve.store.persist in
+    let meaning : IsMeaningOf (ready.past.records ++ c.in-Ok.plan.records) q = c.in-Ok-store_records.ensures.meaning ready.past.records ready.before.standing.meaning in
+    let after : IsAfter i.elements q = event_after c.node_law.ensures.kept m c.args.event.now c.in-Ok.plan c.prepare.new.tables ready q planned may meaning c.in-Ok-store_records.ensures.change in
+    subst (λ (p : Persist). AreHeldKeys (config_in p)) (sym c.persist-p.ensures.value)
+    (subst AreHeldKeys (sym meaning.config)
+    (c.held_keys_law.ensures.whole (ready.past.records ++ c.in-Ok.plan.records) (subst IsWhole meaning.config after.whole)))
+
+pub enter-answered-requires-clause-planned : goal.enter-answered-requires-clause-planned
+enter-answered-requires-clause-planned g c =
+    let i = c.self.inside in
+    let m : NodeMachine = record { reserve = i.reserve; tables = i.tables; entries = i.history.items; fills = i.fills; closed = i.closed; hand = i.hand; elements = i.elements } in
+    let ready : IsReady m = c.self.invariant c.if-self.false in
+    let may : ArePuttable i.reserve.store.persist c.in-Ok.plan.records = subst (λ (p : Persist). ArePuttable p c.in-Ok.plan.records) c.persist.ensures.value c.in-Ok.ensures.may in
+    let planned : IsPlanned ready.past c.args.event.now c.in-Ok.plan c.prepare.new.tables =
+    c.in-Ok.ensures.planned ready.past (subst (λ (p : Persist). IsStanding ready.past p i.tables) (sym c.persist.ensures.value) ready.before.standing) in
+    (ready.past, (c.prepare.new.tables, planned))
+
+pub enter-answered-requires-clause-sendable : goal.enter-answered-requires-clause-sendable
+enter-answered-requires-clause-sendable g c =
+    let i = c.self.inside in
+    let m : NodeMachine = record { reserve = i.reserve; tables = i.tables; entries = i.history.items; fills = i.fills; closed = i.closed; hand = i.hand; elements = i.elements } in
+    let ready : IsReady m = c.self.invariant c.if-self.false in
+    let may : ArePuttable i.reserve.store.persist c.in-Ok.plan.records = subst (λ (p : Persist). ArePuttable p c.in-Ok.plan.records) c.persist.ensures.value c.in-Ok.ensures.may in
+    let planned : IsPlanned ready.past c.args.event.now c.in-Ok.plan c.prepare.new.tables =
+    c.in-Ok.ensures.planned ready.past (subst (λ (p : Persist). IsStanding ready.past p i.tables) (sym c.persist.ensures.value) ready.before.standing) in
+    let q : Persist = c.store_records.new.reserve.store.persist in
+    let meaning : IsMeaningOf (ready.past.records ++ c.in-Ok.plan.records) q = c.in-Ok-store_records.ensures.meaning ready.past.records ready.before.standing.meaning in
+    let after : IsAfter i.elements q = event_after c.node_law.ensures.kept m c.args.event.now c.in-Ok.plan c.prepare.new.tables ready q planned may meaning c.in-Ok-store_records.ensures.change in
+    subst (λ (p : Persist). IsSendable (config_in p) c.args.event.now) (sym c.persist-p.ensures.value)
+    (event_sendable c.node_law.ensures.kept m c.args.event.now c.in-Ok.plan c.prepare.new.tables q after
+    (subst (λ (v : NodeMachine). IsEvent v.elements c.args.event.now) (sym c.self.view_is) c.requires.event))
+
+pub invariant_of-self-2 : goal.invariant_of-self-2
+invariant_of-self-2 g c e =
+    let i = c.self.inside in
+    let m : NodeMachine = record { reserve = i.reserve; tables = i.tables; entries = i.history.items; fills = i.fills; closed = i.closed; hand = i.hand; elements = i.elements } in
+    let ready : IsReady m = c.self.invariant c.if-self.false in
+    let may : ArePuttable i.reserve.store.persist c.in-Ok.plan.records = subst (λ (p : Persist). ArePuttable p c.in-Ok.plan.records) c.persist.ensures.value c.in-Ok.ensures.may in
+    let planned : IsPlanned ready.past c.args.event.now c.in-Ok.plan c.prepare.new.tables =
+    c.in-Ok.ensures.planned ready.past (subst (λ (p : Persist). IsStanding ready.past p i.tables) (sym c.persist.ensures.value) ready.before.standing) in
+    let q : Persist = c.store_records.new.reserve.store.persist in
+    let meaning : IsMeaningOf (ready.past.records ++ c.in-Ok.plan.records) q = c.in-Ok-store_records.ensures.meaning ready.past.records ready.before.standing.meaning in
+    let after : IsAfter i.elements q = event_after c.node_law.ensures.kept m c.args.event.now c.in-Ok.plan c.prepare.new.tables ready q planned may meaning c.in-Ok-store_records.ensures.change in
+    let a = c.enter-answered.result in
+    let entry : Entry = record { bearer = c.args.bearer; number = c.args.number; event = c.args.event.now; fills = i.fills; answer = a.answer; jobs = a.jobs } in
+    let items : c.enter-answered.new.history.items ≡ i.history.items ++ entry ∷ [] = c.enter-answered.ensures.entry ∙ ap (λ l. l ++ entry ∷ []) c.prepare.ensures.entries in
+    let r = c.store_records.new.reserve in
+    let base : IsReady (entered m r c.renew.new.tables entry) =
+    event_ready c.node_law.ensures.kept m c.args.event.now c.in-Ok.plan c.prepare.new.tables ready r c.renew.new.tables entry planned may c.renew.ensures.tables c.enter-answered.ensures.answer
+    meaning c.store_records.ensures.published (subst (λ (p : Persist). IsFit c.renew.new.tables p) c.persist-p.ensures.value c.renew.ensures.fit)
+    (c.in-Ok-store_records.ensures.usable ∙ ready.usable) after.same in
+    subst (λ (l : List Entry). IsReady (record (entered m r c.renew.new.tables entry) { entries = l })) (sym items) base
+
+pub returns-clause-jobs : goal.returns-clause-jobs
+returns-clause-jobs g c =
+    let i = c.self.inside in
+    let m : NodeMachine = record { reserve = i.reserve; tables = i.tables; entries = i.history.items; fills = i.fills; closed = i.closed; hand = i.hand; elements = i.elements } in
+    let ready : IsReady m = c.self.invariant c.if-self.false in
+    let may : ArePuttable i.reserve.store.persist c.in-Ok.plan.records = subst (λ (p : Persist). ArePuttable p c.in-Ok.plan.records) c.persist.ensures.value c.in-Ok.ensures.may in
+    let planned : IsPlanned ready.past c.args.event.now c.in-Ok.plan c.prepare.new.tables =
+    c.in-Ok.ensures.planned ready.past (subst (λ (p : Persist). IsStanding ready.past p i.tables) (sym c.persist.ensures.value) ready.before.standing) in
+    let q : Persist = c.store_records.new.reserve.store.persist in
+    let meaning : IsMeaningOf (ready.past.records ++ c.in-Ok.plan.records) q = c.in-Ok-store_records.ensures.meaning ready.past.records ready.before.standing.meaning in
+    let after : IsAfter i.elements q = event_after c.node_law.ensures.kept m c.args.event.now c.in-Ok.plan c.prepare.new.tables ready q planned may meaning c.in-Ok-store_records.ensures.change in
+    let a = c.enter-answered.result in
+    event_jobs c.node_law.ensures.kept m c.args.event.now c.in-Ok.plan c.prepare.new.tables ready c.persist-p.result.now a.jobs c.args.self.now.elements planned may
+    (subst (λ (p : Persist). IsMeaningOf (ready.past.records ++ c.in-Ok.plan.records) p) (sym c.persist-p.ensures.value) meaning)
+    (c.enter-answered.ensures.jobs ready.past c.prepare.new.tables planned) c.requires.event
+
+pub returns-clause-quiet : goal.returns-clause-quiet
+returns-clause-quiet g c outside =
+    let i = c.self.inside in
+    let m : NodeMachine = record { reserve = i.reserve; tables = i.tables; entries = i.history.items; fills = i.fills; closed = i.closed; hand = i.hand; elements = i.elements } in
+    let ready : IsReady m = c.self.invariant c.if-self.false in
+    let may : ArePuttable i.reserve.store.persist c.in-Ok.plan.records = subst (λ (p : Persist). ArePuttable p c.in-Ok.plan.records) c.persist.ensures.value c.in-Ok.ensures.may in
+    let planned : IsPlanned ready.past c.args.event.now c.in-Ok.plan c.prepare.new.tables =
+    c.in-Ok.ensures.planned ready.past (subst (λ (p : Persist). IsStanding ready.past p i.tables) (sym c.persist.ensures.value) ready.before.standing) in
+    let a = c.enter-answered.result in
+    event_quiet c.node_law.ensures.kept m c.args.event.now c.in-Ok.plan c.prepare.new.tables ready c.persist-p.result.now a.jobs
+    (c.enter-answered.ensures.jobs ready.past c.prepare.new.tables planned) outside
+
+pub returns-clause-kept : goal.returns-clause-kept
+returns-clause-kept g c over stands =
+    let i = c.self.inside in
+    let m : NodeMachine = record { reserve = i.reserve; tables = i.tables; entries = i.history.items; fills = i.fills; closed = i.closed; hand = i.hand; elements = i.elements } in
+    let s : Stands (g.F.Flash.chip c.args.flash.now) over m = subst (λ (v : NodeMachine). Stands (g.F.Flash.chip c.args.flash.now) over v) (sym c.self.view_is) stands in
+    let past : Past = past_now built_layers over s.life.told i.fills in
+    let h : IsOver (g.F.Flash.chip c.args.flash.now) past m = s.usable c.if-self.false in
+    let may : ArePuttable i.reserve.store.persist c.in-Ok.plan.records = subst (λ (p : Persist). ArePuttable p c.in-Ok.plan.records) c.persist.ensures.value c.in-Ok.ensures.may in
+    let planned : IsPlanned past c.args.event.now c.in-Ok.plan c.prepare.new.tables =
+    c.in-Ok.ensures.planned past (subst (λ (p : Persist). IsStanding past p i.tables) (sym c.persist.ensures.value) h.before.standing) in
+    let a = c.enter-answered.result in
+    let entry : Entry = record { bearer = c.args.bearer; number = c.args.number; event = c.args.event.now; fills = i.fills; answer = a.answer; jobs = a.jobs } in
+    let items : c.enter-answered.new.history.items ≡ i.history.items ++ entry ∷ [] = c.enter-answered.ensures.entry ∙ ap (λ l. l ++ entry ∷ []) c.prepare.ensures.entries in
+    let r = c.store_records.new.reserve in
+    let new = g.F.Flash.chip c.store_records.new.flash in
+    let is_entry : IsEntryOf past c.args.event.now c.in-Ok.plan r.store.persist entry = record {
+      is_of = refl;
+      has = c.enter-answered.ensures.answer;
+      jobs = subst (λ (p : Persist). a.jobs ≡ jobs_of built_layers past (config_in p) c.args.event.now (insight_in c.in-Ok.plan.basis) c.in-Ok.plan.answer) c.persist-p.ensures.value
+          (c.enter-answered.ensures.jobs past c.prepare.new.tables planned);
+    } in
+    let base : Stands new over (entered m r c.renew.new.tables entry) =
+    event_stands c.node_law.ensures.kept m c.args.event.now c.in-Ok.plan c.prepare.new.tables (g.F.Flash.chip c.args.flash.now) new over s c.if-self.false r c.renew.new.tables entry planned may
+    c.renew.ensures.tables is_entry refl
+    (subst (λ (l : List Entry). length l + 1 < 2 ^ 32) c.prepare.ensures.entries c.enter-answered.ensures.few)
+    (c.in-Ok-store_records.ensures.kept past.records h.store)
+    (c.in-Ok-store_records.ensures.meaning past.records h.before.standing.meaning)
+    c.store_records.ensures.published c.store_records.ensures.frame in
+    subst (λ (l : List Entry). Stands new over (record (entered m r c.renew.new.tables entry) { entries = l })) (sym items) base

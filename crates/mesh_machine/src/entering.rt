@@ -1,0 +1,128 @@
+//! What a call does apart from the flash: room for the entry and the plan before the records, and the jobs and the entry behind them.
+#![tactic(auto)]
+
+ghost use Rattle.std.specs.Prelude.{◌≡◌, ◌+◌, ◌-◌, ◌<◌, ◌^◌, List, [], ◌∷◌, ◌++◌, length, IfOk, OnOk, OnErr, vec_len, vec_capacity};
+ghost use Rattle.std.specs.List.{list_any};
+ghost use Rattle.event_plans.specs.Plans.{IsPlanned, IsSomePast, IsSomePlan, IsStanding, insight_in};
+ghost use Rattle.event_plans.specs.Sending.{IsSendable};
+ghost use Rattle.event_records.specs.Putting.{AreMoves, ArePuttable};
+ghost use Rattle.mesh_hearing.specs.Tables.{AreTablesOf, IsFit, TablesView};
+ghost use Rattle.mesh_machine.specs.Keys.{HadKeys, changes_keys as changes_keys_in};
+ghost use Rattle.mesh_reading.specs.Held.{AreHeldKeys};
+ghost use Rattle.node_layers.specs.BuiltLayers.{built_layers};
+ghost use Rattle.node_records.specs.Meaning.{IsSaid};
+ghost use Rattle.node_records.specs.Tables.{config_in};
+ghost use Rattle.run_definitions.specs.History.{Past, Told};
+ghost use Rattle.run_definitions.specs.Jobs.{jobs_of};
+
+use event_plans::{Plan, Tables, plan_event, plan_jobs};
+use machine_contract::Answered;
+use mesh_types::events::Event;
+use mesh_types::history::Entry;
+use node_records::Persist;
+use record_types::records::StoreRecord;
+use std::alloc::AllocError;
+
+/// Takes room for an entry, and then plans an event: what can fail for want of memory. After an error the tables and the entries are as they
+/// were.
+pub(crate) fn prepare(
+    history: &mut Vec<Entry>,
+    tables: &mut Tables,
+    p: &Persist,
+    event: &Event,
+) -> Result<Plan, AllocError>
+    requires standing { IsSomePast p.now tables.old }
+    requires fit { IsFit tables.old p.now }
+    requires said { IsSaid p.now }
+    ensures planned { (past : Past) → IsStanding past p.now tables.old → IfOk result (λ plan. IsPlanned past event.now plan tables.new) }
+    ensures may { IfOk result (λ plan. ArePuttable p.now plan.records) }
+    ensures moves { IfOk result (λ plan. AreMoves (config_in p.now) plan.records) }
+    ensures fit { IsFit tables.new p.now }
+    ensures room { OnOk result (vec_len history.new < vec_capacity history.new) }
+    ensures entries { history.new.items ≡ history.old.items }
+    ensures unchanged { OnErr result (tables.new ≡ tables.old) }
+{
+    history.reserve(1)?;
+    plan_event(tables, p, event)
+}
+
+/// What every entry has beside what was answered.
+#[derive(Drop)]
+pub(crate) struct Place {
+    /// The bearer.
+    pub(crate) bearer: u8,
+    /// The number among the bearer's events.
+    pub(crate) number: u32,
+    /// The refills since the entry before.
+    pub(crate) fills: u32,
+}
+
+// Whether a record changes the keys.
+fn changes_keys(item: &StoreRecord) -> bool
+    ensures { result ≡ changes_keys_in item.now }
+{
+    match item {
+        StoreRecord::Numbers { .. } => false,
+        StoreRecord::Hour { .. } => false,
+        StoreRecord::Replay { .. } => false,
+        _ => true,
+    }
+}
+
+// Whether one of these records changes the keys.
+fn change_keys(records: &[StoreRecord]) -> bool
+    ensures { result ≡ list_any changes_keys_in records.now }
+{
+    records.iter().any(|item| changes_keys(item))
+}
+
+/// Derives the keys anew where records changed them. `p` is what the records say with these ones.
+pub(crate) fn renew(tables: &mut Tables, p: &Persist, records: &[StoreRecord])
+    requires held { AreHeldKeys (config_in p.now) }
+    requires had { HadKeys tables.old p.now records.now }
+    ensures fit { IsFit tables.new p.now }
+    ensures tables { (told : List Told) → AreTablesOf tables.old told → AreTablesOf tables.new told }
+{
+    if change_keys(records) {
+        tables.renew_keys(p);
+    }
+}
+
+/// Makes the jobs of a plan, and appends its entry, for which there is room. `p` is what the records say with those of the plan.
+pub(crate) fn enter(
+    history: &mut Vec<Entry>,
+    tables: &Tables,
+    p: &Persist,
+    place: Place,
+    event: &Event,
+    plan: Plan,
+) -> Answered
+    requires room { vec_len history.old < vec_capacity history.old }
+    requires few { length history.old.items < 2 ^ 32 - 1 }
+    requires fit { IsFit tables.now p.now }
+    requires planned { IsSomePlan event.now plan }
+    requires sendable { IsSendable (config_in p.now) event.now }
+    ensures entry { history.new.items ≡ history.old.items ++ (record { bearer = place.bearer; number = place.number; event = event.now; fills = place.fills; answer = result.answer; jobs = result.jobs }) ∷ [] }
+    ensures place { result.at ≡ length history.old.items }
+    ensures few { length history.old.items + 1 < 2 ^ 32 }
+    ensures answer { result.answer ≡ plan.answer }
+    ensures jobs { (past : Past) (t : TablesView) → IsPlanned past event.now plan t
+        → result.jobs ≡ jobs_of built_layers past (config_in p.now) event.now (insight_in plan.basis) plan.answer }
+{
+    let jobs = plan_jobs(p, tables.keys(), event, &plan);
+    let at = history.len() as u32;
+    let entry = Entry {
+        bearer: place.bearer,
+        number: place.number,
+        event: event.copied(),
+        fills: place.fills,
+        answer: plan.answer.copied(),
+        jobs: jobs.copied(),
+    };
+    let _ = history.push(entry);
+    Answered {
+        at,
+        answer: plan.answer,
+        jobs,
+    }
+}

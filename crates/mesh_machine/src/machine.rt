@@ -1,0 +1,156 @@
+//! The machine.
+#![tactic(auto)]
+
+ghost use Rattle.std.specs.Prelude.{◌≡◌, ◌<◌, ◌^◌, List, All, length, true, false, Err, IfOk, OnOk, IfErr};
+ghost use Rattle.flash_model.specs.Chip.{Keeps};
+ghost use Rattle.machine_contract.specs.Ranges.{IsEvent, IsJob, IsQuiet};
+ghost use Rattle.machine_contract.specs.Refused.{IsRefused};
+ghost use Rattle.machine_contract.specs.View.{entry_for, with_entry};
+ghost use Rattle.machine_ties.specs.Ties.{Stands};
+ghost use Rattle.machine_ties.specs.Views.{shown};
+ghost use Rattle.record_types.specs.declared.records.StoreRecord.{StoreRecord};
+ghost use Rattle.run_definitions.specs.Order.{is_outside};
+ghost use Rattle.seq_word.specs.Word.{seq_of};
+
+use crate::entering::{Place, enter, prepare, renew};
+use event_plans::Tables;
+use event_storing::store_records;
+use flash_model::Flash;
+use machine_contract::{Answered, Hand, Stop};
+use mesh_reading::held_keys_law;
+use mesh_types::events::Event;
+use mesh_types::history::Entry;
+use seq_reserve::Reserve;
+use seq_word::Numbers;
+use std::marker::Model;
+use store_definitions::node::node_law;
+
+/// A history has at most so many entries.
+const MOST_ENTRIES: usize = 0xffff_ffff;
+
+/// The machine of a node. The flash stays with the caller, and is passed to each call.
+#[derive(Drop)]
+pub struct MeshMachine {
+    pub(crate) reserve: Reserve,
+    pub(crate) tables: Tables,
+    pub(crate) history: Vec<Entry>,
+    pub(crate) fills: u32,
+    pub(crate) closed: bool,
+    pub(crate) hand: Hand,
+    pub(crate) elements: u8,
+}
+
+impl Model for MeshMachine {
+    ghost use Rattle.machine_ties.specs.Ties.{IsSound};
+    ghost use Rattle.machine_ties.specs.Views.{NodeMachine};
+
+    ghost Value = { NodeMachine };
+
+    ghost view = { λ m. record { reserve = m.reserve; tables = m.tables; entries = m.history.items; fills = m.fills; closed = m.closed; hand = m.hand; elements = m.elements } };
+
+    ghost invariant = { λ m. IsSound (record { reserve = m.reserve; tables = m.tables; entries = m.history.items; fills = m.fills; closed = m.closed; hand = m.hand; elements = m.elements }) };
+}
+
+impl MeshMachine {
+    /// Handles an event of a bearer, which is the one with this number among its events, from 1 on.
+    pub(crate) fn handle_event<F: Flash>(
+        &mut self,
+        n: &Numbers,
+        flash: &mut F,
+        bearer: u8,
+        number: u32,
+        event: &Event,
+    ) -> Result<Answered, Stop>
+        requires made { (shown self.old).which ≡ n.now.which }
+        requires event { IsEvent (shown self.old).elements event.now }
+
+        ensures ok { IfOk result (λ r. shown self.new ≡ with_entry (shown self.old) (entry_for (shown self.old) bearer number event.now r.answer r.jobs) (shown self.new).mark) }
+        ensures place { IfOk result (λ r. r.at ≡ length (shown self.old).entries) }
+        ensures usable { OnOk result ((shown self.old).closed ≡ false) }
+        ensures jobs { IfOk result (λ r. All (IsJob event.now) r.jobs) }
+        ensures quiet { is_outside event.now ≡ false → IfOk result (λ r. All IsQuiet r.jobs) }
+        ensures refused { IfErr result (IsRefused F.chip (Hand.OfEvent event.now) (shown self.old) (shown self.new) flash.old flash.new) }
+        ensures closed { (shown self.old).closed ≡ true → result ≡ Err Stop.Closed }
+        ensures kept { (over : List StoreRecord) → Stands (F.chip flash.old) over self.old → Stands (F.chip flash.new) over self.new }
+        ensures frame { Keeps (F.chip flash.old) (F.chip flash.new) }
+    {
+        if self.closed {
+            return Err(Stop::Closed);
+        }
+        if self.history.len() >= MOST_ENTRIES {
+            return Err(Stop::Memory);
+        }
+        // They do nothing when they run: the proof uses what they say.
+        node_law();
+        held_keys_law();
+        let plan = match prepare(
+            &mut self.history,
+            &mut self.tables,
+            self.reserve.store.persist(),
+            event,
+        ) {
+            Ok(plan) => plan,
+            Err(_) => return Err(Stop::Memory),
+        };
+        match store_records(&mut self.reserve, n, flash, &plan.records) {
+            Ok(()) => {}
+            Err(_) => {
+                self.closed = true;
+                self.hand = Hand::OfEvent(event.copied());
+                return Err(Stop::Flash);
+            }
+        }
+        let p = self.reserve.store.persist();
+        renew(&mut self.tables, p, plan.records.as_slice());
+        let place = Place {
+            bearer,
+            number,
+            fills: self.fills,
+        };
+        let answered = enter(&mut self.history, &self.tables, p, place, event, plan);
+        self.fills = 0;
+        Ok(answered)
+    }
+
+    /// Stores a refill, and publishes its mark, where `seen` is the mark published last; else nothing changes. Returns the mark that is
+    /// published then.
+    pub(crate) fn refill_numbers<F: Flash>(
+        &mut self,
+        n: &Numbers,
+        flash: &mut F,
+        seen: u64,
+    ) -> Result<u64, Stop>
+        requires made { (shown self.old).which ≡ n.now.which }
+        requires seq { seq_of seen < 2 ^ 24 }
+
+        ensures ok { OnOk result (shown self.new ≡ record (shown self.old) { fills = (shown self.new).fills; mark = (shown self.new).mark }) }
+        ensures value { IfOk result (λ mark. mark ≡ (shown self.new).mark) }
+        ensures refused { IfErr result (IsRefused F.chip Hand.OfRefill (shown self.old) (shown self.new) flash.old flash.new) }
+        ensures kept { (over : List StoreRecord) → Stands (F.chip flash.old) over self.old → Stands (F.chip flash.new) over self.new }
+        ensures frame { Keeps (F.chip flash.old) (F.chip flash.new) }
+    {
+        if self.closed {
+            return Err(Stop::Closed);
+        }
+        let mark = self.reserve.store.persist().mark;
+        if seen != mark {
+            return Ok(mark);
+        }
+        if self.fills == u32::MAX {
+            return Err(Stop::Memory);
+        }
+        // It does nothing when it runs: the proof uses what it says.
+        node_law();
+        match self.reserve.refill(n, flash, seen) {
+            Ok(mark) => {
+                self.fills += 1;
+                Ok(mark)
+            }
+            Err(_) => {
+                self.closed = true;
+                self.hand = Hand::OfRefill;
+                Err(Stop::Flash)
+            }
+        }
+    }
+}

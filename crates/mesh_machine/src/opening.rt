@@ -1,0 +1,142 @@
+//! A life is opened, and the machine as the layers above see it.
+#![tactic(auto)]
+
+ghost use Rattle.std.specs.Prelude.{◌≡◌, false, List, [], IfOk};
+ghost use Rattle.machine_ties.specs.Opening.{start_fault_of};
+ghost use Rattle.machine_ties.specs.Ties.{IsNodeStore, Stands, opened};
+ghost use Rattle.machine_ties.specs.Views.{shown};
+ghost use Rattle.mesh_hearing.specs.Tables.{AreTablesOf};
+ghost use Rattle.node_layers.specs.BuiltLayers.{built_layers};
+ghost use Rattle.node_store.specs.Tie.{IsNode};
+ghost use Rattle.record_types.specs.declared.records.StoreRecord.{StoreRecord};
+ghost use Rattle.seq_reserve.specs.Reserving.{IsPublished};
+ghost use Rattle.seq_word.specs.Seen.{fresh};
+
+use crate::machine::MeshMachine;
+use flash_model::Flash;
+use machine_contract::{Answered, Hand, History, Machine, StartFault, Started, Stop};
+use mesh_hearing::Tables;
+use mesh_reading::held_keys_law;
+use mesh_types::events::Event;
+use node_store::laws::what_is_read_is_mounted;
+use node_store::{Store, StoreFault};
+use seq_reserve::Reserve;
+use seq_word::{Keeper, Numbers};
+use std::alloc::{AllocError, Global};
+
+// Why no machine is started, where its store isn't mounted.
+fn start_fault(fault: StoreFault) -> StartFault
+    ensures { result ≡ start_fault_of fault }
+{
+    match fault {
+        StoreFault::Flash => StartFault::Flash,
+        _ => StartFault::WasReset,
+    }
+}
+
+// Opens a life over a store that was mounted.
+fn open(alloc: Global, store: Store) -> Result<Started<MeshMachine>, AllocError>
+    requires usable { store.journal.closed ≡ false }
+    requires node { (over : List StoreRecord) × IsNodeStore over store.persist }
+    ensures machine { IfOk result (λ s. s.machine ≡ opened s.machine.reserve s.machine.tables store.persist.elements) }
+    ensures store { IfOk result (λ s. s.machine.reserve.store ≡ store) }
+    ensures published { IfOk result (λ s. IsPublished s.machine.reserve.store s.machine.reserve.keeper) }
+    ensures tables { IfOk result (λ s. AreTablesOf s.machine.tables []) }
+    ensures which { IfOk result (λ s. s.machine.reserve.keeper.which ≡ s.numbers.which) }
+    ensures opened { IfOk result (λ s. s.numbers.opened ≡ store.persist.mark) }
+    ensures drawer { IfOk result (λ s. s.drawer ≡ fresh s.numbers.which [] 1024) }
+    ensures state { IfOk result (λ s. s.state ≡ store.persist.iv) }
+    ensures mark { IfOk result (λ s. s.mark ≡ store.persist.mark) }
+{
+    // It does nothing when it runs: the proof uses what it says.
+    held_keys_law();
+    let tables = Tables::new(alloc, store.persist())?;
+    let (reserve, numbers, drawer) = Reserve::start(alloc, store)?;
+    let p = reserve.store.persist();
+    let state = p.iv;
+    let mark = p.mark;
+    let elements = p.elements;
+    let machine = MeshMachine {
+        reserve,
+        tables,
+        history: Vec::new(alloc),
+        fills: 0,
+        closed: false,
+        hand: Hand::Nothing,
+        elements,
+    };
+    Ok(Started {
+        machine,
+        numbers,
+        drawer,
+        state,
+        mark,
+    })
+}
+
+impl Machine for MeshMachine {
+    ghost layers = { built_layers };
+
+    ghost image = { IsNode };
+
+    ghost view = { shown };
+
+    ghost stands = { Stands };
+
+    fn start<F: Flash>(alloc: Global, flash: &mut F) -> Result<Started<Self>, StartFault> {
+        // It does nothing when it runs: the proof uses what it says.
+        what_is_read_is_mounted();
+        let store = match Store::mount(flash) {
+            Ok(store) => store,
+            Err(fault) => return Err(start_fault(fault)),
+        };
+        match open(alloc, store) {
+            Ok(started) => Ok(started),
+            Err(_) => Err(StartFault::Memory),
+        }
+    }
+
+    fn handle<F: Flash>(
+        &mut self,
+        n: &Numbers,
+        flash: &mut F,
+        bearer: u8,
+        number: u32,
+        event: &Event,
+    ) -> Result<Answered, Stop> {
+        self.handle_event(n, flash, bearer, number, event)
+    }
+
+    fn refill<F: Flash>(&mut self, n: &Numbers, flash: &mut F, seen: u64) -> Result<u64, Stop> {
+        self.refill_numbers(n, flash, seen)
+    }
+
+    fn is_closed(&self) -> bool {
+        self.closed
+    }
+
+    fn count(&self) -> u64 {
+        self.history.len() as u64
+    }
+
+    fn finish(self) -> (History, Keeper) {
+        let MeshMachine {
+            reserve,
+            history,
+            fills,
+            ..
+        } = self;
+        let Reserve { store: _, keeper } = reserve;
+        (
+            History {
+                entries: history,
+                refills: fills,
+            },
+            keeper,
+        )
+    }
+
+    fn tells<F: Flash>() {}
+
+    fn stays<F: Flash>() {}
+}
