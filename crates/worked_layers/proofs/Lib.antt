@@ -2,4 +2,5 @@ pub mod Segments
 pub mod Friendship
 pub mod Models
 pub mod Sending
+pub mod IvIndex
 pub mod Published

@@ -23,5 +23,6 @@ unfolding node_layers answer_of jobs_of stores changed seq_auth lower_text confi
 segments_timed net_key dev_key a b piece_a piece_b = record { acknowledges = refl; delivers = refl; forgets = refl; waits = refl }
 
 pub segments_unopened : SegmentsUnopened
-unfolding node_layers answer_of jobs_of stores changed seq_auth lower_text octets_of
-segments_unopened net_key dev_key a b piece_a piece_b = record { no_key = refl; begins_anew = refl }
+unfolding node_layers answer_of jobs_of stores changed seq_auth lower_text config_answer first_answers middle_answers last_answers octets_of
+segments_unopened net_key dev_key a b piece_a piece_b =
+    record { no_key = refl; begins_anew = refl; waits_anew = refl; delivers_anew = refl; stores_anew = refl }

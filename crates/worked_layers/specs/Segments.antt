@@ -24,17 +24,20 @@ add = 0x00 ∷ 0x56 ∷ 0x34 ∷ 0x12 ∷ app_key
 
 -- Over any keys, and any octets of the two pieces and of the two PDUs, which are read as what follows.
 module _ (net_key dev_key a b piece_a piece_b : List ℕ) where
-  -- SeqZero of 3129ab is 09ab
-  abbrev part : ℕ → List ℕ → Lower
-  part seg_o piece = AccessPart false 0 false 0x9ab seg_o 1 piece
+  abbrev part : ℕ → ℕ → List ℕ → Lower
+  part seq_zero seg_o piece = AccessPart false 0 false seq_zero seg_o 1 piece
 
   abbrev pdu : ℕ → NetFields
   pdu seq = record { iv = iv; ctl = false; ttl = 4; seq = seq; src = address 3; dst = address 0x1201; tpdu = [] }
 
+  abbrev insight_of : ℕ → ℕ → ℕ → List ℕ → Option (List ℕ) → Insight
+  insight_of seq_zero seq seg_o piece None = OfPdu (Some (heard 0x456 net_key (pdu seq))) (Some (part seq_zero seg_o piece)) None
+  insight_of seq_zero seq seg_o piece (Some payload) =
+      OfPdu (Some (heard 0x456 net_key (pdu seq))) (Some (part seq_zero seg_o piece)) (Some (record { key = U.Device dev_key; label = None; payload = payload }))
+
+  -- SeqZero of 3129ab is 09ab
   abbrev insight : ℕ → ℕ → List ℕ → Option (List ℕ) → Insight
-  insight seq seg_o piece None = OfPdu (Some (heard 0x456 net_key (pdu seq))) (Some (part seg_o piece)) None
-  insight seq seg_o piece (Some payload) =
-      OfPdu (Some (heard 0x456 net_key (pdu seq))) (Some (part seg_o piece)) (Some (record { key = U.Device dev_key; label = None; payload = payload }))
+  insight = insight_of 0x9ab
 
   abbrev first : Past
   first = start 0x456 net_key dev_key
@@ -48,14 +51,18 @@ module _ (net_key dev_key a b piece_a piece_b : List ℕ) where
   abbrev acknowledged : List ℕ → Job
   acknowledged tpdu = J.Control (master_material net_key) 7 (address 0x1201) (address 3) tpdu None
 
-  abbrev delivered : Handled
-  delivered = record {
-    answer = A.Delivered (name 3 0x3129ab) (address 0x1201) N.Dev add;
+  -- delivered under the name of this SEQ, with this acknowledgment, and answered by a Status
+  abbrev delivered_as : ℕ → List ℕ → Handled
+  delivered_as seq tpdu = record {
+    answer = A.Delivered (name 3 seq) (address 0x1201) N.Dev add;
     jobs =
-        acknowledged (0x00 ∷ 0x26 ∷ 0xac ∷ 0x00 ∷ 0x00 ∷ 0x00 ∷ 0x03 ∷ [])
+        acknowledged tpdu
         ∷ J.Message 0x456 (master_material net_key) (U.Device dev_key) 7 (address 0x1201) (address 3) (0x80 ∷ 0x03 ∷ 0x00 ∷ 0x56 ∷ 0x34 ∷ 0x12 ∷ []) None
         ∷ [];
   }
+
+  abbrev delivered : Handled
+  delivered = delivered_as 0x3129ab (0x00 ∷ 0x26 ∷ 0xac ∷ 0x00 ∷ 0x00 ∷ 0x00 ∷ 0x03 ∷ [])
 
   -- what is stored: the name that was accepted, and the application key
   abbrev kept : List StoreRecord
@@ -70,12 +77,26 @@ module _ (net_key dev_key a b piece_a piece_b : List ℕ) where
     pub waits_too : handled first (E.Net b) (insight 0x3129ac 1 piece_b None) ≡ record { answer = A.Waiting 1; jobs = [] }
     pub delivers_too : handled after_b (E.Net a) (insight 0x3129ab 0 piece_a (Some add)) ≡ delivered
 
+  abbrev after_no_key : Past
+  after_no_key = then_at after_a (E.Net b) (insight 0x3129ac 1 piece_b None) A.NoKey []
+
+  -- the message under the next name: SeqZero of 3129ad is 09ad
+  abbrev anew : ℕ → ℕ → List ℕ → Option (List ℕ) → Insight
+  anew = insight_of 0x9ad
+
+  abbrev after_next : Past
+  after_next = then_at after_no_key (E.Net a) (anew 0x3129ad 0 piece_a None) (A.Waiting 1) []
+
   -- piece 1, by which no key opens the message: acknowledged all the same, and the message is done
   pub record IsUnopened : Type 0 where
     pub no_key : handled after_a (E.Net b) (insight 0x3129ac 1 piece_b None)
         ≡ record { answer = A.NoKey; jobs = acknowledged (0x00 ∷ 0x26 ∷ 0xac ∷ 0x00 ∷ 0x00 ∷ 0x00 ∷ 0x03 ∷ []) ∷ [] }
-    pub begins_anew : handled (then_at after_a (E.Net b) (insight 0x3129ac 1 piece_b None) A.NoKey []) (E.Net a) (insight 0x3129ad 0 piece_a None)
-        ≡ record { answer = A.Waiting 1; jobs = [] }
+    pub begins_anew : handled after_no_key (E.Net a) (insight 0x3129ad 0 piece_a None) ≡ record { answer = A.Waiting 1; jobs = [] }
+    -- the two pieces under the next name, by which it opens: delivered, acknowledged by its own SeqZero, stored
+    pub waits_anew : handled after_no_key (E.Net a) (anew 0x3129ad 0 piece_a None) ≡ record { answer = A.Waiting 1; jobs = [] }
+    pub delivers_anew : handled after_next (E.Net b) (anew 0x3129ae 1 piece_b (Some add))
+        ≡ delivered_as 0x3129ad (0x00 ∷ 0x26 ∷ 0xb4 ∷ 0x00 ∷ 0x00 ∷ 0x00 ∷ 0x03 ∷ [])
+    pub stores_anew : stored after_next (E.Net b) (anew 0x3129ae 1 piece_b (Some add)) ≡ R.Replay (name 3 0x3129ad) None ∷ R.AppKey 1 0x456 0x123 app_key ∷ []
 
   abbrev after_both : Past
   after_both = then_at after_a (E.Net b) (insight 0x3129ac 1 piece_b (Some add)) delivered.answer kept

@@ -2,13 +2,15 @@
 #![tactic(auto)]
 
 ghost use Rattle.worked_layers.specs.Friendship.{FriendshipStands, MessagesAreStored};
+ghost use Rattle.worked_layers.specs.IvIndex.{PdusAreReadUnder, UpdateEnds};
 ghost use Rattle.worked_layers.specs.Models.{HeartBeats, LevelMoves, OnOffSwitches};
 ghost use Rattle.worked_layers.specs.Published.{LabelsAreHeard, StatusIsPublished};
 ghost use Rattle.worked_layers.specs.Segments.{SegmentsHeard, SegmentsRepeated, SegmentsTimed, SegmentsUnopened};
 ghost use Rattle.worked_layers.specs.Sending.{EightAreHeld, PdusGoOn, SegmentsAreSent, UpdateWaits};
 
 /// An AppKey Add in two pieces, in either order: the second is delivered, acknowledged with both bits, stored and answered; a piece once more is
-/// in the message cache, or acknowledged again; after 10 seconds the first piece is forgotten; and a message that no key opens is done.
+/// in the message cache, or acknowledged again; after 10 seconds the first piece is forgotten; and a message that no key opens is done, and is
+/// delivered under its next name.
 pub fn segment_rows()
     ensures heard { SegmentsHeard }
     ensures repeated { SegmentsRepeated }
@@ -40,6 +42,14 @@ pub fn sending_rows()
     ensures room { EightAreHeld }
     ensures begin { SegmentsAreSent }
     ensures update { UpdateWaits }
+{}
+
+/// Under the known IV Index 5 a PDU is heard under 5 or 4, as its lowest bit says, and under none below: neither is the node's own, and what
+/// doesn't read is unread. And an IV Update from 5 to 6 that is in progress ends by a beacon of IV Index 6 with flags 00 once 96 hours have
+/// passed, not a tick before; what is stored starts SEQ at 0 under 6.
+pub fn iv_index_rows()
+    ensures read { PdusAreReadUnder }
+    ensures ended { UpdateEnds }
 {}
 
 /// A model subscribes to a label, whose virtual address is put in, and takes a message that opened by it; and a model publishes its Status once

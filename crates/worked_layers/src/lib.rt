@@ -6,6 +6,7 @@
 //! - `Friendship`: a friendship, and what is stored for it
 //! - `Models`: the configuration, the models and the heartbeat
 //! - `Sending`: own segmented messages, and PDUs that go on
+//! - `IvIndex`: the IV Index that a PDU is read under, and an IV Update that a beacon ends
 //! - `Published`: labels, and what models publish
 //! - `laws`: the laws
 #![tactic(auto)]
