@@ -9,6 +9,8 @@
 pub mod events;
 pub mod outside;
 pub mod talking;
+#[cfg(test)]
+mod tests;
 
 pub use crate::events::{Happening, happening_of};
 pub use crate::outside::{beacon_octets, peer_octets};
