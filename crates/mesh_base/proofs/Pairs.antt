@@ -2,7 +2,7 @@
 use Rattle.std.proofs.Common.{◌≡◌, ℕ, ◌<◌, ◌≤◌, ◌⊎◌, true, false, ap₂, arith}
 use Rattle.std.proofs.lemmas.Bool.Decides.{nat_tests}
 use Rattle.mesh_base.specs.declared.pair.Pair.{Pair}
-use Rattle.mesh_base.specs.Pairs.{word, pair_of, IsPair, is_newer, newer_of, is_expired}
+use Rattle.mesh_base.specs.Pairs.{word_of, pair_of, IsPair, is_newer, newer_of, is_expired}
 
 -- pairs with equal fields are equal
 pub pairs_equal : (p q : Pair) → p.iv ≡ q.iv → p.seq ≡ q.seq → p ≡ q
@@ -11,21 +11,21 @@ pairs_equal p q e f = ap₂ (λ (i s : ℕ). let r : Pair = record { iv = i; seq
 -- Words.
 
 -- each number is the word of its pair
-pub word-pair_of : (w : ℕ) → word (pair_of w) ≡ w
+pub word-pair_of : (w : ℕ) → word_of (pair_of w) ≡ w
 word-pair_of w = omega arith
 
 -- within widths no two pairs have one word
-pub words_differ : (p q : Pair) → IsPair p → IsPair q → word p ≡ word q → p ≡ q
+pub words_differ : (p q : Pair) → IsPair p → IsPair q → word_of p ≡ word_of q → p ≡ q
 words_differ p q (_, hp) (_, hq) e = pairs_equal p q (omega (arith, hp, hq, e)) (omega (arith, hp, hq, e))
 
 -- within widths a pair is newer exactly where its word is above
-pub word_above : (p q : Pair) → IsPair p → IsPair q → is_newer p q ≡ true → word q < word p
+pub word_above : (p q : Pair) → IsPair p → IsPair q → is_newer p q ≡ true → word_of q < word_of p
 word_above p q (_, hp) (_, hq) h = grind (arith, nat_tests)
 
-pub above_word : (p q : Pair) → IsPair p → IsPair q → word q < word p → is_newer p q ≡ true
+pub above_word : (p q : Pair) → IsPair p → IsPair q → word_of q < word_of p → is_newer p q ≡ true
 above_word p q (_, hp) (_, hq) h = grind (arith, nat_tests)
 
-pub word_up_to : (p q : Pair) → IsPair p → IsPair q → is_newer p q ≡ false → word p ≤ word q
+pub word_up_to : (p q : Pair) → IsPair p → IsPair q → is_newer p q ≡ false → word_of p ≤ word_of q
 word_up_to p q (_, hp) (_, hq) h = grind (arith, nat_tests)
 
 -- Order.

@@ -4,8 +4,8 @@ use Rattle.mesh_base.specs.declared.pair.Pair.{Pair}
 
 -- A word stands for a pair: its IV Index, then 25 bits for SEQ. SEQ has 24 bits; the word behind the last SEQ of an IV Index says that
 -- none is left under it.
-abbrev pub word : Pair → ℕ
-word p = p.iv * 2 ^ 25 + p.seq
+abbrev pub word_of : Pair → ℕ
+word_of p = p.iv * 2 ^ 25 + p.seq
 
 -- the pair that a word stands for
 abbrev pub pair_of : ℕ → Pair

@@ -57,7 +57,7 @@ impl Source for MemSource<'_> {
         ensures end { IfOk result (λ n. IfSome (Some self.old.octets) (λ xs. (n ≡ 0) ↔ (xs ≡ []))) }
         ensures at_end { IfOk result (λ n. n ≡ 0 → IsAtEnd (Some self.new.octets)) }
         ensures unchanged { OnErr result (Some self.new.octets ≡ Some self.old.octets) }
-        ensures faultless { OnOk result (self.new.faults ≡ self.old.faults) }
+        ensures no_fault { OnOk result (self.new.faults ≡ self.old.faults) }
         ensures cause { OnErr result (Rose self.old.faults self.new.faults) }
         ensures later { self.old.faults ≤ self.new.faults }
 
@@ -149,7 +149,7 @@ impl Sink for MemSink {
         ensures octets { IfOk result (λ n. Grows (Some self.old.octets) (Some self.new.octets) (take n bytes.now)) }
         ensures unchanged { OnErr result ((Some self.new.octets) ≡ (Some self.old.octets)) }
         ensures offered { Grows (Some self.old.pieces) (Some self.new.pieces) (bytes.now ∷ []) }
-        ensures faultless { OnOk result (self.new.faults ≡ self.old.faults) }
+        ensures no_fault { OnOk result (self.new.faults ≡ self.old.faults) }
         ensures cause { OnErr result (Rose self.old.faults self.new.faults) }
         ensures later { self.old.faults ≤ self.new.faults }
 
@@ -211,7 +211,7 @@ impl Source for SureSource<'_> {
         ensures end { IfOk result (λ n. IfSome (Some self.old) (λ xs. (n ≡ 0) ↔ (xs ≡ []))) }
         ensures at_end { IfOk result (λ n. n ≡ 0 → IsAtEnd (Some self.new)) }
         ensures unchanged { OnErr result (Some self.new ≡ Some self.old) }
-        ensures faultless { OnOk result (◌≡◌ {A = ℕ} 0 0) }
+        ensures no_fault { OnOk result (◌≡◌ {A = ℕ} 0 0) }
         ensures cause { OnErr result (Rose 0 0) }
         ensures later { 0 ≤ 0 }
 
@@ -289,7 +289,7 @@ impl Sink for SureSink {
         ensures octets { IfOk result (λ n. Grows self.old.held self.new.held (take n bytes.now)) }
         ensures unchanged { OnErr result (self.new.held ≡ self.old.held) }
         ensures offered { Grows (Some self.old.pieces) (Some self.new.pieces) (bytes.now ∷ []) }
-        ensures faultless { OnOk result (◌≡◌ {A = ℕ} 0 0) }
+        ensures no_fault { OnOk result (◌≡◌ {A = ℕ} 0 0) }
         ensures cause { OnErr result (Rose 0 0) }
         ensures later { 0 ≤ 0 }
 

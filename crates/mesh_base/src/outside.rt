@@ -32,7 +32,7 @@ pub trait Source {
         ensures unchanged { OnErr result (left self.new ≡ left self.old) }
 
         // A fault raises the count, and so isn't swallowed: Ok leaves it.
-        ensures faultless { OnOk result (faults self.new ≡ faults self.old) }
+        ensures no_fault { OnOk result (faults self.new ≡ faults self.old) }
         ensures cause { OnErr result (Rose (faults self.old) (faults self.new)) }
         ensures later { faults self.old ≤ faults self.new };
 }
@@ -59,7 +59,7 @@ pub trait Sink {
         ensures offered { Grows (pieces self.old) (pieces self.new) (bytes.now ∷ []) }
 
         // A fault raises the count, and so isn't swallowed: Ok leaves it.
-        ensures faultless { OnOk result (faults self.new ≡ faults self.old) }
+        ensures no_fault { OnOk result (faults self.new ≡ faults self.old) }
         ensures cause { OnErr result (Rose (faults self.old) (faults self.new)) }
         ensures later { faults self.old ≤ faults self.new };
 }

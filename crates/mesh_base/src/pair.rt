@@ -3,7 +3,7 @@
 
 ghost use Rattle.std.specs.Prelude.{◌≡◌, ◌<◌, ◌≤◌, ◌↔◌, ◌⊎◌, true, false};
 ghost use Rattle.mesh_base.specs.declared.pair.Pair.{Pair};
-ghost use Rattle.mesh_base.specs.Pairs.{is_newer, word, IsPair};
+ghost use Rattle.mesh_base.specs.Pairs.{is_newer, word_of, IsPair};
 
 use crate::address::Address;
 
@@ -29,8 +29,8 @@ pub struct Name {
 /// The order of pairs is that of their words, as long as both are within their widths; what isn't newer is that pair or below it; and
 /// order passes on from pair to pair.
 pub fn order_law()
-    ensures words { (p q : Pair) → IsPair p → IsPair q → (is_newer p q ≡ true) ↔ (word q < word p) }
-    ensures one_word { (p q : Pair) → IsPair p → IsPair q → word p ≡ word q → p ≡ q }
+    ensures words { (p q : Pair) → IsPair p → IsPair q → (is_newer p q ≡ true) ↔ (word_of q < word_of p) }
+    ensures one_word { (p q : Pair) → IsPair p → IsPair q → word_of p ≡ word_of q → p ≡ q }
     ensures up_to { (p q : Pair) → (is_newer p q ≡ false) ↔ ((p.iv < q.iv) ⊎ ((p.iv ≡ q.iv) × (p.seq ≤ q.seq))) }
     ensures newer { (p q r : Pair) → is_newer p q ≡ true → is_newer q r ≡ true → is_newer p r ≡ true }
     ensures not_newer { (p q r : Pair) → is_newer p q ≡ false → is_newer q r ≡ false → is_newer p r ≡ false }

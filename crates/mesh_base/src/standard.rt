@@ -37,7 +37,7 @@ impl<R: Read> Source for StdSource<R> {
         requires { 0 < length buf.old }
 
         ensures bound { IfOk result (λ n. n ≤ length buf.new) }
-        ensures faultless { OnOk result (self.new.faults ≡ self.old.faults) }
+        ensures no_fault { OnOk result (self.new.faults ≡ self.old.faults) }
         ensures cause { OnErr result (Rose self.old.faults self.new.faults) }
         ensures later { self.old.faults ≤ self.new.faults }
 
@@ -85,7 +85,7 @@ impl<W: Write> Sink for StdSink<W> {
     fn write(&mut self, bytes: &[u8]) -> Result<usize, Failed>
         ensures bound { IfOk result (λ n. n ≤ length bytes.now) }
         ensures some { IfOk result (λ n. 0 < length bytes.now → 0 < n) }
-        ensures faultless { OnOk result (self.new.faults ≡ self.old.faults) }
+        ensures no_fault { OnOk result (self.new.faults ≡ self.old.faults) }
         ensures cause { OnErr result (Rose self.old.faults self.new.faults) }
         ensures later { self.old.faults ≤ self.new.faults }
 

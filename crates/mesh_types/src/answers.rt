@@ -55,8 +55,6 @@ pub enum Answer {
     Cached,
     /// DST isn't one of the node's addresses or groups.
     NotMine,
-    /// A segment of a message: the first bit of the transport PDU is 1. Segments are not read yet.
-    Unbuilt,
     /// No lower transport PDU has this text.
     Malformed,
     /// A segment of a message that was accepted in this life.

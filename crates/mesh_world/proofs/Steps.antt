@@ -6,7 +6,7 @@ use Rattle.std.proofs.lemmas.List.Quantifiers.{all_pairs_push}
 use Rattle.mesh_base.specs.declared.address.Address.{Address}
 use Rattle.mesh_base.specs.declared.pair.Pair.{Pair}
 use Rattle.mesh_base.specs.declared.pair.Name.{Name}
-use Rattle.mesh_base.specs.Pairs.{word, pair_of, IsPair}
+use Rattle.mesh_base.specs.Pairs.{word_of, pair_of, IsPair}
 use Rattle.mesh_world.specs.World.{World, Sealing, HasNonce, IsOf, IsAllowed, AreAllowed, after, after_all, WorldStep}
 use Rattle.mesh_world.specs.World.WorldStep.{Draw, Seal, Reserve, Publish, Advance, Accept, Expire, Deliver, Cut}
 use Rattle.mesh_world.specs.Good.{IsGood, IsSpent}
@@ -21,10 +21,10 @@ module _ (w : World) (g : IsGood w) where
         next_marked = omega arith;
         mark_kept = g.mark_kept;
         drawn_once = all_pairs_push (λ p q. p ≢ q) w.drawn next g.drawn_once
-            (λ k d l e. omega (arith, g.drawn_below k d l, ap word e, word-pair_of w.next));
+            (λ k d l e. omega (arith, g.drawn_below k d l, ap word_of e, word-pair_of w.next));
         drawn_pairs = All-push IsPair w.drawn next g.drawn_pairs h.1;
-        drawn_below = All-push (λ p. word p < w.next + 1) w.drawn next
-            (All-weaker (λ p. word p < w.next) (λ p. word p < w.next + 1) (λ p l. omega arith) w.drawn g.drawn_below) (omega (arith, word-pair_of w.next));
+        drawn_below = All-push (λ p. word_of p < w.next + 1) w.drawn next
+            (All-weaker (λ p. word_of p < w.next) (λ p. word_of p < w.next + 1) (λ p l. omega arith) w.drawn g.drawn_below) (omega (arith, word-pair_of w.next));
         held_drawn = All-push (λ p. Contains (w.drawn ++ next ∷ []) p) w.held next
             (All-weaker (Contains w.drawn) (Contains (w.drawn ++ next ∷ [])) (Contains-append_left w.drawn (next ∷ [])) w.held g.held_drawn) (Contains-push w.drawn next);
         seals_drawn = All-weaker (λ s. Contains w.drawn s.pair) (λ s. Contains (w.drawn ++ next ∷ []) s.pair)
@@ -99,7 +99,7 @@ module _ (w : World) (g : IsGood w) where
         mark_kept = g.mark_kept;
         drawn_once = g.drawn_once;
         drawn_pairs = g.drawn_pairs;
-        drawn_below = All-weaker (λ p. word p < w.next) (λ p. word p < max w.next (iv * 2 ^ 25)) (λ p l. omega arith) w.drawn g.drawn_below;
+        drawn_below = All-weaker (λ p. word_of p < w.next) (λ p. word_of p < max w.next (iv * 2 ^ 25)) (λ p l. omega arith) w.drawn g.drawn_below;
         held_drawn = g.held_drawn;
         seals_drawn = g.seals_drawn;
         seals_nonce = g.seals_nonce;
@@ -175,7 +175,7 @@ module _ (w : World) (g : IsGood w) where
         mark_kept = omega arith;
         drawn_once = g.drawn_once;
         drawn_pairs = g.drawn_pairs;
-        drawn_below = All-weaker (λ p. word p < w.next) (λ p. word p < mark) (λ p l. omega arith) w.drawn g.drawn_below;
+        drawn_below = All-weaker (λ p. word_of p < w.next) (λ p. word_of p < mark) (λ p l. omega arith) w.drawn g.drawn_below;
         held_drawn = All-nil (Contains w.drawn);
         seals_drawn = g.seals_drawn;
         seals_nonce = g.seals_nonce;

@@ -2,7 +2,7 @@
 use Rattle.std.specs.Prelude.{◌≢◌, ◌<◌, ◌≤◌, ◌⊎◌, All, AllPairs, Contains, IfSome, IsSomeAnd, IsFalse}
 use Rattle.mesh_base.specs.declared.pair.Name.{Name}
 use Rattle.mesh_base.specs.declared.pair.Pair.{Pair}
-use Rattle.mesh_base.specs.Pairs.{word, IsPair, is_newer}
+use Rattle.mesh_base.specs.Pairs.{word_of, IsPair, is_newer}
 use Rattle.mesh_base.specs.Safety.{AtMostOnce}
 use Rattle.mesh_world.specs.World.{World, HasNonce, IsExpired, IsOf}
 
@@ -21,7 +21,7 @@ pub record IsGood (w : World) : Type 0 where
   -- no pair is drawn twice; each is in its widths and below the next one; each held pair was drawn
   pub drawn_once : AllPairs (λ p q. p ≢ q) w.drawn
   pub drawn_pairs : All IsPair w.drawn
-  pub drawn_below : All (λ p. word p < w.next) w.drawn
+  pub drawn_below : All (λ p. word_of p < w.next) w.drawn
   pub held_drawn : All (Contains w.drawn) w.held
   -- each seal has a drawn pair and a nonce of its layer with that pair, and no two seals of one layer have one pair
   pub seals_drawn : All (λ s. Contains w.drawn s.pair) w.seals

@@ -18,7 +18,7 @@
 
 ghost use Rattle.std.specs.Prelude.{◌≡◌, ℕ, ◌*◌, ◌+◌, ◌^◌, ◌<◌, ◌≤◌, ◌≢◌, [], All, Contains, List, None};
 ghost use Rattle.mesh_base.specs.declared.pair.Name.{Name};
-ghost use Rattle.mesh_base.specs.Pairs.{word};
+ghost use Rattle.mesh_base.specs.Pairs.{word_of};
 ghost use Rattle.mesh_base.specs.Safety.{AtMostOnce, NoReuse};
 ghost use Rattle.mesh_world.specs.Examples.{all_kinds, Breaks, draw_one, forget_one, hear_one, message, new_node, source};
 ghost use Rattle.mesh_world.specs.Good.{IsGood};
@@ -67,7 +67,7 @@ pub fn conditions_law()
     ensures advance { (w : World) (iv : ℕ) → IsGood (after w (Advance iv)) → IsAllowed w (Advance iv) }
     // what was delivered isn't accepted again, and what was drawn stays below the next pair
     ensures accept { (w : World) (name : Name) → IsGood (after w (Accept name)) → All (λ n. n ≢ name) w.delivered }
-    ensures cut { (w : World) (mark : ℕ) → IsGood (after w (Cut mark)) → All (λ p. word p < mark) w.drawn }
+    ensures cut { (w : World) (mark : ℕ) → IsGood (after w (Cut mark)) → All (λ p. word_of p < mark) w.drawn }
     // a message whose pair is the entry of its source, and not above it
     ensures accept_above { Breaks hear_one (Accept message) }
     // a message two IV Indexes below the known one, whose source has no entry any more

@@ -26,8 +26,8 @@ pub struct PublishRow {
 }
 
 /// One record of the store. A key that an op doesn't need is zeros; an address that an op doesn't need is written as zeros and read as
-/// anything.
-#[derive(Clone, Copy, Debug, PartialEq, Eq)]
+/// anything. There is no `Debug` of it, since it may hold a key.
+#[derive(Clone, Copy, PartialEq, Eq)]
 pub enum StoreRecord {
     /// What the node is.
     Identity {

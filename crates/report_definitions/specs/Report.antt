@@ -105,7 +105,6 @@ answer_text A.BadAddress = codes " badaddress"
 answer_text A.Own = codes " own"
 answer_text A.Cached = codes " cached"
 answer_text A.NotMine = codes " notmine"
-answer_text A.Unbuilt = codes " unbuilt"
 answer_text A.Malformed = codes " malformed"
 answer_text A.Again = codes " again"
 answer_text (A.Replay kept) = codes " replay" ++ pair_text kept

@@ -21,7 +21,7 @@ use Rattle.run_definitions.specs.History.{Insight, Past, Told}
 use Rattle.run_definitions.specs.Layers.{Layers}
 use Rattle.run_definitions.specs.Lines.{drawn_of}
 use Rattle.run_definitions.specs.Order.{Step, IsOrdered, is_cut, is_outside, phases_of}
-use Rattle.mesh_base.specs.Pairs.{word}
+use Rattle.mesh_base.specs.Pairs.{word_of}
 use Rattle.store_definitions.specs.Ranges.{IsInRange}
 use Rattle.run_definitions.specs.Readings.{Sees}
 use Rattle.report_definitions.specs.Record.{Life, LifeOver, Run, Shown, first_over, list_at, shown, shown_by}
@@ -92,10 +92,10 @@ draws lines = filter_map (λ s. drawn_of s.job s.outcome) lines
 -- two lines draw one pair; and the pairs of a bearer rise.
 pub record IsDrawn (over next : List StoreRecord) (l : Life) : Type 0 where
   pub seq : All (λ p. p.seq < 2 ^ 24) (draws (shown l))
-  pub from : All (λ p. (config_of over).mark ≤ word p) (draws (shown l))
-  pub below : All (λ p. word p < (config_of next).mark) (draws (shown l))
-  pub once : AllPairs (λ p q. word p ≢ word q) (draws (shown l))
-  pub rise : (k : ℕ) → AllPairs (λ p q. word p < word q) (draws (shown_by l k))
+  pub from : All (λ p. (config_of over).mark ≤ word_of p) (draws (shown l))
+  pub below : All (λ p. word_of p < (config_of next).mark) (draws (shown l))
+  pub once : AllPairs (λ p q. word_of p ≢ word_of q) (draws (shown l))
+  pub rise : (k : ℕ) → AllPairs (λ p q. word_of p < word_of q) (draws (shown_by l k))
 
 -- a line says that no number is left only where the mark that the life leaves has reached the end of that IV Index
 abbrev pub IsSpentRight : ℕ → Outcome → Type 0

@@ -109,7 +109,6 @@ accepted A.BadAddress = None
 accepted A.Own = None
 accepted A.Cached = None
 accepted A.NotMine = None
-accepted A.Unbuilt = None
 accepted A.Malformed = None
 accepted A.Again = None
 accepted (A.Replay kept) = None

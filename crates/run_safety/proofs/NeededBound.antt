@@ -24,7 +24,7 @@ use Rattle.run_definitions.specs.Lines.{shows_ctl}
 use Rattle.run_safety.specs.Needed.{DrawsWithoutBound, Reuses}
 use Rattle.run_safety.specs.Rules.{LeavesBy, LifeBy, all_rules}
 use Rattle.run_definitions.specs.Order.{Does, IsOrdered, Part, Step, ends, handles, phase, placed_from, stops, whole, writes}
-use Rattle.mesh_base.specs.Pairs.{word}
+use Rattle.mesh_base.specs.Pairs.{word_of}
 use Rattle.store_definitions.specs.Ranges.{IsInRange}
 use Rattle.run_definitions.specs.Readings.{sees_nothing}
 use Rattle.report_definitions.specs.Record.{Life, Run, Shown, list_at, shown, shown_by}
@@ -152,19 +152,19 @@ leaves : LeavesBy (drawn_only DrawsWithoutBound) quiet_layers plan life (past_at
 unfolding changed stores transmit_of iv_due
 leaves = record { more = []; outlasts = no_record; ranges = all_of IsInRange next ranges; alike = record { config = refl; entries = λ src. refl } }
 
-rises : (k : ℕ) → AllPairs (λ p q. word p < word q) (draws (shown_by life k))
-rises zero = pairs_from_apart (λ p q. word p < word q) (pair 0 ∷ beyond ∷ []) ((lit< tt, tt), (tt, tt))
-rises (suc k) = pairs_from_apart (λ p q. word p < word q) [] tt
+rises : (k : ℕ) → AllPairs (λ p q. word_of p < word_of q) (draws (shown_by life k))
+rises zero = pairs_from_apart (λ p q. word_of p < word_of q) (pair 0 ∷ beyond ∷ []) ((lit< tt, tt), (tt, tt))
+rises (suc k) = pairs_from_apart (λ p q. word_of p < word_of q) [] tt
 
-other_words : word (pair 0) ≢ word beyond
+other_words : word_of (pair 0) ≢ word_of beyond
 other_words e = absurd (omega (arith, e))
 
 drawn : DrawsWithoutBound over next life
 unfolding changed transmit_of
 drawn = record {
-  from = all_of (λ (p : Pair). (config_of over).mark ≤ word p) (pair 0 ∷ beyond ∷ []) (lit≤ tt, (lit≤ tt, tt));
-  below = all_of (λ (p : Pair). word p < (config_of next).mark) (pair 0 ∷ beyond ∷ []) (lit< tt, (lit< tt, tt));
-  once = pairs_from_apart (λ p q. word p ≢ word q) (pair 0 ∷ beyond ∷ []) ((other_words, tt), (tt, tt));
+  from = all_of (λ (p : Pair). (config_of over).mark ≤ word_of p) (pair 0 ∷ beyond ∷ []) (lit≤ tt, (lit≤ tt, tt));
+  below = all_of (λ (p : Pair). word_of p < (config_of next).mark) (pair 0 ∷ beyond ∷ []) (lit< tt, (lit< tt, tt));
+  once = pairs_from_apart (λ p q. word_of p ≢ word_of q) (pair 0 ∷ beyond ∷ []) ((other_words, tt), (tt, tt));
   rise = rises;
 }
 

@@ -26,7 +26,7 @@ use Rattle.run_definitions.specs.Lines.{shows_ctl}
 use Rattle.run_safety.specs.Needed.{DrawsFromAnywhere, DrawsUnreserved, Reuses}
 use Rattle.run_safety.specs.Rules.{LeavesBy, LifeBy, Rules, RunBy, all_rules}
 use Rattle.run_definitions.specs.Order.{Does, IsOrdered, Part, Step, Walks, ends, handle, handles, phase, placed_from, stops, whole, writes}
-use Rattle.mesh_base.specs.Pairs.{word}
+use Rattle.mesh_base.specs.Pairs.{word_of}
 use Rattle.store_definitions.specs.Ranges.{IsInRange}
 use Rattle.run_definitions.specs.Readings.{sees_nothing}
 use Rattle.report_definitions.specs.Record.{Life, Run, Shown, list_at, shown, shown_by}
@@ -242,12 +242,12 @@ clash : (p : Pair) → Clash (uses (run p))
 unfolding changed seals_of
 clash p h = other_text _ _ refl refl (h 0 1 some_use (lit< tt) (lit< tt) refl refl)
 
-pub rises : (from : ℕ) (p : Pair) (octet k : ℕ) → AllPairs (λ p q. word p < word q) (draws (shown_by (life from p octet) k))
-rises from p octet zero = pairs_from_apart (λ p q. word p < word q) (p ∷ []) (tt, tt)
-rises from p octet (suc k) = pairs_from_apart (λ p q. word p < word q) [] tt
+pub rises : (from : ℕ) (p : Pair) (octet k : ℕ) → AllPairs (λ p q. word_of p < word_of q) (draws (shown_by (life from p octet) k))
+rises from p octet zero = pairs_from_apart (λ p q. word_of p < word_of q) (p ∷ []) (tt, tt)
+rises from p octet (suc k) = pairs_from_apart (λ p q. word_of p < word_of q) [] tt
 
-pub once : (p : Pair) → AllPairs (λ p q. word p ≢ word q) (p ∷ [])
-once p = pairs_from_apart (λ p q. word p ≢ word q) (p ∷ []) (tt, tt)
+pub once : (p : Pair) → AllPairs (λ p q. word_of p ≢ word_of q) (p ∷ [])
+once p = pairs_from_apart (λ p q. word_of p ≢ word_of q) (p ∷ []) (tt, tt)
 
 pub each : (P : Pair → Type 0) (p : Pair) → P p → All P (p ∷ [])
 each P p h = all_of P (p ∷ []) (h, tt)
@@ -261,8 +261,8 @@ from_needed = (
   run (pair 0),
   quiet_safe,
   by_both DrawsFromAnywhere (pair 0)
-      (record { seq = each (λ (p : Pair). p.seq < 2 ^ 24) (pair 0) (lit< tt); below = each (λ (p : Pair). word p < (config_of second_list).mark) (pair 0) (lit< tt); once = once (pair 0); rise = rises mark (pair 0) 0x7f })
-      (record { seq = each (λ (p : Pair). p.seq < 2 ^ 24) (pair 0) (lit< tt); below = each (λ (p : Pair). word p < (config_of third_list).mark) (pair 0) (lit< tt); once = once (pair 0); rise = rises (mark + 256) (pair 0) 0x7e }),
+      (record { seq = each (λ (p : Pair). p.seq < 2 ^ 24) (pair 0) (lit< tt); below = each (λ (p : Pair). word_of p < (config_of second_list).mark) (pair 0) (lit< tt); once = once (pair 0); rise = rises mark (pair 0) 0x7f })
+      (record { seq = each (λ (p : Pair). p.seq < 2 ^ 24) (pair 0) (lit< tt); below = each (λ (p : Pair). word_of p < (config_of third_list).mark) (pair 0) (lit< tt); once = once (pair 0); rise = rises (mark + 256) (pair 0) 0x7e }),
   clash (pair 0),
 )
 
@@ -275,7 +275,7 @@ below_needed = (
   run (pair 300),
   quiet_safe,
   by_both DrawsUnreserved (pair 300)
-      (record { seq = each (λ (p : Pair). p.seq < 2 ^ 24) (pair 300) (lit< tt); from = each (λ (p : Pair). (config_of first_list).mark ≤ word p) (pair 300) (lit≤ tt); once = once (pair 300); rise = rises mark (pair 300) 0x7f })
-      (record { seq = each (λ (p : Pair). p.seq < 2 ^ 24) (pair 300) (lit< tt); from = each (λ (p : Pair). (config_of second_list).mark ≤ word p) (pair 300) (lit≤ tt); once = once (pair 300); rise = rises (mark + 256) (pair 300) 0x7e }),
+      (record { seq = each (λ (p : Pair). p.seq < 2 ^ 24) (pair 300) (lit< tt); from = each (λ (p : Pair). (config_of first_list).mark ≤ word_of p) (pair 300) (lit≤ tt); once = once (pair 300); rise = rises mark (pair 300) 0x7f })
+      (record { seq = each (λ (p : Pair). p.seq < 2 ^ 24) (pair 300) (lit< tt); from = each (λ (p : Pair). (config_of second_list).mark ≤ word_of p) (pair 300) (lit≤ tt); once = once (pair 300); rise = rises (mark + 256) (pair 300) 0x7e }),
   clash (pair 300),
 )

@@ -12,7 +12,7 @@ use Rattle.store_definitions.specs.Config.{changed, config_of}
 use Rattle.run_definitions.specs.History.{Past}
 use Rattle.run_definitions.specs.Layers.{Layers, quiet_layers}
 use Rattle.run_definitions.specs.Order.{IsOrdered, Step, ends}
-use Rattle.mesh_base.specs.Pairs.{word}
+use Rattle.mesh_base.specs.Pairs.{word_of}
 use Rattle.store_definitions.specs.Ranges.{IsInRange}
 use Rattle.report_definitions.specs.Record.{Life, Run, Shown, shown}
 use Rattle.run_definitions.specs.RunOf.{IsDrawn, IsSpentRight, Script, no_record, past_at_end}
@@ -58,8 +58,8 @@ drawn : (octet : ℕ) → IsDrawn first_list second_list (life (mark + 0) (pair 
 unfolding changed transmit_of
 drawn octet = record {
   seq = each (λ (p : Pair). p.seq < 2 ^ 24) (pair 0) (lit< tt);
-  from = each (λ (p : Pair). (config_of first_list).mark ≤ word p) (pair 0) (lit≤ tt);
-  below = each (λ (p : Pair). word p < (config_of second_list).mark) (pair 0) (lit< tt);
+  from = each (λ (p : Pair). (config_of first_list).mark ≤ word_of p) (pair 0) (lit≤ tt);
+  below = each (λ (p : Pair). word_of p < (config_of second_list).mark) (pair 0) (lit< tt);
   once = once (pair 0);
   rise = rises (mark + 0) (pair 0) octet;
 }

@@ -21,7 +21,7 @@ use Rattle.run_definitions.specs.History.{Told}
 use Rattle.run_definitions.specs.Jobs.{jobs_of}
 use Rattle.run_safety.specs.Rules.{LeavesBy, LifeBy, Rules, all_rules}
 use Rattle.run_definitions.specs.Order.{Does, IsOrdered, Part, Step, ends, handles, phase, placed_from, stops, whole}
-use Rattle.mesh_base.specs.Pairs.{word}
+use Rattle.mesh_base.specs.Pairs.{word_of}
 use Rattle.store_definitions.specs.Ranges.{IsInRange}
 use Rattle.report_definitions.specs.Record.{Life, Run, Shown, list_at, shown, shown_by}
 use Rattle.run_definitions.specs.RunOf.{IsNumbered, IsSpentRight, Script, draws, no_record, past_at_end}
@@ -78,10 +78,10 @@ zero_of e h = (h, tt)
 pub nothing_drawn : (over next : List StoreRecord) (l : Life) → draws (shown l) ≡ [] → ((k : ℕ) → draws (shown_by l k) ≡ []) → IsDrawn over next l
 nothing_drawn over next l e f = record {
   seq = rw e (all_of (λ (p : Pair). p.seq < 2 ^ 24) [] tt);
-  from = rw e (all_of (λ (p : Pair). (config_of over).mark ≤ word p) [] tt);
-  below = rw e (all_of (λ (p : Pair). word p < (config_of next).mark) [] tt);
-  once = rw e (pairs_from_apart (λ p q. word p ≢ word q) [] tt);
-  rise = λ k. rw (f k) (pairs_from_apart (λ p q. word p < word q) [] tt);
+  from = rw e (all_of (λ (p : Pair). (config_of over).mark ≤ word_of p) [] tt);
+  below = rw e (all_of (λ (p : Pair). word_of p < (config_of next).mark) [] tt);
+  once = rw e (pairs_from_apart (λ p q. word_of p ≢ word_of q) [] tt);
+  rise = λ k. rw (f k) (pairs_from_apart (λ p q. word_of p < word_of q) [] tt);
 }
 
 pub no_sends : (k : ℕ) → list_at {A = Sent} ([] ∷ []) k ≡ []

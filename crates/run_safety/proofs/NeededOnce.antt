@@ -19,7 +19,7 @@ use Rattle.run_definitions.specs.Lines.{shows_ctl}
 use Rattle.run_safety.specs.Needed.{DrawsTwice, Reuses}
 use Rattle.run_safety.specs.Rules.{LeavesBy, LifeBy, all_rules}
 use Rattle.run_definitions.specs.Order.{Does, IsOrdered, Part, Step, ends, handles, of_bearer, phase, placed_from, stops, whole, writes}
-use Rattle.mesh_base.specs.Pairs.{word}
+use Rattle.mesh_base.specs.Pairs.{word_of}
 use Rattle.store_definitions.specs.Ranges.{IsInRange}
 use Rattle.run_definitions.specs.Readings.{sees_nothing}
 use Rattle.report_definitions.specs.Record.{Life, Run, Shown, list_at, shown, shown_by}
@@ -83,17 +83,17 @@ leaves : LeavesBy (drawn_only DrawsTwice) quiet_layers plan life (past_at_end qu
 unfolding changed stores transmit_of
 leaves = record { more = []; outlasts = no_record; ranges = all_of IsInRange second_list first_range; alike = record { config = refl; entries = λ src. refl } }
 
-rises : (k : ℕ) → AllPairs (λ p q. word p < word q) (draws (shown_by life k))
-rises zero = pairs_from_apart (λ p q. word p < word q) (pair 0 ∷ []) (tt, tt)
-rises (suc zero) = pairs_from_apart (λ p q. word p < word q) (pair 0 ∷ []) (tt, tt)
-rises (suc (suc k)) = pairs_from_apart (λ p q. word p < word q) [] tt
+rises : (k : ℕ) → AllPairs (λ p q. word_of p < word_of q) (draws (shown_by life k))
+rises zero = pairs_from_apart (λ p q. word_of p < word_of q) (pair 0 ∷ []) (tt, tt)
+rises (suc zero) = pairs_from_apart (λ p q. word_of p < word_of q) (pair 0 ∷ []) (tt, tt)
+rises (suc (suc k)) = pairs_from_apart (λ p q. word_of p < word_of q) [] tt
 
 drawn : DrawsTwice first_list second_list life
 unfolding changed transmit_of
 drawn = record {
   seq = all_of (λ (p : Pair). p.seq < 2 ^ 24) (pair 0 ∷ pair 0 ∷ []) (lit< tt, (lit< tt, tt));
-  from = all_of (λ (p : Pair). (config_of first_list).mark ≤ word p) (pair 0 ∷ pair 0 ∷ []) (lit≤ tt, (lit≤ tt, tt));
-  below = all_of (λ (p : Pair). word p < (config_of second_list).mark) (pair 0 ∷ pair 0 ∷ []) (lit< tt, (lit< tt, tt));
+  from = all_of (λ (p : Pair). (config_of first_list).mark ≤ word_of p) (pair 0 ∷ pair 0 ∷ []) (lit≤ tt, (lit≤ tt, tt));
+  below = all_of (λ (p : Pair). word_of p < (config_of second_list).mark) (pair 0 ∷ pair 0 ∷ []) (lit< tt, (lit< tt, tt));
   rise = rises;
 }
 

@@ -20,7 +20,7 @@ use Rattle.run_definitions.specs.History.{OfNothing, Told}
 use Rattle.run_definitions.specs.Jobs.{jobs_of}
 use Rattle.run_definitions.specs.Lines.{shows_ctl}
 use Rattle.run_definitions.specs.Order.{Does, IsOrdered, Part, Step, ends, handles, phase, placed_from, stops, whole, writes}
-use Rattle.mesh_base.specs.Pairs.{word}
+use Rattle.mesh_base.specs.Pairs.{word_of}
 use Rattle.run_definitions.specs.Readings.{sees_nothing}
 use Rattle.report_definitions.specs.Record.{Life, Run, Shown, list_at, shown, shown_by}
 use Rattle.run_definitions.specs.RunOf.{IsDrawn, IsNumbered, IsSpentRight, Script, draws, no_record, past_at_end}
@@ -123,23 +123,23 @@ leaves : (n : ℕ) → LeavesBy any_fields quiet_layers plan (life n) (past_at_e
 unfolding stores
 leaves n = record { more = []; outlasts = no_record; ranges = λ k d l. tt; alike = record { config = same_config n; entries = λ src. sym (no_entry n src) } }
 
-rises : (n k : ℕ) → AllPairs (λ p q. word p < word q) (draws (shown_by (life n) k))
-rises n zero = pairs_from_apart (λ p q. word p < word q) (pair 0 ∷ far ∷ []) ((lit< tt, tt), (tt, tt))
-rises n (suc k) = pairs_from_apart (λ p q. word p < word q) [] tt
+rises : (n k : ℕ) → AllPairs (λ p q. word_of p < word_of q) (draws (shown_by (life n) k))
+rises n zero = pairs_from_apart (λ p q. word_of p < word_of q) (pair 0 ∷ far ∷ []) ((lit< tt, tt), (tt, tt))
+rises n (suc k) = pairs_from_apart (λ p q. word_of p < word_of q) [] tt
 
-other_words : word (pair 0) ≢ word far
+other_words : word_of (pair 0) ≢ word_of far
 other_words e = absurd (omega (arith, e))
 
-below_next : (n w : ℕ) → w ≤ word far → 2 ^ 49 < n → w < mark + 256 * n
+below_next : (n w : ℕ) → w ≤ word_of far → 2 ^ 49 < n → w < mark + 256 * n
 below_next n w h k = omega (arith, h, k)
 
 drawn : (n : ℕ) → 2 ^ 49 < n → IsDrawn first_list (next n) (life n)
 unfolding changed transmit_of
 drawn n h = record {
   seq = all_of (λ (p : Pair). p.seq < 2 ^ 24) (pair 0 ∷ far ∷ []) (lit< tt, (lit< tt, tt));
-  from = all_of (λ (p : Pair). (config_of first_list).mark ≤ word p) (pair 0 ∷ far ∷ []) (lit≤ tt, (lit≤ tt, tt));
-  below = all_of (λ (p : Pair). word p < (config_of (next n)).mark) (pair 0 ∷ far ∷ []) (below_next n _ (lit≤ tt) h, (below_next n _ (lit≤ tt) h, tt));
-  once = pairs_from_apart (λ p q. word p ≢ word q) (pair 0 ∷ far ∷ []) ((other_words, tt), (tt, tt));
+  from = all_of (λ (p : Pair). (config_of first_list).mark ≤ word_of p) (pair 0 ∷ far ∷ []) (lit≤ tt, (lit≤ tt, tt));
+  below = all_of (λ (p : Pair). word_of p < (config_of (next n)).mark) (pair 0 ∷ far ∷ []) (below_next n _ (lit≤ tt) h, (below_next n _ (lit≤ tt) h, tt));
+  once = pairs_from_apart (λ p q. word_of p ≢ word_of q) (pair 0 ∷ far ∷ []) ((other_words, tt), (tt, tt));
   rise = rises n;
 }
 

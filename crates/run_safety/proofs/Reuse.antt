@@ -10,7 +10,7 @@ use Rattle.record_types.specs.declared.records.StoreRecord.{StoreRecord}
 use Rattle.store_definitions.specs.Config.{Config, config_of}
 use Rattle.run_definitions.specs.Layers.{Layers}
 use Rattle.run_definitions.specs.Order.{Step}
-use Rattle.mesh_base.specs.Pairs.{word}
+use Rattle.mesh_base.specs.Pairs.{word_of}
 use Rattle.report_definitions.specs.Record.{Life, LifeOver, first_over, shown}
 use Rattle.run_definitions.specs.RunOf.{draws}
 use Rattle.run_safety.specs.Rules.{LifeBy, LivesBy, ReusesNoNonceByEnough, enough_rules}
@@ -39,7 +39,7 @@ iv_below iv seq mark transmit current a b c d = omega arith
 marked_kept : (c d : Config) → d.iv ≡ c.iv → d.mark ≡ c.mark → Marked c → Marked d
 marked_kept c d e f m = record { mark = rw (e, f) m.mark; current = rw e m.current }
 
-wide_below : (c : Config) → Marked c → (ps : List Pair) → AllByRecursion (λ (p : Pair). p.seq < 2 ^ 24) ps → AllByRecursion (λ (p : Pair). word p < c.mark) ps → AllByRecursion Wide ps
+wide_below : (c : Config) → Marked c → (ps : List Pair) → AllByRecursion (λ (p : Pair). p.seq < 2 ^ 24) ps → AllByRecursion (λ (p : Pair). word_of p < c.mark) ps → AllByRecursion Wide ps
 wide_below c m [] h k = tt
 wide_below c m (p ∷ ps) h k =
     (record { seq = h.0; iv = iv_below p.iv p.seq c.mark (transmit_of c.iv) c.iv.current k.0 m.mark (transmit_up_to c.iv) m.current }, wide_below c m ps h.1 k.1)
@@ -56,14 +56,14 @@ module _ (layers : Layers) (safe : AreSafe layers) (plan : List Step) (over : Li
 
 pub record Drawn (lives : List LifeOver) (last : List StoreRecord) : Type 0 where
   pub wide : AllByRecursion Wide (all_draws lives)
-  pub from : AllByRecursion (λ (p : Pair). (config_of (first_over lives last)).mark ≤ word p) (all_draws lives)
-  pub once : Apart (λ p q. word p ≢ word q) (all_draws lives)
+  pub from : AllByRecursion (λ (p : Pair). (config_of (first_over lives last)).mark ≤ word_of p) (all_draws lives)
+  pub once : Apart (λ p q. word_of p ≢ word_of q) (all_draws lives)
 
-apart_by_mark : (mark : ℕ) (ps qs : List Pair) → AllByRecursion (λ (p : Pair). word p < mark) ps → AllByRecursion (λ (q : Pair). mark ≤ word q) qs
-    → AllByRecursion (λ (p : Pair). AllByRecursion (λ (q : Pair). word p ≢ word q) qs) ps
+apart_by_mark : (mark : ℕ) (ps qs : List Pair) → AllByRecursion (λ (p : Pair). word_of p < mark) ps → AllByRecursion (λ (q : Pair). mark ≤ word_of q) qs
+    → AllByRecursion (λ (p : Pair). AllByRecursion (λ (q : Pair). word_of p ≢ word_of q) qs) ps
 apart_by_mark mark [] qs h k = tt
 apart_by_mark mark (p ∷ ps) qs h k =
-    (every_map (λ (q : Pair). mark ≤ word q) (λ (q : Pair). word p ≢ word q) (λ q m e. let a : word p < mark = h.0 in omega arith) qs k, apart_by_mark mark ps qs h.1 k)
+    (every_map (λ (q : Pair). mark ≤ word_of q) (λ (q : Pair). word_of p ≢ word_of q) (λ q m e. let a : word_of p < mark = h.0 in omega arith) qs k, apart_by_mark mark ps qs h.1 k)
 
 pub lives_drawn : (layers : Layers) → AreSafe layers → (plans : List (List Step)) (lives : List LifeOver) (last : List StoreRecord) → LivesBy enough_rules layers plans lives last → Drawn lives last
 lives_drawn layers safe [] [] last h = record { wide = tt; from = tt; once = tt }
@@ -73,14 +73,14 @@ lives_drawn layers safe (plan ∷ plans) (x ∷ xs) last h =
     let next : List StoreRecord = first_over xs last in
     let rest : Drawn xs last = lives_drawn layers safe plans xs last h.1 in
     let later : Later (config_of x.over) (config_of next) = life_later layers safe plan x.over x.life next h.0 in
-    let below : AllByRecursion (λ (p : Pair). word p < (config_of next).mark) (life_draws x) = recursion_from_All _ (life_draws x) h.0.drawn.below in
+    let below : AllByRecursion (λ (p : Pair). word_of p < (config_of next).mark) (life_draws x) = recursion_from_All _ (life_draws x) h.0.drawn.below in
     record {
       wide = every_append Wide (life_draws x) (all_draws xs) (life_wide layers safe plan x.over x.life next h.0) rest.wide;
       from =
-          every_append (λ (p : Pair). (config_of x.over).mark ≤ word p) (life_draws x) (all_draws xs) (recursion_from_All _ (life_draws x) h.0.drawn.from)
-          (every_map (λ (p : Pair). (config_of next).mark ≤ word p) (λ (p : Pair). (config_of x.over).mark ≤ word p) (λ p m. let a : (config_of x.over).mark ≤ (config_of next).mark = later.mark in omega arith) (all_draws xs) rest.from);
+          every_append (λ (p : Pair). (config_of x.over).mark ≤ word_of p) (life_draws x) (all_draws xs) (recursion_from_All _ (life_draws x) h.0.drawn.from)
+          (every_map (λ (p : Pair). (config_of next).mark ≤ word_of p) (λ (p : Pair). (config_of x.over).mark ≤ word_of p) (λ p m. let a : (config_of x.over).mark ≤ (config_of next).mark = later.mark in omega arith) (all_draws xs) rest.from);
       once =
-          apart_append (λ p q. word p ≢ word q) (life_draws x) (all_draws xs) (apart_from_pairs (λ p q. word p ≢ word q) (life_draws x) h.0.drawn.once) rest.once
+          apart_append (λ p q. word_of p ≢ word_of q) (life_draws x) (all_draws xs) (apart_from_pairs (λ p q. word_of p ≢ word_of q) (life_draws x) h.0.drawn.once) rest.once
           (apart_by_mark (config_of next).mark (life_draws x) (all_draws xs) below rest.from);
     }
 
@@ -114,12 +114,12 @@ both_wide : (ps : List Pair) → AllByRecursion Wide ps → AllByRecursion (λ (
 both_wide [] h = tt
 both_wide (p ∷ ps) h = (h.0, (h.0, both_wide ps h.1))
 
-other_pair : (p : Pair) (t : Tag) (qs : List Pair) → t.pair ≡ p → AllByRecursion (λ (q : Pair). word p ≢ word q) qs → AllByRecursion (λ s. t ≢ s) (doubled qs)
+other_pair : (p : Pair) (t : Tag) (qs : List Pair) → t.pair ≡ p → AllByRecursion (λ (q : Pair). word_of p ≢ word_of q) qs → AllByRecursion (λ s. t ≢ s) (doubled qs)
 other_pair p t [] is h = tt
 other_pair p t (q ∷ qs) is h =
-    ((λ e. h.0 (ap word (sym is) ∙ ap (λ (s : Tag). word s.pair) e)), ((λ e. h.0 (ap word (sym is) ∙ ap (λ (s : Tag). word s.pair) e)), other_pair p t qs is h.1))
+    ((λ e. h.0 (ap word_of (sym is) ∙ ap (λ (s : Tag). word_of s.pair) e)), ((λ e. h.0 (ap word_of (sym is) ∙ ap (λ (s : Tag). word_of s.pair) e)), other_pair p t qs is h.1))
 
-doubled_apart : (ps : List Pair) → Apart (λ p q. word p ≢ word q) ps → Apart (λ s t. s ≢ t) (doubled ps)
+doubled_apart : (ps : List Pair) → Apart (λ p q. word_of p ≢ word_of q) ps → Apart (λ s t. s ≢ t) (doubled ps)
 doubled_apart [] h = tt
 doubled_apart (p ∷ ps) h =
     (((λ e. let f : true ≡ false = ap (λ (s : Tag). s.upper) e in cc), other_pair p (upper_tag p) ps refl h.0), (other_pair p (network_tag p) ps refl h.0, doubled_apart ps h.1))

@@ -33,7 +33,7 @@ use Rattle.run_definitions.specs.History.{Insight, OfNothing, OfPdu, Past, Told}
 use Rattle.run_definitions.specs.Jobs.{jobs_of}
 use Rattle.run_definitions.specs.Lines.{after_line, shows_first, shows_relay, shows_sent_long}
 use Rattle.run_definitions.specs.Order.{Does, IsOrdered, Part, Placed, Task, Walks, broken, follow, follows, handle, handles, of_bearer, placed_from, stops, write, writes}
-use Rattle.mesh_base.specs.Pairs.{word}
+use Rattle.mesh_base.specs.Pairs.{word_of}
 use Rattle.store_definitions.specs.Ranges.{IsInRange, IsKey}
 use Rattle.run_definitions.specs.Readings.{IsOpened, IsReading, Sees, sees_pdu, sees_nothing}
 use Rattle.report_definitions.specs.Record.{Shown, list_at, shown, shown_by}
@@ -316,15 +316,15 @@ drawn : IsDrawn over left life
 unfolding changed transmit_of
 drawn = record {
   seq = all_of (λ (p : Pair). p.seq < 2 ^ 24) (pair 0 ∷ []) (lit< tt, tt);
-  from = all_of (λ (p : Pair). 5 * 2 ^ 25 ≤ word p) (pair 0 ∷ []) (lit≤ tt, tt);
-  below = all_of (λ (p : Pair). word p < 5 * 2 ^ 25 + 256) (pair 0 ∷ []) (lit< tt, tt);
-  once = pairs_from_apart (λ p q. word p ≢ word q) (pair 0 ∷ []) (tt, tt);
+  from = all_of (λ (p : Pair). 5 * 2 ^ 25 ≤ word_of p) (pair 0 ∷ []) (lit≤ tt, tt);
+  below = all_of (λ (p : Pair). word_of p < 5 * 2 ^ 25 + 256) (pair 0 ∷ []) (lit< tt, tt);
+  once = pairs_from_apart (λ p q. word_of p ≢ word_of q) (pair 0 ∷ []) (tt, tt);
   rise = rises;
 }
   where
-    rises : (k : ℕ) → AllPairs (λ p q. word p < word q) (draws (shown_by life k))
-    rises zero = pairs_from_apart (λ p q. word p < word q) (pair 0 ∷ []) (tt, tt)
-    rises (suc k) = pairs_from_apart (λ p q. word p < word q) [] tt
+    rises : (k : ℕ) → AllPairs (λ p q. word_of p < word_of q) (draws (shown_by life k))
+    rises zero = pairs_from_apart (λ p q. word_of p < word_of q) (pair 0 ∷ []) (tt, tt)
+    rises (suc k) = pairs_from_apart (λ p q. word_of p < word_of q) [] tt
 
 spent : All (λ s. IsSpentRight (config_of left).mark s.outcome) (shown life)
 spent = all_of (λ (s : Shown). IsSpentRight (config_of left).mark s.outcome) (shown life) (tt, (tt, (tt, tt)))

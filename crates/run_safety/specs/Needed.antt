@@ -13,7 +13,7 @@ use Rattle.run_definitions.specs.History.{Past, Told}
 use Rattle.run_definitions.specs.Jobs.{jobs_of}
 use Rattle.run_definitions.specs.Layers.{Layers}
 use Rattle.run_definitions.specs.Order.{Part, PartsOf, Step, is_cut, phases_of, placed_from}
-use Rattle.mesh_base.specs.Pairs.{word}
+use Rattle.mesh_base.specs.Pairs.{word_of}
 use Rattle.run_definitions.specs.Readings.{Sees}
 use Rattle.report_definitions.specs.Record.{Life, Run, list_at, shown, shown_by}
 use Rattle.run_definitions.specs.RunOf.{RunOf, Script, draws}
@@ -33,31 +33,31 @@ Repeats rules = (layers : Layers) × (s : Script) × (r : Run) × AreSafe layers
 -- without the bound on SEQ: the word behind the last SEQ of an IV Index may lie between the marks, and its nonce is
 -- that of SEQ 0
 pub record DrawsWithoutBound (over next : List StoreRecord) (l : Life) : Type 0 where
-  pub from : All (λ p. (config_of over).mark ≤ word p) (draws (shown l))
-  pub below : All (λ p. word p < (config_of next).mark) (draws (shown l))
-  pub once : AllPairs (λ p q. word p ≢ word q) (draws (shown l))
-  pub rise : (k : ℕ) → AllPairs (λ p q. word p < word q) (draws (shown_by l k))
+  pub from : All (λ p. (config_of over).mark ≤ word_of p) (draws (shown l))
+  pub below : All (λ p. word_of p < (config_of next).mark) (draws (shown l))
+  pub once : AllPairs (λ p q. word_of p ≢ word_of q) (draws (shown l))
+  pub rise : (k : ℕ) → AllPairs (λ p q. word_of p < word_of q) (draws (shown_by l k))
 
 -- without the mark that a life opens with: it may draw what the life before drew
 pub record DrawsFromAnywhere (over next : List StoreRecord) (l : Life) : Type 0 where
   pub seq : All (λ p. p.seq < 2 ^ 24) (draws (shown l))
-  pub below : All (λ p. word p < (config_of next).mark) (draws (shown l))
-  pub once : AllPairs (λ p q. word p ≢ word q) (draws (shown l))
-  pub rise : (k : ℕ) → AllPairs (λ p q. word p < word q) (draws (shown_by l k))
+  pub below : All (λ p. word_of p < (config_of next).mark) (draws (shown l))
+  pub once : AllPairs (λ p q. word_of p ≢ word_of q) (draws (shown l))
+  pub rise : (k : ℕ) → AllPairs (λ p q. word_of p < word_of q) (draws (shown_by l k))
 
 -- without the mark that it leaves: it may draw what the next life draws
 pub record DrawsUnreserved (over next : List StoreRecord) (l : Life) : Type 0 where
   pub seq : All (λ p. p.seq < 2 ^ 24) (draws (shown l))
-  pub from : All (λ p. (config_of over).mark ≤ word p) (draws (shown l))
-  pub once : AllPairs (λ p q. word p ≢ word q) (draws (shown l))
-  pub rise : (k : ℕ) → AllPairs (λ p q. word p < word q) (draws (shown_by l k))
+  pub from : All (λ p. (config_of over).mark ≤ word_of p) (draws (shown l))
+  pub once : AllPairs (λ p q. word_of p ≢ word_of q) (draws (shown l))
+  pub rise : (k : ℕ) → AllPairs (λ p q. word_of p < word_of q) (draws (shown_by l k))
 
 -- without a rule for two bearers: both may draw one pair
 pub record DrawsTwice (over next : List StoreRecord) (l : Life) : Type 0 where
   pub seq : All (λ p. p.seq < 2 ^ 24) (draws (shown l))
-  pub from : All (λ p. (config_of over).mark ≤ word p) (draws (shown l))
-  pub below : All (λ p. word p < (config_of next).mark) (draws (shown l))
-  pub rise : (k : ℕ) → AllPairs (λ p q. word p < word q) (draws (shown_by l k))
+  pub from : All (λ p. (config_of over).mark ≤ word_of p) (draws (shown l))
+  pub below : All (λ p. word_of p < (config_of next).mark) (draws (shown l))
+  pub rise : (k : ℕ) → AllPairs (λ p q. word_of p < word_of q) (draws (shown_by l k))
 
 -- Without the order of a bearer's work: the first segment of a message may go without the line that sealed the message.
 pub record IsInAnyOrder (plan : List Step) (l : Life) : Type 0 where

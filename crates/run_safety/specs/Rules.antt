@@ -13,7 +13,7 @@ use Rattle.run_definitions.specs.Handling.{AreHandled}
 use Rattle.run_definitions.specs.History.{Insight, Past, Told}
 use Rattle.run_definitions.specs.Layers.{Layers}
 use Rattle.run_definitions.specs.Order.{IsOrdered, Step}
-use Rattle.mesh_base.specs.Pairs.{word}
+use Rattle.mesh_base.specs.Pairs.{word_of}
 use Rattle.store_definitions.specs.Ranges.{IsInRange}
 use Rattle.report_definitions.specs.Record.{Life, LifeOver, Run, first_over, list_at, shown}
 use Rattle.run_definitions.specs.RunOf.{IsDrawn, IsIdle, IsNumbered, IsSpentRight, Opens, Outlasts, RunOf, Script, draws, is_on, past_at_end}
@@ -125,9 +125,9 @@ pub record KeepsNode (a b : List StoreRecord) : Type 0 where
 -- the pairs drawn, in any order
 pub record DrawsInAnyOrder (over next : List StoreRecord) (l : Life) : Type 0 where
   pub seq : All (λ p. p.seq < 2 ^ 24) (draws (shown l))
-  pub from : All (λ p. (config_of over).mark ≤ word p) (draws (shown l))
-  pub below : All (λ p. word p < (config_of next).mark) (draws (shown l))
-  pub once : AllPairs (λ p q. word p ≢ word q) (draws (shown l))
+  pub from : All (λ p. (config_of over).mark ≤ word_of p) (draws (shown l))
+  pub below : All (λ p. word_of p < (config_of next).mark) (draws (shown l))
+  pub once : AllPairs (λ p q. word_of p ≢ word_of q) (draws (shown l))
 
 -- Safety needs nothing of what a run begins with, of how a life opens, of the numbers of entries, and of when no number
 -- is left.

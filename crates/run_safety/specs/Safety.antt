@@ -19,7 +19,7 @@ use Rattle.run_definitions.specs.Answers.{is_before_cache, name_of}
 use Rattle.store_definitions.specs.Config.{Config, config_of}
 use Rattle.run_definitions.specs.History.{OfPdu, Opening, Past, Reading, Told}
 use Rattle.run_definitions.specs.Layers.{AccessMessage, ControlMessage, Layers}
-use Rattle.mesh_base.specs.Pairs.{word}
+use Rattle.mesh_base.specs.Pairs.{word_of}
 use Rattle.run_definitions.specs.Order.{Step}
 use Rattle.report_definitions.specs.Record.{Life, LifeOver, Run, shown}
 use Rattle.run_definitions.specs.RunOf.{LifeOf, RunOf, Script, draws}
@@ -101,7 +101,7 @@ DeliversOnce = (layers : Layers) → AreSafe layers → (s : Script) (r : Run) �
 -- no two lines of all lives draw one pair
 abbrev pub DrawsApart : Type 0
 DrawsApart =
-    (layers : Layers) → AreSafe layers → (s : Script) (r : Run) → RunOf layers s r → AllPairs (λ p q. word p ≢ word q) (all_draws r.lives)
+    (layers : Layers) → AreSafe layers → (s : Script) (r : Run) → RunOf layers s r → AllPairs (λ p q. word_of p ≢ word_of q) (all_draws r.lives)
 
 -- from a life to the next the mark never falls, nor does the known IV Index, and the node keeps its elements
 pub record Keeps (before after : Config) : Type 0 where
