@@ -142,7 +142,7 @@ segments_own past c ticks h s =
 placed : (unicast place elements : ℕ) → place < elements → (leb unicast (unicast + place) && ltb (unicast + place) (unicast + elements)) ≡ true
 placed unicast place elements h = grind (arith, nat_tests, h)
 
-place_own : (c : Config) (place : ℕ) → place < c.elements → is_element c (element_address c place).0 ≡ true
+pub place_own : (c : Config) (place : ℕ) → place < c.elements → is_element c (element_address c place).0 ≡ true
 place_own c place h = placed c.unicast.0 place c.elements h
 
 -- Replies: each from a place of an element.

@@ -96,7 +96,7 @@ pdu_here past (Some r) (Some low) opening h = mine_home (config_before past) r.f
 pdu_here past (Some r) None opening h = tt
 pdu_here past None low opening h = tt
 
-sees_here : (layers : Layers) (past : Past) (event : Event) (insight : Insight) → Sees layers past event insight → IsHeardHere (config_before past) insight
+pub sees_here : (layers : Layers) (past : Past) (event : Event) (insight : Insight) → Sees layers past event insight → IsHeardHere (config_before past) insight
 sees_here layers past _ _ (sees_pdu {reading = reading} {low = low} {opening = opening} reset r l o) = pdu_here past reading low opening l
 sees_here layers past _ _ (sees_beacon reset k) = tt
 sees_here layers past _ _ (sees_nothing h) = tt

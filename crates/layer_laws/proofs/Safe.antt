@@ -125,7 +125,7 @@ heartbeat_safe past c ticks =
 pub acks_safe : (past : Past) (c : Config) (ticks : ℕ) → Every (IsFitJob past) (acks_at past c ticks)
 acks_safe past c ticks = every_flat_any (IsFitJob past) (due_jobs c) (λ a. every_under (IsFitJob past) c a.net (due_job a) (λ m. tt)) _
 
-segments_safe : (past : Past) (c : Config) (ticks : ℕ) → Every (IsFitJob past) (segments_at past c ticks)
+pub segments_safe : (past : Past) (c : Config) (ticks : ℕ) → Every (IsFitJob past) (segments_at past c ticks)
 segments_safe past c ticks = every_flat_any (IsFitJob past) (round_jobs c (later past ticks)) (round_safe past c (later past ticks)) (messages past)
 
 replies_safe : (past : Past) (c : Config) (m : AccessMessage) → Every (IsFitJob past) (replies_of past c m)

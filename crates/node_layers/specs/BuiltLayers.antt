@@ -1,5 +1,6 @@
--- The layers that the machine has so far: reassembly. All others have nothing to say.
+-- The layers that the machine has so far: reassembly, and own segmented messages. All others have nothing to say.
 use Rattle.node_layers.specs.Reassembly.{acks_at, is_conflict, missing_after, names_in_progress, octets_after}
+use Rattle.node_layers.specs.Sending.{held_count, segments_at}
 use Rattle.run_definitions.specs.Layers.{Layers, quiet_layers}
 
 unfoldable pub built_layers : Layers
@@ -9,4 +10,6 @@ built_layers = record quiet_layers {
   missing = missing_after;
   whole = octets_after;
   acks_due = acks_at;
+  unacknowledged = held_count;
+  segments_due = segments_at;
 }

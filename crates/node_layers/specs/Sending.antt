@@ -39,16 +39,16 @@ abbrev pub stepped_calls : IvStep → List SendCall
 stepped_calls (I.Recover s) = clear ∷ []
 stepped_calls _ = []
 
--- what an entry does with the table, at this time
+-- what an event with this answer does with the table, at this time
+abbrev pub own_calls : ℕ → Event → Answer → List SendCall
+own_calls now event A.Begun = begun_calls now event
+own_calls now event (A.Control name dst opcode params) = acknowledged name.src (control_of opcode params)
+own_calls now event (A.Beacon index key iv) = stepped_calls iv
+own_calls now event (A.Ticked ticks) = due ticks ∷ []
+own_calls now event _ = []
+
 abbrev pub calls_at : ℕ → Told → List SendCall
-calls_at now t = calls_by t.entry.answer
-  where
-    calls_by : Answer → List SendCall
-    calls_by A.Begun = begun_calls now t.entry.event
-    calls_by (A.Control name dst opcode params) = acknowledged name.src (control_of opcode params)
-    calls_by (A.Beacon index key iv) = stepped_calls iv
-    calls_by (A.Ticked ticks) = due ticks ∷ []
-    calls_by _ = []
+calls_at now t = own_calls now t.entry.event t.entry.answer
 
 abbrev pub calls_from : ℕ → List Told → List SendCall
 calls_from now [] = []
