@@ -8,7 +8,8 @@ use Rattle.seq_word.specs.declared.miss.Miss.{Miss}
 use Rattle.seq_word.specs.declared.miss.Miss.TheVariants as missed
 use Rattle.seq_word.specs.declared.miss.DrawStop.{DrawStop}
 use Rattle.seq_word.specs.declared.miss.DrawStop.TheVariants as stopped
-use Rattle.seq_word.specs.Word.{word_of, seq_of}
+use Rattle.mesh_base.specs.Pairs.{word_of}
+use Rattle.seq_word.specs.Word.{seq_of}
 
 -- The two words: which they are, and where the counter was opened
 pub record NumbersView : Type 0 where

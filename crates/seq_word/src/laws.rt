@@ -1,11 +1,9 @@
-//! What follows from the rule of the two words, and of words and pairs.
+//! What follows from the rule of the two words. That words stand in the order of their pairs is mesh_base's `order_law`.
 #![tactic(auto)]
 
-ghost use Rattle.std.specs.Prelude.{◌≡◌, ◌≢◌, ℕ, ◌<◌, ◌≤◌, ◌^◌, AllPairs, List};
+ghost use Rattle.std.specs.Prelude.{◌≢◌, ℕ, ◌≤◌, AllPairs, List};
 ghost use Rattle.atomic_table.specs.Table.{State};
-ghost use Rattle.mesh_base.specs.declared.pair.Pair.{Pair};
 ghost use Rattle.seq_word.specs.declared.rule.View.{View};
-ghost use Rattle.seq_word.specs.Word.{word_of, Precedes};
 ghost use Rattle.seq_word.specs.Rule.{times, Ruled, DrawnOnce, MarkIsKept};
 
 /// Whatever the words and the seats are between two atomic steps, no two places of the drawn lists, of one seat or of two, hold
@@ -26,14 +24,4 @@ pub fn distinct()
     ensures value { (words : List ℕ) → ((x : ℕ) → times x words ≤ 1) → AllPairs (λ x y. x ≢ y) words }
     ensures any_order { (drawn words : List ℕ) → ((x : ℕ) → times x words ≤ times x drawn) → ((x : ℕ) → times x drawn ≤ 1)
         → AllPairs (λ x y. x ≢ y) words }
-{}
-
-/// Two pairs with one word are one pair.
-pub fn one_word()
-    ensures { (p q : Pair) → p.seq < 2 ^ 25 → q.seq < 2 ^ 25 → word_of p ≡ word_of q → p ≡ q }
-{}
-
-/// The order of words is that of pairs: by the IV Index first, and then by SEQ.
-pub fn word_order()
-    ensures { (p q : Pair) → p.seq < 2 ^ 25 → q.seq < 2 ^ 25 → Precedes p q → word_of p < word_of q }
 {}

@@ -14,6 +14,8 @@
 //! the counter was.
 //!
 //! Not promised: that a draw succeeds in the end, that bearers draw in turn, that two threads run.
+//!
+//! A caller to begin with: `draws_up_to_the_mark` and `spent_until_the_next_iv_index` in `src/tests.rt`.
 #![tactic(auto)]
 
 mod closed;

@@ -2,7 +2,8 @@
 #![tactic(auto)]
 
 ghost use Rattle.std.specs.Prelude.{◌≡◌, ◌≢◌, ℕ, ◌+◌, ◌-◌, ◌*◌, ◌^◌, ◌<◌, ◌≤◌, [], ◌∷◌, ◌++◌, All, AllPairs, IfOk, IfErr, OnErr};
-ghost use Rattle.seq_word.specs.Word.{word_of, seq_of, IsWord};
+ghost use Rattle.mesh_base.specs.Pairs.{word_of};
+ghost use Rattle.seq_word.specs.Word.{seq_of, IsWord};
 ghost use Rattle.seq_word.specs.declared.looks.Look.TheVariants as saw;
 ghost use Rattle.seq_word.specs.Rule.{IsWithin, part_of, times, once_below, passed_over};
 ghost use Rattle.seq_word.specs.Seen.{fresh, IsAbove, IsPrefix, Finds, HasCause, SameDrawn, AfterLost, miss_of};

@@ -3,7 +3,8 @@
 #![tactic(auto)]
 
 ghost use Rattle.std.specs.Prelude.{◌≡◌};
-ghost use Rattle.seq_word.specs.Word.{word_of, iv_of, seq_of, IsWord};
+ghost use Rattle.mesh_base.specs.Pairs.{word_of};
+ghost use Rattle.seq_word.specs.Word.{iv_of, seq_of, IsWord};
 
 use mesh_base::pair::Pair;
 

@@ -3,6 +3,7 @@ ghost use Rattle.std.specs.Prelude.{◌<◌};
 use super::*;
 use flash_model::{Bench, Flash, FlashFailed, MemFlash};
 use mesh_base::slot::Slot;
+use std::alloc::Global;
 use std::test::*;
 
 const MASKS: [u8; 6] = [0x00, 0xff, 0xf0, 0x0f, 0x55, 0xaa];
@@ -162,68 +163,92 @@ fn a_bank_is_filled(rt: HostRuntime) -> Result<(), Fail> {
     Ok(())
 }
 
-// A journal of the kinds 1 and 2 is cut while it is compacted: what is found then. It is in bank 1 where it was compacted before.
-fn after_a_cut(flash: &mut MemFlash, again: bool, calls: u32, mask: u8) -> Result<[u8; 3], Fail> {
-    let mut journal = Journal::format(flash, &[slot(1)], 2)?;
-    journal.append(flash, &slot(2))?;
-    if again {
-        journal.compact(flash, &[slot(1), slot(2)])?;
-    }
+// What a mount finds whose next call is ordered to be torn, and a mount behind the power cycle. A mount makes no program or erase call, so
+// that it isn't cut.
+fn kinds_twice(flash: &mut MemFlash, mask: u8) -> Result<Found, NoMount> {
+    flash.power_cycle();
+    flash.arm(0, mask);
+    let armed = kinds(flash)?;
+    let changes = flash.changes();
+    flash.power_cycle();
+    Ok((armed, changes, kinds(flash)?))
+}
+
+// The kinds that a mount and one behind it find, and the calls that were made.
+type Found = ([u8; 3], u32, [u8; 3]);
+
+// A compaction that is cut, and what is found then.
+fn cut_compaction(
+    flash: &mut MemFlash,
+    items: &[Slot; 3],
+    calls: u32,
+    mask: u8,
+) -> Result<Found, Fail> {
     flash.power_cycle();
     flash.arm(calls, mask);
-    let items = [slot(5), slot(6), slot(7)];
-    let cut = journal.compact(flash, &items);
-    let closed = journal.compact(flash, &items);
+    let mut journal = Journal::mount(flash)?;
+    let cut = journal.compact(flash, items);
+    let closed = journal.compact(flash, items);
     if cut != Err(CompactFault::Flash) || closed != Err(CompactFault::Closed) {
-        return Ok([0; 3]);
+        return Ok(([0; 3], 0, [0; 3]));
     }
-    flash.power_cycle();
-    Ok(kinds(flash)?)
+    Ok(kinds_twice(flash, mask)?)
+}
+
+// A journal of the kinds 1 and 2. It is in bank 1 where it was compacted.
+fn two_kinds(alloc: Global, again: bool) -> Result<MemFlash, Fail> {
+    let mut flash = MemFlash::new(alloc)?;
+    let mut journal = Journal::format(&mut flash, &[slot(1)], 2)?;
+    journal.append(&mut flash, &slot(2))?;
+    if again {
+        journal.compact(&mut flash, &[slot(1), slot(2)])?;
+    }
+    Ok(flash)
 }
 
 // Three items are 8 erase calls and 8 program calls. Only a whole last call, the header's gate, lets the items count.
-fn kept_or_compacted(calls: u32, mask: u8) -> [u8; 3] {
+fn kept_or_compacted(before: [u8; 3], after: [u8; 3], calls: u32, mask: u8) -> [u8; 3] {
     if calls == 15 && mask == 0xff {
-        [5, 6, 7]
+        after
     } else {
-        [1, 2, 0]
+        before
     }
 }
 
-// Bank 1 is blank before.
+// Bank 1 is blank before, or bank 0 counted before.
 #[test]
-fn a_cut_in_the_first_compaction(rt: HostRuntime) -> Result<(), Fail> {
-    for calls in 0..16 {
-        for mask in MASKS {
-            let mut flash = MemFlash::new(rt.alloc())?;
-            let found = after_a_cut(&mut flash, false, calls, mask)?;
-            assert_eq!(rt; found, kept_or_compacted(calls, mask));
+fn a_cut_in_the_first_and_in_the_second_compaction(rt: HostRuntime) -> Result<(), Fail> {
+    let items = [slot(5), slot(6), slot(7)];
+    for again in [false, true] {
+        for calls in 0..16 {
+            for mask in MASKS {
+                let mut flash = two_kinds(rt.alloc(), again)?;
+                let found = cut_compaction(&mut flash, &items, calls, mask)?;
+                let want = kept_or_compacted([1, 2, 0], [5, 6, 7], calls, mask);
+                assert_eq!(rt; found, (want, 0, want));
+            }
         }
     }
     Ok(())
 }
 
-// Bank 0 counted before.
-#[test]
-fn a_cut_in_the_second_compaction(rt: HostRuntime) -> Result<(), Fail> {
-    for calls in 0..16 {
-        for mask in MASKS {
-            let mut flash = MemFlash::new(rt.alloc())?;
-            let found = after_a_cut(&mut flash, true, calls, mask)?;
-            assert_eq!(rt; found, kept_or_compacted(calls, mask));
-        }
-    }
-    Ok(())
-}
-
+// A compaction that is cut, one behind it that is cut too, and a whole one.
 #[test]
 fn a_compaction_after_a_cut(rt: HostRuntime) -> Result<(), Fail> {
+    let first = [slot(5), slot(6), slot(7)];
+    let second = [slot(8), slot(9), slot(10)];
     for calls in 0..16 {
-        let mut flash = MemFlash::new(rt.alloc())?;
-        let _found = after_a_cut(&mut flash, true, calls, 0x55)?;
-        Journal::mount(&mut flash)?.compact(&mut flash, &[slot(8)])?;
-        assert_eq!(rt; flash.changes(), 12);
-        assert_eq!(rt; kinds(&mut flash)?, [8, 0, 0]);
+        for mask in MASKS {
+            let mut flash = two_kinds(rt.alloc(), true)?;
+            cut_compaction(&mut flash, &first, calls, mask)?;
+            let before = kept_or_compacted([1, 2, 0], [5, 6, 7], calls, mask);
+            let want = kept_or_compacted(before, [8, 9, 10], 15 - calls, mask);
+            let found = cut_compaction(&mut flash, &second, 15 - calls, mask)?;
+            assert_eq!(rt; found, (want, 0, want));
+            Journal::mount(&mut flash)?.compact(&mut flash, &[slot(11)])?;
+            assert_eq!(rt; flash.changes(), 12);
+            assert_eq!(rt; kinds(&mut flash)?, [11, 0, 0]);
+        }
     }
     Ok(())
 }

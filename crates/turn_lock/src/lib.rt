@@ -16,6 +16,8 @@
 //!
 //! Not promised: that a turn comes, that threads take turns fairly, or that a thread runs. A pass that is dropped while it
 //! is inside leaves the lock shut for ever.
+//!
+//! A caller to begin with: `written` and `split_and_joined` in `src/tests.rt`.
 #![tactic(auto)]
 
 pub mod gather;
