@@ -20,6 +20,8 @@
 //! - `provision`: the first records
 //! - `mounting`: a store is found again, and migrated
 //! - `laws`: what is true of the tie of a store and its flash, and of what an image holds
+//!
+//! A caller to begin with: `the_octets_of_a_node` in `src/tests.rt`.
 #![tactic(auto)]
 
 pub mod laws;

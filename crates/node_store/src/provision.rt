@@ -35,8 +35,9 @@ const OLD_FORMAT: u8 = 1;
 /// Hours since the last IV Index Recovery at which the next one is allowed (section 3.10.6).
 const RECOVERY_HOURS: u16 = 192;
 
-/// What a node is provisioned with (Mesh Profile 1.0.1, section 5.4.2.5). All addresses of its elements are 0001 to 7fff.
-#[derive(Clone, Copy, Debug, PartialEq, Eq)]
+/// What a node is provisioned with (Mesh Profile 1.0.1, section 5.4.2.5). All addresses of its elements are 0001 to 7fff. There
+/// is no `Debug` of it, since it holds keys.
+#[derive(Clone, Copy, PartialEq, Eq)]
 pub struct Provision {
     /// The address of its first element.
     pub unicast: Address,

@@ -10,6 +10,7 @@ use mesh_base::address::Address;
 use mesh_base::iv_state::IvState;
 use mesh_base::pair::{Name, Pair};
 use mesh_base::slot::Slot;
+use node_records::Persist;
 use record_types::records::StoreRecord;
 use slot_journal::{FormatFault, Journal, NoMount};
 use std::alloc::Global;
@@ -578,40 +579,104 @@ fn an_old_node(rt: HostRuntime) -> Result<(), Fail> {
 }
 
 /// A mount that is cut under this mask after so many calls, and the power cycle behind it.
-fn cut_mount(flash: &mut MemFlash, calls: u32, mask: u8) -> Option<StoreFault> {
+fn cut_mount(flash: &mut MemFlash, cut: (u32, u8)) -> Option<StoreFault> {
     flash.power_cycle();
-    flash.arm(calls, mask);
+    flash.arm(cut.0, cut.1);
     let fault = Store::mount(flash).err();
     flash.power_cycle();
     fault
 }
 
-/// Two mounts of a node in format 01 that are cut one after the other, and what is mounted then.
-fn cut_twice(
-    alloc: Global,
-    first: (u32, u8),
-    second: (u32, u8),
-) -> Result<(Option<StoreFault>, Option<StoreFault>, Store), Fail> {
+/// A node of format 01 that heard two messages, of which the newer one came first.
+fn old_node(alloc: Global) -> Result<MemFlash, Fail> {
     let mut flash = MemFlash::new(alloc)?;
     Store::provision_old(&mut flash, &node())?;
-    let one = cut_mount(&mut flash, first.0, first.1);
-    let two = cut_mount(&mut flash, second.0, second.1);
-    let store = Store::mount(&mut flash)?;
-    Ok((one, two, store))
+    let mut journal = Journal::mount(&mut flash)?;
+    for seq in [2, 1] {
+        let heard = slot(4, &[0, 3, 0x12, 0x34, 0x56, 0x78, 0, 0, seq]);
+        journal.append(&mut flash, &heard)?;
+    }
+    Ok(flash)
 }
 
-// Sixteen calls: eight erases, two for each of three slots, and two for the header. Only a whole last one leaves the new bank; then the
+/// Whether a mount finds a node that heard the newer message, in a bank of format 02 behind the first, and finds it again where
+/// the next call is ordered to be torn, since it makes none then.
+fn is_migrated(flash: &mut MemFlash, want: &Persist) -> Result<bool, Fail> {
+    let store = Store::mount(flash)?;
+    let same = *store.persist() == *want && store.used() == 4;
+    flash.power_cycle();
+    flash.arm(0, 0x00);
+    let again = Store::mount(flash)?;
+    let calls = flash.changes();
+    let whole = octets(flash, 1024)? == SECOND_HEADER;
+    Ok(same && whole && calls == 0 && *again.persist() == *want)
+}
+
+/// The node that heard the newer message, in format 02.
+fn heard_node(alloc: Global) -> Result<Store, Fail> {
+    let mut flash = MemFlash::new(alloc)?;
+    let mut store = Store::provision(&mut flash, &node())?;
+    hear(&mut store, &mut flash, 0x0003, 2)?;
+    Ok(store)
+}
+
+/// A node of format 01 whose first mount is cut, and whose second one is cut under the same mask: why they failed, and whether what is
+/// mounted then is migrated.
+fn cut_twice(
+    alloc: Global,
+    calls: (u32, u32),
+    mask: u8,
+    want: &Persist,
+) -> Result<(Option<StoreFault>, Option<StoreFault>, bool), Fail> {
+    let mut flash = old_node(alloc)?;
+    let one = cut_mount(&mut flash, (calls.0, mask));
+    let two = cut_mount(&mut flash, (calls.1, mask));
+    Ok((one, two, is_migrated(&mut flash, want)?))
+}
+
+// Eighteen calls: eight erases, two for each of four slots, and two for the header. Only a whole last one leaves the new bank; then the
 // next mount makes no call, and isn't cut.
 #[test]
 fn a_cut_while_a_mount_migrates(rt: HostRuntime) -> Result<(), Fail> {
-    let mut flash = MemFlash::new(rt.alloc())?;
-    let want = Store::provision(&mut flash, &node())?;
-    for call in 0..16 {
+    let want = heard_node(rt.alloc())?;
+    let cut = Some(StoreFault::Flash);
+    for call in 0..18 {
         for mask in MASKS {
-            let (one, two, found) = cut_twice(rt.alloc(), (call, mask), (15 - call, mask))?;
-            assert_eq!(rt; one, Some(StoreFault::Flash));
-            assert_eq!(rt; two.is_none(), call == 15 && mask == 0xff);
-            assert!(rt; *found.persist() == *want.persist());
+            let found = cut_twice(rt.alloc(), (call, 17 - call), mask, want.persist())?;
+            let second = if call == 17 && mask == 0xff {
+                None
+            } else {
+                cut
+            };
+            assert_eq!(rt; found, (cut, second, true));
+        }
+    }
+    Ok(())
+}
+
+// Where an erase was cut first, the next mount is cut at each of its eighteen calls.
+#[test]
+fn a_second_cut_behind_a_cut_erase(rt: HostRuntime) -> Result<(), Fail> {
+    let want = heard_node(rt.alloc())?;
+    let cut = Some(StoreFault::Flash);
+    for call in 0..8 {
+        for next in 0..18 {
+            let found = cut_twice(rt.alloc(), (call, next), 0x55, want.persist())?;
+            assert_eq!(rt; found, (cut, cut, true));
+        }
+    }
+    Ok(())
+}
+
+// The same where a slot or the header was cut first.
+#[test]
+fn a_second_cut_behind_a_cut_program(rt: HostRuntime) -> Result<(), Fail> {
+    let want = heard_node(rt.alloc())?;
+    let cut = Some(StoreFault::Flash);
+    for call in 8..18 {
+        for next in 0..18 {
+            let found = cut_twice(rt.alloc(), (call, next), 0x55, want.persist())?;
+            assert_eq!(rt; found, (cut, cut, true));
         }
     }
     Ok(())
@@ -626,56 +691,88 @@ fn full_bank(alloc: Global) -> Result<MemFlash, Fail> {
     Ok(flash)
 }
 
-/// The put of one more message that is cut, and the entry that is found behind the power cycle.
-fn cut_put(
-    flash: &mut MemFlash,
-    calls: u32,
-    mask: u8,
-) -> Result<(Result<(), PutFault>, Option<Pair>), Fail> {
+/// The entry of the source that a mount finds, where the next call is ordered to be torn: a mount of format 02 makes none. No entry, where
+/// it made some, or where another mount finds another.
+fn found(flash: &mut MemFlash, mask: u8) -> Result<Option<Pair>, Fail> {
     flash.power_cycle();
-    flash.arm(calls, mask);
-    let mut store = Store::mount(flash)?;
-    let put = hear(&mut store, flash, 0x0003, 2);
+    flash.arm(0, mask);
+    let armed = Store::mount(flash)?.persist().entry(Address(0x0003));
+    let changes = flash.changes();
     flash.power_cycle();
-    let found = Store::mount(flash)?;
-    Ok((put, found.persist().entry(Address(0x0003))))
+    let entry = Store::mount(flash)?.persist().entry(Address(0x0003));
+    Ok(if changes == 0 && entry == armed {
+        entry
+    } else {
+        None
+    })
 }
 
-/// What is answered and found where so many calls come, this one is cut, and this SEQ was found before.
-fn expected(calls: u32, cut: (u32, u8), before: u32) -> (Result<(), PutFault>, Option<Pair>) {
-    let whole = cut.0 >= calls || cut.0 + 1 == calls && cut.1 == 0xff;
-    let pair = Pair {
-        iv: 0x12345678,
-        seq: if whole { 2 } else { before },
-    };
-    let put = if cut.0 >= calls {
+/// The put of one more message that is cut.
+fn cut_put(flash: &mut MemFlash, cut: (u32, u8), seq: u32) -> Result<Result<(), PutFault>, Fail>
+    requires { seq < 2 ^ 24 }
+{
+    flash.power_cycle();
+    flash.arm(cut.0, cut.1);
+    let mut store = Store::mount(flash)?;
+    Ok(hear(&mut store, flash, 0x0003, seq))
+}
+
+/// What is answered where so many calls come, and this one is cut.
+fn answer(calls: u32, cut: (u32, u8)) -> Result<(), PutFault> {
+    if cut.0 >= calls {
         Ok(())
     } else {
         Err(PutFault::Flash)
-    };
-    (put, Some(pair))
+    }
 }
 
-// Twenty calls: eight erases, two for each of four slots, two for the header, and two for the record. From the whole header on the bank has
-// room, and the put behind the next mount makes two calls.
+/// The entry behind it: this number, or the one of before.
+fn entry(calls: u32, cut: (u32, u8), seq: u32, before: u32) -> Option<Pair> {
+    let whole = cut.0 >= calls || cut.0 + 1 == calls && cut.1 == 0xff;
+    Some(Pair {
+        iv: 0x12345678,
+        seq: if whole { seq } else { before },
+    })
+}
+
+/// How many calls the next put makes, behind one that was cut: from the whole header on the bank has room.
+fn calls_left(cut: (u32, u8)) -> u32 {
+    if cut.0 > 17 || cut == (17, 0xff) {
+        2
+    } else {
+        20
+    }
+}
+
+// Twenty calls: eight erases, two for each of four slots, two for the header, and two for the record.
 #[test]
 fn a_cut_while_a_put_compacts(rt: HostRuntime) -> Result<(), Fail> {
     for call in 0..20 {
         for mask in MASKS {
             let mut flash = full_bank(rt.alloc())?;
             let first = (call, mask);
-            assert_eq!(rt; cut_put(&mut flash, call, mask)?, expected(20, first, 1));
-            let left = if call > 17 || first == (17, 0xff) {
-                2
-            } else {
-                20
-            };
+            assert_eq!(rt; cut_put(&mut flash, first, 2)?, answer(20, first));
+            assert_eq!(rt; found(&mut flash, mask)?, entry(20, first, 2, 1));
+            let (left, second) = (calls_left(first), (19 - call, mask));
             let before = if first == (19, 0xff) { 2 } else { 1 };
-            let second = (19 - call, mask);
-            assert_eq!(rt;
-                cut_put(&mut flash, second.0, mask)?,
-                expected(left, second, before)
-            );
+            assert_eq!(rt; cut_put(&mut flash, second, 3)?, answer(left, second));
+            assert_eq!(rt; found(&mut flash, mask)?, entry(left, second, 3, before));
+        }
+    }
+    Ok(())
+}
+
+// The put behind the next mount is cut at each of its calls.
+#[test]
+fn a_second_cut_while_a_put_compacts(rt: HostRuntime) -> Result<(), Fail> {
+    for call in 0..20 {
+        for next in 0..20 {
+            let mut flash = full_bank(rt.alloc())?;
+            let (first, second) = ((call, 0x55), (next, 0x55));
+            assert_eq!(rt; cut_put(&mut flash, first, 2)?, answer(20, first));
+            let left = calls_left(first);
+            assert_eq!(rt; cut_put(&mut flash, second, 3)?, answer(left, second));
+            assert_eq!(rt; found(&mut flash, 0x55)?, entry(left, second, 3, 1));
         }
     }
     Ok(())

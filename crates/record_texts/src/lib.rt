@@ -3,6 +3,8 @@
 //! - `encoding`: from a record to its slot
 //! - `decoding`: from a slot to its record
 //! - `ranges`: whether a record's fields are in their ranges
+//!
+//! A caller to begin with: `texts` in `src/tests.rt`.
 #![tactic(auto)]
 
 mod decoding;

@@ -8,6 +8,8 @@
 //!
 //! - `checking`: [`check`], which writes nothing
 //! - `accepting`: [`accept`]
+//!
+//! A caller to begin with: `each_message_once` in `src/tests.rt`.
 #![tactic(auto)]
 
 mod accepting;

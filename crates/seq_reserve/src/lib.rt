@@ -11,6 +11,8 @@
 //! - `records`: the Numbers records
 //! - `putting`: a Numbers record is put
 //! - `keep_fault`: why numbers weren't stored
+//!
+//! A caller to begin with: `blocks_as_they_are_drawn` in `src/tests.rt`.
 #![tactic(auto)]
 
 mod keep_fault;
