@@ -5,6 +5,8 @@
 //! - `subkeys`: what AES-CMAC adds to its last block
 //! - `derivations`: s1 to k4, and virtual addresses
 //! - `credentials`: what k2 derives
+//!
+//! A caller to begin with: `identifiers` and `credentials` in `src/tests.rt`.
 #![tactic(auto)]
 
 mod credentials;
