@@ -3,6 +3,8 @@
 //!
 //! - `keys`: the keys by index, and what is opened and sent under them
 //! - `held`: the values with their AIDs and schedules, in the order in which they are tried
+//!
+//! A caller to begin with: `phases` in `src/tests.rt`.
 #![tactic(auto)]
 
 mod held;

@@ -5,6 +5,8 @@
 //! - `upper`: application keys and the device key
 //!
 //! Nothing here is printed: the types have no `Debug`.
+//!
+//! A caller to begin with: `keep_what_they_are_made_of` in `src/tests.rt`.
 #![tactic(auto)]
 
 mod network;

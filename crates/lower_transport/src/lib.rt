@@ -5,6 +5,8 @@
 //! - `writing`: from a PDU to octets
 //! - `sequence`: SeqAuth
 //! - `laws`: a text has one reading
+//!
+//! A caller to begin with: `is_read` and `standard_samples` in `src/tests.rt`.
 #![tactic(auto)]
 
 mod laws;

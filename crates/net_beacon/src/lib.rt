@@ -2,6 +2,8 @@
 //!
 //! - `writing`: the octets of a beacon
 //! - `reading`: which key has a beacon with these octets, and what it says
+//!
+//! A caller to begin with: `standard_sample` in `src/tests.rt`.
 #![tactic(auto)]
 
 mod reading;

@@ -5,6 +5,8 @@
 //! - `held`: the keys that are heard, with their schedules, in the order in which they are tried
 //! - `credentials`: the material of master and friendship credentials
 //! - `laws`: why the keys that have a PDU's NID suffice to read it
+//!
+//! A caller to begin with: `phases` in `src/tests.rt`.
 #![tactic(auto)]
 
 mod credentials;

@@ -4,6 +4,8 @@
 //! - `reading`: octets to fields, under the first key that reads them
 //! - `fields`: the fixed fields
 //! - `obfuscation`: the header, obfuscated and clear
+//!
+//! A caller to begin with: `seals_and_reads_as_the_standard_says` and `reads_by_kept_schedules` in `src/tests.rt`.
 #![tactic(auto)]
 
 mod fields;

@@ -7,6 +7,8 @@
 //! - `control_reading`: from octets to a control message
 //! - `control_writing`: from a control message to octets
 //! - `laws`: octets have one reading
+//!
+//! A caller to begin with: `meets` and `kept_keys` in `src/tests.rt`.
 #![tactic(auto)]
 
 mod control_reading;
