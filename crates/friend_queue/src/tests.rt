@@ -105,6 +105,47 @@ fn pdu() -> Octets<29> {
     octets
 }
 
+// The fields of the Mesh Profile's sample Friend Request, 4b50057e400000010000.
+const SAMPLE: Request = Request {
+    criteria: 0x4b,
+    receive_delay: 0x50,
+    poll_timeout: 0x057e40,
+    previous: Address(0x0000),
+    elements: 1,
+    lpn_counter: 0x0000,
+};
+
+// Two nodes of one element with addresses side by side.
+#[test]
+fn neighbours(rt: HostRuntime) {
+    let (first, second, third) = (Address(0x0201), Address(0x0202), Address(0x0203));
+    let mut friends = Friends::new();
+    assert!(rt; ask(&mut friends, 0, first, &SAMPLE) == Ok(offer(0)));
+    assert!(rt; answer(&mut friends, 0, first, false) == Some(PollAnswer::Update));
+    assert!(rt; friends.keep(first, false, &name(1), &pdu()));
+    let repeat = PollAnswer::Repeat {
+        name: name(1),
+        pdu: pdu(),
+    };
+    assert!(rt; answer(&mut friends, 0, first, false) == Some(repeat));
+    assert!(rt; answer(&mut friends, 0, first, true) == Some(PollAnswer::Update));
+    assert!(rt; ask(&mut friends, 0, second, &SAMPLE) == Ok(offer(1)));
+    assert!(rt; answer(&mut friends, 0, second, false) == Some(PollAnswer::Update));
+    let refused = Err(FriendFault::NoSlot { held: 2 });
+    assert!(rt; ask(&mut friends, 0, third, &SAMPLE) == refused);
+    let short = Request {
+        poll_timeout: 0x000009,
+        ..SAMPLE
+    };
+    assert!(rt; ask(&mut friends, 0, first, &short) == Err(FriendFault::BadRequest { field: 3 }));
+    assert!(rt; friends.belongs(first) && friends.belongs(second) && !friends.belongs(third));
+    assert!(rt; friends.put_own(&own(first, 0x7f)) == Ok(()));
+    assert!(rt; friends.put_own(&own(third, 0x7f)) == Err(FriendFault::Stranger));
+    let next = PollAnswer::Own(own(first, 0x7f));
+    assert!(rt; answer(&mut friends, 0, first, false) == Some(next));
+    assert!(rt; answer(&mut friends, 0, second, true) == Some(PollAnswer::Update));
+}
+
 // Two stand: a third is refused; a Request that is refused leaves its node's friendship.
 #[test]
 fn requests(rt: HostRuntime) {
@@ -335,6 +376,28 @@ fn lists(rt: HostRuntime) {
     let stored = PollAnswer::Stored(heard(1, NODE, late, 0x02));
     assert!(rt; answer(&mut friends, 0, FIRST, true) == Some(stored));
     assert!(rt; answer(&mut friends, 0, FIRST, false) == Some(PollAnswer::Update));
+}
+
+// A PDU for both is stored for each, and each has it by its own Polls. A Clear ends one of them.
+#[test]
+fn two_friendships(rt: HostRuntime) {
+    let mut friends = befriended();
+    assert!(rt; ask(&mut friends, 0, SECOND, &REQUEST) == Ok(offer(1)));
+    assert!(rt; answer(&mut friends, 0, SECOND, true) == Some(PollAnswer::Update));
+    assert!(rt; friends.list_add(0, FIRST, &[GROUP]) == Ok(()));
+    assert!(rt; friends.list_add(0, SECOND, &[GROUP]) == Ok(()));
+    friends.put(&heard(2, NODE, GROUP, 0x00));
+    assert!(rt; friends.put_own(&own(SECOND, 1)) == Ok(()));
+    let stored = PollAnswer::Stored(heard(1, NODE, GROUP, 0x00));
+    assert!(rt; answer(&mut friends, 0, FIRST, true) == Some(stored));
+    assert!(rt; answer(&mut friends, 0, FIRST, false) == Some(PollAnswer::Update));
+    let stored = PollAnswer::Stored(heard(1, NODE, GROUP, 0x00));
+    assert!(rt; answer(&mut friends, 0, SECOND, false) == Some(stored));
+    assert!(rt; friends.clear(FIRST, 0xffff) == Ok(()));
+    assert!(rt; friends.polls().as_slice() == [(SECOND, 0x0a)].as_slice());
+    let next = PollAnswer::Own(own(SECOND, 1));
+    assert!(rt; answer(&mut friends, 0, SECOND, true) == Some(next));
+    assert!(rt; answer(&mut friends, 0, SECOND, false) == Some(PollAnswer::Update));
 }
 
 // LPNCounter is ffff: 0 to 255 above it is ffff to 00fe.

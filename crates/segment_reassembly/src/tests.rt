@@ -23,6 +23,10 @@ const OTHER: [u8; 12] = [
 
 const LAST: [u8; 2] = [0x22; 2];
 
+const BOTH: [u8; 14] = [
+    0x11, 0x11, 0x11, 0x11, 0x11, 0x11, 0x11, 0x11, 0x11, 0x11, 0x11, 0x11, 0x22, 0x22,
+];
+
 fn name(src: u16) -> Name {
     Name {
         src: Address(src),
@@ -120,10 +124,7 @@ fn copies(rt: HostRuntime) {
     assert!(rt; take(&mut parts, 0, access(3, ELEMENT, 0, 1, &FULL)) == WAITING);
     assert!(rt; take(&mut parts, 0, access(3, ELEMENT, 0, 1, &FULL)) == WAITING);
     assert!(rt; take(&mut parts, 0, access(3, ELEMENT, 0, 1, &OTHER)) == Some(Taken::Conflict));
-    let both = [
-        0x11, 0x11, 0x11, 0x11, 0x11, 0x11, 0x11, 0x11, 0x11, 0x11, 0x11, 0x11, 0x22, 0x22,
-    ];
-    assert!(rt; take(&mut parts, 0, access(3, ELEMENT, 1, 1, &LAST)) == whole(&both));
+    assert!(rt; take(&mut parts, 0, access(3, ELEMENT, 1, 1, &LAST)) == whole(&BOTH));
     // A whole message stays until it is released.
     assert!(rt; take(&mut parts, 0, access(3, ELEMENT, 0, 1, &OTHER)) == Some(Taken::Conflict));
     parts.release(&name(3));
@@ -154,14 +155,9 @@ fn conflicts(rt: HostRuntime) {
     );
 }
 
-// Eight messages are in progress; a ninth is taken when their time is over.
-#[test]
-fn room(rt: HostRuntime) {
-    let mut parts = Parts::new();
-    for src in 1..9 {
-        assert!(rt; take(&mut parts, 0, access(src, ELEMENT, 0, 1, &FULL)) == WAITING);
-    }
-    let held = [
+// The names of messages from the first eight sources.
+fn first_eight() -> [Name; 8] {
+    [
         name(1),
         name(2),
         name(3),
@@ -170,7 +166,17 @@ fn room(rt: HostRuntime) {
         name(6),
         name(7),
         name(8),
-    ];
+    ]
+}
+
+// Eight messages are in progress; a ninth is taken when their time is over.
+#[test]
+fn room(rt: HostRuntime) {
+    let mut parts = Parts::new();
+    for src in 1..9 {
+        assert!(rt; take(&mut parts, 0, access(src, ELEMENT, 0, 1, &FULL)) == WAITING);
+    }
+    let held = first_eight();
     let ninth = take(&mut parts, 0, access(9, ELEMENT, 0, 1, &FULL));
     assert!(rt; ninth == Some(Taken::NoRoom { held }));
     assert!(rt;
@@ -188,6 +194,25 @@ fn room(rt: HostRuntime) {
         take(&mut parts, 1000, access(8, ELEMENT, 1, 1, &LAST)) == WAITING,
         "begun anew"
     );
+}
+
+// First segments of 200 messages, each of a source of its own. The first eight stay in progress until their time is over.
+#[test]
+fn two_hundred_messages(rt: HostRuntime) {
+    let mut parts = Parts::new();
+    for src in 1..201 {
+        let taken = take(&mut parts, 0, access(src, ELEMENT, 0, 1, &FULL));
+        let want = if src < 9 {
+            WAITING
+        } else {
+            Some(Taken::NoRoom {
+                held: first_eight(),
+            })
+        };
+        assert!(rt; taken == want, "source {src}");
+    }
+    let _acks = parts.tick(1000);
+    assert!(rt; take(&mut parts, 1000, access(201, ELEMENT, 0, 1, &FULL)) == WAITING);
 }
 
 // The least and the greatest SegN, of both kinds.
@@ -237,4 +262,17 @@ fn timers(rt: HostRuntime) {
     assert!(rt; take(&mut parts, 999, access(5, ELEMENT, 0, 2, &FULL)).is_some());
     assert!(rt; parts.tick(1049).as_slice() == [ack(5, 3)].as_slice());
     assert!(rt; parts.tick(2000) == AckList::new());
+}
+
+// One tick before the time of a message is over the acknowledgment that was due is sent, and the message goes on.
+#[test]
+fn late_ticks(rt: HostRuntime) {
+    let mut parts = Parts::new();
+    assert!(rt; take(&mut parts, 0, access(3, ELEMENT, 0, 1, &FULL)) == WAITING);
+    assert!(rt; parts.tick(999).as_slice() == [ack(3, 1)].as_slice());
+    assert!(rt; take(&mut parts, 999, access(3, ELEMENT, 1, 1, &LAST)) == whole(&BOTH));
+    let mut parts = Parts::new();
+    assert!(rt; take(&mut parts, 0, access(3, ELEMENT, 0, 1, &FULL)) == WAITING);
+    assert!(rt; parts.tick(1000) == AckList::new());
+    assert!(rt; take(&mut parts, 1000, access(3, ELEMENT, 1, 1, &LAST)) == WAITING);
 }

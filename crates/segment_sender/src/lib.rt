@@ -15,4 +15,4 @@ mod tests;
 
 pub use layer_states::sending::{Acked, DueList, Outgoing, Sending};
 pub use message::round_due;
-pub use senders::{SendFull, Senders};
+pub use senders::{Rounds, SendFull, Senders};

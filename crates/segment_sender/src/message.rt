@@ -5,6 +5,7 @@ ghost use Rattle.std.specs.Prelude.{◌≡◌, ◌+◌, ◌*◌, ◌^◌, ◌≤
 ghost use Rattle.layer_definitions.specs.Lower.{last_segment as last_segment_in};
 ghost use Rattle.layer_states.specs.Names.{is_unicast as is_unicast_in};
 ghost use Rattle.layer_states.specs.Sending.{begun as begun_in, has_bit as has_bit_in, is_due as is_due_in, is_last as is_last_in, left_after, pieces_of as pieces_in, round_after as round_after_in, round_of as round_in, segments_due, stepped};
+ghost use Rattle.segment_sender.specs.Held.{has_round as has_round_in};
 
 use layer_states::sending::{DueList, Outgoing, PieceList, Sending};
 use mesh_base::address::Address;
@@ -127,13 +128,32 @@ fn round_of(s: &Sending) -> PieceList
     }
 }
 
+/// Whether a message sends a round.
+pub(crate) fn has_round(now: u64, s: &Sending) -> bool
+    ensures { result ≡ has_round_in now s.now }
+{
+    is_due(now, s) && !is_last(s)
+}
+
+/// The same message with what is known of it once more. It takes no memory.
+pub(crate) fn again(s: &Sending) -> Sending
+    ensures { result ≡ s.now }
+{
+    Sending {
+        message: copied(&s.message),
+        left: s.left.copied(),
+        rounds: s.rounds,
+        due: s.due,
+    }
+}
+
 /// The pieces of a message that are due at `now`, in ticks of 10 ms, by their SegO in ascending order: to one element those that aren't
 /// acknowledged, to several all of them; none before the round is due, or where the message has had all its rounds.
 pub fn round_due(now: u64, s: &Sending) -> PieceList
     ensures value { result ≡ (if is_due_in now s.now && not (is_last_in s.now) then round_in s.now else []) }
     ensures length { length result ≤ 32 }
 {
-    if is_due(now, s) && !is_last(s) {
+    if has_round(now, s) {
         round_of(s)
     } else {
         PieceList::new()

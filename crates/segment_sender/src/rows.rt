@@ -1,12 +1,13 @@
 //! What a call does to the list of messages.
 #![tactic(auto)]
 
-ghost use Rattle.std.specs.Prelude.{◌≡◌, ◌^◌, ◌≤◌, ◌<◌, length, slice_index_or};
+ghost use Rattle.std.specs.Prelude.{◌≡◌, ◌^◌, ◌+◌, ◌≤◌, ◌<◌, ◌++◌, ◌∷◌, [], if◌then◌else◌, filter, length, slice_index_or};
 ghost use Rattle.std.specs.List.{filter_map, position};
 ghost use Rattle.layer_states.specs.declared.sending.Sending.{Sending};
 ghost use Rattle.layer_states.specs.Sending.{ack_of as ack_in, acked, all_due as all_due_in, belongs_to as belongs_in, left_at, rows_acked, stepped};
+ghost use Rattle.segment_sender.specs.Held.{has_round as has_round_in};
 
-use crate::message::{leave, push_due, step};
+use crate::message::{again, has_round, leave, push_due, step};
 use arrayvec::ArrayVec;
 use layer_states::sending::{Acked, DueList, Sending};
 use mesh_base::address::Address;
@@ -81,4 +82,27 @@ pub(crate) fn step_all(rows: &mut Rows, now: u64)
     ensures { rows.new.items ≡ filter_map (stepped now) rows.old.items }
 {
     rows.retain(|s| step(now, s));
+}
+
+// Puts a message behind the others, if it sends a round.
+fn push_round(list: &mut Rows, now: u64, s: &Sending)
+    requires { length list.old.items < 4 }
+    ensures value { list.new.items ≡ list.old.items ++ (if has_round_in now s.now then s.now ∷ [] else []) }
+    ensures few { length list.new.items ≤ length list.old.items + 1 }
+{
+    if has_round(now, s) {
+        list.push(again(s));
+    }
+}
+
+/// The messages that send a round.
+pub(crate) fn all_rounds(rows: &[Sending], now: u64) -> Rows
+    requires { length rows.now ≤ 4 }
+    ensures { result.items ≡ filter (has_round_in now) rows.now }
+{
+    let mut list = Rows::new();
+    for s in rows {
+        push_round(&mut list, now, s);
+    }
+    list
 }

@@ -1,14 +1,13 @@
 //! The table of own segmented messages.
 #![tactic(auto)]
 
-ghost use Rattle.std.specs.Prelude.{◌≡◌, ◌≢◌, ◌^◌, ◌≤◌, ◌↔◌, [], length, IsTrue, IsErr, IfErr, find, option_map, option_copied};
-ghost use Rattle.layer_states.specs.Names.{is_name as is_name_in};
+ghost use Rattle.std.specs.Prelude.{◌≡◌, ◌≢◌, ◌^◌, ◌≤◌, ◌↔◌, [], filter, length, All, IsTrue, IsErr, IfErr};
 ghost use Rattle.layer_states.specs.Sending.{acked, after, all_due as all_due_in, is_full};
 ghost use Rattle.layer_states.specs.Sending as sending;
-ghost use Rattle.layer_states.specs.declared.sending.Sending.{Sending};
+ghost use Rattle.segment_sender.specs.Held.{IsHeldWell, IsOutgoing, has_round};
 
 use crate::message::begun;
-use crate::rows::{Rows, acknowledge, all_due, step_all};
+use crate::rows::{Rows, acknowledge, all_due, all_rounds, step_all};
 use arrayvec::ArrayVec;
 use layer_states::sending::{Acked, DueList, Outgoing, Sending};
 use mesh_base::address::Address;
@@ -23,6 +22,9 @@ pub struct SendFull {
     pub held: u32,
 }
 
+/// Messages that send a round.
+pub type Rounds = ArrayVec<Sending, 4>;
+
 /// At most 4 own segmented messages that aren't acknowledged. A clause sees it as the list of them, in the order in
 /// which they began.
 ///
@@ -34,12 +36,16 @@ pub struct Senders {
 }
 
 impl Model for Senders {
-    ghost use Rattle.std.specs.Prelude.{List};
+    ghost use Rattle.std.specs.Prelude.{All, List};
     ghost use Rattle.layer_states.specs.declared.sending.Sending.{Sending};
 
     ghost Value = { List Sending };
 
+    ghost use Rattle.segment_sender.specs.Held.{IsHeldWell};
+
     ghost view = { λ s. s.rows.items };
+
+    ghost invariant = { λ s. All IsHeldWell s.rows.items };
 }
 
 impl Senders {
@@ -53,11 +59,11 @@ impl Senders {
     }
 
     /// A message begins at `now`, in ticks of 10 ms, at most 2^48: its first round is sent at once. Its upper
-    /// transport PDU has 5 to 384 octets, and its AID is at most 3f. `SendFull` exactly where 4 are held.
+    /// transport PDU has 5 to 384 octets, its SEQ 24 bits, its TTL 7, and its AID 6; under a device key AID is 0. What is sealed is so.
+    /// `SendFull` exactly where 4 are held.
     pub fn begin(&mut self, now: u64, m: &Outgoing) -> Result<(), SendFull>
         requires time { now ≤ 2 ^ 48 }
-        requires least { 5 ≤ length m.now.upper }
-        requires aid { m.now.aid ≤ 0x3f }
+        requires outgoing { IsOutgoing m.now }
         ensures err { IsErr result ↔ IsTrue (is_full self.old) }
         ensures held { IfErr result (λ e. e.held ≡ length self.old) }
         ensures state { self.new ≡ after self.old (sending.begin now m.now) }
@@ -94,9 +100,24 @@ impl Senders {
         list
     }
 
+    /// The messages that send a round at `now`, in ticks of 10 ms, at most 2^48, as they are before it is counted, in the order in which
+    /// they began; the segments of one are `round_due`. A message that has had its rounds goes when the next would be due.
+    pub fn rounds(&mut self, now: u64) -> Rounds
+        requires time { now ≤ 2 ^ 48 }
+        ensures value { result.items ≡ filter (has_round now) self.old }
+        ensures held { All IsHeldWell result.items }
+        ensures most { length result.items ≤ 4 }
+        ensures state { self.new ≡ after self.old (sending.due now) }
+    {
+        let list = all_rounds(self.rows.as_slice(), now);
+        step_all(&mut self.rows, now);
+        list
+    }
+
     /// The messages that are held, in the order in which they began: what the segments that are due are made of.
     pub fn messages(&self) -> &[Sending]
         ensures value { result.now ≡ self.now }
+        ensures held { All IsHeldWell result.now }
         ensures most { length result.now ≤ 4 }
     {
         self.rows.as_slice()

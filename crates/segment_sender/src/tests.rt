@@ -1,7 +1,8 @@
 //! Rounds and acknowledgments of own messages.
 #![tactic(auto)]
 
-ghost use Rattle.std.specs.Prelude.{◌≤◌, IfSome, length};
+ghost use Rattle.std.specs.Prelude.{◌≡◌, IfSome};
+ghost use Rattle.segment_sender.specs.Held.{IsOutgoing};
 
 use crate::{Acked, DueList, Outgoing, SendFull, Senders};
 use mesh_base::address::Address;
@@ -14,7 +15,9 @@ const GROUP: Address = Address(0xc000);
 // 26 octets make three segments.
 const UPPER: [u8; 26] = [0x11; 26];
 
-fn name(seq: u32) -> Name {
+fn name(seq: u32) -> Name
+    ensures { result.pair.seq ≡ seq }
+{
     Name {
         src: Address(0x1201),
         pair: Pair {
@@ -26,9 +29,9 @@ fn name(seq: u32) -> Name {
 
 // A message of TTL 7, if its upper transport PDU has a length for segments.
 fn message(seq: u32, dst: Address, octets: &[u8]) -> Option<Outgoing>
-    ensures { IfSome result (λ m. (5 ≤ length m.upper) × (m.aid ≤ 0x3f)) }
+    ensures { IfSome result IsOutgoing }
 {
-    if octets.len() < 5 || octets.len() > 384 {
+    if octets.len() < 5 || octets.len() > 384 || seq >= 0x100_0000 {
         return None;
     }
     let mut upper = Octets::new();
@@ -45,7 +48,7 @@ fn message(seq: u32, dst: Address, octets: &[u8]) -> Option<Outgoing>
 }
 
 fn begin(senders: &mut Senders, now: u32, m: Option<Outgoing>) -> Option<Result<(), SendFull>>
-    requires { IfSome m (λ m. (5 ≤ length m.upper) × (m.aid ≤ 0x3f)) }
+    requires { IfSome m IsOutgoing }
 {
     let message = m?;
     Some(senders.begin(u64::from(now), &message))
@@ -117,6 +120,21 @@ fn rounds(rt: HostRuntime) {
     assert!(rt; due(&mut senders, 1000).as_slice() == one.as_slice());
 }
 
+// A message that sends its second round is given as it was before, once.
+#[test]
+fn messages_that_send(rt: HostRuntime) {
+    let mut senders = Senders::new();
+    assert!(rt; begin(&mut senders, 0, message(1, ELEMENT, &UPPER)) == Some(Ok(())));
+    assert!(rt; senders.rounds(54).is_empty());
+    let second = senders.rounds(55);
+    assert_eq!(rt; second.len(), 1);
+    for s in second.as_slice() {
+        assert!(rt; s.rounds == 1 && s.due == 55 && s.left.len() == 3);
+    }
+    assert!(rt; senders.rounds(55).is_empty());
+    assert!(rt; senders.busy());
+}
+
 // Which message an acknowledgment concerns, and what it does.
 #[test]
 fn acknowledgments(rt: HostRuntime) {
@@ -143,4 +161,9 @@ fn acknowledgments(rt: HostRuntime) {
     assert!(rt; senders.ack(ELEMENT, false, 1, 0x80000000) == Acked::Whole);
     assert!(rt; begin(&mut senders, 0, message(1, ELEMENT, &[0x11; 5])) == Some(Ok(())));
     assert!(rt; senders.ack(ELEMENT, false, 1, 0) == Acked::Cancelled);
+    // Two pieces, acknowledged by the element that they went to.
+    assert!(rt; begin(&mut senders, 0, message(0, ELEMENT, &[0x11; 16])) == Some(Ok(())));
+    assert!(rt; senders.busy());
+    assert!(rt; senders.ack(ELEMENT, false, 0, 3) == Acked::Whole);
+    assert!(rt; !senders.busy());
 }
