@@ -40,6 +40,13 @@ fn compositions(rt: HostRuntime) {
     let one: &[u8] =
         b"\xff\xff\x01\x00\x01\x00\x40\x00\x05\x00\x00\x00\x03\x00\x00\x00\x00\x10\x02\x10";
     assert!(rt; composition(1, 64).as_slice() == one);
+    let one_of_512: &[u8] =
+        b"\xff\xff\x01\x00\x01\x00\x00\x02\x05\x00\x00\x00\x03\x00\x00\x00\x00\x10\x02\x10";
+    assert!(rt; composition(1, 512).as_slice() == one_of_512);
+    let two: &[u8] =
+        b"\xff\xff\x01\x00\x01\x00\x34\x12\x05\x00\x00\x00\x03\x00\x00\x00\x00\x10\x02\x10\
+        \x00\x00\x02\x00\x00\x10\x02\x10";
+    assert!(rt; composition(2, 0x1234).as_slice() == two);
     let none: &[u8] = b"\xff\xff\x01\x00\x01\x00\x00\x02\x05\x00";
     assert!(rt; composition(0, 512).as_slice() == none);
     let four: &[u8] =

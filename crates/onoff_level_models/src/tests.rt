@@ -1,6 +1,9 @@
 //! Messages to both servers and the Statuses that they ask for, by the tables of the standard; times in ticks of 10 ms.
 #![tactic(auto)]
 
+mod edges;
+mod paths;
+
 use crate::{Level, OnOff};
 use mesh_base::address::Address;
 use mesh_base::octets::Octets;

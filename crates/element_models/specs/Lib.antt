@@ -1,0 +1,4 @@
+pub mod Messages
+pub mod Models
+pub mod Places
+pub mod Stepping
