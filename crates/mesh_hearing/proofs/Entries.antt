@@ -5,10 +5,12 @@ use Rattle.std.specs.Option.{option_to_list}
 use Rattle.layer_states.specs.Cache.{last_of}
 use Rattle.layer_states.proofs.CacheLaws.{last_more}
 use Rattle.layer_states.specs.Reassembly.{after}
+use Rattle.layer_states.specs.Sending as sending
 use Rattle.mesh_base.specs.declared.pair.Name.{Name}
 use Rattle.mesh_hearing.specs.Tables.{BeginWith, GoOn, again_after, cache_after}
-use Rattle.node_layers.proofs.Steps.{cache_goes_on, parts_go_on, segmented_goes_on, time_goes_on}
+use Rattle.node_layers.proofs.Steps.{cache_goes_on, own_go_on, parts_go_on, segmented_goes_on, time_goes_on}
 use Rattle.node_layers.specs.Reassembly.{calls_at, message_calls, tick_calls}
+use Rattle.node_layers.specs.Sending.{own_calls}
 use Rattle.node_layers.specs.Steps.{cached_names, segmented_name, segmented_names}
 use Rattle.run_definitions.specs.Answers.{cached_name, is_before_cache}
 use Rattle.run_definitions.specs.History.{now_of, ticks_after}
@@ -36,8 +38,12 @@ goes_on t told e h = record {
       ap (λ names. again_after names (segmented_name e.insight e.entry.answer)) h.again
       ∙ again_more (segmented_names told) (segmented_name e.insight e.entry.answer)
       ∙ sym (segmented_goes_on told e);
+  own =
+      ap (λ n. fold sending.after t.own (own_calls n e.entry.event e.entry.answer)) h.ticks
+      ∙ ap (λ ms. fold sending.after ms (own_calls (now_of told) e.entry.event e.entry.answer)) h.own
+      ∙ sym (own_go_on told e []);
   ticks = ap (λ n. ticks_after n e.entry.answer) h.ticks ∙ sym (time_goes_on told e);
 }
 
 pub begins : BeginWith
-begins keys = record { cache = refl; parts = refl; again = refl; ticks = refl }
+begins keys = record { cache = refl; parts = refl; again = refl; own = refl; ticks = refl }

@@ -4,10 +4,13 @@ use Rattle.std.proofs.lemmas.Bool.{false≢true}
 use Rattle.layer_states.specs.Reassembly.{release, take_part}
 use Rattle.layer_states.specs.declared.reassembly.PartHeard.{PartHeard}
 use Rattle.mesh_base.specs.declared.pair.Name.{Name}
+use Rattle.mesh_hearing.specs.Below.{heard_calls}
 use Rattle.mesh_hearing.specs.Kinds.{is_early, is_known, is_late, is_of_part, is_of_whole}
 use Rattle.mesh_types.specs.declared.answers.Answer.{Answer}
 use Rattle.mesh_types.specs.declared.answers.Answer.TheVariants as A
+use Rattle.mesh_types.specs.declared.events.Event.{Event}
 use Rattle.node_layers.specs.Reassembly.{part_calls, tick_calls, whole_calls}
+use Rattle.node_layers.specs.Sending.{own_calls}
 use Rattle.run_definitions.specs.Answers.{is_before_cache}
 use Rattle.run_definitions.specs.History.{ticks_after}
 
@@ -17,7 +20,6 @@ late_cached A.BadAddress e = absurd (false≢true e)
 late_cached A.Own e = absurd (false≢true e)
 late_cached A.Cached e = absurd (false≢true e)
 late_cached A.NotMine e = absurd (false≢true e)
-late_cached A.Unbuilt e = absurd (false≢true e)
 late_cached A.Malformed e = refl
 late_cached A.Again e = refl
 late_cached (A.Replay kept) e = refl
@@ -46,7 +48,6 @@ late_ticks A.BadAddress e = absurd (false≢true e)
 late_ticks A.Own e = absurd (false≢true e)
 late_ticks A.Cached e = absurd (false≢true e)
 late_ticks A.NotMine e = absurd (false≢true e)
-late_ticks A.Unbuilt e = absurd (false≢true e)
 late_ticks A.Malformed e = refl
 late_ticks A.Again e = refl
 late_ticks (A.Replay kept) e = refl
@@ -75,7 +76,6 @@ late_now A.BadAddress n e = absurd (false≢true e)
 late_now A.Own n e = absurd (false≢true e)
 late_now A.Cached n e = absurd (false≢true e)
 late_now A.NotMine n e = absurd (false≢true e)
-late_now A.Unbuilt n e = absurd (false≢true e)
 late_now A.Malformed n e = refl
 late_now A.Again n e = refl
 late_now (A.Replay kept) n e = refl
@@ -104,7 +104,6 @@ early_ticks A.BadAddress e = refl
 early_ticks A.Own e = refl
 early_ticks A.Cached e = refl
 early_ticks A.NotMine e = refl
-early_ticks A.Unbuilt e = absurd (false≢true e)
 early_ticks A.Malformed e = absurd (false≢true e)
 early_ticks A.Again e = absurd (false≢true e)
 early_ticks (A.Replay kept) e = absurd (false≢true e)
@@ -133,7 +132,6 @@ early_now A.BadAddress n e = refl
 early_now A.Own n e = refl
 early_now A.Cached n e = refl
 early_now A.NotMine n e = refl
-early_now A.Unbuilt n e = absurd (false≢true e)
 early_now A.Malformed n e = absurd (false≢true e)
 early_now A.Again n e = absurd (false≢true e)
 early_now (A.Replay kept) n e = absurd (false≢true e)
@@ -162,7 +160,6 @@ whole_late A.BadAddress e = absurd (false≢true e)
 whole_late A.Own e = absurd (false≢true e)
 whole_late A.Cached e = absurd (false≢true e)
 whole_late A.NotMine e = absurd (false≢true e)
-whole_late A.Unbuilt e = absurd (false≢true e)
 whole_late A.Malformed e = absurd (false≢true e)
 whole_late A.Again e = absurd (false≢true e)
 whole_late (A.Replay kept) e = absurd (false≢true e)
@@ -191,7 +188,6 @@ part_late A.BadAddress e = absurd (false≢true e)
 part_late A.Own e = absurd (false≢true e)
 part_late A.Cached e = absurd (false≢true e)
 part_late A.NotMine e = absurd (false≢true e)
-part_late A.Unbuilt e = absurd (false≢true e)
 part_late A.Malformed e = absurd (false≢true e)
 part_late A.Again e = absurd (false≢true e)
 part_late (A.Replay kept) e = absurd (false≢true e)
@@ -220,7 +216,6 @@ known_late A.BadAddress e = absurd (false≢true e)
 known_late A.Own e = absurd (false≢true e)
 known_late A.Cached e = absurd (false≢true e)
 known_late A.NotMine e = absurd (false≢true e)
-known_late A.Unbuilt e = absurd (false≢true e)
 known_late A.Malformed e = absurd (false≢true e)
 known_late A.Again e = refl
 known_late (A.Replay kept) e = refl
@@ -250,7 +245,6 @@ known_parts A.BadAddress n h e = absurd (false≢true e)
 known_parts A.Own n h e = absurd (false≢true e)
 known_parts A.Cached n h e = absurd (false≢true e)
 known_parts A.NotMine n h e = absurd (false≢true e)
-known_parts A.Unbuilt n h e = absurd (false≢true e)
 known_parts A.Malformed n h e = absurd (false≢true e)
 known_parts A.Again n h e = refl
 known_parts (A.Replay kept) n h e = refl
@@ -279,7 +273,6 @@ known_whole A.BadAddress n e = absurd (false≢true e)
 known_whole A.Own n e = absurd (false≢true e)
 known_whole A.Cached n e = absurd (false≢true e)
 known_whole A.NotMine n e = absurd (false≢true e)
-known_whole A.Unbuilt n e = absurd (false≢true e)
 known_whole A.Malformed n e = absurd (false≢true e)
 known_whole A.Again n e = refl
 known_whole (A.Replay kept) n e = refl
@@ -309,7 +302,6 @@ part_takes A.BadAddress n h e = absurd (false≢true e)
 part_takes A.Own n h e = absurd (false≢true e)
 part_takes A.Cached n h e = absurd (false≢true e)
 part_takes A.NotMine n h e = absurd (false≢true e)
-part_takes A.Unbuilt n h e = absurd (false≢true e)
 part_takes A.Malformed n h e = absurd (false≢true e)
 part_takes A.Again n h e = absurd (false≢true e)
 part_takes (A.Replay kept) n h e = absurd (false≢true e)
@@ -339,7 +331,6 @@ whole_takes A.BadAddress n h e = absurd (false≢true e)
 whole_takes A.Own n h e = absurd (false≢true e)
 whole_takes A.Cached n h e = absurd (false≢true e)
 whole_takes A.NotMine n h e = absurd (false≢true e)
-whole_takes A.Unbuilt n h e = absurd (false≢true e)
 whole_takes A.Malformed n h e = absurd (false≢true e)
 whole_takes A.Again n h e = absurd (false≢true e)
 whole_takes (A.Replay kept) n h e = absurd (false≢true e)
@@ -368,7 +359,6 @@ whole_releases A.BadAddress n e = absurd (false≢true e)
 whole_releases A.Own n e = absurd (false≢true e)
 whole_releases A.Cached n e = absurd (false≢true e)
 whole_releases A.NotMine n e = absurd (false≢true e)
-whole_releases A.Unbuilt n e = absurd (false≢true e)
 whole_releases A.Malformed n e = absurd (false≢true e)
 whole_releases A.Again n e = absurd (false≢true e)
 whole_releases (A.Replay kept) n e = absurd (false≢true e)
@@ -390,3 +380,17 @@ whole_releases (A.SendFull held) n e = absurd (false≢true e)
 whole_releases A.Kept n e = absurd (false≢true e)
 whole_releases A.Dropped n e = absurd (false≢true e)
 whole_releases A.Reset n e = absurd (false≢true e)
+
+-- Own segmented messages: of the answers to a network PDU only an acknowledgment has to do with them.
+
+pub early_own : (a : Answer) (at : ℕ) (event : Event) → is_early a ≡ true → own_calls at event a ≡ heard_calls a
+early_own (A.Beacon index key iv) at event e = absurd (false≢true e)
+early_own (A.Ticked now) at event e = absurd (false≢true e)
+early_own A.Begun at event e = absurd (false≢true e)
+early_own _ at event e = refl
+
+pub late_own : (a : Answer) (at : ℕ) (event : Event) → is_late a ≡ true → own_calls at event a ≡ heard_calls a
+late_own (A.Beacon index key iv) at event e = absurd (false≢true e)
+late_own (A.Ticked now) at event e = absurd (false≢true e)
+late_own A.Begun at event e = absurd (false≢true e)
+late_own _ at event e = refl

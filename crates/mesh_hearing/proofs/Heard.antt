@@ -5,13 +5,14 @@ use Rattle.std.specs.Option.{option_map}
 use Rattle.layer_definitions.specs.KeyRefresh.{heard_keys}
 use Rattle.layer_definitions.specs.Network.{IsUnread, Reads}
 use Rattle.layer_states.specs.Reassembly.{after}
+use Rattle.layer_states.specs.Sending as sending
 use Rattle.layer_states.specs.declared.reassembly.Assembly.{Assembly}
 use Rattle.mesh_base.specs.declared.fields.Heard.{Heard}
 use Rattle.mesh_base.specs.declared.fields.NetFields.{NetFields}
 use Rattle.mesh_base.specs.declared.lower.Lower.{Lower}
 use Rattle.mesh_base.specs.declared.pair.Name.{Name}
 use Rattle.mesh_hearing.proofs.Entries.{goes_on}
-use Rattle.mesh_hearing.proofs.Groups.{early_now, early_ticks, late_cached, late_now, late_ticks}
+use Rattle.mesh_hearing.proofs.Groups.{early_now, early_own, early_ticks, late_cached, late_now, late_own, late_ticks}
 use Rattle.mesh_hearing.specs.Below.{IsNamedAs, IsReadAs, IsTransportAs, cache_after_row}
 use Rattle.mesh_hearing.specs.Heard.{IsHeard, insight_of}
 use Rattle.mesh_hearing.specs.Kinds.{is_early, is_late}
@@ -26,6 +27,7 @@ use Rattle.mesh_types.specs.declared.events.Event.TheVariants as E
 use Rattle.network_layer.specs.declared.reading.NetReading.{NetReading}
 use Rattle.node_layers.specs.BuiltLayers.{built_layers}
 use Rattle.node_layers.specs.Reassembly.{message_calls, tick_calls}
+use Rattle.node_layers.specs.Sending.{own_calls}
 use Rattle.node_layers.specs.Steps.{segmented_name}
 use Rattle.node_records.specs.Meaning.{IsMeaningOf}
 use Rattle.node_records.specs.Tables.{config_in}
@@ -159,12 +161,13 @@ pub tables_more : (told : List Told) (t u : TablesView) (e : Told) (i : Insight)
     → e.insight ≡ i → e.entry.answer ≡ a → config_of e.records ≡ c
     → u.cache ≡ cache_after t.cache (cached_name i (is_before_cache a))
     → u.parts ≡ fold after t.parts (message_calls t.ticks c i a ++ tick_calls a)
-    → u.again ≡ again_after t.again (segmented_name i a) → u.ticks ≡ ticks_after t.ticks a → AreTablesOf u (told ++ e ∷ [])
-tables_more told t u e i a c h ei ea ec cache parts again now =
-    let by_insight = subst (λ x. AreTablesOf (tables_after t (config_of e.records) x e.entry.answer) (told ++ e ∷ [])) ei (goes_on t told e h) in
-    let by_answer = subst (λ x. AreTablesOf (tables_after t (config_of e.records) i x) (told ++ e ∷ [])) ea by_insight in
-    let more = subst (λ x. AreTablesOf (tables_after t x i a) (told ++ e ∷ [])) ec by_answer in
-    record { cache = cache ∙ more.cache; parts = parts ∙ more.parts; again = again ∙ more.again; ticks = now ∙ more.ticks }
+    → u.again ≡ again_after t.again (segmented_name i a) → u.own ≡ fold sending.after t.own (own_calls t.ticks e.entry.event a)
+    → u.ticks ≡ ticks_after t.ticks a → AreTablesOf u (told ++ e ∷ [])
+tables_more told t u e i a c h ei ea ec cache parts again own now =
+    let by_insight = subst (λ x. AreTablesOf (tables_after t (config_of e.records) e.entry.event x e.entry.answer) (told ++ e ∷ [])) ei (goes_on t told e h) in
+    let by_answer = subst (λ x. AreTablesOf (tables_after t (config_of e.records) e.entry.event i x) (told ++ e ∷ [])) ea by_insight in
+    let more = subst (λ x. AreTablesOf (tables_after t x e.entry.event i a) (told ++ e ∷ [])) ec by_answer in
+    record { cache = cache ∙ more.cache; parts = parts ∙ more.parts; again = again ∙ more.again; own = own ∙ more.own; ticks = now ∙ more.ticks }
 
 reset_answer : (past : Past) (octets : List ℕ) → (config_before past).reset ≡ true → A.Reset ≡ answer_of built_layers past (E.Net octets) OfNothing
 unfolding answer_of
@@ -177,5 +180,5 @@ heard_reset past p octets t m e h =
     record {
       sees = sees_nothing {event = E.Net octets} (ap (λ b. not b) reset);
       answer = reset_answer past octets reset;
-      tables = λ x i a r. tables_more past.told t t x OfNothing A.Reset (config_of x.records) h i a refl refl refl refl refl;
+      tables = λ x i a r. tables_more past.told t t x OfNothing A.Reset (config_of x.records) h i a refl refl refl refl refl refl;
     }

@@ -5,3 +5,4 @@ mod Named
 mod Messages
 mod Heard
 mod Passing
+mod Acknowledged

@@ -1,11 +1,14 @@
 -- The answers to a network PDU layer by layer, and what the tables stand for there.
-use Rattle.std.specs.Prelude.{◌≡◌, ℕ, ◌&&◌, ◌==◌, ◌||◌, not, Bool, false, is_some, if◌then◌else◌, List, [], ◌∷◌, Option, Some, None, Result, MatchResult}
+use Rattle.std.specs.Prelude.{◌≡◌, ℕ, ◌&&◌, ◌==◌, ◌||◌, not, nat_lt, Bool, is_some, if◌then◌else◌, length, List, [], ◌∷◌, Option, Some, None, Result, MatchResult}
 use Rattle.std.specs.List.{list_any}
 use Rattle.std.specs.Option.{option_map}
+use Rattle.layer_definitions.specs.ControlReading.{control_of}
 use Rattle.layer_definitions.specs.IvIndex.{iv_next}
 use Rattle.layer_definitions.specs.KeyRefresh.{net_row}
 use Rattle.layer_states.specs.Reassembly.{PartCall, take_part, is_segment}
+use Rattle.layer_states.specs.Sending.{SendCall}
 use Rattle.layer_states.specs.declared.reassembly.Assembly.{Assembly}
+use Rattle.layer_states.specs.declared.sending.Sending.{Sending}
 use Rattle.mesh_base.specs.declared.address.Address.{Address}
 use Rattle.mesh_base.specs.declared.beacon.Beacon.{Beacon}
 use Rattle.mesh_base.specs.declared.fields.NetFields.{NetFields}
@@ -22,6 +25,7 @@ use Rattle.mesh_types.specs.declared.answers.Answer.{Answer}
 use Rattle.mesh_types.specs.declared.answers.Answer.TheVariants as A
 use Rattle.node_layers.specs.BuiltLayers.{built_layers}
 use Rattle.node_layers.specs.Reassembly.{messages, octets_after, part_heard}
+use Rattle.node_layers.specs.Sending.{acknowledged, stepped_calls}
 use Rattle.node_layers.specs.Steps.{segmented_names}
 use Rattle.node_records.specs.Meaning.{IsMeaningOf}
 use Rattle.node_records.specs.declared.persist.Persist.{Persist}
@@ -128,7 +132,23 @@ pub record IsTransportAs (past : Past) (r : Reading) (h : Hearing) : Type 0 wher
 
 -- Beacons.
 
--- the answer to a beacon that reads, where no own segmented message is unacknowledged
-abbrev pub beacon_row : Config → Beacon → Answer
-beacon_row c b =
-    A.Beacon b.index (key_step (net_row c.nets b.index) b) (iv_next c.iv (is_some (net_row c.nets 0)) b.index b.iv b.update false)
+-- the answer to a beacon that reads, by whether an own segmented message is unacknowledged
+abbrev pub beacon_row : Config → Bool → Beacon → Answer
+beacon_row c busy b =
+    A.Beacon b.index (key_step (net_row c.nets b.index) b) (iv_next c.iv (is_some (net_row c.nets 0)) b.index b.iv b.update busy)
+
+-- Own segmented messages.
+
+-- whether one is unacknowledged
+abbrev pub is_any : List Sending → Bool
+is_any rows = nat_lt 0 (length rows)
+
+-- what an answer to a network PDU does to them: it may be the acknowledgment of one
+abbrev pub heard_calls : Answer → List SendCall
+heard_calls (A.Control name dst opcode params) = acknowledged name.src (control_of opcode params)
+heard_calls _ = []
+
+-- what an answer to a beacon does to them
+abbrev pub beacon_calls : Answer → List SendCall
+beacon_calls (A.Beacon index key iv) = stepped_calls iv
+beacon_calls _ = []

@@ -1,6 +1,5 @@
 -- What a node answers to what it hears and to time, by the definitions of a life.
-use Rattle.std.specs.Prelude.{◌≡◌, ℕ, if◌then◌else◌, List, [], ◌∷◌, ◌++◌}
-use Rattle.std.specs.List.{filter_map}
+use Rattle.std.specs.Prelude.{◌≡◌, ℕ, if◌then◌else◌, List, [], ◌∷◌, ◌++◌, filter}
 use Rattle.std.specs.Option.{option_map}
 use Rattle.layer_states.specs.Reassembly.{acks_due}
 use Rattle.mesh_hearing.specs.Tables.{AreTablesOf, TablesView}
@@ -11,9 +10,11 @@ use Rattle.mesh_reading.specs.Held.{opening_of, reading_of}
 use Rattle.mesh_types.specs.declared.events.Event.TheVariants as E
 use Rattle.node_layers.specs.BuiltLayers.{built_layers}
 use Rattle.node_layers.specs.Reassembly.{messages}
+use Rattle.node_layers.specs.Sending as own
 use Rattle.run_definitions.specs.Answers.{answer_of, config_before, later}
 use Rattle.run_definitions.specs.History.{Insight, OfPdu, OfBeacon, OfNothing, Past, Told}
 use Rattle.run_definitions.specs.Readings.{Sees}
+use Rattle.segment_sender.specs.Held.{has_round}
 
 -- what the octets of a network PDU were read as
 abbrev pub insight_of : Hearing → Insight
@@ -29,15 +30,16 @@ pub record IsHeard (past : Past) (octets : List ℕ) (h : Hearing) (t : TablesVi
 abbrev pub beacon_insight : BeaconHearing → Insight
 beacon_insight h = if h.reset then OfNothing else OfBeacon h.beacon
 
--- After a past, octets heard as a beacon were read and answered so. No table changes.
+-- After a past, octets heard as a beacon were read and answered so.
 pub record IsBeaconHeard (past : Past) (octets : List ℕ) (h : BeaconHearing) : Type 0 where
   pub sees : Sees built_layers past (E.Bcn octets) (beacon_insight h)
   pub answer : h.answer ≡ answer_of built_layers past (E.Bcn octets) (beacon_insight h)
 
--- After a past, time passed and was answered so: the acknowledgments due are those of the messages in progress, and none after a Node
--- Reset. The tables stand for the entries with this one.
+-- After a past, time passed and was answered so: the acknowledgments due are those of the messages in progress, the messages that send a
+-- round are those that are held, and after a Node Reset there are none. The tables stand for the entries with this one.
 pub record IsPassed (past : Past) (ticks : ℕ) (passed : Passed) (t : TablesView) : Type 0 where
   pub sees : Sees built_layers past (E.Tick ticks) OfNothing
   pub answer : passed.answer ≡ answer_of built_layers past (E.Tick ticks) OfNothing
   pub acks : passed.acks ≡ (if (config_before past).reset then [] else acks_due (later past ticks) (messages past))
+  pub rounds : passed.rounds.items ≡ (if (config_before past).reset then [] else filter (has_round (later past ticks)) (own.messages past))
   pub tables : (e : Told) → e.insight ≡ OfNothing → e.entry.answer ≡ passed.answer → AreTablesOf t (past.told ++ e ∷ [])

@@ -13,6 +13,7 @@ ghost use Rattle.node_records.specs.Tables.{config_in};
 ghost use Rattle.run_definitions.specs.Answers.{key_step as key_step_in};
 ghost use Rattle.run_definitions.specs.History.{Past, Told};
 
+use crate::own::recover;
 use crate::tables::Tables;
 use iv_update::on_beacon;
 use mesh_base::beacon::Beacon;
@@ -53,10 +54,10 @@ fn key_step(row: Option<&NetKeyRow>, b: &Beacon) -> KeyStep
     }
 }
 
-// The answer to a beacon, while no own segmented message waits.
-fn beacon_answer(p: &Persist, b: &Beacon) -> Answer
+// The answer to a beacon. `busy` says whether an own segmented message is unacknowledged.
+fn beacon_answer(p: &Persist, busy: bool, b: &Beacon) -> Answer
     requires { HasTransmit p.now.iv }
-    ensures value { result ≡ beacon_row (config_in p.now) b.now }
+    ensures value { result ≡ beacon_row (config_in p.now) busy b.now }
 {
     let rows = p.nets.as_slice();
     Answer::Beacon {
@@ -68,18 +69,20 @@ fn beacon_answer(p: &Persist, b: &Beacon) -> Answer
             b.index,
             b.iv,
             b.update,
-            false,
+            busy,
         ),
     }
 }
 
 impl Tables {
-    /// What a node with a store of this value answers to octets heard as a beacon. No table changes.
-    pub fn hear_beacon(&self, p: &Persist, octets: &[u8]) -> BeaconHearing
+    /// What a node with a store of this value answers to octets heard as a beacon, and what its tables become: IV Index Recovery drops its own
+    /// segmented messages.
+    pub fn hear_beacon(&mut self, p: &Persist, octets: &[u8]) -> BeaconHearing
         requires { HasTransmit p.now.iv }
-        ensures heard { (past : Past) → IsMeaningOf past.records p.now → IsBeaconHeard past octets.now result }
-        ensures tables { (told : List Told) (e : Told) → AreTablesOf self.now told → e.insight ≡ beacon_insight result → e.entry.answer ≡ result.answer
-            → AreTablesOf self.now (told ++ e ∷ []) }
+        ensures heard { (past : Past) → IsMeaningOf past.records p.now → AreTablesOf self.old past.told → IsBeaconHeard past octets.now result }
+        ensures tables { (told : List Told) (e : Told) → AreTablesOf self.old told → e.insight ≡ beacon_insight result → e.entry.answer ≡ result.answer
+            → AreTablesOf self.new (told ++ e ∷ []) }
+        ensures keys { self.new.keys ≡ self.old.keys }
     {
         node_records::laws::order_law();
         net_beacon::beacon_law();
@@ -91,11 +94,15 @@ impl Tables {
             };
         }
         match read(p.nets.as_slice(), octets) {
-            Ok(beacon) => BeaconHearing {
-                reset: false,
-                answer: beacon_answer(p, &beacon),
-                beacon: Some(beacon),
-            },
+            Ok(beacon) => {
+                let answer = beacon_answer(p, self.is_busy(), &beacon);
+                recover(&mut self.own, &answer);
+                BeaconHearing {
+                    reset: false,
+                    beacon: Some(beacon),
+                    answer,
+                }
+            }
             Err(_) => BeaconHearing {
                 reset: false,
                 beacon: None,

@@ -1,24 +1,27 @@
 //! A network PDU heard: from its octets to the answer, and what the tables become.
 #![tactic(auto)]
 
-ghost use Rattle.std.specs.Prelude.{◌≡◌, ◌≤◌, ◌<◌, ◌^◌, ◌++◌, true, false, IsFalse, Some, None, fold, IfOk, OnErr, vec_len, vec_capacity};
+ghost use Rattle.std.specs.Prelude.{◌≡◌, ℕ, ◌≤◌, ◌<◌, ◌^◌, ◌++◌, true, false, IsFalse, Some, None, fold, IfOk, OnErr, vec_len, vec_capacity};
 ghost use Rattle.layer_states.specs.Cache.{last_of};
 ghost use Rattle.layer_states.specs.Reassembly.{after};
-ghost use Rattle.mesh_hearing.specs.Below.{IsReadAs, IsTransportAs, StandsBelow};
+ghost use Rattle.mesh_hearing.specs.Below.{IsReadAs, IsTransportAs, StandsBelow, heard_calls};
 ghost use Rattle.mesh_hearing.specs.Heard.{insight_of, IsHeard};
 ghost use Rattle.mesh_hearing.specs.Kinds.{is_late};
 ghost use Rattle.mesh_hearing.specs.Tables.{again_after, cache_after, AreTablesOf, IsFit};
 ghost use Rattle.mesh_reading.specs.Held.{held_in, reading_of};
 ghost use Rattle.node_layers.specs.Reassembly.{message_calls, tick_calls};
+ghost use Rattle.node_layers.specs.Sending.{own_calls};
 ghost use Rattle.node_layers.specs.Steps.{cached_names};
 ghost use Rattle.node_records.specs.Meaning.{IsMeaningOf};
 ghost use Rattle.node_records.specs.Tables.{config_in};
 ghost use Rattle.mesh_types.specs.declared.answers.Answer.TheVariants as A;
+ghost use Rattle.mesh_types.specs.declared.events.Event.{Event};
 ghost use Rattle.run_definitions.specs.Answers.{cached_name, is_before_cache};
 ghost use Rattle.run_definitions.specs.History.{Past, ticks_after};
 
 use crate::lower::{accepted_part, hear_low};
 use crate::network::network_row;
+use crate::own::acknowledge;
 use crate::tables::Tables;
 use lower_transport::Lower;
 use mesh_base::pair::Name;
@@ -129,6 +132,7 @@ fn hear_octets(
     ensures reset { IfOk result (λ h. h.reset ≡ false) }
     ensures cache { IfOk result (λ h. cache.new ≡ cache_after cache.old (cached_name (insight_of h) (is_before_cache h.answer))) }
     ensures parts { IfOk result (λ h. parts.new ≡ fold after parts.old (message_calls now (config_in p.now) (insight_of h) h.answer ++ tick_calls h.answer)) }
+    ensures own { IfOk result (λ h. (at : ℕ) (event : Event) → own_calls at event h.answer ≡ heard_calls h.answer) }
     ensures time { IfOk result (λ h. ticks_after now h.answer ≡ now) }
     ensures unchanged { OnErr result ((cache.new ≡ cache.old) × (parts.new ≡ parts.old)) }
 {
@@ -165,6 +169,7 @@ impl Tables {
             octets,
         )?;
         push_reserved(&mut self.again, accepted_part(&hearing));
+        acknowledge(&mut self.own, &hearing.answer);
         Ok(hearing)
     }
 }

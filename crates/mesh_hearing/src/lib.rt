@@ -7,6 +7,7 @@
 //! - `lower`: the answers of the lower transport layer
 //! - `whole`: the answers to a whole message
 //! - `beacons`: a beacon heard
+//! - `own`: own segmented messages
 //! - `ticks`: time that passed
 //! - `laws`: what the tables stand for
 #![tactic(auto)]
@@ -16,6 +17,7 @@ mod hearing;
 mod laws;
 mod lower;
 mod network;
+mod own;
 mod tables;
 #[cfg(test)]
 mod tests;
@@ -27,5 +29,6 @@ pub use hearing::Hearing;
 pub use laws::tables_law;
 pub use layer_states::reassembly::{AckList, DueAck};
 pub use mesh_reading::{Keys, NetReading, Opened};
+pub use segment_sender::{Rounds, SendFull};
 pub use tables::Tables;
 pub use ticks::Passed;

@@ -12,17 +12,19 @@ use mesh_reading::Keys;
 use node_records::Persist;
 use relay_cache::Cache;
 use segment_reassembly::Parts;
+use segment_sender::Senders;
 use std::alloc::{AllocError, Global};
 use std::marker::Model;
 
 /// The tables of a node in a life: the keys that it holds, its message cache, the messages in progress, the names that it accepted from
-/// segments in this life, and the ticks of 10 ms so far, at most 2^48. A clause sees these five.
+/// segments in this life, its own segmented messages that are held, and the ticks of 10 ms so far, at most 2^48. A clause sees these six.
 #[derive(Drop)]
 pub struct Tables {
     pub(crate) keys: Keys,
     pub(crate) cache: Cache,
     pub(crate) parts: Parts,
     pub(crate) again: Vec<Name>,
+    pub(crate) own: Senders,
     pub(crate) ticks: u64,
 }
 
@@ -32,7 +34,7 @@ impl Model for Tables {
 
     ghost Value = { TablesView };
 
-    ghost view = { λ t. record { keys = t.keys; cache = t.cache; parts = t.parts; again = t.again.items; ticks = t.ticks } };
+    ghost view = { λ t. record { keys = t.keys; cache = t.cache; parts = t.parts; again = t.again.items; own = t.own; ticks = t.ticks } };
 
     ghost invariant = { λ t. t.ticks ≤ 2 ^ 48 };
 }
@@ -41,7 +43,7 @@ impl Tables {
     /// The tables of a life that begins over a store of this value. They take their memory from `alloc`; the error is for want of memory.
     pub fn new(alloc: Global, p: &Persist) -> Result<Tables, AllocError>
         requires { AreHeldKeys (config_in p.now) }
-        ensures value { IfOk result (λ t. t ≡ record { keys = held_in (config_in p.now); cache = []; parts = []; again = []; ticks = 0 }) }
+        ensures value { IfOk result (λ t. t ≡ record { keys = held_in (config_in p.now); cache = []; parts = []; again = []; own = []; ticks = 0 }) }
         ensures fit { IfOk result (λ t. IsFit t p.now) }
         ensures tables { IfOk result (λ t. AreTablesOf t []) }
     {
@@ -51,6 +53,7 @@ impl Tables {
             cache,
             parts: Parts::new(),
             again: Vec::new(alloc),
+            own: Senders::new(),
             ticks: 0,
         })
     }

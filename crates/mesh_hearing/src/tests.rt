@@ -208,7 +208,7 @@ impl Life {
         self.tables.ticks()
     }
 
-    fn beacon(&self, octets: &[u8]) -> Answer {
+    fn beacon(&mut self, octets: &[u8]) -> Answer {
         self.tables.hear_beacon(&self.p, octets).answer
     }
 
@@ -551,7 +551,7 @@ fn beacon(key: KeyStep, iv: IvStep) -> Answer {
 fn beacons(rt: HostRuntime) -> Result<(), Fail> {
     let sample: &[u8] =
         b"\x01\x00\x3e\xca\xff\x67\x2f\x67\x33\x70\x12\x34\x56\x78\x8e\xa2\x61\x58\x2f\x36\x4f\x6f";
-    let life = Life::new(rt.alloc(), node(IV))?;
+    let mut life = Life::new(rt.alloc(), node(IV))?;
     assert!(rt; life.beacon(sample) == beacon(KeyStep::Same, IvStep::Ignore { rule: 5 }));
     assert!(rt; life.beacon(&sample[..21]) == Answer::Unread);
     Ok(())
@@ -560,7 +560,7 @@ fn beacons(rt: HostRuntime) -> Result<(), Fail> {
 // Beacons of other IV Indexes.
 #[test]
 fn later_beacons(rt: HostRuntime) -> Result<(), Fail> {
-    let life = Life::new(rt.alloc(), node(5))?;
+    let mut life = Life::new(rt.alloc(), node(5))?;
     let recovered = IvState {
         current: 0x2f,
         progress: false,

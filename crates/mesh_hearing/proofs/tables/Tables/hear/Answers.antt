@@ -1,4 +1,6 @@
 use Rattle.std.proofs.Common.{ap, subst, sym, ◌∙◌}
+use Rattle.std.specs.Prelude.{fold}
+use Rattle.layer_states.specs.Sending as sending
 use Rattle.mesh_hearing.proofs.Heard.{heard_reset, tables_more}
 use Rattle.mesh_hearing.specs.Below.{StandsBelow}
 use Rattle.mesh_hearing.specs.Heard.{IsHeard, insight_of}
@@ -15,7 +17,7 @@ returns-then-p-clause-heard c = λ past m h.
 pub returns-clause-heard : goal.returns-clause-heard
 returns-clause-heard c = λ past m h.
     let i = c.self.inside in
-    let old : TablesView = record { keys = i.keys; cache = i.cache; parts = i.parts; again = i.again.items; ticks = i.ticks } in
+    let old : TablesView = record { keys = i.keys; cache = i.cache; parts = i.parts; again = i.again.items; own = i.own; ticks = i.ticks } in
     let tables : AreTablesOf old past.told = subst (λ v. AreTablesOf v past.told) (sym c.self.view_is) h in
     let below : StandsBelow past c.args.p.now i.parts c.as_slice.result.now i.ticks = record {
       meaning = m;
@@ -33,5 +35,6 @@ returns-clause-heard c = λ past m h.
           c.in_ok-hearing.ensures.cache c.in_ok-hearing.ensures.parts
           (c.push_reserved.ensures ∙ ap (λ names. again_after names c.accepted_part.result) c.reserve.ensures.items
           ∙ ap (λ n. again_after i.again.items n) c.accepted_part.ensures)
+          (c.acknowledge.ensures.state ∙ ap (λ cs. fold sending.after i.own cs) (sym (c.in_ok-hearing.ensures.own i.ticks e.entry.event)))
           (sym c.in_ok-hearing.ensures.time);
     }
