@@ -7,6 +7,8 @@ use Rattle.event_plans.specs.declared.plan.Basis.{Basis}
 use Rattle.event_plans.specs.declared.plan.Basis.TheVariants as B
 use Rattle.layer_definitions.specs.Lower.{Fits}
 use Rattle.mesh_base.specs.declared.lower.Lower.{Lower}
+use Rattle.mesh_hearing.specs.Below.{is_any}
+use Rattle.mesh_hearing.specs.Tables.{AreTablesOf, TablesView}
 use Rattle.mesh_types.specs.declared.answers.Answer.{Answer}
 use Rattle.mesh_types.specs.declared.answers.Answer.TheVariants as A
 use Rattle.mesh_jobs.specs.declared.refresh.KeyPhase.{KeyPhase}
@@ -55,9 +57,9 @@ unfolding built_layers
 unbefriended past (E.Send element dst ttl key payload) = refl
 unbefriended past _ = tt
 
-pub idle : (past : Past) → false ≡ is_busy built_layers past
+pub busy_is : (past : Past) (t : TablesView) → AreTablesOf t past.told → is_any t.own ≡ is_busy built_layers past
 unfolding built_layers
-idle past = refl
+busy_is past t h = ap is_any h.own
 
 some_fits : (past : Past) (octets : List ℕ) (r : Option Reading) (low : Option Lower) (opening : Option Opening)
     → Sees built_layers past (E.Net octets) (OfPdu r low opening) → IfSome low Fits

@@ -1,6 +1,9 @@
 -- The answers to what the node is asked to send, by what the records say.
-use Rattle.std.specs.Prelude.{◌==◌, not, if◌then◌else◌}
+use Rattle.std.specs.Prelude.{◌==◌, not, if◌then◌else◌, ℕ, List, [], ◌∷◌, length}
 use Rattle.std.specs.List.{list_any}
+use Rattle.layer_states.specs.Sending.{SendCall, begin, is_full}
+use Rattle.layer_states.specs.declared.sending.Outgoing.{Outgoing}
+use Rattle.layer_states.specs.declared.sending.Sending.{Sending}
 use Rattle.mesh_base.specs.IvState.{transmit_of}
 use Rattle.mesh_base.specs.declared.keys.AppKeyRow.{AppKeyRow}
 use Rattle.mesh_base.specs.declared.pair.Pair.{Pair}
@@ -23,6 +26,12 @@ keyed_row c (K.App index) = if list_any (λ (r : AppKeyRow). r.index == index) c
 abbrev pub send_row : Config → SendKey → Answer
 send_row c key = if c.reset then A.Reset else keyed_row c key
 
--- a segmented message that begins, where no friendship and no other segmented message is in the way
-abbrev pub begin_row : Config → Pair → Answer
-begin_row c pair = if not (pair.iv == transmit_of c.iv) then A.Moved (transmit_of c.iv) else A.Begun
+-- a segmented message that begins while these are held, where no friendship is in the way
+abbrev pub begin_row : Config → List Sending → Pair → Answer
+begin_row c rows pair =
+    if not (pair.iv == transmit_of c.iv) then A.Moved (transmit_of c.iv) else if is_full rows then A.SendFull (length rows) else A.Begun
+
+-- what its answer does to the messages that are held
+abbrev pub begin_calls : ℕ → Outgoing → Answer → List SendCall
+begin_calls now m A.Begun = begin now m ∷ []
+begin_calls now m _ = []

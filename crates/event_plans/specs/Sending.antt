@@ -1,12 +1,14 @@
 -- What the node can send.
-use Rattle.std.specs.Prelude.{◌≡◌, ◌+◌, ◌<◌, ◌≤◌, ◌^◌, ⊤, IsFalse, length}
+use Rattle.std.specs.Prelude.{◌+◌, ◌<◌, ◌^◌, ⊤}
+use Rattle.layer_states.specs.declared.sending.Outgoing.{Outgoing}
 use Rattle.mesh_types.specs.declared.events.Event.{Event}
 use Rattle.mesh_types.specs.declared.events.Event.TheVariants as E
+use Rattle.segment_sender.specs.Held.{IsOutgoing}
 use Rattle.store_definitions.specs.Config.{Config}
 
--- A message goes from an address of 16 bits. A segmented message that begins isn't empty, its AID has 6 bits, and is 0 without an application
--- key.
+-- A message goes from an address of 16 bits. A segmented message that begins is one that may be sent in segments.
 abbrev pub IsSendable : Config → Event → Type 0
 IsSendable c (E.Send element dst ttl key payload) = c.unicast.0 + element < 2 ^ 16
-IsSendable c (E.Begin pair dst src ttl net akf aid upper) = (1 ≤ length upper) × (aid < 2 ^ 6) × (IsFalse akf → aid ≡ 0)
+IsSendable c (E.Begin pair dst src ttl net akf aid upper) =
+    IsOutgoing (record { name = record { src = src; pair = pair }; dst = dst; ttl = ttl; net = net; akf = akf; aid = aid; upper = upper })
 IsSendable c _ = ⊤

@@ -1,15 +1,18 @@
 //! The answers to events that bring no octets and no time.
 #![tactic(auto)]
 
-ghost use Rattle.std.specs.Prelude.{◌≡◌, ◌==◌};
+ghost use Rattle.std.specs.Prelude.{◌≡◌, ◌==◌, fold};
 ghost use Rattle.std.specs.List.{list_any};
 ghost use Rattle.mesh_base.specs.declared.keys.AppKeyRow.{AppKeyRow};
 ghost use Rattle.mesh_base.specs.IvState.{HasTransmit};
-ghost use Rattle.event_plans.specs.Own.{begin_row, raw_row, send_row};
+ghost use Rattle.event_plans.specs.Own.{begin_calls, begin_row, raw_row, send_row};
+ghost use Rattle.layer_states.specs.Sending.{after};
 ghost use Rattle.node_records.specs.Tables.{config_in};
+ghost use Rattle.segment_sender.specs.Held.{IsOutgoing};
 
+use layer_states::sending::Outgoing;
 use mesh_base::keys::AppKeyRow;
-use mesh_base::pair::Pair;
+use mesh_hearing::Tables;
 use mesh_types::answers::Answer;
 use mesh_types::events::SendKey;
 use node_records::Persist;
@@ -50,14 +53,19 @@ pub(crate) fn send_answer(p: &Persist, key: &SendKey) -> Answer
     }
 }
 
-/// The answer to an own segmented message that begins, while no other layer has a say in it.
-pub(crate) fn begin_answer(p: &Persist, pair: &Pair) -> Answer
-    requires { HasTransmit p.now.iv }
-    ensures value { result ≡ begin_row (config_in p.now) pair.now }
+/// The answer to an own segmented message that begins, where no friendship has a say in it, and what the tables become.
+pub(crate) fn begin_answer(tables: &mut Tables, p: &Persist, m: &Outgoing) -> Answer
+    requires transmit { HasTransmit p.now.iv }
+    requires outgoing { IsOutgoing m.now }
+    ensures value { result ≡ begin_row (config_in p.now) tables.old.own m.now.name.pair }
+    ensures tables { tables.new ≡ record tables.old { own = fold after tables.old.own (begin_calls tables.old.ticks m.now result) } }
 {
     let transmit = p.iv.transmit();
-    if pair.iv != transmit {
+    if m.name.pair.iv != transmit {
         return Answer::Moved { iv: transmit };
     }
-    Answer::Begun
+    match tables.begin(m) {
+        Ok(()) => Answer::Begun,
+        Err(full) => Answer::SendFull { held: full.held },
+    }
 }

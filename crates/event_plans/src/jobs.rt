@@ -60,6 +60,7 @@ fn heard_jobs(p: &Persist, keys: &Keys, octets: &Octets<40>, plan: &Plan) -> Job
 // Of time that passed.
 fn passed_jobs(p: &Persist, keys: &Keys, ticks: u32, plan: &Plan) -> Jobs
     requires keys { keys.now ≡ held_in (config_in p.now) }
+    requires planned { IsSomePlan (E.Tick ticks) plan.now }
     ensures value { (past : Past) (t : TablesView) → IsPlanned past (E.Tick ticks) plan.now t
         → result ≡ jobs_of built_layers past (config_in p.now) (E.Tick ticks) (insight_in plan.now.basis) plan.now.answer }
 {
@@ -67,7 +68,9 @@ fn passed_jobs(p: &Persist, keys: &Keys, ticks: u32, plan: &Plan) -> Jobs
         return Jobs::new();
     };
     match &plan.basis {
-        Basis::Time { acks, span } => tick_jobs(p, keys.nets(), acks, span, &plan.answer),
+        Basis::Time { acks, rounds, span } => {
+            tick_jobs(p, keys.nets(), acks, rounds.as_slice(), span, &plan.answer)
+        }
         Basis::Pdu { .. } => Jobs::new(),
         Basis::Beacon { .. } => Jobs::new(),
         Basis::Own => Jobs::new(),

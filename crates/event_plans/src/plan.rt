@@ -4,7 +4,7 @@
 use event_records::Records;
 use mesh_base::beacon::Beacon;
 use mesh_base::lower::Lower;
-use mesh_hearing::{AckList, NetReading, Opened};
+use mesh_hearing::{AckList, NetReading, Opened, Rounds};
 use mesh_jobs::{Phases, Span};
 use mesh_types::answers::Answer;
 
@@ -35,6 +35,8 @@ pub enum Basis {
     Time {
         /// The acknowledgments that are due.
         acks: AckList,
+        /// The own segmented messages that send a round, as they were before.
+        rounds: Rounds,
         /// The time before and after, and the IV state before.
         span: Span,
     },

@@ -3,6 +3,7 @@
 
 ghost use Rattle.std.specs.Prelude.{◌≡◌, ◌+◌, ◌≤◌, ◌^◌, min, [], IfOk, OnErr};
 ghost use Rattle.event_plans.specs.Plans.{IsPlanned, IsSomePast, IsStanding};
+ghost use Rattle.event_plans.specs.Sending.{IsSendable};
 ghost use Rattle.event_plans.specs.declared.plan.Basis.TheVariants as B;
 ghost use Rattle.event_records.specs.Putting.{AreMoves, ArePuttable};
 ghost use Rattle.mesh_hearing.specs.Tables.{IsFit};
@@ -10,11 +11,14 @@ ghost use Rattle.mesh_types.specs.declared.events.Event.TheVariants as E;
 ghost use Rattle.node_records.specs.Meaning.{IsSaid};
 ghost use Rattle.node_records.specs.Tables.{config_in};
 ghost use Rattle.run_definitions.specs.History.{Past};
+ghost use Rattle.segment_sender.specs.Held.{IsOutgoing};
 
 use crate::answers::{begin_answer, raw_answer, send_answer};
 use crate::plan::{Basis, Plan};
 use event_records::{Records, beacon_records, heard_records, tick_records};
 use iv_update::steps_law;
+use layer_states::sending::Outgoing;
+use mesh_base::pair::Name;
 use mesh_hearing::{Tables, tables_law};
 use mesh_jobs::{Span, held_phases};
 use mesh_types::answers::Answer;
@@ -53,16 +57,16 @@ fn plan_pdu(tables: &mut Tables, p: &Persist, octets: &[u8]) -> Result<Plan, All
 }
 
 // Of a beacon heard.
-fn plan_beacon(tables: &Tables, p: &Persist, octets: &[u8]) -> Plan
-    requires standing { IsSomePast p.now tables.now }
+fn plan_beacon(tables: &mut Tables, p: &Persist, octets: &[u8]) -> Plan
+    requires standing { IsSomePast p.now tables.old }
     requires said { IsSaid p.now }
-    ensures planned { (past : Past) → IsStanding past p.now tables.now → IsPlanned past (E.Bcn octets.now) result tables.now }
+    ensures planned { (past : Past) → IsStanding past p.now tables.old → IsPlanned past (E.Bcn octets.now) result tables.new }
     ensures may { ArePuttable p.now result.records }
     ensures moves { AreMoves (config_in p.now) result.records }
+    ensures keys { tables.new.keys ≡ tables.old.keys }
 {
     value_law();
     steps_law();
-    tables_law();
     let heard = tables.hear_beacon(p, octets);
     let records = beacon_records(p, &heard.answer);
     Plan {
@@ -94,13 +98,15 @@ fn plan_tick(tables: &mut Tables, p: &Persist, ticks: u32) -> Plan
 {
     let from = tables.ticks();
     let to = later(from, ticks);
+    let busy = tables.is_busy();
     let passed = tables.pass(p, ticks);
-    let records = tick_records(p, from, to, false, &passed.answer);
+    let records = tick_records(p, from, to, busy, &passed.answer);
     Plan {
         answer: passed.answer,
         records,
         basis: Basis::Time {
             acks: passed.acks,
+            rounds: passed.rounds,
             span: Span { from, to, iv: p.iv },
         },
     }
@@ -117,15 +123,31 @@ fn own_plan(answer: Answer) -> Plan
     }
 }
 
+// Of an own segmented message that begins.
+fn plan_begin(tables: &mut Tables, p: &Persist, m: &Outgoing) -> Plan
+    requires said { IsSaid p.now }
+    requires outgoing { IsOutgoing m.now }
+    ensures planned { (past : Past) → IsStanding past p.now tables.old
+        → IsPlanned past (E.Begin m.now.name.pair m.now.dst m.now.name.src m.now.ttl m.now.net m.now.akf m.now.aid m.now.upper) result tables.new }
+    ensures records { result.records ≡ [] }
+    ensures keys { tables.new.keys ≡ tables.old.keys }
+{
+    value_law();
+    // It does nothing when it runs: the proof uses what it says.
+    tables_law();
+    own_plan(begin_answer(tables, p, m))
+}
+
 /// The plan of an event, where the records before it say `p`, and the tables with this event. An error says that memory ran out, and then
 /// the tables are as before.
 ///
-/// `p` and the tables stand for some past. Each record of the plan may be put behind those before it, and each Numbers record
-/// is a move to an IV state that may follow.
+/// `p` and the tables stand for some past, and the event is one that the node can send. Each record of the plan may be put behind those before
+/// it, and each Numbers record is a move to an IV state that may follow.
 pub fn plan_event(tables: &mut Tables, p: &Persist, event: &Event) -> Result<Plan, AllocError>
     requires standing { IsSomePast p.now tables.old }
     requires fit { IsFit tables.old p.now }
     requires said { IsSaid p.now }
+    requires sendable { IsSendable (config_in p.now) event.now }
     ensures planned { (past : Past) → IsStanding past p.now tables.old → IfOk result (λ plan. IsPlanned past event.now plan tables.new) }
     ensures may { IfOk result (λ plan. ArePuttable p.now plan.records) }
     ensures moves { IfOk result (λ plan. AreMoves (config_in p.now) plan.records) }
@@ -141,7 +163,30 @@ pub fn plan_event(tables: &mut Tables, p: &Persist, event: &Event) -> Result<Pla
         Event::Tick(ticks) => Ok(plan_tick(tables, p, *ticks)),
         Event::Send { key, .. } => Ok(own_plan(send_answer(p, key))),
         Event::Raw { .. } => Ok(own_plan(raw_answer(p))),
-        Event::Begin { pair, .. } => Ok(own_plan(begin_answer(p, pair))),
+        Event::Begin {
+            pair,
+            dst,
+            src,
+            ttl,
+            net,
+            akf,
+            aid,
+            upper,
+        } => {
+            let message = Outgoing {
+                name: Name {
+                    src: *src,
+                    pair: *pair,
+                },
+                dst: *dst,
+                ttl: *ttl,
+                net: *net,
+                akf: *akf,
+                aid: *aid,
+                upper: upper.copied(),
+            };
+            Ok(plan_begin(tables, p, &message))
+        }
         Event::Kept { .. } => Ok(own_plan(Answer::Dropped)),
     }
 }

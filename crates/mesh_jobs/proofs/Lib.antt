@@ -1,3 +1,3 @@
 mod Numbers
 mod Phases
-mod Rounds
+pub mod Rounds

@@ -1,17 +1,25 @@
 -- Segments under a key that is held or isn't, and their places.
-use Rattle.std.proofs.Common.{◌≡◌, ◌∙◌, ℕ, ◌+◌, ◌<◌, ◌≤◌, Bool, true, false, cond, List, [], ◌∷◌, ◌++◌, map, refl, ap, arith, Option, Some, None}
+use Rattle.std.proofs.Common.{◌≡◌, ◌∙◌, ℕ, ◌+◌, ◌<◌, ◌≤◌, Bool, true, false, cond, List, [], ◌∷◌, ◌++◌, map, filter, append-nil, refl, ap, sym, arith, Option, Some, None}
 use Rattle.std.specs.Prelude.{All}
 use Rattle.std.specs.List.{flat_map, range_with_len}
 use Rattle.std.specs.Option.{option_map, option_to_list}
 use Rattle.std.proofs.lemmas.Grind.{common_steps}
-use Rattle.std.proofs.lemmas.List.Elements.{All-from_get_or}
-use Rattle.std.proofs.lemmas.List.FromFn.{get_or-range_with_len, length-range_with_len}
 use Rattle.layer_definitions.specs.Lower.{last_segment}
 use Rattle.layer_states.specs.Names.{is_unicast}
 use Rattle.layer_states.specs.Sending.{pieces_of, round_of}
 use Rattle.layer_states.specs.declared.sending.Sending.{Sending}
 use Rattle.mesh_base.specs.declared.fields.NetMaterial.{NetMaterial}
+use Rattle.mesh_types.specs.declared.answers.Answer.TheVariants as A
+use Rattle.mesh_types.specs.declared.events.Event.TheVariants as E
 use Rattle.mesh_types.specs.declared.jobs.Job.{Job}
+use Rattle.node_layers.specs.BuiltLayers.{built_layers}
+use Rattle.node_layers.specs.Reassembly.{acks_at}
+use Rattle.node_layers.specs.Sending.{round_jobs, segments_at}
+use Rattle.run_definitions.specs.History.{Insight, Past}
+use Rattle.run_definitions.specs.Jobs.{beacons_due, jobs_of}
+use Rattle.segment_sender.proofs.Held.{numbers_up_to}
+use Rattle.segment_sender.specs.Held.{has_round}
+use Rattle.store_definitions.specs.Config.{Config}
 
 pub under_none : (job : ℕ → NetMaterial → Job) (found : Option NetMaterial) (xs : List ℕ) → found ≡ None
     → flat_map (λ i. option_to_list (option_map (job i) found)) xs ≡ []
@@ -33,12 +41,6 @@ pub of_due : (b : Bool) (f : ℕ → List Job) (xs : List ℕ) → flat_map f (c
 of_due true f xs = refl
 of_due false f xs = refl
 
-numbers_up_to : (last : ℕ) → All (λ i. i ≤ last) (range_with_len 0 (last + 1))
-numbers_up_to last =
-    All-from_get_or (λ i. i ≤ last) (range_with_len 0 (last + 1)) 0 (λ i h.
-    let within : i < last + 1 = omega (arith, h, length-range_with_len 0 (last + 1)) in
-    omega (arith, get_or-range_with_len 0 (last + 1) i 0 within, within))
-
 -- the places of a round are those of the message
 pub places_due : (b : Bool) (s : Sending) → All (λ i. i ≤ last_segment s.message.upper) s.left
     → All (λ i. i ≤ last_segment s.message.upper) (cond b (round_of s) [])
@@ -48,6 +50,24 @@ places_due true s left =
       | true ↦ left
       | false ↦ numbers_up_to (last_segment s.message.upper)
     ]
+
+-- the jobs of all messages are those of the messages that send a round
+round_of_one : (b : Bool) (f : Sending → List Job) (s : Sending) (xs : List Sending) (ys : List Job) → (b ≡ false → f s ≡ []) → flat_map f xs ≡ ys → flat_map f (cond b (s ∷ xs) xs) ≡ f s ++ ys
+round_of_one true f s xs ys h e = ap (λ js. f s ++ js) e
+round_of_one false f s xs ys h e = e ∙ ap (λ js. js ++ ys) (sym (h refl))
+
+no_round : (c : Config) (now : ℕ) (s : Sending) → has_round now s ≡ false → round_jobs c now s ≡ []
+no_round c now s e = rw e refl
+
+pub rounds_are : (c : Config) (now : ℕ) (rows : List Sending) → flat_map (round_jobs c now) (filter (has_round now) rows) ≡ flat_map (round_jobs c now) rows
+rounds_are c now [] = refl
+rounds_are c now (s ∷ rows) = round_of_one (has_round now s) (round_jobs c now) s (filter (has_round now) rows) (flat_map (round_jobs c now) rows) (no_round c now s) (rounds_are c now rows)
+
+-- the jobs of a tick
+pub jobs_are : (past : Past) (c : Config) (ticks now : ℕ) (insight : Insight)
+    → acks_at past c ticks ++ segments_at past c ticks ++ beacons_due past c ticks ≡ jobs_of built_layers past c (E.Tick ticks) insight (A.Ticked now)
+unfolding built_layers jobs_of
+jobs_are past c ticks now insight = sym (append-nil (acks_at past c ticks ++ segments_at past c ticks ++ beacons_due past c ticks))
 
 -- Jobs put behind others.
 pub none_put : (xs ys : List Job) → ys ≡ [] → xs ≡ xs ++ ys

@@ -5,13 +5,14 @@ ghost use Rattle.std.specs.Prelude.{◌≡◌, ℕ, ◌+◌, ◌<◌, ◌≤◌,
 ghost use Rattle.std.specs.Option.{option_map_or, option_to_list};
 ghost use Rattle.app_keys.specs.AppRows.{AppRows};
 ghost use Rattle.mesh_base.specs.declared.keys.UpperKey.{UpperKey};
-ghost use Rattle.mesh_jobs.specs.Own.{IsBefriended, IsOutgoing, IsSingle};
+ghost use Rattle.mesh_jobs.specs.Own.{IsBefriended, IsSingle};
 ghost use Rattle.mesh_types.specs.declared.answers.Answer.TheVariants as A;
 ghost use Rattle.mesh_types.specs.declared.events.Event.TheVariants as E;
 ghost use Rattle.node_records.specs.Tables.{config_in};
 ghost use Rattle.run_definitions.specs.History.{Insight, Past};
 ghost use Rattle.run_definitions.specs.Jobs.{first_net as first_net_in, jobs_of, raw_jobs, send_keys as send_keys_in, sent_job as sent_job_in};
 ghost use Rattle.run_definitions.specs.Layers.{Layers};
+ghost use Rattle.segment_sender.specs.Held.{IsOutgoing};
 
 use crate::elements::element_address;
 use crate::making::push_made;

@@ -6,12 +6,12 @@ ghost use Rattle.std.specs.List.{flat_map};
 ghost use Rattle.layer_definitions.specs.Lower.{Fits, last_segment as last_segment_in, lower_text, segment as segment_in};
 ghost use Rattle.layer_states.specs.Sending.{round_of};
 ghost use Rattle.mesh_base.specs.declared.fields.NetMaterial.{NetMaterial};
-ghost use Rattle.mesh_jobs.specs.Own.{IsHeldWell, IsOutgoing};
 ghost use Rattle.mesh_jobs.specs.Segments.{segments_under};
 ghost use Rattle.mesh_types.specs.declared.jobs.Job.TheVariants as J;
 ghost use Rattle.node_layers.specs.Sending.{round_jobs};
 ghost use Rattle.node_records.specs.Tables.{config_in};
 ghost use Rattle.run_definitions.specs.Jobs.{begin_jobs};
+ghost use Rattle.segment_sender.specs.Held.{IsHeldWell, IsOutgoing};
 
 use layer_states::sending::{Outgoing, Sending};
 use lower_transport::write;

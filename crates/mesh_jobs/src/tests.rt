@@ -2,7 +2,7 @@
 #![tactic(auto)]
 
 ghost use Rattle.std.specs.Prelude.{◌≡◌, [], ◌∷◌};
-ghost use Rattle.mesh_jobs.specs.Own.{IsHeldWell, IsOutgoing};
+ghost use Rattle.segment_sender.specs.Held.{IsHeldWell, IsOutgoing};
 
 use crate::{
     KeyPhase, Phases, Span, begin_jobs, held_phases, own_jobs, pdu_jobs, push_rounds, tick_jobs,
@@ -320,6 +320,7 @@ fn ticked(n: &Node, acks: &AckList, from: u64, to: u64, iv: IvState) -> Jobs {
         &n.p,
         &n.nets,
         acks,
+        &[],
         &Span { from, to, iv },
         &Answer::Ticked { now: to },
     )
@@ -363,7 +364,7 @@ fn ticks(rt: HostRuntime) {
         to: 1000,
         iv,
     };
-    assert!(rt; tick_jobs(&n.p, &n.nets, &acks, &span, &Answer::Reset).is_empty());
+    assert!(rt; tick_jobs(&n.p, &n.nets, &acks, &[], &span, &Answer::Reset).is_empty());
 }
 
 fn asked(n: &Node, element: u8, key: SendKey, payload: &[u8], befriended: bool) -> Jobs {
@@ -517,4 +518,34 @@ fn rounds(rt: HostRuntime) {
     assert!(rt; round(&n, 55, PEER, 4).is_empty());
     assert!(rt; round(&n, 55, Address(0xc000), 2).len() == 2);
     assert!(rt; round(&n, 55, Address(0xc000), 3).is_empty());
+}
+
+// At a tick the acknowledgment goes first, then the round, and then the beacon.
+#[test]
+fn ticks_with_a_round(rt: HostRuntime) {
+    let n = plain();
+    let mut acks = AckList::new();
+    let _ = acks.push(DueAck {
+        name: name(0x3129ab),
+        dst: ELEMENT,
+        net: 0,
+        ack_ttl: 7,
+        block: 1,
+    });
+    let octets = [
+        0x80, 0x00, 0x04, 0x01, 1, 2, 3, 4, 5, 6, 7, 8, 9, 10, 11, 12,
+    ];
+    let all = [
+        control(7, PEER, &[0x00, 0x26, 0xac, 0x00, 0x00, 0x00, 0x01]),
+        segment(0, &octets, false),
+        Job::Beacon(BEACON),
+    ];
+    let span = Span {
+        from: 0,
+        to: 1000,
+        iv: n.p.iv,
+    };
+    let told = Answer::Ticked { now: 1000 };
+    let jobs = tick_jobs(&n.p, &n.nets, &acks, &[held(PEER, 1)], &span, &told);
+    assert!(rt; jobs.as_slice() == all.as_slice());
 }

@@ -1,7 +1,7 @@
 //! What is due when time passed.
 #![tactic(auto)]
 
-ghost use Rattle.std.specs.Prelude.{◌≡◌, ℕ, ◌+◌, ◌≤◌, ◌++◌, if◌then◌else◌, [], length};
+ghost use Rattle.std.specs.Prelude.{◌≡◌, ℕ, ◌+◌, ◌≤◌, ◌++◌, if◌then◌else◌, [], filter, length, All};
 ghost use Rattle.std.specs.List.{flat_map};
 ghost use Rattle.std.specs.Option.{option_to_list};
 ghost use Rattle.layer_states.specs.Reassembly.{acks_due};
@@ -9,15 +9,19 @@ ghost use Rattle.mesh_jobs.specs.Ticks.{IsSpan, is_beacon_due as is_beacon_due_i
 ghost use Rattle.mesh_types.specs.declared.events.Event.TheVariants as E;
 ghost use Rattle.node_layers.specs.BuiltLayers.{built_layers};
 ghost use Rattle.node_layers.specs.Reassembly.{due_jobs, messages};
+ghost use Rattle.node_layers.specs.Sending as own;
 ghost use Rattle.node_records.specs.Tables.{config_in};
 ghost use Rattle.run_definitions.specs.Answers.{later};
 ghost use Rattle.run_definitions.specs.History.{Insight, Past};
 ghost use Rattle.run_definitions.specs.Jobs.{beacon_jobs, beacons_due, is_moved as is_moved_in, jobs_of};
+ghost use Rattle.segment_sender.specs.Held.{IsHeldWell, has_round};
 
 use crate::acknowledgments::acknowledgment;
 use crate::beacons::push_beacons;
 use crate::making::push_made;
+use crate::segments::push_rounds;
 use layer_states::reassembly::{AckList, DueAck};
+use layer_states::sending::Sending;
 use mesh_base::iv_state::IvState;
 use mesh_types::answers::Answer;
 use mesh_types::jobs::{Job, Jobs};
@@ -92,20 +96,32 @@ pub fn push_beacons_due(jobs: &mut Jobs, p: &Persist, span: &Span)
     }
 }
 
-/// The jobs of a tick event: the acknowledgments that are due, and then the node's beacons, if they are. `p` is what the records after the
-/// event say, and `nets` are its keys.
+/// The jobs of a tick event: the acknowledgments that are due, the rounds of own messages, and then the node's beacons, if they are due. `rounds`
+/// are the messages that send one, as they are before the time is counted. `p` is what the records after the event say, and `nets` are its
+/// keys.
 #[tactic(auto, unfolding(node_layers::specs::BuiltLayers::built_layers, run_definitions::specs::Jobs::jobs_of))]
-pub fn tick_jobs(p: &Persist, nets: &NetKeys, acks: &AckList, span: &Span, answer: &Answer) -> Jobs
+pub fn tick_jobs(
+    p: &Persist,
+    nets: &NetKeys,
+    acks: &AckList,
+    rounds: &[Sending],
+    span: &Span,
+    answer: &Answer,
+) -> Jobs
     requires nets { nets.now ≡ p.now.nets }
+    requires few { length rounds.now ≤ 4 }
+    requires held { All IsHeldWell rounds.now }
     ensures value { (past : Past) (ticks : ℕ) (insight : Insight) → IsSpan past ticks span.now → acks.now ≡ acks_due (later past ticks) (messages past)
+        → rounds.now ≡ filter (has_round (later past ticks)) (own.messages past)
         → result ≡ jobs_of built_layers past (config_in p.now) (E.Tick ticks) insight answer.now }
-    ensures few { length result ≤ 12 }
+    ensures few { length result ≤ 140 }
 {
     let mut jobs = Jobs::new();
     let Answer::Ticked { .. } = answer else {
         return jobs;
     };
     push_acks(&mut jobs, p, nets, acks);
+    push_rounds(&mut jobs, p, nets, span.to, rounds);
     push_beacons_due(&mut jobs, p, span);
     jobs
 }

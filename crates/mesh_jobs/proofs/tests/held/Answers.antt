@@ -11,6 +11,6 @@ pub returns : goal.returns
 returns c =
     let last : ℕ = last_segment c.message.result.upper in
     record {
-      message = record { least = c.message.ensures.least; aid = c.message.ensures.aid; device = c.message.ensures.device };
+      message = record { least = c.message.ensures.least; seq = c.message.ensures.seq; ttl = c.message.ensures.ttl; aid = c.message.ensures.aid; device = c.message.ensures.device };
       left = subst (λ (xs : List ℕ). All (λ i. i ≤ last) xs) (sym c.one_left.ensures) (one_place last);
     }

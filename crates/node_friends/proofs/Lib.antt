@@ -1,0 +1,3 @@
+mod Queues
+mod ActJobs
+mod Steps

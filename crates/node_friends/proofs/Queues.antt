@@ -1,0 +1,187 @@
+-- Queues that can be sealed, through the calls on the table.
+use Rattle.std.proofs.Common.{◌≡◌, ◌∙◌, ℕ, zero, suc, ◌-◌, Bool, true, false, cond, List, [], ◌∷◌, ◌++◌, length, drop, filter, refl, sym, ap, arith, subst, Option, Some, None}
+use Rattle.std.specs.Prelude.{◌&&◌, ◌||◌, not, nat_lt, find, is_some, Result, Ok, Err}
+use Rattle.std.specs.List.{list_any}
+use Rattle.layer_definitions.specs.Network.{HasPdu}
+use Rattle.layer_states.specs.Cache.{last_of}
+use Rattle.layer_states.specs.Friends.{FriendCall, FriendsState, after, answer_again, answer_next, change_where, clear, end_all, has_address, is_again, is_cleared, is_empty, is_friend, is_friendship, is_noted, is_of, is_stored, keep, list_add, list_changed, list_remove, list_with, list_without, offer_slot, others, poll, poll_answer, poll_clear, poll_result, polled, put, put_own, queue_left, queued, renewed, request, request_fault, requested, standing, tick, with_kept}
+use Rattle.layer_states.specs.declared.friends.FriendFault.{FriendFault}
+use Rattle.layer_states.specs.declared.friends.FriendFault.TheVariants.{Stranger}
+use Rattle.layer_states.specs.declared.friends.Friendship.{Friendship}
+use Rattle.layer_states.specs.declared.friends.KeptPdu.{KeptPdu}
+use Rattle.layer_states.specs.declared.friends.Polled.{Polled}
+use Rattle.layer_states.specs.declared.friends.QueueEntry.{QueueEntry}
+use Rattle.layer_states.specs.declared.friends.QueueEntry.TheVariants as Q
+use Rattle.mesh_base.specs.declared.address.Address.{Address}
+use Rattle.mesh_base.specs.declared.fields.NetFields.{NetFields}
+use Rattle.mesh_base.specs.declared.pair.Name.{Name}
+use Rattle.node_friends.specs.Queues.{AreSealable, HoldPdus, IsSealable}
+
+-- One queue.
+
+sealable_more : (xs : List QueueEntry) (e : QueueEntry) → AreSealable xs → AreSealable (e ∷ []) → AreSealable (xs ++ e ∷ [])
+sealable_more [] e h k = k
+sealable_more (Q.Heard f ∷ xs) e h k = (h.0, sealable_more xs e h.1 k)
+sealable_more (Q.Own m ∷ xs) e h k = sealable_more xs e h k
+
+sealable_drop : (n : ℕ) (xs : List QueueEntry) → AreSealable xs → AreSealable (drop n xs)
+sealable_drop zero xs h = h
+sealable_drop (suc n) [] h = tt
+sealable_drop (suc n) (Q.Heard f ∷ xs) h = sealable_drop n xs h.1
+sealable_drop (suc n) (Q.Own m ∷ xs) h = sealable_drop n xs h
+
+sealable_last : (n : ℕ) (xs : List QueueEntry) → AreSealable xs → AreSealable (last_of n xs)
+sealable_last n xs h = sealable_drop (length xs - n) xs h
+
+sealable_left : (s : Friendship) → AreSealable s.queue → AreSealable (queue_left s)
+sealable_left s h =
+    elim s.answered as (λ b. AreSealable (cond b (drop 1 s.queue) s.queue)) [ true ↦ sealable_drop 1 s.queue h | false ↦ h ]
+
+sealable_queued : (e : QueueEntry) (s : Friendship) → AreSealable (e ∷ []) → AreSealable s.queue → AreSealable (queued e s).queue
+sealable_queued e s k h = sealable_last 16 (s.queue ++ e ∷ []) (sealable_more s.queue e h k)
+
+sealable_polled : (now : ℕ) (fsn : Bool) (s : Friendship) → AreSealable s.queue → AreSealable (polled now fsn s).queue
+sealable_polled now fsn s h =
+    elim (is_again fsn s) as (λ b.
+    AreSealable
+    (cond b (record s { until = renewed now s })
+    (record s { until = renewed now s; fsn = Some fsn; answered = not (is_empty (queue_left s)); kept = None; queue = queue_left s })).queue) [
+      | true ↦ h
+      | false ↦ sealable_left s h
+    ]
+
+-- All queues.
+
+hold_filter : (p : Friendship → Bool) (slots : List Friendship) → HoldPdus slots → HoldPdus (filter p slots)
+hold_filter p [] h = h
+hold_filter p (s ∷ slots) h =
+    elim (p s) as (λ b. HoldPdus (cond b (s ∷ filter p slots) (filter p slots))) [
+      | true ↦ (h.0, hold_filter p slots h.1)
+      | false ↦ hold_filter p slots h.1
+    ]
+
+hold_more : (slots : List Friendship) (s : Friendship) → HoldPdus slots → AreSealable s.queue → HoldPdus (slots ++ s ∷ [])
+hold_more [] s h k = (k, tt)
+hold_more (x ∷ slots) s h k = (h.0, hold_more slots s h.1 k)
+
+hold_change : (p : Friendship → Bool) (f : Friendship → Friendship)
+    → ((s : Friendship) → AreSealable s.queue → AreSealable (f s).queue) → (slots : List Friendship) → HoldPdus slots → HoldPdus (change_where p f slots)
+hold_change p f keeps [] h = h
+hold_change p f keeps (s ∷ slots) h =
+    (elim (p s) as (λ b. AreSealable (cond b (f s) s).queue) [ true ↦ keeps s h.0 | false ↦ h.0 ], hold_change p f keeps slots h.1)
+
+hold_where : (b : Bool) (xs ys : List Friendship) → HoldPdus xs → HoldPdus ys → HoldPdus (cond b xs ys)
+hold_where true xs ys h k = h
+hold_where false xs ys h k = k
+
+hold_standing : (now : ℕ) (slots : List Friendship) → HoldPdus slots → HoldPdus (standing now slots)
+hold_standing now slots h = hold_filter (λ s. nat_lt now s.until) slots h
+
+-- What a call puts into the queues can be sealed.
+abbrev pub PutsPdu : FriendCall → Type 0
+PutsPdu (put f) = HasPdu f
+PutsPdu call = Unit {0}
+
+lowered : (f : NetFields) → HasPdu f → HasPdu (record f { ttl = f.ttl - 1 })
+lowered f h = record { ttl = omega (arith, h.ttl); seq = h.seq; least = h.least; most = h.most }
+
+pub holds : (st : FriendsState) (call : FriendCall) → PutsPdu call → HoldPdus st.slots → HoldPdus (after st call).slots
+holds st (request now net own lpn r) p h =
+    elim (is_some (request_fault now st.slots lpn r)) as (λ b. HoldPdus (cond b st (requested st now net own lpn r)).slots) [
+      | true ↦ h
+      | false ↦
+          hold_more (others lpn (standing now st.slots)) (offer_slot st.offers now net own lpn r)
+          (hold_filter (λ s. not (is_of lpn s)) (standing now st.slots) (hold_standing now st.slots h)) tt
+    ]
+holds st (poll now lpn fsn) p h =
+    hold_where (list_any (is_of lpn) (standing now st.slots)) _ _
+    (hold_change (is_of lpn) (polled now fsn) (sealable_polled now fsn) (standing now st.slots) (hold_standing now st.slots h)) h
+holds st (keep lpn fsn name pdu) p h = hold_change (is_noted lpn fsn) (with_kept name pdu) (λ s k. k) st.slots h
+holds st (put f) p h =
+    let e : QueueEntry = Q.Heard (record f { ttl = f.ttl - 1 }) in
+    hold_change (is_stored f) (queued e) (λ s k. sealable_queued e s (lowered f p, tt) k) st.slots h
+holds st (put_own m) p h =
+    hold_change (λ s. is_friendship s && has_address s m.dst) (queued (Q.Own m)) (λ s k. sealable_queued (Q.Own m) s tt k) st.slots h
+holds st (list_add now lpn added) p h =
+    hold_where (list_any (is_friend lpn) (standing now st.slots)) _ _
+    (hold_change (is_friend lpn) (list_changed now (λ list. list_with list added)) (λ s k. k) (standing now st.slots) (hold_standing now st.slots h)) h
+holds st (list_remove now lpn removed) p h =
+    hold_where (list_any (is_friend lpn) (standing now st.slots)) _ _
+    (hold_change (is_friend lpn) (list_changed now (λ list. list_without list removed)) (λ s k. k) (standing now st.slots) (hold_standing now st.slots h)) h
+holds st (clear lpn counter) p h = hold_filter (λ s. not (is_cleared lpn counter s)) st.slots h
+holds st (tick now) p h = hold_standing now st.slots h
+holds st end_all p h = tt
+
+-- The table after a call, where its state is known by an equation.
+pub holds_after : (old new : FriendsState) (call : FriendCall) → new ≡ after old call → PutsPdu call → HoldPdus old.slots → HoldPdus new.slots
+holds_after old new call e p h = subst (λ (st : FriendsState). HoldPdus st.slots) (sym e) (holds old call p h)
+
+-- What answers a Poll can be sealed.
+
+found_sealable : (p : Friendship → Bool) (slots : List Friendship) (s : Friendship) → HoldPdus slots → find p slots ≡ Some s → AreSealable s.queue
+found_sealable p [] s h e = cc
+found_sealable p (x ∷ slots) s h e =
+    (elim (p x) as (λ b. cond b (Some x) (find p slots) ≡ Some s → AreSealable s.queue) [
+      | true ↦ λ u. let same : x ≡ s = cc in subst (λ (y : Friendship). AreSealable y.queue) same h.0
+      | false ↦ λ u. found_sealable p slots s h.1 u
+    ]) e
+
+next_sealable : (queue : List QueueEntry) → AreSealable queue → IsSealable (answer_next queue)
+next_sealable [] h = tt
+next_sealable (Q.Heard f ∷ rest) h = h.0
+next_sealable (Q.Own m ∷ rest) h = tt
+
+again_sealable : (kept : Option KeptPdu) → IsSealable (answer_again kept)
+again_sealable None = tt
+again_sealable (Some k) = tt
+
+answer_sealable : (fsn : Bool) (s : Friendship) → AreSealable s.queue → IsSealable (poll_answer fsn s)
+answer_sealable fsn s h =
+    elim (is_again fsn s) as (λ b. IsSealable (cond b (answer_again s.kept) (answer_next (queue_left s)))) [
+      | true ↦ again_sealable s.kept
+      | false ↦ next_sealable (queue_left s) (sealable_left s h)
+    ]
+
+abbrev leads_to : Bool → Option Friendship → Result Polled FriendFault
+leads_to fsn None = Err Stranger
+leads_to fsn (Some s) = Ok (record { answer = poll_answer fsn s; clear = poll_clear s })
+
+leads_are : (slots : List Friendship) (now : ℕ) (lpn : Address) (fsn : Bool) (o : Option Friendship) → find (is_of lpn) (standing now slots) ≡ o
+    → poll_result slots now lpn fsn ≡ leads_to fsn o
+leads_are slots now lpn fsn None e = rw e refl
+leads_are slots now lpn fsn (Some s) e = rw e refl
+
+of_found : (slots : List Friendship) (fsn : Bool) (p : Friendship → Bool) (o : Option Friendship) (polled : Polled) → HoldPdus slots → find p slots ≡ o
+    → leads_to fsn o ≡ Ok polled → IsSealable polled.answer
+of_found slots fsn p None polled h e k = cc
+of_found slots fsn p (Some s) polled h e k =
+    let same : record { answer = poll_answer fsn s; clear = poll_clear s } ≡ polled = cc in
+    subst (λ (q : Polled). IsSealable q.answer) same (answer_sealable fsn s (found_sealable p slots s h e))
+
+pub poll_sealable : (slots : List Friendship) (now : ℕ) (lpn : Address) (fsn : Bool) (polled : Polled) → HoldPdus slots
+    → poll_result slots now lpn fsn ≡ Ok polled → IsSealable polled.answer
+poll_sealable slots now lpn fsn polled h e =
+    let found = find (is_of lpn) (standing now slots) in
+    of_found (standing now slots) fsn (is_of lpn) found polled (hold_standing now slots h) refl
+    (sym (leads_are slots now lpn fsn found refl) ∙ e)
+
+-- Octets that may not be noted leave all as it was.
+
+or_left : (a b : Bool) → (a || b) ≡ false → a ≡ false
+or_left true b h = h
+or_left false b h = refl
+
+or_right : (a b : Bool) → (a || b) ≡ false → b ≡ false
+or_right true b h = cc
+or_right false b h = h
+
+change_none : (p : Friendship → Bool) (f : Friendship → Friendship) (slots : List Friendship) → list_any p slots ≡ false → change_where p f slots ≡ slots
+change_none p f [] h = refl
+change_none p f (s ∷ slots) h =
+    ap (λ b. cond b (f s) s ∷ change_where p f slots) (or_left (p s) (list_any p slots) h)
+    ∙ ap (λ l. s ∷ l) (change_none p f slots (or_right (p s) (list_any p slots) h))
+
+pub kept_none : (st : FriendsState) (lpn : Address) (fsn : Bool) (name : Name) (pdu : List ℕ) → list_any (is_noted lpn fsn) st.slots ≡ false
+    → after st (keep lpn fsn name pdu) ≡ st
+kept_none st lpn fsn name pdu h =
+    ap (λ (slots : List Friendship). record st { slots = slots }) (change_none (is_noted lpn fsn) (with_kept name pdu) st.slots h)
