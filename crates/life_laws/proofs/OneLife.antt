@@ -9,7 +9,7 @@ use Rattle.mesh_types.specs.declared.events.Event.TheVariants as E
 use Rattle.mesh_types.specs.declared.report.Opened.TheVariants as W
 use Rattle.record_types.specs.declared.records.StoreRecord.{StoreRecord}
 use Rattle.report_definitions.specs.Record.{Life, Shown, list_at, shown, shown_of}
-use Rattle.mesh_base.specs.Pairs.{word}
+use Rattle.mesh_base.specs.Pairs.{word_of}
 use Rattle.mesh_base.specs.declared.pair.Pair.{Pair}
 use Rattle.mesh_types.specs.declared.history.Entry.{Entry}
 use Rattle.node_phase.proofs.Mine.{kept_no, kept_yes}
@@ -114,10 +114,10 @@ module _ (layers : Layers) (plan : List Step) (over next : List StoreRecord) (l 
       let none : draws (shown l) ≡ [] = ap draws nothing_shown in
       record {
         seq = subst (All (λ p. p.seq < 2 ^ 24)) (sym none) (All-nil (λ p. p.seq < 2 ^ 24));
-        from = subst (All (λ p. (config_of over).mark ≤ word p)) (sym none) (All-nil (λ (p : Pair). (config_of over).mark ≤ word p));
-        below = subst (All (λ p. word p < (config_of next).mark)) (sym none) (All-nil (λ (p : Pair). word p < (config_of next).mark));
-        once = subst (AllPairs (λ p q. word p ≢ word q)) (sym none) (λ i j p lt within. absurd (omega (arith, within)));
-        rise = λ k. subst (λ ss. AllPairs (λ p q. word p < word q) (draws (filter_map (shown_of l.entries) (list_at ss k)))) (sym sends) (λ i j p lt within. absurd (omega (arith, within)));
+        from = subst (All (λ p. (config_of over).mark ≤ word_of p)) (sym none) (All-nil (λ (p : Pair). (config_of over).mark ≤ word_of p));
+        below = subst (All (λ p. word_of p < (config_of next).mark)) (sym none) (All-nil (λ (p : Pair). word_of p < (config_of next).mark));
+        once = subst (AllPairs (λ p q. word_of p ≢ word_of q)) (sym none) (λ i j p lt within. absurd (omega (arith, within)));
+        rise = λ k. subst (λ ss. AllPairs (λ p q. word_of p < word_of q) (draws (filter_map (shown_of l.entries) (list_at ss k)))) (sym sends) (λ i j p lt within. absurd (omega (arith, within)));
       }
 
   pub idle_life : Opens (config_of over) l.opened l.end → IsLeft over [] next → LifeOf layers plan over l next

@@ -9,7 +9,7 @@ use Rattle.std.proofs.lemmas.List.{length-map, map-append}
 use Rattle.std.proofs.lemmas.List.Elements.{All-append, All-contains, All-nil, All-head, All-tail, Contains-append_left, Contains-append_right, Contains-get_or, filter-append, filter_map-append}
 use Rattle.std.proofs.lemmas.List.Kept.{AllPairs-cons}
 use Rattle.std.proofs.lemmas.Bool.Decides.{nat_tests}
-use Rattle.mesh_base.specs.Pairs.{word}
+use Rattle.mesh_base.specs.Pairs.{word_of}
 use Rattle.mesh_base.specs.declared.pair.Pair.{Pair}
 use Rattle.machine_contract.specs.declared.answers.Stop.{Stop}
 use Rattle.machine_contract.specs.declared.answers.Stop.TheVariants as S
@@ -95,6 +95,7 @@ shows_more : (es new : List Entry) (lines : List Sent) (drawn : List ℕ) (looks
 shows_more es new lines drawn looks more came is f h = record {
   shows = h.shows;
   found = subst (λ l. map (shown_of l) lines ≡ map Some h.shows) (sym is) (found_more es came lines h.shows h.found);
+  short = h.short;
   drawing = h.drawing;
   seq = h.seq;
   spent = λ k d lt. spent_in looks more _ f (h.spent k d lt);
@@ -107,7 +108,8 @@ shows_both es a b v w looks h k =
     record {
       shows = h.shows ++ k.shows;
       found = map-append (shown_of es) a b ∙ ap (λ l. l ++ map (shown_of es) b) h.found ∙ ap (λ l. map Some h.shows ++ l) k.found ∙ sym (map-append Some h.shows k.shows);
-      drawing = ap (map word) more ∙ map-append word (draws h.shows) (draws k.shows) ∙ ap (λ l. l ++ map word (draws k.shows)) h.drawing ∙ ap (λ l. v ++ l) k.drawing;
+      short = All-append (λ (s : Sent). s.job + 1 < 2 ^ 8) a b h.short k.short;
+      drawing = ap (map word_of) more ∙ map-append word_of (draws h.shows) (draws k.shows) ∙ ap (λ l. l ++ map word_of (draws k.shows)) h.drawing ∙ ap (λ l. v ++ l) k.drawing;
       seq = subst (All (λ p. p.seq < 2 ^ 24)) (sym more) (All-append (λ p. p.seq < 2 ^ 24) (draws h.shows) (draws k.shows) h.seq k.seq);
       spent = All-append (λ s. IsSpentSeen looks s.outcome) h.shows k.shows h.spent k.spent;
     }
@@ -267,6 +269,7 @@ module _ {F : Type 0} (old new : NodeView F) (d e : DrawerView) (events : List (
         shown = record {
           shows = shown.shows;
           found = found_entries new.machine.entries new.stops (event_in new.machine.hand) mine.lines.items shown.shows shown.found;
+          short = shown.short;
           drawing = shown.drawing;
           seq = shown.seq;
           spent = λ j s lt'. spent_in mine.drawer.looks e.looks _ (λ x c. subst (λ l. Contains l x) (sym w.looks) (Contains-append_right d.looks (flat_map looks_by w.bearers) x (contains_flat looks_by w.bearers k b x lt c))) (shown.spent j s lt');
@@ -287,7 +290,7 @@ module _ {F : Type 0} (old new : NodeView F) (d e : DrawerView) (events : List (
 
 -- The lines of all bearers together.
 pub record Sum (entries : List Entry) (sends : List (List Sent)) (drawns : List (List ℕ)) (looks : List Look) : Type 0 where
-  pub drawing : map word (draws (flat_map (filter_map (shown_of entries)) sends)) ≡ all_of drawns
+  pub drawing : map word_of (draws (flat_map (filter_map (shown_of entries)) sends)) ≡ all_of drawns
   pub seq : All (λ p. p.seq < 2 ^ 24) (draws (flat_map (filter_map (shown_of entries)) sends))
   pub spent : All (λ s. IsSpentSeen looks s.outcome) (flat_map (filter_map (shown_of entries)) sends)
 
@@ -311,35 +314,35 @@ sum_up entries (s ∷ sends) (w ∷ drawns) looks h =
     let all : filter_map (shown_of entries) s ++ others ≡ h.0.shows ++ others = ap (λ l. l ++ others) mine in
     let more : draws (filter_map (shown_of entries) s ++ others) ≡ draws h.0.shows ++ draws others = ap draws all ∙ filter_map-append (λ (x : Shown). drawn_of x.job x.outcome) h.0.shows others in
     record {
-      drawing = ap (map word) more ∙ map-append word (draws h.0.shows) (draws others) ∙ ap (λ l. l ++ map word (draws others)) h.0.drawing ∙ ap (λ l. w ++ l) rest.drawing;
+      drawing = ap (map word_of) more ∙ map-append word_of (draws h.0.shows) (draws others) ∙ ap (λ l. l ++ map word_of (draws others)) h.0.drawing ∙ ap (λ l. w ++ l) rest.drawing;
       seq = subst (All (λ p. p.seq < 2 ^ 24)) (sym more) (All-append (λ p. p.seq < 2 ^ 24) (draws h.0.shows) (draws others) h.0.seq rest.seq);
       spent = subst (All (λ x. IsSpentSeen looks x.outcome)) (sym all) (All-append (λ (x : Shown). IsSpentSeen looks x.outcome) h.0.shows others h.0.spent rest.spent);
     }
 
 -- from words to their pairs
-pub all_words : (P : ℕ → Type 0) (ps : List Pair) (ws : List ℕ) → map word ps ≡ ws → All P ws → All (λ p. P (word p)) ps
-all_words P ps ws is h k p lt = subst P (index_map word ps k p (word p) lt) (subst (All P) (sym is) h k (word p) (omega (arith, lt, length-map ps word)))
+pub all_words : (P : ℕ → Type 0) (ps : List Pair) (ws : List ℕ) → map word_of ps ≡ ws → All P ws → All (λ p. P (word_of p)) ps
+all_words P ps ws is h k p lt = subst P (index_map word_of ps k p (word_of p) lt) (subst (All P) (sym is) h k (word_of p) (omega (arith, lt, length-map ps word_of)))
 
-pub pairs_words : (R : ℕ → ℕ → Type 0) (ps : List Pair) (ws : List ℕ) → map word ps ≡ ws → AllPairs R ws → AllPairs (λ p q. R (word p) (word q)) ps
+pub pairs_words : (R : ℕ → ℕ → Type 0) (ps : List Pair) (ws : List ℕ) → map word_of ps ≡ ws → AllPairs R ws → AllPairs (λ p q. R (word_of p) (word_of q)) ps
 pairs_words R ps ws is h i j p lt within =
-    let long = length-map ps word in
-    subst (λ x. R x (word (slice_index_or ps j p))) (index_map word ps i p (word p) (omega (arith, lt, within)))
-    (subst (λ y. R (slice_index_or (map word ps) i (word p)) y) (index_map word ps j p (word p) within)
-    (subst (AllPairs R) (sym is) h i j (word p) lt (omega (arith, within, long))))
+    let long = length-map ps word_of in
+    subst (λ x. R x (word_of (slice_index_or ps j p))) (index_map word_of ps i p (word_of p) (omega (arith, lt, within)))
+    (subst (λ y. R (slice_index_or (map word_of ps) i (word_of p)) y) (index_map word_of ps j p (word_of p) within)
+    (subst (AllPairs R) (sym is) h i j (word_of p) lt (omega (arith, within, long))))
 
 pub rise_at : (entries : List Entry) (sends : List (List Sent)) (drawns : List (List ℕ)) (looks : List Look) → AreShownBy entries sends drawns looks
-    → (k : ℕ) → AllPairs (λ p q. word p < word q) (draws (filter_map (shown_of entries) (list_at sends k)))
+    → (k : ℕ) → AllPairs (λ p q. word_of p < word_of q) (draws (filter_map (shown_of entries) (list_at sends k)))
 rise_at entries [] [] looks h k = λ i j p lt within. absurd (omega (arith, within))
 rise_at entries [] (w ∷ drawns) looks h k = absurd h
 rise_at entries (s ∷ sends) [] looks h k = absurd h
 rise_at entries (s ∷ sends) (w ∷ drawns) looks h zero =
-    pairs_words (λ a b. a < b) (draws (filter_map (shown_of entries) s)) w (ap (λ l. map word (draws l)) (filter_found (shown_of entries) s h.0.shows h.0.found) ∙ h.0.drawing) h.1
+    pairs_words (λ a b. a < b) (draws (filter_map (shown_of entries) s)) w (ap (λ l. map word_of (draws l)) (filter_found (shown_of entries) s h.0.shows h.0.found) ∙ h.0.drawing) h.1
 rise_at entries (s ∷ sends) (w ∷ drawns) looks h (suc k) = rise_at entries sends drawns looks h.2 k
 
 pub no_pairs : (n : ℕ) (looks : List Look) → AreShownBy [] (replicate n []) (replicate n []) looks
 no_pairs zero looks = tt
 no_pairs (suc n) looks = (
-  record { shows = []; found = refl; drawing = refl; seq = All-nil (λ p. p.seq < 2 ^ 24); spent = All-nil (λ (s : Shown). IsSpentSeen looks s.outcome) },
+  record { shows = []; found = refl; short = All-nil (λ (s : Sent). s.job + 1 < 2 ^ 8); drawing = refl; seq = All-nil (λ p. p.seq < 2 ^ 24); spent = All-nil (λ (s : Shown). IsSpentSeen looks s.outcome) },
   (λ i j d lt within. absurd (omega (arith, within))),
   no_pairs n looks,
 )

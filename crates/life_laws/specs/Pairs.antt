@@ -1,7 +1,7 @@
 -- The lines of several phases, and the pairs that they draw.
-use Rattle.std.specs.Prelude.{◌≡◌, ℕ, ◌^◌, ◌<◌, List, [], ◌∷◌, map, All, AllPairs, Some, ⊤}
+use Rattle.std.specs.Prelude.{◌≡◌, ℕ, ◌+◌, ◌^◌, ◌<◌, List, [], ◌∷◌, map, All, AllPairs, Some, ⊤}
 use Rattle.std.specs.List.{flat_map}
-use Rattle.mesh_base.specs.Pairs.{word}
+use Rattle.mesh_base.specs.Pairs.{word_of}
 use Rattle.mesh_types.specs.declared.history.Entry.{Entry}
 use Rattle.mesh_types.specs.declared.history.Sent.{Sent}
 use Rattle.report_definitions.specs.Record.{Shown, shown_of}
@@ -11,11 +11,13 @@ use Rattle.seq_word.specs.Seen.{DrawerView}
 use Rattle.seq_word.specs.declared.looks.Look.{Look}
 use Rattle.node_bearer.specs.Marked.{IsSpentSeen}
 
--- What the lines of a bearer show is among these entries; they draw these words, each with a SEQ below 2^24.
+-- What the lines of a bearer show is among these entries; they draw these words, each with a SEQ below 2^24. A job's number, from 1 on, has 8
+-- bits.
 pub record ShowsIn (entries : List Entry) (lines : List Sent) (drawn : List ℕ) (looks : List Look) : Type 0 where
   pub shows : List Shown
   pub found : map (shown_of entries) lines ≡ map Some shows
-  pub drawing : map word (draws shows) ≡ drawn
+  pub short : All (λ s. s.job + 1 < 2 ^ 8) lines
+  pub drawing : map word_of (draws shows) ≡ drawn
   pub seq : All (λ p. p.seq < 2 ^ 24) (draws shows)
   pub spent : All (λ s. IsSpentSeen looks s.outcome) shows
 

@@ -20,6 +20,7 @@ use flash_model::Bench;
 use machine_contract::{Answered, Machine, Stop};
 use mesh_types::events::Event;
 use seq_word::Numbers;
+use std::alloc::{AllocError, Global};
 use std::marker::Model;
 use turn_lock::Logged;
 
@@ -27,9 +28,11 @@ use turn_lock::Logged;
 ///
 /// Its entries are those of the machine's history, and behind them a mark for each bearer that stopped since the flash failed. So where a
 /// bearer stopped, the history grows no more.
+///
+/// The machine is boxed, so that a turn at the lock moves no tables.
 #[derive(Drop)]
 pub struct Node<M: Machine, F: Bench> {
-    machine: M,
+    machine: Box<M>,
     flash: F,
     start: Known<F>,
     stops: u32,
@@ -41,9 +44,9 @@ impl<M: Machine, F: Bench> Model for Node<M, F> {
 
     ghost Value = { NodeView F };
 
-    ghost view = { λ n. record { machine = M.view n.machine; start = n.start; flash = n.flash; stops = n.stops } };
+    ghost view = { λ n. record { machine = M.view n.machine.value; start = n.start; flash = n.flash; stops = n.stops } };
 
-    ghost invariant = { λ n. Holds M.stands M.view F.chip n.machine n.start n.flash n.stops };
+    ghost invariant = { λ n. Holds M.stands M.view F.chip n.machine.value n.start n.flash n.stops };
 }
 
 impl<M: Machine, F: Bench> Logged for Node<M, F> {
@@ -61,19 +64,20 @@ impl<M: Machine, F: Bench> Logged for Node<M, F> {
 }
 
 impl<M: Machine, F: Bench> Node<M, F> {
-    /// A machine with its flash, which the life found as `start` says.
-    pub fn new(machine: M, flash: F, start: Known<F>) -> Self
+    /// A machine with its flash, which the life found as `start` says. For want of memory both are dropped.
+    pub fn new(alloc: Global, machine: M, flash: F, start: Known<F>) -> Result<Self, AllocError>
         requires stands { (over : List StoreRecord) × IsRecovered (F.chip start).now over × M.stands (F.chip flash) over machine }
         requires usable { (M.view machine).closed ≡ false }
         requires later { IsLater (F.chip start) (F.chip flash) }
-        ensures value { result ≡ record { machine = M.view machine; start = start; flash = flash; stops = 0 } }
+        ensures value { IfOk result (λ node. node ≡ record { machine = M.view machine; start = start; flash = flash; stops = 0 }) }
     {
-        Node {
+        let machine = Box::new(alloc, machine)?;
+        Ok(Node {
             machine,
             flash,
             start,
             stops: 0,
-        }
+        })
     }
 
     /// Handles an event of a bearer. Where the flash failed, now or before, the bearer's mark is put.
@@ -182,6 +186,6 @@ impl<M: Machine, F: Bench> Node<M, F> {
             start: _,
             stops: _,
         } = self;
-        (machine, flash)
+        (Box::into_inner(machine), flash)
     }
 }

@@ -1,5 +1,6 @@
 -- The jobs of an event are within their ranges.
-use Rattle.std.proofs.Common.{◌≡◌, ℕ, zero, suc, ◌-◌, ◌*◌, ◌/◌, ◌%◌, ◌<◌, ◌≤◌, ◌^◌, Bool, false, List, [], ◌∷◌, ◌++◌, length, take, drop, refl, arith, Option, Some, None}
+use Rattle.std.proofs.Common.{◌≡◌, ℕ, zero, suc, ◌-◌, ◌*◌, ◌/◌, ◌%◌, ◌<◌, ◌≤◌, ◌^◌, Bool, false, List, [], ◌∷◌, ◌++◌, length, take, drop, filter, refl, subst, arith, Option, Some, None}
+use Rattle.std.specs.Bool.{⊤}
 use Rattle.std.specs.Prelude.{All, option_and_then}
 use Rattle.std.specs.List.{AllByRecursion as Every, range_with_len}
 use Rattle.std.specs.Option.{option_map, option_map_or, option_to_list}
@@ -9,7 +10,10 @@ use Rattle.layer_definitions.specs.KeyRefresh.{app_key, app_row, master_material
 use Rattle.layer_definitions.specs.Lower.{lower_text, segment}
 use Rattle.layer_definitions.specs.Network.{HasPdu}
 use Rattle.layer_states.specs.Reassembly.{acks_due}
+use Rattle.layer_states.specs.Sending.{round_of}
 use Rattle.layer_states.specs.declared.reassembly.DueAck.{DueAck}
+use Rattle.layer_states.specs.declared.sending.Outgoing.{Outgoing}
+use Rattle.layer_states.specs.declared.sending.Sending.{Sending}
 use Rattle.machine_contract.specs.Ranges.{IsEvent, IsJob, IsQuiet, IsUpperKey}
 use Rattle.machine_ties.proofs.Acks.{IsShort, IsShortTold, acks_short, reply_short}
 use Rattle.machine_ties.proofs.Lists.{Inside, every_append, every_flat, every_flat_any, every_made, every_pick}
@@ -30,7 +34,10 @@ use Rattle.mesh_types.specs.declared.events.SendKey.TheVariants as K
 use Rattle.mesh_types.specs.declared.jobs.Job.{Job}
 use Rattle.mesh_types.specs.declared.jobs.Job.TheVariants as J
 use Rattle.node_layers.specs.BuiltLayers.{built_layers}
+use Rattle.mesh_jobs.proofs.Rounds.{rounds_are}
 use Rattle.node_layers.specs.Reassembly.{acks_at, due_job, due_jobs, messages}
+use Rattle.node_layers.specs.Sending.{round_jobs, segment_job, segments_at}
+use Rattle.node_layers.specs.Sending as own
 use Rattle.run_definitions.specs.Answers.{config_before, is_before_cache, later}
 use Rattle.run_definitions.specs.History.{Insight, OfBeacon, OfNothing, OfPdu, Past, Reading}
 use Rattle.run_definitions.specs.Jobs.{ack_asked, ack_job, ack_jobs, beacon_jobs, beacons_due, begin_jobs, block_asked, element_address, first_net, first_round_job, jobs_of, message_jobs, pdu_jobs, raw_jobs, refresh_jobs, relay_jobs, segment_numbers, send_jobs, send_keys, sent_job, under}
@@ -38,6 +45,7 @@ use Rattle.run_definitions.specs.Layers.{AccessMessage}
 use Rattle.run_definitions.specs.Order.{is_outside}
 use Rattle.run_definitions.specs.Readings.{Sees, sees_pdu}
 use Rattle.run_definitions.specs.Stores.{message_of}
+use Rattle.segment_sender.specs.Held.{IsHeldWell, IsOutgoing, has_round}
 use Rattle.store_definitions.specs.Config.{Config}
 
 -- Widths of what is derived.
@@ -134,14 +142,39 @@ module _ (event : Event) where
   unfolding lower_text
   due_in c d h = every_under (IsJob event) c d.net (due_job d) (λ m nid. (nid, h, omega arith, omega arith))
 
-  tick_in : (past : Past) (c : Config) (ticks : ℕ) (i : Insight) (now : ℕ) → Every IsShortTold past.told → Every (IsJob event) (jobs_of built_layers past c (E.Tick ticks) i (A.Ticked now))
+  -- A round of an own segmented message.
+
+  segment_length : (akf : Bool) (id seq : ℕ) (upper : List ℕ) (seg_o : ℕ) → length (lower_text (segment akf id seq upper seg_o)) ≡ suc (suc (suc (suc (length (take 12 (drop (12 * seg_o) upper))))))
+  unfolding lower_text
+  segment_length akf id seq upper seg_o = refl
+
+  piece_in : (m : Outgoing) (seg_o : ℕ) (material : NetMaterial) → IsOutgoing m → material.nid < 2 ^ 7 → IsJob event (segment_job m seg_o material)
+  piece_in m seg_o material h nid =
+      let octets = segment_length m.akf m.aid m.name.pair.seq m.upper seg_o in
+      (nid, h.ttl, h.seq, omega (arith, octets), omega (arith, octets, take_few 12 (drop (12 * seg_o) m.upper)))
+
+  round_in : (c : Config) (now : ℕ) (s : Sending) → IsHeldWell s → Every (IsJob event) (round_jobs c now s)
+  round_in c now s h =
+      every_pick (IsJob event) (has_round now s) _ []
+      (every_flat_any (IsJob event) (λ seg_o. under c s.message.net (segment_job s.message seg_o))
+      (λ seg_o. every_under (IsJob event) c s.message.net (segment_job s.message seg_o) (λ m nid. piece_in s.message seg_o m h.message nid)) (round_of s))
+      tt
+
+  rounds_in : (past : Past) (c : Config) (ticks : ℕ) → Every IsHeldWell (filter (has_round (later past ticks)) (own.messages past)) → Every (IsJob event) (segments_at past c ticks)
+  rounds_in past c ticks h =
+      let now : ℕ = later past ticks in
+      subst (Every (IsJob event)) (rounds_are c now (own.messages past))
+      (every_flat IsHeldWell (IsJob event) (round_jobs c now) (round_in c now) (filter (has_round now) (own.messages past)) h)
+
+  tick_in : (past : Past) (c : Config) (ticks : ℕ) (i : Insight) (now : ℕ) → Every IsShortTold past.told
+      → Every IsHeldWell (filter (has_round (later past ticks)) (own.messages past)) → Every (IsJob event) (jobs_of built_layers past c (E.Tick ticks) i (A.Ticked now))
   unfolding built_layers jobs_of
-  tick_in past c ticks i now h =
-      every_append (IsJob event) (acks_at past c ticks ++ [] ++ beacons_due past c ticks) []
-      (every_append (IsJob event) (acks_at past c ticks ++ []) (beacons_due past c ticks)
-      (every_append (IsJob event) (acks_at past c ticks) []
+  tick_in past c ticks i now h rounds =
+      every_append (IsJob event) (acks_at past c ticks ++ segments_at past c ticks ++ beacons_due past c ticks) []
+      (every_append (IsJob event) (acks_at past c ticks ++ segments_at past c ticks) (beacons_due past c ticks)
+      (every_append (IsJob event) (acks_at past c ticks) (segments_at past c ticks)
       (every_flat (λ (d : DueAck). IsShort d.ack_ttl) (IsJob event) (due_jobs c) (due_in c) (acks_due (later past ticks) (messages past)) (acks_short past (later past ticks) h))
-      tt)
+      (rounds_in past c ticks rounds))
       (due_beacons_in past c ticks))
       tt
 
@@ -153,10 +186,6 @@ module _ (event : Event) where
       pick (Some net) = every_under (IsJob event) c net _ (λ m nid. (nid, short, least, most))
 
   -- Of a segmented message that begins.
-
-  segment_length : (akf : Bool) (id seq : ℕ) (upper : List ℕ) (seg_o : ℕ) → length (lower_text (segment akf id seq upper seg_o)) ≡ suc (suc (suc (suc (length (take 12 (drop (12 * seg_o) upper))))))
-  unfolding lower_text
-  segment_length akf id seq upper seg_o = refl
 
   begin_in : (c : Config) (pair : Pair) (dst src : Address) (ttl net : ℕ) (akf : Bool) (id : ℕ) (upper : List ℕ) → pair.seq < 2 ^ 24 → ttl < 2 ^ 7
       → Every (IsJob event) (begin_jobs c pair dst src ttl net akf id upper)
@@ -202,24 +231,29 @@ send_in past c element dst ttl key payload short least most = pick (send_keys c 
     pick None h = tt
     pick (Some keys) h = every_under (IsJob (E.Send element dst ttl key payload)) c keys.0 _ (λ m nid. (nid, short, h, least, most))
 
+-- where time was told, what sends a round is well formed
+abbrev pub HasRounds : Past → Event → Answer → Type 0
+HasRounds past (E.Tick ticks) (A.Ticked now) = Every IsHeldWell (filter (has_round (later past ticks)) (own.messages past))
+HasRounds past event answer = ⊤
+
 every_job : (past : Past) (c : Config) (event : Event) (i : Insight) (a : Answer) (elements : ℕ) → Sees built_layers past event i → IsEvent elements event → IsShort c.ttl
-    → Every IsShortTold past.told → Every (IsJob event) (jobs_of built_layers past c event i a)
+    → Every IsShortTold past.told → HasRounds past event a → Every (IsJob event) (jobs_of built_layers past c event i a)
 unfolding jobs_of
-every_job past c (E.Net octets) i a elements s e h k = pdu_in (E.Net octets) past c octets i a s h
-every_job past c (E.Bcn octets) i a elements s e h k = tt
-every_job past c (E.Send element dst ttl key payload) i A.Planned elements s e h k = send_in past c element dst ttl key payload e.3 e.5 e.6
-every_job past c (E.Send element dst ttl key payload) i _ elements s e h k = tt
-every_job past c (E.Raw dst ttl tpdu) i A.Planned elements s e h k = raw_in (E.Raw dst ttl tpdu) c dst ttl tpdu e.1 e.2 e.3
-every_job past c (E.Raw dst ttl tpdu) i _ elements s e h k = tt
-every_job past c (E.Tick ticks) i (A.Ticked now) elements s e h k = tick_in (E.Tick ticks) past c ticks i now k
-every_job past c (E.Tick ticks) i _ elements s e h k = tt
-every_job past c (E.Begin pair dst src ttl net akf id upper) i A.Begun elements s e h k = begin_in (E.Begin pair dst src ttl net akf id upper) c pair dst src ttl net akf id upper e.0 e.1
-every_job past c (E.Begin pair dst src ttl net akf id upper) i _ elements s e h k = tt
-every_job past c (E.Kept lpn fsn name pdu) i a elements s e h k = tt
+every_job past c (E.Net octets) i a elements s e h k r = pdu_in (E.Net octets) past c octets i a s h
+every_job past c (E.Bcn octets) i a elements s e h k r = tt
+every_job past c (E.Send element dst ttl key payload) i A.Planned elements s e h k r = send_in past c element dst ttl key payload e.3 e.5 e.6
+every_job past c (E.Send element dst ttl key payload) i _ elements s e h k r = tt
+every_job past c (E.Raw dst ttl tpdu) i A.Planned elements s e h k r = raw_in (E.Raw dst ttl tpdu) c dst ttl tpdu e.1 e.2 e.3
+every_job past c (E.Raw dst ttl tpdu) i _ elements s e h k r = tt
+every_job past c (E.Tick ticks) i (A.Ticked now) elements s e h k r = tick_in (E.Tick ticks) past c ticks i now k r
+every_job past c (E.Tick ticks) i _ elements s e h k r = tt
+every_job past c (E.Begin pair dst src ttl net akf id upper) i A.Begun elements s e h k r = begin_in (E.Begin pair dst src ttl net akf id upper) c pair dst src ttl net akf id upper e.0 e.1
+every_job past c (E.Begin pair dst src ttl net akf id upper) i _ elements s e h k r = tt
+every_job past c (E.Kept lpn fsn name pdu) i a elements s e h k r = tt
 
 pub jobs_ranged : (past : Past) (c : Config) (event : Event) (i : Insight) (a : Answer) (elements : ℕ) → Sees built_layers past event i → IsEvent elements event → IsShort c.ttl
-    → Every IsShortTold past.told → All (IsJob event) (jobs_of built_layers past c event i a)
-jobs_ranged past c event i a elements s e h k = All-from_recursion (IsJob event) _ (every_job past c event i a elements s e h k)
+    → Every IsShortTold past.told → HasRounds past event a → All (IsJob event) (jobs_of built_layers past c event i a)
+jobs_ranged past c event i a elements s e h k r = All-from_recursion (IsJob event) _ (every_job past c event i a elements s e h k r)
 
 -- After the lines of a segmented message nothing is handled.
 

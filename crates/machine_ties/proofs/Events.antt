@@ -2,9 +2,12 @@
 use Rattle.std.proofs.Common.{◌≡◌, ℕ, ◌+◌, ◌≤◌, ◌<◌, ◌^◌, false, List, [], ◌∷◌, ◌++◌, length, refl, ap, sym, subst, ◌∙◌, arith}
 use Rattle.std.specs.Prelude.{All, fold}
 use Rattle.std.proofs.lemmas.List.Elements.{recursion_from_All}
+use Rattle.event_plans.proofs.Asked.{told_time}
 use Rattle.event_plans.proofs.Narrow.{narrow_of}
-use Rattle.event_plans.specs.Plans.{IsPlanned, insight_in}
+use Rattle.event_plans.specs.Plans.{IsBasisOf, IsPlanned, insight_in}
 use Rattle.event_plans.specs.Sending.{IsSendable}
+use Rattle.event_plans.specs.declared.plan.Basis.{Basis}
+use Rattle.event_plans.specs.declared.plan.Basis.TheVariants as B
 use Rattle.event_plans.specs.declared.plan.Plan.{Plan}
 use Rattle.event_records.specs.Putting.{ArePuttable}
 use Rattle.flash_model.specs.Chip.{Chip, Keeps, Setting}
@@ -12,7 +15,7 @@ use Rattle.machine_contract.specs.Ranges.{IsEvent, IsJob, IsQuiet}
 use Rattle.machine_contract.specs.Standing.{past_now}
 use Rattle.machine_contract.specs.declared.answers.Hand.TheVariants as H
 use Rattle.machine_ties.proofs.Acks.{IsShortTold}
-use Rattle.machine_ties.proofs.Asked.{jobs_quiet, jobs_ranged}
+use Rattle.machine_ties.proofs.Asked.{HasRounds, jobs_quiet, jobs_ranged}
 use Rattle.machine_ties.proofs.Fronts.{IsSameNode, all_ranges, all_whole, kept_node, puttable_kept}
 use Rattle.machine_ties.proofs.Lists.{every_map}
 use Rattle.machine_ties.proofs.Standings.{before_more, entered_stands, stopped_stands, told_by}
@@ -21,6 +24,8 @@ use Rattle.machine_ties.specs.Kept.{AreKept, KeepWhole, KeptLaw}
 use Rattle.machine_ties.specs.Ties.{IsBefore, IsCutIn, IsReady, Stands, entered, stopped}
 use Rattle.machine_ties.specs.Views.{NodeMachine}
 use Rattle.mesh_hearing.specs.Tables.{AreTablesOf, IsFit, TablesView}
+use Rattle.mesh_types.specs.declared.answers.Answer.{Answer}
+use Rattle.mesh_types.specs.declared.answers.Answer.TheVariants as A
 use Rattle.mesh_types.specs.declared.events.Event.{Event}
 use Rattle.mesh_types.specs.declared.events.Event.TheVariants as E
 use Rattle.mesh_types.specs.declared.history.Entry.{Entry}
@@ -33,11 +38,12 @@ use Rattle.node_store.specs.Tie.{IsStoreOf}
 use Rattle.record_types.specs.declared.records.StoreRecord.{StoreRecord}
 use Rattle.run_definitions.specs.Answers.{answer_of}
 use Rattle.run_definitions.specs.Handling.{Handles}
-use Rattle.run_definitions.specs.History.{Past, Told}
+use Rattle.run_definitions.specs.History.{OfNothing, Past, Told}
 use Rattle.run_definitions.specs.Jobs.{jobs_of}
 use Rattle.run_definitions.specs.Order.{is_outside}
 use Rattle.run_definitions.specs.Readings.{Sees}
 use Rattle.run_definitions.specs.Stores.{stores}
+use Rattle.segment_sender.specs.Held.{IsHeldWell}
 use Rattle.seq_reserve.specs.Reserving.{IsPublished}
 use Rattle.seq_reserve.specs.declared.reserve.Reserve.{Reserve}
 use Rattle.store_definitions.specs.Config.{Config, changed, config_of}
@@ -89,6 +95,33 @@ pub record IsAfter (elements : ℕ) (p : Persist) : Type 0 where
   pub same : elements ≡ p.elements
   pub unicast : p.unicast.0 + p.elements ≤ 2 ^ 15
 
+-- what the store says between two events
+pub ready_after : (m : NodeMachine) → IsReady m → IsAfter m.elements m.reserve.store.persist
+ready_after m ready =
+    let whole : IsWhole (config_in m.reserve.store.persist) = subst IsWhole (sym ready.before.standing.meaning.config) ready.before.whole in
+    record { whole = whole; same = ready.elements; unicast = whole.last }
+
+pub event_sendable : (elements : ℕ) (event : Event) (p : Persist) → IsAfter elements p → IsEvent elements event → IsSendable (config_in p) event
+event_sendable elements (E.Send element dst ttl key payload) p after h = omega (arith, h.0, after.same, after.unicast)
+event_sendable elements (E.Begin pair dst src ttl net akf aid upper) p after h =
+    record { least = h.4; seq = h.0; ttl = h.1; aid = h.2; device = h.3 }
+event_sendable elements (E.Net octets) p after h = tt
+event_sendable elements (E.Bcn octets) p after h = tt
+event_sendable elements (E.Raw dst ttl tpdu) p after h = tt
+event_sendable elements (E.Tick ticks) p after h = tt
+event_sendable elements (E.Kept lpn fsn name pdu) p after h = tt
+
+-- what sends a round is what the plan says
+rounds_held : (past : Past) (event : Event) (basis : Basis) (a : Answer) → IsBasisOf past event basis → a ≡ answer_of built_layers past event (insight_in basis)
+    → HasRounds past event a
+rounds_held past (E.Tick ticks) (B.Time acks rounds span) (A.Ticked now) b is =
+    let reset = told_time past ticks now OfNothing (A.Ticked now) is refl in
+    recursion_from_All IsHeldWell _ (subst (All IsHeldWell) (b.1.rounds reset) b.1.held)
+rounds_held past (E.Tick ticks) (B.Pdu reset reading low opened phases) a b is = absurd b
+rounds_held past (E.Tick ticks) (B.Beacon reset beacon) a b is = absurd b
+rounds_held past (E.Tick ticks) B.Own a b is = absurd b
+rounds_held past _ basis a b is = tt
+
 module _ (law : KeptLaw) (m : NodeMachine) (event : Event) (plan : Plan) (planned_tables : TablesView) where
   -- where all records were stored
   pub event_stands : (old new : Chip) (over : List StoreRecord) (s : Stands old over m) → m.closed ≡ false
@@ -109,7 +142,7 @@ module _ (law : KeptLaw) (m : NodeMachine) (event : Event) (plan : Plan) (planne
       (plan_handles past event plan planned_tables r.store.persist entry planned e meaning)
       (plan_stores past event plan planned_tables r.store.persist entry planned e)
       (plan_kept past m event plan planned_tables h planned may)
-      (renewed _ (planned.tables (told_by past entry (insight_in plan.basis)) refl e.has refl))
+      (renewed _ (planned.tables (told_by past entry (insight_in plan.basis)) e.is_of refl e.has refl))
       few store published keeps meaning
       (omega (arith, s.began, keeps.later, ap (λ (x : Setting). x.faults) keeps.setting))
 
@@ -134,17 +167,17 @@ module _ (law : KeptLaw) (m : NodeMachine) (event : Event) (plan : Plan) (planne
       → IsPlanned ready.past event plan planned_tables
       → ArePuttable m.reserve.store.persist plan.records
       → ((told : List Told) → AreTablesOf planned_tables told → AreTablesOf tables told)
-      → entry.answer ≡ plan.answer
+      → entry.event ≡ event → entry.answer ≡ plan.answer
       → IsMeaningOf (ready.past.records ++ plan.records) r.store.persist
       → IsPublished r.store r.keeper → IsFit tables r.store.persist → r.store.journal.closed ≡ false → m.elements ≡ r.store.persist.elements
       → IsReady (entered m r tables entry)
-  event_ready ready r tables entry planned may renewed answer meaning published fit usable elements =
+  event_ready ready r tables entry planned may renewed is answer meaning published fit usable elements =
       let past : Past = ready.past in
       record {
         past = record { told = past.told ++ told_by past entry (insight_in plan.basis) ∷ []; records = past.records ++ plan.records };
         before = before_more law past m r tables entry (insight_in plan.basis) plan.records ready.before
             (plan_kept past m event plan planned_tables ready.before planned may) meaning
-            (renewed _ (planned.tables (told_by past entry (insight_in plan.basis)) refl answer refl));
+            (renewed _ (planned.tables (told_by past entry (insight_in plan.basis)) is refl answer refl));
         published = published;
         fit = fit;
         usable = usable;
@@ -168,7 +201,8 @@ module _ (law : KeptLaw) (m : NodeMachine) (event : Event) (plan : Plan) (planne
       subst (λ l. All (IsJob event) l) (sym is)
       (jobs_ranged past (config_in p) event (insight_in plan.basis) plan.answer elements planned.sees e
       (subst (λ (c : Config). c.ttl < 2 ^ 7) (sym meaning.config) short)
-      (every_map (λ (t : Told). All IsInRange t.records) IsShortTold short_told past.told (recursion_from_All (λ (t : Told). All IsInRange t.records) past.told ready.before.told)))
+      (every_map (λ (t : Told). All IsInRange t.records) IsShortTold short_told past.told (recursion_from_All (λ (t : Told). All IsInRange t.records) past.told ready.before.told))
+      (rounds_held past event plan.basis plan.answer planned.basis planned.answer))
 
   pub event_quiet : (ready : IsReady m) (p : Persist) (jobs : List Job)
       → jobs ≡ jobs_of built_layers ready.past (config_in p) event (insight_in plan.basis) plan.answer
@@ -190,15 +224,3 @@ module _ (law : KeptLaw) (m : NodeMachine) (event : Event) (plan : Plan) (planne
         same = ready.elements ∙ sym (ap (λ (c : Config). c.elements) change ∙ same.elements);
         unicast = whole.last;
       }
-
-  pub event_sendable : (p : Persist) → IsAfter m.elements p → IsEvent m.elements event → IsSendable (config_in p) event
-  event_sendable p after e = by_event event e
-    where
-      by_event : (x : Event) → IsEvent m.elements x → IsSendable (config_in p) x
-      by_event (E.Send element dst ttl key payload) h = omega (arith, h.0, after.same, after.unicast)
-      by_event (E.Begin pair dst src ttl net akf aid upper) h = (omega (arith, h.4), h.2, h.3)
-      by_event (E.Net octets) h = tt
-      by_event (E.Bcn octets) h = tt
-      by_event (E.Raw dst ttl tpdu) h = tt
-      by_event (E.Tick ticks) h = tt
-      by_event (E.Kept lpn fsn name pdu) h = tt

@@ -34,6 +34,7 @@ pub(crate) fn prepare(
     requires standing { IsSomePast p.now tables.old }
     requires fit { IsFit tables.old p.now }
     requires said { IsSaid p.now }
+    requires sendable { IsSendable (config_in p.now) event.now }
     ensures planned { (past : Past) → IsStanding past p.now tables.old → IfOk result (λ plan. IsPlanned past event.now plan tables.new) }
     ensures may { IfOk result (λ plan. ArePuttable p.now plan.records) }
     ensures moves { IfOk result (λ plan. AreMoves (config_in p.now) plan.records) }

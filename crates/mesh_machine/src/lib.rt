@@ -8,6 +8,8 @@
 //! - `machine`: [`MeshMachine`], its calls
 //! - `entering`: what a call does apart from the flash
 //! - `opening`: how it is opened
+//!
+//! A caller to begin with: `a_segmented_message` in `src/tests.rt`.
 #![tactic(auto)]
 
 mod entering;

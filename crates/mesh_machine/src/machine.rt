@@ -2,19 +2,23 @@
 #![tactic(auto)]
 
 ghost use Rattle.std.specs.Prelude.{◌≡◌, ◌<◌, ◌^◌, List, All, length, true, false, Err, IfOk, OnOk, IfErr};
+ghost use Rattle.event_world.specs.Stepping.{HasStepped};
 ghost use Rattle.flash_model.specs.Chip.{Keeps};
 ghost use Rattle.machine_contract.specs.Ranges.{IsEvent, IsJob, IsQuiet};
 ghost use Rattle.machine_contract.specs.Refused.{IsRefused};
 ghost use Rattle.machine_contract.specs.View.{entry_for, with_entry};
 ghost use Rattle.machine_ties.specs.Ties.{Stands};
 ghost use Rattle.machine_ties.specs.Views.{shown};
+ghost use Rattle.mesh_world.specs.World.{World};
 ghost use Rattle.record_types.specs.declared.records.StoreRecord.{StoreRecord};
 ghost use Rattle.run_definitions.specs.Order.{is_outside};
 ghost use Rattle.seq_word.specs.Word.{seq_of};
+ghost use Rattle.store_world.specs.Standing.{IsWorldOf};
 
 use crate::entering::{Place, enter, prepare, renew};
 use event_plans::Tables;
 use event_storing::store_records;
+use event_world::event_law;
 use flash_model::Flash;
 use machine_contract::{Answered, Hand, Stop};
 use mesh_reading::held_keys_law;
@@ -52,8 +56,9 @@ impl Model for MeshMachine {
 }
 
 impl MeshMachine {
-    /// Handles an event of a bearer, which is the one with this number among its events, from 1 on.
-    pub(crate) fn handle_event<F: Flash>(
+    /// Handles an event of a bearer, which is the one with this number among its events, from 1 on: `handle` of `Machine` is this call. Its
+    /// records and what it accepts are steps of the world (`mesh_world`) from any world of the store before it to one of the store after it.
+    pub fn handle_event<F: Flash>(
         &mut self,
         n: &Numbers,
         flash: &mut F,
@@ -69,6 +74,8 @@ impl MeshMachine {
         ensures usable { OnOk result ((shown self.old).closed ≡ false) }
         ensures jobs { IfOk result (λ r. All (IsJob event.now) r.jobs) }
         ensures quiet { is_outside event.now ≡ false → IfOk result (λ r. All IsQuiet r.jobs) }
+        ensures steps { (w : World) → IsWorldOf w self.old.reserve.store.persist self.old.reserve.store.persist.mark
+            → IfOk result (λ r. HasStepped w self.old.reserve.store.persist self.new.reserve.store.persist event.now r.answer) }
         ensures refused { IfErr result (IsRefused F.chip (Hand.OfEvent event.now) (shown self.old) (shown self.new) flash.old flash.new) }
         ensures closed { (shown self.old).closed ≡ true → result ≡ Err Stop.Closed }
         ensures kept { (over : List StoreRecord) → Stands (F.chip flash.old) over self.old → Stands (F.chip flash.new) over self.new }
@@ -83,6 +90,7 @@ impl MeshMachine {
         // They do nothing when they run: the proof uses what they say.
         node_law();
         held_keys_law();
+        event_law();
         let plan = match prepare(
             &mut self.history,
             &mut self.tables,

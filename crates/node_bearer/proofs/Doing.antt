@@ -5,7 +5,7 @@ use Rattle.std.specs.List.{range_with_len}
 use Rattle.std.specs.Option.{option_to_list}
 use Rattle.std.proofs.lemmas.List.{map-append}
 use Rattle.std.proofs.lemmas.List.Elements.{All-append, All-cons, All-nil, All-push, Contains-append_left, filter_map-append}
-use Rattle.mesh_base.specs.Pairs.{word}
+use Rattle.mesh_base.specs.Pairs.{word_of}
 use Rattle.mesh_base.specs.declared.pair.Pair.{Pair}
 use Rattle.mesh_types.specs.declared.events.Event.{Event}
 use Rattle.mesh_types.specs.declared.history.Entry.{Entry}
@@ -34,6 +34,7 @@ pub shown_more : (marks rest : List Mark) (lines : List Sent) (drawn : List ℕ)
 shown_more marks rest lines drawn looks h = record {
   shows = h.shows;
   found = found_longer marks rest lines h.shows h.found;
+  short = h.short;
   drawing = h.drawing;
   seq = h.seq;
   spent = h.spent;
@@ -51,6 +52,7 @@ looks_longer : (marks : List Mark) (lines : List Sent) (drawn : List ℕ) (looks
 looks_longer marks lines drawn looks rest h = record {
   shows = h.shows;
   found = h.found;
+  short = h.short;
   drawing = h.drawing;
   seq = h.seq;
   spent = λ k d lt. spent_more looks rest _ (h.spent k d lt);
@@ -71,7 +73,7 @@ draws_one e job o (Some p) h = rw h refl
 
 pub line_more : (marks : List Mark) (lines : List Sent) (drawn : List ℕ) (looks : List Look) (at j : ℕ) (event : Event) (job : Job) (o : Outcome) (p : Option Pair)
     → AreShown marks lines drawn looks → HasJob marks at j event job → drawn_of job o ≡ p → All (λ q. q.seq < 2 ^ 24) (option_to_list p) → IsSpentSeen looks o
-    → AreShown marks (lines ++ record { entry = at; job = j; outcome = o } ∷ []) (drawn ++ map word (option_to_list p)) looks
+    → AreShown marks (lines ++ record { entry = at; job = j; outcome = o } ∷ []) (drawn ++ map word_of (option_to_list p)) looks
 line_more marks lines drawn looks at j event job o p h there d seq spent =
     let line : Sent = record { entry = at; job = j; outcome = o } in
     let show : Shown = record { entry = there.entry.entry; job = job; outcome = o } in
@@ -82,7 +84,8 @@ line_more marks lines drawn looks at j event job o p h there d seq spent =
       found =
           map-append (shown_in marks) lines (line ∷ []) ∙ ap (λ l. l ++ map (shown_in marks) (line ∷ [])) h.found
           ∙ ap (λ x. map Some h.shows ++ x ∷ []) (found_here marks at j event job o there) ∙ sym (map-append Some h.shows (show ∷ []));
-      drawing = ap (map word) more ∙ map-append word (draws h.shows) (option_to_list p) ∙ ap (λ l. l ++ map word (option_to_list p)) h.drawing;
+      short = All-push (λ (s : Sent). s.job + 1 < 2 ^ 8) lines line h.short there.short;
+      drawing = ap (map word_of) more ∙ map-append word_of (draws h.shows) (option_to_list p) ∙ ap (λ l. l ++ map word_of (option_to_list p)) h.drawing;
       seq = subst (All (λ q. q.seq < 2 ^ 24)) (sym more) (All-append (λ q. q.seq < 2 ^ 24) (draws h.shows) (option_to_list p) h.seq seq);
       spent = All-push (λ s. IsSpentSeen looks s.outcome) h.shows show h.spent spent;
     }
@@ -180,10 +183,10 @@ module _ (k first : ℕ) (tasks : List Task) where
         bearer = h.bearer;
         numbers = h.numbers;
         count = h.count;
-        shown = subst (λ ws. AreShown marks (lines ++ line) ws e.looks) (sym new.drawn) (looks_more marks (lines ++ line) (d.drawn ++ word p ∷ []) d.looks e.looks new.looks shown');
-        rise = subst (AllPairs (λ x y. x < y)) (sym new.drawn) (pairs_more d.drawn (word p) h.rise new.above);
-        above = subst (λ ws. All (λ x. All (λ y. y < x) e.noted) ws) (sym new.drawn) (subst (λ ns. All (λ x. All (λ y. y < x) ns) (d.drawn ++ word p ∷ [])) (sym new.noted)
-            (All-push (λ x. All (λ y. y < x) d.noted) d.drawn (word p) h.above new.over));
+        shown = subst (λ ws. AreShown marks (lines ++ line) ws e.looks) (sym new.drawn) (looks_more marks (lines ++ line) (d.drawn ++ word_of p ∷ []) d.looks e.looks new.looks shown');
+        rise = subst (AllPairs (λ x y. x < y)) (sym new.drawn) (pairs_more d.drawn (word_of p) h.rise new.above);
+        above = subst (λ ws. All (λ x. All (λ y. y < x) e.noted) ws) (sym new.drawn) (subst (λ ns. All (λ x. All (λ y. y < x) ns) (d.drawn ++ word_of p ∷ [])) (sym new.noted)
+            (All-push (λ x. All (λ y. y < x) d.noted) d.drawn (word_of p) h.above new.over));
       }
 
 -- a line with a pair, or of a job that draws none, doesn't say that no number was left

@@ -43,7 +43,7 @@ pub entry_on : {F : Type 0} (a b : BearerOf F) (at : ℕ) (event : Event) (jobs 
 entry_on a b at event jobs on h = subst (λ ms. HasEntry ms at event jobs) (sym on.more) (entry_longer a.pass.seen on.rest at event jobs h)
 
 pub job_on : {F : Type 0} (a b : BearerOf F) (at j : ℕ) (event : Event) (job : Job) → GoesOn a b → HasJob a.pass.seen at j event job → HasJob b.pass.seen at j event job
-job_on a b at j event job on h = record { jobs = h.jobs; entry = entry_on a b at event h.jobs on h.entry; place = h.place }
+job_on a b at j event job on h = record { jobs = h.jobs; entry = entry_on a b at event h.jobs on h.entry; place = h.place; short = h.short }
 
 pub contains_spent : (looks front : List Look) (mark word : ℕ) → looks ≡ front ++ saw.Mark mark ∷ saw.Counter word ∷ [] → Contains looks (saw.Counter word)
 contains_spent looks front mark word e =

@@ -1,7 +1,7 @@
 -- What a bearer did with its tasks.
 use Rattle.std.specs.Prelude.{◌≡◌, ℕ, ◌+◌, ◌*◌, ◌^◌, ◌<◌, false, IsTrue, List, [], ◌∷◌, ◌++◌, map, length, All, AllPairs, Option, Some, ⊤}
 use Rattle.std.specs.List.{Contains, range_with_len}
-use Rattle.mesh_base.specs.Pairs.{word}
+use Rattle.mesh_base.specs.Pairs.{word_of}
 use Rattle.mesh_base.specs.declared.pair.Pair.{Pair}
 use Rattle.mesh_types.specs.declared.events.Event.{Event}
 use Rattle.mesh_types.specs.declared.history.Sent.{Sent}
@@ -65,11 +65,11 @@ pub record Broke {F : Type 0} (k first : ℕ) (tasks : List Task) (b : BearerOf 
 
 -- a pair more was drawn, above all before it
 pub record DrewPair (p : Pair) (d e : DrawerView) : Type 0 where
-  pub drawn : e.drawn ≡ d.drawn ++ word p ∷ []
+  pub drawn : e.drawn ≡ d.drawn ++ word_of p ∷ []
   pub noted : e.noted ≡ d.noted
   pub looks : seen.IsPrefix d.looks e.looks
-  pub above : All (λ x. x < word p) d.drawn
-  pub over : All (λ x. x < word p) d.noted
+  pub above : All (λ x. x < word_of p) d.drawn
+  pub over : All (λ x. x < word_of p) d.noted
   pub seq : p.seq < 2 ^ 24
 
 pub record Drew {F : Type 0} (p : Pair) (k first : ℕ) (tasks left : List Task) (b : BearerOf F) : Type 0 where

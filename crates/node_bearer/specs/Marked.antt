@@ -2,7 +2,7 @@
 use Rattle.std.specs.Prelude.{◌≡◌, ℕ, ◌+◌, ◌*◌, ◌^◌, ◌<◌, List, map, All, Option, Some, None, option_and_then, ⊤}
 use Rattle.std.specs.List.{Contains, slice_get}
 use Rattle.std.specs.Option.{option_map}
-use Rattle.mesh_base.specs.Pairs.{word}
+use Rattle.mesh_base.specs.Pairs.{word_of}
 use Rattle.mesh_types.specs.declared.events.Event.{Event}
 use Rattle.mesh_types.specs.declared.history.Entry.{Entry}
 use Rattle.mesh_types.specs.declared.history.Sent.{Sent}
@@ -29,11 +29,12 @@ abbrev pub IsSpentSeen : List Look → Outcome → Type 0
 IsSpentSeen looks (O.Spent iv) = Contains looks (saw.Counter (iv * 2 ^ 25 + 2 ^ 24))
 IsSpentSeen looks _ = ⊤
 
--- The entry and the job of each line are there; the lines draw these words, each with a SEQ below 2^24.
+-- The entry and the job of each line are there; the lines draw these words, each with a SEQ below 2^24. A job's number, from 1 on, has 8 bits.
 pub record AreShown (marks : List Mark) (lines : List Sent) (drawn : List ℕ) (looks : List Look) : Type 0 where
   pub shows : List Shown
   pub found : map (shown_in marks) lines ≡ map Some shows
-  pub drawing : map word (draws shows) ≡ drawn
+  pub short : All (λ s. s.job + 1 < 2 ^ 8) lines
+  pub drawing : map word_of (draws shows) ≡ drawn
   pub seq : All (λ p. p.seq < 2 ^ 24) (draws shows)
   pub spent : All (λ s. IsSpentSeen looks s.outcome) shows
 
@@ -44,8 +45,9 @@ pub record HasEntry (marks : List Mark) (at : ℕ) (event : Event) (jobs : List 
   pub event_is : entry.event ≡ event
   pub jobs_are : entry.jobs ≡ jobs
 
--- and this is one of them
+-- and this is one of them, whose number, from 1 on, has 8 bits
 pub record HasJob (marks : List Mark) (at j : ℕ) (event : Event) (job : Job) : Type 0 where
   pub jobs : List Job
   pub entry : HasEntry marks at event jobs
   pub place : slice_get jobs j ≡ Some job
+  pub short : j + 1 < 2 ^ 8

@@ -44,6 +44,7 @@ nothing_shown : (marks : List Mark) (looks : List Look) → AreShown marks [] []
 nothing_shown marks looks = record {
   shows = [];
   found = refl;
+  short = All-nil (λ (s : Sent). s.job + 1 < 2 ^ 8);
   drawing = refl;
   seq = All-nil (λ p. p.seq < 2 ^ 24);
   spent = All-nil (λ (s : Shown). IsSpentSeen looks s.outcome);

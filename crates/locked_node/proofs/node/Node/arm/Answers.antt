@@ -4,14 +4,14 @@ use Rattle.locked_node.proofs.node.Node.arm.Goals as goal
 pub invariant_of-self : goal.invariant_of-self
 invariant_of-self g c =
     let h = c.self.invariant in
-    let life = c.tells.ensures.known c.self.inside.flash h.over c.self.inside.machine h.tie in
+    let life = c.tells.ensures.known c.self.inside.flash h.over c.self.inside.machine.value h.tie in
     let kept = c.arm.ensures.frame in
     let stays = c.arm.ensures.stays life.node.honest in
     let began = ap (λ s. s.faults) c.arm.ensures.setting in
     record {
       over = h.over;
       read = h.read;
-      tie = c.stays.ensures.kept c.self.inside.flash c.arm.new.self h.over c.self.inside.machine (record {
+      tie = c.stays.ensures.kept c.self.inside.flash c.arm.new.self h.over c.self.inside.machine.value (record {
         honest = kept.honest;
         stays = stays.images;
         now = stays.now;

@@ -1,25 +1,38 @@
 use Rattle.std.proofs.Common.{◌≡◌, ◌++◌, [], ◌∷◌, ◌<◌, ◌+◌, ◌^◌, List, length, refl, ap, sym, subst, ◌∙◌}
 use Rattle.event_plans.specs.Plans.{IsPlanned, IsStanding, insight_in}
 use Rattle.event_plans.specs.Sending.{IsSendable}
-use Rattle.event_records.specs.Putting.{ArePuttable}
+use Rattle.event_records.specs.Putting.{AreMoves, ArePuttable}
+use Rattle.event_world.specs.Stepping.{HasStepped}
 use Rattle.machine_contract.specs.Ranges.{IsEvent}
 use Rattle.machine_contract.specs.Standing.{past_now}
 use Rattle.machine_contract.specs.declared.answers.Hand.TheVariants as H
-use Rattle.machine_ties.proofs.Events.{IsAfter, IsEntryOf, event_after, event_jobs, event_quiet, event_ready, event_sendable, event_stands, event_stops}
+use Rattle.machine_ties.proofs.Events.{IsAfter, IsEntryOf, event_after, event_jobs, event_quiet, event_ready, event_sendable, event_stands, event_stops, ready_after}
 use Rattle.machine_ties.specs.Ties.{IsCutIn, IsOver, IsReady, Stands, entered, stopped}
 use Rattle.machine_ties.specs.Views.{NodeMachine}
 use Rattle.mesh_hearing.specs.Tables.{IsFit, TablesView}
 use Rattle.mesh_reading.specs.Held.{AreHeldKeys}
+use Rattle.mesh_types.specs.declared.answers.Answer.{Answer}
 use Rattle.mesh_types.specs.declared.events.Event.{Event}
 use Rattle.mesh_types.specs.declared.history.Entry.{Entry}
 use Rattle.node_layers.specs.BuiltLayers.{built_layers}
 use Rattle.node_records.specs.Meaning.{IsMeaningOf}
 use Rattle.node_records.specs.Tables.{config_in}
 use Rattle.node_records.specs.declared.persist.Persist.{Persist}
-use Rattle.run_definitions.specs.History.{Past}
+use Rattle.run_definitions.specs.History.{Insight, Past}
 use Rattle.run_definitions.specs.Jobs.{jobs_of}
+use Rattle.run_definitions.specs.Stores.{stores}
 use Rattle.store_definitions.specs.Node.{IsWhole}
+use Rattle.store_world.specs.Standing.{IsWorldOf}
 use Rattle.mesh_machine.proofs.machine.MeshMachine.handle_event.Goals as goal
+
+pub prepare-requires-clause-sendable : goal.prepare-requires-clause-sendable
+prepare-requires-clause-sendable g c =
+    let i = c.self.inside in
+    let m : NodeMachine = record { reserve = i.reserve; tables = i.tables; entries = i.history.items; fills = i.fills; closed = i.closed; hand = i.hand; elements = i.elements } in
+    let ready : IsReady m = c.self.invariant c.if-self.false in
+    subst (λ (p : Persist). IsSendable (config_in p) c.args.event.now) (sym c.persist.ensures.value)
+    (event_sendable i.elements c.args.event.now i.reserve.store.persist (ready_after m ready)
+    (subst (λ (v : NodeMachine). IsEvent v.elements c.args.event.now) (sym c.self.view_is) c.requires.event))
 
 pub returns-in-Err-clause-kept : goal.returns-in-Err-clause-kept
 returns-in-Err-clause-kept g c over stands =
@@ -90,7 +103,7 @@ enter-answered-requires-clause-sendable g c =
     let meaning : IsMeaningOf (ready.past.records ++ c.in-Ok.plan.records) q = c.in-Ok-store_records.ensures.meaning ready.past.records ready.before.standing.meaning in
     let after : IsAfter i.elements q = event_after c.node_law.ensures.kept m c.args.event.now c.in-Ok.plan c.prepare.new.tables ready q planned may meaning c.in-Ok-store_records.ensures.change in
     subst (λ (p : Persist). IsSendable (config_in p) c.args.event.now) (sym c.persist-p.ensures.value)
-    (event_sendable c.node_law.ensures.kept m c.args.event.now c.in-Ok.plan c.prepare.new.tables q after
+    (event_sendable i.elements c.args.event.now q after
     (subst (λ (v : NodeMachine). IsEvent v.elements c.args.event.now) (sym c.self.view_is) c.requires.event))
 
 pub invariant_of-self-2 : goal.invariant_of-self-2
@@ -109,7 +122,7 @@ invariant_of-self-2 g c e =
     let items : c.enter-answered.new.history.items ≡ i.history.items ++ entry ∷ [] = c.enter-answered.ensures.entry ∙ ap (λ l. l ++ entry ∷ []) c.prepare.ensures.entries in
     let r = c.store_records.new.reserve in
     let base : IsReady (entered m r c.renew.new.tables entry) =
-    event_ready c.node_law.ensures.kept m c.args.event.now c.in-Ok.plan c.prepare.new.tables ready r c.renew.new.tables entry planned may c.renew.ensures.tables c.enter-answered.ensures.answer
+    event_ready c.node_law.ensures.kept m c.args.event.now c.in-Ok.plan c.prepare.new.tables ready r c.renew.new.tables entry planned may c.renew.ensures.tables refl c.enter-answered.ensures.answer
     meaning c.store_records.ensures.published (subst (λ (p : Persist). IsFit c.renew.new.tables p) c.persist-p.ensures.value c.renew.ensures.fit)
     (c.in-Ok-store_records.ensures.usable ∙ ready.usable) after.same in
     subst (λ (l : List Entry). IsReady (record (entered m r c.renew.new.tables entry) { entries = l })) (sym items) base
@@ -141,6 +154,35 @@ returns-clause-quiet g c outside =
     let a = c.enter-answered.result in
     event_quiet c.node_law.ensures.kept m c.args.event.now c.in-Ok.plan c.prepare.new.tables ready c.persist-p.result.now a.jobs
     (c.enter-answered.ensures.jobs ready.past c.prepare.new.tables planned) outside
+
+pub returns-clause-steps : goal.returns-clause-steps
+returns-clause-steps g c w world =
+    let i = c.self.inside in
+    let m : NodeMachine = record { reserve = i.reserve; tables = i.tables; entries = i.history.items; fills = i.fills; closed = i.closed; hand = i.hand; elements = i.elements } in
+    let ready : IsReady m = c.self.invariant c.if-self.false in
+    let p : Persist = i.reserve.store.persist in
+    let q : Persist = c.store_records.new.reserve.store.persist in
+    let moves : AreMoves (config_in p) c.in-Ok.plan.records = subst (λ (v : Persist). AreMoves (config_in v) c.in-Ok.plan.records) c.persist.ensures.value c.in-Ok.ensures.moves in
+    let planned : IsPlanned ready.past c.args.event.now c.in-Ok.plan c.prepare.new.tables =
+    c.in-Ok.ensures.planned ready.past (subst (λ (v : Persist). IsStanding ready.past v i.tables) (sym c.persist.ensures.value) ready.before.standing) in
+    let meaning : IsMeaningOf (ready.past.records ++ c.in-Ok.plan.records) q = c.in-Ok-store_records.ensures.meaning ready.past.records ready.before.standing.meaning in
+    let insight : Insight = insight_in c.in-Ok.plan.basis in
+    let a = c.enter-answered.result in
+    let is : a.answer ≡ c.in-Ok.plan.answer = c.enter-answered.ensures.answer in
+    let records : c.in-Ok.plan.records ≡ stores built_layers ready.past c.args.event.now insight a.answer =
+    planned.records ∙ ap (λ (x : Answer). stores built_layers ready.past c.args.event.now insight x) (sym is) in
+    let before : IsWorldOf w p p.mark = subst (λ (v : NodeMachine). IsWorldOf w v.reserve.store.persist v.reserve.store.persist.mark) (sym c.self.view_is) world in
+    let stepped : HasStepped w p q c.args.event.now a.answer = record {
+      past = ready.past;
+      meaning = ready.before.standing.meaning;
+      insight = insight;
+      sees = planned.sees;
+      answer_is = is ∙ planned.answer;
+      goes = c.event_law.ensures.steps w ready.past p q c.args.event.now insight a.answer before ready.before.standing.meaning ready.before.standing.ranges planned.sees (is ∙ planned.answer)
+          (subst (λ l. AreMoves (config_in p) l) records moves)
+          (subst (λ l. IsMeaningOf (ready.past.records ++ l) q) records meaning);
+    } in
+    subst (λ (v : NodeMachine). HasStepped w v.reserve.store.persist q c.args.event.now a.answer) c.self.view_is stepped
 
 pub returns-clause-kept : goal.returns-clause-kept
 returns-clause-kept g c over stands =

@@ -1,0 +1,9 @@
+pub mod Taking
+pub mod Stepping
+pub mod Following
+pub mod Ending
+pub mod Arming
+pub mod Giving
+pub mod Printing
+pub mod Drawn
+pub mod Closing

@@ -1,0 +1,97 @@
+use Rattle.std.proofs.Common.{◌≡◌, ◌∙◌, true, ap, subst, arith}
+use Rattle.std.specs.Prelude.{IfOk}
+use Rattle.std.proofs.lemmas.Result.{IfOk-weaker}
+use Rattle.machine_contract.specs.Refused.{IsStartCause}
+use Rattle.mesh_types.specs.declared.report.End.TheVariants as Ends
+use Rattle.store_definitions.specs.Config.{config_of}
+use Rattle.store_definitions.specs.Recovered.{IsRecovered}
+use Rattle.mesh_node.specs.Plan.{steps_of}
+use Rattle.mesh_node.specs.Ran.{Ran}
+use Rattle.mesh_node.specs.Steps.{IsArmedFirst}
+use Rattle.mesh_node.proofs.Arming.{powered}
+use Rattle.mesh_node.proofs.Closing.{lives_cut, lives_ran, lives_reset}
+use Rattle.mesh_node.proofs.living.life.Goals as goal
+
+pub start-requires-clause-node : goal.start-requires-clause-node
+start-requires-clause-node g c =
+    let chip = g.B.Flash.chip in
+    let cycle = c.power_cycle.ensures in
+    let items = c.args.plan.now.steps.items in
+    let armed = subst (λ xs. IsArmedFirst xs (chip c.power_cycle.new.self) (chip c.arm_first-steps.new.flash)) c.as_slice.ensures.value c.arm_first-steps.ensures.armed in
+    (powered g.M.Machine.image items (chip c.args.flash) (chip c.power_cycle.new.self) (chip c.arm_first-steps.new.flash) c.requires.node cycle.frame cycle.fresh cycle.image cycle.setting armed).node
+
+pub start-requires-clause-fresh : goal.start-requires-clause-fresh
+start-requires-clause-fresh g c =
+    let chip = g.B.Flash.chip in
+    let cycle = c.power_cycle.ensures in
+    let items = c.args.plan.now.steps.items in
+    let armed = subst (λ xs. IsArmedFirst xs (chip c.power_cycle.new.self) (chip c.arm_first-steps.new.flash)) c.as_slice.ensures.value c.arm_first-steps.ensures.armed in
+    (powered g.M.Machine.image items (chip c.args.flash) (chip c.power_cycle.new.self) (chip c.arm_first-steps.new.flash) c.requires.node cycle.frame cycle.fresh cycle.image cycle.setting armed).fresh
+
+pub start-requires-clause-began : goal.start-requires-clause-began
+start-requires-clause-began g c =
+    let chip = g.B.Flash.chip in
+    let cycle = c.power_cycle.ensures in
+    let items = c.args.plan.now.steps.items in
+    let armed = subst (λ xs. IsArmedFirst xs (chip c.power_cycle.new.self) (chip c.arm_first-steps.new.flash)) c.as_slice.ensures.value c.arm_first-steps.ensures.armed in
+    let p = powered g.M.Machine.image items (chip c.args.flash) (chip c.power_cycle.new.self) (chip c.arm_first-steps.new.flash) c.requires.node cycle.frame cycle.fresh cycle.image cycle.setting armed in
+    omega (arith, p.began, p.count.faults)
+
+pub run_life-requires-clause-steps : goal.run_life-requires-clause-steps
+run_life-requires-clause-steps g c κs lives =
+    let chip = g.B.Flash.chip in
+    let cycle = c.power_cycle.ensures in
+    let items = c.args.plan.now.steps.items in
+    let start = chip c.arm_first-steps.new.flash in
+    let armed = subst (λ xs. IsArmedFirst xs (chip c.power_cycle.new.self) start) c.as_slice.ensures.value c.arm_first-steps.ensures.armed in
+    let p = powered g.M.Machine.image items (chip c.args.flash) (chip c.power_cycle.new.self) start c.requires.node cycle.frame cycle.fresh cycle.image cycle.setting armed in
+    λ over read. c.requires.plan.steps start.now over p.is (subst (λ f. IsRecovered (chip f).now over) c.in_ok-start.ensures.value read)
+
+pub returns-in-Ok : goal.returns-in-Ok
+returns-in-Ok g c =
+    let chip = g.B.Flash.chip in
+    let layers = g.M.Machine.layers in
+    let image = g.M.Machine.image in
+    let cycle = c.power_cycle.ensures in
+    let items = c.args.plan.now.steps.items in
+    let old = chip c.args.flash in
+    let start = chip c.arm_first-steps.new.flash in
+    let armed = subst (λ xs. IsArmedFirst xs (chip c.power_cycle.new.self) start) c.as_slice.ensures.value c.arm_first-steps.ensures.armed in
+    let p = powered image items old (chip c.power_cycle.new.self) start c.requires.node cycle.frame cycle.fresh cycle.image cycle.setting armed in
+    record {
+      life = IfOk-weaker c.run_life.result _ _ (λ r h. lives_ran layers image items c.requires.plan.arm old start (chip r.1) r.0 p.is p.began p.order p.count h)
+          (subst (λ s. IfOk c.run_life.result (λ r. Ran layers image (steps_of items) (chip s) r.0 (chip r.1))) c.in_ok-start.ensures.value c.run_life.ensures.ran);
+    }
+
+pub returns-in-Err-Flash : goal.returns-in-Err-Flash
+returns-in-Err-Flash g c =
+    let chip = g.B.Flash.chip in
+    let cycle = c.power_cycle.ensures in
+    let items = c.args.plan.now.steps.items in
+    let old = chip c.args.flash in
+    let start = chip c.arm_first-steps.new.flash in
+    let armed = subst (λ xs. IsArmedFirst xs (chip c.power_cycle.new.self) start) c.as_slice.ensures.value c.arm_first-steps.ensures.armed in
+    let p = powered g.M.Machine.image items old (chip c.power_cycle.new.self) start c.requires.node cycle.frame cycle.fresh cycle.image cycle.setting armed in
+    let cause = subst (IsStartCause g.M.Machine.image start (chip c.start.new.flash)) c.in-Err-Flash.field-0-is c.in-Err-Flash.ensures.cause in
+    let log = c.idle_log.ensures in
+    record {
+      life = lives_cut g.M.Machine.layers g.M.Machine.image items c.requires.plan.arm old start (chip c.start.new.flash) c.idle_log.result
+          p.is p.began p.order p.count c.start.ensures.frame ((g.met.B.Bench g.world.𝓛 g.world.𝓜 g.world.𝓡 ((λ s x. x), (λ x. x), (λ x. x), λ x. x)).explained c.start.new.flash) cause.1 cause.0 log.opened (log.end ∙ ap Ends.Cut c.changes.ensures) log.drawn log.entries log.refills log.sends;
+    }
+
+pub returns-in-Err-WasReset : goal.returns-in-Err-WasReset
+returns-in-Err-WasReset g c =
+    let chip = g.B.Flash.chip in
+    let cycle = c.power_cycle.ensures in
+    let items = c.args.plan.now.steps.items in
+    let old = chip c.args.flash in
+    let start = chip c.arm_first-steps.new.flash in
+    let armed = subst (λ xs. IsArmedFirst xs (chip c.power_cycle.new.self) start) c.as_slice.ensures.value c.arm_first-steps.ensures.armed in
+    let p = powered g.M.Machine.image items old (chip c.power_cycle.new.self) start c.requires.node cycle.frame cycle.fresh cycle.image cycle.setting armed in
+    let cause = subst (IsStartCause g.M.Machine.image start (chip c.start.new.flash)) c.in-Err-WasReset.field-0-is c.in-Err-WasReset.ensures.cause in
+    let log = c.idle_log-in-Err-WasReset.ensures in
+    let reset = subst (λ o. (config_of o).reset ≡ true) (c.one_list_is_recovered.ensures.one_list start.now cause.0.over cause.1.over cause.0.read cause.1.read) cause.0.reset in
+    record {
+      life = lives_reset g.M.Machine.layers g.M.Machine.image items c.requires.plan.arm old start (chip c.start.new.flash) c.idle_log-in-Err-WasReset.result
+          p.is p.began p.order p.count c.start.ensures.frame cause.1 reset log.opened log.end log.drawn log.entries log.refills log.sends;
+    }

@@ -1,0 +1,72 @@
+use Rattle.std.proofs.Common.{refl, ◌≢◌, None, ◌≡◌, ◌∙◌, Some, map, ap, sym, subst}
+use Rattle.std.specs.Prelude.{All, IfSome}
+use Rattle.flash_model.specs.Chip.{Setting}
+use Rattle.mesh_types.specs.declared.report.Opened.TheVariants as W
+use Rattle.store_definitions.specs.Config.{config_of}
+use Rattle.mesh_node.specs.declared.plan.LifeLog.{LifeLog}
+use Rattle.run_definitions.specs.Order.{phases_of}
+use Rattle.mesh_node.specs.Going.{IsOver}
+use Rattle.mesh_node.specs.Lives.{cut_calls}
+use Rattle.mesh_node.specs.Plan.{IsStep, steps_of}
+use Rattle.mesh_node.specs.Ran.{Ran}
+use Rattle.mesh_node.specs.Steps.{HasGiven, IsSameOrOf, MayFollow}
+use Rattle.mesh_node.proofs.Arming.{behind_all, behind_phases, order_whole}
+use Rattle.mesh_node.proofs.Closing.{ran}
+use Rattle.mesh_node.proofs.Giving.{given_whole}
+use Rattle.mesh_node.proofs.living.run_life.Goals as goal
+
+pub new-requires-clause-later : goal.new-requires-clause-later
+new-requires-clause-later g c κs lives =
+    let kept = c.requires.kept in
+    record { faults = kept.later; steady = kept.steady; began = ap (λ (s : Setting). s.faults) kept.setting }
+
+-- the elements of the node are those that the records say
+pub do_steps-requires-clause-steps : goal.do_steps-requires-clause-steps
+do_steps-requires-clause-steps g c κs lives =
+    let s = c.requires.started in
+    let bearers = c.args.plan.now.bearers in
+    let life = c.tells.ensures.known c.args.flash s.over c.args.started.machine s.tie in
+    let elements = ap (λ n. n.machine.elements) c.in_ok-opened.ensures.value ∙ life.elements in
+    let whole = c.args.plan.now.steps.items in
+    subst (λ n. All (IsStep bearers n) c.args.steps.now) (sym elements)
+    (subst (All (IsStep bearers (config_of s.over).elements)) (sym c.requires.behind) (behind_all (IsStep bearers (config_of s.over).elements) whole (c.requires.steps s.over s.read)))
+
+pub do_steps-requires-clause-may : goal.do_steps-requires-clause-may
+do_steps-requires-clause-may g c κs lives =
+    subst (λ n. MayFollow c.args.steps.now (g.F.Flash.chip n.flash).setting.arm) (sym c.in_ok-opened.ensures.value) c.requires.may
+
+-- the node as `do_steps` left it, and what `close` says of the two words
+pub returns : goal.returns
+returns g c =
+    let chip = g.F.Flash.chip in
+    let started = c.args.started in
+    let s = c.requires.started in
+    let start = c.args.start in
+    let node = c.in_ok-node.node in
+    let machine = c.into_parts-machine.ensures.machine in
+    let items = c.args.plan.now.steps.items in
+    let plan = steps_of items in
+    let did = c.in_ok-node.ensures in
+    let lines = map (λ v. v.items) c.in_ok-node.sends.items in
+    let phases = ap (λ xs. phases_of (steps_of xs)) c.requires.behind ∙ behind_phases items in
+    let over = subst (λ ps. IsOver ps node c.do_steps.new.drawer lines) phases did.over in
+    let before = (chip c.args.flash).setting.arm in
+    let order = order_whole items before (chip node.flash).setting.arm c.requires.order
+    (subst (λ xs. IsSameOrOf (steps_of xs) before (chip node.flash).setting.arm) c.requires.behind
+    (subst (λ n. IsSameOrOf (steps_of c.args.steps.now) (chip n.flash).setting.arm (chip node.flash).setting.arm) c.in_ok-opened.ensures.value did.arm)) in
+    let log : LifeLog = record { opened = W.On started.state started.mark; history = c.finish-history.result.0; sends = c.in_ok-node.sends; drawn = Some c.close-drawn.result; end = c.end_of-end.result } in
+    let opened : log.opened ≡ W.On (config_of s.over).iv (config_of s.over).mark = ap (λ v. W.On v started.mark) s.state ∙ ap (W.On (config_of s.over).iv) s.mark in
+    let held = subst (λ n. (chip n.flash).setting.arm ≢ None → (chip node.flash).setting.arm ≢ None) c.in_ok-opened.ensures.value did.held in
+    let given : node.stops ≡ 0 → HasGiven plan (chip node.flash).setting.arm =
+    λ live. given_whole items before (chip node.flash).setting.arm c.requires.first held (subst (λ xs. HasGiven (steps_of xs) (chip node.flash).setting.arm) c.requires.behind (did.given live)) in
+    let calls = subst (λ k. IfSome (cut_calls c.end_of-end.result) (λ n. n ≡ k)) (c.changes.ensures ∙ ap (λ f. (chip f).changes) c.into_parts-machine.ensures.flash) c.end_of-end.ensures.calls in
+    let whole = ran g.M.Machine.layers g.M.Machine.image chip plan start node c.do_steps.new.drawer log c.one_list_is_recovered.ensures.one_list
+    s.over s.read s.runs opened c.known.ensures.known (did.same.start ∙ ap (λ n. n.start) c.in_ok-opened.ensures.value) over
+    (c.finish-history.ensures.entries ∙ ap (λ m. m.entries) machine) (c.finish-history.ensures.refills ∙ ap (λ m. m.fills) machine)
+    (c.end_of-end.ensures.cut ∙ c.is_closed.ensures.value ∙ ap (λ m. m.closed) machine)
+    c.close-drawn.result.next c.close-drawn.result.mark started.numbers.opened c.close-drawn.ensures.order.1
+    (c.close-drawn.ensures.mark ∙ c.finish-history.ensures.keeper.1 ∙ ap (λ m. m.mark) machine) s.opened
+    c.close-drawn.ensures.since c.close-drawn.ensures.below c.close-drawn.ensures.once c.close-drawn.ensures.seen
+    c.close-drawn.result refl c.close-drawn.ensures.drawn c.close-drawn.ensures.distinct
+    c.args.plan.now.bearers c.requires.few did.many ((g.met.F.Bench g.world.𝓛 g.world.𝓜 g.world.𝓡 ((λ s x. x), (λ x. x), (λ x. x), λ x. x)).explained node.flash) given order calls in
+    record { ran = subst (λ f. Ran g.M.Machine.layers g.M.Machine.image plan (chip start) log (chip f)) (sym c.into_parts-machine.ensures.flash) whole }

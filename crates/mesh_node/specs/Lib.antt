@@ -1,0 +1,6 @@
+pub mod Plan
+pub mod Going
+pub mod Steps
+pub mod Drawn
+pub mod Lives
+pub mod Ran

@@ -1,0 +1,60 @@
+-- A life between a flash and the flash.
+use Rattle.std.specs.Prelude.{◌≡◌, ℕ, ◌+◌, ◌^◌, ◌<◌, ◌≤◌, ◌≢◌, length, true, IsTrue, List, Option, None, IfSome}
+use Rattle.flash_model.specs.Chip.{Chip}
+use Rattle.machine_contract.specs.Opening.{EachRecovered, IsNodeFlash}
+use Rattle.mesh_types.specs.declared.history.Sent.{Sent}
+use Rattle.mesh_types.specs.declared.report.End.{End}
+use Rattle.mesh_types.specs.declared.report.End.TheVariants as F
+use Rattle.mesh_types.specs.declared.report.Opened.TheVariants as W
+use Rattle.report_definitions.specs.Record.{Life}
+use Rattle.record_types.specs.declared.records.StoreRecord.{StoreRecord}
+use Rattle.run_definitions.specs.Layers.{Layers}
+use Rattle.run_definitions.specs.Order.{Step, is_cut}
+use Rattle.run_definitions.specs.RunOf.{LifeOf}
+use Rattle.store_definitions.specs.Config.{config_of}
+use Rattle.store_definitions.specs.Recovered.{IsRecovered}
+use Rattle.std.specs.Prelude.{All, Some}
+use Rattle.mesh_node.specs.declared.plan.LifeLog.{LifeLog}
+use Rattle.mesh_node.specs.declared.plan.LifePlan.{LifePlan}
+use Rattle.mesh_node.specs.Drawn.{TellsDrawn}
+use Rattle.mesh_node.specs.Plan.{HasOneArm, IsStep, life_of}
+use Rattle.mesh_node.specs.Steps.{IsGiven, IsOfPlan}
+
+-- A plan for a node that any image of the flash recovers: at most 8 bearers, at most one order to tear a call, and events that the node may have.
+pub record IsPlanned (chip : Chip) (plan : LifePlan) : Type 0 where
+  pub few : plan.bearers ≤ 8
+  pub arm : HasOneArm plan.steps.items
+  pub steps : EachRecovered chip (λ records. All (IsStep plan.bearers (config_of records).elements) plan.steps.items)
+
+abbrev pub cut_calls : End → Option ℕ
+cut_calls F.Ended = None
+cut_calls (F.Cut calls) = Some calls
+
+-- what a report line has room for: the number of an entry and that of a job, both from 1 on
+abbrev pub IsShort : Sent → Type 0
+IsShort s = (s.entry + 1 < 2 ^ 32) × (s.job + 1 < 2 ^ 8)
+
+pub record IsPrintable (life : Life) : Type 0 where
+  pub entries : length life.entries < 2 ^ 32
+  pub bearers : length life.sends ≤ 8
+  pub lines : All (All IsShort) life.sends
+
+-- The life opened over what one image of the flash recovers. Whatever an image recovers now, it is a life of its plan that leaves this.
+pub record Lives (layers : Layers) (IsNodeImage : List ℕ → Type 0) (plan : List Step) (old : Chip) (log : LifeLog) (new : Chip) : Type 0 where
+  pub over : List StoreRecord
+  pub image : List ℕ
+  pub is_image : old.images image
+  pub recovered : IsRecovered image over
+  pub life : EachRecovered new (λ next. LifeOf layers plan over (life_of log) next)
+  pub node : IsNodeFlash IsNodeImage new
+  pub printable : IsPrintable (life_of log)
+  -- the causes of a cut
+  pub later : old.faults ≤ new.faults
+  pub cause : is_cut log.end ≡ true → old.faults < new.faults
+  pub steady : new.steady ≡ old.steady
+  pub setting : new.setting.faults ≡ old.faults
+  pub arm : IsOfPlan plan new.setting.arm
+  pub calls : IfSome (cut_calls log.end) (λ calls. calls ≡ new.changes)
+  pub drawn : TellsDrawn (life_of log) log.drawn
+  -- over a flash that fails by an order alone, one that the plan has was given, but where there was a Node Reset
+  pub armed : IsTrue old.steady → log.opened ≢ W.WasReset → IsGiven plan new.setting.arm
