@@ -5,7 +5,7 @@ ghost use Rattle.std.specs.Prelude.{◌≡◌, ◌++◌, IfOk, OnOk, codes};
 ghost use Rattle.std.specs.Fmt.{decimal};
 ghost use Rattle.audit_definitions.specs.Verdicts.{verdict_text};
 
-use mesh_script::LineText;
+use report_lines::LineText;
 use std::alloc::{AllocError, Global};
 
 /// The verdict of an audit. Lines are those of the input, counted from 1.

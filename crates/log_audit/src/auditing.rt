@@ -15,8 +15,8 @@ use crate::verdicts::verdict;
 use audit_definitions::Verdict;
 use audit_definitions::verdict::write_verdict;
 use kept_keys::NetSchedules;
-use mesh_script::LineText;
 use mesh_types::report::ReportLine;
+use report_lines::LineText;
 use script_definitions::line::ScriptNet;
 use std::alloc::{AllocError, Global};
 

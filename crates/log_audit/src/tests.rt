@@ -39,6 +39,18 @@ const MSG: &[u8] =
 const SEG: &[u8] =
     b"s b0 4.1 seg 12345678 000002 07 1201 0003 0 1 000001 68ed3e14c3f5a76ef1c78fc55466b85ed67f61b2a0bf500f1707827e51\n";
 
+const OTHER_TTL_MSG: &[u8] =
+    b"s b0 2.2 msg 12345678 000001 06 1201 0003 dev 800300563412 68ee347ef23b31d9d617707711c71730e177a52c166c61b0\n";
+
+const OTHER_TTL_SEG: &[u8] =
+    b"s b0 4.1 seg 12345678 000002 06 1201 0003 0 1 000001 68ed3e14c3f5a76ef1c78fc55466b85ed67f61b2a0bf500f1707827e51\n";
+
+const OTHER_SEG: &[u8] =
+    b"s b0 4.1 seg 12345678 000002 07 1201 0003 0 1 000001 68ed3e14c3f5a76ef1c78fc55466b85ed67f61b2a0bf500f1707827e52\n";
+
+const OTHER_BIT_RELAY: &[u8] =
+    b"s b0 1.1 relay 12345678 000010 0 01 0005 0009 7f 68b2afd5caeec24e7c5f9e81eab563ed2383\n";
+
 const RELAY: &[u8] =
     b"s b0 1.1 relay 12345678 000010 1 01 0005 0009 7f 68b2afd5caeec24e7c5f9e81eab563ed2383\n";
 
@@ -119,6 +131,7 @@ fn reused_nonces(rt: HostRuntime) -> Result<(), Fail> {
         reuse(2, 5),
     )?;
     says(&rt, &[KEY, CTL, MSG], reuse(2, 3))?;
+    says(&rt, &[KEY, SEG, OTHER_SEG], reuse(2, 3))?;
     says(&rt, &[LONG, OTHER_LONG], reuse(1, 2))?;
     says(&rt, &[KEY, LONG, CTL, MSG], reuse(2, 4))?;
     says(&rt, &[KEY, CTL, LONG, MSG], reuse(2, 4))?;
@@ -129,6 +142,7 @@ fn reused_nonces(rt: HostRuntime) -> Result<(), Fail> {
 fn messages_accepted_twice(rt: HostRuntime) -> Result<(), Fail> {
     let twice = |a: u32, b: u32| Ok(Verdict::Twice { a, b });
     says(&rt, &[ACCEPTED, ACCEPTED], twice(1, 2))?;
+    says(&rt, &[DELIVERED, DELIVERED], twice(1, 2))?;
     says(&rt, &[ACCEPTED, END, DELIVERED, ACCEPTED], twice(1, 3))?;
     says(&rt, &[KEY, ACCEPTED, CTL, ACCEPTED, OTHER_MIC], twice(2, 4))
 }
@@ -139,6 +153,9 @@ fn bad_octets(rt: HostRuntime) -> Result<(), Fail> {
     says(&rt, &[KEY, OTHER_TPDU], bad(2))?;
     says(&rt, &[KEY, OTHER_TTL, CTL], bad(2))?;
     says(&rt, &[KEY, OTHER_MIC, CTL], bad(2))?;
+    says(&rt, &[KEY, OTHER_TTL_MSG], bad(2))?;
+    says(&rt, &[KEY, OTHER_TTL_SEG], bad(2))?;
+    says(&rt, &[KEY, OTHER_BIT_RELAY], bad(2))?;
     says(&rt, &[CTL], bad(1))?;
     says(&rt, &[OTHER_KEY, CTL], bad(2))?;
     says(&rt, &[KEY, OTHER_KEYS_CTL], bad(2))?;

@@ -1,12 +1,5 @@
-pub mod Written
-pub mod Records
-pub mod Replays
-pub mod Accepting
-pub mod Heard
-pub mod Once
-pub mod Safety
-pub mod Told
-pub mod Runs
-pub mod OneReport
-pub mod First
-pub mod Lengths
+pub mod Growing
+pub mod Living
+pub mod Progress
+pub mod Begun
+pub mod Ends

@@ -1,10 +1,7 @@
-pub mod Octets
-pub mod Lines
-pub mod Hearing
-pub mod Told
-pub mod Ran
-pub mod Laws
-pub mod Replay
-pub mod Node
-pub mod Lived
 pub mod Status
+pub mod Reads
+pub mod Causes
+pub mod Audited
+pub mod Ran
+pub mod Lived
+pub mod Provisioned

@@ -1,30 +1,31 @@
--- What the lines of a report show of a life.
-use Rattle.std.specs.Prelude.{◌≡◌, true, List, [], ◌++◌, map}
-use Rattle.mesh_script.specs.declared.bearer.BearerLine.{BearerLine}
-use Rattle.mesh_script.specs.declared.grammar.Script.{Script}
-use Rattle.mesh_script.specs.declared.provision.ProvisionLine.{ProvisionLine}
-use Rattle.mesh_types.specs.declared.answers.Answer.{Answer}
-use Rattle.mesh_types.specs.declared.events.Event.{Event}
-use Rattle.mesh_types.specs.declared.report.ReportLine.{ReportLine}
-use Rattle.run_definitions.specs.History.{Insight, Past, Told}
-use Rattle.report_definitions.specs.Report.{entry_lines, life_lines}
-use Rattle.mesh_run.specs.Hearing.{Sees, answer_to}
-use Rattle.mesh_run.specs.Told.{AreTold, life_of}
+-- A life of a script that is over, and how its lives ended.
+use Rattle.std.specs.Prelude.{◌≡◌, List, Option, Some, Result, Ok, Err, ⊤}
+use Rattle.flash_model.specs.Arming.{IsExplained}
+use Rattle.flash_model.specs.Chip.{Chip}
+use Rattle.mesh_node.specs.Lives.{Lives}
+use Rattle.mesh_node.specs.Plan.{life_of}
+use Rattle.mesh_node.specs.declared.plan.LifeLog.{LifeLog}
+use Rattle.node_layers.specs.BuiltLayers.{built_layers}
+use Rattle.node_store.specs.Tie.{IsNode}
+use Rattle.report_definitions.specs.Record.{Life}
+use Rattle.run_definitions.specs.Order.{Step}
+use Rattle.mesh_run.specs.declared.lives.Stopped.{Stopped}
+use Rattle.mesh_run.specs.declared.lives.Stopped.TheVariants as P
 
--- of an event something is seen, and this is the answer
-pub record SeesAs (past : Past) (event : Event) (answer : Answer) : Type 0 where
-  pub insight : Insight
-  pub sees : Sees past event insight
-  pub answer_is : answer ≡ answer_to past event insight
+-- the life of a log is one between the flash of before and the flash now
+pub record Lived (plan : List Step) (old : Chip) (life : Life) (new : Chip) : Type 0 where
+  pub log : LifeLog
+  pub is : life_of log ≡ life
+  pub lives : Lives built_layers IsNode plan old log new
+  pub explained : IsExplained new
 
--- behind other lines stand those of the entries that lines of a script are told as
-pub record HasEntries (p : ProvisionLine) (ls : List BearerLine) (before after : List ReportLine) : Type 0 where
-  pub told : List Told
-  pub are_told : AreTold p [] ls told
-  pub lines : after ≡ before ++ entry_lines 1 (map (λ t. t.entry) told)
+-- the sink failed
+abbrev pub IsFault : {B : Type 0} → Result B (Stopped B) → Type 0
+IsFault (Err (P.Fault flash)) = ⊤
+IsFault _ = ⊥
 
--- these are the lines of the life that a script is told as
-pub record HasLines (s : Script) (lines : List ReportLine) : Type 0 where
-  pub told : List Told
-  pub are_told : AreTold s.provision [] s.lines told
-  pub lines_are : lines ≡ life_lines true 1 (life_of s told)
+-- the flash that is left
+abbrev pub flash_left : {B : Type 0} → Result B (Stopped B) → Option B
+flash_left (Ok flash) = Some flash
+flash_left (Err (P.Fault flash)) = Some flash
+flash_left (Err (P.Memory flash)) = flash

@@ -1,28 +1,23 @@
-//! The run of a whole script: from the octets of a source to the report in a sink.
+//! The run of a whole script: from the octets of a source to the report in a sink, over the lives of one flash.
 //!
 //! - `running`: `run`, the top call of the program
+//! - `scripts`: the script of a text, over a flash that is provisioned for it
+//! - `provisioning`: what a node is provisioned with, onto an erased flash
+//! - `lives`: the lives of a script, one after another
+//! - `audits`: the audit of a log
+//! - `reading`: a source to its end
 //! - `status`: how a run ends
-//! - `life`: the life of a script: its entries, and the network PDUs that the node seals
-//! - `node`, `replay_list`: what the node holds
-//! - `hearing`: the answer to a network PDU heard, layer by layer
-//! - `outside`: the network PDUs that outside nodes seal
-//! - `laws`: every record of a run is safe
-//! - `reading`, `printing`: a source to its end, and a report into a sink
+//!
+//! In `specs/`, `Ran` says what a whole run leaves, and `Causes` where each status comes.
 #![tactic(auto)]
 
-mod hearing;
-mod laws;
-mod life;
-mod node;
-mod outside;
-mod printing;
+mod audits;
+mod lives;
+mod provisioning;
 mod reading;
-mod replay_list;
 mod running;
+mod scripts;
 mod status;
-#[cfg(test)]
-mod tests;
 
-pub use crate::laws::hearing_law;
-pub use crate::running::run;
-pub use crate::status::Status;
+pub use running::run;
+pub use status::{Ended, Status};

@@ -4,12 +4,12 @@
 ghost use Rattle.std.specs.Prelude.{◌≡◌, ◌≢◌, ◌≤◌, vec_len, IfOk, OnOk};
 ghost use Rattle.std.specs.Io.KnownBytes.{Consumes, IsAtEnd};
 ghost use Rattle.mesh_base.specs.Outside.{Rose};
-ghost use Rattle.mesh_run.specs.Octets.{ReadsMoreThan};
+ghost use Rattle.mesh_run.specs.Reads.{ReadsMoreThan};
 ghost use Rattle.mesh_run.specs.declared.reading.ReadStop.{ReadStop};
 ghost use Rattle.mesh_run.specs.declared.reading.ReadStop.TheVariants as stop;
 
 use mesh_base::outside::Source;
-use mesh_script::LONGEST_SCRIPT;
+use script_reader::LONGEST_SCRIPT;
 use std::alloc::Global;
 
 /// Why a source wasn't read to its end.
@@ -30,7 +30,7 @@ pub fn read_whole<S: Source>(alloc: Global, source: &mut S) -> Result<Vec<u8>, R
     ensures short { IfOk result (λ v. vec_len v ≤ LONGEST_SCRIPT) }
     ensures too_long { result ≡ Err stop.TooLong → ReadsMoreThan (S.left source.old) (S.left source.new) LONGEST_SCRIPT }
     ensures cause { result ≡ Err stop.Fault → Rose (S.faults source.old) (S.faults source.new) }
-    ensures faultless { result ≢ Err stop.Fault → S.faults source.new ≡ S.faults source.old }
+    ensures no_fault { result ≢ Err stop.Fault → S.faults source.new ≡ S.faults source.old }
     ensures later { S.faults source.old ≤ S.faults source.new }
 {
     let mut bytes = Vec::new(alloc);

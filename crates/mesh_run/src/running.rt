@@ -1,87 +1,116 @@
-//! The run of a whole script.
+//! The top call of the program.
 #![tactic(auto)]
 
-ghost use Rattle.std.specs.Prelude.{◌≡◌, ◌≢◌, ◌↔◌, ◌⊎◌, ◌≤◌, map, false, Some, IfSome, IsTrue};
+ghost use Rattle.std.specs.Prelude.{◌≡◌, ◌≢◌, ◌⊎◌, ◌<◌, ◌≤◌, ℕ, false, map, None, Some, IfSome, IsSomeAnd, IsTrue, length};
 ghost use Rattle.std.specs.Io.KnownBytes.{IsAtEnd};
-ghost use Rattle.mesh_base.specs.Outside.{Rose, Grows};
-ghost use Rattle.mesh_script.specs.Script.{script_of};
-ghost use Rattle.mesh_script.specs.declared.grammar.Script.{Script};
-ghost use Rattle.mesh_run.specs.Octets.{ReadsMoreThan};
-ghost use Rattle.mesh_run.specs.Status.{is_command, due, IsDue};
-ghost use Rattle.mesh_run.specs.Ran.{Ran, RanUpTo, WritesOf};
+ghost use Rattle.life_plans.specs.Plans.{script_of};
+ghost use Rattle.mesh_base.specs.Outside.{Rose};
+ghost use Rattle.node_layers.specs.BuiltLayers.{built_layers};
+ghost use Rattle.report_writer.specs.Writing.{view_of};
+ghost use Rattle.script_definitions.specs.Reading.{reading};
+ghost use Rattle.script_definitions.specs.Reading.Reading.{Fails};
+ghost use Rattle.script_definitions.specs.declared.kind.Grammar.TheVariants as Grammars;
+ghost use Rattle.mesh_run.specs.Audited.{Audited, AuditedFront, IsAuditEnd};
+ghost use Rattle.mesh_run.specs.Causes.{IfScript, IsBeforeFlash, IsBeforeLives, IsDue, IsErasedFlash, IsReadingStop, IsSameFlash, IsScriptAnd, IsWrittenAt, WasErased};
+ghost use Rattle.command_words.specs.Commands.{command_of};
+ghost use Rattle.command_words.specs.declared.commands.Command.TheVariants as C;
+ghost use Rattle.command_words.specs.declared.commands.RunFlags.{RunFlags as Flags};
+ghost use Rattle.audit_definitions.specs.Input.{IsFirstOther};
+ghost use Rattle.mesh_run.specs.Ran.{Ran, RanFront};
+ghost use Rattle.mesh_run.specs.Reads.{ReadsMoreThan};
 
-use crate::life::life_lines;
-use crate::printing::{WriteStop, write_report};
+use crate::audits::audit_text;
 use crate::reading::{ReadStop, read_whole};
-use crate::status::Status;
+use crate::scripts::run_text;
+use crate::status::{Ended, Status};
+use command_words::{Command, command_of};
+use flash_model::Bench;
 use mesh_base::outside::{Sink, Source};
-use mesh_script::read_script;
+use mesh_node::Gate;
 use std::alloc::Global;
+use std::sync::Wait;
+use std::thread::Threads;
 
-/// Whether the words after the program's name are the command `run --hex`.
-fn is_command(words: &[&str]) -> bool
-    ensures value { result ≡ is_command (map (λ w. w.now) words.now) }
-{
-    words.len() == 2 && words[0] == "run" && words[1] == "--hex"
-}
-
-/// Reads a script from the source, runs it, and writes its report into the sink.
+/// Runs a command. The words after the program's name are `run`, with `--hex` and `--old` in any combination, or `audit`; every other list is
+/// `Usage`. What the source has is read to its end before the flash is touched.
 ///
-/// The words after the program's name are `run --hex`; every other list is `Usage`. What the source has is read to its end before
-/// anything is written.
-pub fn run<S: Source, K: Sink>(
+/// `run` reads a script from the source, runs it over the flash, and writes its report into the sink: the power of the flash is cycled, the
+/// node of the script is provisioned on it, and the lives are run one after another; the report of a life is written once it is over, each
+/// line as one piece, and nothing of the life but its flash is kept. `rt` starts the threads of the bearers, and `gate` is handed to each
+/// life; it is there for tests.
+///
+/// `audit` reads a log, and writes the line of its verdict.
+///
+/// The flash is honest. It is handed back, but for want of memory it may be lost.
+pub fn run<R: Threads + Wait + Sync, S: Source, K: Sink, B: Bench, G: Gate>(
+    rt: &R,
     alloc: Global,
     words: &[&str],
     source: &mut S,
     sink: &mut K,
-) -> Status
-    // Each status has its cause.
-    ensures usage { (result ≡ Status.Usage) ↔ (is_command (map (λ w. w.now) words.now) ≡ false) }
-    ensures read_fault { result ≡ Status.ReadFault → Rose (S.faults source.old) (S.faults source.new) }
-    ensures write_fault { result ≡ Status.WriteFault → Rose (K.faults sink.old) (K.faults sink.new) }
-    ensures too_long { result ≡ Status.TooLong → ReadsMoreThan (S.left source.old) (S.left source.new) 4194304 }
-    ensures not_built { result ≡ Status.NotBuilt → IfSome (S.left source.old) (λ text. script_of text ≡ None) }
+    flash: B,
+    gate: &G,
+) -> Ended<B>
+    requires honest { IsTrue (B.chip flash).honest }
 
-    // Where nothing fails, it is the one that the octets of the source ask for.
-    ensures status { IsTrue (is_command (map (λ w. w.now) words.now)) → IfSome (S.left source.old) (λ text. IsDue result (due text)) }
+    // Each status has its cause, in this order.
+    ensures usage { result.status ≡ Status.Usage → command_of (map (λ w. w.now) words.now) ≡ None }
+    ensures no_command { command_of (map (λ w. w.now) words.now) ≡ None → (result.status ≡ Status.Usage) ⊎ (result.status ≡ Status.Memory) }
+    ensures read_fault { result.status ≡ Status.ReadFault → Rose (S.faults source.old) (S.faults source.new) }
+    ensures too_long { result.status ≡ Status.TooLong → ReadsMoreThan (S.left source.old) (S.left source.new) 4194304 }
+    ensures script { (line rule : ℕ) → result.status ≡ Status.Script line rule → IfSome (S.left source.old) (λ text. reading Grammars.Node text ≡ Fails line rule) }
+    ensures flash_fault { result.status ≡ Status.FlashFault → IsSomeAnd result.flash (λ f. (B.chip flash).faults < (B.chip f).faults) × (IsTrue (B.chip flash).steady → ⊥) }
+    ensures not_erased { (at : ℕ) → result.status ≡ Status.NotErased at → IsSomeAnd result.flash (λ f. IsWrittenAt at (B.chip flash) (B.chip f)) }
+    ensures erased { (flags : Flags) → command_of (map (λ w. w.now) words.now) ≡ Some (C.Run flags) → (result.status ≡ Status.Done) ⊎ (result.status ≡ Status.WriteFault) → WasErased (B.chip flash) }
+    ensures report { (line : ℕ) → result.status ≡ Status.Report line → IfSome (S.left source.old) (λ text. IsFirstOther text line) }
+    ensures write_fault { result.status ≡ Status.WriteFault → Rose (K.faults sink.old) (K.faults sink.new) }
+
+    // Where nothing fails, it is the one that the octets of the source ask for; and where the flash is erased, the report is written.
+    ensures due { (flags : Flags) → command_of (map (λ w. w.now) words.now) ≡ Some (C.Run flags) → IfSome (S.left source.old) (λ text. IsDue text result.status) }
+    ensures complete { (flags : Flags) → command_of (map (λ w. w.now) words.now) ≡ Some (C.Run flags) → ¬ Rose (S.faults source.old) (S.faults source.new) → ¬ Rose (K.faults sink.old) (K.faults sink.new) → IsErasedFlash (B.chip flash) → IfSome (S.left source.old) (λ text. length text ≤ 4194304 → IfScript (reading Grammars.Node text) (λ s. (result.status ≡ Status.Done) ⊎ (result.status ≡ Status.Memory) ⊎ (result.status ≡ Status.FlashFault))) }
 
     // What is written is the report of a record of a run of the script, or a front of it.
-    ensures done { result ≡ Status.Done → IfSome (S.left source.old) (λ text. (s : Script) × (script_of text ≡ Some s) × Ran s (K.held sink.old) (K.held sink.new)) }
-    ensures front { result ≡ Status.WriteFault → IfSome (S.left source.old) (λ text. (s : Script) × (script_of text ≡ Some s) × RanUpTo s (K.held sink.old) (K.held sink.new)) }
-    ensures memory { result ≡ Status.Memory → IfSome (S.left source.old) (λ text. WritesOf (script_of text) (K.held sink.old) (K.held sink.new)) }
-    ensures nothing_written { (result ≡ Status.Usage) ⊎ (result ≡ Status.ReadFault) ⊎ (result ≡ Status.TooLong) ⊎ (result ≡ Status.NotBuilt) → K.held sink.new ≡ K.held sink.old }
+    ensures done { (flags : Flags) → command_of (map (λ w. w.now) words.now) ≡ Some (C.Run flags) → result.status ≡ Status.Done → IfSome (S.left source.old) (λ text. IsScriptAnd (reading Grammars.Node text) (λ s. IsSomeAnd result.flash (λ f. Ran built_layers (script_of s) flags.hex (B.chip flash) (view_of K.held K.pieces sink.old) (B.chip f) (view_of K.held K.pieces sink.new)))) }
+    ensures front { (flags : Flags) → command_of (map (λ w. w.now) words.now) ≡ Some (C.Run flags) → result.status ≡ Status.WriteFault → IfSome (S.left source.old) (λ text. IsScriptAnd (reading Grammars.Node text) (λ s. RanFront built_layers (script_of s) flags.hex (view_of K.held K.pieces sink.old) (view_of K.held K.pieces sink.new))) }
+    ensures memory { (flags : Flags) → command_of (map (λ w. w.now) words.now) ≡ Some (C.Run flags) → result.status ≡ Status.Memory → (sink.new ≡ sink.old) ⊎ IfSome (S.left source.old) (λ text. IsScriptAnd (reading Grammars.Node text) (λ s. RanFront built_layers (script_of s) flags.hex (view_of K.held K.pieces sink.old) (view_of K.held K.pieces sink.new))) }
+    ensures nothing_written { IsBeforeLives result.status → sink.new ≡ sink.old }
+
+    // An audit writes the line of the verdict on what is read, or a front of it, and leaves the flash.
+    ensures verdict { command_of (map (λ w. w.now) words.now) ≡ Some C.Audit → result.status ≡ Status.Done → IfSome (S.left source.old) (λ text. Audited text (view_of K.held K.pieces sink.old) (view_of K.held K.pieces sink.new)) }
+    ensures verdict_front { command_of (map (λ w. w.now) words.now) ≡ Some C.Audit → result.status ≡ Status.WriteFault → IfSome (S.left source.old) (λ text. AuditedFront text (view_of K.held K.pieces sink.old) (view_of K.held K.pieces sink.new)) }
+    ensures verdict_memory { command_of (map (λ w. w.now) words.now) ≡ Some C.Audit → result.status ≡ Status.Memory → sink.new ≡ sink.old }
+    ensures verdict_due { command_of (map (λ w. w.now) words.now) ≡ Some C.Audit → ¬ Rose (S.faults source.old) (S.faults source.new) → ¬ Rose (K.faults sink.old) (K.faults sink.new) → IfSome (S.left source.old) (λ text. length text ≤ 4194304 → IsAuditEnd result.status) }
+    ensures verdict_too_long { command_of (map (λ w. w.now) words.now) ≡ Some C.Audit → IfSome (S.left source.old) (λ text. 4194304 < length text → (result.status ≡ Status.ReadFault) ⊎ (result.status ≡ Status.TooLong) ⊎ (result.status ≡ Status.Memory)) }
+    ensures verdict_flash { command_of (map (λ w. w.now) words.now) ≡ Some C.Audit → result.flash ≡ Some flash }
 
     // What is read is all that there was.
-    ensures nothing_read { result ≡ Status.Usage → S.left source.new ≡ S.left source.old }
-    ensures read_whole { (result ≡ Status.Done) ⊎ (result ≡ Status.WriteFault) ⊎ (result ≡ Status.NotBuilt) → IsAtEnd (S.left source.new) }
+    ensures nothing_read { result.status ≡ Status.Usage → source.new ≡ source.old }
+    ensures read_whole { ¬ IsReadingStop result.status → IsAtEnd (S.left source.new) }
+
+    // What becomes of the flash.
+    ensures same_flash { IsBeforeFlash result.status → result.flash ≡ Some flash }
+    ensures handed_back { result.flash ≡ None → result.status ≡ Status.Memory }
+    ensures frame { IfSome result.flash (λ f. IsSameFlash (B.chip flash) (B.chip f)) }
 
     // No fault is swallowed: a run that ends otherwise leaves the count. Counts of faults never fall.
-    ensures source_faultless { result ≢ Status.ReadFault → S.faults source.new ≡ S.faults source.old }
-    ensures sink_faultless { result ≢ Status.WriteFault → K.faults sink.new ≡ K.faults sink.old }
+    ensures no_source_fault { result.status ≢ Status.ReadFault → S.faults source.new ≡ S.faults source.old }
+    ensures no_sink_fault { result.status ≢ Status.WriteFault → K.faults sink.new ≡ K.faults sink.old }
     ensures source_later { S.faults source.old ≤ S.faults source.new }
     ensures sink_later { K.faults sink.old ≤ K.faults sink.new }
 {
-    if !is_command(words) {
-        return Status::Usage;
-    }
+    let command = match command_of(alloc, words) {
+        Ok(Some(command)) => command,
+        Ok(None) => return Ended::with_flash(Status::Usage, flash),
+        Err(_) => return Ended::with_flash(Status::Memory, flash),
+    };
     let bytes = match read_whole(alloc, source) {
         Ok(bytes) => bytes,
-        Err(ReadStop::Fault) => return Status::ReadFault,
-        Err(ReadStop::TooLong) => return Status::TooLong,
-        Err(ReadStop::Memory) => return Status::Memory,
+        Err(ReadStop::Fault) => return Ended::with_flash(Status::ReadFault, flash),
+        Err(ReadStop::TooLong) => return Ended::with_flash(Status::TooLong, flash),
+        Err(ReadStop::Memory) => return Ended::with_flash(Status::Memory, flash),
     };
-    let script = match read_script(alloc, bytes.as_slice()) {
-        Ok(Some(script)) => script,
-        Ok(None) => return Status::NotBuilt,
-        Err(_) => return Status::Memory,
-    };
-    let lines = match life_lines(alloc, &script) {
-        Ok(lines) => lines,
-        Err(_) => return Status::Memory,
-    };
-    match write_report(alloc, sink, lines.as_slice()) {
-        Ok(()) => Status::Done,
-        Err(WriteStop::Fault) => Status::WriteFault,
-        Err(WriteStop::Memory) => Status::Memory,
+    match command {
+        Command::Run(flags) => run_text(rt, alloc, flags, bytes.as_slice(), sink, flash, gate),
+        Command::Audit => Ended::with_flash(audit_text(alloc, bytes.as_slice(), sink), flash),
     }
 }

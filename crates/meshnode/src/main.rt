@@ -1,14 +1,21 @@
 //! The program: a mesh node that runs the script on its standard input and prints the report on its standard output.
 //!
-//! `meshnode run --hex` is the command. The program ends with the number of its status, and prints the status's name on standard
-//! error where it isn't `done`.
+//! `meshnode run` is the command, with `--hex` where the report is to show the octets of network PDUs, and `--old` where the node is to be
+//! provisioned in format 01. `meshnode audit` reads a log, as `run --hex` writes it, and prints the verdict on it. The flash is one in memory,
+//! erased at the beginning. The program ends with the number of its status, and prints the status's name and numbers on standard error where
+//! it isn't `done`.
 #![tactic(auto)]
 
+use flash_model::MemFlash;
+use mesh_base::outside::{Sink, Source};
 use mesh_base::standard::{StdSink, StdSource};
+use mesh_node::FreeGate;
 use mesh_run::{Status, run};
 use std::alloc::{AllocError, Global};
 use std::env::Env;
 use std::process::ExitCode;
+use std::sync::Wait;
+use std::thread::Threads;
 use std::{env, io};
 
 /// The program's arguments, without its name.
@@ -29,7 +36,25 @@ fn words(alloc: Global, arguments: &[String]) -> Result<Vec<&str>, AllocError> {
     Ok(words)
 }
 
-fn status(rt: &HostRuntime) -> Status {
+/// Runs the command of these words over an erased flash in memory.
+fn run_words<R: AllocGlobal + Threads + Wait + Sync, S: Source, K: Sink>(
+    rt: &R,
+    words: &[&str],
+    source: &mut S,
+    sink: &mut K,
+) -> Status {
+    match MemFlash::new(rt.alloc()) {
+        Ok(flash) => run(rt, rt.alloc(), words, source, sink, flash, &FreeGate).status,
+        Err(_) => Status::Memory,
+    }
+}
+
+/// Runs the command of the program's arguments.
+fn run_arguments<R: Env + AllocGlobal + Threads + Wait + Sync, S: Source, K: Sink>(
+    rt: &R,
+    source: &mut S,
+    sink: &mut K,
+) -> Status {
     let arguments = match arguments(rt) {
         Ok(arguments) => arguments,
         // An argument that isn't text is no word of a command.
@@ -37,18 +62,15 @@ fn status(rt: &HostRuntime) -> Status {
         Err(_) => return Status::Memory,
     };
     match words(rt.alloc(), arguments.as_slice()) {
-        Ok(words) => run(
-            rt.alloc(),
-            words.as_slice(),
-            &mut StdSource::new(rt.stdin()),
-            &mut StdSink::new(rt.stdout()),
-        ),
+        Ok(words) => run_words(rt, words.as_slice(), source, sink),
         Err(_) => Status::Memory,
     }
 }
 
 fn main(rt: HostRuntime) -> ExitCode {
-    let status = status(&rt);
+    let mut source = StdSource::new(rt.stdin());
+    let mut sink = StdSink::new(rt.stdout());
+    let status = run_arguments(&rt, &mut source, &mut sink);
     if status != Status::Done {
         // Where standard error can't be written, the number tells the status.
         let _ = eprintln!(rt; "{status}");

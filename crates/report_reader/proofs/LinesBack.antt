@@ -21,10 +21,10 @@ use Rattle.report_reader.proofs.OutcomesBack.{outcome_fields, adds_outcome, outc
 use Rattle.report_reader.proofs.Parts.{is_whole, Adds, adds_none, ◌⊕◌, adds_field, adds_joined, field_first, whole_cons, whole_decimal, whole_digits}
 
 -- a line's first word, what stands behind it, and LF
-begins : (w x : List ℕ) (fs : List (List ℕ)) → is_whole w ≡ true → Adds x fs → fields_of (w ++ (x ++ 10 ∷ [])) ≡ w ∷ fs ++ [] ∷ []
+pub begins : (w x : List ℕ) (fs : List (List ℕ)) → is_whole w ≡ true → Adds x fs → fields_of (w ++ (x ++ 10 ∷ [])) ≡ w ∷ fs ++ [] ∷ []
 begins w x fs h a = field_first w (x ++ 10 ∷ []) (fs ++ [] ∷ []) h (a.fields (10 ∷ []) ([] ∷ []) refl)
 
-adds_bearer : (n : ℕ) → Adds (codes " b" ++ decimal n) ((98 ∷ decimal n) ∷ [])
+pub adds_bearer : (n : ℕ) → Adds (codes " b" ++ decimal n) ((98 ∷ decimal n) ∷ [])
 adds_bearer n = adds_field 32 (98 ∷ decimal n) refl (whole_cons 98 (decimal n) refl (whole_decimal n))
 
 -- The opening of a life.
@@ -115,7 +115,7 @@ line_fields (L.Sent bearer entry job outcome hex) = codes "s" ∷ (98 ∷ decima
 line_fields L.End = codes "end" ∷ []
 line_fields (L.Cut calls) = codes "cut" ∷ decimal calls ∷ []
 
-adds_job : (n : ℕ) → Adds (codes "." ++ decimal n) (decimal n ∷ [])
+pub adds_job : (n : ℕ) → Adds (codes "." ++ decimal n) (decimal n ∷ [])
 adds_job n = adds_field 46 (decimal n) refl (whole_decimal n)
 
 fields_line : (l : ReportLine) → IsTold l → fields_of (line_text l) ≡ line_fields l ++ [] ∷ []

@@ -16,17 +16,17 @@ use Rattle.report_reader.proofs.Back.{number_back, address_back, octets_back, be
 use Rattle.report_reader.proofs.Decimals.{below_back}
 use Rattle.report_reader.proofs.Parts.{Adds, ◌⊕◌, adds_field}
 
-abbrev route_fields : ℕ → Address → Address → List (List ℕ)
+abbrev pub route_fields : ℕ → Address → Address → List (List ℕ)
 route_fields ttl src dst = hex_digits 2 ttl ∷ hex_digits 4 src.0 ∷ hex_digits 4 dst.0 ∷ []
 
-adds_route : (ttl : ℕ) (src dst : Address) → Adds (route_text ttl src dst) (route_fields ttl src dst)
+pub adds_route : (ttl : ℕ) (src dst : Address) → Adds (route_text ttl src dst) (route_fields ttl src dst)
 adds_route ttl src dst = adds_digits 2 ttl ⊕ adds_digits 4 src.0 ⊕ adds_digits 4 dst.0
 
-abbrev bit_field : Bool → List ℕ
+abbrev pub bit_field : Bool → List ℕ
 bit_field true = codes "1"
 bit_field false = codes "0"
 
-adds_bit : (b : Bool) → Adds (control_bit_text b) (bit_field b ∷ [])
+pub adds_bit : (b : Bool) → Adds (control_bit_text b) (bit_field b ∷ [])
 adds_bit true = adds_field 32 (codes "1") refl refl
 adds_bit false = adds_field 32 (codes "0") refl refl
 

@@ -36,7 +36,6 @@ plain_answer word =
     else if bytes_eq word (codes "own") then Some A.Own
     else if bytes_eq word (codes "cached") then Some A.Cached
     else if bytes_eq word (codes "notmine") then Some A.NotMine
-    else if bytes_eq word (codes "unbuilt") then Some A.Unbuilt
     else if bytes_eq word (codes "malformed") then Some A.Malformed
     else if bytes_eq word (codes "again") then Some A.Again
     else if bytes_eq word (codes "conflict") then Some A.Conflict

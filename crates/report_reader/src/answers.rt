@@ -54,8 +54,6 @@ fn plain_answer(word: &[u8]) -> Option<Answer>
         Some(Answer::Cached)
     } else if word == b"notmine".as_slice() {
         Some(Answer::NotMine)
-    } else if word == b"unbuilt".as_slice() {
-        Some(Answer::Unbuilt)
     } else if word == b"malformed".as_slice() {
         Some(Answer::Malformed)
     } else if word == b"again".as_slice() {

@@ -9,8 +9,8 @@ ghost use Rattle.report_reader.specs.Stops.{IsLineStop};
 
 use crate::forms::fields_of;
 use crate::lines::line_of;
-use mesh_script::write_line;
 use mesh_types::report::ReportLine;
+use report_lines::write_line;
 use std::alloc::{AllocError, Global};
 use thiserror::Error;
 

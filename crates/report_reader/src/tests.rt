@@ -1,8 +1,8 @@
 //! A line of each kind, each answer and each result, and the nearest texts that are none.
 
 use crate::{LineStop, read_line};
-use mesh_script::write_line;
 use mesh_types::report::ReportLine;
+use report_lines::write_line;
 use std::process::Abort;
 use std::test::Fail;
 
@@ -134,6 +134,73 @@ fn reads_lines(rt: HostRuntime) -> Result<(), Fail> {
 fn refuses_neighbours(rt: HostRuntime) -> Result<(), Fail> {
     for text in NEIGHBOURS {
         assert_eq!(rt; read_line(rt.alloc(), text).err(), Some(LineStop::NotLine));
+    }
+    Ok(())
+}
+
+/// The beginning of a line, how many octets stand behind it, and whether that is a line: each field of octets at its longest.
+const LENGTHS: &[(&[u8], usize, bool)] = &[
+    (
+        b"e 2 b0 2 net delivered 0003 1201 12345678 3129ab dev ",
+        380,
+        true,
+    ),
+    (
+        b"e 2 b0 2 net delivered 0003 1201 12345678 3129ab dev ",
+        381,
+        false,
+    ),
+    (
+        b"e 1 b0 1 net control 0101 1201 12345678 000001 7f ",
+        256,
+        true,
+    ),
+    (
+        b"e 1 b0 1 net control 0101 1201 12345678 000001 7f ",
+        257,
+        false,
+    ),
+    (
+        b"s b0 1.1 long 12345678 000000 07 1201 0003 dev ",
+        380,
+        true,
+    ),
+    (
+        b"s b0 1.1 long 12345678 000000 07 1201 0003 dev ",
+        381,
+        false,
+    ),
+    (
+        b"s b0 1.1 ctl 12345678 000001 00 1201 fffd 00112233445566778899aabbccddeeff ",
+        29,
+        true,
+    ),
+    (
+        b"s b0 1.1 ctl 12345678 000001 00 1201 fffd 00112233445566778899aabbccddeeff ",
+        30,
+        false,
+    ),
+];
+
+#[test]
+fn longest_lines(rt: HostRuntime) -> Result<(), Fail> {
+    for (head, count, is_line) in LENGTHS {
+        let mut text = Vec::new(rt.alloc());
+        text.extend_from_slice(head)?;
+        for _ in 0..*count {
+            text.extend_from_slice(b"7f")?;
+        }
+        text.push(b'\n')?;
+        match read_line(rt.alloc(), text.as_slice()) {
+            Ok(line) => {
+                assert!(rt; *is_line);
+                assert_eq!(rt; write_line(rt.alloc(), &line)?.as_slice(), text.as_slice());
+            }
+            Err(stop) => {
+                assert!(rt; !*is_line);
+                assert_eq!(rt; stop, LineStop::NotLine);
+            }
+        }
     }
     Ok(())
 }

@@ -241,6 +241,209 @@ fn lines_of_a_life(rt: HostRuntime) -> Result<(), Fail> {
     Ok(())
 }
 
+/// A line of each kind.
+const KINDS: &[&[u8]] = &[
+    b"life",
+    b"sync",
+    b"arm 0 00",
+    b"b0 net 00",
+    b"b0 bcn 00",
+    b"b0 peer 7dd7364cd842ad18c17c2b820c84c3d6 12345678 1 00 000001 0003 1201 7f",
+    b"b0 talk 7dd7364cd842ad18c17c2b820c84c3d6 dev:9d6dd0e96eb25dc19a40ed9914f8f03f 12345678 04 000001 000001 0003 1201 u 82",
+    b"b0 beacon 7dd7364cd842ad18c17c2b820c84c3d6 00 00000000",
+    b"b0 send 0 0003 07 dev 82",
+    b"b0 raw 0003 07 7f",
+    b"b0 tick 1",
+];
+
+/// Tests that a life with this line alone, in three parts, fails at it by this rule; rule 0 is a script.
+fn line_fails<R: Abort + AllocGlobal>(
+    rt: &R,
+    first: &[u8],
+    second: &[u8],
+    third: &[u8],
+    rule: u8,
+) -> Result<(), Fail> {
+    let mut text = life(rt.alloc(), first)?;
+    text.extend_from_slice(second)?;
+    text.extend_from_slice(third)?;
+    fails(rt, text.as_slice(), 3, rule);
+    Ok(())
+}
+
+/// What stands before and behind a line, with the rule that fails: a word more, and an empty word.
+const AROUND: &[(&[u8], &[u8], u8)] = &[
+    (b"", b"\r\n", 0),
+    (b"", b" 0\n", 4),
+    (b"", b" \n", 4),
+    (b" ", b"\n", 3),
+];
+
+#[test]
+fn word_counts(rt: HostRuntime) -> Result<(), Fail> {
+    for line in KINDS {
+        for (before, behind, rule) in AROUND {
+            line_fails(&rt, before, line, behind, *rule)?;
+        }
+    }
+    Ok(())
+}
+
+/// A line of each kind that has more than one word, without its last word.
+const SHORT: &[&[u8]] = &[
+    b"arm 0",
+    b"b0 net",
+    b"b0 bcn",
+    b"b0 peer 7dd7364cd842ad18c17c2b820c84c3d6 12345678 1 00 000001 0003 1201",
+    b"b0 talk 7dd7364cd842ad18c17c2b820c84c3d6 dev:9d6dd0e96eb25dc19a40ed9914f8f03f 12345678 04 000001 000001 0003 1201 u",
+    b"b0 beacon 7dd7364cd842ad18c17c2b820c84c3d6 00",
+    b"b0 send 0 0003 07 dev",
+    b"b0 raw 0003 07",
+    b"b0 tick",
+];
+
+#[test]
+fn last_words(rt: HostRuntime) -> Result<(), Fail> {
+    for line in SHORT {
+        line_fails(&rt, b"", line, b"\n", 4)?;
+    }
+    Ok(())
+}
+
+/// What stands behind the network key of a line `peer`, with the rule that fails.
+const PEERS: &[(&[u8], u8)] = &[
+    (
+        b" 12345678 0 7F 000001 0003 1201 00112233445566778899aabbccddeeff",
+        0,
+    ),
+    (
+        b" 12345678 0 7f 000001 0003 1201 00112233445566778899aabbccddeeff00",
+        5,
+    ),
+    (
+        b" 12345678 1 7f 000001 0003 1201 00112233445566778899AABB",
+        0,
+    ),
+    (
+        b" 12345678 1 7f 000001 0003 1201 00112233445566778899aabbcc",
+        5,
+    ),
+    (b" 12345678 1 80 000001 0003 1201 7f", 5),
+    (b" 12345678 1 7 000001 0003 1201 7f", 5),
+    (b" 12345678 2 00 000001 0003 1201 7f", 5),
+    (b" 12345678 01 00 000001 0003 1201 7f", 5),
+    (b" 1234567 1 00 000001 0003 1201 7f", 5),
+    (b" 123456789 1 00 000001 0003 1201 7f", 5),
+    (b" 12345678 1 00 00001 0003 1201 7f", 5),
+    (b" 12345678 1 00 0000001 0003 1201 7f", 5),
+    (b" 12345678 1 00 000001 003 1201 7f", 5),
+    (b" 12345678 1 00 000001 0003 01201 7f", 5),
+    (b" 12345678 1 00 000001 0003 1201 7", 5),
+    (b"0 12345678 1 00 000001 0003 1201 7f", 5),
+    (b"/0201/1201/0000/ffff 12345678 1 00 000001 0003 1201 7f", 0),
+    (b"/0201/1201/0000 12345678 1 00 000001 0003 1201 7f", 5),
+    (
+        b"/0201/1201/0000/0000/0000 12345678 1 00 000001 0003 1201 7f",
+        5,
+    ),
+    (b"/201/1201/0000/00000 12345678 1 00 000001 0003 1201 7f", 5),
+    (b"/0201/1201/0000/000g 12345678 1 00 000001 0003 1201 7f", 5),
+    (b"/ 12345678 1 00 000001 0003 1201 7f", 5),
+];
+
+#[test]
+fn peers(rt: HostRuntime) -> Result<(), Fail> {
+    for (words, rule) in PEERS {
+        line_fails(
+            &rt,
+            b"b7 peer 7dd7364cd842ad18c17c2b820c84c3d6",
+            words,
+            b"\n",
+            *rule,
+        )?;
+    }
+    Ok(())
+}
+
+/// What stands behind the network key of a line `talk`, with the rule that fails.
+const TALKS: &[(&[u8], u8)] = &[
+    (
+        b" dev:9d6dd0e96eb25dc19a40ed9914f8f03f 12345678 7f 000001 000001 0003 1201 u 82",
+        0,
+    ),
+    (
+        b" app:9d6dd0e96eb25dc19a40ed9914f8f03f 12345678 7f 000001 000001 0003 1201 u 82",
+        0,
+    ),
+    (
+        b" Dev:9d6dd0e96eb25dc19a40ed9914f8f03f 12345678 7f 000001 000001 0003 1201 u 82",
+        5,
+    ),
+    (
+        b" 9d6dd0e96eb25dc19a40ed9914f8f03f 12345678 7f 000001 000001 0003 1201 u 82",
+        5,
+    ),
+    (b" dev 12345678 7f 000001 000001 0003 1201 u 82", 5),
+    (
+        b" dev:9d6dd0e96eb25dc19a40ed9914f8f03 12345678 7f 000001 000001 0003 1201 u 82",
+        5,
+    ),
+    (
+        b" app:9d6dd0e96eb25dc19a40ed9914f8f03f0 12345678 7f 000001 000001 0003 1201 u 82",
+        5,
+    ),
+    (
+        b"/0201/1201/0000/0000 dev:9d6dd0e96eb25dc19a40ed9914f8f03f 12345678 7f 000001 000001 0003 1201 u 82",
+        0,
+    ),
+    (
+        b"/0201/1201/0000/ dev:9d6dd0e96eb25dc19a40ed9914f8f03f 12345678 7f 000001 000001 0003 1201 u 82",
+        5,
+    ),
+    (
+        b" dev:9d6dd0e96eb25dc19a40ed9914f8f03f 12345678 80 000001 000001 0003 1201 u 82",
+        5,
+    ),
+    (
+        b" dev:9d6dd0e96eb25dc19a40ed9914f8f03f 12345678 7f 00001 000001 0003 1201 u 82",
+        5,
+    ),
+    (
+        b" dev:9d6dd0e96eb25dc19a40ed9914f8f03f 12345678 7f 000001 000001 0003 v:1201 u 82",
+        5,
+    ),
+    (
+        b" dev:9d6dd0e96eb25dc19a40ed9914f8f03f 12345678 7f 000001 000001 v:9d6dd0e96eb25dc19a40ed9914f8f03f 1201 u 82",
+        5,
+    ),
+    (
+        b" dev:9d6dd0e96eb25dc19a40ed9914f8f03f 12345678 7f 000001 000001 0003 v:9d6dd0e96eb25dc19a40ed9914f8f03f u 82",
+        0,
+    ),
+    (
+        b" dev:9d6dd0e96eb25dc19a40ed9914f8f03f 12345678 7f 000001 000001 0003 v:9d6dd0e96eb25dc19a40ed9914f8f03 u 82",
+        5,
+    ),
+    (
+        b" dev:9d6dd0e96eb25dc19a40ed9914f8f03f 12345678 7f 000001 000001 0003 1201 u 8",
+        5,
+    ),
+];
+
+#[test]
+fn talks(rt: HostRuntime) -> Result<(), Fail> {
+    for (words, rule) in TALKS {
+        line_fails(
+            &rt,
+            b"b0 talk 7dd7364cd842ad18c17c2b820c84c3d6",
+            words,
+            b"\n",
+            *rule,
+        )?;
+    }
+    Ok(())
+}
+
 /// What stands behind the node's line.
 const BEFORE: &[(&[u8], u32, u8)] = &[
     (b"", 0, 0),

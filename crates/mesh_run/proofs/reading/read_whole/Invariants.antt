@@ -5,7 +5,7 @@ use Rattle.mesh_run.proofs.reading.read_whole.Given as goal
 abbrev pub invariant-loop-buf : goal.invariant-loop-buf
 invariant-loop-buf g l = record {
   octets : Consumes (g.S.Source.left l.fn.source) (g.S.Source.left l.source) l.bytes.items;
-  faultless : g.S.Source.faults l.source ≡ g.S.Source.faults l.fn.source;
+  no_fault : g.S.Source.faults l.source ≡ g.S.Source.faults l.fn.source;
 }
 
 abbrev pub decreases-loop-buf : goal.decreases-loop-buf

@@ -1,44 +1,22 @@
-use Rattle.std.proofs.Common.{sym, ◌∙◌, ap, subst}
-use Rattle.mesh_script.specs.Script.{script_of}
-use Rattle.mesh_run.specs.Lived.{HasLines}
-use Rattle.mesh_run.proofs.Runs.{front_of_memory, front_of_none, front_of_run, whole_run}
+use Rattle.std.proofs.Common.{◌∙◌, ap, subst, sym}
+use Rattle.std.specs.Io.KnownBytes.{Consumes}
+use Rattle.report_writer.specs.Writing.{view_of}
+use Rattle.mesh_run.specs.Audited.{Audited, AuditedFront}
+use Rattle.mesh_run.proofs.Ends.{of_all}
 use Rattle.mesh_run.proofs.running.run.Goals as goal
 
-pub returns-in-Err-Memory-clause-memory : goal.returns-in-Err-Memory-clause-memory
-returns-in-Err-Memory-clause-memory g c = λ _. front_of_none _ _
+pub returns-clause-verdict : goal.returns-clause-verdict
+returns-clause-verdict g c = λ is done.
+    let view = view_of g.K.Sink.held g.K.Sink.pieces in
+    let left = g.S.Source.left in
+    of_all (λ text. Audited text (view c.args.sink.now) (view c.audit_text.new.sink)) (left c.args.source.now) (left c.read_whole.new.source) c.as_slice-in-Audit.result.now
+    (subst (Consumes (left c.args.source.now) (left c.read_whole.new.source)) (sym c.as_slice-in-Audit.ensures.value) c.in-Ok.ensures.octets) c.in-Ok.ensures.end
+    (c.audit_text.ensures.verdict (sym (ap (λ e. e.status) c.with_flash-in-Audit.ensures.value) ∙ done))
 
-pub returns-in-Err-clause-memory : goal.returns-in-Err-clause-memory
-returns-in-Err-clause-memory g c = λ _. front_of_none _ _
-
-pub returns-in-Err-life_lines-clause-memory : goal.returns-in-Err-life_lines-clause-memory
-returns-in-Err-life_lines-clause-memory g c = λ _. front_of_none _ _
-
-pub returns-in-Ok-write_report-clause-done : goal.returns-in-Ok-write_report-clause-done
-returns-in-Ok-write_report-clause-done g c = λ _.
-    whole_run _ _ _ _ _ c.in-Ok-Some.script c.as_slice-2.result.now
-    (record {
-      read = c.in-Ok.ensures.octets;
-      end = c.in-Ok.ensures.end;
-      script = sym c.in-Ok-Some.field-0-is ∙ c.in-Ok-Some.ensures.value ∙ ap script_of c.as_slice.ensures.value;
-    })
-    (subst (HasLines c.in-Ok-Some.script) (sym c.as_slice-2.ensures.value) c.in-Ok-life_lines.ensures.value) c.in-Ok-life_lines.ensures.bound c.in-Ok-write_report.ensures.ok
-
-pub returns-in-Err-Fault-write_report-clause-front : goal.returns-in-Err-Fault-write_report-clause-front
-returns-in-Err-Fault-write_report-clause-front g c = λ _.
-    front_of_run _ _ _ _ _ c.in-Ok-Some.script c.as_slice-2.result.now
-    (record {
-      read = c.in-Ok.ensures.octets;
-      end = c.in-Ok.ensures.end;
-      script = sym c.in-Ok-Some.field-0-is ∙ c.in-Ok-Some.ensures.value ∙ ap script_of c.as_slice.ensures.value;
-    })
-    (subst (HasLines c.in-Ok-Some.script) (sym c.as_slice-2.ensures.value) c.in-Ok-life_lines.ensures.value) c.in-Err-Fault-write_report.ensures.err
-
-pub returns-clause-memory : goal.returns-clause-memory
-returns-clause-memory g c = λ _. front_of_memory _ _ _
-    (front_of_run _ _ _ _ _ c.in-Ok-Some.script c.as_slice-2.result.now
-    (record {
-      read = c.in-Ok.ensures.octets;
-      end = c.in-Ok.ensures.end;
-      script = sym c.in-Ok-Some.field-0-is ∙ c.in-Ok-Some.ensures.value ∙ ap script_of c.as_slice.ensures.value;
-    })
-    (subst (HasLines c.in-Ok-Some.script) (sym c.as_slice-2.ensures.value) c.in-Ok-life_lines.ensures.value) c.in-Err-Memory-write_report.ensures.err)
+pub returns-clause-verdict_front : goal.returns-clause-verdict_front
+returns-clause-verdict_front g c = λ is fault.
+    let view = view_of g.K.Sink.held g.K.Sink.pieces in
+    let left = g.S.Source.left in
+    of_all (λ text. AuditedFront text (view c.args.sink.now) (view c.audit_text.new.sink)) (left c.args.source.now) (left c.read_whole.new.source) c.as_slice-in-Audit.result.now
+    (subst (Consumes (left c.args.source.now) (left c.read_whole.new.source)) (sym c.as_slice-in-Audit.ensures.value) c.in-Ok.ensures.octets) c.in-Ok.ensures.end
+    (c.audit_text.ensures.front (sym (ap (λ e. e.status) c.with_flash-in-Audit.ensures.value) ∙ fault))

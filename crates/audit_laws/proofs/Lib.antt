@@ -1,0 +1,13 @@
+pub mod Parts
+pub mod Sources
+pub mod Origins
+pub mod Owners
+pub mod Shown
+pub mod ReportLines
+pub mod Runs
+pub mod Words
+pub mod Lines
+pub mod Sound
+pub mod SendOwn
+pub mod Readable
+pub mod Covered

@@ -1,0 +1,199 @@
+-- The words that are spelled so, and what `clap` makes of them.
+use Rattle.std.proofs.lemmas.Bool.{eqb-true}
+use Rattle.std.proofs.Common.{arith, ◌≡◌, ℕ, Bool, true, false, List, [], ◌∷◌, refl, sym, ap, ap₂, ◌∙◌, subst, codes, length, Option, Some, None, inl, inr, ◌==◌, ◌&&◌, ◌||◌}
+use Rattle.std.specs.Prelude.{◌⊎◌}
+use Rattle.std.specs.Str.{bytes_eq}
+use Rattle.std.proofs.lemmas.Slice.Eq.{bytes_eq-Decides}
+use Rattle.clap.specs.Simple.{subcommand_of}
+use Rattle.clap.specs.Takes.{takes}
+use Rattle.clap.proofs.OnLiterals.{clap_on_literals}
+use Rattle.command_words.specs.Commands.{command_of, has_flag, has_flags, is_spelled, is_word, kept, run}
+use Rattle.std.specs.Prelude.{Box}
+use Rattle.std.specs.Box.{box_value}
+use Rattle.clap.specs.Matches.{one_text, subcommand_name_of}
+use Rattle.clap.specs.Simple.{subcommand_rows, subcommand_rows_of}
+use Rattle.clap.specs.declared.parser.matches.ArgMatches.{ArgMatches}
+use Rattle.clap.specs.declared.parser.matches.ArgMatches.TheViews.{out-ArgMatches, out-SubCommand}
+use Rattle.clap.specs.declared.parser.matches.SubCommand.{SubCommand}
+use Rattle.clap.specs.Walk.{Row, Text, one_of, rows_of}
+use Rattle.clap.specs.declared.parser.matches.Found.{Found}
+use Rattle.clap.proofs.WalkLemmas.{one_text-rows}
+use Rattle.std.specs.Option.{option_map, option_map_or}
+use Rattle.command_words.specs.Reader.{AreFlags, IsFlag, reader, told}
+use Rattle.command_words.specs.Reader.{has_flag as flag_in}
+use Rattle.command_words.specs.declared.commands.Command.{Command}
+use Rattle.command_words.specs.declared.commands.Command.TheVariants as C
+
+same_text : (a b : List ℕ) → bytes_eq a b ≡ true → a ≡ b
+same_text a b e = (bytes_eq-Decides a b).0 e
+
+both_left : (a b : Bool) → (a && b) ≡ true → a ≡ true
+both_left true b e = refl
+both_left false b e = e
+
+both_right : (a b : Bool) → (a && b) ≡ true → b ≡ true
+both_right true b e = e
+both_right false b e = absurd cc
+
+one_word : (ws : List (List ℕ)) (a : List ℕ) → is_word ws a ≡ true → ws ≡ a ∷ []
+one_word [] a e = absurd cc
+one_word (x ∷ []) a e = ap (λ w. w ∷ []) (same_text x a e)
+one_word (x ∷ y ∷ ws) a e =
+    let n : length (x ∷ y ∷ ws) ≡ 1 = eqb-true (length (x ∷ y ∷ ws)) 1 (both_left (length (x ∷ y ∷ ws) == 1) (bytes_eq x a) e) in
+    absurd (omega arith)
+
+two_words : (ws : List (List ℕ)) (a : List ℕ) → has_flag ws a ≡ true → ws ≡ codes "run" ∷ a ∷ []
+two_words [] a e = absurd cc
+two_words (x ∷ []) a e = absurd cc
+two_words (x ∷ y ∷ []) a e =
+    ap₂ (λ v w. v ∷ w ∷ []) (same_text x (codes "run") (both_left (bytes_eq x (codes "run")) (bytes_eq y a) e)) (same_text y a (both_right (bytes_eq x (codes "run")) (bytes_eq y a) e))
+two_words (x ∷ y ∷ z ∷ ws) a e =
+    let n : length (x ∷ y ∷ z ∷ ws) ≡ 2 = eqb-true (length (x ∷ y ∷ z ∷ ws)) 2
+    (both_left (length (x ∷ y ∷ z ∷ ws) == 2) (bytes_eq x (codes "run")) (both_left ((length (x ∷ y ∷ z ∷ ws) == 2) && bytes_eq x (codes "run")) (bytes_eq y a) e)) in
+    absurd (omega arith)
+
+three_words : (ws : List (List ℕ)) (a b : List ℕ) → has_flags ws a b ≡ true → ws ≡ codes "run" ∷ a ∷ b ∷ []
+three_words [] a b e = absurd cc
+three_words (x ∷ []) a b e = absurd cc
+three_words (x ∷ y ∷ []) a b e = absurd cc
+three_words (x ∷ y ∷ z ∷ []) a b e =
+    let front = both_left (bytes_eq x (codes "run") && bytes_eq y a) (bytes_eq z b) e in
+    let first : x ≡ codes "run" = same_text x (codes "run") (both_left (bytes_eq x (codes "run")) (bytes_eq y a) front) in
+    let second : y ≡ a = same_text y a (both_right (bytes_eq x (codes "run")) (bytes_eq y a) front) in
+    let third : z ≡ b = same_text z b (both_right (bytes_eq x (codes "run") && bytes_eq y a) (bytes_eq z b) e) in
+    rw (first, second, third) refl
+three_words (x ∷ y ∷ z ∷ w ∷ ws) a b e =
+    let n : length (x ∷ y ∷ z ∷ w ∷ ws) ≡ 3 = eqb-true (length (x ∷ y ∷ z ∷ w ∷ ws)) 3
+    (both_left (length (x ∷ y ∷ z ∷ w ∷ ws) == 3) (bytes_eq x (codes "run"))
+    (both_left ((length (x ∷ y ∷ z ∷ w ∷ ws) == 3) && bytes_eq x (codes "run")) (bytes_eq y a)
+    (both_left ((length (x ∷ y ∷ z ∷ w ∷ ws) == 3) && bytes_eq x (codes "run") && bytes_eq y a) (bytes_eq z b) e))) in
+    absurd (omega arith)
+
+-- What `clap` makes of the words of each command.
+
+-- whatever is told of these words, where it is what `clap` tells, the command is theirs; and they are taken
+pub record IsRight (ws : List (List ℕ)) : Type 0 where
+  pub exact : (o : Option Command) → (AreFlags (subcommand_of reader ws) → o ≡ told (subcommand_of reader ws)) → kept o ws ≡ command_of ws
+  pub taken : (takes reader ws ≡ true → ⊥) → None ≡ command_of ws
+
+abbrev plain : List (List ℕ)
+plain = codes "run" ∷ []
+
+abbrev hexed : List (List ℕ)
+hexed = codes "run" ∷ codes "--hex" ∷ []
+
+abbrev olden : List (List ℕ)
+olden = codes "run" ∷ codes "--old" ∷ []
+
+abbrev hex_old : List (List ℕ)
+hex_old = codes "run" ∷ codes "--hex" ∷ codes "--old" ∷ []
+
+abbrev old_hex : List (List ℕ)
+old_hex = codes "run" ∷ codes "--old" ∷ codes "--hex" ∷ []
+
+abbrev audited : List (List ℕ)
+audited = codes "audit" ∷ []
+
+right_plain : IsRight plain
+unfolding clap_on_literals
+right_plain = record { exact = λ o h. ap (λ c. kept c plain) (h (inr refl, inr refl)); taken = λ h. absurd (h refl) }
+
+right_hexed : IsRight hexed
+unfolding clap_on_literals
+right_hexed = record { exact = λ o h. ap (λ c. kept c hexed) (h (inl refl, inr refl)); taken = λ h. absurd (h refl) }
+
+right_olden : IsRight olden
+unfolding clap_on_literals
+right_olden = record { exact = λ o h. ap (λ c. kept c olden) (h (inr refl, inl refl)); taken = λ h. absurd (h refl) }
+
+right_hex_old : IsRight hex_old
+unfolding clap_on_literals
+right_hex_old = record { exact = λ o h. ap (λ c. kept c hex_old) (h (inl refl, inl refl)); taken = λ h. absurd (h refl) }
+
+right_old_hex : IsRight old_hex
+unfolding clap_on_literals
+right_old_hex = record { exact = λ o h. ap (λ c. kept c old_hex) (h (inl refl, inl refl)); taken = λ h. absurd (h refl) }
+
+right_audited : IsRight audited
+unfolding clap_on_literals
+right_audited = record { exact = λ o h. ap (λ c. kept c audited) (h (tt, tt)); taken = λ h. absurd (h refl) }
+
+-- Words that no command has.
+
+no_run : (ws : List (List ℕ)) → is_spelled (run false false) ws ≡ false → is_spelled (run true false) ws ≡ false → is_spelled (run false true) ws ≡ false
+    → is_spelled (run true true) ws ≡ false → (hex old : Bool) → is_spelled (run hex old) ws ≡ false
+no_run ws a b c d false false = a
+no_run ws a b c d true false = b
+no_run ws a b c d false true = c
+no_run ws a b c d true true = d
+
+none_kept : (ws : List (List ℕ)) → ((hex old : Bool) → is_spelled (run hex old) ws ≡ false) → is_spelled C.Audit ws ≡ false → (o : Option Command) → kept o ws ≡ None
+none_kept ws a e None = refl
+none_kept ws a e (Some (C.Run flags)) = rw (a flags.hex flags.old) refl
+none_kept ws a e (Some C.Audit) = rw e refl
+
+right_none : (ws : List (List ℕ)) → is_spelled (run false false) ws ≡ false → is_spelled (run true false) ws ≡ false → is_spelled (run false true) ws ≡ false
+    → is_spelled (run true true) ws ≡ false → is_spelled C.Audit ws ≡ false → IsRight ws
+right_none ws a b c d e =
+    let none : command_of ws ≡ None = rw (a, b, c, d, e) refl in
+    record { exact = λ o h. none_kept ws (no_run ws a b c d) e o ∙ sym none; taken = λ h. sym none }
+
+either : (a b : Bool) → (a || b) ≡ true → (a ≡ true) ⊎ (b ≡ true)
+either true b e = inl refl
+either false b e = inr e
+
+test : (b : Bool) → (b ≡ true) ⊎ (b ≡ false)
+test true = inl refl
+test false = inr refl
+
+pub right : (ws : List (List ℕ)) → IsRight ws
+right ws = elim (test (is_spelled (run false false) ws)) [
+  | inl a ↦ subst IsRight (sym (one_word ws (codes "run") a)) right_plain
+  | inr a ↦ elim (test (is_spelled (run true false) ws)) [
+    | inl b ↦ subst IsRight (sym (two_words ws (codes "--hex") b)) right_hexed
+    | inr b ↦ elim (test (is_spelled (run false true) ws)) [
+      | inl c ↦ subst IsRight (sym (two_words ws (codes "--old") c)) right_olden
+      | inr c ↦ elim (test (is_spelled (run true true) ws)) [
+        | inl d ↦ elim (either (has_flags ws (codes "--hex") (codes "--old")) (has_flags ws (codes "--old") (codes "--hex")) d) [
+          | inl d ↦ subst IsRight (sym (three_words ws (codes "--hex") (codes "--old") d)) right_hex_old
+          | inr d ↦ subst IsRight (sym (three_words ws (codes "--old") (codes "--hex") d)) right_old_hex
+        ]
+        | inr d ↦ elim (test (is_spelled C.Audit ws)) [
+          | inl e ↦ subst IsRight (sym (one_word ws (codes "audit") e)) right_audited
+          | inr e ↦ right_none ws a b c d e
+        ]
+      ]
+    ]
+  ]
+]
+
+-- What is told of the flags.
+
+flag : (f : Found) (id : Text) (b : Bool) → (one_text f id ≡ None → b ≡ false) → (one_text f id ≡ Some (codes "true") → b ≡ true)
+    → (one_text f id ≡ Some (codes "false") → b ≡ false) → IsFlag (one_of id (rows_of f)) → b ≡ flag_in id (rows_of f)
+flag f id b none one zero is = go (one_of id (rows_of f)) (one_text-rows f id) is
+  where
+    go : (o : Option Text) → one_text f id ≡ o → IsFlag o → b ≡ option_map_or (λ text. bytes_eq text (codes "true")) o false
+    go None e h = none e
+    go (Some t) e (inl h) = one (e ∙ ap Some h) ∙ rw h refl
+    go (Some t) e (inr h) = zero (e ∙ ap Some h) ∙ rw h refl
+
+named : {Z : Type 0} (o : Option (Box SubCommand Z)) → option_map (λ b. (out-SubCommand (box_value b)).name.now) o ≡ option_map (λ p. p.0) (subcommand_rows o)
+named None = refl
+named (Some b) = refl
+
+-- the name of a subcommand stands before its rows
+pub name_is : (m : ArgMatches) → subcommand_name_of m ≡ option_map (λ p. p.0) (subcommand_rows_of m)
+name_is m = named (out-ArgMatches m).subcommand
+
+pub told_run : (o : Option (Text × List Row)) (f : Found) (hex old : Bool) → option_map (λ p. p.0) o ≡ Some (codes "run") → option_map (λ p. p.1) o ≡ Some (rows_of f)
+    → (one_text f (codes "hex") ≡ None → hex ≡ false) → (one_text f (codes "hex") ≡ Some (codes "true") → hex ≡ true) → (one_text f (codes "hex") ≡ Some (codes "false") → hex ≡ false)
+    → (one_text f (codes "old") ≡ None → old ≡ false) → (one_text f (codes "old") ≡ Some (codes "true") → old ≡ true) → (one_text f (codes "old") ≡ Some (codes "false") → old ≡ false)
+    → AreFlags o → Some (run hex old) ≡ told o
+told_run None f hex old name rows a b c d e g flags = absurd cc
+told_run (Some p) f hex old name rows a b c d e g flags =
+    let is : p.0 ≡ codes "run" = cc in
+    let are : p.1 ≡ rows_of f = cc in
+    let one : hex ≡ flag_in (codes "hex") (rows_of f) = flag f (codes "hex") hex a b c (subst (λ r. IsFlag (one_of (codes "hex") r)) are flags.0) in
+    let two : old ≡ flag_in (codes "old") (rows_of f) = flag f (codes "old") old d e g (subst (λ r. IsFlag (one_of (codes "old") r)) are flags.1) in
+    ap₂ (λ x y. Some (run x y)) one two ∙ rw (is, are) refl

@@ -1,0 +1,52 @@
+-- The commands of the program, by the words after its name.
+use Rattle.std.specs.Prelude.{ℕ, ◌==◌, ◌||◌, ◌&&◌, if◌then◌else◌, Bool, true, false, List, [], length, slice_index_or, codes, Option, Some, None}
+use Rattle.std.specs.Str.{bytes_eq}
+use Rattle.command_words.specs.declared.commands.Command.{Command}
+use Rattle.command_words.specs.declared.commands.Command.TheVariants as C
+use Rattle.command_words.specs.declared.commands.RunFlags.{RunFlags}
+
+abbrev pub is_at : List (List ℕ) → ℕ → List ℕ → Bool
+is_at words place word = bytes_eq (slice_index_or words place []) word
+
+-- one word
+abbrev pub is_word : List (List ℕ) → List ℕ → Bool
+is_word words word = (length words == 1) && is_at words 0 word
+
+-- `run` and one flag
+abbrev pub has_flag : List (List ℕ) → List ℕ → Bool
+has_flag words flag = (length words == 2) && is_at words 0 (codes "run") && is_at words 1 flag
+
+-- `run` and two flags
+abbrev pub has_flags : List (List ℕ) → List ℕ → List ℕ → Bool
+has_flags words first second = (length words == 3) && is_at words 0 (codes "run") && is_at words 1 first && is_at words 2 second
+
+-- `run` with its flags, each once, in any order
+abbrev pub is_run : RunFlags → List (List ℕ) → Bool
+is_run flags words =
+    if flags.hex && flags.old then has_flags words (codes "--hex") (codes "--old") || has_flags words (codes "--old") (codes "--hex")
+    else if flags.hex then has_flag words (codes "--hex")
+    else if flags.old then has_flag words (codes "--old")
+    else is_word words (codes "run")
+
+-- the words of a command
+abbrev pub is_spelled : Command → List (List ℕ) → Bool
+is_spelled (C.Run flags) words = is_run flags words
+is_spelled C.Audit words = is_word words (codes "audit")
+
+abbrev pub run : Bool → Bool → Command
+run hex old = C.Run (record { hex = hex; old = old })
+
+-- the command that is spelled so
+abbrev pub command_of : List (List ℕ) → Option Command
+command_of words =
+    if is_spelled (run false false) words then Some (run false false)
+    else if is_spelled (run true false) words then Some (run true false)
+    else if is_spelled (run false true) words then Some (run false true)
+    else if is_spelled (run true true) words then Some (run true true)
+    else if is_spelled C.Audit words then Some C.Audit
+    else None
+
+-- the command, where these are its words
+abbrev pub kept : Option Command → List (List ℕ) → Option Command
+kept None words = None
+kept (Some command) words = if is_spelled command words then Some command else None

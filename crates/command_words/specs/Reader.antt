@@ -1,0 +1,51 @@
+-- What `clap` is told of the commands, and what its matches tell.
+use Rattle.std.specs.Prelude.{◌≡◌, ◌⊎◌, true, false, Bool, if◌then◌else◌, List, codes, Option, Some, None, ⊤}
+use Rattle.std.specs.Option.{option_map_or}
+use Rattle.std.specs.Str.{bytes_eq}
+use Rattle.clap.specs.Walk.{Row, Rule, Text, one_of}
+use Rattle.clap.specs.Simple.{App, new_app, new_rule, with_rule, with_subcommand}
+use Rattle.clap.specs.declared.builder.action.ArgAction.TheVariants.{SetTrue}
+use Rattle.command_words.specs.declared.commands.Command.{Command}
+use Rattle.command_words.specs.declared.commands.Command.TheVariants as C
+
+abbrev pub hex : Rule
+hex = record (new_rule (codes "hex")) { long = Some (codes "hex"); action = Some SetTrue }
+
+abbrev pub old : Rule
+old = record (new_rule (codes "old")) { long = Some (codes "old"); action = Some SetTrue }
+
+abbrev pub run : App
+run = with_rule (with_rule (new_app (codes "run")) hex) old
+
+abbrev pub audit : App
+audit = new_app (codes "audit")
+
+abbrev pub bare : App
+bare = record (new_app (codes "meshnode")) { top = record (new_app (codes "meshnode")).top { no_binary_name = true } }
+
+abbrev pub reader : App
+reader = with_subcommand (with_subcommand bare run.top) audit.top
+
+-- whether a flag was given
+abbrev pub has_flag : Text → List Row → Bool
+has_flag id rows = option_map_or (λ text. bytes_eq text (codes "true")) (one_of id rows) false
+
+-- the command of a subcommand that was entered
+abbrev pub told_of : Text → List Row → Option Command
+told_of name rows =
+    if bytes_eq name (codes "run") then Some (C.Run (record { hex = has_flag (codes "hex") rows; old = has_flag (codes "old") rows }))
+    else if bytes_eq name (codes "audit") then Some C.Audit
+    else None
+
+abbrev pub told : Option (Text × List Row) → Option Command
+told None = None
+told (Some p) = told_of p.0 p.1
+
+-- the text of a flag that was given or not
+abbrev pub IsFlag : Option Text → Type 0
+IsFlag None = ⊤
+IsFlag (Some text) = (text ≡ codes "true") ⊎ (text ≡ codes "false")
+
+abbrev pub AreFlags : Option (Text × List Row) → Type 0
+AreFlags None = ⊤
+AreFlags (Some p) = IsFlag (one_of (codes "hex") p.1) × IsFlag (one_of (codes "old") p.1)

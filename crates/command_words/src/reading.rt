@@ -1,0 +1,135 @@
+//! Words to the command that they are.
+#![tactic(auto)]
+
+ghost use Rattle.std.specs.Prelude.{◌≡◌, ◌≢◌, ◌<◌, length, map, IfOk, None};
+ghost use Rattle.clap.specs.Words.{app_of, kind_of, subcommand_rows_of};
+ghost use Rattle.command_words.specs.Commands.{command_of, has_flag, has_flags, is_at, is_run, is_spelled, is_word, kept};
+ghost use Rattle.command_words.specs.Reader.{AreFlags, reader, told};
+
+use crate::commands::{Command, RunFlags};
+use clap::error::ErrorKind;
+use clap::{Arg, ArgAction, ArgMatches};
+use std::alloc::{AllocError, Global};
+
+/// The reader of words: `run` with its flags, and `audit`.
+fn reader<'a>(alloc: Global) -> Result<clap::Command<'a>, AllocError>
+    ensures app { IfOk result (λ c. app_of c ≡ reader) }
+{
+    let hex = Arg::new(alloc, "hex")
+        .long("hex")
+        .action(ArgAction::SetTrue);
+    let old = Arg::new(alloc, "old")
+        .long("old")
+        .action(ArgAction::SetTrue);
+    let run = clap::Command::new(alloc, "run").arg(hex)?.arg(old)?;
+    let audit = clap::Command::new(alloc, "audit");
+    clap::Command::new(alloc, "meshnode")
+        .no_binary_name(true)
+        .subcommand(run)?
+        .subcommand(audit)
+}
+
+/// The command that was read, where the texts of its flags are those of flags.
+fn told(matches: &ArgMatches) -> Option<Command>
+    ensures value { AreFlags (subcommand_rows_of matches.now) → result ≡ told (subcommand_rows_of matches.now) }
+{
+    if let Some(run) = matches.subcommand_matches("run") {
+        return Some(Command::Run(RunFlags {
+            hex: run.get_flag("hex"),
+            old: run.get_flag("old"),
+        }));
+    }
+    match matches.subcommand_matches("audit") {
+        Some(_) => Some(Command::Audit),
+        None => None,
+    }
+}
+
+/// Whether the word at a place is this one.
+fn is_at(words: &[&str], place: usize, word: &str) -> bool
+    requires within { place < length words.now }
+    ensures value { result ≡ is_at (map (λ w. w.now) words.now) place word.now }
+{
+    words[place] == word
+}
+
+/// Whether the words are `run` and one flag.
+fn has_flag(words: &[&str], flag: &str) -> bool
+    ensures value { result ≡ has_flag (map (λ w. w.now) words.now) flag.now }
+{
+    words.len() == 2 && is_at(words, 0, "run") && is_at(words, 1, flag)
+}
+
+/// Whether the words are `run` and two flags.
+fn has_flags(words: &[&str], first: &str, second: &str) -> bool
+    ensures value { result ≡ has_flags (map (λ w. w.now) words.now) first.now second.now }
+{
+    words.len() == 3 && is_at(words, 0, "run") && is_at(words, 1, first) && is_at(words, 2, second)
+}
+
+/// Whether the words are this one alone.
+fn is_word(words: &[&str], word: &str) -> bool
+    ensures value { result ≡ is_word (map (λ w. w.now) words.now) word.now }
+{
+    words.len() == 1 && is_at(words, 0, word)
+}
+
+/// Whether these are the words of `run` with these flags, each once, in any order.
+fn is_run(flags: RunFlags, words: &[&str]) -> bool
+    ensures value { result ≡ is_run flags (map (λ w. w.now) words.now) }
+{
+    if flags.hex && flags.old {
+        has_flags(words, "--hex", "--old") || has_flags(words, "--old", "--hex")
+    } else if flags.hex {
+        has_flag(words, "--hex")
+    } else if flags.old {
+        has_flag(words, "--old")
+    } else {
+        is_word(words, "run")
+    }
+}
+
+/// Whether these are the words of a command.
+fn is_spelled(command: Command, words: &[&str]) -> bool
+    ensures value { result ≡ is_spelled command (map (λ w. w.now) words.now) }
+{
+    match command {
+        Command::Run(flags) => is_run(flags, words),
+        Command::Audit => is_word(words, "audit"),
+    }
+}
+
+/// The command, where these are its words.
+fn kept(command: Option<Command>, words: &[&str]) -> Option<Command>
+    ensures value { result ≡ kept command (map (λ w. w.now) words.now) }
+{
+    match command {
+        Some(command) if is_spelled(command, words) => Some(command),
+        _ => None,
+    }
+}
+
+/// What words that weren't read come to: no command, but for want of memory.
+fn refused(error: &clap::Error) -> Result<Option<Command>, AllocError>
+    ensures cause { IfOk result (λ c. (c ≡ None) × (kind_of error.now ≢ ErrorKind.OutOfMemory)) }
+{
+    match error.kind() {
+        ErrorKind::OutOfMemory => Err(AllocError),
+        _ => Ok(None),
+    }
+}
+
+/// The command that the words after the program's name are: `run`, with `--hex` and `--old` in any combination, or `audit`; `None` exactly
+/// where they are none. What `clap` reads and isn't spelled so, as a word `--`, is no command either.
+///
+/// # Errors
+///
+/// `AllocError` where there is no memory.
+pub fn command_of<'a>(alloc: Global, words: &'a [&'a str]) -> Result<Option<Command>, AllocError>
+    ensures value { IfOk result (λ c. c ≡ command_of (map (λ w. w.now) words.now)) }
+{
+    match reader(alloc)?.try_get_matches_from(words) {
+        Ok(matches) => Ok(kept(told(&matches), words)),
+        Err(error) => refused(&error),
+    }
+}

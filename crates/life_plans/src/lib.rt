@@ -1,0 +1,15 @@
+//! What a script has a node do: the plan of each life, and what the node is provisioned with.
+//!
+//! - `planning`: the plan of the lines of one life
+//! - `draft`: the plan of the lines so far
+//! - `scripts`: what a script says of its node
+#![tactic(auto)]
+
+mod draft;
+pub mod planning;
+pub mod scripts;
+#[cfg(test)]
+mod tests;
+
+pub use crate::planning::plan_of;
+pub use crate::scripts::{provision_of, script_law};

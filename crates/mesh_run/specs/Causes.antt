@@ -1,0 +1,84 @@
+-- Where each status of a run comes.
+use Rattle.std.specs.Prelude.{◌≡◌, ◌⊎◌, ℕ, ◌≤◌, nat_lt, Bool, true, false, IsTrue, List, length, ⊤}
+use Rattle.flash_model.specs.Chip.{Chip}
+use Rattle.script_definitions.specs.Reading.{Reading, reading}
+use Rattle.script_definitions.specs.Reading.Reading.{Fails, IsScript}
+use Rattle.script_definitions.specs.declared.kind.Grammar.TheVariants as G
+use Rattle.script_definitions.specs.declared.script.Script.{Script}
+use Rattle.slot_journal.specs.Format.{IsErased, IsFirstWritten}
+use Rattle.mesh_run.specs.declared.status.Status.{Status}
+use Rattle.mesh_run.specs.declared.status.Status.TheVariants as S
+
+-- a text is a script, and this holds of it
+abbrev pub IsScriptAnd : Reading → (Script → Type 0) → Type 0
+IsScriptAnd (IsScript s) P = P s
+IsScriptAnd (Fails line rule) P = ⊥
+
+-- this holds of a text that is a script
+abbrev pub IfScript : Reading → (Script → Type 0) → Type 0
+IfScript (IsScript s) P = P s
+IfScript (Fails line rule) P = ⊤
+
+-- the statuses before the flash is touched
+abbrev pub IsBeforeFlash : Status → Type 0
+IsBeforeFlash S.Usage = ⊤
+IsBeforeFlash S.ReadFault = ⊤
+IsBeforeFlash S.TooLong = ⊤
+IsBeforeFlash (S.Script line rule) = ⊤
+IsBeforeFlash (S.Report line) = ⊤
+IsBeforeFlash _ = ⊥
+
+-- the statuses before the first life
+abbrev pub IsBeforeLives : Status → Type 0
+IsBeforeLives S.Done = ⊥
+IsBeforeLives S.WriteFault = ⊥
+IsBeforeLives S.Memory = ⊥
+IsBeforeLives _ = ⊤
+
+-- the statuses of a run whose source may have more
+abbrev pub IsReadingStop : Status → Type 0
+IsReadingStop S.Usage = ⊤
+IsReadingStop S.ReadFault = ⊤
+IsReadingStop S.TooLong = ⊤
+IsReadingStop S.Memory = ⊤
+IsReadingStop _ = ⊥
+
+-- the statuses of a run that came to its flash, but for want of memory
+abbrev pub IsFromFlash : Status → Type 0
+IsFromFlash S.FlashFault = ⊤
+IsFromFlash (S.NotErased at) = ⊤
+IsFromFlash S.WriteFault = ⊤
+IsFromFlash S.Done = ⊤
+IsFromFlash _ = ⊥
+
+-- how a run of a text ends that reads so
+abbrev pub IsDueBy : Reading → Status → Type 0
+IsDueBy (IsScript s) status = IsFromFlash status
+IsDueBy (Fails line rule) status = status ≡ S.Script line rule
+
+-- how a run ends whose text is too long or not
+abbrev pub IsDueIf : Bool → List ℕ → Status → Type 0
+IsDueIf true text status = status ≡ S.TooLong
+IsDueIf false text status = IsDueBy (reading G.Node text) status
+
+-- How a run of this text ends, where the source doesn't fail and there is memory: each cause in its order.
+abbrev pub IsDue : List ℕ → Status → Type 0
+IsDue text status = (status ≡ S.ReadFault) ⊎ (status ≡ S.Memory) ⊎ IsDueIf (nat_lt 4194304 (length text)) text status
+
+-- every image of the flash is erased
+abbrev pub IsErasedFlash : Chip → Type 0
+IsErasedFlash chip = (c : List ℕ) → chip.images c → IsErased c
+
+-- the image of the flash that its power cycle left was erased
+abbrev pub WasErased : Chip → Type 0
+WasErased chip = (c : List ℕ) × chip.images c × IsErased c
+
+-- what its power cycle left is what is read, and this is the first octet that isn't ff
+abbrev pub IsWrittenAt : ℕ → Chip → Chip → Type 0
+IsWrittenAt at old new = old.images new.now × IsFirstWritten new.now at
+
+-- what a run leaves of the flash, whatever becomes of its content
+pub record IsSameFlash (old new : Chip) : Type 0 where
+  pub honest : IsTrue new.honest
+  pub steady : new.steady ≡ old.steady
+  pub later : old.faults ≤ new.faults

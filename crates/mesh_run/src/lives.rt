@@ -1,0 +1,123 @@
+//! The lives of a script, one after another over one flash.
+#![tactic(auto)]
+
+ghost use Rattle.std.specs.Prelude.{◌≡◌, ◌≤◌, ◌<◌, [], length, slice_index_or, IfOk, IfSome, OnErr};
+ghost use Rattle.life_plans.specs.Plans.{script_of};
+ghost use Rattle.machine_contract.specs.Opening.{EachRecovered, IsNodeFlash};
+ghost use Rattle.mesh_base.specs.Outside.{Rose};
+ghost use Rattle.node_layers.specs.BuiltLayers.{built_layers};
+ghost use Rattle.node_store.specs.Tie.{IsNode};
+ghost use Rattle.report_writer.specs.Lives.{FitsLines, life_of};
+ghost use Rattle.report_writer.specs.Writing.{view_of};
+ghost use Rattle.script_definitions.specs.Ranges.{IsScriptOf};
+ghost use Rattle.script_definitions.specs.declared.kind.Grammar.TheVariants as Grammars;
+ghost use Rattle.store_definitions.specs.Config.{config_of};
+ghost use Rattle.store_definitions.specs.Provisioning.{provisioned};
+ghost use Rattle.mesh_run.specs.Causes.{IsSameFlash};
+ghost use Rattle.mesh_node.specs.Plan as Plan;
+ghost use Rattle.mesh_run.specs.Lived.{IsFault, Lived, flash_left};
+ghost use Rattle.mesh_run.specs.Provisioned.{IsProvisioned};
+ghost use Rattle.mesh_run.specs.Ran.{Ran, RanFront};
+
+use flash_model::Bench;
+use layer_laws::laws::built_law;
+use life_plans::{plan_of, script_law};
+use mesh_base::outside::Sink;
+use mesh_machine::MeshMachine;
+use mesh_node::{Gate, LifeLog, life};
+use report_writer::{EndedLife, WriteStop, write_life};
+use run_safety::laws::lives_law;
+use script_definitions::script::Script;
+use std::alloc::{AllocError, Global};
+use std::sync::Wait;
+use std::thread::Threads;
+
+/// Why the lives weren't run to their end, and the flash, which is lost where a life ran out of memory.
+#[derive(Drop)]
+pub(crate) enum Stopped<B> {
+    /// The sink failed.
+    Fault(B),
+    /// There was no memory.
+    Memory(Option<B>),
+}
+
+/// A log as a life that is over.
+fn ended_life(log: LifeLog) -> EndedLife
+    ensures value { life_of result ≡ Plan.life_of log }
+{
+    let LifeLog {
+        opened,
+        history,
+        sends,
+        end,
+        ..
+    } = log;
+    EndedLife {
+        opened,
+        entries: history.entries,
+        refills: history.refills,
+        sends,
+        end,
+    }
+}
+
+/// Runs the life of a script at place `i`. For want of memory the flash is dropped.
+fn live<R: Threads + Wait + Sync, B: Bench, G: Gate>(
+    rt: &R,
+    alloc: Global,
+    script: &Script,
+    i: usize,
+    flash: B,
+    gate: &G,
+) -> Result<(EndedLife, B), AllocError>
+    requires read { IsScriptOf Grammars.Node script.now }
+    requires place { i < length script.now.lives }
+    requires node { IsNodeFlash IsNode (B.chip flash) }
+    requires elements { EachRecovered (B.chip flash) (λ records. (config_of records).elements ≡ (script_of script.now).node.elements) }
+    ensures lived { IfOk result (λ r. Lived (slice_index_or (script_of script.now).lives i []) (B.chip flash) (life_of r.0) (B.chip r.1)) }
+    ensures room { IfOk result (λ r. FitsLines (life_of r.0)) }
+{
+    script_law();
+    let plan = plan_of(alloc, script.lives.as_slice()[i].as_slice())?;
+    let (log, flash) = life::<MeshMachine, B, G, R>(rt, alloc, flash, &plan, gate)?;
+    Ok((ended_life(log), flash))
+}
+
+/// Runs the lives of a script one after another, and writes the report of each once it is over; nothing of it but its flash is kept. The node
+/// was provisioned on the flash.
+pub(crate) fn live_all<R: Threads + Wait + Sync, B: Bench, K: Sink, G: Gate>(
+    rt: &R,
+    alloc: Global,
+    script: &Script,
+    hex: bool,
+    sink: &mut K,
+    flash: B,
+    gate: &G,
+) -> Result<B, Stopped<B>>
+    requires read { IsScriptOf Grammars.Node script.now }
+    requires provisioned { IsProvisioned (B.chip flash) (provisioned (script_of script.now).node) }
+    ensures all { IfOk result (λ f. Ran built_layers (script_of script.now) hex (B.chip flash) (view_of K.held K.pieces sink.old) (B.chip f) (view_of K.held K.pieces sink.new)) }
+    ensures front { OnErr result (RanFront built_layers (script_of script.now) hex (view_of K.held K.pieces sink.old) (view_of K.held K.pieces sink.new)) }
+    ensures cause { IsFault result → Rose (K.faults sink.old) (K.faults sink.new) }
+    ensures no_fault { ¬ IsFault result → K.faults sink.new ≡ K.faults sink.old }
+    ensures later { K.faults sink.old ≤ K.faults sink.new }
+    ensures frame { IfSome (flash_left result) (λ f. IsSameFlash (B.chip flash) (B.chip f)) }
+{
+    // They do nothing when they run: the proof uses what they say.
+    built_law();
+    lives_law();
+    let mut flash = flash;
+    for i in 0..script.lives.as_slice().len() {
+        let (ended, back) = match live(rt, alloc, script, i, flash, gate) {
+            Ok(lived) => lived,
+            Err(_) => return Err(Stopped::Memory(None)),
+        };
+        flash = back;
+        match write_life(alloc, sink, hex, i as u32 + 1, &ended) {
+            Ok(()) => {}
+            Err(WriteStop::Fault) => return Err(Stopped::Fault(flash)),
+            Err(WriteStop::Memory) => return Err(Stopped::Memory(Some(flash))),
+        }
+    }
+    Ok(flash)
+}

@@ -1,0 +1,129 @@
+//! The script of a text, over a flash that is provisioned for it.
+#![tactic(auto)]
+
+ghost use Rattle.std.specs.Prelude.{◌≡◌, ◌≢◌, ◌⊎◌, ◌<◌, ◌≤◌, ℕ, false, None, Some, IfSome, IsSomeAnd, IsTrue, length};
+ghost use Rattle.life_plans.specs.Plans.{script_of};
+ghost use Rattle.mesh_base.specs.Outside.{Rose};
+ghost use Rattle.node_layers.specs.BuiltLayers.{built_layers};
+ghost use Rattle.report_writer.specs.Writing.{view_of};
+ghost use Rattle.script_definitions.specs.Ranges.{IsScriptOf};
+ghost use Rattle.script_definitions.specs.Reading.{reading};
+ghost use Rattle.script_definitions.specs.Reading.Reading.{Fails};
+ghost use Rattle.script_definitions.specs.declared.kind.Grammar.TheVariants as Grammars;
+ghost use Rattle.mesh_run.specs.Causes.{IfScript, IsBeforeFlash, IsBeforeLives, IsDueBy, IsErasedFlash, IsFromFlash, IsSameFlash, IsScriptAnd, IsWrittenAt, WasErased};
+ghost use Rattle.mesh_run.specs.Ran.{Ran, RanFront};
+
+use crate::lives::{Stopped, live_all};
+use crate::provisioning::provision;
+use crate::status::{Ended, Status};
+use command_words::RunFlags;
+use flash_model::Bench;
+use life_plans::{provision_of, script_law};
+use mesh_base::outside::Sink;
+use mesh_node::Gate;
+use script_definitions::script::Script;
+use script_reader::{ScriptStop, read_script};
+use slot_journal::FormatFault;
+use std::alloc::Global;
+use std::sync::Wait;
+use std::thread::Threads;
+
+/// Runs a script that was read: power is cycled, the node is provisioned, and the lives are run one after another.
+fn run_script<R: Threads + Wait + Sync, B: Bench, K: Sink, G: Gate>(
+    rt: &R,
+    alloc: Global,
+    flags: RunFlags,
+    script: &Script,
+    sink: &mut K,
+    flash: B,
+    gate: &G,
+) -> Ended<B>
+    requires honest { IsTrue (B.chip flash).honest }
+    requires read { IsScriptOf Grammars.Node script.now }
+
+    // Each status has its cause.
+    ensures due { IsFromFlash result.status ⊎ (result.status ≡ Status.Memory) }
+    ensures write_fault { result.status ≡ Status.WriteFault → Rose (K.faults sink.old) (K.faults sink.new) }
+    ensures not_erased { (at : ℕ) → result.status ≡ Status.NotErased at → IsSomeAnd result.flash (λ f. IsWrittenAt at (B.chip flash) (B.chip f)) }
+    ensures flash_fault { result.status ≡ Status.FlashFault → IsSomeAnd result.flash (λ f. (B.chip flash).faults < (B.chip f).faults) × (IsTrue (B.chip flash).steady → ⊥) }
+    ensures erased { (result.status ≡ Status.Done) ⊎ (result.status ≡ Status.WriteFault) → WasErased (B.chip flash) }
+    ensures complete { ¬ Rose (K.faults sink.old) (K.faults sink.new) → IsErasedFlash (B.chip flash) → (result.status ≡ Status.Done) ⊎ (result.status ≡ Status.Memory) ⊎ (result.status ≡ Status.FlashFault) }
+
+    // What is written is the report of a record of a run of the script, or a front of it.
+    ensures done { result.status ≡ Status.Done → IsSomeAnd result.flash (λ f. Ran built_layers (script_of script.now) flags.hex (B.chip flash) (view_of K.held K.pieces sink.old) (B.chip f) (view_of K.held K.pieces sink.new)) }
+    ensures front { (result.status ≡ Status.WriteFault) ⊎ (result.status ≡ Status.Memory) → RanFront built_layers (script_of script.now) flags.hex (view_of K.held K.pieces sink.old) (view_of K.held K.pieces sink.new) }
+    ensures nothing_written { IsBeforeLives result.status → sink.new ≡ sink.old }
+
+    // What becomes of the flash, and of the sink's count of faults.
+    ensures handed_back { result.flash ≡ None → result.status ≡ Status.Memory }
+    ensures frame { IfSome result.flash (λ f. IsSameFlash (B.chip flash) (B.chip f)) }
+    ensures no_fault { result.status ≢ Status.WriteFault → K.faults sink.new ≡ K.faults sink.old }
+    ensures later { K.faults sink.old ≤ K.faults sink.new }
+{
+    // It does nothing when it runs: the proof uses what it says.
+    script_law();
+    let mut flash = flash;
+    flash.power_cycle();
+    match provision(&mut flash, flags.old, &provision_of(&script.provision)) {
+        Ok(()) => {}
+        Err(FormatFault::Flash) => return Ended::with_flash(Status::FlashFault, flash),
+        Err(FormatFault::NotErased { at }) => return Ended::with_flash(
+            Status::NotErased { at },
+            flash,
+        ),
+    }
+    match live_all(rt, alloc, script, flags.hex, sink, flash, gate) {
+        Ok(flash) => Ended::with_flash(Status::Done, flash),
+        Err(Stopped::Fault(flash)) => Ended::with_flash(Status::WriteFault, flash),
+        Err(Stopped::Memory(flash)) => Ended {
+            status: Status::Memory,
+            flash,
+        },
+    }
+}
+
+/// Runs the script that a text is, if it is one.
+pub(crate) fn run_text<R: Threads + Wait + Sync, B: Bench, K: Sink, G: Gate>(
+    rt: &R,
+    alloc: Global,
+    flags: RunFlags,
+    text: &[u8],
+    sink: &mut K,
+    flash: B,
+    gate: &G,
+) -> Ended<B>
+    requires honest { IsTrue (B.chip flash).honest }
+    requires short { length text.now ≤ 4194304 }
+
+    // Each status has its cause.
+    ensures due { IsDueBy (reading Grammars.Node text.now) result.status ⊎ (result.status ≡ Status.Memory) }
+    ensures script { (line rule : ℕ) → result.status ≡ Status.Script line rule → reading Grammars.Node text.now ≡ Fails line rule }
+    ensures write_fault { result.status ≡ Status.WriteFault → Rose (K.faults sink.old) (K.faults sink.new) }
+    ensures not_erased { (at : ℕ) → result.status ≡ Status.NotErased at → IsSomeAnd result.flash (λ f. IsWrittenAt at (B.chip flash) (B.chip f)) }
+    ensures flash_fault { result.status ≡ Status.FlashFault → IsSomeAnd result.flash (λ f. (B.chip flash).faults < (B.chip f).faults) × (IsTrue (B.chip flash).steady → ⊥) }
+    ensures erased { (result.status ≡ Status.Done) ⊎ (result.status ≡ Status.WriteFault) → WasErased (B.chip flash) }
+    ensures complete { ¬ Rose (K.faults sink.old) (K.faults sink.new) → IsErasedFlash (B.chip flash) → IfScript (reading Grammars.Node text.now) (λ s. (result.status ≡ Status.Done) ⊎ (result.status ≡ Status.Memory) ⊎ (result.status ≡ Status.FlashFault)) }
+
+    // What is written is the report of a record of a run of the script, or a front of it.
+    ensures done { result.status ≡ Status.Done → IsScriptAnd (reading Grammars.Node text.now) (λ s. IsSomeAnd result.flash (λ f. Ran built_layers (script_of s) flags.hex (B.chip flash) (view_of K.held K.pieces sink.old) (B.chip f) (view_of K.held K.pieces sink.new))) }
+    ensures front { result.status ≡ Status.WriteFault → IsScriptAnd (reading Grammars.Node text.now) (λ s. RanFront built_layers (script_of s) flags.hex (view_of K.held K.pieces sink.old) (view_of K.held K.pieces sink.new)) }
+    ensures memory { result.status ≡ Status.Memory → (sink.new ≡ sink.old) ⊎ IsScriptAnd (reading Grammars.Node text.now) (λ s. RanFront built_layers (script_of s) flags.hex (view_of K.held K.pieces sink.old) (view_of K.held K.pieces sink.new)) }
+    ensures nothing_written { IsBeforeLives result.status → sink.new ≡ sink.old }
+
+    // What becomes of the flash, and of the sink's count of faults.
+    ensures same_flash { IsBeforeFlash result.status → result.flash ≡ Some flash }
+    ensures handed_back { result.flash ≡ None → result.status ≡ Status.Memory }
+    ensures frame { IfSome result.flash (λ f. IsSameFlash (B.chip flash) (B.chip f)) }
+    ensures no_fault { result.status ≢ Status.WriteFault → K.faults sink.new ≡ K.faults sink.old }
+    ensures later { K.faults sink.old ≤ K.faults sink.new }
+{
+    let script = match read_script(alloc, text) {
+        Ok(script) => script,
+        Err(ScriptStop::Fault { line, rule }) => return Ended::with_flash(
+            Status::Script { line, rule },
+            flash,
+        ),
+        Err(ScriptStop::Memory) => return Ended::with_flash(Status::Memory, flash),
+    };
+    run_script(rt, alloc, flags, &script, sink, flash, gate)
+}

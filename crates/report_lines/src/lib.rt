@@ -1,0 +1,16 @@
+//! The lines of a node's report as octets.
+//!
+//! - `lines`: `write_line`, each line as its text
+//! - `answers`, `outcomes`: the words of an answer, and of what became of a job
+//! - `text`: the text of one line, word by word
+#![tactic(auto)]
+
+mod answers;
+pub mod lines;
+mod outcomes;
+#[cfg(test)]
+mod tests;
+pub mod text;
+
+pub use crate::lines::write_line;
+pub use crate::text::LineText;

@@ -1,0 +1,3 @@
+//! The lines of the report as they are printed.
+
+mod report;

@@ -1,0 +1,23 @@
+use Rattle.std.proofs.Common.{◌+◌, ◌∙◌, ap}
+use Rattle.mesh_types.specs.Kind.{kind_of}
+use Rattle.mesh_types.specs.declared.report.ReportLine.TheVariants as L
+use Rattle.report_writer.proofs.Parts.{next_entry}
+use Rattle.report_writer.proofs.Written.{up_to_cut, up_to_more}
+use Rattle.report_writer.proofs.lives.write_entries.Goals as goal
+
+pub returns-in-Err-clause-err : goal.returns-in-Err-clause-err
+returns-in-Err-clause-err g c =
+    up_to_cut _ _ _ _ _ _ _
+    (next_entry c.args.entries.now c.loop-entry.entry-index c.entry-item.result c.entry_line.result c.loop-entry-test.true c.entry-item.is
+    (c.entry_line.ensures.value ∙ ap (λ n. L.Entry n c.entry-item.result.bearer c.entry-item.result.number (kind_of c.entry-item.result.event) c.entry-item.result.answer) (ap (λ n. n + 1) c.loop-entry.invariant.place)))
+    c.loop-entry.invariant.lines c.in-Err.ensures.err
+
+pub loop-entry-preserved : goal.loop-entry-preserved
+loop-entry-preserved g c = record {
+  place = ap (λ n. n + 1) c.loop-entry.invariant.place;
+  lines = up_to_more _ _ _ _ _ _ _
+      (next_entry c.args.entries.now c.loop-entry.entry-index c.entry-item.result c.entry_line.result c.loop-entry-test.true c.entry-item.is
+      (c.entry_line.ensures.value ∙ ap (λ n. L.Entry n c.entry-item.result.bearer c.entry-item.result.number (kind_of c.entry-item.result.event) c.entry-item.result.answer) (ap (λ n. n + 1) c.loop-entry.invariant.place)))
+      c.loop-entry.invariant.lines c.in-Ok.ensures.ok;
+  no_fault = c.in-Ok.ensures.no_fault (λ e. cc) ∙ c.loop-entry.invariant.no_fault;
+}
