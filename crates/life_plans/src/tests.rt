@@ -239,6 +239,6 @@ fn node_of_a_script(rt: HostRuntime) -> Result<(), Fail> {
             0xf0, 0x3f,
         ],
     };
-    assert_eq!(rt; provision_of(&script.provision), node);
+    assert!(rt; provision_of(&script.provision) == node);
     Ok(())
 }
