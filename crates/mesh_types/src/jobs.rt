@@ -1,14 +1,14 @@
 //! What a node is to send for an event.
 #![tactic(auto)]
 
-ghost use Rattle.std.specs.Prelude.{◌≡◌, ◌<◌, ◌≤◌, ◌↔◌, [], ◌∷◌, ◌++◌, length, IsTrue};
+ghost use Rattle.std.specs.Prelude.{◌≡◌, ◌<◌, ◌≤◌, ◌↔◌, [], ◌∷◌, ◌++◌, length, IfOk, IsTrue};
 
-use arrayvec::ArrayVec;
 use mesh_base::address::Address;
 use mesh_base::fields::{NetFields, NetMaterial};
 use mesh_base::keys::UpperKey;
 use mesh_base::octets::Octets;
 use mesh_base::pair::Name;
+use std::alloc::{AllocError, Global};
 use std::marker::Model;
 
 /// One job of an entry. Where it answers a Poll whose answer is to be kept, `keep` is the Low Power node and the FSN.
@@ -102,18 +102,6 @@ pub enum Job {
     Beacon([u8; 22]),
 }
 
-/// The beacon of zeros, which fills the unused places of a table.
-impl Default for Job {
-    ghost use Rattle.std.specs.Prelude.{replicate};
-    ghost use Rattle.mesh_types.specs.declared.jobs.Job.TheVariants.{Beacon};
-
-    ghost is_default = { λ j. j ≡ Beacon (replicate 22 0) };
-
-    fn default() -> Job {
-        Job::Beacon([0; 22])
-    }
-}
-
 impl Job {
     /// The same job once more. It takes no memory.
     pub fn copied(&self) -> Job
@@ -123,41 +111,27 @@ impl Job {
     }
 }
 
-/// The jobs of an entry in their order, at most 160. A clause sees them as the list.
-#[derive(Debug, Drop, PartialEq, Eq)]
+/// The most jobs of an event.
+pub const MOST_JOBS: usize = 160;
+
+/// The jobs of an entry in their order, at most 160. They take the memory of so many as they are. A clause sees them as the list.
+#[derive(Debug, Drop)]
 pub struct Jobs {
-    table: ArrayVec<Job, 160>,
+    table: Vec<Job>,
 }
 
 impl Model for Jobs {
-    ghost use Rattle.std.specs.Prelude.{List};
+    ghost use Rattle.std.specs.Prelude.{◌≤◌, List, length};
     ghost use Rattle.mesh_types.specs.declared.jobs.Job.{Job};
 
     ghost Value = { List Job };
 
     ghost view = { λ j. j.table.items };
 
-    ghost inverse = { λ xs. record { table = record { items = xs } } };
+    ghost invariant = { λ j. length j.table.items ≤ 160 };
 }
 
 impl Jobs {
-    /// No jobs.
-    pub fn new() -> Jobs
-        ensures value { result ≡ [] }
-    {
-        Jobs {
-            table: ArrayVec::new(),
-        }
-    }
-
-    /// Puts a job behind the others, for which the caller has room.
-    pub fn push(&mut self, job: Job)
-        requires room { length self.old < 160 }
-        ensures value { self.new ≡ self.old ++ job ∷ [] }
-    {
-        self.table.push(job);
-    }
-
     /// The number of jobs.
     pub fn len(&self) -> usize
         ensures value { result ≡ length self.now }
@@ -181,14 +155,60 @@ impl Jobs {
         self.table.as_slice()
     }
 
-    /// The same jobs once more. It takes no memory.
-    pub fn copied(&self) -> Jobs
+    /// The same jobs once more, in the memory of a draft of none.
+    pub fn copied(&self, mut draft: JobDraft) -> Jobs
+        requires empty { draft ≡ [] }
         ensures value { result ≡ self.now }
     {
-        let mut table = ArrayVec::new();
         for job in self.as_slice() {
-            table.push(job.copied());
+            draft.push(job.copied());
         }
+        draft.finish()
+    }
+}
+
+/// The jobs of an entry while they are made: there is memory for 160, taken at once, so that a job more can't fail. A clause sees them as
+/// the list.
+#[derive(Drop)]
+pub struct JobDraft {
+    table: Vec<Job>,
+}
+
+impl Model for JobDraft {
+    ghost use Rattle.std.specs.Prelude.{◌≤◌, List, length, vec_capacity};
+    ghost use Rattle.mesh_types.specs.declared.jobs.Job.{Job};
+
+    ghost Value = { List Job };
+
+    ghost view = { λ j. j.table.items };
+
+    ghost invariant = { λ j. (length j.table.items ≤ 160) × (160 ≤ vec_capacity j.table) };
+}
+
+impl JobDraft {
+    /// No jobs, and memory for 160.
+    pub fn new(alloc: Global) -> Result<JobDraft, AllocError>
+        ensures value { IfOk result (λ j. j ≡ []) }
+    {
+        Ok(JobDraft {
+            table: Vec::with_capacity(alloc, MOST_JOBS)?,
+        })
+    }
+
+    /// Puts a job behind the others, for which the caller has room.
+    pub fn push(&mut self, job: Job)
+        requires room { length self.old < 160 }
+        ensures value { self.new ≡ self.old ++ job ∷ [] }
+    {
+        let _ = self.table.push(job);
+    }
+
+    /// The jobs, of which there are no more. Memory that they don't take is given back.
+    pub fn finish(mut self) -> Jobs
+        ensures value { result ≡ self }
+    {
+        self.table.shrink_to_fit();
+        let JobDraft { table } = self;
         Jobs { table }
     }
 }

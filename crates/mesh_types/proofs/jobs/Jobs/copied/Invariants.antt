@@ -3,4 +3,4 @@ use Rattle.mesh_types.proofs.jobs.Jobs.copied.Given as goal
 
 -- the jobs so far
 abbrev pub invariant-loop-job : goal.invariant-loop-job
-invariant-loop-job l = l.table.items ≡ take l.job-index l.job-items
+invariant-loop-job l = l.draft ≡ take l.job-index l.job-items
