@@ -1,4 +1,4 @@
-use Rattle.std.proofs.Common.{◌≡◌, ◌++◌, ℕ, List, ap, filter, sym, ◌∙◌}
+use Rattle.std.proofs.Common.{◌≡◌, ◌++◌, ℕ, List, ap, sym, ◌∙◌}
 use Rattle.std.specs.List.{flat_map}
 use Rattle.layer_states.specs.Reassembly.{acks_due}
 use Rattle.layer_states.specs.declared.reassembly.DueAck.{DueAck}
@@ -14,7 +14,6 @@ use Rattle.node_layers.specs.Sending as own
 use Rattle.node_records.specs.Tables.{config_in}
 use Rattle.run_definitions.specs.Answers.{later}
 use Rattle.run_definitions.specs.Jobs.{beacons_due, jobs_of}
-use Rattle.segment_sender.specs.Held.{has_round}
 use Rattle.mesh_jobs.proofs.ticks.tick_jobs.Goals as goal
 
 pub returns-clause-value : goal.returns-clause-value
@@ -26,7 +25,7 @@ returns-clause-value c past ticks insight span acks rounds =
     ap (λ (at : ℕ). flat_map (round_jobs n at) c.args.rounds.now) span.to
     ∙ ap (λ (rs : List Sending). flat_map (round_jobs n to) rs) rounds
     ∙ rounds_are n to sent in
-    c.finish.ensures.value
+    c.finish-2.ensures.value
     ∙ c.push_beacons_due.ensures.value past ticks span
     ∙ ap (λ (js : List Job). js ++ beacons_due past n ticks)
     (c.push_rounds.ensures.value
