@@ -13,7 +13,7 @@ use mesh_base::pair::Pair;
 use mesh_types::answers::Answer;
 use mesh_types::events::Event;
 use mesh_types::history::{Entry, Sent};
-use mesh_types::jobs::Jobs;
+use mesh_types::jobs::JobDraft;
 use mesh_types::lines::Outcome;
 use mesh_types::report::{End, Opened};
 use std::process::Abort;
@@ -47,7 +47,7 @@ fn life<R: AllocGlobal>(rt: &R) -> Result<EndedLife, Fail>
         },
         fills: 0,
         answer: Answer::Planned,
-        jobs: Jobs::new(),
+        jobs: JobDraft::new(alloc)?.finish(),
     })?;
     let mut sent = Vec::new(alloc);
     sent.push(Sent {
