@@ -20,15 +20,15 @@ pub made_whole : (lines left : List ReportLine) (old new : List (List ℕ)) → 
 made_whole lines left old new none h = sym (append-nil new) ∙ ap (λ (ls : List ReportLine). new ++ map line_text ls) (sym none) ∙ h
 
 -- the opening, then the entries, the lines of the bearers, and the end
-pub life_made : (hex : Bool) (n : ℕ) (l : Life) (first : ReportLine) (es : List Entry) (ss : List (List Sent)) (a b c d : List (List ℕ))
+pub life_made : (hex : Bool) (n : ℕ) (l : Life) (first : ReportLine) (es : List Entry) (ss : List (List Sent)) (start a b c d : List (List ℕ))
     → first ≡ opened_line n l.opened → es ≡ l.entries → ss ≡ l.sends
-    → a ≡ line_text first ∷ [] → b ≡ a ++ map line_text (entry_lines 1 es) → c ≡ b ++ map line_text (send_lines hex 0 ss)
+    → start ≡ [] → a ≡ start ++ line_text first ∷ [] → b ≡ a ++ map line_text (entry_lines 1 es) → c ≡ b ++ map line_text (send_lines hex 0 ss)
     → d ≡ c ++ map line_text (end_lines l.opened l.end)
     → d ≡ map line_text (life_lines hex n l)
 unfolding life_lines
-life_made hex n l first es ss a b c d is are same opened entries sends end =
+life_made hex n l first es ss start a b c d is are same none opened entries sends end =
     let es_lines = entry_lines 1 l.entries in
     let ss_lines = send_lines hex 0 l.sends in
     let end_line = end_lines l.opened l.end in
-    rw (end, sends, entries, opened, is, are, same) (ap (λ (t : List (List ℕ)). line_text (opened_line n l.opened) ∷ t)
+    rw (end, sends, entries, opened, none, is, are, same) (ap (λ (t : List (List ℕ)). line_text (opened_line n l.opened) ∷ t)
     (sym (map-append line_text (es_lines ++ ss_lines) end_line ∙ ap (λ (t : List (List ℕ)). t ++ map line_text end_line) (map-append line_text es_lines ss_lines))))

@@ -147,26 +147,21 @@ next_text : (lines : List ReportLine) (texts : List (List ℕ)) (i : ℕ) (item 
 next_text lines texts i item text same within is lent =
     let k : i < length lines = subst (λ n. i < n) (ap length same ∙ length-map lines line_text) within in (
       get_or lines i L.End,
-      (
-        drop_more lines i L.End k,
-        sym (get_or-map line_text lines i L.End item k) ∙ ap (λ (ts : List (List ℕ)). get_or ts i item) (sym same) ∙ sym is ∙ sym lent,
-      ),
+      drop_more lines i L.End k,
+      sym (get_or-map line_text lines i L.End item k) ∙ ap (λ (ts : List (List ℕ)). get_or ts i item) (sym same) ∙ sym is ∙ sym lent,
     )
-
-pub texts_none : (lines : List ReportLine) (v : SinkView) → WrittenUpTo lines (drop 0 lines) v v
-texts_none lines v = up_to_none lines v
 
 module _ (lines : List ReportLine) (texts : List (List ℕ)) (i : ℕ) (item text : List ℕ) (old mid new : SinkView)
     (same : texts ≡ map line_text lines) (within : i < length texts) (is : item ≡ get_or texts i item) (lent : text ≡ item)
     (h : WrittenUpTo lines (drop i lines) old mid) where
   pub texts_more : IsHanded text mid new → WrittenUpTo lines (drop (i + 1) lines) old new
   texts_more k =
-      let (line, (next, e)) = next_text lines texts i item text same within is lent in
+      let (line, next, e) = next_text lines texts i item text same within is lent in
       up_to_more lines (drop i lines) (line ∷ []) (drop (i + 1) lines) old mid new next h (written_line line mid new (subst (λ t. IsHanded t mid new) (sym e) k))
 
   pub texts_cut : HandedFront text mid new → WrittenFront lines old new
   texts_cut k =
-      let (line, (next, e)) = next_text lines texts i item text same within is lent in
+      let (line, next, e) = next_text lines texts i item text same within is lent in
       up_to_cut lines (drop i lines) (line ∷ []) (drop (i + 1) lines) old mid new next h (front_of_line line mid new (subst (λ t. HandedFront t mid new) (sym e) k))
 
 pub texts_whole : (lines : List ReportLine) (texts : List (List ℕ)) (i : ℕ) (old new : SinkView)

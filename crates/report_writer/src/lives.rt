@@ -90,8 +90,8 @@ fn end_line(opened: Opened, end: End) -> Option<ReportLine>
 fn push_line(alloc: Global, texts: &mut Vec<LineText>, line: &ReportLine) -> Result<(), AllocError>
     ensures ok { OnOk result (texts.new.items ≡ texts.old.items ++ line_text line.now ∷ []) }
 {
-    let text = write_line(alloc, line)?;
-    texts.push(text)
+    texts.push(write_line(alloc, line)?)?;
+    Ok(())
 }
 
 /// Makes the text of a line for each entry.

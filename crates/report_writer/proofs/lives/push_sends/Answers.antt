@@ -13,5 +13,5 @@ loop-sent-preserved c = record {
   place = ap (λ n. n + 1) c.loop-sent.invariant.place;
   texts = made_more _ _ _ _ _ _ _
       (next_bearer (λ v. v.items) c.args.hex c.args.sends.now c.loop-sent.sent-index c.loop-sent.bearer c.sent-item.result c.as_slice.result.now c.loop-sent-test.true c.sent-item.is c.loop-sent.invariant.place c.as_slice.ensures.value)
-      c.loop-sent.invariant.texts c.in_ok.ensures.ok;
+      c.loop-sent.invariant.texts c.in_ok-push_bearer.ensures.ok;
 }

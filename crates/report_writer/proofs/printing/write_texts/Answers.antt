@@ -1,10 +1,10 @@
-use Rattle.std.proofs.Common.{◌∙◌}
+use Rattle.std.proofs.Common.{◌∙◌, refl}
 use Rattle.report_writer.specs.Writing.{view_of}
-use Rattle.report_writer.proofs.Written.{texts_cut, texts_more, texts_none, texts_whole}
+use Rattle.report_writer.proofs.Written.{texts_cut, texts_more, texts_whole, up_to_none}
 use Rattle.report_writer.proofs.printing.write_texts.Goals as goal
 
 pub loop-text-init : goal.loop-text-init
-loop-text-init g c = record { lines = λ lines same. texts_none lines (view_of g.K.Sink.held g.K.Sink.pieces c.args.sink.now); no_fault = refl }
+loop-text-init g c = record { lines = λ lines same. up_to_none lines (view_of g.K.Sink.held g.K.Sink.pieces c.args.sink.now); no_fault = refl }
 
 pub loop-text-preserved : goal.loop-text-preserved
 loop-text-preserved g c =
