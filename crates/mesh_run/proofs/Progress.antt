@@ -26,7 +26,7 @@ use Rattle.store_definitions.specs.Provisioning.{provisioned}
 use Rattle.mesh_run.specs.Causes.{IsSameFlash}
 use Rattle.mesh_run.specs.Lived.{Lived}
 use Rattle.mesh_run.specs.Provisioned.{IsProvisioned}
-use Rattle.mesh_run.specs.Ran.{IsArmed, AreArmed, Ran, RanFront, cuts}
+use Rattle.mesh_run.specs.Ran.{IsArmed, AreArmed, Ran, RanFirst, RanFront, cuts}
 use Rattle.mesh_run.proofs.Growing.{armed_more, cuts_more, first_more, kept_elements, lines_more, lives_more}
 
 -- the script of the first lives
@@ -164,6 +164,13 @@ pub front_same : (s : Script) (hex : Bool) (start chip : Chip) (before after : S
 front_same s hex start chip before after i image p =
     let (last, run) = progress_run s hex start chip before after i image p in
     record { n = i; run = record { lives = p.lives; last = last }; is_run = run; front = front_whole (lives_lines hex 1 p.lives) before after p.report }
+
+-- so the report of these lives was written, of which there are more
+pub first_same : (s : Script) (hex : Bool) (start chip : Chip) (before after : SinkView) (i : ℕ) → chip.images chip.now → i < length s.lives
+    → Progress s hex start before i chip after → RanFirst built_layers s hex before after
+first_same s hex start chip before after i image within p =
+    let (last, run) = progress_run s hex start chip before after i image p in
+    record { n = i; fewer = within; run = record { lives = p.lives; last = last }; is_run = run; report = p.report }
 
 pub same_flash : (s : Script) (hex : Bool) (start chip : Chip) (before after : SinkView) (i : ℕ) → Progress s hex start before i chip after → IsSameFlash start chip
 same_flash s hex start chip before after i p = record { honest = p.node.honest; steady = p.steady; later = omega (arith, p.faults) }

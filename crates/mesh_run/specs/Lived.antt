@@ -24,6 +24,11 @@ abbrev pub IsFault : {B : Type 0} → Result B (Stopped B) → Type 0
 IsFault (Err (P.Fault flash)) = ⊤
 IsFault _ = ⊥
 
+-- there was no memory
+abbrev pub IsMemory : {B : Type 0} → Result B (Stopped B) → Type 0
+IsMemory (Err (P.Memory flash)) = ⊤
+IsMemory _ = ⊥
+
 -- the flash that is left
 abbrev pub flash_left : {B : Type 0} → Result B (Stopped B) → Option B
 flash_left (Ok flash) = Some flash

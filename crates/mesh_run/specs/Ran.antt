@@ -1,5 +1,5 @@
 -- What a whole run leaves: the record of its lives, told by the report that was written and by what its flash recovers.
-use Rattle.std.specs.Prelude.{◌≡◌, ◌⊎◌, ℕ, ◌+◌, ◌<◌, ◌≤◌, Bool, true, IsTrue, List, [], ◌∷◌, take, count_by, ⊤, IsSomeAnd}
+use Rattle.std.specs.Prelude.{◌≡◌, ◌⊎◌, ℕ, ◌+◌, ◌<◌, ◌≤◌, Bool, true, IsTrue, List, [], ◌∷◌, length, take, count_by, ⊤, IsSomeAnd}
 use Rattle.std.specs.List.{Contains}
 use Rattle.flash_model.specs.Chip.{Chip}
 use Rattle.machine_contract.specs.Opening.{EachRecovered}
@@ -40,6 +40,14 @@ pub record Ran (layers : Layers) (s : Script) (hex : Bool) (start : Chip) (befor
   -- at most as many lives were cut as the flash failed, and over a steady flash only those that were to be
   pub faults : cuts run.lives + start.faults ≤ chip.faults
   pub armed : IsTrue start.steady → AreArmed s.lives run.lives
+
+-- The report of the first lives of the script was written, and of the others, of which there is one, nothing.
+pub record RanFirst (layers : Layers) (s : Script) (hex : Bool) (before after : SinkView) : Type 0 where
+  pub n : ℕ
+  pub fewer : n < length s.lives
+  pub run : Run
+  pub is_run : RunOf layers (record { node = s.node; lives = take n s.lives }) run
+  pub report : Written (lives_lines hex 1 run.lives) before after
 
 -- A front of the report of the first lives of the script was written.
 pub record RanFront (layers : Layers) (s : Script) (hex : Bool) (before after : SinkView) : Type 0 where

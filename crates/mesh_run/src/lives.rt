@@ -15,9 +15,9 @@ ghost use Rattle.store_definitions.specs.Config.{config_of};
 ghost use Rattle.store_definitions.specs.Provisioning.{provisioned};
 ghost use Rattle.mesh_run.specs.Causes.{IsSameFlash};
 ghost use Rattle.mesh_node.specs.Plan as Plan;
-ghost use Rattle.mesh_run.specs.Lived.{IsFault, Lived, flash_left};
+ghost use Rattle.mesh_run.specs.Lived.{IsFault, IsMemory, Lived, flash_left};
 ghost use Rattle.mesh_run.specs.Provisioned.{IsProvisioned};
-ghost use Rattle.mesh_run.specs.Ran.{Ran, RanFront};
+ghost use Rattle.mesh_run.specs.Ran.{Ran, RanFirst, RanFront};
 
 use flash_model::Bench;
 use layer_laws::laws::built_law;
@@ -84,7 +84,7 @@ fn live<R: Threads + Wait + Sync, B: Bench, G: Gate>(
 }
 
 /// Runs the lives of a script one after another, and writes the report of each once it is over; nothing of it but its flash is kept. The node
-/// was provisioned on the flash.
+/// was provisioned on the flash. For want of memory nothing of a life is written.
 pub(crate) fn live_all<R: Threads + Wait + Sync, B: Bench, K: Sink, G: Gate>(
     rt: &R,
     alloc: Global,
@@ -98,6 +98,7 @@ pub(crate) fn live_all<R: Threads + Wait + Sync, B: Bench, K: Sink, G: Gate>(
     requires provisioned { IsProvisioned (B.chip flash) (provisioned (script_of script.now).node) }
     ensures all { IfOk result (λ f. Ran built_layers (script_of script.now) hex (B.chip flash) (view_of K.held K.pieces sink.old) (B.chip f) (view_of K.held K.pieces sink.new)) }
     ensures front { OnErr result (RanFront built_layers (script_of script.now) hex (view_of K.held K.pieces sink.old) (view_of K.held K.pieces sink.new)) }
+    ensures whole { IsMemory result → RanFirst built_layers (script_of script.now) hex (view_of K.held K.pieces sink.old) (view_of K.held K.pieces sink.new) }
     ensures cause { IsFault result → Rose (K.faults sink.old) (K.faults sink.new) }
     ensures no_fault { ¬ IsFault result → K.faults sink.new ≡ K.faults sink.old }
     ensures later { K.faults sink.old ≤ K.faults sink.new }

@@ -16,7 +16,7 @@ ghost use Rattle.command_words.specs.Commands.{command_of};
 ghost use Rattle.command_words.specs.declared.commands.Command.TheVariants as C;
 ghost use Rattle.command_words.specs.declared.commands.RunFlags.{RunFlags as Flags};
 ghost use Rattle.audit_definitions.specs.Input.{IsFirstOther};
-ghost use Rattle.mesh_run.specs.Ran.{Ran, RanFront};
+ghost use Rattle.mesh_run.specs.Ran.{Ran, RanFirst, RanFront};
 ghost use Rattle.mesh_run.specs.Reads.{ReadsMoreThan};
 
 use crate::audits::audit_text;
@@ -73,6 +73,7 @@ pub fn run<R: Threads + Wait + Sync, S: Source, K: Sink, B: Bench, G: Gate>(
     ensures done { (flags : Flags) → command_of (map (λ w. w.now) words.now) ≡ Some (C.Run flags) → result.status ≡ Status.Done → IfSome (S.left source.old) (λ text. IsScriptAnd (reading Grammars.Node text) (λ s. IsSomeAnd result.flash (λ f. Ran built_layers (script_of s) flags.hex (B.chip flash) (view_of K.held K.pieces sink.old) (B.chip f) (view_of K.held K.pieces sink.new)))) }
     ensures front { (flags : Flags) → command_of (map (λ w. w.now) words.now) ≡ Some (C.Run flags) → result.status ≡ Status.WriteFault → IfSome (S.left source.old) (λ text. IsScriptAnd (reading Grammars.Node text) (λ s. RanFront built_layers (script_of s) flags.hex (view_of K.held K.pieces sink.old) (view_of K.held K.pieces sink.new))) }
     ensures memory { (flags : Flags) → command_of (map (λ w. w.now) words.now) ≡ Some (C.Run flags) → result.status ≡ Status.Memory → (sink.new ≡ sink.old) ⊎ IfSome (S.left source.old) (λ text. IsScriptAnd (reading Grammars.Node text) (λ s. RanFront built_layers (script_of s) flags.hex (view_of K.held K.pieces sink.old) (view_of K.held K.pieces sink.new))) }
+    ensures whole { (flags : Flags) → command_of (map (λ w. w.now) words.now) ≡ Some (C.Run flags) → result.status ≡ Status.Memory → (sink.new ≡ sink.old) ⊎ IfSome (S.left source.old) (λ text. IsScriptAnd (reading Grammars.Node text) (λ s. RanFirst built_layers (script_of s) flags.hex (view_of K.held K.pieces sink.old) (view_of K.held K.pieces sink.new))) }
     ensures nothing_written { IsBeforeLives result.status → sink.new ≡ sink.old }
 
     // An audit writes the line of the verdict on what is read, or a front of it, and leaves the flash.

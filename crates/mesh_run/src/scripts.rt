@@ -11,7 +11,7 @@ ghost use Rattle.script_definitions.specs.Reading.{reading};
 ghost use Rattle.script_definitions.specs.Reading.Reading.{Fails};
 ghost use Rattle.script_definitions.specs.declared.kind.Grammar.TheVariants as Grammars;
 ghost use Rattle.mesh_run.specs.Causes.{IfScript, IsBeforeFlash, IsBeforeLives, IsDueBy, IsErasedFlash, IsFromFlash, IsSameFlash, IsScriptAnd, IsWrittenAt, WasErased};
-ghost use Rattle.mesh_run.specs.Ran.{Ran, RanFront};
+ghost use Rattle.mesh_run.specs.Ran.{Ran, RanFirst, RanFront};
 
 use crate::lives::{Stopped, live_all};
 use crate::provisioning::provision;
@@ -52,6 +52,7 @@ fn run_script<R: Threads + Wait + Sync, B: Bench, K: Sink, G: Gate>(
     // What is written is the report of a record of a run of the script, or a front of it.
     ensures done { result.status ≡ Status.Done → IsSomeAnd result.flash (λ f. Ran built_layers (script_of script.now) flags.hex (B.chip flash) (view_of K.held K.pieces sink.old) (B.chip f) (view_of K.held K.pieces sink.new)) }
     ensures front { (result.status ≡ Status.WriteFault) ⊎ (result.status ≡ Status.Memory) → RanFront built_layers (script_of script.now) flags.hex (view_of K.held K.pieces sink.old) (view_of K.held K.pieces sink.new) }
+    ensures whole { result.status ≡ Status.Memory → RanFirst built_layers (script_of script.now) flags.hex (view_of K.held K.pieces sink.old) (view_of K.held K.pieces sink.new) }
     ensures nothing_written { IsBeforeLives result.status → sink.new ≡ sink.old }
 
     // What becomes of the flash, and of the sink's count of faults.
@@ -108,6 +109,7 @@ pub(crate) fn run_text<R: Threads + Wait + Sync, B: Bench, K: Sink, G: Gate>(
     ensures done { result.status ≡ Status.Done → IsScriptAnd (reading Grammars.Node text.now) (λ s. IsSomeAnd result.flash (λ f. Ran built_layers (script_of s) flags.hex (B.chip flash) (view_of K.held K.pieces sink.old) (B.chip f) (view_of K.held K.pieces sink.new))) }
     ensures front { result.status ≡ Status.WriteFault → IsScriptAnd (reading Grammars.Node text.now) (λ s. RanFront built_layers (script_of s) flags.hex (view_of K.held K.pieces sink.old) (view_of K.held K.pieces sink.new)) }
     ensures memory { result.status ≡ Status.Memory → (sink.new ≡ sink.old) ⊎ IsScriptAnd (reading Grammars.Node text.now) (λ s. RanFront built_layers (script_of s) flags.hex (view_of K.held K.pieces sink.old) (view_of K.held K.pieces sink.new)) }
+    ensures whole { result.status ≡ Status.Memory → (sink.new ≡ sink.old) ⊎ IsScriptAnd (reading Grammars.Node text.now) (λ s. RanFirst built_layers (script_of s) flags.hex (view_of K.held K.pieces sink.old) (view_of K.held K.pieces sink.new)) }
     ensures nothing_written { IsBeforeLives result.status → sink.new ≡ sink.old }
 
     // What becomes of the flash, and of the sink's count of faults.

@@ -1,3 +1,4 @@
 pub mod Handing
 pub mod Written
 pub mod Parts
+pub mod Texts

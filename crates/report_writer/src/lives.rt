@@ -1,21 +1,22 @@
-//! The lines of a life that is over.
+//! A life that is over, and its lines.
 #![tactic(auto)]
 
-ghost use Rattle.std.specs.Prelude.{◌≡◌, ◌≢◌, ◌+◌, ◌^◌, ◌<◌, ◌≤◌, [], ◌∷◌, length, map, All, OnOk, OnErr};
+ghost use Rattle.std.specs.Prelude.{◌≡◌, ◌≢◌, ◌+◌, ◌^◌, ◌<◌, ◌≤◌, [], ◌∷◌, ◌++◌, length, map, All, IfOk, OnOk, OnErr};
 ghost use Rattle.std.specs.Option.{option_to_list};
 ghost use Rattle.mesh_base.specs.Outside.{Rose};
 ghost use Rattle.mesh_types.specs.Kind.{kind_of};
 ghost use Rattle.mesh_types.specs.declared.report.ReportLine.TheVariants as L;
-ghost use Rattle.report_definitions.specs.Report.{bearer_lines, end_lines, entry_lines, life_lines, opened_line, send_lines};
+ghost use Rattle.report_definitions.specs.Report.{bearer_lines, end_lines, entry_lines, life_lines, line_text, opened_line, send_lines};
 ghost use Rattle.report_writer.specs.Lives.{FitsLines, HasRoom, life_of};
 ghost use Rattle.report_writer.specs.Writing.{Written, WrittenFront, view_of};
-ghost use Rattle.report_writer.specs.declared.printing.WriteStop.TheVariants as stop;
+ghost use Rattle.report_writer.specs.declared.lives.WriteStop.TheVariants as stop;
 
-use crate::printing::{WriteStop, write_report_line};
+use crate::printing::write_texts;
 use mesh_base::outside::Sink;
 use mesh_types::history::{Entry, Sent};
 use mesh_types::report::{End, Opened, ReportLine};
-use std::alloc::Global;
+use report_lines::{LineText, write_line};
+use std::alloc::{AllocError, Global};
 
 /// A life that is over.
 #[derive(Drop)]
@@ -85,100 +86,119 @@ fn end_line(opened: Opened, end: End) -> Option<ReportLine>
     }
 }
 
-/// Writes a line for each entry.
-fn write_entries<K: Sink>(alloc: Global, sink: &mut K, entries: &[Entry]) -> Result<(), WriteStop>
+/// Makes the text of a line, behind those that were made.
+fn push_line(alloc: Global, texts: &mut Vec<LineText>, line: &ReportLine) -> Result<(), AllocError>
+    ensures ok { OnOk result (texts.new.items ≡ texts.old.items ++ line_text line.now ∷ []) }
+{
+    texts.push(write_line(alloc, line)?)?;
+    Ok(())
+}
+
+/// Makes the text of a line for each entry.
+fn push_entries(
+    alloc: Global,
+    texts: &mut Vec<LineText>,
+    entries: &[Entry],
+) -> Result<(), AllocError>
     requires few { length entries.now < 2 ^ 32 }
-    ensures ok { OnOk result (Written (entry_lines 1 entries.now) (view_of K.held K.pieces sink.old) (view_of K.held K.pieces sink.new)) }
-    ensures err { OnErr result (WrittenFront (entry_lines 1 entries.now) (view_of K.held K.pieces sink.old) (view_of K.held K.pieces sink.new)) }
-    ensures cause { result ≡ Err stop.Fault → Rose (K.faults sink.old) (K.faults sink.new) }
-    ensures no_fault { result ≢ Err stop.Fault → K.faults sink.new ≡ K.faults sink.old }
-    ensures later { K.faults sink.old ≤ K.faults sink.new }
+    ensures ok { OnOk result (texts.new.items ≡ texts.old.items ++ map line_text (entry_lines 1 entries.now)) }
 {
     let mut at: u32 = 0;
     for entry in entries {
         at += 1;
-        match write_report_line(alloc, sink, &entry_line(at, entry)) {
-            Ok(()) => {}
-            Err(stop) => return Err(stop),
-        }
+        push_line(alloc, texts, &entry_line(at, entry))?;
     }
     Ok(())
 }
 
-/// Writes a line for each job that a bearer did.
-fn write_bearer<K: Sink>(
+/// Makes the text of a line for each job that a bearer did.
+fn push_bearer(
     alloc: Global,
-    sink: &mut K,
+    texts: &mut Vec<LineText>,
     hex: bool,
     bearer: u8,
     sends: &[Sent],
-) -> Result<(), WriteStop>
+) -> Result<(), AllocError>
     requires room { All HasRoom sends.now }
-    ensures ok { OnOk result (Written (bearer_lines hex bearer sends.now) (view_of K.held K.pieces sink.old) (view_of K.held K.pieces sink.new)) }
-    ensures err { OnErr result (WrittenFront (bearer_lines hex bearer sends.now) (view_of K.held K.pieces sink.old) (view_of K.held K.pieces sink.new)) }
-    ensures cause { result ≡ Err stop.Fault → Rose (K.faults sink.old) (K.faults sink.new) }
-    ensures no_fault { result ≢ Err stop.Fault → K.faults sink.new ≡ K.faults sink.old }
-    ensures later { K.faults sink.old ≤ K.faults sink.new }
+    ensures ok { OnOk result (texts.new.items ≡ texts.old.items ++ map line_text (bearer_lines hex bearer sends.now)) }
 {
     for sent in sends {
-        match write_report_line(alloc, sink, &sent_line(hex, bearer, sent)) {
-            Ok(()) => {}
-            Err(stop) => return Err(stop),
-        }
+        push_line(alloc, texts, &sent_line(hex, bearer, sent))?;
     }
     Ok(())
 }
 
-/// Writes a line for each job, bearer by bearer.
-fn write_sends<K: Sink>(
+/// Makes the text of a line for each job, bearer by bearer.
+fn push_sends(
     alloc: Global,
-    sink: &mut K,
+    texts: &mut Vec<LineText>,
     hex: bool,
     sends: &[Vec<Sent>],
-) -> Result<(), WriteStop>
+) -> Result<(), AllocError>
     requires few { length sends.now ≤ 8 }
     requires room { All (All HasRoom) (map (λ v. v.items) sends.now) }
-    ensures ok { OnOk result (Written (send_lines hex 0 (map (λ v. v.items) sends.now)) (view_of K.held K.pieces sink.old) (view_of K.held K.pieces sink.new)) }
-    ensures err { OnErr result (WrittenFront (send_lines hex 0 (map (λ v. v.items) sends.now)) (view_of K.held K.pieces sink.old) (view_of K.held K.pieces sink.new)) }
-    ensures cause { result ≡ Err stop.Fault → Rose (K.faults sink.old) (K.faults sink.new) }
-    ensures no_fault { result ≢ Err stop.Fault → K.faults sink.new ≡ K.faults sink.old }
-    ensures later { K.faults sink.old ≤ K.faults sink.new }
+    ensures ok { OnOk result (texts.new.items ≡ texts.old.items ++ map line_text (send_lines hex 0 (map (λ v. v.items) sends.now))) }
 {
     let mut bearer: u8 = 0;
     for sent in sends {
-        match write_bearer(alloc, sink, hex, bearer, sent.as_slice()) {
-            Ok(()) => bearer += 1,
-            Err(stop) => return Err(stop),
-        }
+        push_bearer(alloc, texts, hex, bearer, sent.as_slice())?;
+        bearer += 1;
     }
     Ok(())
 }
 
-/// Writes the line of the end, if there is one.
-fn write_end<K: Sink>(
+/// Makes the text of the line of the end, if there is one.
+fn push_end(
     alloc: Global,
-    sink: &mut K,
+    texts: &mut Vec<LineText>,
     opened: Opened,
     end: End,
-) -> Result<(), WriteStop>
-    ensures ok { OnOk result (Written (end_lines opened end) (view_of K.held K.pieces sink.old) (view_of K.held K.pieces sink.new)) }
-    ensures err { OnErr result (WrittenFront (end_lines opened end) (view_of K.held K.pieces sink.old) (view_of K.held K.pieces sink.new)) }
-    ensures cause { result ≡ Err stop.Fault → Rose (K.faults sink.old) (K.faults sink.new) }
-    ensures no_fault { result ≢ Err stop.Fault → K.faults sink.new ≡ K.faults sink.old }
-    ensures later { K.faults sink.old ≤ K.faults sink.new }
+) -> Result<(), AllocError>
+    ensures ok { OnOk result (texts.new.items ≡ texts.old.items ++ map line_text (end_lines opened end)) }
 {
     match end_line(opened, end) {
-        Some(line) => write_report_line(alloc, sink, &line),
+        Some(line) => push_line(alloc, texts, &line),
         None => Ok(()),
     }
+}
+
+/// The texts of the lines of a life, in their order.
+fn life_texts(
+    alloc: Global,
+    hex: bool,
+    number: u32,
+    life: &EndedLife,
+) -> Result<Vec<LineText>, AllocError>
+    requires room { FitsLines (life_of life.now) }
+    ensures value { IfOk result (λ texts. texts.items ≡ map line_text (life_lines hex number (life_of life.now))) }
+{
+    let mut texts = Vec::new(alloc);
+    push_line(alloc, &mut texts, &opened_line(number, life.opened))?;
+    push_entries(alloc, &mut texts, life.entries.as_slice())?;
+    push_sends(alloc, &mut texts, hex, life.sends.as_slice())?;
+    push_end(alloc, &mut texts, life.opened, life.end)?;
+    Ok(texts)
+}
+
+/// Why a life wasn't written to its end.
+#[derive(Clone, Copy, Debug, PartialEq, Eq)]
+pub enum WriteStop {
+    /// The sink failed.
+    Fault,
+    /// There was no memory for the texts of the lines.
+    Memory,
 }
 
 /// Writes the report of a life that is over, line by line: each line is handed to the sink as one piece, and what the sink left of it before
 /// the next line. The life has the number `number`, from 1 on. With `hex` the octets of network PDUs are shown.
 ///
+/// The texts of all lines are made before the first is written, so want of memory leaves the sink as it was. They take some 200 octets a
+/// line, and more where a line is longer: for a life of 4,096 lines mostly less than 1 MiB.
+///
 /// # Errors
 ///
-/// `Fault` only where the sink's count of faults rose, and `Memory` where there is no memory. What was written is then a front of the report.
+/// `Fault` only where the sink's count of faults rose; what was written is then a front of the report. A sink that lacks memory of its own
+/// counts a fault too. `Memory` where there is no memory for the texts; nothing was written then.
 pub fn write_life<K: Sink>(
     alloc: Global,
     sink: &mut K,
@@ -189,12 +209,17 @@ pub fn write_life<K: Sink>(
     requires room { FitsLines (life_of life.now) }
     ensures ok { OnOk result (Written (life_lines hex number (life_of life.now)) (view_of K.held K.pieces sink.old) (view_of K.held K.pieces sink.new)) }
     ensures err { OnErr result (WrittenFront (life_lines hex number (life_of life.now)) (view_of K.held K.pieces sink.old) (view_of K.held K.pieces sink.new)) }
+    ensures memory { result ≡ Err stop.Memory → sink.new ≡ sink.old }
     ensures cause { result ≡ Err stop.Fault → Rose (K.faults sink.old) (K.faults sink.new) }
     ensures no_fault { result ≢ Err stop.Fault → K.faults sink.new ≡ K.faults sink.old }
     ensures later { K.faults sink.old ≤ K.faults sink.new }
 {
-    write_report_line(alloc, sink, &opened_line(number, life.opened))?;
-    write_entries(alloc, sink, life.entries.as_slice())?;
-    write_sends(alloc, sink, hex, life.sends.as_slice())?;
-    write_end(alloc, sink, life.opened, life.end)
+    let texts = match life_texts(alloc, hex, number, life) {
+        Ok(texts) => texts,
+        Err(_) => return Err(WriteStop::Memory),
+    };
+    match write_texts(sink, texts.as_slice()) {
+        Ok(()) => Ok(()),
+        Err(_) => Err(WriteStop::Fault),
+    }
 }

@@ -1,16 +1,15 @@
-//! One line of the report, handed to a sink.
+//! Texts handed to a sink, each as one piece.
 #![tactic(auto)]
 
-ghost use Rattle.std.specs.Prelude.{◌≡◌, ◌≢◌, ◌≤◌, [], ◌∷◌, OnOk, OnErr};
+ghost use Rattle.std.specs.Prelude.{◌≡◌, ◌≤◌, List, map, OnOk, OnErr};
 ghost use Rattle.mesh_base.specs.Outside.{Rose};
+ghost use Rattle.mesh_types.specs.declared.report.ReportLine.{ReportLine};
+ghost use Rattle.report_definitions.specs.Report.{line_text};
 ghost use Rattle.report_writer.specs.Handing.{HandedFront, IsHanded};
 ghost use Rattle.report_writer.specs.Writing.{Written, WrittenFront, view_of};
-ghost use Rattle.report_writer.specs.declared.printing.WriteStop.TheVariants as stop;
 
 use mesh_base::outside::{Failed, Sink};
-use mesh_types::report::ReportLine;
-use report_lines::write_line;
-use std::alloc::Global;
+use report_lines::LineText;
 
 /// Hands a text to the sink as one piece, and what the sink left of it again, until it took all.
 ///
@@ -34,36 +33,23 @@ pub fn write_text<K: Sink>(sink: &mut K, text: &[u8]) -> Result<(), Failed>
     Ok(())
 }
 
-/// Why a report wasn't written to its end.
-#[derive(Clone, Copy, Debug, PartialEq, Eq)]
-pub enum WriteStop {
-    /// The sink failed.
-    Fault,
-    /// There was no memory.
-    Memory,
-}
-
-/// Writes a line of the report, with its LF, as one piece. What the sink left of it is handed on.
+/// Hands texts of lines to the sink, one after another: each as one piece, and what the sink left of it before the next.
 ///
 /// # Errors
 ///
-/// `Fault` only where the sink's count of faults rose, and `Memory` where there is no memory. A front of the line may have been written then.
-pub fn write_report_line<K: Sink>(
-    alloc: Global,
-    sink: &mut K,
-    line: &ReportLine,
-) -> Result<(), WriteStop>
-    ensures ok { OnOk result (Written (line.now ∷ []) (view_of K.held K.pieces sink.old) (view_of K.held K.pieces sink.new)) }
-    ensures err { OnErr result (WrittenFront (line.now ∷ []) (view_of K.held K.pieces sink.old) (view_of K.held K.pieces sink.new)) }
-    ensures cause { result ≡ Err stop.Fault → Rose (K.faults sink.old) (K.faults sink.new) }
-    ensures no_fault { result ≢ Err stop.Fault → K.faults sink.new ≡ K.faults sink.old }
+/// `Failed` only where the sink's count of faults rose. A front of the texts may have been written then.
+pub(crate) fn write_texts<K: Sink>(sink: &mut K, texts: &[LineText]) -> Result<(), Failed>
+    ensures ok { (lines : List ReportLine) → texts.now ≡ map line_text lines → OnOk result (Written lines (view_of K.held K.pieces sink.old) (view_of K.held K.pieces sink.new)) }
+    ensures err { (lines : List ReportLine) → texts.now ≡ map line_text lines → OnErr result (WrittenFront lines (view_of K.held K.pieces sink.old) (view_of K.held K.pieces sink.new)) }
+    ensures cause { OnErr result (Rose (K.faults sink.old) (K.faults sink.new)) }
+    ensures no_fault { OnOk result (K.faults sink.new ≡ K.faults sink.old) }
     ensures later { K.faults sink.old ≤ K.faults sink.new }
 {
-    match write_line(alloc, line) {
-        Ok(text) => match write_text(sink, text.as_slice()) {
-            Ok(()) => Ok(()),
-            Err(_) => Err(WriteStop::Fault),
-        },
-        Err(_) => Err(WriteStop::Memory),
+    for text in texts {
+        match write_text(sink, text.as_slice()) {
+            Ok(()) => {}
+            Err(failed) => return Err(failed),
+        }
     }
+    Ok(())
 }
