@@ -4,8 +4,8 @@
 // Tearing: power that fails within such a call leaves each bit of the range as it was or as it was to be. What it left is
 // stable: it reads the same until the next program or erase.
 // Durability: what a call that returned Ok wrote is there in every image from then on.
-// Counting: a flash counts its faults, and since the last power cycle its program and erase calls, and its read calls. An Ok
-// leaves the count of faults, so no fault is swallowed.
+// Counting: a flash counts its faults, and since the last power cycle its read calls; a steady one its program and erase calls
+// besides. An Ok leaves the count of faults, so no fault is swallowed.
 // So a caller that writes a record with its gate still ff, and clears the gate in a call of its own, finds the record whole
 // or its gate not 00, wherever power failed.
 //
@@ -119,8 +119,13 @@ pub trait Flash {
 /// A flash on a bench: power can be cut within one of its calls, and given again. An adapter to a chip whose calls it can't have torn says
 /// that it isn't steady: then an order to tear a call has to be kept (`setting`, `left`), and promises no fault.
 pub trait Bench: Flash + Send + Drop {
-    /// Tears a later call. After `calls` more program and erase calls the next one is torn: of its octets each bit whose
-    /// bit in `mask` is 1 takes its new value, the others stay, and it fails. Every later call fails, until the power cycle.
+    /// Orders that a later call is torn. Of a steady flash, after `calls` more program and erase calls the next one is: of its octets each
+    /// bit whose bit in `mask` is 1 takes its new value, the others stay, and it fails. Every later call fails, until the power cycle
+    /// (`by_arm` of [`Flash`]).
+    ///
+    /// # Asks
+    ///
+    /// No such order was given since the last power cycle.
     fn arm(&mut self, calls: u32, mask: u8)
         requires { (Self.chip self.old).setting.arm ≡ None }
         ensures setting { (Self.chip self.new).setting ≡ record { faults = (Self.chip self.old).setting.faults; arm = Some (record { calls = calls; mask = mask; changes = (Self.chip self.old).changes }) } }
@@ -142,7 +147,8 @@ pub trait Bench: Flash + Send + Drop {
         ensures sure { IsTrue (Self.chip self.old).steady → IsTrue (Self.chip self.new).sure }
         ensures frame { KeepsCount (Self.chip self.old) (Self.chip self.new) };
 
-    /// How many program and erase calls were begun since the last power cycle. Once it is ffffffff it grows no more.
+    /// How many program and erase calls were begun since the last power cycle, of a steady flash (`by_arm` of [`Flash`]). Once it is ffffffff
+    /// it grows no more.
     fn changes(&self) -> u32
         ensures { result ≡ (Self.chip self.now).changes };
 
