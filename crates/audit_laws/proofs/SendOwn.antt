@@ -6,6 +6,7 @@ use Rattle.layer_laws.proofs.Own.{control_own, published_own, replies_own, segme
 use Rattle.layer_laws.proofs.Parts.{acks_own}
 use Rattle.layer_laws.proofs.Safe.{node_safe}
 use Rattle.node_layers.specs.BuiltLayers.{built_layers}
+use Rattle.node_layers.specs.ConfiguredLayers.{configured_layers}
 use Rattle.node_layers.specs.Friendship.{control_jobs}
 use Rattle.node_layers.specs.NodeLayers.{node_layers, published_at, replies_of}
 use Rattle.node_layers.specs.Reassembly.{acks_at}
@@ -28,7 +29,7 @@ built_own = record {
 }
 
 pub node_own : NodeSendOwn
-unfolding node_layers
+unfolding node_layers configured_layers built_layers
 node_own = record {
   acks_due = λ past c ticks h. All-from_recursion (IsOwn c) (acks_at past c ticks) (acks_own node_layers node_safe past c ticks h.handled h.elements);
   segments_due = λ past c ticks h. All-from_recursion (IsOwn c) (segments_at past c ticks) (segments_own past c ticks h.asked h.elements);

@@ -4,7 +4,7 @@ use Rattle.std.specs.Prelude.{IsTrue, IfSome, All, is_some, ◌%◌}
 use Rattle.std.specs.List.{AllByRecursion as Every}
 use Rattle.std.specs.Option.{option_map, option_map_or}
 use Rattle.std.proofs.lemmas.List.Elements.{recursion_from_All}
-use Rattle.event_records.specs.Putting.{ArePuttable}
+use Rattle.event_records.specs.Asked.{AreAskedFor}
 use Rattle.layer_definitions.specs.Lower.{seq_auth}
 use Rattle.layer_states.specs.Names.{is_unicast}
 use Rattle.mesh_base.specs.declared.fields.NetFields.{NetFields}
@@ -118,6 +118,10 @@ abbrev pub replay_of : Option Name → List StoreRecord
 replay_of None = []
 replay_of (Some n) = R.Replay n None ∷ []
 
+no_more : (o : Option AccessMessage) → option_map_or (λ (m : AccessMessage). let l : List StoreRecord = [] in l) o [] ≡ []
+no_more None = refl
+no_more (Some m) = refl
+
 pub seq_of_answer : (past : Past) (octets : List ℕ) (i : Insight) (a : Answer) → Sees built_layers past (E.Net octets) i → a ≡ answer_of built_layers past (E.Net octets) i
     → IfSome (accepted a) (λ (n : Name). n.pair.seq < 2 ^ 24)
 seq_of_answer past octets i a sees is = pick (accepted a) refl
@@ -129,22 +133,21 @@ seq_of_answer past octets i a sees is = pick (accepted a) refl
 pub stores_replay : (past : Past) (octets : List ℕ) (i : Insight) (a : Answer) → stores built_layers past (E.Net octets) i a ≡ replay_of (accepted a)
 unfolding built_layers stores
 stores_replay past octets i (A.Delivered name dst key payload) = ap (λ l. R.Replay name None ∷ l) (no_more (message_of i name dst))
-  where
-    no_more : (o : Option AccessMessage) → option_map_or (λ (m : AccessMessage). let l : List StoreRecord = [] in l) o [] ≡ []
-    no_more None = refl
-    no_more (Some m) = refl
 stores_replay past octets i (A.Control name dst opcode params) = refl
 stores_replay past octets i _ = refl
 
-pub heard_puttable : (past : Past) (p : Persist) (octets : List ℕ) (i : Insight) (a : Answer) (records : List StoreRecord) → IsMeaningOf past.records p
-    → Sees built_layers past (E.Net octets) i → a ≡ answer_of built_layers past (E.Net octets) i → records ≡ stores built_layers past (E.Net octets) i a
-    → All IsInRange records → ArePuttable p records
-heard_puttable past p octets i a records m sees is stored ranges =
-    subst (λ l. ArePuttable p l) (sym all) (pick (accepted a) refl (recursion_from_All IsInRange (replay_of (accepted a)) (subst (λ l. All IsInRange l) all ranges)))
-  where
-    all : records ≡ replay_of (accepted a)
-    all = stored ∙ stores_replay past octets i a
+-- the layers so far ask for nothing
+pub nothing_asked : (past : Past) (i : Insight) (a : Answer) (changes : List StoreRecord) → changes ≡ [] → AreAskedFor built_layers past i a changes
+unfolding built_layers
+nothing_asked past i (A.Delivered name dst key payload) changes e = e ∙ sym (no_more (message_of i name dst))
+nothing_asked past i _ changes e = tt
 
-    pick : (o : Option Name) → accepted a ≡ o → Every IsInRange (replay_of o) → ArePuttable p (replay_of o)
-    pick None e range = tt
-    pick (Some n) e range = (range.0, tt, not_full past p n m (heard_taken past octets i n sees (ap accepted (sym is) ∙ e)).place, λ q h. tt)
+-- there is a place for the name of an accepted message
+pub place_of_answer : (past : Past) (p : Persist) (octets : List ℕ) (i : Insight) (a : Answer) → IsMeaningOf past.records p
+    → Sees built_layers past (E.Net octets) i → a ≡ answer_of built_layers past (E.Net octets) i
+    → IfSome (accepted a) (λ (n : Name). IsFull p (R.Replay n None) → ⊥)
+place_of_answer past p octets i a m sees is = pick (accepted a) refl
+  where
+    pick : (o : Option Name) → accepted a ≡ o → IfSome o (λ (n : Name). IsFull p (R.Replay n None) → ⊥)
+    pick None e = tt
+    pick (Some n) e = not_full past p n m (heard_taken past octets i n sees (ap accepted (sym is) ∙ e)).place

@@ -15,7 +15,7 @@ ghost use Rattle.segment_sender.specs.Held.{IsOutgoing};
 
 use crate::answers::{begin_answer, raw_answer, send_answer};
 use crate::plan::{Basis, Plan};
-use event_records::{Records, beacon_records, heard_records, tick_records};
+use event_records::{Changes, Records, beacon_records, heard_records, tick_records};
 use iv_update::steps_law;
 use layer_states::sending::Outgoing;
 use mesh_base::pair::Name;
@@ -42,7 +42,8 @@ fn plan_pdu(tables: &mut Tables, p: &Persist, octets: &[u8]) -> Result<Plan, All
 {
     let phases = held_phases(p);
     let heard = tables.hear(p, octets)?;
-    let records = heard_records(&heard.answer);
+    // The layers so far ask for nothing.
+    let records = heard_records(&heard.answer, &Changes::new());
     Ok(Plan {
         answer: heard.answer,
         records,

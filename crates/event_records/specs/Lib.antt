@@ -1,3 +1,4 @@
 pub mod Steps
 pub mod Putting
 pub mod Indexes
+pub mod Asked

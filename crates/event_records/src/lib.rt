@@ -5,7 +5,7 @@
 //! - `ticks`: time that passed
 //! - `beacons`: a beacon heard
 //! - `messages`: a network PDU heard
-//! - `laws`: what is known of the index of a network key
+//! - `laws`: what is known of the index of a network key, and of the changes that a message asks for
 #![tactic(auto)]
 
 mod beacons;
@@ -15,14 +15,18 @@ mod numbers;
 mod ticks;
 
 pub use beacons::beacon_records;
-pub use laws::index_law;
+pub use laws::{changes_law, index_law};
 use mesh_base::table::Table;
 pub use messages::heard_records;
 use record_types::records::StoreRecord;
 pub use ticks::tick_records;
 
-/// The records of an event, at most 2.
-pub type Records = Table<StoreRecord, 2>;
+/// What a message asks to be stored, at most 9 records: one of the configuration, and one of each of the 2 models of at most 4 elements.
+pub type Changes = Table<StoreRecord, 9>;
+
+/// The records of an event, at most 10: the name of an accepted message, and behind it what the message asks for. A beacon and a tick store at
+/// most 2.
+pub type Records = Table<StoreRecord, 10>;
 
 #[cfg(test)]
 mod tests;

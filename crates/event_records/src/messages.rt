@@ -1,51 +1,57 @@
 //! What is stored when a network PDU was heard.
 #![tactic(auto)]
 
-ghost use Rattle.std.specs.Prelude.{◌≡◌, ℕ, ◌<◌, ◌^◌, List, All, IfSome};
-ghost use Rattle.event_records.specs.Putting.{AreMoves};
+ghost use Rattle.std.specs.Prelude.{◌≡◌, ℕ, ◌<◌, ◌^◌, List, [], ◌∷◌, All, None, IfSome};
+ghost use Rattle.event_records.specs.Asked.{AreAskedFor};
+ghost use Rattle.event_records.specs.Putting.{AreMoves, ArePuttable};
 ghost use Rattle.mesh_base.specs.declared.pair.Name.{Name};
 ghost use Rattle.mesh_types.specs.declared.events.Event.TheVariants as E;
-ghost use Rattle.node_layers.specs.BuiltLayers.{built_layers};
+ghost use Rattle.node_records.specs.Full.{IsFull};
+ghost use Rattle.node_records.specs.Tables.{config_in};
+ghost use Rattle.node_records.specs.declared.persist.Persist.{Persist};
+ghost use Rattle.record_types.specs.declared.records.StoreRecord.TheVariants as R;
 ghost use Rattle.run_definitions.specs.History.{Insight, Past};
+ghost use Rattle.run_definitions.specs.Layers.{Layers};
 ghost use Rattle.run_definitions.specs.Stores.{stores};
-ghost use Rattle.run_definitions.specs.Uses.{accepted as accepted_in};
+ghost use Rattle.run_definitions.specs.Uses.{accepted};
 ghost use Rattle.store_definitions.specs.Config.{Config};
 ghost use Rattle.store_definitions.specs.Ranges.{IsInRange};
 
-use crate::Records;
-use crate::numbers::add;
+use crate::{Changes, Records};
 use mesh_base::pair::Name;
 use mesh_types::answers::Answer;
 use record_types::records::StoreRecord;
 
-// The name of an accepted message.
-fn accepted(answer: &Answer) -> Option<Name>
-    ensures { result ≡ accepted_in answer.now }
+// The record of an accepted message, and behind it what the message asks for.
+fn named_records(first: Name, changes: &Changes) -> Records
+    ensures value { result ≡ R.Replay first None ∷ changes.now }
+    ensures range { first.pair.seq < 2 ^ 24 → IsInRange (R.Replay first None) }
 {
-    match answer {
-        Answer::Delivered { name, .. } => Some(*name),
-        Answer::Control { name, .. } => Some(*name),
-        _ => None,
-    }
+    let mut records = Records::of(changes.as_slice()).unwrap();
+    let name = StoreRecord::Replay {
+        first,
+        second: None,
+    };
+    let _ = records.insert(0, name);
+    records
 }
 
-/// What a network PDU heard stores, by its answer: the name of an accepted message. It is in range, as its SEQ has 24 bits.
-#[tactic(auto, unfolding(node_layers::specs::BuiltLayers::built_layers, run_definitions::specs::Stores::stores))]
-pub fn heard_records(answer: &Answer) -> Records
-    requires { IfSome (accepted_in answer.now) (λ (name : Name). name.pair.seq < 2 ^ 24) }
-    ensures value { (past : Past) (octets : List ℕ) (insight : Insight) → result ≡ stores built_layers past (E.Net octets) insight answer.now }
-    ensures ranges { All IsInRange result }
-    ensures moves { (c : Config) → AreMoves c result }
+/// What a network PDU heard stores, by its answer: the name of an accepted message, and behind it what a delivered message asks for, which is
+/// `changes` in layers of any kind. The name is in range, as its SEQ has 24 bits. Where the replay list has a place for it, and the changes may
+/// be put over what the records say, so may all of them; and they are moves where the changes are.
+#[tactic(auto, unfolding(run_definitions::specs::Stores::stores))]
+pub fn heard_records(answer: &Answer, changes: &Changes) -> Records
+    requires { IfSome (accepted answer.now) (λ (name : Name). name.pair.seq < 2 ^ 24) }
+    ensures value { (layers : Layers) (past : Past) (octets : List ℕ) (insight : Insight) → AreAskedFor layers past insight answer.now changes.now
+        → result ≡ stores layers past (E.Net octets) insight answer.now }
+    ensures ranges { All IsInRange changes.now → All IsInRange result }
+    ensures may { (p : Persist) → IfSome (accepted answer.now) (λ (name : Name). IsFull p (R.Replay name None) → ⊥)
+        → ((q : Persist) → config_in q ≡ config_in p → ArePuttable q changes.now) → ArePuttable p result }
+    ensures moves { (c : Config) → AreMoves c changes.now → AreMoves c result }
 {
-    let mut records = Records::new();
-    if let Some(first) = accepted(answer) {
-        add(
-            &mut records,
-            Some(StoreRecord::Replay {
-                first,
-                second: None,
-            }),
-        );
+    match answer {
+        Answer::Delivered { name, .. } => named_records(*name, changes),
+        Answer::Control { name, .. } => named_records(*name, &Changes::new()),
+        _ => Records::new(),
     }
-    records
 }

@@ -81,7 +81,7 @@ pub(crate) fn step_record(p: &Persist, step: &IvStep) -> Option<StoreRecord>
 
 /// Puts a record, if there is one, behind the others.
 pub(crate) fn add(records: &mut Records, item: Option<StoreRecord>)
-    requires { length records.old < 2 }
+    requires { length records.old < 10 }
     ensures value { records.new ≡ records.old ++ option_to_list item }
     ensures few { length records.new ≤ length records.old + 1 }
 {

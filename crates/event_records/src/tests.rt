@@ -1,19 +1,21 @@
 //! Worked rows: what is stored when time passed, when a beacon was heard, and when a message was accepted.
 #![tactic(auto)]
 
-ghost use Rattle.std.specs.Prelude.{◌≤◌, ◌<◌, ◌^◌};
+ghost use Rattle.std.specs.Prelude.{◌≤◌, ◌<◌, ◌^◌, IfSome};
 ghost use Rattle.event_records.specs.Steps.{IsStepFrom};
 ghost use Rattle.mesh_base.specs.IvState.{HasTransmit};
+ghost use Rattle.mesh_base.specs.declared.pair.Name.{Name};
 ghost use Rattle.node_records.specs.Meaning.{IsSaid};
+ghost use Rattle.run_definitions.specs.Uses.{accepted};
 ghost use Rattle.store_definitions.specs.Ranges.{IsInRange};
 
-use crate::{Records, beacon_records, heard_records, tick_records};
+use crate::{Changes, Records, beacon_records, heard_records, tick_records};
 use iv_update::{on_beacon, steps_law};
 use mesh_base::address::Address;
 use mesh_base::iv_state::IvState;
 use mesh_base::octets::Octets;
 use mesh_base::pair::{Name, Pair};
-use mesh_types::answers::{Answer, KeyStep};
+use mesh_types::answers::{Answer, KeyName, KeyStep};
 use node_records::Persist;
 use node_records::laws::value_law;
 use record_types::records::StoreRecord;
@@ -149,26 +151,63 @@ fn beacons(rt: HostRuntime) {
     assert!(rt; beacon_records(&p, &Answer::Reset).is_empty());
 }
 
-// An accepted message is stored by its name.
-#[test]
-fn messages(rt: HostRuntime) {
-    let first = Name {
-        src: Address(0x0003),
-        pair: Pair {
-            iv: 0x12345678,
-            seq: 0x3129ab,
-        },
-    };
-    let accepted = Answer::Control {
-        name: first,
+const FIRST: Name = Name {
+    src: Address(0x0003),
+    pair: Pair {
+        iv: 0x12345678,
+        seq: 0x3129ab,
+    },
+};
+
+fn delivered() -> Answer
+    ensures { IfSome (accepted result) (λ (name : Name). name.pair.seq < 2 ^ 24) }
+{
+    Answer::Delivered {
+        name: FIRST,
+        dst: Address(0x1201),
+        key: KeyName::Dev,
+        payload: Octets::new(),
+    }
+}
+
+fn controlled() -> Answer
+    ensures { IfSome (accepted result) (λ (name : Name). name.pair.seq < 2 ^ 24) }
+{
+    Answer::Control {
+        name: FIRST,
         dst: Address(0x1201),
         opcode: 0x7f,
         params: Octets::new(),
-    };
-    let item = StoreRecord::Replay {
-        first,
+    }
+}
+
+fn bound(model: u16) -> StoreRecord {
+    StoreRecord::Bind {
+        op: 1,
+        element: Address(0x1201),
+        model,
+        app: 0x123,
+    }
+}
+
+// An accepted message is stored by its name, and behind it stands what a delivered one asks for, at most 9 records; no other answer stores any.
+#[test]
+fn messages(rt: HostRuntime) {
+    let name = StoreRecord::Replay {
+        first: FIRST,
         second: None,
     };
-    assert!(rt; is_one(&heard_records(&accepted), item));
-    assert!(rt; heard_records(&Answer::Waiting { missing: 1 }).is_empty());
+    let mut changes = Changes::new();
+    assert!(rt; is_one(&heard_records(&delivered(), &changes), name));
+    let _ = changes.push(bound(0x1000));
+    assert!(rt; is_two(&heard_records(&delivered(), &changes), name, bound(0x1000)));
+    assert!(rt; is_one(&heard_records(&controlled(), &changes), name));
+    assert!(rt; heard_records(&Answer::Waiting { missing: 1 }, &changes).is_empty());
+    for model in 0..8 {
+        let _ = changes.push(bound(model));
+    }
+    let most = heard_records(&delivered(), &changes);
+    assert_eq!(rt; most.len(), 10);
+    assert!(rt; most.as_slice()[0] == name);
+    assert!(rt; most.as_slice()[9] == bound(7));
 }

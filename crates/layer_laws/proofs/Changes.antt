@@ -16,7 +16,7 @@ use Rattle.model_states.specs.OnOff.{onoff_after, onoff_kept, onoff_octet}
 use Rattle.model_states.specs.Publication.{no_heartbeat}
 use Rattle.node_layers.specs.Configuration.{config_act, is_for_server}
 use Rattle.node_layers.specs.Models.{elements_of, level_records, level_server, level_state, model_records, onoff_records, onoff_server, onoff_state, takes}
-use Rattle.node_layers.specs.NodeLayers.{changes_of}
+use Rattle.node_layers.specs.ConfiguredLayers.{changes_of}
 use Rattle.node_records.proofs.Rising.{keyed_of}
 use Rattle.run_definitions.specs.Answers.{config_before}
 use Rattle.run_definitions.specs.Fit.{AreStorable}
@@ -31,6 +31,7 @@ use Rattle.run_definitions.specs.Layers.{AccessMessage}
 use Rattle.record_types.specs.declared.records.StoreRecord.{StoreRecord}
 use Rattle.record_types.specs.declared.records.StoreRecord.TheVariants as R
 use Rattle.store_definitions.specs.Config.{Config, changed, config_of}
+use Rattle.layer_laws.specs.Laws.{IsWithinLimits}
 use Rattle.layer_laws.proofs.Acts.{Acted, acted_pick, acted_weaker, nothing}
 use Rattle.layer_laws.proofs.Levels.{kept_fits, payload_fits, state_fits, unsigned_small}
 use Rattle.layer_laws.proofs.Lists.{Inside, every_flat, every_flat_any, every_option, when}
@@ -248,13 +249,6 @@ changes_storable past m s o =
 
 -- A node is sound where its records may each follow those before it.
 
-pub record Limits (c : Config) : Type 0 where
-  pub nets : length c.nets ≤ 4
-  pub apps : length c.apps ≤ 8
-  pub binds : length c.binds ≤ 32
-  pub subs : length c.subs ≤ 32
-  pub labels : length c.labels ≤ 32
-
 shorter_pick : {A : Type 0} (b : Bool) (xs ys : List A) (n : ℕ) → length xs ≤ n → length ys ≤ n → length (cond b xs ys) ≤ n
 shorter_pick true xs ys n h k = h
 shorter_pick false xs ys n h k = k
@@ -265,7 +259,7 @@ le_after a b n h k = omega (arith, h, k)
 not_above : (a n : ℕ) → (n < a → ⊥) → a ≤ n
 not_above a n h = when _ (ltb n a) (λ e. absurd (h (grind (arith, nat_tests, e)))) (λ e. grind (arith, nat_tests, e))
 
-limits_changed : (records : List StoreRecord) (item : StoreRecord) → Follows records item → Limits (config_of records) → Limits (changed (config_of records) item)
+limits_changed : (records : List StoreRecord) (item : StoreRecord) → Follows records item → IsWithinLimits (config_of records) → IsWithinLimits (changed (config_of records) item)
 unfolding changed
 limits_changed records (R.NetKey op index key) f h =
     let c : Config = config_of records in
@@ -306,25 +300,26 @@ limits_changed records (R.Label op element model label) f h =
     }
 limits_changed records _ f h = record { nets = h.nets; apps = h.apps; binds = h.binds; subs = h.subs; labels = h.labels }
 
-limits_after : (before more : List StoreRecord) → AreInOrder before more → Limits (config_of before) → Limits (config_of (before ++ more))
+limits_after : (before more : List StoreRecord) → AreInOrder before more → IsWithinLimits (config_of before) → IsWithinLimits (config_of (before ++ more))
 limits_after before [] h l = rw append-nil l
 limits_after before (item ∷ more) h l =
     rw (← append_assoc before (item ∷ []) more)
-    (limits_after (before ++ item ∷ []) more h.1 (subst Limits (sym (config_push before item)) (limits_changed before item h.0 l)))
+    (limits_after (before ++ item ∷ []) more h.1 (subst IsWithinLimits (sym (config_push before item)) (limits_changed before item h.0 l)))
 
-pub limits_of : (records : List StoreRecord) → AreInOrder [] records → Limits (config_of records)
+pub limits_of : (records : List StoreRecord) → AreInOrder [] records → IsWithinLimits (config_of records)
 limits_of records h = limits_after [] records h (record { nets = omega arith; apps = omega arith; binds = omega arith; subs = omega arith; labels = omega arith })
 
+pub sound_within : (records : List StoreRecord) → IsWhole (config_of records) → IsWithinLimits (config_of records) → Sound (config_of records)
+sound_within records whole l = record {
+  whole = whole;
+  nets_rise = (keyed_of records).nets;
+  publications_rise = (keyed_of records).publications;
+  nets = l.nets;
+  apps = l.apps;
+  binds = l.binds;
+  subs = l.subs;
+  labels = l.labels;
+}
+
 pub sound_of : (records : List StoreRecord) → IsWhole (config_of records) → AreInOrder [] records → Sound (config_of records)
-sound_of records whole order =
-    let l : Limits (config_of records) = limits_of records order in
-    record {
-      whole = whole;
-      nets_rise = (keyed_of records).nets;
-      publications_rise = (keyed_of records).publications;
-      nets = l.nets;
-      apps = l.apps;
-      binds = l.binds;
-      subs = l.subs;
-      labels = l.labels;
-    }
+sound_of records whole order = sound_within records whole (limits_of records order)

@@ -1,6 +1,8 @@
 -- The layers of this node are fit: what they store, and what they send.
 use Rattle.std.proofs.Common.{◌^◌, ◌<◌}
 use Rattle.std.proofs.lemmas.List.Elements.{All-from_recursion, recursion_from_All}
+use Rattle.node_layers.specs.BuiltLayers.{built_layers}
+use Rattle.node_layers.specs.ConfiguredLayers.{configured_layers}
 use Rattle.node_layers.specs.Friendship.{control_jobs}
 use Rattle.node_layers.specs.NodeLayers.{node_layers, published_at, replies_of}
 use Rattle.node_layers.specs.Reassembly.{acks_at}
@@ -10,14 +12,20 @@ use Rattle.run_definitions.specs.Fit.{AreFit, IsOwn, IsOwnEvent}
 use Rattle.run_definitions.specs.History.{Told}
 use Rattle.run_safety.proofs.Lists.{every_map}
 use Rattle.store_definitions.specs.Config.{config_of}
+use Rattle.layer_laws.specs.Laws.{StoreFitting}
+use Rattle.layer_laws.proofs.Configured.{configured_storable}
 use Rattle.layer_laws.proofs.Changes.{changes_storable, sound_of}
 use Rattle.layer_laws.proofs.Node.{IsEntry, IsSameNode, entries_of}
 use Rattle.layer_laws.proofs.Own.{control_own, published_own, replies_own, segments_own}
 use Rattle.layer_laws.proofs.Parts.{acks_own}
 use Rattle.layer_laws.proofs.Safe.{node_safe}
 
-pub node_fit : AreFit node_layers
+pub node_storable : StoreFitting node_layers
 unfolding node_layers
+node_storable = configured_storable
+
+pub node_fit : AreFit node_layers
+unfolding node_layers configured_layers built_layers
 node_fit = record {
   changes = λ past m h whole order octets. changes_storable past m (sound_of past.records whole order) (recursion_from_All (λ x. x < 2 ^ 8) m.payload octets);
   acks_due = λ past c ticks h s. All-from_recursion (IsOwn c) (acks_at past c ticks) (acks_own node_layers node_safe past c ticks h s);

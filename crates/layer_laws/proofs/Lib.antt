@@ -12,3 +12,4 @@ pub mod Safe
 pub mod Own
 pub mod Fit
 pub mod Built
+pub mod Configured

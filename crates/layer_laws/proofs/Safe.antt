@@ -16,8 +16,10 @@ use Rattle.mesh_types.specs.declared.answers.Answer.TheVariants as A
 use Rattle.mesh_types.specs.declared.events.Event.{Event}
 use Rattle.mesh_types.specs.declared.events.Event.TheVariants as E
 use Rattle.model_states.specs.Publication.{heartbeat_due}
-use Rattle.node_layers.specs.Friendship.{control_jobs, ended_calls, friends, replies_to}
-use Rattle.node_layers.specs.NodeLayers.{changes_of, node_layers, published_at, published_jobs, replies_of, reply_job, reply_jobs}
+use Rattle.node_layers.specs.BuiltLayers.{built_layers}
+use Rattle.node_layers.specs.ConfiguredLayers.{changes_of, configured_layers, reply_job, sent_publication, sent_publications, sent_replies, sent_reply}
+use Rattle.node_layers.specs.Friendship.{control_jobs, ended_calls, friends, no_friends, replies_to}
+use Rattle.node_layers.specs.NodeLayers.{node_layers, published_at, published_jobs, replies_of, reply_jobs}
 use Rattle.node_layers.specs.Publishing.{Publication, heartbeat_job, heartbeat_jobs, publication_job, publications_due, published}
 use Rattle.node_layers.specs.Reassembly.{acks_at, due_job, due_jobs}
 use Rattle.node_layers.specs.Sending.{messages, round_jobs, segment_job, segments_at}
@@ -112,11 +114,17 @@ round_safe past c now s =
 
 -- Replies and what is published.
 
+sent_reply_safe : (past : Past) (c : Config) (m : AccessMessage) (reply : ℕ × List ℕ) → Every (IsFitJob past) (sent_reply c m reply)
+sent_reply_safe past c m reply = every_under (IsFitJob past) c m.net (reply_job c m reply) (λ material. tt)
+
+sent_publication_safe : (past : Past) (c : Config) (p : Publication) → Every (IsFitJob past) (sent_publication c p)
+sent_publication_safe past c p = every_under (IsFitJob past) c p.net (publication_job p) (λ material. tt)
+
 reply_safe : (past : Past) (c : Config) (st : FriendsState) (m : AccessMessage) (reply : ℕ × List ℕ) → Every (IsFitJob past) (reply_jobs c st m reply)
-reply_safe past c st m reply = every_pick (IsFitJob past) _ [] _ tt (every_under (IsFitJob past) c m.net (reply_job c m reply) (λ material. tt))
+reply_safe past c st m reply = every_pick (IsFitJob past) _ [] (sent_reply c m reply) tt (sent_reply_safe past c m reply)
 
 publication_safe : (past : Past) (c : Config) (st : FriendsState) (p : Publication) → Every (IsFitJob past) (published_jobs c st p)
-publication_safe past c st p = every_pick (IsFitJob past) _ [] _ tt (every_under (IsFitJob past) c p.net (publication_job p) (λ material. tt))
+publication_safe past c st p = every_pick (IsFitJob past) _ [] (sent_publication c p) tt (sent_publication_safe past c p)
 
 heartbeat_safe : (past : Past) (c : Config) (ticks : ℕ) → Every (IsFitJob past) (heartbeat_jobs past c ticks)
 heartbeat_safe past c ticks =
@@ -127,6 +135,14 @@ acks_safe past c ticks = every_flat_any (IsFitJob past) (due_jobs c) (λ a. ever
 
 pub segments_safe : (past : Past) (c : Config) (ticks : ℕ) → Every (IsFitJob past) (segments_at past c ticks)
 segments_safe past c ticks = every_flat_any (IsFitJob past) (round_jobs c (later past ticks)) (round_safe past c (later past ticks)) (messages past)
+
+pub sent_replies_safe : (past : Past) (c : Config) (m : AccessMessage) → Every (IsFitJob past) (sent_replies past c m)
+sent_replies_safe past c m = every_flat_any (IsFitJob past) (sent_reply c m) (sent_reply_safe past c m) (replies_to past no_friends m)
+
+pub sent_publications_safe : (past : Past) (c : Config) (ticks : ℕ) → Every (IsFitJob past) (sent_publications past c ticks)
+sent_publications_safe past c ticks =
+    every_append (IsFitJob past) (flat_map (sent_publication c) (publications_due past c ticks)) (heartbeat_jobs past c ticks)
+    (every_flat_any (IsFitJob past) (sent_publication c) (sent_publication_safe past c) (publications_due past c ticks)) (heartbeat_safe past c ticks)
 
 replies_safe : (past : Past) (c : Config) (m : AccessMessage) → Every (IsFitJob past) (replies_of past c m)
 replies_safe past c m =
@@ -140,7 +156,7 @@ published_safe past c ticks =
     (every_flat_any (IsFitJob past) (published_jobs c st) (publication_safe past c st) (publications_due past c ticks)) (heartbeat_safe past c ticks)
 
 pub node_safe : AreSafe node_layers
-unfolding node_layers
+unfolding node_layers configured_layers built_layers
 node_safe = record {
   acks_due = λ past c ticks. All-from_recursion (IsFitJob past) (acks_at past c ticks) (acks_safe past c ticks);
   segments_due = λ past c ticks. All-from_recursion (IsFitJob past) (segments_at past c ticks) (segments_safe past c ticks);

@@ -1,12 +1,20 @@
--- What the layers of the node, and those that the machine has so far, have: safety, and that what they store and send is fit.
+-- What the layers of the node have, all of them, those without friendships, and those that the machine has so far: safety, and that what they
+-- store and send is fit.
+use Rattle.std.specs.Prelude.{◌<◌, ◌≤◌, ◌^◌, [], ◌∷◌, ◌++◌, length, None, All}
 use Rattle.node_layers.specs.BuiltLayers.{built_layers}
+use Rattle.node_layers.specs.ConfiguredLayers.{configured_layers}
 use Rattle.node_layers.specs.NodeLayers.{node_layers}
+use Rattle.record_types.specs.declared.records.StoreRecord.TheVariants as R
 use Rattle.report_definitions.specs.Record.{Run}
-use Rattle.run_definitions.specs.Fit.{AreFit}
-use Rattle.run_definitions.specs.Layers.{Layers}
+use Rattle.run_definitions.specs.Answers.{config_before}
+use Rattle.run_definitions.specs.Fit.{AreFit, AreStorable}
+use Rattle.run_definitions.specs.History.{Past}
+use Rattle.run_definitions.specs.Layers.{AccessMessage, Layers}
 use Rattle.run_definitions.specs.RunOf.{RunOf, Script}
 use Rattle.run_definitions.specs.Uses.{AtMostOnce, NoReuse, delivered, uses}
 use Rattle.run_safety.specs.Safety.{AreSafe}
+use Rattle.store_definitions.specs.Config.{Config}
+use Rattle.store_definitions.specs.Node.{IsWhole}
 
 abbrev pub BuiltIsSafe : Type 0
 BuiltIsSafe = AreSafe built_layers
@@ -14,11 +22,32 @@ BuiltIsSafe = AreSafe built_layers
 abbrev pub BuiltIsFit : Type 0
 BuiltIsFit = AreFit built_layers
 
+abbrev pub ConfiguredIsSafe : Type 0
+ConfiguredIsSafe = AreSafe configured_layers
+
+abbrev pub ConfiguredIsFit : Type 0
+ConfiguredIsFit = AreFit configured_layers
+
 abbrev pub NodeIsSafe : Type 0
 NodeIsSafe = AreSafe node_layers
 
 abbrev pub NodeIsFit : Type 0
 NodeIsFit = AreFit node_layers
+
+-- The tables of a node are within the sizes of its store.
+pub record IsWithinLimits (c : Config) : Type 0 where
+  pub nets : length c.nets ≤ 4
+  pub apps : length c.apps ≤ 8
+  pub binds : length c.binds ≤ 32
+  pub subs : length c.subs ≤ 32
+  pub labels : length c.labels ≤ 32
+
+-- Of a node that is whole, with such tables, what a message stores is fit, however its records came about: so it is in code whose tables have
+-- these sizes.
+abbrev pub StoreFitting : Layers → Type 0
+StoreFitting layers =
+    (past : Past) (m : AccessMessage) → IsWhole (config_before past) → IsWithinLimits (config_before past) → All (λ octet. octet < 2 ^ 8) m.payload
+    → AreStorable (past.records ++ R.Replay m.name None ∷ []) (layers.changes past m)
 
 -- so no run of a node with these layers reuses a nonce or delivers a message twice
 abbrev pub RunsReuseNothing : Layers → Type 0

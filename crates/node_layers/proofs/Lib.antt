@@ -1,2 +1,3 @@
 pub mod Segments
+pub mod Hearing
 pub mod Steps

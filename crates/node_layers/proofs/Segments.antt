@@ -13,6 +13,7 @@ use Rattle.layer_states.specs.declared.reassembly.Taken.TheVariants as T
 use Rattle.mesh_base.specs.declared.pair.Name.{Name}
 use Rattle.mesh_types.specs.declared.answers.Answer.TheVariants as A
 use Rattle.node_layers.specs.BuiltLayers.{built_layers}
+use Rattle.node_layers.specs.ConfiguredLayers.{configured_layers}
 use Rattle.node_layers.specs.NodeLayers.{node_layers}
 use Rattle.node_layers.specs.Reassembly.{held, part_heard}
 use Rattle.node_layers.specs.Segments.{AnswersSegments, HasWhole, taken_answer}
@@ -89,10 +90,18 @@ pub built_whole : HasWhole built_layers
 unfolding built_layers
 built_whole past r n low octets e = octets_are (held past) (now_of past.told) (part_heard (config_before past) r n low) octets e
 
+pub configured_answers : AnswersSegments configured_layers
+unfolding configured_layers
+configured_answers = built_answers
+
+pub configured_whole : HasWhole configured_layers
+unfolding configured_layers
+configured_whole = built_whole
+
 pub node_answers : AnswersSegments node_layers
 unfolding node_layers
-node_answers past r n low = answer_is (held past) (now_of past.told) (part_heard (config_before past) r n low)
+node_answers = configured_answers
 
 pub node_whole : HasWhole node_layers
 unfolding node_layers
-node_whole past r n low octets e = octets_are (held past) (now_of past.told) (part_heard (config_before past) r n low) octets e
+node_whole = configured_whole

@@ -34,7 +34,6 @@ use Rattle.model_states.specs.Publication.{heartbeat_shown}
 use Rattle.node_layers.specs.Configuration.{config_act, ends_friendships}
 use Rattle.node_layers.specs.Models.{delivered_by, model_replies}
 use Rattle.node_layers.specs.Publishing.{Publication, publications_due, published}
-use Rattle.layer_states.specs.Names.{is_unicast}
 use Rattle.run_definitions.specs.Answers.{config_before, is_before_cache, name_of}
 use Rattle.run_definitions.specs.Handling.{past_of}
 use Rattle.run_definitions.specs.History.{Insight, OfPdu, Past, Reading, Told, now_of}

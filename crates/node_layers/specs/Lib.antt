@@ -4,7 +4,9 @@ pub mod Models
 pub mod Configuration
 pub mod Publishing
 pub mod Friendship
-pub mod NodeLayers
 pub mod BuiltLayers
+pub mod ConfiguredLayers
+pub mod NodeLayers
 pub mod Segments
+pub mod Hearing
 pub mod Steps

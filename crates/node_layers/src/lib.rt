@@ -6,10 +6,11 @@
 //! - `Friendship`: what is stored for Low Power nodes, and what their messages ask for
 //! - `NodeLayers`: the constant, `node_layers`
 //! - `BuiltLayers`: the layers that the machine has so far, `built_layers`
-//! - `Segments`, `Steps`: what the laws of `laws` say: the answer to a segment by the state of reassembly, and that an entry more is one step of
-//!   each state
+//! - `ConfiguredLayers`: these with the configuration, the models and what is published, `configured_layers`: all but friendships
+//! - `Segments`, `Hearing`, `Steps`: what the laws of `laws` say: the answer to a segment by the state of reassembly, which layers hear alike, and
+//!   that an entry more is one step of each state
 //!
-//! That both have the properties `AreSafe` of `run_safety` and `AreFit` of `run_definitions` is proved in `layer_laws`.
+//! That all three have the properties `AreSafe` of `run_safety` and `AreFit` of `run_definitions` is proved in `layer_laws`.
 #![tactic(auto)]
 
 pub mod laws;

@@ -3,6 +3,8 @@ use Rattle.std.proofs.Common.{◌≡◌, ℕ, ◌↔◌, List, ◌∷◌, refl, 
 use Rattle.layer_definitions.specs.IvIndex.{iv_due, iv_next}
 use Rattle.layer_definitions.specs.Network.{IsHeardUnder}
 use Rattle.mesh_base.specs.IvState.{transmit_of}
+use Rattle.node_layers.specs.BuiltLayers.{built_layers}
+use Rattle.node_layers.specs.ConfiguredLayers.{configured_layers}
 use Rattle.node_layers.specs.NodeLayers.{node_layers}
 use Rattle.run_definitions.specs.Answers.{answer_of}
 use Rattle.run_definitions.specs.Jobs.{jobs_of}
@@ -29,11 +31,11 @@ neither octets (inl e, ivi) = omega (arith, e)
 neither octets (inr e, ivi) = omega (arith, e)
 
 pub pdus_are_read_under : PdusAreReadUnder
-unfolding node_layers answer_of jobs_of stores changed
+unfolding node_layers configured_layers built_layers answer_of jobs_of stores changed
 pdus_are_read_under net_key dev_key pdu rest =
     record { newer = newer rest; older = older rest; neither = neither; hears_newer = refl; hears_older = refl; hears_nothing = refl }
 
 pub update_ends : UpdateEnds
-unfolding node_layers answer_of jobs_of stores changed transmit_of iv_next iv_due
+unfolding node_layers configured_layers built_layers answer_of jobs_of stores changed transmit_of iv_next iv_due
 update_ends net_key dev_key octets =
     record { sends = refl; counts_early = refl; early = refl; ticks = refl; counts = refl; ends = refl; keeps = refl; again = refl }

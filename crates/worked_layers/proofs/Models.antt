@@ -5,6 +5,8 @@ use Rattle.model_states.specs.Level.{level_message}
 use Rattle.model_states.specs.OnOff.{onoff_message}
 use Rattle.model_states.specs.Publication.{least_log, row_index}
 use Rattle.model_states.specs.Timing.{remaining_time}
+use Rattle.node_layers.specs.BuiltLayers.{built_layers}
+use Rattle.node_layers.specs.ConfiguredLayers.{configured_layers}
 use Rattle.node_layers.specs.NodeLayers.{node_layers}
 use Rattle.run_definitions.specs.Answers.{answer_of}
 use Rattle.run_definitions.specs.Jobs.{jobs_of}
@@ -12,14 +14,28 @@ use Rattle.run_definitions.specs.Stores.{stores}
 use Rattle.store_definitions.specs.Config.{changed}
 use Rattle.worked_layers.specs.Models.{HeartBeats, LevelMoves, OnOffSwitches}
 
-pub onoff_switches : OnOffSwitches
-unfolding node_layers answer_of jobs_of stores changed config_answer first_answers middle_answers last_answers onoff_message level_message remaining_time
+pub onoff_switches : OnOffSwitches node_layers
+unfolding node_layers configured_layers built_layers answer_of jobs_of stores changed config_answer first_answers middle_answers last_answers onoff_message level_message remaining_time
 onoff_switches net_key dev_key app_key pdu aid = record { binds = refl; stores = refl; turns_on = refl; keeps = refl; opens = refl }
 
-pub level_moves : LevelMoves
-unfolding node_layers answer_of jobs_of stores changed config_answer first_answers middle_answers last_answers onoff_message level_message remaining_time
+pub level_moves : LevelMoves node_layers
+unfolding node_layers configured_layers built_layers answer_of jobs_of stores changed config_answer first_answers middle_answers last_answers onoff_message level_message remaining_time
 level_moves net_key dev_key app_key pdu aid = record { binds = refl; begins = refl; moves = refl }
 
-pub heart_beats : HeartBeats
-unfolding node_layers answer_of jobs_of stores changed config_answer first_answers middle_answers last_answers onoff_message level_message remaining_time row_index least_log
+pub heart_beats : HeartBeats node_layers
+unfolding node_layers configured_layers built_layers answer_of jobs_of stores changed config_answer first_answers middle_answers last_answers onoff_message level_message remaining_time row_index least_log
 heart_beats net_key dev_key app_key pdu aid = record { sets = refl; first = refl; waits = refl; second = refl; ends = refl }
+
+-- The same without friendships.
+
+pub onoff_switches_alone : OnOffSwitches configured_layers
+unfolding configured_layers built_layers answer_of jobs_of stores changed config_answer first_answers middle_answers last_answers onoff_message level_message remaining_time
+onoff_switches_alone net_key dev_key app_key pdu aid = record { binds = refl; stores = refl; turns_on = refl; keeps = refl; opens = refl }
+
+pub level_moves_alone : LevelMoves configured_layers
+unfolding configured_layers built_layers answer_of jobs_of stores changed config_answer first_answers middle_answers last_answers onoff_message level_message remaining_time
+level_moves_alone net_key dev_key app_key pdu aid = record { binds = refl; begins = refl; moves = refl }
+
+pub heart_beats_alone : HeartBeats configured_layers
+unfolding configured_layers built_layers answer_of jobs_of stores changed config_answer first_answers middle_answers last_answers onoff_message level_message remaining_time row_index least_log
+heart_beats_alone net_key dev_key app_key pdu aid = record { sets = refl; first = refl; waits = refl; second = refl; ends = refl }

@@ -5,6 +5,8 @@ use Rattle.model_states.specs.Level.{level_message}
 use Rattle.model_states.specs.OnOff.{onoff_message}
 use Rattle.model_states.specs.Publication.{least_log, row_index}
 use Rattle.model_states.specs.Timing.{remaining_time}
+use Rattle.node_layers.specs.BuiltLayers.{built_layers}
+use Rattle.node_layers.specs.ConfiguredLayers.{configured_layers}
 use Rattle.node_layers.specs.NodeLayers.{node_layers}
 use Rattle.run_definitions.specs.Answers.{answer_of}
 use Rattle.run_definitions.specs.Jobs.{jobs_of}
@@ -13,9 +15,9 @@ use Rattle.store_definitions.specs.Config.{changed}
 use Rattle.worked_layers.specs.Published.{LabelsAreHeard, StatusIsPublished}
 
 pub labels_are_heard : LabelsAreHeard
-unfolding node_layers answer_of jobs_of stores changed config_answer first_answers middle_answers last_answers onoff_message level_message
+unfolding node_layers configured_layers built_layers answer_of jobs_of stores changed config_answer first_answers middle_answers last_answers onoff_message level_message
 labels_are_heard e net_key dev_key app_key pdu = record { adds = rw e refl; stores = refl; delivers = rw e refl; takes = rw e refl; passes = refl }
 
 pub status_is_published : StatusIsPublished
-unfolding node_layers answer_of jobs_of stores changed config_answer first_answers middle_answers last_answers onoff_message level_message remaining_time row_index least_log
+unfolding node_layers configured_layers built_layers answer_of jobs_of stores changed config_answer first_answers middle_answers last_answers onoff_message level_message remaining_time row_index least_log
 status_is_published net_key dev_key app_key pdu = record { sets = refl; waits = refl; publishes = refl }

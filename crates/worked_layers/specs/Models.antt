@@ -1,4 +1,4 @@
--- The configuration, the models and the heartbeat.
+-- The configuration, the models and the heartbeat, in layers of some kind.
 use Rattle.std.specs.Prelude.{◌≡◌, ℕ, ◌+◌, false, List, [], ◌∷◌, ◌++◌, Some, None}
 use Rattle.layer_definitions.specs.KeyRefresh.{master_material}
 use Rattle.mesh_base.specs.declared.keys.UpperKey.{UpperKey}
@@ -7,15 +7,23 @@ use Rattle.mesh_base.specs.declared.lower.Lower.TheVariants.{Access}
 use Rattle.mesh_types.specs.KeyName.{key_name_of}
 use Rattle.mesh_types.specs.declared.answers.Answer.{Answer}
 use Rattle.mesh_types.specs.declared.answers.Answer.TheVariants as A
+use Rattle.mesh_types.specs.declared.events.Event.{Event}
 use Rattle.mesh_types.specs.declared.events.Event.TheVariants as E
 use Rattle.mesh_types.specs.declared.jobs.Job.{Job}
 use Rattle.mesh_types.specs.declared.jobs.Job.TheVariants as J
 use Rattle.record_types.specs.declared.records.StoreRecord.{StoreRecord}
 use Rattle.record_types.specs.declared.records.StoreRecord.TheVariants as R
 use Rattle.run_definitions.specs.History.{Insight, OfNothing, OfPdu, Past}
-use Rattle.worked_layers.specs.Walk.{Handled, address, handled, heard, iv, name, start, stored, then_at}
+use Rattle.run_definitions.specs.Layers.{Layers}
+use Rattle.worked_layers.specs.Walk.{Handled, address, handled_by, heard, iv, name, start, stored_by, then_at}
 
-module _ (net_key dev_key app_key pdu : List ℕ) (aid : ℕ) where
+module _ (layers : Layers) (net_key dev_key app_key pdu : List ℕ) (aid : ℕ) where
+  abbrev handled : Past → Event → Insight → Handled
+  handled past event insight = handled_by layers past event insight
+
+  abbrev stored : Past → Event → Insight → List StoreRecord
+  stored past event insight = stored_by layers past event insight
+
   -- an unsegmented message of the node 0003, under a key
   abbrev insight : ℕ → ℕ → UpperKey → List ℕ → Insight
   insight index seq key payload =
@@ -98,11 +106,11 @@ module _ (net_key dev_key app_key pdu : List ℕ) (aid : ℕ) where
     pub second : handled (ticked (ticked beating 1 1) 98 99) (E.Tick 1) OfNothing ≡ record { answer = A.Ticked 100; jobs = beat ∷ [] }
     pub ends : handled (ticked (ticked (ticked beating 1 1) 98 99) 1 100) (E.Tick 500) OfNothing ≡ record { answer = A.Ticked 600; jobs = [] }
 
-abbrev pub OnOffSwitches : Type 0
-OnOffSwitches = (net_key dev_key app_key pdu : List ℕ) (aid : ℕ) → IsSwitchedOn net_key dev_key app_key pdu aid
+abbrev pub OnOffSwitches : Layers → Type 0
+OnOffSwitches layers = (net_key dev_key app_key pdu : List ℕ) (aid : ℕ) → IsSwitchedOn layers net_key dev_key app_key pdu aid
 
-abbrev pub LevelMoves : Type 0
-LevelMoves = (net_key dev_key app_key pdu : List ℕ) (aid : ℕ) → IsMoved net_key dev_key app_key pdu aid
+abbrev pub LevelMoves : Layers → Type 0
+LevelMoves layers = (net_key dev_key app_key pdu : List ℕ) (aid : ℕ) → IsMoved layers net_key dev_key app_key pdu aid
 
-abbrev pub HeartBeats : Type 0
-HeartBeats = (net_key dev_key app_key pdu : List ℕ) (aid : ℕ) → IsBeating net_key dev_key app_key pdu aid
+abbrev pub HeartBeats : Layers → Type 0
+HeartBeats layers = (net_key dev_key app_key pdu : List ℕ) (aid : ℕ) → IsBeating layers net_key dev_key app_key pdu aid

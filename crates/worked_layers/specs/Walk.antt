@@ -1,4 +1,4 @@
--- An event of a life that is handled by the layers of this node, where what its octets are read as is given.
+-- An event of a life that is handled by layers of some kind, mostly by those of this node, where what its octets are read as is given.
 use Rattle.std.specs.Prelude.{ℕ, ◌*◌, ◌^◌, false, List, [], ◌∷◌, ◌++◌, None}
 use Rattle.layer_definitions.specs.KeyRefresh.{master_material}
 use Rattle.mesh_base.specs.declared.address.Address.{Address}
@@ -13,6 +13,7 @@ use Rattle.record_types.specs.declared.records.StoreRecord.TheVariants as R
 use Rattle.run_definitions.specs.Answers.{answer_of}
 use Rattle.run_definitions.specs.History.{Insight, Past, Reading}
 use Rattle.run_definitions.specs.Jobs.{jobs_of}
+use Rattle.run_definitions.specs.Layers.{Layers}
 use Rattle.run_definitions.specs.Stores.{stores}
 use Rattle.store_definitions.specs.Config.{config_of}
 
@@ -21,14 +22,20 @@ pub record Handled : Type 0 where
   pub answer : Answer
   pub jobs : List Job
 
+abbrev pub stored_by : Layers → Past → Event → Insight → List StoreRecord
+stored_by layers past event insight = stores layers past event insight (answer_of layers past event insight)
+
+abbrev pub handled_by : Layers → Past → Event → Insight → Handled
+handled_by layers past event insight = record {
+  answer = answer_of layers past event insight;
+  jobs = jobs_of layers past (config_of (past.records ++ stored_by layers past event insight)) event insight (answer_of layers past event insight);
+}
+
 abbrev pub stored : Past → Event → Insight → List StoreRecord
-stored past event insight = stores node_layers past event insight (answer_of node_layers past event insight)
+stored past event insight = stored_by node_layers past event insight
 
 abbrev pub handled : Past → Event → Insight → Handled
-handled past event insight = record {
-  answer = answer_of node_layers past event insight;
-  jobs = jobs_of node_layers past (config_of (past.records ++ stored past event insight)) event insight (answer_of node_layers past event insight);
-}
+handled past event insight = handled_by node_layers past event insight
 
 -- what stands before the next event, when this one was answered so and stored this
 abbrev pub then_at : Past → Event → Insight → Answer → List StoreRecord → Past

@@ -9,6 +9,7 @@ returns c =
     record {
       safe = safe.node_safe;
       fit = fit.node_fit;
+      storable = fit.node_storable;
       no_reuse = λ s r run. enough.no_reuse node_layers safe.node_safe s r run;
       at_most_once = λ s r run. enough.at_most_once node_layers safe.node_safe s r run;
     }
