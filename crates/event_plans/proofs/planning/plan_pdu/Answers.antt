@@ -1,10 +1,12 @@
-use Rattle.std.proofs.Common.{List, sym, subst}
+use Rattle.std.proofs.Common.{◌∙◌, List, ap, sym, subst}
 use Rattle.event_plans.proofs.Accepts.{nothing_asked, place_of_answer, seq_of_answer}
 use Rattle.event_records.specs.Putting.{AreMoves, ArePuttable}
 use Rattle.mesh_hearing.specs.Heard.{insight_of}
+use Rattle.mesh_jobs.specs.Phases.{phases_of}
 use Rattle.node_layers.specs.BuiltLayers.{built_layers}
 use Rattle.node_records.specs.Tables.{config_in}
 use Rattle.record_types.specs.declared.records.StoreRecord.{StoreRecord}
+use Rattle.store_definitions.specs.Config.{Config}
 use Rattle.event_plans.proofs.planning.plan_pdu.Goals as goal
 
 pub heard_records-records-requires : goal.heard_records-records-requires
@@ -22,7 +24,7 @@ returns-clause-planned c past h =
       answer = x.answer;
       records = c.heard_records-records.ensures.value built_layers past c.args.octets.now i (nothing_asked past i c.in_ok-heard.heard.answer c.new.result c.new.ensures.value);
       tables = λ e event insight answer records. x.tables e insight answer records;
-      basis = c.held_phases-phases.ensures;
+      basis = c.held_phases-phases.ensures.value ∙ ap (λ (k : Config). phases_of k.nets) h.meaning.config;
     }
 
 pub returns-clause-may : goal.returns-clause-may
