@@ -1,5 +1,5 @@
 -- Events that bring no octets and no time leave the tables, but for a segmented message that begins.
-use Rattle.std.proofs.Common.{◌≡◌, ℕ, Bool, true, false, cond, eqb, List, [], ◌∷◌, ◌++◌, refl, ap, sym, subst, ◌∙◌, Some, None}
+use Rattle.std.proofs.Common.{◌≡◌, ℕ, Bool, true, false, cond, eqb, List, [], ◌∷◌, ◌++◌, refl, ap, sym, subst, ◌∙◌, Some}
 use Rattle.std.specs.Bool.{⊤}
 use Rattle.std.specs.Prelude.{fold, is_some, ◌||◌}
 use Rattle.std.specs.List.{list_any}

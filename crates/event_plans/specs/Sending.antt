@@ -1,6 +1,5 @@
 -- What the node can send.
 use Rattle.std.specs.Prelude.{◌+◌, ◌<◌, ◌^◌, ⊤}
-use Rattle.layer_states.specs.declared.sending.Outgoing.{Outgoing}
 use Rattle.mesh_types.specs.declared.events.Event.{Event}
 use Rattle.mesh_types.specs.declared.events.Event.TheVariants as E
 use Rattle.segment_sender.specs.Held.{IsOutgoing}

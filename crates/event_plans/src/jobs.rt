@@ -1,7 +1,7 @@
 //! The jobs of a plan.
 #![tactic(auto)]
 
-ghost use Rattle.std.specs.Prelude.{◌≡◌};
+ghost use Rattle.std.specs.Prelude.{◌≡◌, []};
 ghost use Rattle.event_plans.specs.Plans.{IsPlanned, IsSomePlan, insight_in};
 ghost use Rattle.event_plans.specs.Sending.{IsSendable};
 ghost use Rattle.mesh_hearing.specs.Tables.{TablesView};
@@ -20,11 +20,12 @@ use mesh_hearing::Keys;
 use mesh_jobs::{begin_jobs, own_jobs, pdu_jobs, tick_jobs};
 use mesh_types::answers::Answer;
 use mesh_types::events::Event;
-use mesh_types::jobs::Jobs;
+use mesh_types::jobs::{JobDraft, Jobs};
 use node_records::Persist;
 
 // Of a network PDU heard.
-fn heard_jobs(p: &Persist, keys: &Keys, octets: &Octets<40>, plan: &Plan) -> Jobs
+fn heard_jobs(draft: JobDraft, p: &Persist, keys: &Keys, octets: &Octets<40>, plan: &Plan) -> Jobs
+    requires empty { draft ≡ [] }
     requires keys { keys.now ≡ held_in (config_in p.now) }
     requires planned { IsSomePlan (E.Net octets.now) plan.now }
     ensures value { (past : Past) (t : TablesView) → IsPlanned past (E.Net octets.now) plan.now t
@@ -40,9 +41,10 @@ fn heard_jobs(p: &Persist, keys: &Keys, octets: &Octets<40>, plan: &Plan) -> Job
             ..
         } => {
             if *reset {
-                return Jobs::new();
+                return draft.finish();
             }
             pdu_jobs(
+                draft,
                 p,
                 keys.nets(),
                 phases,
@@ -51,34 +53,38 @@ fn heard_jobs(p: &Persist, keys: &Keys, octets: &Octets<40>, plan: &Plan) -> Job
                 &plan.answer,
             )
         }
-        Basis::Beacon { .. } => Jobs::new(),
-        Basis::Time { .. } => Jobs::new(),
-        Basis::Own => Jobs::new(),
+        Basis::Beacon { .. } => draft.finish(),
+        Basis::Time { .. } => draft.finish(),
+        Basis::Own => draft.finish(),
     }
 }
 
 // Of time that passed.
-fn passed_jobs(p: &Persist, keys: &Keys, ticks: u32, plan: &Plan) -> Jobs
+fn passed_jobs(draft: JobDraft, p: &Persist, keys: &Keys, ticks: u32, plan: &Plan) -> Jobs
+    requires empty { draft ≡ [] }
     requires keys { keys.now ≡ held_in (config_in p.now) }
     requires planned { IsSomePlan (E.Tick ticks) plan.now }
     ensures value { (past : Past) (t : TablesView) → IsPlanned past (E.Tick ticks) plan.now t
         → result ≡ jobs_of built_layers past (config_in p.now) (E.Tick ticks) (insight_in plan.now.basis) plan.now.answer }
 {
     let Answer::Ticked { .. } = &plan.answer else {
-        return Jobs::new();
+        return draft.finish();
     };
     match &plan.basis {
         Basis::Time { acks, rounds, span } => {
-            tick_jobs(p, keys.nets(), acks, rounds.as_slice(), span, &plan.answer)
+            let rounds = rounds.as_slice();
+            tick_jobs(draft, p, keys.nets(), acks, rounds, span, &plan.answer)
         }
-        Basis::Pdu { .. } => Jobs::new(),
-        Basis::Beacon { .. } => Jobs::new(),
-        Basis::Own => Jobs::new(),
+        Basis::Pdu { .. } => draft.finish(),
+        Basis::Beacon { .. } => draft.finish(),
+        Basis::Own => draft.finish(),
     }
 }
 
-/// The jobs of an event that was planned so. `p` is what the records after the event say, and `keys` are its keys.
-pub fn plan_jobs(p: &Persist, keys: &Keys, event: &Event, plan: &Plan) -> Jobs
+/// The jobs of an event that was planned so. `p` is what the records after the event say, and `keys` are its keys. The jobs are made in
+/// `draft`, which has none.
+pub fn plan_jobs(draft: JobDraft, p: &Persist, keys: &Keys, event: &Event, plan: &Plan) -> Jobs
+    requires empty { draft ≡ [] }
     requires keys { keys.now ≡ held_in (config_in p.now) }
     requires planned { IsSomePlan event.now plan.now }
     requires sendable { IsSendable (config_in p.now) event.now }
@@ -86,8 +92,8 @@ pub fn plan_jobs(p: &Persist, keys: &Keys, event: &Event, plan: &Plan) -> Jobs
         → result ≡ jobs_of built_layers past (config_in p.now) event.now (insight_in plan.now.basis) plan.now.answer }
 {
     match event {
-        Event::Net(octets) => heard_jobs(p, keys, octets, plan),
-        Event::Tick(ticks) => passed_jobs(p, keys, *ticks, plan),
+        Event::Net(octets) => heard_jobs(draft, p, keys, octets, plan),
+        Event::Tick(ticks) => passed_jobs(draft, p, keys, *ticks, plan),
         Event::Begin {
             pair,
             dst,
@@ -110,8 +116,16 @@ pub fn plan_jobs(p: &Persist, keys: &Keys, event: &Event, plan: &Plan) -> Jobs
                 aid: *aid,
                 upper: upper.copied(),
             };
-            begin_jobs(p, keys.nets(), &message, &plan.answer)
+            begin_jobs(draft, p, keys.nets(), &message, &plan.answer)
         }
-        _ => own_jobs(p, keys.nets(), keys.apps(), event, false, &plan.answer),
+        _ => own_jobs(
+            draft,
+            p,
+            keys.nets(),
+            keys.apps(),
+            event,
+            false,
+            &plan.answer,
+        ),
     }
 }

@@ -4,8 +4,8 @@
 // Tearing: power that fails within such a call leaves each bit of the range as it was or as it was to be. What it left is
 // stable: it reads the same until the next program or erase.
 // Durability: what a call that returned Ok wrote is there in every image from then on.
-// Counting: a flash counts its faults, and since the last power cycle its program and erase calls, and its read calls. An Ok
-// leaves the count of faults, so no fault is swallowed.
+// Counting: a flash counts its faults, and since the last power cycle its read calls; a steady one its program and erase calls
+// besides. An Ok leaves the count of faults, so no fault is swallowed.
 // So a caller that writes a record with its gate still ff, and clears the gate in a call of its own, finds the record whole
 // or its gate not 00, wherever power failed.
 //
@@ -32,10 +32,17 @@ pub const SECTORS: u32 = 16;
 pub struct FlashFailed;
 
 /// NOR flash of 16 sectors of 4,096 octets. Erased octets are ff, and a program call only clears bits.
+///
+/// For who implements it, the crate's head says clause by clause what an adapter must give.
 pub trait Flash {
+    // What contracts know of the chip.
     ghost chip: { Self → Chip };
 
-    /// Reads `buf.len()` octets from offset `at` on. After an error `buf` may hold anything.
+    /// Reads `buf.len()` octets from offset `at` on. It changes nothing (`stays`), and is counted (`reads`).
+    ///
+    /// # Errors
+    ///
+    /// `FlashFailed` where the chip failed in this call: the count of faults rose (`cause`). `buf` may hold anything then.
     fn read(&mut self, at: u32, buf: &mut [u8]) -> Result<(), FlashFailed>
         requires within { at + length buf.old ≤ FLASH_OCTETS }
 
@@ -50,7 +57,13 @@ pub trait Flash {
         ensures frame { Keeps (chip self.old) (chip self.new) }
         ensures by_arm { IsTrue (chip self.old).steady → ObeysCut (chip self.old) (chip self.new) result };
 
-    /// Programs octets from offset `at` on: each becomes old AND new. The range has at least one octet and lies in one sector.
+    /// Programs octets from offset `at` on: each becomes old AND new (`ok`), and is durable then. The range has at least one octet and lies in
+    /// one sector.
+    ///
+    /// # Errors
+    ///
+    /// `FlashFailed` where the chip failed in this call: the count of faults rose (`cause`). Each bit of the range is old or new then, all
+    /// else as it was (`any_moment`).
     fn program(&mut self, at: u32, bytes: &[u8]) -> Result<(), FlashFailed>
         requires some { 0 < length bytes.now }
         requires within { at + length bytes.now ≤ FLASH_OCTETS }
@@ -67,7 +80,12 @@ pub trait Flash {
         ensures frame { Keeps (chip self.old) (chip self.new) }
         ensures by_arm { IsTrue (chip self.old).steady → ObeysArm (programmed at bytes.now) (chip self.old) (chip self.new) result };
 
-    /// Erases a sector, 0 to 15: each of its octets becomes ff.
+    /// Erases a sector, 0 to 15: each of its octets becomes ff (`ok`), and is durable then.
+    ///
+    /// # Errors
+    ///
+    /// `FlashFailed` where the chip failed in this call: the count of faults rose (`cause`). Each bit of the sector is the old one or 1 then,
+    /// all else as it was (`any_moment`).
     fn erase(&mut self, sector: u32) -> Result<(), FlashFailed>
         requires sector { sector < SECTORS }
 
@@ -98,10 +116,16 @@ pub trait Flash {
     ghost only_now: { (f : Self) (c : List ℕ) → (chip f).since (chip f).moment c → (chip f).images c };
 }
 
-/// A flash on a bench: power can be cut within one of its calls, and given again.
+/// A flash on a bench: power can be cut within one of its calls, and given again. An adapter to a chip whose calls it can't have torn says
+/// that it isn't steady: then an order to tear a call has to be kept (`setting`, `left`), and promises no fault.
 pub trait Bench: Flash + Send + Drop {
-    /// Tears a later call. After `calls` more program and erase calls the next one is torn: of its octets each bit whose
-    /// bit in `mask` is 1 takes its new value, the others stay, and it fails. Every later call fails, until the power cycle.
+    /// Orders that a later call is torn. Of a steady flash, after `calls` more program and erase calls the next one is: of its octets each
+    /// bit whose bit in `mask` is 1 takes its new value, the others stay, and it fails. Every later call fails, until the power cycle
+    /// (`by_arm` of [`Flash`]).
+    ///
+    /// # Asks
+    ///
+    /// No such order was given since the last power cycle.
     fn arm(&mut self, calls: u32, mask: u8)
         requires { (Self.chip self.old).setting.arm ≡ None }
         ensures setting { (Self.chip self.new).setting ≡ record { faults = (Self.chip self.old).setting.faults; arm = Some (record { calls = calls; mask = mask; changes = (Self.chip self.old).changes }) } }
@@ -123,7 +147,8 @@ pub trait Bench: Flash + Send + Drop {
         ensures sure { IsTrue (Self.chip self.old).steady → IsTrue (Self.chip self.new).sure }
         ensures frame { KeepsCount (Self.chip self.old) (Self.chip self.new) };
 
-    /// How many program and erase calls were begun since the last power cycle. Once it is ffffffff it grows no more.
+    /// How many program and erase calls were begun since the last power cycle, of a steady flash (`by_arm` of [`Flash`]). Once it is ffffffff
+    /// it grows no more.
     fn changes(&self) -> u32
         ensures { result ≡ (Self.chip self.now).changes };
 

@@ -7,6 +7,50 @@
 //! - `memory`: [`MemFlash`], a flash in memory, which is proved to be such a chip
 //! - `armed`, `octets`, `past`: which of its calls is torn, writes under a mask, and what it has been through
 //! - `rewriting`: two calls in a row, over any flash
+//!
+//! # What an adapter must give
+//!
+//! An adapter is a type with `impl Flash`: three calls, and a meaning, `chip`, that nobody runs and that says of each of its values what
+//! contracts know of the chip: the octets that are read (`now`), those that a cut at this moment may leave (`images`), or might have left
+//! since an earlier one (`since`), and counts (`Chip` in `specs/Chip.antt`). Each clause is a goal of the adapter's own proof.
+//!
+//! It may count on what callers meet: 65,536 octets (`within`), at least one octet to program (`some`) and all of them in one sector of
+//! 4,096 (`one_sector`), a sector of 0 to 15 (`sector`).
+//!
+//! Of an `honest` flash, which is the premise of every clause on cuts:
+//!
+//! 1. A program call ANDs: after Ok each octet of its range is old AND new, what is read as in every image, and no other octet changed
+//!    (`ok` of `program`; `programmed`, `IsDone`). So it is durable.
+//! 2. An erase sets each bit of its sector and no other (`ok` of `erase`; `erased`).
+//! 3. Either call, at each moment of it and whatever it answers, leaves each bit as it was or as it was to be, in any mixture and not a
+//!    front of the range alone, and all else as it was (`any_moment`; `IsTorn`, `IsCut`). So a call may be made as several of the chip's own,
+//!    page by page.
+//! 4. What is there is stable, also where a cut left it: a read gives it (`value`, asked of every flash) and leaves it (`stays`). After power
+//!    came, what is read is the one image (`IsFresh`): that isn't this trait's, but `power_cycle` of [`Bench`] gives it, and so must what
+//!    makes an adapter. Bits that read right now and wrong later are outside the model.
+//! 5. What is read is one of the images (`reads_image`), and images are 65,536 octets (`content`). An image of now is one of those since each
+//!    earlier moment, and since now there is no other (`counts_now`, `only_now`: of every flash).
+//!
+//! Of every flash, honest or not:
+//!
+//! 6. Any call may fail, as often as it likes; the answer is then `FlashFailed`, and the count of faults rose in that call (`cause`). An Ok
+//!    leaves the count (`no_fault`), and it never falls (`frame`; `Keeps`). It has no top, so a word that stops at one isn't it: [`MemFlash`]
+//!    has it in what contracts alone see (`past`).
+//! 7. Read calls are counted, and no other call counts as one, up to ffffffff (`reads`).
+//! 8. A flash that is `sure` never fails, and one that is `steady` counts its program and erase calls and fails only as an arm says (`sure`,
+//!    `by_arm`). An adapter to a chip says that it is neither, and owes nothing for it but a count that stays below 2^32 (`counted`).
+//!
+//! In words, on a chip whose pages are smaller than a sector, and of which 65,536 octets from `base` on are nobody else's:
+//!
+//! ```text
+//! read(at, buf)       count the read; have the chip send buf.len() octets from base + at on
+//! program(at, bytes)  page by page: enable writing, program, wait until the chip says that it is done
+//! erase(sector)       enable writing, erase the 4,096 octets from base + 4096 * sector on, wait
+//! each of them        Ok only where the chip said at the end that all went well; else a fault more, and FlashFailed
+//! ```
+//!
+//! None is shipped, and none is proved but [`MemFlash`] and the one of `flaw_flash`. A store asks for a [`Flash`] alone, a life of `mesh_node`
+//! for a [`Bench`].
 #![tactic(auto)]
 
 mod armed;

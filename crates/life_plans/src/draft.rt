@@ -11,7 +11,7 @@ ghost use Rattle.std.specs.Option.{option_map};
 use mesh_node::{LifePlan, PlanStep};
 use mesh_types::events::Event;
 use script_definitions::line::{ArmLine, ScriptLine};
-use script_events::{Happening, happening_of};
+use script_events::{Happening, OutsideNode};
 use std::alloc::{AllocError, Global};
 use std::marker::Model;
 
@@ -128,15 +128,20 @@ impl Draft {
         Ok(())
     }
 
-    /// Goes on by a line.
-    pub(crate) fn add(&mut self, alloc: Global, line: &ScriptLine) -> Result<(), AllocError>
+    /// Goes on by a line; the outside node seals what it makes heard.
+    pub(crate) fn add(
+        &mut self,
+        alloc: Global,
+        outside: &mut OutsideNode,
+        line: &ScriptLine,
+    ) -> Result<(), AllocError>
         requires ranges { IsRead line.now }
         ensures ok { OnOk result (self.new ≡ with_line self.old line.now) }
     {
         match line {
             ScriptLine::Sync => self.end_phase(),
             ScriptLine::Arm(line) => self.arm(*line),
-            line => self.go_on(alloc, happening_of(line)),
+            line => self.go_on(alloc, outside.happening_of(line)),
         }
     }
 

@@ -11,10 +11,11 @@ ghost use Rattle.script_events.specs.Happenings.{IsRead};
 use crate::draft::Draft;
 use mesh_node::LifePlan;
 use script_definitions::line::ScriptLine;
+use script_events::OutsideNode;
 use std::alloc::{AllocError, Global};
 
 /// The plan of the lines of one life, as a reader gives them, for eight bearers. `sync` ends a phase, and so does `arm`, which then has a
-/// call torn; `peer`, `talk` and `beacon` are sealed.
+/// call torn; `peer`, `talk` and `beacon` are sealed, by one outside node for the life.
 ///
 /// Of the clauses, `planned` speaks of a life of a node's script with so many elements; `script_law` says that each life of a script that was
 /// read is one, and that its lines are in the ranges that are asked for.
@@ -25,8 +26,9 @@ pub fn plan_of(alloc: Global, lines: &[ScriptLine]) -> Result<LifePlan, AllocErr
     ensures planned { (elements : ℕ) → IsLife G.Node elements lines.now → IfOk result (IsPlanFor elements) }
 {
     let mut draft = Draft::new(alloc);
+    let mut outside = OutsideNode::new();
     for line in lines {
-        draft.add(alloc, line)?;
+        draft.add(alloc, &mut outside, line)?;
     }
     draft.into_plan()
 }

@@ -8,7 +8,7 @@ ghost use Rattle.run_definitions.specs.Jobs.{beacon_jobs};
 
 use mesh_base::iv_state::IvState;
 use mesh_base::keys::NetKeyRow;
-use mesh_types::jobs::{Job, Jobs};
+use mesh_types::jobs::{Job, JobDraft};
 use net_beacon::write;
 use node_records::Persist;
 
@@ -32,7 +32,7 @@ fn own_beacon(s: &IvState, row: &NetKeyRow) -> [u8; 22]
 }
 
 /// Puts the node's beacons behind the others, one for each network key by index, where the Beacon feature is on.
-pub fn push_beacons(jobs: &mut Jobs, p: &Persist)
+pub fn push_beacons(jobs: &mut JobDraft, p: &Persist)
     requires room { length jobs.old + 4 ≤ 160 }
     ensures value { jobs.new ≡ jobs.old ++ beacon_jobs (config_in p.now) }
     ensures few { length jobs.new ≤ length jobs.old + 4 }

@@ -4,10 +4,10 @@
 ghost use Rattle.std.specs.Prelude.{◌≡◌, ◌+◌, ◌<◌, ◌≤◌, ◌++◌, length};
 ghost use Rattle.std.specs.Option.{option_to_list};
 
-use mesh_types::jobs::{Job, Jobs};
+use mesh_types::jobs::{Job, JobDraft};
 
 /// Puts a job behind the others, if it was made.
-pub(crate) fn push_made(jobs: &mut Jobs, job: Option<Job>)
+pub(crate) fn push_made(jobs: &mut JobDraft, job: Option<Job>)
     requires room { length jobs.old < 160 }
     ensures value { jobs.new ≡ jobs.old ++ option_to_list job }
     ensures few { length jobs.new ≤ length jobs.old + 1 }

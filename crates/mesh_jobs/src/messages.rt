@@ -25,7 +25,7 @@ use mesh_base::keys::UpperKey;
 use mesh_base::octets::Octets;
 use mesh_types::answers::Answer;
 use mesh_types::events::{Event, SendKey};
-use mesh_types::jobs::{Job, Jobs};
+use mesh_types::jobs::{Job, JobDraft, Jobs};
 use net_keys::NetKeys;
 use node_records::Persist;
 
@@ -147,9 +147,10 @@ fn own_job(
 
 /// The jobs of an event that asks for one at most: a message or a control PDU that the node is asked to send, where it was answered `planned`;
 /// a beacon heard and octets that were kept ask for none. `befriended` says whether the message goes to an address of a friendship that
-/// stands. `p` is what the records after the event say, and `nets` and `apps` are its keys.
+/// stands. `p` is what the records after the event say, and `nets` and `apps` are its keys. The jobs are made in `draft`, which has none.
 #[tactic(auto, unfolding(run_definitions::specs::Jobs::jobs_of))]
 pub fn own_jobs(
+    mut draft: JobDraft,
     p: &Persist,
     nets: &NetKeys,
     apps: &AppKeys,
@@ -157,6 +158,7 @@ pub fn own_jobs(
     befriended: bool,
     answer: &Answer,
 ) -> Jobs
+    requires empty { draft ≡ [] }
     requires nets { nets.now ≡ p.now.nets }
     requires apps { apps.now ≡ record { apps = p.now.apps; nets = p.now.nets } }
     requires single { IsSingle (config_in p.now) event.now }
@@ -164,26 +166,31 @@ pub fn own_jobs(
         → result ≡ jobs_of layers past (config_in p.now) event.now insight answer.now }
     ensures few { length result ≤ 1 }
 {
-    let mut jobs = Jobs::new();
     if let Answer::Planned = answer {
-        push_made(&mut jobs, own_job(p, nets, apps, event, befriended));
+        push_made(&mut draft, own_job(p, nets, apps, event, befriended));
     }
-    jobs
+    draft.finish()
 }
 
 /// The jobs of an own message that begins, where it was answered `begun`: all of its segments. `p` is what the records after the event say,
-/// and `nets` are its keys.
+/// and `nets` are its keys. The jobs are made in `draft`, which has none.
 #[tactic(auto, unfolding(run_definitions::specs::Jobs::jobs_of))]
-pub fn begin_jobs(p: &Persist, nets: &NetKeys, m: &Outgoing, answer: &Answer) -> Jobs
+pub fn begin_jobs(
+    mut draft: JobDraft,
+    p: &Persist,
+    nets: &NetKeys,
+    m: &Outgoing,
+    answer: &Answer,
+) -> Jobs
+    requires empty { draft ≡ [] }
     requires nets { nets.now ≡ p.now.nets }
     requires outgoing { IsOutgoing m.now }
     ensures value { (layers : Layers) (past : Past) (insight : Insight) →
         result ≡ jobs_of layers past (config_in p.now) (E.Begin m.now.name.pair m.now.dst m.now.name.src m.now.ttl m.now.net m.now.akf m.now.aid m.now.upper) insight answer.now }
     ensures few { length result ≤ 32 }
 {
-    let mut jobs = Jobs::new();
     if let Answer::Begun = answer {
-        push_first_round(&mut jobs, p, nets, m);
+        push_first_round(&mut draft, p, nets, m);
     }
-    jobs
+    draft.finish()
 }

@@ -1,7 +1,7 @@
 //! What a network PDU heard asks for.
 #![tactic(auto)]
 
-ghost use Rattle.std.specs.Prelude.{◌≡◌, ℕ, ◌+◌, ◌-◌, ◌<◌, ◌≤◌, ◌^◌, ◌==◌, ◌&&◌, not, nat_le, ◌++◌, List, Option, Some, IfSome, length};
+ghost use Rattle.std.specs.Prelude.{◌≡◌, ℕ, ◌+◌, ◌-◌, ◌<◌, ◌≤◌, ◌^◌, ◌==◌, ◌&&◌, not, nat_le, [], ◌++◌, List, Option, Some, IfSome, length};
 ghost use Rattle.std.specs.Option.{option_map, option_copied, option_to_list};
 ghost use Rattle.layer_definitions.specs.KeyRefresh.{transmit_material};
 ghost use Rattle.layer_definitions.specs.Lower.{Fits};
@@ -25,7 +25,7 @@ use crate::replies::reply_ttl;
 use mesh_base::fields::NetFields;
 use mesh_base::lower::Lower;
 use mesh_types::answers::Answer;
-use mesh_types::jobs::{Job, Jobs};
+use mesh_types::jobs::{Job, JobDraft, Jobs};
 use net_keys::NetKeys;
 use network_layer::NetReading;
 use node_records::Persist;
@@ -67,7 +67,7 @@ fn relay_job(nets: &NetKeys, r: &NetReading) -> Option<Job>
 
 /// Puts the relay of a PDU behind the others, if it goes on: its own SRC, IV Index and SEQ with one TTL less, where Relay is on, TTL is 2 or
 /// more, and DST isn't an element of this node.
-pub fn push_relay(jobs: &mut Jobs, p: &Persist, nets: &NetKeys, r: &NetReading)
+pub fn push_relay(jobs: &mut JobDraft, p: &Persist, nets: &NetKeys, r: &NetReading)
     requires room { length jobs.old < 160 }
     requires nets { nets.now ≡ p.now.nets }
     ensures value { jobs.new ≡ jobs.old ++ relay_jobs (config_in p.now) (reading_of r.now) }
@@ -136,7 +136,7 @@ fn ack_job(p: &Persist, nets: &NetKeys, r: &NetReading, seq_zero: u16, block: u3
 /// Puts the acknowledgment of a segment behind the others, if its answer asks for one: it went to one element, and its message is through or
 /// found no room. `low` is what the transport PDU of `r` reads as; its fields are within their widths.
 pub fn push_ack(
-    jobs: &mut Jobs,
+    jobs: &mut JobDraft,
     p: &Persist,
     nets: &NetKeys,
     r: &NetReading,
@@ -177,7 +177,7 @@ fn is_before_cache(answer: &Answer) -> bool
 
 // Puts the acknowledgment of what was read behind the others, if there is one.
 fn push_heard_ack(
-    jobs: &mut Jobs,
+    jobs: &mut JobDraft,
     p: &Persist,
     nets: &NetKeys,
     r: &NetReading,
@@ -197,9 +197,10 @@ fn push_heard_ack(
 
 /// The jobs of a network PDU heard: it goes on, it is acknowledged, and where a Key Refresh phase isn't what it was the node's beacons
 /// follow. `reading` and `low` are what its octets read as, and `low` is within its widths. `p` is what the records after the event say,
-/// `nets` are its keys, and `before` the phases before the event.
+/// `nets` are its keys, and `before` the phases before the event. The jobs are made in `draft`, which has none.
 #[tactic(auto, unfolding(node_layers::specs::BuiltLayers::built_layers, run_definitions::specs::Jobs::jobs_of))]
 pub fn pdu_jobs(
+    mut draft: JobDraft,
     p: &Persist,
     nets: &NetKeys,
     before: &Phases,
@@ -207,21 +208,21 @@ pub fn pdu_jobs(
     low: Option<&Lower>,
     answer: &Answer,
 ) -> Jobs
+    requires empty { draft ≡ [] }
     requires nets { nets.now ≡ p.now.nets }
     requires fits { IfSome low (λ l. Fits l.now) }
     ensures value { (past : Past) (octets : List ℕ) (opening : Option Opening) → before.now ≡ phases_of (config_before past).nets
         → result ≡ jobs_of built_layers past (config_in p.now) (E.Net octets) (insight_of (option_copied reading.entry) (option_copied low.entry) opening) answer.now }
     ensures few { length result ≤ 6 }
 {
-    let mut jobs = Jobs::new();
     let Some(r) = reading else {
-        return jobs;
+        return draft.finish();
     };
     if is_before_cache(answer) {
-        return jobs;
+        return draft.finish();
     }
-    push_relay(&mut jobs, p, nets, r);
-    push_heard_ack(&mut jobs, p, nets, r, low, answer);
-    push_refresh(&mut jobs, p, before);
-    jobs
+    push_relay(&mut draft, p, nets, r);
+    push_heard_ack(&mut draft, p, nets, r, low, answer);
+    push_refresh(&mut draft, p, before);
+    draft.finish()
 }

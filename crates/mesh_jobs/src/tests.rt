@@ -19,10 +19,12 @@ use mesh_base::pair::{Name, Pair};
 use mesh_base::table::Table;
 use mesh_types::answers::{Answer, KeyName};
 use mesh_types::events::{Event, SendKey};
-use mesh_types::jobs::{Job, Jobs};
+use mesh_types::jobs::{Job, JobDraft, Jobs};
 use net_keys::NetKeys;
 use network_layer::NetReading;
 use node_records::Persist;
+use std::alloc::{AllocError, Global};
+use std::test::Fail;
 
 // The network key, the IV Index and the application key of the Mesh Profile's sample data, section 8.2.
 const NET_KEY: [u8; 16] = [
@@ -157,11 +159,19 @@ fn reading(ctl: bool, ttl: u8, src: u16, dst: Address, tpdu: &[u8]) -> NetReadin
     }
 }
 
-fn heard(n: &Node, before: &Phases, r: &NetReading, answer: &Answer) -> Jobs {
-    match lower_transport::read(r.fields.ctl, r.fields.tpdu.as_slice()) {
-        Ok(low) => pdu_jobs(&n.p, &n.nets, before, Some(r), Some(&low), answer),
-        Err(_) => pdu_jobs(&n.p, &n.nets, before, Some(r), None, answer),
-    }
+fn heard(
+    alloc: Global,
+    n: &Node,
+    before: &Phases,
+    r: &NetReading,
+    answer: &Answer,
+) -> Result<Jobs, AllocError> {
+    let draft = JobDraft::new(alloc)?;
+    let jobs = match lower_transport::read(r.fields.ctl, r.fields.tpdu.as_slice()) {
+        Ok(low) => pdu_jobs(draft, &n.p, &n.nets, before, Some(r), Some(&low), answer),
+        Err(_) => pdu_jobs(draft, &n.p, &n.nets, before, Some(r), None, answer),
+    };
+    Ok(jobs)
 }
 
 fn is_only(jobs: &Jobs, job: &Job) -> bool {
@@ -184,16 +194,18 @@ fn control(ttl: u8, dst: Address, tpdu: &[u8]) -> Job {
 
 // A PDU goes on with one TTL less: TTL 2, 1 and 0, to an element of the node, with Relay off, and by an answer before the message cache.
 #[test]
-fn relays(rt: HostRuntime) {
+fn relays(rt: HostRuntime) -> Result<(), Fail> {
+    let alloc = rt.alloc();
     let n = plain();
     let before = held_phases(&n.p);
     let far = Address(0x0009);
     let on = heard(
+        alloc,
         &n,
         &before,
         &reading(true, 2, 5, far, &[0x7f]),
         &Answer::NotMine,
-    );
+    )?;
     let lowered = reading(true, 1, 5, far, &[0x7f]);
     let relay = Job::Relay {
         material: material(),
@@ -207,20 +219,36 @@ fn relays(rt: HostRuntime) {
         (2, far, Answer::Own),
         (2, far, Answer::Reset),
     ] {
-        let jobs = heard(&n, &before, &reading(true, ttl, 5, dst, &[0x7f]), &answer);
+        let jobs = heard(
+            alloc,
+            &n,
+            &before,
+            &reading(true, ttl, 5, dst, &[0x7f]),
+            &answer,
+        )?;
         assert!(rt; jobs.is_empty(), "{ttl}");
     }
     let mut off = plain();
     off.p.relay = 0;
     let jobs = heard(
+        alloc,
         &off,
         &before,
         &reading(true, 2, 5, far, &[0x7f]),
         &Answer::NotMine,
-    );
+    )?;
     assert!(rt; jobs.is_empty(), "off");
-    let none = pdu_jobs(&n.p, &n.nets, &before, None, None, &Answer::Unread);
+    let none = pdu_jobs(
+        JobDraft::new(alloc)?,
+        &n.p,
+        &n.nets,
+        &before,
+        None,
+        None,
+        &Answer::Unread,
+    );
     assert!(rt; none.is_empty());
+    Ok(())
 }
 
 fn name(seq: u32) -> Name {
@@ -233,7 +261,8 @@ fn name(seq: u32) -> Name {
 // The last segment of the sample's message, and the last of 32: what acknowledges them, to one element alone, with TTL 0 where they were
 // heard with 0.
 #[test]
-fn acknowledges(rt: HostRuntime) {
+fn acknowledges(rt: HostRuntime) -> Result<(), Fail> {
+    let alloc = rt.alloc();
     let n = plain();
     let before = held_phases(&n.p);
     let last = [
@@ -248,52 +277,70 @@ fn acknowledges(rt: HostRuntime) {
     };
     let all = [0x00, 0x26, 0xac, 0x00, 0x00, 0x00, 0x03];
     for answer in [delivered, Answer::Again, Answer::NoKey] {
-        let jobs = heard(&n, &before, &reading(false, 4, 3, ELEMENT, &last), &answer);
+        let jobs = heard(
+            alloc,
+            &n,
+            &before,
+            &reading(false, 4, 3, ELEMENT, &last),
+            &answer,
+        )?;
         assert!(rt; is_only(&jobs, &control(7, PEER, &all)));
     }
     let jobs = heard(
+        alloc,
         &n,
         &before,
         &reading(false, 0, 3, ELEMENT, &last),
         &Answer::Again,
-    );
+    )?;
     assert!(rt; is_only(&jobs, &control(0, PEER, &all)), "TTL 0");
     let waiting = Answer::Waiting { missing: 1 };
-    let jobs = heard(&n, &before, &reading(false, 4, 3, ELEMENT, &last), &waiting);
+    let jobs = heard(
+        alloc,
+        &n,
+        &before,
+        &reading(false, 4, 3, ELEMENT, &last),
+        &waiting,
+    )?;
     assert!(rt; jobs.is_empty(), "waiting");
     let jobs = heard(
+        alloc,
         &n,
         &before,
         &reading(false, 1, 3, Address(0xc000), &last),
         &Answer::NoKey,
-    );
+    )?;
     assert!(rt; jobs.is_empty(), "group");
     let long = [0x80, 0x00, 0x07, 0xff, 0x7f];
     let jobs = heard(
+        alloc,
         &n,
         &before,
         &reading(false, 4, 3, ELEMENT, &long),
         &Answer::NoKey,
-    );
+    )?;
     let all = [0x00, 0x00, 0x04, 0xff, 0xff, 0xff, 0xff];
     assert!(rt; is_only(&jobs, &control(7, PEER, &all)), "32 pieces");
     let first = [0x80, 0, 0, 1, 0, 0, 0, 0, 0, 0, 0, 0, 0, 0, 0, 0];
     let full = Answer::NoRoom { held: [name(0); 8] };
     let jobs = heard(
+        alloc,
         &n,
         &before,
         &reading(false, 4, 0x109, ELEMENT, &first),
         &full,
-    );
+    )?;
     assert!(rt;
         is_only(&jobs, &control(7, Address(0x109), &[0; 7])),
         "no room"
     );
+    Ok(())
 }
 
 // The node's beacons after a change of phase: under the new key with flag 1 in phase 2.
 #[test]
-fn refreshes(rt: HostRuntime) {
+fn refreshes(rt: HostRuntime) -> Result<(), Fail> {
+    let alloc = rt.alloc();
     let mut before = Phases::new();
     let _ = before.push(KeyPhase { index: 0, phase: 1 });
     let r = reading(true, 4, 3, ELEMENT, &[0x7f]);
@@ -304,31 +351,46 @@ fn refreshes(rt: HostRuntime) {
         params: Octets::new(),
     };
     let n = node_in(2, Some(OTHER_KEY), IV, false);
-    let jobs = heard(&n, &before, &r, &accepted);
+    let jobs = heard(alloc, &n, &before, &r, &accepted)?;
     assert!(rt; is_only(&jobs, &Job::Beacon(NEW_BEACON)));
     let n = plain();
-    assert!(rt; is_only(&heard(&n, &before, &r, &accepted), &Job::Beacon(BEACON)));
-    assert!(rt; heard(&n, &held_phases(&n.p), &r, &accepted).is_empty());
     assert!(rt;
-        heard(&n, &Phases::new(), &r, &accepted).is_empty(),
+        is_only(
+            &heard(alloc, &n, &before, &r, &accepted)?,
+            &Job::Beacon(BEACON)
+        )
+    );
+    assert!(rt; heard(alloc, &n, &held_phases(&n.p), &r, &accepted)?.is_empty());
+    assert!(rt;
+        heard(alloc, &n, &Phases::new(), &r, &accepted)?.is_empty(),
         "a key that came"
     );
+    Ok(())
 }
 
-fn ticked(n: &Node, acks: &AckList, from: u64, to: u64, iv: IvState) -> Jobs {
-    tick_jobs(
+fn ticked(
+    alloc: Global,
+    n: &Node,
+    acks: &AckList,
+    from: u64,
+    to: u64,
+    iv: IvState,
+) -> Result<Jobs, AllocError> {
+    Ok(tick_jobs(
+        JobDraft::new(alloc)?,
         &n.p,
         &n.nets,
         acks,
         &[],
         &Span { from, to, iv },
         &Answer::Ticked { now: to },
-    )
+    ))
 }
 
 // An acknowledgment of the first of two pieces, before the beacon; and when beacons are due.
 #[test]
-fn ticks(rt: HostRuntime) {
+fn ticks(rt: HostRuntime) -> Result<(), Fail> {
+    let alloc = rt.alloc();
     let n = plain();
     let iv = n.p.iv;
     let mut acks = AckList::new();
@@ -340,9 +402,9 @@ fn ticks(rt: HostRuntime) {
         block: 1,
     });
     let ack = control(7, PEER, &[0x00, 0x26, 0xac, 0x00, 0x00, 0x00, 0x01]);
-    assert!(rt; is_only(&ticked(&n, &acks, 0, 999, iv), &ack.copied()));
+    assert!(rt; is_only(&ticked(alloc, &n, &acks, 0, 999, iv)?, &ack.copied()));
     let both = [ack, Job::Beacon(BEACON)];
-    assert!(rt; ticked(&n, &acks, 0, 1000, iv).as_slice() == both.as_slice());
+    assert!(rt; ticked(alloc, &n, &acks, 0, 1000, iv)?.as_slice() == both.as_slice());
     let none = AckList::new();
     for (from, to, due) in [
         (0, 0, false),
@@ -351,25 +413,41 @@ fn ticks(rt: HostRuntime) {
         (1, 5000, true),
     ] {
         assert!(rt;
-            !ticked(&n, &none, from, to, iv).is_empty() == due,
+            !ticked(alloc, &n, &none, from, to, iv)?.is_empty() == due,
             "{from} {to}"
         );
     }
     let n = node_in(0, None, IV + 1, true);
-    assert!(rt; is_only(&ticked(&n, &none, 1, 2, iv), &Job::Beacon(NEXT_BEACON)));
+    assert!(rt;
+        is_only(
+            &ticked(alloc, &n, &none, 1, 2, iv)?,
+            &Job::Beacon(NEXT_BEACON)
+        )
+    );
     let n = node_in(0, None, IV, true);
-    assert!(rt; ticked(&n, &none, 1, 2, iv).len() == 1);
+    assert!(rt; ticked(alloc, &n, &none, 1, 2, iv)?.len() == 1);
     let span = Span {
         from: 0,
         to: 1000,
         iv,
     };
-    assert!(rt; tick_jobs(&n.p, &n.nets, &acks, &[], &span, &Answer::Reset).is_empty());
+    let draft = JobDraft::new(alloc)?;
+    let reset = tick_jobs(draft, &n.p, &n.nets, &acks, &[], &span, &Answer::Reset);
+    assert!(rt; reset.is_empty());
+    Ok(())
 }
 
-fn asked(n: &Node, element: u8, key: SendKey, payload: &[u8], befriended: bool) -> Jobs {
+fn asked(
+    alloc: Global,
+    n: &Node,
+    element: u8,
+    key: SendKey,
+    payload: &[u8],
+    befriended: bool,
+) -> Result<Jobs, AllocError> {
+    let draft = JobDraft::new(alloc)?;
     if u32::from(n.p.unicast.0) + u32::from(element) > 0xffff {
-        return Jobs::new();
+        return Ok(draft.finish());
     }
     let event = Event::Send {
         element,
@@ -378,7 +456,15 @@ fn asked(n: &Node, element: u8, key: SendKey, payload: &[u8], befriended: bool) 
         key,
         payload: octets(payload),
     };
-    own_jobs(&n.p, &n.nets, &n.apps, &event, befriended, &Answer::Planned)
+    Ok(own_jobs(
+        draft,
+        &n.p,
+        &n.nets,
+        &n.apps,
+        &event,
+        befriended,
+        &Answer::Planned,
+    ))
 }
 
 fn sent(key: UpperKey, src: u16) -> Job {
@@ -394,7 +480,8 @@ fn sent(key: UpperKey, src: u16) -> Job {
 
 // A control PDU, and access messages under each kind of key; one of 11 octets to an address of a friendship is stored.
 #[test]
-fn own_messages(rt: HostRuntime) {
+fn own_messages(rt: HostRuntime) -> Result<(), Fail> {
+    let alloc = rt.alloc();
     let n = plain();
     let tpdu = [
         0x03, 0x4b, 0x50, 0x05, 0x7e, 0x40, 0x00, 0x00, 0x01, 0x00, 0x00,
@@ -404,24 +491,55 @@ fn own_messages(rt: HostRuntime) {
         ttl: 0,
         tpdu: octets(&tpdu),
     };
-    let jobs = own_jobs(&n.p, &n.nets, &n.apps, &raw, false, &Answer::Planned);
+    let jobs = own_jobs(
+        JobDraft::new(alloc)?,
+        &n.p,
+        &n.nets,
+        &n.apps,
+        &raw,
+        false,
+        &Answer::Planned,
+    );
     assert!(rt; is_only(&jobs, &control(0, Address(0xfffd), &tpdu)));
-    assert!(rt; own_jobs(&n.p, &n.nets, &n.apps, &raw, false, &Answer::Reset).is_empty());
+    assert!(rt;
+        own_jobs(
+            JobDraft::new(alloc)?,
+            &n.p,
+            &n.nets,
+            &n.apps,
+            &raw,
+            false,
+            &Answer::Reset
+        )
+        .is_empty()
+    );
     let beacon = Event::Bcn(octets(&BEACON));
-    assert!(rt; own_jobs(&n.p, &n.nets, &n.apps, &beacon, false, &Answer::Unread).is_empty());
-    let own = asked(&n, 0, SendKey::Own, &[0x7f; 12], false);
+    assert!(rt;
+        own_jobs(
+            JobDraft::new(alloc)?,
+            &n.p,
+            &n.nets,
+            &n.apps,
+            &beacon,
+            false,
+            &Answer::Unread
+        )
+        .is_empty()
+    );
+    let own = asked(alloc, &n, 0, SendKey::Own, &[0x7f; 12], false)?;
     assert!(rt; is_only(&own, &sent(UpperKey::Device(DEV_KEY), 0x1201)));
-    let other = asked(&n, 1, SendKey::Other([1; 16]), &[0x7f], false);
+    let other = asked(alloc, &n, 1, SendKey::Other([1; 16]), &[0x7f], false)?;
     assert!(rt; is_only(&other, &sent(UpperKey::Device([1; 16]), 0x1202)));
     let app = UpperKey::App {
         index: 0x123,
         aid: 0x26,
         key: APP_KEY,
     };
-    let jobs = asked(&n, 0, SendKey::App(0x123), &[0x7f; 12], true);
+    let jobs = asked(alloc, &n, 0, SendKey::App(0x123), &[0x7f; 12], true)?;
     assert!(rt; is_only(&jobs, &sent(app, 0x1201)), "12 octets");
-    assert!(rt; asked(&n, 0, SendKey::App(0x123), &[0x7f; 11], true).is_empty());
-    assert!(rt; asked(&n, 0, SendKey::App(5), &[0x7f], false).is_empty());
+    assert!(rt; asked(alloc, &n, 0, SendKey::App(0x123), &[0x7f; 11], true)?.is_empty());
+    assert!(rt; asked(alloc, &n, 0, SendKey::App(5), &[0x7f], false)?.is_empty());
+    Ok(())
 }
 
 // A message of 16 octets under the device key.
@@ -464,7 +582,8 @@ fn segment(seg_o: u8, tpdu: &[u8], first: bool) -> Job {
 
 // Two segments, of which the first goes under the pair of SeqAuth; and none by another answer.
 #[test]
-fn begins(rt: HostRuntime) {
+fn begins(rt: HostRuntime) -> Result<(), Fail> {
+    let alloc = rt.alloc();
     let n = plain();
     let m = message();
     let first = [
@@ -472,9 +591,19 @@ fn begins(rt: HostRuntime) {
     ];
     let second = [0x80, 0x00, 0x04, 0x21, 13, 14, 15, 16];
     let both = [segment(0, &first, true), segment(1, &second, false)];
-    let jobs = begin_jobs(&n.p, &n.nets, &m, &Answer::Begun);
+    let jobs = begin_jobs(JobDraft::new(alloc)?, &n.p, &n.nets, &m, &Answer::Begun);
     assert!(rt; jobs.as_slice() == both.as_slice());
-    assert!(rt; begin_jobs(&n.p, &n.nets, &m, &Answer::Befriended).is_empty());
+    assert!(rt;
+        begin_jobs(
+            JobDraft::new(alloc)?,
+            &n.p,
+            &n.nets,
+            &m,
+            &Answer::Befriended
+        )
+        .is_empty()
+    );
+    Ok(())
 }
 
 // The first piece.
@@ -498,31 +627,34 @@ fn held(dst: Address, rounds: u8) -> Sending
     }
 }
 
-fn round(n: &Node, now: u64, dst: Address, rounds: u8) -> Jobs {
-    let mut jobs = Jobs::new();
-    push_rounds(&mut jobs, &n.p, &n.nets, now, &[held(dst, rounds)]);
-    jobs
+fn round(alloc: Global, n: &Node, now: u64, dst: Address, rounds: u8) -> Result<Jobs, AllocError> {
+    let mut draft = JobDraft::new(alloc)?;
+    push_rounds(&mut draft, &n.p, &n.nets, now, &[held(dst, rounds)]);
+    Ok(draft.finish())
 }
 
 // A round that is due: to one element what isn't acknowledged, to a group all, each segment under a pair of its own; none too early, and
 // none after the last.
 #[test]
-fn rounds(rt: HostRuntime) {
+fn rounds(rt: HostRuntime) -> Result<(), Fail> {
+    let alloc = rt.alloc();
     let n = plain();
     let octets = [
         0x80, 0x00, 0x04, 0x01, 1, 2, 3, 4, 5, 6, 7, 8, 9, 10, 11, 12,
     ];
     let first = segment(0, &octets, false);
-    assert!(rt; is_only(&round(&n, 55, PEER, 3), &first));
-    assert!(rt; round(&n, 54, PEER, 3).is_empty());
-    assert!(rt; round(&n, 55, PEER, 4).is_empty());
-    assert!(rt; round(&n, 55, Address(0xc000), 2).len() == 2);
-    assert!(rt; round(&n, 55, Address(0xc000), 3).is_empty());
+    assert!(rt; is_only(&round(alloc, &n, 55, PEER, 3)?, &first));
+    assert!(rt; round(alloc, &n, 54, PEER, 3)?.is_empty());
+    assert!(rt; round(alloc, &n, 55, PEER, 4)?.is_empty());
+    assert!(rt; round(alloc, &n, 55, Address(0xc000), 2)?.len() == 2);
+    assert!(rt; round(alloc, &n, 55, Address(0xc000), 3)?.is_empty());
+    Ok(())
 }
 
 // At a tick the acknowledgment goes first, then the round, and then the beacon.
 #[test]
-fn ticks_with_a_round(rt: HostRuntime) {
+fn ticks_with_a_round(rt: HostRuntime) -> Result<(), Fail> {
+    let alloc = rt.alloc();
     let n = plain();
     let mut acks = AckList::new();
     let _ = acks.push(DueAck {
@@ -546,6 +678,15 @@ fn ticks_with_a_round(rt: HostRuntime) {
         iv: n.p.iv,
     };
     let told = Answer::Ticked { now: 1000 };
-    let jobs = tick_jobs(&n.p, &n.nets, &acks, &[held(PEER, 1)], &span, &told);
+    let jobs = tick_jobs(
+        JobDraft::new(alloc)?,
+        &n.p,
+        &n.nets,
+        &acks,
+        &[held(PEER, 1)],
+        &span,
+        &told,
+    );
     assert!(rt; jobs.as_slice() == all.as_slice());
+    Ok(())
 }

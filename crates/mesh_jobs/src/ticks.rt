@@ -24,7 +24,7 @@ use layer_states::reassembly::{AckList, DueAck};
 use layer_states::sending::Sending;
 use mesh_base::iv_state::IvState;
 use mesh_types::answers::Answer;
-use mesh_types::jobs::{Job, Jobs};
+use mesh_types::jobs::{Job, JobDraft, Jobs};
 use net_keys::NetKeys;
 use node_records::Persist;
 
@@ -60,7 +60,7 @@ fn due_job(p: &Persist, nets: &NetKeys, a: &DueAck) -> Option<Job>
 }
 
 /// Puts the acknowledgments that are due behind the others, in their order.
-pub fn push_acks(jobs: &mut Jobs, p: &Persist, nets: &NetKeys, acks: &AckList)
+pub fn push_acks(jobs: &mut JobDraft, p: &Persist, nets: &NetKeys, acks: &AckList)
     requires room { length jobs.old + 8 ≤ 160 }
     requires nets { nets.now ≡ p.now.nets }
     ensures value { jobs.new ≡ jobs.old ++ flat_map (due_jobs (config_in p.now)) acks.now }
@@ -86,7 +86,7 @@ fn is_beacon_due(span: &Span, iv: &IvState) -> bool
 }
 
 /// Puts the node's beacons behind the others where a multiple of 1000 ticks was passed or the IV state changed.
-pub fn push_beacons_due(jobs: &mut Jobs, p: &Persist, span: &Span)
+pub fn push_beacons_due(jobs: &mut JobDraft, p: &Persist, span: &Span)
     requires room { length jobs.old + 4 ≤ 160 }
     ensures value { (past : Past) (ticks : ℕ) → IsSpan past ticks span.now → jobs.new ≡ jobs.old ++ beacons_due past (config_in p.now) ticks }
     ensures few { length jobs.new ≤ length jobs.old + 4 }
@@ -98,9 +98,10 @@ pub fn push_beacons_due(jobs: &mut Jobs, p: &Persist, span: &Span)
 
 /// The jobs of a tick event: the acknowledgments that are due, the rounds of own messages, and then the node's beacons, if they are due. `rounds`
 /// are the messages that send one, as they are before the time is counted. `p` is what the records after the event say, and `nets` are its
-/// keys.
+/// keys. The jobs are made in `draft`, which has none.
 #[tactic(auto, unfolding(node_layers::specs::BuiltLayers::built_layers, run_definitions::specs::Jobs::jobs_of))]
 pub fn tick_jobs(
+    mut draft: JobDraft,
     p: &Persist,
     nets: &NetKeys,
     acks: &AckList,
@@ -108,6 +109,7 @@ pub fn tick_jobs(
     span: &Span,
     answer: &Answer,
 ) -> Jobs
+    requires empty { draft ≡ [] }
     requires nets { nets.now ≡ p.now.nets }
     requires few { length rounds.now ≤ 4 }
     requires held { All IsHeldWell rounds.now }
@@ -116,12 +118,11 @@ pub fn tick_jobs(
         → result ≡ jobs_of built_layers past (config_in p.now) (E.Tick ticks) insight answer.now }
     ensures few { length result ≤ 140 }
 {
-    let mut jobs = Jobs::new();
     let Answer::Ticked { .. } = answer else {
-        return jobs;
+        return draft.finish();
     };
-    push_acks(&mut jobs, p, nets, acks);
-    push_rounds(&mut jobs, p, nets, span.to, rounds);
-    push_beacons_due(&mut jobs, p, span);
-    jobs
+    push_acks(&mut draft, p, nets, acks);
+    push_rounds(&mut draft, p, nets, span.to, rounds);
+    push_beacons_due(&mut draft, p, span);
+    draft.finish()
 }

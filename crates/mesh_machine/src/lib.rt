@@ -1,9 +1,9 @@
 //! The machine of a node: it handles one event after another over its flash.
 //!
-//! Each event goes one way: room for its entry is taken, and its plan is made from the tables in memory and what the store says; then its
-//! records are put, in their order; then its jobs are made, over the store as it is now; and then its entry is appended. What can fail for want
-//! of memory comes first, so after it nothing changed; what fails at the flash closes the machine. So nothing is answered before what it
-//! stores is durable.
+//! Each event goes one way: room for its entry and its jobs is taken, and its plan is made from the tables in memory and what the store says;
+//! then its records are put, in their order; then its jobs are made, over the store as it is now; and then its entry is appended. What can fail
+//! for want of memory comes first, so after it nothing changed; what fails at the flash closes the machine. So nothing is answered before what
+//! it stores is durable.
 //!
 //! - `machine`: [`MeshMachine`], its calls
 //! - `entering`: what a call does apart from the flash

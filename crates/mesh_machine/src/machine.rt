@@ -91,16 +91,16 @@ impl MeshMachine {
         node_law();
         held_keys_law();
         event_law();
-        let plan = match prepare(
+        let prepared = match prepare(
             &mut self.history,
             &mut self.tables,
             self.reserve.store.persist(),
             event,
         ) {
-            Ok(plan) => plan,
+            Ok(prepared) => prepared,
             Err(_) => return Err(Stop::Memory),
         };
-        match store_records(&mut self.reserve, n, flash, &plan.records) {
+        match store_records(&mut self.reserve, n, flash, &prepared.plan.records) {
             Ok(()) => {}
             Err(_) => {
                 self.closed = true;
@@ -109,13 +109,13 @@ impl MeshMachine {
             }
         }
         let p = self.reserve.store.persist();
-        renew(&mut self.tables, p, plan.records.as_slice());
+        renew(&mut self.tables, p, prepared.plan.records.as_slice());
         let place = Place {
             bearer,
             number,
             fills: self.fills,
         };
-        let answered = enter(&mut self.history, &self.tables, p, place, event, plan);
+        let answered = enter(&mut self.history, &self.tables, p, place, event, prepared);
         self.fills = 0;
         Ok(answered)
     }

@@ -7,8 +7,8 @@ use crate::jobs::Jobs;
 use crate::lines::Outcome;
 use std::mem::size_of;
 
-// A life keeps up to 8,192 entries, which thus stay below 10,000,000 octets beside their jobs.
-const _: () = prove!(size_of::<Entry>() <= 1_200);
+// A life keeps up to 8,192 entries, which thus take at most 7,372,800 octets beside their jobs.
+const _: () = prove!(size_of::<Entry>() <= 900);
 
 /// An event that was handled under the node's lock.
 #[derive(Debug, Drop)]

@@ -23,7 +23,7 @@ use mesh_base::address::Address;
 use mesh_base::control::{Clear, ControlMsg, Update};
 use mesh_base::fields::{NetFields, NetMaterial};
 use mesh_base::octets::Octets;
-use mesh_types::jobs::{Job, Jobs};
+use mesh_types::jobs::{Job, JobDraft};
 use net_keys::NetKeys;
 use network_layer::NetReading;
 use node_records::Persist;
@@ -65,7 +65,7 @@ fn own_control(
 // Puts a control message behind the others, under the master credentials of the network key that another message was heard with, if that is
 // held.
 fn push_under(
-    jobs: &mut Jobs,
+    jobs: &mut JobDraft,
     p: &Persist,
     nets: &NetKeys,
     r: &NetReading,
@@ -160,7 +160,7 @@ fn message_job(r: &NetReading, fsn: bool, m: &OwnShort) -> Job
 }
 
 // Puts the answer to a Poll behind the others: it goes under the friendship credentials by which the Poll was heard.
-fn push_answer(jobs: &mut Jobs, p: &Persist, r: &NetReading, fsn: bool, answer: &PollAnswer)
+fn push_answer(jobs: &mut JobDraft, p: &Persist, r: &NetReading, fsn: bool, answer: &PollAnswer)
     requires room { length jobs.old < 160 }
     ensures value { jobs.new ≡ jobs.old ++ answer_jobs (config_in p.now) (reading_of r.now) fsn answer.now }
     ensures few { length jobs.new ≤ length jobs.old + 1 }
@@ -179,7 +179,7 @@ fn push_answer(jobs: &mut Jobs, p: &Persist, r: &NetReading, fsn: bool, answer: 
 
 // Puts the Friend Clear to the Friend node before this one behind the others, if it is to be told.
 fn push_clear(
-    jobs: &mut Jobs,
+    jobs: &mut JobDraft,
     p: &Persist,
     nets: &NetKeys,
     r: &NetReading,
@@ -200,7 +200,7 @@ fn push_clear(
 }
 
 // Puts what an act asks for behind the others.
-fn push_act(jobs: &mut Jobs, p: &Persist, nets: &NetKeys, r: &NetReading, act: &FriendAct)
+fn push_act(jobs: &mut JobDraft, p: &Persist, nets: &NetKeys, r: &NetReading, act: &FriendAct)
     requires room { length jobs.old + 2 ≤ 160 }
     requires nets { nets.now ≡ p.now.nets }
     ensures value { jobs.new ≡ jobs.old ++ jobs_of_act (config_in p.now) (reading_of r.now) act.now }
@@ -232,7 +232,7 @@ fn push_act(jobs: &mut Jobs, p: &Persist, nets: &NetKeys, r: &NetReading, act: &
 /// Clear to the Friend node before this one, or a confirmation. `p` is what the records after the event say, `nets` are its keys, and `r` is how
 /// the message was heard.
 pub fn push_friend_jobs(
-    jobs: &mut Jobs,
+    jobs: &mut JobDraft,
     p: &Persist,
     nets: &NetKeys,
     r: &NetReading,

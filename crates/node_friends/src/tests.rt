@@ -11,10 +11,12 @@ use mesh_base::keys::{NetKeyRow, UpperKey};
 use mesh_base::octets::Octets;
 use mesh_base::pair::{Name, Pair};
 use mesh_base::table::Table;
-use mesh_types::jobs::{Job, Jobs};
+use mesh_types::jobs::{Job, JobDraft, Jobs};
 use net_keys::NetKeys;
 use network_layer::NetReading;
 use node_records::Persist;
+use std::alloc::{AllocError, Global};
+use std::test::Fail;
 use upper_transport::read_control;
 
 // The network key and the IV Index of the Mesh Profile's sample data, section 8.2.
@@ -147,28 +149,45 @@ fn heard(by: Option<(Address, NetMaterial)>, fields: NetFields) -> NetReading {
 }
 
 // What the control message of a PDU heard asks to be sent.
-fn answered(friends: &mut NodeFriends, node: &Node, now: u32, r: &NetReading) -> Jobs {
-    let mut jobs = Jobs::new();
+fn answered(
+    alloc: Global,
+    friends: &mut NodeFriends,
+    node: &Node,
+    now: u32,
+    r: &NetReading,
+) -> Result<Jobs, AllocError> {
+    let mut draft = JobDraft::new(alloc)?;
     if let [opcode, params @ ..] = r.fields.tpdu.as_slice() {
         let m = read_control(*opcode, params);
         if r.by.material.nid < 0x80 {
             let act = friends.control(&node.p, u64::from(now), r, &m);
-            push_friend_jobs(&mut jobs, &node.p, &node.nets, r, &act);
+            push_friend_jobs(&mut draft, &node.p, &node.nets, r, &act);
         }
     }
-    jobs
+    Ok(draft.finish())
 }
 
 // A Friend Request of a Low Power node at time 0.
-fn request(friends: &mut NodeFriends, node: &Node, lpn: Address, tpdu: &[u8]) -> Jobs {
+fn request(
+    alloc: Global,
+    friends: &mut NodeFriends,
+    node: &Node,
+    lpn: Address,
+    tpdu: &[u8],
+) -> Result<Jobs, AllocError> {
     let r = heard(None, fields(true, 0, lpn, ALL_FRIENDS, tpdu));
-    answered(friends, node, 0, &r)
+    answered(alloc, friends, node, 0, &r)
 }
 
 // A control message of the Low Power node 0201 under its credentials, at time 0.
-fn from_first(friends: &mut NodeFriends, node: &Node, tpdu: &[u8]) -> Jobs {
+fn from_first(
+    alloc: Global,
+    friends: &mut NodeFriends,
+    node: &Node,
+    tpdu: &[u8],
+) -> Result<Jobs, AllocError> {
     let r = heard(Some((FIRST, first())), fields(true, 0, FIRST, OWN, tpdu));
-    answered(friends, node, 0, &r)
+    answered(alloc, friends, node, 0, &r)
 }
 
 fn control(
@@ -196,11 +215,11 @@ fn is_only(jobs: &Jobs, job: &Job) -> bool {
 }
 
 // A node with the friendship of 0201, whose first Poll had FSN 0.
-fn befriended(node: &Node) -> NodeFriends {
+fn befriended(alloc: Global, node: &Node) -> Result<NodeFriends, AllocError> {
     let mut friends = NodeFriends::new();
-    let _ = request(&mut friends, node, FIRST, &REQUEST);
-    let _ = from_first(&mut friends, node, &[0x01, 0x00]);
-    friends
+    let _ = request(alloc, &mut friends, node, FIRST, &REQUEST)?;
+    let _ = from_first(alloc, &mut friends, node, &[0x01, 0x00])?;
+    Ok(friends)
 }
 
 fn own(payload: &[u8]) -> OwnShort {
@@ -218,19 +237,23 @@ const UPDATE: [u8; 7] = [0x02, 0x00, 0x12, 0x34, 0x56, 0x78, 0x00];
 
 // A Request and its offer; Polls with the FSN of the one before and with another one; an own message that waits for its Poll.
 #[test]
-fn polls(rt: HostRuntime) {
+fn polls(rt: HostRuntime) -> Result<(), Fail> {
+    let alloc = rt.alloc();
     let node = plain();
     let mut friends = NodeFriends::new();
-    let offered = request(&mut friends, &node, FIRST, &REQUEST);
+    let offered = request(alloc, &mut friends, &node, FIRST, &REQUEST)?;
     let offer = [0x04, 0x64, 0x10, 0x10, 0x7f, 0x00, 0x00];
     assert!(rt; is_only(&offered, &control(master(), 0, FIRST, &offer, None)));
     assert!(rt; !friends.is_befriended(FIRST), "an offer alone");
     let even = [0x01, 0x00];
     let odd = [0x01, 0x01];
     let update = control(first(), 0, FIRST, &UPDATE, Some((FIRST, false)));
-    assert!(rt; is_only(&from_first(&mut friends, &node, &even), &update));
+    assert!(rt; is_only(&from_first(alloc, &mut friends, &node, &even)?, &update));
     assert!(rt; friends.is_befriended(FIRST));
-    assert!(rt; from_first(&mut friends, &node, &even).is_empty(), "silent");
+    assert!(rt;
+        from_first(alloc, &mut friends, &node, &even)?.is_empty(),
+        "silent"
+    );
     let name = Name {
         src: OWN,
         pair: Pair { iv: IV, seq: 1 },
@@ -240,9 +263,9 @@ fn polls(rt: HostRuntime) {
     assert!(rt; friends.kept(FIRST, false, &name, &pdu));
     assert!(rt; !friends.kept(FIRST, false, &name, &pdu), "once");
     let repeat = Job::Repeat { name, pdu };
-    assert!(rt; is_only(&from_first(&mut friends, &node, &even), &repeat));
+    assert!(rt; is_only(&from_first(alloc, &mut friends, &node, &even)?, &repeat));
     let update = control(first(), 0, FIRST, &UPDATE, Some((FIRST, true)));
-    assert!(rt; is_only(&from_first(&mut friends, &node, &odd), &update));
+    assert!(rt; is_only(&from_first(alloc, &mut friends, &node, &odd)?, &update));
     friends.send(&own(&[0x7f]));
     let message = Job::Message {
         net: 0,
@@ -254,52 +277,57 @@ fn polls(rt: HostRuntime) {
         payload: octets(&[0x7f]),
         keep: Some((FIRST, false)),
     };
-    assert!(rt; is_only(&from_first(&mut friends, &node, &even), &message));
+    assert!(rt; is_only(&from_first(alloc, &mut friends, &node, &even)?, &message));
+    Ok(())
 }
 
 // Two friendships stand: the Request of a third node has no job; nor has one of the first with a PollTimeout below 1 second, which leaves that
 // node's friendship.
 #[test]
-fn requests(rt: HostRuntime) {
+fn requests(rt: HostRuntime) -> Result<(), Fail> {
+    let alloc = rt.alloc();
     let node = plain();
-    let mut friends = befriended(&node);
-    let offered = request(&mut friends, &node, SECOND, &REQUEST);
+    let mut friends = befriended(alloc, &node)?;
+    let offered = request(alloc, &mut friends, &node, SECOND, &REQUEST)?;
     let offer = [0x04, 0x64, 0x10, 0x10, 0x7f, 0x00, 0x01];
     assert!(rt; is_only(&offered, &control(master(), 0, SECOND, &offer, None)));
     let poll = fields(true, 0, SECOND, OWN, &[0x01, 0x01]);
     let polled = answered(
+        alloc,
         &mut friends,
         &node,
         0,
         &heard(Some((SECOND, second())), poll),
-    );
+    )?;
     let update = control(second(), 0, SECOND, &UPDATE, Some((SECOND, true)));
     assert!(rt; is_only(&polled, &update));
     let timeouts = [(FIRST, 0x057e40), (SECOND, 0x057e40)];
     assert!(rt; friends.polls().as_slice() == timeouts.as_slice());
-    assert!(rt; request(&mut friends, &node, Address(0x0203), &REQUEST).is_empty());
+    assert!(rt; request(alloc, &mut friends, &node, Address(0x0203), &REQUEST)?.is_empty());
     let mut early = REQUEST;
     early[3] = 0x00;
     early[4] = 0x00;
     early[5] = 0x09;
-    assert!(rt; request(&mut friends, &node, FIRST, &early).is_empty());
+    assert!(rt; request(alloc, &mut friends, &node, FIRST, &early)?.is_empty());
     assert!(rt; friends.is_befriended(FIRST));
     assert!(rt; friends.is_befriended(SECOND));
     friends.end();
     assert!(rt; friends.polls().is_empty());
+    Ok(())
 }
 
 // A Request under friendship credentials, to the node alone, with TTL 1, and to a node that is no friend; a Poll and a list under master
 // credentials, or of another node than the one whose credentials they are; a Clear under friendship credentials.
 #[test]
-fn unasked(rt: HostRuntime) {
+fn unasked(rt: HostRuntime) -> Result<(), Fail> {
+    let alloc = rt.alloc();
     let node = plain();
     let apart = node_in(0, None, false, 0);
     let list = [0x07, 0x05, 0xc0, 0x00];
     let poll = [0x01, 0x01];
     let clear = [0x05, 0x02, 0x01, 0x00, 0x00];
     let by = Some((FIRST, first()));
-    let friends = &mut befriended(&node);
+    let friends = &mut befriended(alloc, &node)?;
     for r in [
         heard(by, fields(true, 0, FIRST, ALL_FRIENDS, &REQUEST)),
         heard(None, fields(true, 0, FIRST, OWN, &REQUEST)),
@@ -311,52 +339,56 @@ fn unasked(rt: HostRuntime) {
         heard(by, fields(true, 0, FIRST, OWN, &clear)),
         heard(by, fields(true, 0, FIRST, OWN, &[0x0f, 0x00])),
     ] {
-        assert!(rt; answered(friends, &node, 0, &r).is_empty());
+        assert!(rt; answered(alloc, friends, &node, 0, &r)?.is_empty());
     }
-    assert!(rt; request(friends, &apart, FIRST, &REQUEST).is_empty());
+    assert!(rt; request(alloc, friends, &apart, FIRST, &REQUEST)?.is_empty());
     let next = control(first(), 0, FIRST, &UPDATE, Some((FIRST, true)));
-    assert!(rt; is_only(&from_first(friends, &node, &poll), &next));
+    assert!(rt; is_only(&from_first(alloc, friends, &node, &poll)?, &next));
+    Ok(())
 }
 
 // List messages are confirmed by their TransactionNumber. A Clear is confirmed with the Default TTL, once.
 #[test]
-fn confirms(rt: HostRuntime) {
+fn confirms(rt: HostRuntime) -> Result<(), Fail> {
+    let alloc = rt.alloc();
     let node = plain();
     let mut friends = NodeFriends::new();
-    let _ = request(&mut friends, &node, FIRST, &REQUEST);
+    let _ = request(alloc, &mut friends, &node, FIRST, &REQUEST)?;
     let add = [0x07, 0x05, 0xc0, 0x00];
     let remove = [0x08, 0x06, 0xc0, 0x00];
     assert!(rt;
-        from_first(&mut friends, &node, &add).is_empty(),
+        from_first(alloc, &mut friends, &node, &add)?.is_empty(),
         "an offer"
     );
-    let mut friends = befriended(&node);
+    let mut friends = befriended(alloc, &node)?;
     let confirm = control(first(), 0, FIRST, &[0x09, 0x05], None);
-    assert!(rt; is_only(&from_first(&mut friends, &node, &add), &confirm));
+    assert!(rt; is_only(&from_first(alloc, &mut friends, &node, &add)?, &confirm));
     let confirm = control(first(), 0, FIRST, &[0x09, 0x06], None);
-    assert!(rt; is_only(&from_first(&mut friends, &node, &remove), &confirm));
+    assert!(rt; is_only(&from_first(alloc, &mut friends, &node, &remove)?, &confirm));
     let early = [0x05, 0x02, 0x01, 0xff, 0xff];
     let clear = [0x05, 0x02, 0x01, 0x00, 0x01];
     let peer = Address(0x0003);
     let r = heard(None, fields(true, 7, peer, OWN, &early));
-    assert!(rt; answered(&mut friends, &node, 0, &r).is_empty());
+    assert!(rt; answered(alloc, &mut friends, &node, 0, &r)?.is_empty());
     let r = heard(None, fields(true, 7, peer, OWN, &clear));
     let confirm = control(master(), 7, peer, &[0x06, 0x02, 0x01, 0x00, 0x01], None);
-    assert!(rt; is_only(&answered(&mut friends, &node, 0, &r), &confirm));
+    assert!(rt; is_only(&answered(alloc, &mut friends, &node, 0, &r)?, &confirm));
     assert!(rt; !friends.is_befriended(FIRST));
-    assert!(rt; answered(&mut friends, &node, 0, &r).is_empty());
+    assert!(rt; answered(alloc, &mut friends, &node, 0, &r)?.is_empty());
+    Ok(())
 }
 
 // The first Poll tells the Friend node before this one, 0100, with the Default TTL. In phase 2 and in IV Update in Progress the Update says so,
 // and what isn't an answer to a Poll goes under the new key.
 #[test]
-fn first_poll(rt: HostRuntime) {
+fn first_poll(rt: HostRuntime) -> Result<(), Fail> {
+    let alloc = rt.alloc();
     let node = node_in(2, Some(OTHER_KEY), true, 1);
     let mut friends = NodeFriends::new();
     let mut asked = REQUEST;
     asked[6] = 0x01;
-    let _ = request(&mut friends, &node, FIRST, &asked);
-    let jobs = from_first(&mut friends, &node, &[0x01, 0x00]);
+    let _ = request(alloc, &mut friends, &node, FIRST, &asked)?;
+    let jobs = from_first(alloc, &mut friends, &node, &[0x01, 0x00])?;
     let update = [0x02, 0x03, 0x12, 0x34, 0x56, 0x78, 0x00];
     let clear = [0x05, 0x02, 0x01, 0x00, 0x00];
     match (jobs.as_slice(), node.nets.transmit(0)) {
@@ -366,14 +398,16 @@ fn first_poll(rt: HostRuntime) {
         }
         _ => assert!(rt; false, "two jobs"),
     }
+    Ok(())
 }
 
 // A PDU heard for 0201 is stored with one TTL less, unless it came under friendship credentials or with TTL 1; the octets that answer its Poll
 // are by another implementation, and are sent again for the same FSN.
 #[test]
-fn stores(rt: HostRuntime) {
+fn stores(rt: HostRuntime) -> Result<(), Fail> {
+    let alloc = rt.alloc();
     let node = plain();
-    let mut friends = befriended(&node);
+    let mut friends = befriended(alloc, &node)?;
     let peer = Address(0x0003);
     let tpdu = [0x66, 0x01, 0x02, 0x03, 0x04, 0x05, 0x06, 0x07];
     let by = Some((SECOND, second()));
@@ -392,7 +426,7 @@ fn stores(rt: HostRuntime) {
         fields: fields(false, 1, peer, FIRST, &tpdu),
     };
     let odd = [0x01, 0x01];
-    assert!(rt; is_only(&from_first(&mut friends, &node, &odd), &stored));
+    assert!(rt; is_only(&from_first(alloc, &mut friends, &node, &odd)?, &stored));
     let repeat = Job::Repeat {
         name: Name {
             src: peer,
@@ -403,9 +437,14 @@ fn stores(rt: HostRuntime) {
             0xd5, 0x62, 0x9f, 0x51, 0x0e, 0xbb, 0xfa,
         ]),
     };
-    assert!(rt; is_only(&from_first(&mut friends, &node, &odd), &repeat));
+    assert!(rt; is_only(&from_first(alloc, &mut friends, &node, &odd)?, &repeat));
     let update = control(first(), 0, FIRST, &UPDATE, Some((FIRST, false)));
-    assert!(rt; is_only(&from_first(&mut friends, &node, &[0x01, 0x00]), &update));
+    assert!(rt;
+        is_only(
+            &from_first(alloc, &mut friends, &node, &[0x01, 0x00])?,
+            &update
+        )
+    );
     assert!(rt; friends.heard_keys(0x6c).as_slice().len() == 1);
     assert!(rt; friends.heard_keys(0x68).is_empty());
     let over = u64::from(10 * 0x057e40_u32);
@@ -413,4 +452,5 @@ fn stores(rt: HostRuntime) {
     assert!(rt; friends.is_befriended(FIRST));
     friends.tick(over);
     assert!(rt; !friends.is_befriended(FIRST));
+    Ok(())
 }

@@ -16,8 +16,8 @@ ghost use Rattle.node_store.specs.View.{StoreView};
 
 use flash_model::Flash;
 
-/// An image that recovers records each of which may follow those before it, as every image that a put or a provisioning leaves, is mounted:
-/// no refusal has a cause, but that of a Node Reset where a Reset record is among them.
+/// An image that recovers records each of which may follow those before it, as every image that a put leaves, and each that a provisioning
+/// leaves with a bank that counts, is mounted: no refusal has a cause, but that of a Node Reset where a Reset record is among them.
 pub fn what_is_read_is_mounted()
     ensures stands { (content : List ℕ) (records : List StoreRecord) → IsRead content records → (config_of records).reset ≡ false → (fault : StoreFault) → IsFoundAs content fault → ⊥ }
     ensures was_reset { (content : List ℕ) (records : List StoreRecord) → IsRead content records → (config_of records).reset ≡ true → (fault : StoreFault) → IsFoundAs content fault → fault ≡ StoreFault.WasReset }

@@ -70,10 +70,22 @@ impl From<NoMount> for StoreFault {
 
 impl Store {
     /// Finds the store of a node on its flash: it reads the headers and each slot of the bank. A bank of format 01 is migrated: the records
-    /// that say the same are written into the other bank, in format 02. Else it writes nothing.
+    /// that say the same are written into the other bank, in format 02 (`kept`, `any_moment`). Else it writes nothing (`stays`).
     ///
-    /// Of the clauses with premises, a flash that went through a power cycle is fresh, and what any call on a journal or a store leaves of
-    /// an erased flash is tidy.
+    /// # Errors
+    ///
+    /// Of several that hold the first is answered (`exact`), and each is answered only where it holds (`cause`); after each but `Flash` the
+    /// flash is as it was (`unchanged`).
+    ///
+    /// - `NoNode` where no bank has a sound header.
+    /// - `Damaged` where a gated slot of the bank that counts is no record that may follow those before it; the first such slot is told.
+    /// - `WasReset` where a Reset record is among the records.
+    /// - `Flash` where the flash failed in this call. Give power again and mount once more.
+    ///
+    /// # Asks
+    ///
+    /// Nothing of any flash. Of the clauses with premises, a flash that went through a power cycle is fresh (`fresh` of `power_cycle`), and
+    /// what any call on a journal or a store leaves of an erased flash is tidy.
     pub fn mount<F: Flash>(flash: &mut F) -> Result<Self, StoreFault>
         ensures cause { IfErr result (IsStoreCause (F.chip flash.old) (F.chip flash.new)) }
         ensures exact { IsTrue (F.chip flash.old).honest → (fault : StoreFault) → IsFoundAs (F.chip flash.old).now fault → (result ≡ Err StoreFault.Flash) ⊎ (result ≡ Err fault) }

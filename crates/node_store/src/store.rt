@@ -104,14 +104,29 @@ impl Store {
         self.journal.is_closed()
     }
 
-    /// Puts a record behind the others. At `Ok` it is durable. In every image that a cut at any moment leaves, the records say what those of
-    /// before say, or what these say with the new one last; so the mark doesn't fall. After any refusal the store says what it said before.
+    /// Puts a record behind the others. At `Ok` it is durable (`durable`). In every image that a cut at any moment leaves, the records say
+    /// what those of before say, or what these say with the new one last (`any_moment`); so the mark doesn't fall (`mark`).
     ///
-    /// Where all 1,023 slots of the bank are used, the records that say the same are written into the other bank first. It reads nothing.
+    /// Where all 1,023 slots of the bank are used, the records that say the same are written into the other bank first (`used`). It reads
+    /// nothing (`reads`).
     ///
-    /// The fields of the record are in their ranges, and the known IV Index and the mark of a Numbers record aren't below those that the
-    /// store says. Of the clauses on content, the store is one of this flash: `provision` or `mount` gave it, and each call that succeeds
-    /// keeps it so.
+    /// # Errors
+    ///
+    /// After each the store says what it said before (`refused`).
+    ///
+    /// - `Closed` exactly where an earlier write failed: store and flash stay as they are (`closed`). Mount the flash again.
+    /// - `Limit` exactly where the store isn't closed and the table that would grow is full: store and flash stay as they are (`limit`). It
+    ///   tells how many rows there are. `check` of [`Persist`] tells it before.
+    /// - `Flash` where the flash failed in this call: the store is closed from then on (`cause`). The flash may hold the record, or not.
+    ///
+    /// # Asks
+    ///
+    /// - `range`: the fields of the record are in their ranges. `is_in_range` of `record_texts` tells whether they are.
+    /// - `rises`: the known IV Index and the mark of a Numbers record aren't below those that the store says. `refill` and `move_iv` of
+    ///   `seq_reserve` make such records; of any other record nothing is asked.
+    ///
+    /// The clauses on content are of a store of this flash (`IsStoreOf`): `provision` gives it over a fresh flash, `mount` over a fresh and
+    /// tidy one that holds records, and each Ok keeps it (`kept`), if nothing else writes there.
     pub fn put<F: Flash>(&mut self, flash: &mut F, item: &StoreRecord) -> Result<(), PutFault>
         requires range { IsInRange item.now }
         requires rises { IsNotBelow self.old.persist item.now }

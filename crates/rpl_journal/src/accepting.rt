@@ -98,11 +98,28 @@ fn record_of(name: &Name) -> StoreRecord
     }
 }
 
-/// Accepts a message: its pair becomes the entry of its source. At `Ok` that is durable, so after a power cut at any later moment neither the
-/// message nor an older one of its source is accepted. Deliver it only then.
+/// Accepts a message: its pair becomes the entry of its source, and no other entry changes (`value`). At `Ok` that is durable (`durable`), so
+/// after a power cut at any later moment neither the message nor an older one of its source is accepted. Deliver it only then.
 ///
-/// `name` is the source with the pair, of a segmented message with its SeqAuth; its IV Index is the known one or one less, as of every PDU
-/// that is read, and SEQ is below 2^24. Of the clauses on content, the store is one of this flash.
+/// `name` is the source with the pair, of a segmented message with its SeqAuth.
+///
+/// # Errors
+///
+/// Of several that hold the first is answered. After each the store says what it said before (`refused`).
+///
+/// - `Closed` exactly where an earlier write failed: nothing changes (`closed`). Mount the flash again.
+/// - `Old` where the source has an entry, which is told, and the pair isn't newer: nothing changes (`old`). At Ok it was newer (`newer`).
+/// - `ListFull` where the source has no entry, and 512 others have one, so many as are told: nothing changes (`full`). A place comes when an
+///   entry expires.
+/// - `Flash` where the flash failed in this call: the store is closed from then on (`cause`). The flash may hold the entry, or not. Don't
+///   deliver the message then: where the entry is there, it is lost.
+///
+/// # Asks
+///
+/// - `read`: the IV Index of the name is the known one or one less, as of every PDU that is read (`ok` of `read` in `network_layer`).
+/// - `seq`: SEQ is below 2^24, as of every PDU that is read and of every SeqAuth.
+///
+/// The clauses on content are of a store of this flash (`IsStoreOf`; `kept`).
 pub fn accept<F: Flash>(store: &mut Store, flash: &mut F, name: &Name) -> Result<(), AcceptFault>
     requires read { IsReadUnder store.old.persist.iv.current name.now }
     requires seq { name.now.pair.seq < 2 ^ 24 }

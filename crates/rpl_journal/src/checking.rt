@@ -20,9 +20,12 @@ pub struct Old {
     pub kept: Pair,
 }
 
-/// Refuses a message that isn't newer than the entry of its source in the replay list (Mesh Profile 1.0.1, section 3.8.8): `Old` exactly
-/// where there is such an entry, which it tells. It writes nothing. `name` is the source with the pair, of a segmented message with its
-/// SeqAuth.
+/// Whether a message is newer than the entry of its source in the replay list (Mesh Profile 1.0.1, section 3.8.8). It writes nothing, and
+/// asks nothing. `name` is the source with the pair, of a segmented message with its SeqAuth.
+///
+/// # Errors
+///
+/// `Old` exactly where its source has an entry and the pair isn't newer (`exact`; by the records, `records`). It tells that entry (`kept`).
 pub fn check(p: &Persist, name: &Name) -> Result<(), Old>
     ensures exact { IsErr result ↔ IsNoNewer (entry_in p.now name.now.src.0) name.now.pair }
     ensures kept { IfErr result (λ e. entry_in p.now name.now.src.0 ≡ Some e.kept) }

@@ -8,8 +8,7 @@ ghost use Rattle.script_definitions.specs.Events as Said;
 ghost use Rattle.script_definitions.specs.Ranges.{IsPayload};
 ghost use Rattle.script_events.specs.Happenings.{IsRead, said};
 
-use crate::outside::{beacon_octets, peer_octets};
-use crate::talking::talk_octets;
+use crate::outside::{OutsideNode, beacon_octets};
 use mesh_base::octets::Octets;
 use mesh_types::events::Event;
 use script_definitions::line::{RawLine, ScriptLine, SendLine};
@@ -60,36 +59,38 @@ fn raw_sending(raw: &RawLine) -> Event
     }
 }
 
-/// What a line stands for that a reader read: the bearer, and the event on it. There is none for `sync` and `arm`, and none for the lines of
-/// a Low Power node alone, which are `seek`, `poll` and `list`.
-pub fn happening_of(line: &ScriptLine) -> Option<Happening>
-    requires ranges { IsRead line.now }
-    ensures value { option_map said result ≡ Said.happening_of line.now }
-{
-    let (bearer, event) = match line {
-        ScriptLine::Net { bearer, octets } => (bearer, Event::Net(octets.copied())),
-        ScriptLine::Bcn { bearer, octets } => (bearer, Event::Bcn(octets.copied())),
-        ScriptLine::Peer { bearer, peer } => {
-            (bearer, Event::Net(heard(peer_octets(peer).as_slice())))
-        }
-        ScriptLine::Talk { bearer, talk } => {
-            (bearer, Event::Net(heard(talk_octets(talk).as_slice())))
-        }
-        ScriptLine::Beacon { bearer, beacon } => (
-            bearer,
-            Event::Bcn(heard(&beacon_octets(beacon))),
-        ),
-        ScriptLine::Send { bearer, send } => (bearer, sending(send)),
-        ScriptLine::Raw { bearer, raw } => (bearer, raw_sending(raw)),
-        ScriptLine::Tick { bearer, ticks } => (bearer, Event::Tick(*ticks)),
-        ScriptLine::Sync
-        | ScriptLine::Arm(_)
-        | ScriptLine::Seek { .. }
-        | ScriptLine::Poll { .. }
-        | ScriptLine::List { .. } => return None,
-    };
-    Some(Happening {
-        bearer: *bearer,
-        event,
-    })
+impl OutsideNode {
+    /// What a line stands for that a reader read: the bearer, and the event on it. There is none for `sync` and `arm`, and none for the
+    /// lines of a Low Power node alone, which are `seek`, `poll` and `list`.
+    pub fn happening_of(&mut self, line: &ScriptLine) -> Option<Happening>
+        requires ranges { IsRead line.now }
+        ensures value { option_map said result ≡ Said.happening_of line.now }
+    {
+        let (bearer, event) = match line {
+            ScriptLine::Net { bearer, octets } => (bearer, Event::Net(octets.copied())),
+            ScriptLine::Bcn { bearer, octets } => (bearer, Event::Bcn(octets.copied())),
+            ScriptLine::Peer { bearer, peer } => {
+                (bearer, Event::Net(heard(self.peer_octets(peer).as_slice())))
+            }
+            ScriptLine::Talk { bearer, talk } => {
+                (bearer, Event::Net(heard(self.talk_octets(talk).as_slice())))
+            }
+            ScriptLine::Beacon { bearer, beacon } => (
+                bearer,
+                Event::Bcn(heard(&beacon_octets(beacon))),
+            ),
+            ScriptLine::Send { bearer, send } => (bearer, sending(send)),
+            ScriptLine::Raw { bearer, raw } => (bearer, raw_sending(raw)),
+            ScriptLine::Tick { bearer, ticks } => (bearer, Event::Tick(*ticks)),
+            ScriptLine::Sync
+            | ScriptLine::Arm(_)
+            | ScriptLine::Seek { .. }
+            | ScriptLine::Poll { .. }
+            | ScriptLine::List { .. } => return None,
+        };
+        Some(Happening {
+            bearer: *bearer,
+            event,
+        })
+    }
 }

@@ -2,16 +2,17 @@
 //! `peer`, `talk` and `beacon` make heard; the definitions of all that stand in `script_definitions`.
 //!
 //! - `events`: the event of each kind of line
-//! - `outside`: the network PDU of `peer`, and the beacon of `beacon`
-//! - `talking`: the PDU of `talk`, which is a whole access message or one of its segments
+//! - `outside`: the outside node: the network PDUs of `peer` and `talk`, and the beacon of `beacon`
+//! - `talking`: the transport PDU of `talk`, which has a whole access message or one of its segments
+//! - `kept`: keys with what was derived from them, so that lines of one key derive it once
 #![tactic(auto)]
 
 pub mod events;
+mod kept;
 pub mod outside;
-pub mod talking;
+mod talking;
 #[cfg(test)]
 mod tests;
 
-pub use crate::events::{Happening, happening_of};
-pub use crate::outside::{beacon_octets, peer_octets};
-pub use crate::talking::talk_octets;
+pub use crate::events::Happening;
+pub use crate::outside::{OutsideNode, beacon_octets};

@@ -1,67 +1,24 @@
-//! The PDU of an outside node's access message (Mesh Profile 1.0.1, sections 3.4.4, 3.5.2 and 3.6.2).
+//! The transport PDUs of an outside node's access message (Mesh Profile 1.0.1, sections 3.5.2 and 3.6.2).
 #![tactic(auto)]
 
-ghost use Rattle.std.specs.Prelude.{◌≡◌, ◌+◌, ◌*◌, ◌<◌, ◌≤◌, ◌^◌, length, take, drop, IsFalse};
+ghost use Rattle.std.specs.Prelude.{◌≡◌, ◌+◌, ◌*◌, ◌<◌, ◌≤◌, ◌^◌, length, take, drop};
 ghost use Rattle.layer_definitions.specs.Lower.{Fits, last_segment as last_segment_in, lower_text, segment as segment_in};
 ghost use Rattle.mesh_base.specs.declared.lower.Lower.TheVariants.{Access};
 ghost use Rattle.script_definitions.specs.Events as Said;
 ghost use Rattle.script_definitions.specs.Ranges.{IsPayload, IsTalk};
 
-use crate::outside::material;
+use crate::kept::KeptKey;
 use lower_transport::write;
 use mesh_base::address::Address;
-use mesh_base::fields::NetFields;
-use mesh_base::keys::UpperKey;
 use mesh_base::lower::Lower;
 use mesh_base::octets::Octets;
 use mesh_base::pair::Pair;
 use mesh_base::upper::UpperFields;
-use mesh_kdf::{address, k4};
-use network_layer::seal;
-use script_definitions::line::{TalkDst, TalkKey, TalkLine, TalkPdu, TalkPiece};
-use upper_transport::seal_access;
+use script_definitions::line::{TalkDst, TalkLine, TalkPdu, TalkPiece};
+use upper_transport::seal_kept;
 
 /// The octets of an upper transport PDU in each segment but the last.
 const PIECE: usize = 12;
-
-/// The key that seals the message. Its index here is 0, and in no octet.
-#[tactic(auto, unfolding(cipher_definitions::specs::Kdf::aid))]
-fn upper_key(key: &TalkKey) -> UpperKey
-    ensures value { result ≡ Said.upper_key key.now }
-{
-    match key {
-        TalkKey::Device(key) => UpperKey::Device(*key),
-        TalkKey::App(key) => UpperKey::App {
-            index: 0,
-            aid: k4(key),
-            key: *key,
-        },
-    }
-}
-
-/// Whether an application key seals the message (AKF), and its AID, which is 0 for a device key.
-#[tactic(auto, unfolding(cipher_definitions::specs::Kdf::aid))]
-fn key_bits(key: &TalkKey) -> (bool, u8)
-    ensures akf { result.0 ≡ Said.is_app key.now }
-    ensures aid { result.1 ≡ Said.aid_of key.now }
-    ensures width { result.1 < 2 ^ 6 }
-    ensures device { IsFalse result.0 → result.1 ≡ 0 }
-{
-    match key {
-        TalkKey::Device(_) => (false, 0),
-        TalkKey::App(key) => (true, k4(key)),
-    }
-}
-
-/// The destination as an address.
-fn dst_of(dst: &TalkDst) -> Address
-    ensures value { result ≡ Said.dst_of dst.now }
-{
-    match dst {
-        TalkDst::Address(address) => *address,
-        TalkDst::Label(label) => Address(address(label)),
-    }
-}
 
 /// The label that the seal adds, if there is one.
 fn label_of(dst: &TalkDst) -> Option<[u8; 16]>
@@ -74,7 +31,8 @@ fn label_of(dst: &TalkDst) -> Option<[u8; 16]>
 }
 
 /// What seals the message besides its key.
-fn upper_fields(pdu: &TalkPdu) -> UpperFields
+fn upper_fields(pdu: &TalkPdu, dst: Address) -> UpperFields
+    requires dst { dst ≡ Said.dst_of pdu.now.dst }
     ensures value { result ≡ Said.talk_upper_fields pdu.now }
 {
     UpperFields {
@@ -83,33 +41,35 @@ fn upper_fields(pdu: &TalkPdu) -> UpperFields
             seq: pdu.auth,
         },
         src: pdu.src,
-        dst: dst_of(&pdu.dst),
+        dst,
         long_mic: false,
         label: label_of(&pdu.dst),
     }
 }
 
 /// The upper transport PDU of the message.
-fn upper_of(talk: &TalkLine) -> Octets<384>
+fn upper_of(key: &KeptKey, dst: Address, talk: &TalkLine) -> Octets<384>
+    requires key { key.now ≡ talk.now.key }
+    requires dst { dst ≡ Said.dst_of talk.now.pdu.dst }
     requires payload { IsPayload talk.now.payload }
     ensures value { result ≡ Said.talk_upper talk.now }
     ensures length { length result ≡ length talk.now.payload + 4 }
 {
-    seal_access(
-        &upper_key(&talk.key),
-        &upper_fields(&talk.pdu),
+    seal_kept(
+        key.schedule(),
+        &upper_fields(&talk.pdu, dst),
         talk.payload.as_slice(),
     )
 }
 
 /// The unsegmented PDU of an upper transport PDU of 5 to 15 octets.
-fn whole(key: &TalkKey, upper: &[u8]) -> Lower
+fn whole(key: &KeptKey, upper: &[u8]) -> Lower
     requires least { 5 ≤ length upper.now }
     requires most { length upper.now ≤ 15 }
     ensures value { result ≡ Access (Said.is_app key.now) (Said.aid_of key.now) upper.now }
     ensures fits { Fits result }
 {
-    let (akf, aid) = key_bits(key);
+    let (akf, aid) = key.bits();
     let mut octets = Octets::new();
     octets.extend(upper);
     Lower::Access {
@@ -140,14 +100,14 @@ fn piece_of(upper: &[u8], seg_o: u8) -> Octets<12>
 }
 
 /// The segment with number `seg_o`, for SeqAuth with the SEQ `auth`.
-fn segment(key: &TalkKey, auth: u32, upper: &[u8], seg_o: u8) -> Lower
+fn segment(key: &KeptKey, auth: u32, upper: &[u8], seg_o: u8) -> Lower
     requires least { 1 ≤ length upper.now }
     requires most { length upper.now ≤ 384 }
     requires place { seg_o ≤ last_segment_in upper.now }
     ensures value { result ≡ segment_in (Said.is_app key.now) (Said.aid_of key.now) auth upper.now seg_o }
     ensures fits { Fits result }
 {
-    let (akf, aid) = key_bits(key);
+    let (akf, aid) = key.bits();
     Lower::AccessPart {
         akf,
         aid,
@@ -159,43 +119,27 @@ fn segment(key: &TalkKey, auth: u32, upper: &[u8], seg_o: u8) -> Lower
     }
 }
 
-/// The lower transport PDU of the line: the whole message, or one of its segments.
-fn lower_of(talk: &TalkLine) -> Lower
+/// The lower transport PDU of the line, under its key and to its destination: the whole message, or one of its segments.
+pub(crate) fn lower_of(key: &KeptKey, dst: Address, talk: &TalkLine) -> Lower
     requires ranges { IsTalk talk.now }
+    requires key { key.now ≡ talk.now.key }
+    requires dst { dst ≡ Said.dst_of talk.now.pdu.dst }
     ensures value { result ≡ Said.lower_of talk.now.pdu.piece talk.now.key talk.now.pdu.auth (Said.talk_upper talk.now) }
     ensures fits { Fits result }
 {
-    let upper = upper_of(talk);
+    let upper = upper_of(key, dst, talk);
     match talk.pdu.piece {
-        TalkPiece::Whole => whole(&talk.key, upper.as_slice()),
-        TalkPiece::Segment(seg_o) => segment(&talk.key, talk.pdu.auth, upper.as_slice(), seg_o),
+        TalkPiece::Whole => whole(key, upper.as_slice()),
+        TalkPiece::Segment(seg_o) => segment(key, talk.pdu.auth, upper.as_slice(), seg_o),
     }
 }
 
 /// The octets of a lower transport PDU, of which there are some.
 #[tactic(auto, unfolding(layer_definitions::specs::Lower::lower_text))]
-fn tpdu_of(lower: &Lower) -> Octets<16>
+pub(crate) fn tpdu_of(lower: &Lower) -> Octets<16>
     requires fits { Fits lower.now }
     ensures value { result ≡ lower_text lower.now }
     ensures least { 1 ≤ length result }
 {
     write(lower)
-}
-
-/// The octets that are heard of a line `talk`: the network PDU with the whole message or one of its segments. The network PDU has the SEQ
-/// `seq`, and the message is sealed with `auth` and a TransMIC of 4 octets.
-pub fn talk_octets(talk: &TalkLine) -> Octets<29>
-    requires ranges { IsTalk talk.now }
-    ensures value { result ≡ Said.talk_text talk.now }
-{
-    let fields = NetFields {
-        iv: talk.pdu.iv,
-        ctl: false,
-        ttl: talk.pdu.ttl,
-        seq: talk.pdu.seq,
-        src: talk.pdu.src,
-        dst: dst_of(&talk.pdu.dst),
-        tpdu: tpdu_of(&lower_of(talk)),
-    };
-    seal(&material(&talk.net), &fields)
 }

@@ -7,7 +7,7 @@ ghost use Rattle.script_definitions.specs.Lines.{piece_fits};
 ghost use Rattle.script_definitions.specs.Ranges.{IsLine, IsPayload, IsTalkPdu};
 ghost use Rattle.script_definitions.specs.declared.kind.Grammar.TheVariants as G;
 
-use crate::{Happening, happening_of};
+use crate::{Happening, OutsideNode};
 use mesh_base::address::Address;
 use mesh_base::fields::NetFields;
 use mesh_base::octets::Octets;
@@ -17,7 +17,6 @@ use script_definitions::line::{
     ArmLine, BeaconLine, PeerLine, RawLine, ScriptLine, ScriptNet, SendLine, TalkDst, TalkKey,
     TalkLine, TalkPdu, TalkPiece,
 };
-use std::alloc::{AllocError, Global};
 use std::process::Abort;
 use std::test::Fail;
 
@@ -38,6 +37,11 @@ const LABEL: [u8; 16] = [
     0x00, 0x73, 0xe7, 0xe4, 0xd8, 0xb9, 0x44, 0x0f, 0xaf, 0x84, 0x15, 0xdf, 0x4c, 0x56, 0xc0, 0xe1,
 ];
 
+// By another implementation: the virtual address of this label is 9736.
+const OTHER_LABEL: [u8; 16] = [
+    0xf4, 0xa0, 0x02, 0xc7, 0xfb, 0x1e, 0x4c, 0xa0, 0xa4, 0x69, 0xa0, 0x21, 0xde, 0x0d, 0xb8, 0x75,
+];
+
 const MASTER: ScriptNet = ScriptNet::Master(NET_KEY);
 
 // The friendship of the sample data, section 8.2.
@@ -52,21 +56,21 @@ const FRIENDSHIP: ScriptNet = ScriptNet::Friendship {
 const IV: u32 = 0x12345678;
 
 /// What a line of a node with one element stands for.
-fn told(line: &ScriptLine) -> Option<Happening>
+fn told(outside: &mut OutsideNode, line: &ScriptLine) -> Option<Happening>
     requires ranges { IsLine G.Node 1 line.now }
 {
-    happening_of(line)
+    outside.happening_of(line)
 }
 
 /// What a line of a Low Power node stands for.
-fn told_low_power(line: &ScriptLine) -> Option<Happening>
+fn told_low_power(outside: &mut OutsideNode, line: &ScriptLine) -> Option<Happening>
     requires ranges { IsLine G.LowPower 1 line.now }
 {
-    happening_of(line)
+    outside.happening_of(line)
 }
 
 /// These octets, heard as a network PDU on this bearer.
-fn pdu<R: Abort>(rt: &R, bearer: u8, octets: &[u8]) -> Option<Happening> {
+fn heard_pdu<R: Abort>(rt: &R, bearer: u8, octets: &[u8]) -> Option<Happening> {
     assert!(rt; octets.len() <= 40);
     let mut heard = Octets::new();
     heard.extend(octets);
@@ -74,35 +78,45 @@ fn pdu<R: Abort>(rt: &R, bearer: u8, octets: &[u8]) -> Option<Happening> {
     Some(Happening { bearer, event })
 }
 
-/// What a line `peer` on bearer 6 stands for.
-fn peer(net: ScriptNet, fields: NetFields) -> Option<Happening>
+/// A line `peer` on bearer 6 stands for these octets.
+fn peer<R: Abort>(
+    rt: &R,
+    outside: &mut OutsideNode,
+    net: ScriptNet,
+    fields: NetFields,
+    sealed: &[u8],
+)
     requires fields { HasPdu fields }
 {
     let peer = PeerLine { net, fields };
-    told(&ScriptLine::Peer { bearer: 6, peer })
+    let line = ScriptLine::Peer { bearer: 6, peer };
+    assert_eq!(rt; told(outside, &line), heard_pdu(rt, 6, sealed));
 }
 
-/// What a line `talk` on bearer 7 stands for.
-fn talk(
-    alloc: Global,
-    net: ScriptNet,
+/// A line `talk` on bearer 7, under master credentials, stands for these octets.
+fn talk<R: Abort + AllocGlobal>(
+    rt: &R,
+    outside: &mut OutsideNode,
     key: TalkKey,
     pdu: TalkPdu,
     octets: &[u8],
-) -> Result<Option<Happening>, AllocError>
+    sealed: &[u8],
+) -> Result<(), Fail>
     requires pdu { IsTalkPdu pdu }
     requires piece { IsTrue (piece_fits pdu.piece pdu.auth pdu.seq (length octets.now)) }
     requires payload { IsPayload octets.now }
 {
-    let mut payload = Vec::new(alloc);
+    let mut payload = Vec::new(rt.alloc());
     payload.extend_from_slice(octets)?;
     let talk = TalkLine {
-        net,
+        net: MASTER,
         key,
         pdu,
         payload: Payload::of(payload),
     };
-    Ok(told(&ScriptLine::Talk { bearer: 7, talk }))
+    let line = ScriptLine::Talk { bearer: 7, talk };
+    assert_eq!(rt; told(outside, &line), heard_pdu(rt, 7, sealed));
+    Ok(())
 }
 
 /// The octets of a list that has room for 16.
@@ -121,19 +135,28 @@ fn heard_lines(rt: HostRuntime) {
     octets.extend(&[0x68, 0xca]);
     let heard = octets.copied();
     assert_eq!(rt;
-        told(&ScriptLine::Net { bearer: 1, octets }),
-        pdu(&rt, 1, &[0x68, 0xca])
+        told(
+            &mut OutsideNode::new(),
+            &ScriptLine::Net { bearer: 1, octets }
+        ),
+        heard_pdu(&rt, 1, &[0x68, 0xca])
     );
     let octets = heard.copied();
     let beacon = Some(Happening {
         bearer: 2,
         event: Event::Bcn(heard),
     });
-    assert_eq!(rt; told(&ScriptLine::Bcn { bearer: 2, octets }), beacon);
+    assert_eq!(rt;
+        told(
+            &mut OutsideNode::new(),
+            &ScriptLine::Bcn { bearer: 2, octets }
+        ),
+        beacon
+    );
 }
 
-#[test]
-fn peer_lines(rt: HostRuntime) {
+/// Message #1 of the sample data, section 8.3.1.
+fn request<R: Abort>(rt: &R, outside: &mut OutsideNode) {
     let request = NetFields {
         iv: IV,
         ctl: true,
@@ -143,10 +166,13 @@ fn peer_lines(rt: HostRuntime) {
         dst: Address(0xfffd),
         tpdu: tpdu(&[0x03, 0x4b, 0x50, 0x05, 0x7e, 0x40, 0, 0, 1, 0, 0]),
     };
-    let sample: &[u8] =
+    let sealed: &[u8] =
         b"\x68\xec\xa4\x87\x51\x67\x65\xb5\xe5\xbf\xda\xcb\xaf\x6c\xb7\xfb\x6b\xff\x87\x1f\x03\x54\x44\xce\x83\xa6\x70\xdf";
-    assert_eq!(rt; peer(MASTER, request), pdu(&rt, 6, sample));
-    // By another implementation.
+    peer(rt, outside, MASTER, request, sealed);
+}
+
+/// A Poll under the credentials of a friendship. By another implementation.
+fn poll<R: Abort>(rt: &R, outside: &mut OutsideNode) {
     let poll = NetFields {
         iv: IV,
         ctl: true,
@@ -158,7 +184,7 @@ fn peer_lines(rt: HostRuntime) {
     };
     let sealed: &[u8] =
         b"\x5e\xb8\xde\x84\x1e\xc0\xe2\xa9\xff\x38\xf7\x0e\x49\xd7\x1b\xe7\x02\x3b\x77";
-    assert_eq!(rt; peer(FRIENDSHIP, poll), pdu(&rt, 6, sealed));
+    peer(rt, outside, FRIENDSHIP, poll, sealed);
 }
 
 /// A PDU of a message under the IV Index of the sample data.
@@ -182,34 +208,32 @@ fn of(ttl: u8, auth: u32, seq: u32, src: u16, dst: u16, piece: TalkPiece) -> Tal
     }
 }
 
-// Message #6 of the sample data, section 8.3.6, in its two segments.
-#[test]
-fn segments(rt: HostRuntime) -> Result<(), Fail> {
-    let payload: [u8; 20] = [
-        0x00, 0x56, 0x34, 0x12, 0x63, 0x96, 0x47, 0x71, 0x73, 0x4f, 0xbd, 0x76, 0xe3, 0xb4, 0x05,
-        0x19, 0xd1, 0xd9, 0x4a, 0x48,
-    ];
-    let key = TalkKey::Device(DEV_KEY);
+/// The payload of message #6 of the sample data, section 8.3.6.
+const IN_TWO_SEGMENTS: [u8; 20] = [
+    0x00, 0x56, 0x34, 0x12, 0x63, 0x96, 0x47, 0x71, 0x73, 0x4f, 0xbd, 0x76, 0xe3, 0xb4, 0x05, 0x19,
+    0xd1, 0xd9, 0x4a, 0x48,
+];
+
+/// The first segment of message #6.
+fn first_segment<R: Abort + AllocGlobal>(rt: &R, outside: &mut OutsideNode) -> Result<(), Fail> {
     let first = of(4, 0x3129ab, 0x3129ab, 0x0003, 0x1201, TalkPiece::Segment(0));
     let sealed: &[u8] =
         b"\x68\xca\xb5\xc5\x34\x8a\x23\x0a\xfb\xa8\xc6\x3d\x4e\x68\x63\x64\x97\x9d\xea\xf4\xfd\x40\x96\x11\x45\x93\x9c\xda\x0e";
-    assert_eq!(rt;
-        talk(rt.alloc(), MASTER, key, first, &payload)?,
-        pdu(&rt, 7, sealed)
-    );
+    let key = TalkKey::Device(DEV_KEY);
+    talk(rt, outside, key, first, &IN_TWO_SEGMENTS, sealed)
+}
+
+/// The last segment of message #6.
+fn last_segment<R: Abort + AllocGlobal>(rt: &R, outside: &mut OutsideNode) -> Result<(), Fail> {
     let last = of(4, 0x3129ab, 0x3129ac, 0x0003, 0x1201, TalkPiece::Segment(1));
     let sealed: &[u8] =
         b"\x68\x16\x15\xb5\xdd\x4a\x84\x6c\xae\x0c\x03\x2b\xf0\x74\x6f\x44\xf1\xb8\xcc\x8c\xe5\xed\xc5\x7e\x55\xbe\xed\x49\xc0";
-    assert_eq!(rt;
-        talk(rt.alloc(), MASTER, key, last, &payload)?,
-        pdu(&rt, 7, sealed)
-    );
-    Ok(())
+    let key = TalkKey::Device(DEV_KEY);
+    talk(rt, outside, key, last, &IN_TWO_SEGMENTS, sealed)
 }
 
-// By another implementation: the last of 32 segments, with the greatest SEQ that it can have.
-#[test]
-fn longest_message(rt: HostRuntime) -> Result<(), Fail> {
+/// By another implementation: the last of 32 segments, with the greatest SEQ that it can have.
+fn longest<R: Abort + AllocGlobal>(rt: &R, outside: &mut OutsideNode) -> Result<(), Fail> {
     let far = of(
         4,
         0x3129ab,
@@ -220,60 +244,150 @@ fn longest_message(rt: HostRuntime) -> Result<(), Fail> {
     );
     let sealed: &[u8] =
         b"\x68\xc7\x2b\x4c\x2f\xd1\x2d\xef\xe5\x32\x3d\xb0\x5e\xb0\xa1\xcf\x27\x9b\x71\x26\xbb\xe6\x5a\x79\xc7\x92\xb7\x5c\x96";
-    let told = talk(rt.alloc(), MASTER, TalkKey::App(APP_KEY), far, &[0x7f; 380])?;
-    assert_eq!(rt; told, pdu(&rt, 7, sealed));
-    Ok(())
+    let key = TalkKey::App(APP_KEY);
+    talk(rt, outside, key, far, &[0x7f; 380], sealed)
 }
 
-// Messages #16 and #18 of the sample data, sections 8.3.16 and 8.3.18: under a device key, and under an application key.
-#[test]
-fn whole_messages(rt: HostRuntime) -> Result<(), Fail> {
+/// Message #16 of the sample data, section 8.3.16: whole, under a device key.
+fn config<R: Abort + AllocGlobal>(rt: &R, outside: &mut OutsideNode) -> Result<(), Fail> {
     let config = of(0x0b, 6, 6, 0x1201, 0x0003, TalkPiece::Whole);
     let status: &[u8] = &[0x80, 0x03, 0x00, 0x56, 0x34, 0x12];
     let sealed: &[u8] =
         b"\x68\xe8\x0e\x5d\xa5\xaf\x0e\x6b\x9b\xe7\xf5\xa6\x42\xf2\xf9\x86\x80\xe6\x1c\x3a\x8b\x47\xf2\x28";
-    assert_eq!(rt;
-        talk(rt.alloc(), MASTER, TalkKey::Device(DEV_KEY), config, status)?,
-        pdu(&rt, 7, sealed)
-    );
+    let key = TalkKey::Device(DEV_KEY);
+    talk(rt, outside, key, config, status, sealed)
+}
+
+/// Message #18 of the sample data, section 8.3.18: whole, under an application key.
+fn health<R: Abort + AllocGlobal>(rt: &R, outside: &mut OutsideNode) -> Result<(), Fail> {
     let health = of(3, 7, 7, 0x1201, 0xffff, TalkPiece::Whole);
     let sealed: &[u8] =
         b"\x68\x48\xcb\xa4\x37\x86\x0e\x56\x73\x72\x8a\x62\x7f\xb9\x38\x53\x55\x08\xe2\x1a\x6b\xaf\x57";
-    assert_eq!(rt;
-        talk(
-            rt.alloc(),
-            MASTER,
-            TalkKey::App(APP_KEY),
-            health,
-            &[4, 0, 0, 0, 0]
-        )?,
-        pdu(&rt, 7, sealed)
-    );
-    Ok(())
+    let key = TalkKey::App(APP_KEY);
+    talk(rt, outside, key, health, &[4, 0, 0, 0, 0], sealed)
 }
 
-// Message #22 of the sample data, section 8.3.22.
-#[test]
-fn message_to_a_label(rt: HostRuntime) -> Result<(), Fail> {
+/// A vendor's message to a label, in one PDU.
+fn to_label<R: Abort + AllocGlobal>(
+    rt: &R,
+    outside: &mut OutsideNode,
+    label: [u8; 16],
+    seq: u32,
+    sealed: &[u8],
+) -> Result<(), Fail>
+    requires seq { seq < 2 ^ 24 }
+{
     let vendor = TalkPdu {
         iv: 0x12345677,
         ttl: 3,
-        auth: 0x07080b,
-        seq: 0x07080b,
+        auth: seq,
+        seq,
         src: Address(0x1234),
-        dst: TalkDst::Label(LABEL),
+        dst: TalkDst::Label(label),
         piece: TalkPiece::Whole,
     };
+    let key = TalkKey::App(APP_KEY);
+    talk(rt, outside, key, vendor, b"\xd5\x0a\x00Hello", sealed)
+}
+
+/// Message #22 of the sample data, section 8.3.22.
+fn labelled<R: Abort + AllocGlobal>(rt: &R, outside: &mut OutsideNode) -> Result<(), Fail> {
     let sealed: &[u8] =
         b"\xe8\xd8\x5c\xae\xce\xf1\xe3\xed\x31\xf3\xfd\xcf\x88\xa4\x11\x13\x5f\xea\x55\xdf\x73\x0b\x6b\x28\xe2\x55";
-    let told = talk(
-        rt.alloc(),
-        MASTER,
-        TalkKey::App(APP_KEY),
-        vendor,
-        b"\xd5\x0a\x00Hello",
-    )?;
-    assert_eq!(rt; told, pdu(&rt, 7, sealed));
+    to_label(rt, outside, LABEL, 0x07080b, sealed)
+}
+
+/// The same to another label, with the next SEQ. By another implementation.
+fn labelled_otherwise<R: Abort + AllocGlobal>(
+    rt: &R,
+    outside: &mut OutsideNode,
+) -> Result<(), Fail> {
+    let sealed: &[u8] =
+        b"\xe8\x77\xa4\x8d\xd5\xfe\x2d\x7a\x9d\x69\x6d\x3d\xd1\x6a\x75\x48\x96\x96\xf0\xb7\x0c\x71\x1b\x88\x13\x85";
+    to_label(rt, outside, OTHER_LABEL, 0x07080c, sealed)
+}
+
+/// A line that an outside node seals, by the function of its name.
+#[derive(Clone, Copy)]
+enum Sealed {
+    Request,
+    Poll,
+    FirstSegment,
+    LastSegment,
+    Longest,
+    Config,
+    Health,
+    Labelled,
+    LabelledOtherwise,
+}
+
+/// Lines that one outside node seals after one another: each twice under the same keys; credentials, keys of messages and labels in turn;
+/// and all of them, each behind keys of others.
+const ORDERS: &[&[Sealed]] = &[
+    &[Sealed::Request, Sealed::Request],
+    &[Sealed::Poll, Sealed::Poll],
+    &[
+        Sealed::FirstSegment,
+        Sealed::LastSegment,
+        Sealed::Config,
+        Sealed::Config,
+    ],
+    &[Sealed::Longest, Sealed::Health, Sealed::Longest],
+    &[Sealed::Labelled, Sealed::Labelled],
+    &[Sealed::Request, Sealed::Poll, Sealed::Request, Sealed::Poll],
+    &[
+        Sealed::Config,
+        Sealed::Health,
+        Sealed::Config,
+        Sealed::Health,
+    ],
+    &[
+        Sealed::Labelled,
+        Sealed::LabelledOtherwise,
+        Sealed::Labelled,
+    ],
+    &[
+        Sealed::LabelledOtherwise,
+        Sealed::Poll,
+        Sealed::LastSegment,
+        Sealed::Labelled,
+        Sealed::Request,
+        Sealed::Config,
+        Sealed::Poll,
+        Sealed::Longest,
+        Sealed::FirstSegment,
+        Sealed::Health,
+    ],
+];
+
+/// A line stands for the octets that are expected.
+fn seals<R: Abort + AllocGlobal>(
+    rt: &R,
+    outside: &mut OutsideNode,
+    line: Sealed,
+) -> Result<(), Fail> {
+    match line {
+        Sealed::Request => request(rt, outside),
+        Sealed::Poll => poll(rt, outside),
+        Sealed::FirstSegment => first_segment(rt, outside)?,
+        Sealed::LastSegment => last_segment(rt, outside)?,
+        Sealed::Longest => longest(rt, outside)?,
+        Sealed::Config => config(rt, outside)?,
+        Sealed::Health => health(rt, outside)?,
+        Sealed::Labelled => labelled(rt, outside)?,
+        Sealed::LabelledOtherwise => labelled_otherwise(rt, outside)?,
+    }
+    Ok(())
+}
+
+#[test]
+fn sealed_lines(rt: HostRuntime) -> Result<(), Fail> {
+    for lines in ORDERS {
+        let mut outside = OutsideNode::new();
+        for line in *lines {
+            seals(&rt, &mut outside, *line)?;
+        }
+    }
     Ok(())
 }
 
@@ -293,7 +407,13 @@ fn beacon_line(rt: HostRuntime) {
         bearer: 5,
         event: Event::Bcn(octets),
     });
-    assert_eq!(rt; told(&ScriptLine::Beacon { bearer: 5, beacon }), heard);
+    assert_eq!(rt;
+        told(
+            &mut OutsideNode::new(),
+            &ScriptLine::Beacon { bearer: 5, beacon }
+        ),
+        heard
+    );
 }
 
 #[test]
@@ -317,7 +437,10 @@ fn own_lines(rt: HostRuntime) -> Result<(), Fail> {
         payload: octets,
     };
     assert_eq!(rt;
-        told(&ScriptLine::Send { bearer: 0, send }),
+        told(
+            &mut OutsideNode::new(),
+            &ScriptLine::Send { bearer: 0, send }
+        ),
         Some(Happening { bearer: 0, event })
     );
     let raw = RawLine {
@@ -331,15 +454,18 @@ fn own_lines(rt: HostRuntime) -> Result<(), Fail> {
         tpdu: tpdu(&[0x0a, 0x01]),
     };
     assert_eq!(rt;
-        told(&ScriptLine::Raw { bearer: 3, raw }),
+        told(&mut OutsideNode::new(), &ScriptLine::Raw { bearer: 3, raw }),
         Some(Happening { bearer: 3, event })
     );
     let event = Event::Tick(1000);
     assert_eq!(rt;
-        told(&ScriptLine::Tick {
-            bearer: 4,
-            ticks: 1000
-        }),
+        told(
+            &mut OutsideNode::new(),
+            &ScriptLine::Tick {
+                bearer: 4,
+                ticks: 1000
+            }
+        ),
         Some(Happening { bearer: 4, event })
     );
     Ok(())
@@ -347,19 +473,31 @@ fn own_lines(rt: HostRuntime) -> Result<(), Fail> {
 
 #[test]
 fn lines_without_event(rt: HostRuntime) {
-    assert_eq!(rt; told(&ScriptLine::Sync), None);
+    assert_eq!(rt; told(&mut OutsideNode::new(), &ScriptLine::Sync), None);
     assert_eq!(rt;
-        told(&ScriptLine::Arm(ArmLine {
-            calls: 3,
-            mask: 0xff
-        })),
+        told(
+            &mut OutsideNode::new(),
+            &ScriptLine::Arm(ArmLine {
+                calls: 3,
+                mask: 0xff
+            })
+        ),
         None
     );
-    assert_eq!(rt; told_low_power(&ScriptLine::Seek { bearer: 0 }), None);
-    assert_eq!(rt; told_low_power(&ScriptLine::Poll { bearer: 0 }), None);
+    assert_eq!(rt;
+        told_low_power(&mut OutsideNode::new(), &ScriptLine::Seek { bearer: 0 }),
+        None
+    );
+    assert_eq!(rt;
+        told_low_power(&mut OutsideNode::new(), &ScriptLine::Poll { bearer: 0 }),
+        None
+    );
     let address = Address(0xc001);
     assert_eq!(rt;
-        told_low_power(&ScriptLine::List { bearer: 0, address }),
+        told_low_power(
+            &mut OutsideNode::new(),
+            &ScriptLine::List { bearer: 0, address }
+        ),
         None
     );
 }

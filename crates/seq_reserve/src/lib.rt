@@ -13,6 +13,46 @@
 //! - `keep_fault`: why numbers weren't stored
 //!
 //! A caller to begin with: `blocks_as_they_are_drawn` in `src/tests.rt`.
+//!
+//! # Invariants
+//!
+//! The stored mark is that which the store says; the published mark is the keeper's, below which numbers are drawn; the counter is the next
+//! number, as a word.
+//!
+//! 1. The published mark is the stored one (`IsPublished`): `start` gives it, and `refill` and `move_iv` keep it, whatever they answer
+//!    (`published`). Whoever puts other records into `store` keeps it, if they say no mark.
+//! 2. The keeper is that of the words that `start` gave with it (`made`).
+//! 3. The counter begins at the stored mark (`opened`), and between any two steps of threads it is at most the mark (`in_order` of `Stands` in
+//!    `seq_word`; `order` of `close`).
+//! 4. After each call every image of the flash recovers the published mark or a higher one (`IsDurable`: `durable`), and at no moment of it a
+//!    lower one than the stored mark of before (`mark`).
+//! 5. A refill leaves the IV state, and its mark is 256 higher (`fill_of`: `filled`, `kept`). A mark is a word under the transmit IV Index
+//!    whose SEQ is a multiple of 256, and at most 2^24 (`IsMark`: `numbers` of `persist` in `node_store`).
+//! 6. Where the transmit IV Index rises, its first word is the mark, and the counter goes there if it isn't above; else the mark stays
+//!    (`moved`: `advanced`, `stays`).
+//! 7. A refusal leaves the keeper, and what the store says (`refused`); and where the store was closed, all (`closed`).
+//!
+//! 1 to 3, 5 to 7 hold of every flash, 4 of a store of this flash (`IsStoreOf`), where that is honest.
+//!
+//! # The states of a sequence number
+//!
+//! For each, which numbers are in it, who brings them there, and the clause:
+//!
+//! 1. **Reserved**: from the published mark on, and below the mark of a Numbers record that is being put. `refill` and `move_iv` begin that; a
+//!    cut leaves the mark of before, or this one (`any_moment`, `IsPut`).
+//! 2. **Durable**: each image of the flash recovers a mark above it. The same calls, when their record is put (`durable`, `IsDurable`).
+//! 3. **Published**: below the keeper's mark, and not below the counter. The same calls, and only then, by `publish` of `seq_word` (`filled`,
+//!    `advanced`; `value` of `publish`).
+//! 4. **Drawn**: it was the counter, below the mark that was published, and stands once in the list of one seat. A bearer by its seat, with
+//!    `draw` of `seq_word` and without the lock (`found`, `drawn`, `above` of `draw`; `drawn_once`, a law there).
+//! 5. **Sealed**: a line has it, and shows the octets of its PDU. The same bearer, by `drawn_line` of `job_sealing` (`drawn`, `shows`). In a
+//!    run no key and own nonce seals two plaintexts (`no_reuse` of `safety_law` in `run_safety`).
+//! 6. **Passed over**: below the counter and not drawn, since the counter went on to a new IV Index. `move_iv`, by `advance` of `seq_word`
+//!    (`advanced`; `noted` of `advance`, `all` of `close`).
+//! 7. **Lost**: below the mark that the next life opens at, and not sealed. A power cut: the counter then begins there (`opened`), and what is
+//!    drawn from then on is at or above it (`since` of `close`). So what was drawn before the cut isn't drawn again either.
+//!
+//! SEQ 2^24 is no number: a mark may have it, and from a counter that stands there nothing is drawn (`unspent` of `draw`).
 #![tactic(auto)]
 
 mod keep_fault;

@@ -54,10 +54,24 @@ impl Reserve {
     }
 
     /// Reserves 256 numbers more where `seen` is the keeper's mark: a mark that much higher becomes durable under the stored IV state, and is
-    /// published only then. Where `seen` is another mark a refill came between, and nothing changes. It answers the keeper's mark.
+    /// published only then (`filled`, `durable`). Where `seen` is another mark a refill came between, and nothing changes (`nothing`). It
+    /// answers the keeper's mark (`value`).
     ///
-    /// `n` was made with this reserve, and SEQ of `seen` is below 2^24: else its IV Index has no number left. Of the clauses on content, the
-    /// store is one of this flash.
+    /// # Errors
+    ///
+    /// After each the keeper's mark and what the store says are as before (`refused`), so that draws go on below that mark.
+    ///
+    /// - `Closed` where an earlier write failed and `seen` is the keeper's mark: nothing changes (`closed`). Mount the flash again.
+    /// - `Flash` where the flash failed in this call: the store is closed from then on (`cause`). The flash may hold the higher mark, or not.
+    ///
+    /// # Asks
+    ///
+    /// - `made`: `n` was made with this reserve, by `start`; each call keeps it so (`made`).
+    /// - `published`: the keeper's mark is the stored one. `start` gives it, and each call keeps it (`published`).
+    /// - `unspent`: SEQ of `seen` is below 2^24; else its IV Index has no number left. A mark that a draw told may have that SEQ where it was
+    ///   seen before the counter moved on: don't refill then, but draw again, as `draw` of `node_bearer` does.
+    ///
+    /// The clauses on content are of a store of this flash (`IsStoreOf`; `kept`).
     pub fn refill<F: Flash>(
         &mut self,
         n: &Numbers,
@@ -109,11 +123,23 @@ impl Reserve {
         Ok(mark)
     }
 
-    /// Stores a new IV state. Where its transmit IV Index rises, the first word under it becomes the mark: it is durable, then published, and
-    /// then the counter moves there. Else the mark stays.
+    /// Stores a new IV state (`change`). Where its transmit IV Index rises, the first word under it becomes the mark: it is durable, then
+    /// published, and then the counter moves there (`durable`, `advanced`). Else the mark stays (`stays`).
     ///
-    /// `n` was made with this reserve, and neither the known nor the transmit IV Index falls. Of the clauses on content, the store is one of
-    /// this flash.
+    /// # Errors
+    ///
+    /// After each the keeper's mark and what the store says are as before (`refused`).
+    ///
+    /// - `Closed` where an earlier write failed: nothing changes (`closed`). Mount the flash again.
+    /// - `Flash` where the flash failed in this call: the store is closed from then on (`cause`). The flash may hold the new state, or not.
+    ///
+    /// # Asks
+    ///
+    /// - `made`, `published`: as of `refill`.
+    /// - `transmit`: there is an IV Index to send with, so no update is in progress under IV Index 0.
+    /// - `current`, `rises`: neither the known nor the transmit IV Index falls. The steps of `iv_update` are so (`steps_law`).
+    ///
+    /// The clauses on content are of a store of this flash (`IsStoreOf`; `kept`).
     pub fn move_iv<F: Flash>(
         &mut self,
         n: &Numbers,

@@ -41,9 +41,20 @@ impl From<FlashFailed> for CompactFault {
 }
 
 impl Journal {
-    /// Writes these items, at most 512, into the other bank, in format 2, and lets that bank count by the next generation. At
-    /// `Ok` they are durable. In every image that a cut at any moment leaves, what is held is that of before, or these items.
-    /// It reads nothing.
+    /// Writes these items into the other bank, in format 2, and lets that bank count by the next generation. At `Ok` they are
+    /// durable (`durable`). In every image that a cut at any moment leaves, what is held is that of before, or these items
+    /// (`any_moment`). It reads nothing (`reads`).
+    ///
+    /// # Errors
+    ///
+    /// - `Closed` exactly where an earlier write failed: nothing changes (`closed`). Mount the flash again.
+    /// - `Flash` where the flash failed in this call: the journal is closed from then on, and as it was in all else (`cause`). What is held
+    ///   may be the items, or what it was.
+    ///
+    /// # Asks
+    ///
+    /// At most 512 items; the snapshot of a node has at most 404 (`few` of `snapshot` in `node_snapshot`). The clauses on content are of a
+    /// journal of this flash, as those of `append`.
     pub fn compact<F: Flash>(&mut self, flash: &mut F, items: &[Slot]) -> Result<(), CompactFault>
         requires { length items.now ≤ 512 }
 

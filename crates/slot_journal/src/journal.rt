@@ -108,8 +108,20 @@ impl Journal {
         Ok(gated_slot(&text))
     }
 
-    /// Appends a slot. At `Ok` it is durable. In every image that a cut at any moment leaves, what is held is that of
-    /// before, or this with the new slot last. It reads nothing.
+    /// Appends a slot. At `Ok` it is durable (`durable`). In every image that a cut at any moment leaves, what is held is that of
+    /// before, or this with the new slot last (`any_moment`). It reads nothing (`reads`).
+    ///
+    /// # Errors
+    ///
+    /// - `Closed` exactly where an earlier write failed: nothing changes (`closed`). Mount the flash again.
+    /// - `Full` where all 1,023 slots of the bank are used: nothing changes (`full`). Compact the journal.
+    /// - `Flash` where the flash failed in this call: the journal is closed from then on, and as it was in all else (`cause`). What is held
+    ///   may have the slot, or not.
+    ///
+    /// # Asks
+    ///
+    /// Nothing of any flash. The clauses on content are of a journal of this flash (`IsJournalOf`): `format` gives it over a fresh flash,
+    /// `mount` over a fresh and tidy one, and each Ok keeps it (`kept`), if nothing else writes there.
     pub fn append<F: Flash>(&mut self, flash: &mut F, item: &Slot) -> Result<(), AppendFault>
         ensures closed { self.old.closed ≡ true → (result ≡ Err AppendFault.Closed) × (self.new ≡ self.old) × (flash.new ≡ flash.old) }
         ensures full { self.old.closed ≡ false → self.old.used ≡ 1023 → (result ≡ Err (AppendFault.Full 1023)) × (self.new ≡ self.old) × (flash.new ≡ flash.old) }

@@ -22,7 +22,7 @@ pub returns-then-reset : goal.returns-then-reset
 returns-then-reset c = record {
   value = λ past t h.
       let i = c.in-Pdu in
-      c.new.ensures.value ∙ reset_jobs past (config_in c.args.p.now) c.args.octets.now c.args.plan.now.answer
+      c.finish.ensures.value ∙ c.requires.empty ∙ reset_jobs past (config_in c.args.p.now) c.args.octets.now c.args.plan.now.answer
       ∙ ap (λ (x : Insight). jobs_of built_layers past (config_in c.args.p.now) (E.Net c.args.octets.now) x c.args.plan.now.answer)
       (sym (unread_insight c.args.plan.now.basis i.reset i.reading i.low i.opened i.phases i.is c.if-reset.true));
 }

@@ -1,4 +1,4 @@
-use Rattle.std.proofs.Common.{◌≡◌, ◌++◌, ℕ, List, ap, filter, sym, ◌∙◌}
+use Rattle.std.proofs.Common.{◌≡◌, ◌++◌, ℕ, List, ap, sym, ◌∙◌}
 use Rattle.std.specs.List.{flat_map}
 use Rattle.layer_states.specs.Reassembly.{acks_due}
 use Rattle.layer_states.specs.declared.reassembly.DueAck.{DueAck}
@@ -14,7 +14,6 @@ use Rattle.node_layers.specs.Sending as own
 use Rattle.node_records.specs.Tables.{config_in}
 use Rattle.run_definitions.specs.Answers.{later}
 use Rattle.run_definitions.specs.Jobs.{beacons_due, jobs_of}
-use Rattle.segment_sender.specs.Held.{has_round}
 use Rattle.mesh_jobs.proofs.ticks.tick_jobs.Goals as goal
 
 pub returns-clause-value : goal.returns-clause-value
@@ -26,12 +25,13 @@ returns-clause-value c past ticks insight span acks rounds =
     ap (λ (at : ℕ). flat_map (round_jobs n at) c.args.rounds.now) span.to
     ∙ ap (λ (rs : List Sending). flat_map (round_jobs n to) rs) rounds
     ∙ rounds_are n to sent in
-    c.push_beacons_due.ensures.value past ticks span
+    c.finish-2.ensures.value
+    ∙ c.push_beacons_due.ensures.value past ticks span
     ∙ ap (λ (js : List Job). js ++ beacons_due past n ticks)
     (c.push_rounds.ensures.value
     ∙ ap (λ (js : List Job). js ++ flat_map (round_jobs n c.args.span.now.to) c.args.rounds.now)
     (c.push_acks.ensures.value
-    ∙ ap (λ (js : List Job). js ++ flat_map (due_jobs n) c.args.acks.now) c.new-jobs.ensures.value
+    ∙ ap (λ (js : List Job). js ++ flat_map (due_jobs n) c.args.acks.now) c.requires.empty
     ∙ ap (λ (list : List DueAck). flat_map (due_jobs n) list) acks)
     ∙ ap (λ (js : List Job). flat_map (due_jobs n) (acks_due to (messages past)) ++ js) rows)
     ∙ jobs_are past n ticks c.in-Ticked.now insight

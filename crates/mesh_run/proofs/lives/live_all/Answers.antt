@@ -1,4 +1,4 @@
-use Rattle.std.proofs.Common.{◌∙◌, ap, refl, subst, sym}
+use Rattle.std.proofs.Common.{◌∙◌, Err, ap, refl, subst, sym}
 use Rattle.report_writer.specs.Lives.{life_of}
 use Rattle.report_writer.specs.Writing.{view_of}
 use Rattle.life_plans.specs.Plans.{script_of}
@@ -67,7 +67,7 @@ returns-in-Err-Memory-clause-whole g c = λ yes.
     let law = g.met.B.Flash g.world.𝓛 g.world.𝓜 g.world.𝓡 ((λ s x. x), (λ x. x), (λ x. x), λ x. x) in
     let within = is_within c.args.script.now.lives c.as_slice-i-end.result.now c.loop-i.i c.as_slice-i-end.ensures.value c.loop-i-test.true in
     let progress = c.loop-i.invariant.progress in
-    subst (RanFirst built_layers (script_of c.args.script.now) c.args.hex (view c.args.sink.now)) (sym (ap view (c.in-Err-Memory.ensures.memory refl)))
+    subst (RanFirst built_layers (script_of c.args.script.now) c.args.hex (view c.args.sink.now)) (sym (ap view (c.in-Err-Memory.ensures.memory (ap (λ e. Err e) c.in-Err-Memory.field-0-is))))
     (first_same (script_of c.args.script.now) c.args.hex (chip c.args.flash) (chip c.loop-i.flash) (view c.args.sink.now) (view c.loop-i.sink) c.loop-i.i
     (law.reads_image c.loop-i.flash progress.node.honest) within progress)
 

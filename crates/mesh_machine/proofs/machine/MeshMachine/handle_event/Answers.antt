@@ -49,19 +49,19 @@ returns-in-Err-store_records-clause-kept g c over stands =
     let s : Stands (g.F.Flash.chip c.args.flash.now) over m = subst (λ (v : NodeMachine). Stands (g.F.Flash.chip c.args.flash.now) over v) (sym c.self.view_is) stands in
     let past : Past = past_now built_layers over s.life.told i.fills in
     let h : IsOver (g.F.Flash.chip c.args.flash.now) past m = s.usable c.if-self.false in
-    let may : ArePuttable i.reserve.store.persist c.in-Ok.plan.records = subst (λ (p : Persist). ArePuttable p c.in-Ok.plan.records) c.persist.ensures.value c.in-Ok.ensures.may in
-    let planned : IsPlanned past c.args.event.now c.in-Ok.plan c.prepare.new.tables =
+    let may : ArePuttable i.reserve.store.persist c.in-Ok.prepared.plan.records = subst (λ (p : Persist). ArePuttable p c.in-Ok.prepared.plan.records) c.persist.ensures.value c.in-Ok.ensures.may in
+    let planned : IsPlanned past c.args.event.now c.in-Ok.prepared.plan c.prepare.new.tables =
     c.in-Ok.ensures.planned past (subst (λ (p : Persist). IsStanding past p i.tables) (sym c.persist.ensures.value) h.before.standing) in
     let r = c.store_records.new.reserve in
     let new = g.F.Flash.chip c.store_records.new.flash in
     let ready : IsReady m = c.self.invariant c.if-self.false in
-    let cut : IsCutIn new past.records c.in-Ok.plan.records r.keeper.mark = record {
+    let cut : IsCutIn new past.records c.in-Ok.prepared.plan.records r.keeper.mark = record {
       honest = c.store_records.ensures.frame.honest ∙ s.life.node.honest;
       fronts = c.store_records.ensures.fronts past.records h.store;
       durable = c.store_records.ensures.durable past.records h.store;
     } in
     let base : Stands new over (stopped m r c.prepare.new.tables (H.OfEvent c.args.event.now)) =
-    event_stops c.node_law.ensures.kept m c.args.event.now c.in-Ok.plan c.prepare.new.tables (g.F.Flash.chip c.args.flash.now) new over s c.if-self.false r c.prepare.new.tables planned may cut
+    event_stops c.node_law.ensures.kept m c.args.event.now c.in-Ok.prepared.plan c.prepare.new.tables (g.F.Flash.chip c.args.flash.now) new over s c.if-self.false r c.prepare.new.tables planned may cut
     (c.in-Err-store_records.ensures.cause ready.usable).2 c.store_records.ensures.frame in
     subst (λ (e : Event). Stands new over (record (stopped m r c.prepare.new.tables (H.OfEvent e)) { entries = c.prepare.new.history.items })) (sym c.copied.ensures.value)
     (subst (λ (l : List Entry). Stands new over (record (stopped m r c.prepare.new.tables (H.OfEvent c.args.event.now)) { entries = l })) (sym c.prepare.ensures.entries) base)
@@ -71,23 +71,23 @@ renew-requires-clause-held g c =
     let i = c.self.inside in
     let m : NodeMachine = record { reserve = i.reserve; tables = i.tables; entries = i.history.items; fills = i.fills; closed = i.closed; hand = i.hand; elements = i.elements } in
     let ready : IsReady m = c.self.invariant c.if-self.false in
-    let may : ArePuttable i.reserve.store.persist c.in-Ok.plan.records = subst (λ (p : Persist). ArePuttable p c.in-Ok.plan.records) c.persist.ensures.value c.in-Ok.ensures.may in
-    let planned : IsPlanned ready.past c.args.event.now c.in-Ok.plan c.prepare.new.tables =
+    let may : ArePuttable i.reserve.store.persist c.in-Ok.prepared.plan.records = subst (λ (p : Persist). ArePuttable p c.in-Ok.prepared.plan.records) c.persist.ensures.value c.in-Ok.ensures.may in
+    let planned : IsPlanned ready.past c.args.event.now c.in-Ok.prepared.plan c.prepare.new.tables =
     c.in-Ok.ensures.planned ready.past (subst (λ (p : Persist). IsStanding ready.past p i.tables) (sym c.persist.ensures.value) ready.before.standing) in
     let q : Persist = c.store_records.new.reserve.store.persist in
-    let meaning : IsMeaningOf (ready.past.records ++ c.in-Ok.plan.records) q = c.in-Ok-store_records.ensures.meaning ready.past.records ready.before.standing.meaning in
-    let after : IsAfter i.elements q = event_after c.node_law.ensures.kept m c.args.event.now c.in-Ok.plan c.prepare.new.tables ready q planned may meaning c.in-Ok-store_records.ensures.change in
+    let meaning : IsMeaningOf (ready.past.records ++ c.in-Ok.prepared.plan.records) q = c.in-Ok-store_records.ensures.meaning ready.past.records ready.before.standing.meaning in
+    let after : IsAfter i.elements q = event_after c.node_law.ensures.kept m c.args.event.now c.in-Ok.prepared.plan c.prepare.new.tables ready q planned may meaning c.in-Ok-store_records.ensures.change in
     subst (λ (p : Persist). AreHeldKeys (config_in p)) (sym c.persist-p.ensures.value)
     (subst AreHeldKeys (sym meaning.config)
-    (c.held_keys_law.ensures.whole (ready.past.records ++ c.in-Ok.plan.records) (subst IsWhole meaning.config after.whole)))
+    (c.held_keys_law.ensures.whole (ready.past.records ++ c.in-Ok.prepared.plan.records) (subst IsWhole meaning.config after.whole)))
 
 pub enter-answered-requires-clause-planned : goal.enter-answered-requires-clause-planned
 enter-answered-requires-clause-planned g c =
     let i = c.self.inside in
     let m : NodeMachine = record { reserve = i.reserve; tables = i.tables; entries = i.history.items; fills = i.fills; closed = i.closed; hand = i.hand; elements = i.elements } in
     let ready : IsReady m = c.self.invariant c.if-self.false in
-    let may : ArePuttable i.reserve.store.persist c.in-Ok.plan.records = subst (λ (p : Persist). ArePuttable p c.in-Ok.plan.records) c.persist.ensures.value c.in-Ok.ensures.may in
-    let planned : IsPlanned ready.past c.args.event.now c.in-Ok.plan c.prepare.new.tables =
+    let may : ArePuttable i.reserve.store.persist c.in-Ok.prepared.plan.records = subst (λ (p : Persist). ArePuttable p c.in-Ok.prepared.plan.records) c.persist.ensures.value c.in-Ok.ensures.may in
+    let planned : IsPlanned ready.past c.args.event.now c.in-Ok.prepared.plan c.prepare.new.tables =
     c.in-Ok.ensures.planned ready.past (subst (λ (p : Persist). IsStanding ready.past p i.tables) (sym c.persist.ensures.value) ready.before.standing) in
     (ready.past, (c.prepare.new.tables, planned))
 
@@ -96,12 +96,12 @@ enter-answered-requires-clause-sendable g c =
     let i = c.self.inside in
     let m : NodeMachine = record { reserve = i.reserve; tables = i.tables; entries = i.history.items; fills = i.fills; closed = i.closed; hand = i.hand; elements = i.elements } in
     let ready : IsReady m = c.self.invariant c.if-self.false in
-    let may : ArePuttable i.reserve.store.persist c.in-Ok.plan.records = subst (λ (p : Persist). ArePuttable p c.in-Ok.plan.records) c.persist.ensures.value c.in-Ok.ensures.may in
-    let planned : IsPlanned ready.past c.args.event.now c.in-Ok.plan c.prepare.new.tables =
+    let may : ArePuttable i.reserve.store.persist c.in-Ok.prepared.plan.records = subst (λ (p : Persist). ArePuttable p c.in-Ok.prepared.plan.records) c.persist.ensures.value c.in-Ok.ensures.may in
+    let planned : IsPlanned ready.past c.args.event.now c.in-Ok.prepared.plan c.prepare.new.tables =
     c.in-Ok.ensures.planned ready.past (subst (λ (p : Persist). IsStanding ready.past p i.tables) (sym c.persist.ensures.value) ready.before.standing) in
     let q : Persist = c.store_records.new.reserve.store.persist in
-    let meaning : IsMeaningOf (ready.past.records ++ c.in-Ok.plan.records) q = c.in-Ok-store_records.ensures.meaning ready.past.records ready.before.standing.meaning in
-    let after : IsAfter i.elements q = event_after c.node_law.ensures.kept m c.args.event.now c.in-Ok.plan c.prepare.new.tables ready q planned may meaning c.in-Ok-store_records.ensures.change in
+    let meaning : IsMeaningOf (ready.past.records ++ c.in-Ok.prepared.plan.records) q = c.in-Ok-store_records.ensures.meaning ready.past.records ready.before.standing.meaning in
+    let after : IsAfter i.elements q = event_after c.node_law.ensures.kept m c.args.event.now c.in-Ok.prepared.plan c.prepare.new.tables ready q planned may meaning c.in-Ok-store_records.ensures.change in
     subst (λ (p : Persist). IsSendable (config_in p) c.args.event.now) (sym c.persist-p.ensures.value)
     (event_sendable i.elements c.args.event.now q after
     (subst (λ (v : NodeMachine). IsEvent v.elements c.args.event.now) (sym c.self.view_is) c.requires.event))
@@ -111,18 +111,18 @@ invariant_of-self-2 g c e =
     let i = c.self.inside in
     let m : NodeMachine = record { reserve = i.reserve; tables = i.tables; entries = i.history.items; fills = i.fills; closed = i.closed; hand = i.hand; elements = i.elements } in
     let ready : IsReady m = c.self.invariant c.if-self.false in
-    let may : ArePuttable i.reserve.store.persist c.in-Ok.plan.records = subst (λ (p : Persist). ArePuttable p c.in-Ok.plan.records) c.persist.ensures.value c.in-Ok.ensures.may in
-    let planned : IsPlanned ready.past c.args.event.now c.in-Ok.plan c.prepare.new.tables =
+    let may : ArePuttable i.reserve.store.persist c.in-Ok.prepared.plan.records = subst (λ (p : Persist). ArePuttable p c.in-Ok.prepared.plan.records) c.persist.ensures.value c.in-Ok.ensures.may in
+    let planned : IsPlanned ready.past c.args.event.now c.in-Ok.prepared.plan c.prepare.new.tables =
     c.in-Ok.ensures.planned ready.past (subst (λ (p : Persist). IsStanding ready.past p i.tables) (sym c.persist.ensures.value) ready.before.standing) in
     let q : Persist = c.store_records.new.reserve.store.persist in
-    let meaning : IsMeaningOf (ready.past.records ++ c.in-Ok.plan.records) q = c.in-Ok-store_records.ensures.meaning ready.past.records ready.before.standing.meaning in
-    let after : IsAfter i.elements q = event_after c.node_law.ensures.kept m c.args.event.now c.in-Ok.plan c.prepare.new.tables ready q planned may meaning c.in-Ok-store_records.ensures.change in
+    let meaning : IsMeaningOf (ready.past.records ++ c.in-Ok.prepared.plan.records) q = c.in-Ok-store_records.ensures.meaning ready.past.records ready.before.standing.meaning in
+    let after : IsAfter i.elements q = event_after c.node_law.ensures.kept m c.args.event.now c.in-Ok.prepared.plan c.prepare.new.tables ready q planned may meaning c.in-Ok-store_records.ensures.change in
     let a = c.enter-answered.result in
     let entry : Entry = record { bearer = c.args.bearer; number = c.args.number; event = c.args.event.now; fills = i.fills; answer = a.answer; jobs = a.jobs } in
     let items : c.enter-answered.new.history.items ≡ i.history.items ++ entry ∷ [] = c.enter-answered.ensures.entry ∙ ap (λ l. l ++ entry ∷ []) c.prepare.ensures.entries in
     let r = c.store_records.new.reserve in
     let base : IsReady (entered m r c.renew.new.tables entry) =
-    event_ready c.node_law.ensures.kept m c.args.event.now c.in-Ok.plan c.prepare.new.tables ready r c.renew.new.tables entry planned may c.renew.ensures.tables refl c.enter-answered.ensures.answer
+    event_ready c.node_law.ensures.kept m c.args.event.now c.in-Ok.prepared.plan c.prepare.new.tables ready r c.renew.new.tables entry planned may c.renew.ensures.tables refl c.enter-answered.ensures.answer
     meaning c.store_records.ensures.published (subst (λ (p : Persist). IsFit c.renew.new.tables p) c.persist-p.ensures.value c.renew.ensures.fit)
     (c.in-Ok-store_records.ensures.usable ∙ ready.usable) after.same in
     subst (λ (l : List Entry). IsReady (record (entered m r c.renew.new.tables entry) { entries = l })) (sym items) base
@@ -132,15 +132,15 @@ returns-clause-jobs g c =
     let i = c.self.inside in
     let m : NodeMachine = record { reserve = i.reserve; tables = i.tables; entries = i.history.items; fills = i.fills; closed = i.closed; hand = i.hand; elements = i.elements } in
     let ready : IsReady m = c.self.invariant c.if-self.false in
-    let may : ArePuttable i.reserve.store.persist c.in-Ok.plan.records = subst (λ (p : Persist). ArePuttable p c.in-Ok.plan.records) c.persist.ensures.value c.in-Ok.ensures.may in
-    let planned : IsPlanned ready.past c.args.event.now c.in-Ok.plan c.prepare.new.tables =
+    let may : ArePuttable i.reserve.store.persist c.in-Ok.prepared.plan.records = subst (λ (p : Persist). ArePuttable p c.in-Ok.prepared.plan.records) c.persist.ensures.value c.in-Ok.ensures.may in
+    let planned : IsPlanned ready.past c.args.event.now c.in-Ok.prepared.plan c.prepare.new.tables =
     c.in-Ok.ensures.planned ready.past (subst (λ (p : Persist). IsStanding ready.past p i.tables) (sym c.persist.ensures.value) ready.before.standing) in
     let q : Persist = c.store_records.new.reserve.store.persist in
-    let meaning : IsMeaningOf (ready.past.records ++ c.in-Ok.plan.records) q = c.in-Ok-store_records.ensures.meaning ready.past.records ready.before.standing.meaning in
-    let after : IsAfter i.elements q = event_after c.node_law.ensures.kept m c.args.event.now c.in-Ok.plan c.prepare.new.tables ready q planned may meaning c.in-Ok-store_records.ensures.change in
+    let meaning : IsMeaningOf (ready.past.records ++ c.in-Ok.prepared.plan.records) q = c.in-Ok-store_records.ensures.meaning ready.past.records ready.before.standing.meaning in
+    let after : IsAfter i.elements q = event_after c.node_law.ensures.kept m c.args.event.now c.in-Ok.prepared.plan c.prepare.new.tables ready q planned may meaning c.in-Ok-store_records.ensures.change in
     let a = c.enter-answered.result in
-    event_jobs c.node_law.ensures.kept m c.args.event.now c.in-Ok.plan c.prepare.new.tables ready c.persist-p.result.now a.jobs c.args.self.now.elements planned may
-    (subst (λ (p : Persist). IsMeaningOf (ready.past.records ++ c.in-Ok.plan.records) p) (sym c.persist-p.ensures.value) meaning)
+    event_jobs c.node_law.ensures.kept m c.args.event.now c.in-Ok.prepared.plan c.prepare.new.tables ready c.persist-p.result.now a.jobs c.args.self.now.elements planned may
+    (subst (λ (p : Persist). IsMeaningOf (ready.past.records ++ c.in-Ok.prepared.plan.records) p) (sym c.persist-p.ensures.value) meaning)
     (c.enter-answered.ensures.jobs ready.past c.prepare.new.tables planned) c.requires.event
 
 pub returns-clause-quiet : goal.returns-clause-quiet
@@ -148,11 +148,11 @@ returns-clause-quiet g c outside =
     let i = c.self.inside in
     let m : NodeMachine = record { reserve = i.reserve; tables = i.tables; entries = i.history.items; fills = i.fills; closed = i.closed; hand = i.hand; elements = i.elements } in
     let ready : IsReady m = c.self.invariant c.if-self.false in
-    let may : ArePuttable i.reserve.store.persist c.in-Ok.plan.records = subst (λ (p : Persist). ArePuttable p c.in-Ok.plan.records) c.persist.ensures.value c.in-Ok.ensures.may in
-    let planned : IsPlanned ready.past c.args.event.now c.in-Ok.plan c.prepare.new.tables =
+    let may : ArePuttable i.reserve.store.persist c.in-Ok.prepared.plan.records = subst (λ (p : Persist). ArePuttable p c.in-Ok.prepared.plan.records) c.persist.ensures.value c.in-Ok.ensures.may in
+    let planned : IsPlanned ready.past c.args.event.now c.in-Ok.prepared.plan c.prepare.new.tables =
     c.in-Ok.ensures.planned ready.past (subst (λ (p : Persist). IsStanding ready.past p i.tables) (sym c.persist.ensures.value) ready.before.standing) in
     let a = c.enter-answered.result in
-    event_quiet c.node_law.ensures.kept m c.args.event.now c.in-Ok.plan c.prepare.new.tables ready c.persist-p.result.now a.jobs
+    event_quiet c.node_law.ensures.kept m c.args.event.now c.in-Ok.prepared.plan c.prepare.new.tables ready c.persist-p.result.now a.jobs
     (c.enter-answered.ensures.jobs ready.past c.prepare.new.tables planned) outside
 
 pub returns-clause-steps : goal.returns-clause-steps
@@ -162,14 +162,14 @@ returns-clause-steps g c w world =
     let ready : IsReady m = c.self.invariant c.if-self.false in
     let p : Persist = i.reserve.store.persist in
     let q : Persist = c.store_records.new.reserve.store.persist in
-    let moves : AreMoves (config_in p) c.in-Ok.plan.records = subst (λ (v : Persist). AreMoves (config_in v) c.in-Ok.plan.records) c.persist.ensures.value c.in-Ok.ensures.moves in
-    let planned : IsPlanned ready.past c.args.event.now c.in-Ok.plan c.prepare.new.tables =
+    let moves : AreMoves (config_in p) c.in-Ok.prepared.plan.records = subst (λ (v : Persist). AreMoves (config_in v) c.in-Ok.prepared.plan.records) c.persist.ensures.value c.in-Ok.ensures.moves in
+    let planned : IsPlanned ready.past c.args.event.now c.in-Ok.prepared.plan c.prepare.new.tables =
     c.in-Ok.ensures.planned ready.past (subst (λ (v : Persist). IsStanding ready.past v i.tables) (sym c.persist.ensures.value) ready.before.standing) in
-    let meaning : IsMeaningOf (ready.past.records ++ c.in-Ok.plan.records) q = c.in-Ok-store_records.ensures.meaning ready.past.records ready.before.standing.meaning in
-    let insight : Insight = insight_in c.in-Ok.plan.basis in
+    let meaning : IsMeaningOf (ready.past.records ++ c.in-Ok.prepared.plan.records) q = c.in-Ok-store_records.ensures.meaning ready.past.records ready.before.standing.meaning in
+    let insight : Insight = insight_in c.in-Ok.prepared.plan.basis in
     let a = c.enter-answered.result in
-    let is : a.answer ≡ c.in-Ok.plan.answer = c.enter-answered.ensures.answer in
-    let records : c.in-Ok.plan.records ≡ stores built_layers ready.past c.args.event.now insight a.answer =
+    let is : a.answer ≡ c.in-Ok.prepared.plan.answer = c.enter-answered.ensures.answer in
+    let records : c.in-Ok.prepared.plan.records ≡ stores built_layers ready.past c.args.event.now insight a.answer =
     planned.records ∙ ap (λ (x : Answer). stores built_layers ready.past c.args.event.now insight x) (sym is) in
     let before : IsWorldOf w p p.mark = subst (λ (v : NodeMachine). IsWorldOf w v.reserve.store.persist v.reserve.store.persist.mark) (sym c.self.view_is) world in
     let stepped : HasStepped w p q c.args.event.now a.answer = record {
@@ -191,22 +191,22 @@ returns-clause-kept g c over stands =
     let s : Stands (g.F.Flash.chip c.args.flash.now) over m = subst (λ (v : NodeMachine). Stands (g.F.Flash.chip c.args.flash.now) over v) (sym c.self.view_is) stands in
     let past : Past = past_now built_layers over s.life.told i.fills in
     let h : IsOver (g.F.Flash.chip c.args.flash.now) past m = s.usable c.if-self.false in
-    let may : ArePuttable i.reserve.store.persist c.in-Ok.plan.records = subst (λ (p : Persist). ArePuttable p c.in-Ok.plan.records) c.persist.ensures.value c.in-Ok.ensures.may in
-    let planned : IsPlanned past c.args.event.now c.in-Ok.plan c.prepare.new.tables =
+    let may : ArePuttable i.reserve.store.persist c.in-Ok.prepared.plan.records = subst (λ (p : Persist). ArePuttable p c.in-Ok.prepared.plan.records) c.persist.ensures.value c.in-Ok.ensures.may in
+    let planned : IsPlanned past c.args.event.now c.in-Ok.prepared.plan c.prepare.new.tables =
     c.in-Ok.ensures.planned past (subst (λ (p : Persist). IsStanding past p i.tables) (sym c.persist.ensures.value) h.before.standing) in
     let a = c.enter-answered.result in
     let entry : Entry = record { bearer = c.args.bearer; number = c.args.number; event = c.args.event.now; fills = i.fills; answer = a.answer; jobs = a.jobs } in
     let items : c.enter-answered.new.history.items ≡ i.history.items ++ entry ∷ [] = c.enter-answered.ensures.entry ∙ ap (λ l. l ++ entry ∷ []) c.prepare.ensures.entries in
     let r = c.store_records.new.reserve in
     let new = g.F.Flash.chip c.store_records.new.flash in
-    let is_entry : IsEntryOf past c.args.event.now c.in-Ok.plan r.store.persist entry = record {
+    let is_entry : IsEntryOf past c.args.event.now c.in-Ok.prepared.plan r.store.persist entry = record {
       is_of = refl;
       has = c.enter-answered.ensures.answer;
-      jobs = subst (λ (p : Persist). a.jobs ≡ jobs_of built_layers past (config_in p) c.args.event.now (insight_in c.in-Ok.plan.basis) c.in-Ok.plan.answer) c.persist-p.ensures.value
+      jobs = subst (λ (p : Persist). a.jobs ≡ jobs_of built_layers past (config_in p) c.args.event.now (insight_in c.in-Ok.prepared.plan.basis) c.in-Ok.prepared.plan.answer) c.persist-p.ensures.value
           (c.enter-answered.ensures.jobs past c.prepare.new.tables planned);
     } in
     let base : Stands new over (entered m r c.renew.new.tables entry) =
-    event_stands c.node_law.ensures.kept m c.args.event.now c.in-Ok.plan c.prepare.new.tables (g.F.Flash.chip c.args.flash.now) new over s c.if-self.false r c.renew.new.tables entry planned may
+    event_stands c.node_law.ensures.kept m c.args.event.now c.in-Ok.prepared.plan c.prepare.new.tables (g.F.Flash.chip c.args.flash.now) new over s c.if-self.false r c.renew.new.tables entry planned may
     c.renew.ensures.tables is_entry refl
     (subst (λ (l : List Entry). length l + 1 < 2 ^ 32) c.prepare.ensures.entries c.enter-answered.ensures.few)
     (c.in-Ok-store_records.ensures.kept past.records h.store)
