@@ -23,8 +23,8 @@ pub fn index_law()
 {}
 
 /// The law of changes, for proofs: it does nothing. Changes that may be stored behind some records may be put over each value that says the
-/// same as these but for the replay list; and they are moves, as none is a Numbers record. What a message asks for are such in layers that
-/// are safe and fit.
+/// same as these but for the replay list; and they are moves, as none is a Numbers record. That what a message asks for are such is the layers'
+/// part: of a whole node within the limits of the store `layer_laws` says it (`safe`, `storable`).
 pub fn changes_law()
     ensures may { (before changes : List StoreRecord) (p : Persist) → config_in p ≡ config_of before → All IsChange changes
         → AreStorable before changes → ArePuttable p changes }

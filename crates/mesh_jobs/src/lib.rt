@@ -1,7 +1,7 @@
 //! What an event's answer asks to be sent, in the order in which it is sent. Each call answers, or puts behind others, the very list that the
 //! definitions of a run say (`run_definitions`, `specs/Jobs.antt`), for what the records after the event say. There is no flash here and no
-//! table of a life: what a call needs of these comes as plain values. Nothing here takes memory: jobs are made in a draft that has room for all
-//! of them.
+//! table of a life: what a call needs of these comes as plain values. Nothing here wants memory: jobs are made in a draft that has room for all
+//! of them, and the rest of its memory is handed back.
 //!
 //! - `pdus`: a network PDU heard: it goes on, it is acknowledged, and beacons follow a Key Refresh
 //! - `ticks`: time that passed: acknowledgments, segments and beacons that are due

@@ -3,12 +3,14 @@
 
 use crate::answers::Answer;
 use crate::events::Event;
-use crate::jobs::Jobs;
+use crate::jobs::{Job, Jobs};
 use crate::lines::Outcome;
 use std::mem::size_of;
 
-// A life keeps up to 8,192 entries, which thus take at most 7,372,800 octets beside their jobs.
+// An entry takes at most 23,940 octets, with 160 jobs. A life keeps up to 8,192 entries, which thus stay below 200,000,000.
 const _: () = prove!(size_of::<Entry>() <= 900);
+
+const _: () = prove!(size_of::<Job>() <= 144);
 
 /// An event that was handled under the node's lock.
 #[derive(Debug, Drop)]

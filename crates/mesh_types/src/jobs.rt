@@ -114,7 +114,8 @@ impl Job {
 /// The most jobs of an event.
 pub const MOST_JOBS: usize = 160;
 
-/// The jobs of an entry in their order, at most 160. They take the memory of so many as they are. A clause sees them as the list.
+/// The jobs of an entry in their order, at most 160. They take the memory of so many as they are, as far as the allocator gives the rest back;
+/// no clause says so. A clause sees them as the list.
 #[derive(Debug, Drop)]
 pub struct Jobs {
     table: Vec<Job>,
@@ -203,7 +204,7 @@ impl JobDraft {
         let _ = self.table.push(job);
     }
 
-    /// The jobs, of which there are no more. Memory that they don't take is given back.
+    /// The jobs, of which there are no more. Memory that they don't take goes back to the allocator, if that takes it.
     pub fn finish(mut self) -> Jobs
         ensures value { result ≡ self }
     {

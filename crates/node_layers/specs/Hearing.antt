@@ -1,4 +1,5 @@
--- What is answered to an event, and what its octets are read as, is a matter of what hears: not of what is stored, replied and published.
+-- What is answered to an event, and what its octets are read as, after one past and over one list of records: a matter of what hears, not of
+-- what is stored, replied and published for this event.
 use Rattle.std.specs.Prelude.{◌≡◌}
 use Rattle.mesh_types.specs.declared.events.Event.{Event}
 use Rattle.run_definitions.specs.Answers.{answer_of}

@@ -18,8 +18,9 @@ pub fn segment_law()
     ensures node_whole { HasWhole node_layers }
 {}
 
-/// The layers without friendships hear as those below them do: what is stored, replied and published makes no difference to what is answered,
-/// nor to what octets are read as.
+/// The layers without friendships hear as those below them do: after the same past and records an event is answered alike over both, and what
+/// octets are read as over those below they are read as over these. What is stored, replied and published for an event is not asked for its
+/// own answer.
 pub fn hearing_law()
     ensures answers { AnswerAlike configured_layers built_layers }
     ensures reads { ReadAlike built_layers configured_layers }
