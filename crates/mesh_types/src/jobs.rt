@@ -112,7 +112,7 @@ impl Job {
 }
 
 /// The most jobs of an event.
-pub const MOST_JOBS: usize = 160;
+const MOST_JOBS: usize = 160;
 
 /// The jobs of an entry in their order, at most 160. They take the memory of so many as they are, as far as the allocator gives the rest back;
 /// no clause says so. A clause sees them as the list.
@@ -187,7 +187,7 @@ impl Model for JobDraft {
 }
 
 impl JobDraft {
-    /// No jobs, and memory for 160.
+    /// No jobs, and memory for 160, which comes from `alloc`. The error is for want of memory.
     pub fn new(alloc: Global) -> Result<JobDraft, AllocError>
         ensures value { IfOk result (λ j. j ≡ []) }
     {

@@ -4,6 +4,8 @@ use Rattle.script_definitions.specs.declared.line.ScriptNet.{ScriptNet}
 use Rattle.script_definitions.specs.declared.line.TalkDst.{TalkDst}
 use Rattle.script_definitions.specs.declared.line.TalkDst.TheVariants as D
 use Rattle.script_definitions.specs.declared.line.TalkKey.{TalkKey}
+use Rattle.script_definitions.specs.declared.line.ScriptLine.{ScriptLine}
+use Rattle.script_definitions.specs.declared.line.ScriptLine.TheVariants as L
 use Rattle.script_definitions.specs.declared.line.TalkLine.{TalkLine}
 
 pub record Kept : Type 0 where
@@ -22,3 +24,9 @@ label_behind kept (D.Label label) = Some label
 -- behind a line `talk`
 abbrev pub behind_talk : Kept → TalkLine → Kept
 behind_talk kept talk = record { credentials = Some talk.net; key = Some talk.key; label = label_behind kept.label talk.pdu.dst }
+
+-- behind any line: only `peer` and `talk` are sealed by what is kept
+abbrev pub behind : Kept → ScriptLine → Kept
+behind kept (L.Peer bearer peer) = record kept { credentials = Some peer.net }
+behind kept (L.Talk bearer talk) = behind_talk kept talk
+behind kept _ = kept

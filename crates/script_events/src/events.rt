@@ -7,6 +7,7 @@ ghost use Rattle.mesh_types.specs.declared.events.Event.TheVariants as E;
 ghost use Rattle.script_definitions.specs.Events as Said;
 ghost use Rattle.script_definitions.specs.Ranges.{IsPayload};
 ghost use Rattle.script_events.specs.Happenings.{IsRead, said};
+ghost use Rattle.script_events.specs.Kept.{behind};
 
 use crate::outside::{OutsideNode, beacon_octets};
 use mesh_base::octets::Octets;
@@ -65,6 +66,7 @@ impl OutsideNode {
     pub fn happening_of(&mut self, line: &ScriptLine) -> Option<Happening>
         requires ranges { IsRead line.now }
         ensures value { option_map said result ≡ Said.happening_of line.now }
+        ensures kept { self.new ≡ behind self.old line.now }
     {
         let (bearer, event) = match line {
             ScriptLine::Net { bearer, octets } => (bearer, Event::Net(octets.copied())),
