@@ -5,7 +5,9 @@ use Rattle.cipher_definitions.specs.Aes.{times, mixed}
 
 -- the 16 octets of four columns
 abbrev pub octets : List ℕ → List ℕ
-octets s = to_be_bytes w32 (slice_index s 0) ++ to_be_bytes w32 (slice_index s 1) ++ to_be_bytes w32 (slice_index s 2) ++ to_be_bytes w32 (slice_index s 3)
+octets s =
+    to_be_bytes w32 (slice_index s 0) ++ to_be_bytes w32 (slice_index s 1) ++ to_be_bytes w32 (slice_index s 2)
+    ++ to_be_bytes w32 (slice_index s 3)
 
 -- row r of a column
 abbrev pub row : ℕ → ℕ → ℕ
@@ -31,4 +33,6 @@ added_from_row_3 s = s ∷ s ∷ times 3 s ∷ times 2 s ∷ []
 -- round key i, of round keys that stand column by column
 abbrev pub round_key : List (List ℕ) → ℕ → List ℕ
 round_key columns i =
-    octets (slice_index (slice_index_or columns 0 []) i ∷ slice_index (slice_index_or columns 1 []) i ∷ slice_index (slice_index_or columns 2 []) i ∷ slice_index (slice_index_or columns 3 []) i ∷ [])
+    octets
+    (slice_index (slice_index_or columns 0 []) i ∷ slice_index (slice_index_or columns 1 []) i
+    ∷ slice_index (slice_index_or columns 2 []) i ∷ slice_index (slice_index_or columns 3 []) i ∷ [])

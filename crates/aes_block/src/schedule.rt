@@ -28,7 +28,8 @@ impl Model for Schedule {
 
     ghost view = { λ s. round_key s.columns 0 };
 
-    ghost invariant = { λ s. (i : ℕ) → i < 10 → round_key s.columns (i + 1) ≡ slice_index_or (round_keys (round_key s.columns 0)) i [] };
+    ghost invariant = { λ s. (i : ℕ) → i < 10
+        → round_key s.columns (i + 1) ≡ slice_index_or (round_keys (round_key s.columns 0)) i [] };
 }
 
 // A round constant times x, without the carry out of eight bits (FIPS 197, 4.2.1).

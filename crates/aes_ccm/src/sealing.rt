@@ -96,8 +96,10 @@ pub fn unseal(
     requires text_length { length text.old < 2 ^ 16 }
     requires additional_length { length additional.now < 65280 }
     ensures ok { OnOk result (Seals schedule.now nonce.now additional.now text.new text.old mic.now) }
-    ensures only { OnOk result ((other : List ℕ) → Seals schedule.now nonce.now additional.now other text.old mic.now → other ≡ text.new) }
-    ensures bad_mic { IsErr result ↔ ((other : List ℕ) → Seals schedule.now nonce.now additional.now other text.old mic.now → ⊥) }
+    ensures only { OnOk result
+        ((other : List ℕ) → Seals schedule.now nonce.now additional.now other text.old mic.now → other ≡ text.new) }
+    ensures bad_mic { IsErr result
+        ↔ ((other : List ℕ) → Seals schedule.now nonce.now additional.now other text.old mic.now → ⊥) }
     ensures zeros { OnErr result (text.new ≡ replicate (length text.old) 0) }
 {
     add_stream(schedule, nonce, text);

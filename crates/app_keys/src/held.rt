@@ -44,7 +44,8 @@ fn kept(row: &AppKeyRow, fresh: bool, key: &[u8; 16]) -> BoundSchedule
 // Puts the values of a row behind the others, the old one before the new.
 fn add_values(bound: &mut ArrayVec<BoundSchedule, 16>, row: &AppKeyRow)
     requires room { array_vec_len bound.old + 2 ≤ 16 }
-    ensures value { bound.new.items ≡ bound.old.items ++ keys_of (bound_key row.now.net row.now.index) row.now.key row.now.next }
+    ensures value { bound.new.items
+        ≡ bound.old.items ++ keys_of (bound_key row.now.net row.now.index) row.now.key row.now.next }
     ensures length { array_vec_len bound.new ≤ array_vec_len bound.old + 2 }
 {
     bound.push(kept(row, false, &row.key));

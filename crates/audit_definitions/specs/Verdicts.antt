@@ -87,7 +87,8 @@ IsUpTo p q = (p.line < q.line) ⊎ ((p.line ≡ q.line) × ((p.kind < q.kind) �
 
 -- The verdict of a report under these keys: that nothing is wrong with so many lines, or the first thing that is wrong.
 abbrev pub IsVerdictOf : List ScriptNet → List ReportLine → Verdict → Type 0
-IsVerdictOf nets lines (V.Sound count) = (count ≡ length nets + length lines) × ((w : Verdict) → IsWrong nets lines w → ⊥)
+IsVerdictOf nets lines (V.Sound count) =
+    (count ≡ length nets + length lines) × ((w : Verdict) → IsWrong nets lines w → ⊥)
 IsVerdictOf nets lines v = IsWrong nets lines v × ((w : Verdict) → IsWrong nets lines w → IsUpTo (place v) (place w))
 
 -- the verdict on an input

@@ -27,8 +27,10 @@ use Rattle.audit_laws.specs.Reading.{as_told, report_lines}
 -- the fields of the network PDU that a line of a job shows
 abbrev pub fields_shown : Job → Outcome → Option NetFields
 fields_shown job (O.Ctl pair ttl src dst tpdu pdu) = Some (own_fields pair true ttl src dst tpdu)
-fields_shown job (O.Msg pair ttl src dst key payload pdu) = option_map (λ k. message_fields k pair ttl src dst payload) (upper_key_of job)
-fields_shown job (O.Seg pair ttl src dst seg_o seg_n auth pdu) = Some (own_fields pair false ttl src dst (segment_of job))
+fields_shown job (O.Msg pair ttl src dst key payload pdu) =
+    option_map (λ k. message_fields k pair ttl src dst payload) (upper_key_of job)
+fields_shown job (O.Seg pair ttl src dst seg_o seg_n auth pdu) =
+    Some (own_fields pair false ttl src dst (segment_of job))
 fields_shown job (O.Relay pair ctl ttl src dst tpdu pdu) = Some (own_fields pair ctl ttl src dst tpdu)
 fields_shown job _ = None
 

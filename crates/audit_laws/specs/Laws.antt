@@ -31,7 +31,9 @@ NamesElement elements _ = ⊤
 
 -- in each life, each phase, and on each bearer
 abbrev pub NamesElements : Script → Type 0
-NamesElements s = All (λ plan. All (λ phase. All (λ events. All (NamesElement s.node.elements) events) phase) (phases_of plan)) s.lives
+NamesElements s =
+    All (λ plan. All (λ phase. All (λ events. All (NamesElement s.node.elements) events) phase) (phases_of plan))
+    s.lives
 
 -- What stands before an event in a node that has an element: what it was asked to send came from its elements, and they are still the same.
 pub record IsOwnPast (layers : Layers) (past : Past) (c : Config) : Type 0 where
@@ -42,11 +44,16 @@ pub record IsOwnPast (layers : Layers) (past : Past) (c : Config) : Type 0 where
 
 -- After such a past the layers above the lower transport layer send from an element alone.
 pub record SendOwn (layers : Layers) : Type 0 where
-  pub acks_due : (past : Past) (c : Config) (ticks : ℕ) → IsOwnPast layers past c → All (IsOwn c) (layers.acks_due past c ticks)
-  pub segments_due : (past : Past) (c : Config) (ticks : ℕ) → IsOwnPast layers past c → All (IsOwn c) (layers.segments_due past c ticks)
-  pub control_jobs : (past : Past) (c : Config) (m : ControlMessage) → IsOwnPast layers past c → All (IsOwn c) (layers.control_jobs past c m)
-  pub replies : (past : Past) (c : Config) (m : AccessMessage) → IsOwnPast layers past c → All (IsOwn c) (layers.replies past c m)
-  pub published : (past : Past) (c : Config) (ticks : ℕ) → IsOwnPast layers past c → All (IsOwn c) (layers.published past c ticks)
+  pub acks_due : (past : Past) (c : Config) (ticks : ℕ) → IsOwnPast layers past c
+      → All (IsOwn c) (layers.acks_due past c ticks)
+  pub segments_due : (past : Past) (c : Config) (ticks : ℕ) → IsOwnPast layers past c
+      → All (IsOwn c) (layers.segments_due past c ticks)
+  pub control_jobs : (past : Past) (c : Config) (m : ControlMessage) → IsOwnPast layers past c
+      → All (IsOwn c) (layers.control_jobs past c m)
+  pub replies : (past : Past) (c : Config) (m : AccessMessage) → IsOwnPast layers past c
+      → All (IsOwn c) (layers.replies past c m)
+  pub published : (past : Past) (c : Config) (ticks : ℕ) → IsOwnPast layers past c
+      → All (IsOwn c) (layers.published past c ticks)
 
 abbrev pub NodeSendOwn : Type 0
 NodeSendOwn = SendOwn node_layers

@@ -50,4 +50,5 @@ ReportsAreRead =
 -- The events that the lines of a life of a script stand for name elements of its node.
 abbrev pub LivesNameElements : Type 0
 LivesNameElements =
-    (g : Grammar) (elements : ℕ) (life : List ScriptLine) → IsLife g elements life → (k : ℕ) → All (NamesElement elements) (events_on k life)
+    (g : Grammar) (elements : ℕ) (life : List ScriptLine) → IsLife g elements life → (k : ℕ)
+    → All (NamesElement elements) (events_on k life)

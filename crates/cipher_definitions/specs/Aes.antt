@@ -30,7 +30,10 @@ inverse a = inverse_from 255 1 a
 -- the affine map of SubBytes: bit i of the result is the sum of bits i, i + 4, i + 5, i + 6 and
 -- i + 7 of b, modulo 8, and of bit i of 63 in hexadecimal (5.1.1, equation 5.1)
 unfoldable pub affine : ℕ → ℕ
-affine b = bit_xor (bit_xor (bit_xor (bit_xor (bit_xor b (rotate_left w8 b 1)) (rotate_left w8 b 2)) (rotate_left w8 b 3)) (rotate_left w8 b 4)) 0x63
+affine b =
+    bit_xor
+    (bit_xor (bit_xor (bit_xor (bit_xor b (rotate_left w8 b 1)) (rotate_left w8 b 2)) (rotate_left w8 b 3))
+    (rotate_left w8 b 4)) 0x63
 
 -- the S-box (5.1.1)
 unfoldable pub sub_octet : ℕ → ℕ
@@ -72,11 +75,15 @@ rounds (key ∷ keys) s = rounds keys (round s key)
 
 -- word i of a round key, of four words
 abbrev pub word : List ℕ → ℕ → List ℕ
-word key i = slice_index key (4 * i) ∷ slice_index key (4 * i + 1) ∷ slice_index key (4 * i + 2) ∷ slice_index key (4 * i + 3) ∷ []
+word key i =
+    slice_index key (4 * i) ∷ slice_index key (4 * i + 1) ∷ slice_index key (4 * i + 2) ∷ slice_index key (4 * i + 3)
+    ∷ []
 
 -- SubWord of RotWord of a word, with the sum of the round constant to its first octet (5.2)
 unfoldable pub turned_word : ℕ → List ℕ → List ℕ
-turned_word constant w = bit_xor (sub_octet (slice_index w 1)) constant ∷ sub_octet (slice_index w 2) ∷ sub_octet (slice_index w 3) ∷ sub_octet (slice_index w 0) ∷ []
+turned_word constant w =
+    bit_xor (sub_octet (slice_index w 1)) constant ∷ sub_octet (slice_index w 2) ∷ sub_octet (slice_index w 3)
+    ∷ sub_octet (slice_index w 0) ∷ []
 
 -- the words of a round key from the one before it, of which only words 1 to 3 are asked, and from
 -- its own first word: each is the sum of the word four before it and the word before it (5.2)

@@ -12,7 +12,8 @@ first_flags additional mic_length = (if (length additional) == 0 then 0 else 64)
 
 -- B_0: flags, nonce and the length of the text (2.2)
 abbrev pub first_block : List ℕ → List ℕ → ℕ → ℕ → List ℕ
-first_block nonce additional text_length mic_length = first_flags additional mic_length ∷ nonce ++ two_octets text_length
+first_block nonce additional text_length mic_length =
+    first_flags additional mic_length ∷ nonce ++ two_octets text_length
 
 -- the blocks of the additional data, which begin with its length, or none where it is empty (2.2)
 unfoldable pub additional_blocks : List ℕ → List (List ℕ)
@@ -22,7 +23,9 @@ additional_blocks additional =
 -- T: the first M octets of the chaining of B_0, additional data and text (2.2)
 unfoldable pub ccm_tag : List ℕ → List ℕ → List ℕ → List ℕ → ℕ → List ℕ
 ccm_tag key nonce additional text mic_length =
-    take mic_length (chained key (replicate 16 0) (first_block nonce additional (length text) mic_length ∷ additional_blocks additional ++ whole_blocks text))
+    take mic_length
+    (chained key (replicate 16 0)
+    (first_block nonce additional (length text) mic_length ∷ additional_blocks additional ++ whole_blocks text))
 
 -- A_i: the flags L' = 1, the nonce and the counter (2.3)
 abbrev pub counter_block : List ℕ → ℕ → List ℕ
@@ -39,8 +42,10 @@ ccm_text key nonce text = xor_lists text (stream key nonce 1 (block_count (lengt
 
 -- U, the MIC of M octets: the sum of T and the first M octets of S_0 (2.3)
 unfoldable pub ccm_mic : List ℕ → List ℕ → List ℕ → List ℕ → ℕ → List ℕ
-ccm_mic key nonce additional text mic_length = xor_lists (ccm_tag key nonce additional text mic_length) (aes key (counter_block nonce 0))
+ccm_mic key nonce additional text mic_length =
+    xor_lists (ccm_tag key nonce additional text mic_length) (aes key (counter_block nonce 0))
 
 -- a text seals to an encrypted text and a MIC (2.4)
 abbrev pub Seals : List ℕ → List ℕ → List ℕ → List ℕ → List ℕ → List ℕ → Type 0
-Seals key nonce additional text sealed mic = (ccm_text key nonce text ≡ sealed) × (ccm_mic key nonce additional text (length mic) ≡ mic)
+Seals key nonce additional text sealed mic =
+    (ccm_text key nonce text ≡ sealed) × (ccm_mic key nonce additional text (length mic) ≡ mic)

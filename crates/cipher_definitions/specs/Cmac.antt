@@ -27,7 +27,8 @@ filled_block b = b ++ 128 ∷ replicate (15 - length b) 0
 
 -- M_last: the last block with the subkey for it (2.4, step 4)
 unfoldable pub last_block : List ℕ → List ℕ → List ℕ
-last_block key b = if (length b) == 16 then xor_lists b (first_subkey key) else xor_lists (filled_block b) (second_subkey key)
+last_block key b =
+    if (length b) == 16 then xor_lists b (first_subkey key) else xor_lists (filled_block b) (second_subkey key)
 
 -- how many blocks of a message of n octets stand before its last (2.4, steps 2 and 3)
 abbrev pub blocks_before_last : ℕ → ℕ
@@ -38,4 +39,5 @@ blocks_before_last n = (n - 1) / 16
 unfoldable pub cmac : List ℕ → List ℕ → List ℕ
 cmac key message =
     chained key (replicate 16 0)
-    (blocks (blocks_before_last (length message)) message ++ last_block key (drop (16 * blocks_before_last (length message)) message) ∷ [])
+    (blocks (blocks_before_last (length message)) message
+    ++ last_block key (drop (16 * blocks_before_last (length message)) message) ∷ [])

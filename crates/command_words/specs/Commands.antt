@@ -18,12 +18,14 @@ has_flag words flag = (length words == 2) && is_at words 0 (codes "run") && is_a
 
 -- `run` and two flags
 abbrev pub has_flags : List (List ℕ) → List ℕ → List ℕ → Bool
-has_flags words first second = (length words == 3) && is_at words 0 (codes "run") && is_at words 1 first && is_at words 2 second
+has_flags words first second =
+    (length words == 3) && is_at words 0 (codes "run") && is_at words 1 first && is_at words 2 second
 
 -- `run` with its flags, each once, in any order
 abbrev pub is_run : RunFlags → List (List ℕ) → Bool
 is_run flags words =
-    if flags.hex && flags.old then has_flags words (codes "--hex") (codes "--old") || has_flags words (codes "--old") (codes "--hex")
+    if flags.hex && flags.old
+    then has_flags words (codes "--hex") (codes "--old") || has_flags words (codes "--old") (codes "--hex")
     else if flags.hex then has_flag words (codes "--hex")
     else if flags.old then has_flag words (codes "--old")
     else is_word words (codes "run")

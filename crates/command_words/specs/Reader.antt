@@ -33,7 +33,8 @@ has_flag id rows = option_map_or (λ text. bytes_eq text (codes "true")) (one_of
 -- the command of a subcommand that was entered
 abbrev pub told_of : Text → List Row → Option Command
 told_of name rows =
-    if bytes_eq name (codes "run") then Some (C.Run (record { hex = has_flag (codes "hex") rows; old = has_flag (codes "old") rows }))
+    if bytes_eq name (codes "run")
+    then Some (C.Run (record { hex = has_flag (codes "hex") rows; old = has_flag (codes "old") rows }))
     else if bytes_eq name (codes "audit") then Some C.Audit
     else None
 

@@ -48,7 +48,8 @@ relay_get c _ = None
 abbrev pub relay_set : Config → List ℕ → Option ConfigAct
 relay_set c (relay ∷ retransmit ∷ []) =
     if is_switch relay then
-    acted (feature_record 4 (c.relay * 256 + c.retransmit) (relay * 256 + retransmit)) (0x80 ∷ 0x28 ∷ relay ∷ retransmit ∷ [])
+    acted (feature_record 4 (c.relay * 256 + c.retransmit) (relay * 256 + retransmit))
+    (0x80 ∷ 0x28 ∷ relay ∷ retransmit ∷ [])
     else None
 relay_set c _ = None
 

@@ -122,7 +122,9 @@ net_key_act o net = acted o.change (0x80 ∷ 0x44 ∷ status_octet o.status ∷ 
 
 -- NetKey Add 8040 and NetKey Update 8045: the index, the key
 abbrev pub net_key_set : (ℕ → List ℕ → Outcome) → List ℕ → Option ConfigAct
-net_key_set outcome (a ∷ b ∷ key) = let net = index_of a b in if is_key key then net_key_act (outcome net key) net else None
+net_key_set outcome (a ∷ b ∷ key) =
+    let net = index_of a b in
+    if is_key key then net_key_act (outcome net key) net else None
 net_key_set outcome _ = None
 
 -- NetKey Delete 8041: the index

@@ -29,7 +29,8 @@ has_model c element model = model == 0x1000 || model == 0x1002 || (model == 0x00
 -- The model that is meant: refused where there is no such element, then where it has no such model, then with this status where it is the
 -- Configuration Server, which neither subscribes nor publishes nor is bound.
 abbrev pub model_of : Config → Address → List ℕ → Status → Result ℕ Status
-model_of c element model status = if not (is_element c element.0) then Err S.InvalidAddress else by_number (model_number model)
+model_of c element model status =
+    if not (is_element c element.0) then Err S.InvalidAddress else by_number (model_number model)
   where
     by_number : Option ℕ → Result ℕ Status
     by_number None = Err S.InvalidModel
@@ -118,14 +119,19 @@ abbrev pub group_set : Config → (Address → Address → ℕ → Outcome) → 
 group_set c outcome (a ∷ b ∷ d ∷ e ∷ model) =
     let element = address_of a b in
     let group = address_of d e in
-    if is_model model then subscription_act (on_model (model_of c element model S.NotSubscribe) (outcome element group)) element group.0 model else None
+    if is_model model then
+    subscription_act (on_model (model_of c element model S.NotSubscribe) (outcome element group)) element group.0 model
+    else None
 group_set c outcome _ = None
 
 -- Model Subscription Delete All 801d: element, model
 abbrev pub subscriptions_removal : Config → List ℕ → Option ConfigAct
 subscriptions_removal c (a ∷ b ∷ model) =
     let element = address_of a b in
-    if is_model model then subscription_act (on_model (model_of c element model S.NotSubscribe) (subscriptions_delete c element)) element 0 model else None
+    if is_model model then
+    subscription_act (on_model (model_of c element model S.NotSubscribe) (subscriptions_delete c element)) element 0
+    model
+    else None
 subscriptions_removal c _ = None
 
 -- Model Subscription Virtual Address Add 8020, Delete 8021, Overwrite 8022: element, label, model
@@ -135,7 +141,8 @@ label_set c outcome (a ∷ b ∷ rest) =
     let label = take 16 rest in
     let model = drop 16 rest in
     if is_model model then
-    subscription_act (on_model (model_of c element model S.NotSubscribe) (outcome element label)) element (virtual_address label) model
+    subscription_act (on_model (model_of c element model S.NotSubscribe) (outcome element label)) element
+    (virtual_address label) model
     else None
 label_set c outcome _ = None
 
@@ -167,5 +174,7 @@ abbrev pub bind_set : Config → (Address → ℕ → ℕ → Outcome) → List 
 bind_set c outcome (a ∷ b ∷ d ∷ e ∷ model) =
     let element = address_of a b in
     let app = index_of d e in
-    if is_model model then bind_act (on_model (model_of c element model S.CannotBind) (outcome element app)) element app model else None
+    if is_model model
+    then bind_act (on_model (model_of c element model S.CannotBind) (outcome element app)) element app model
+    else None
 bind_set c outcome _ = None

@@ -24,7 +24,8 @@ is_model_row element model r = r.element.0 == element.0 && r.model == model
 
 abbrev pub is_same_row : PublishRow → PublishRow → Bool
 is_same_row a b =
-    is_model_row a.element a.model b && a.address.0 == b.address.0 && a.app == b.app && a.ttl == b.ttl && a.period == b.period
+    is_model_row a.element a.model b && a.address.0 == b.address.0 && a.app == b.app && a.ttl == b.ttl
+    && a.period == b.period
     && a.retransmit == b.retransmit
 
 -- A row is set. Publish addresses aren't virtual here; where there is one, its application key is held and bound to the model. There is room
@@ -33,14 +34,25 @@ abbrev pub row_set : Config → PublishRow → Outcome
 row_set c row =
     if is_virtual row.address then refused S.InvalidAddress
     else if not (row.address.0 == 0) && not (has_app c row.app) then refused S.InvalidAppKey
-    else if not (row.address.0 == 0) && not (list_any (is_bind row.element row.model row.app) c.binds) then refused S.InvalidPublish
-    else if nat_le 8 (length (filter (λ r. not (is_model_row row.element row.model r)) c.publications)) then refused S.InsufficientResources
+    else if not (row.address.0 == 0) && not (list_any (is_bind row.element row.model row.app) c.binds)
+    then refused S.InvalidPublish
+    else if nat_le 8 (length (filter (λ r. not (is_model_row row.element row.model r)) c.publications))
+    then refused S.InsufficientResources
     else if list_any (is_same_row row) c.publications then unchanged
     else stored (R.Publish row)
 
 -- no publication: zeros
 abbrev pub no_row : Address → ℕ → PublishRow
-no_row element model = record { element = element; model = model; address = record { 0 = 0 }; app = 0; ttl = 0; period = 0; retransmit = 0 }
+no_row element model =
+    record {
+      element = element;
+      model = model;
+      address = record { 0 = 0 };
+      app = 0;
+      ttl = 0;
+      period = 0;
+      retransmit = 0;
+    }
 
 -- what the model publishes, and nothing where it can't
 abbrev pub row_of : Config → Address → ℕ → PublishRow
@@ -76,7 +88,8 @@ is_publish_ttl ttl = nat_le ttl 0x7f || ttl == 0xff
 abbrev pub publication_set : Config → List ℕ → Option ConfigAct
 publication_set c (a ∷ b ∷ d ∷ e ∷ f ∷ g ∷ ttl ∷ period ∷ retransmit ∷ model) =
     if is_model model && is_publish_ttl ttl then
-    publication_act (on_model (model_of c (address_of a b) model S.InvalidPublish) (λ n. row_set c (asked n))) (address_of a b) (asked 0) model
+    publication_act (on_model (model_of c (address_of a b) model S.InvalidPublish) (λ n. row_set c (asked n)))
+    (address_of a b) (asked 0) model
     else None
   where
     asked : ℕ → PublishRow
@@ -96,7 +109,8 @@ publication_set c _ = None
 -- Heartbeat Publication Status 06: status, destination, Count Log, Period Log, TTL, features, network key
 abbrev pub heartbeat_status : ℕ → HeartbeatRow → List ℕ
 heartbeat_status status h =
-    0x06 ∷ status ∷ two_low_first h.dst.0 ++ h.count ∷ h.period ∷ h.ttl ∷ two_low_first h.features ++ two_low_first h.net
+    0x06 ∷ status ∷ two_low_first h.dst.0 ++ h.count ∷ h.period ∷ h.ttl ∷ two_low_first h.features
+    ++ two_low_first h.net
 
 -- Heartbeat Publication Get 8038
 abbrev pub heartbeat_get : HeartbeatRow → List ℕ → Option ConfigAct
@@ -116,8 +130,17 @@ beat_set c h =
 
 -- Heartbeat Publication Set 8039: destination, Count Log, Period Log, TTL, features, network key. The Status shows the fields of the message.
 abbrev pub heartbeat_set : Config → List ℕ → Option ConfigAct
-heartbeat_set c (a ∷ b ∷ count ∷ period ∷ ttl ∷ d ∷ e ∷ f ∷ g ∷ []) = if is_heartbeat asked then beat_set c asked else None
+heartbeat_set c (a ∷ b ∷ count ∷ period ∷ ttl ∷ d ∷ e ∷ f ∷ g ∷ []) =
+    if is_heartbeat asked then beat_set c asked else None
   where
     asked : HeartbeatRow
-    asked = record { dst = address_of a b; count = count; period = period; ttl = ttl; features = d + e * 256; net = index_of f g }
+    asked =
+        record {
+          dst = address_of a b;
+          count = count;
+          period = period;
+          ttl = ttl;
+          features = d + e * 256;
+          net = index_of f g;
+        }
 heartbeat_set c _ = None

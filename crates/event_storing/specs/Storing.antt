@@ -10,7 +10,8 @@ use Rattle.store_definitions.specs.Config.{Config, changed}
 
 -- the IV state of a Numbers record
 abbrev pub state_said : StoreRecord → Option IvState
-state_said (R.Numbers current progress mark hours since) = Some (record { current = current; progress = progress; hours = hours; since = since })
+state_said (R.Numbers current progress mark hours since) =
+    Some (record { current = current; progress = progress; hours = hours; since = since })
 state_said _ = None
 
 -- the words that a keeper's seat moved the counter of sequence numbers to

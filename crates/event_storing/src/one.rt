@@ -55,23 +55,33 @@ fn put_other<F: Flash>(
     requires range { IsInRange item.now }
     requires place { IsFull reserve.old.store.persist item.now → ⊥ }
 
-    ensures cause { OnErr result ((result ≡ Err KeepFault.Flash) × (reserve.new.store.journal.closed ≡ true) × ((F.chip flash.old).faults < (F.chip flash.new).faults)) }
+    ensures cause { OnErr result
+        ((result ≡ Err KeepFault.Flash) × (reserve.new.store.journal.closed ≡ true)
+        × ((F.chip flash.old).faults < (F.chip flash.new).faults)) }
     ensures usable { OnOk result (reserve.new.store.journal.closed ≡ false) }
     ensures used { OnOk result (reserve.new.store.journal.used ≡ used_with_room reserve.old.store + 1) }
-    ensures change { OnOk result (config_in reserve.new.store.persist ≡ changed (config_in reserve.old.store.persist) item.now) }
-    ensures meaning { (rs : List StoreRecord) → IsMeaningOf rs reserve.old.store.persist → OnOk result (IsMeaningOf (rs ++ item.now ∷ []) reserve.new.store.persist) }
+    ensures change { OnOk result
+        (config_in reserve.new.store.persist ≡ changed (config_in reserve.old.store.persist) item.now) }
+    ensures meaning { (rs : List StoreRecord) → IsMeaningOf rs reserve.old.store.persist
+        → OnOk result (IsMeaningOf (rs ++ item.now ∷ []) reserve.new.store.persist) }
     ensures keeper { reserve.new.keeper ≡ reserve.old.keeper }
     ensures published { IsPublished reserve.new.store reserve.new.keeper }
 
     // of a store of this flash
-    ensures kept { (rs : List StoreRecord) → IsStoreOf (F.chip flash.old) reserve.old.store rs → OnOk result (IsStoreOf (F.chip flash.new) reserve.new.store (rs ++ item.now ∷ [])) }
-    ensures any_moment { (rs : List StoreRecord) → IsStoreOf (F.chip flash.old) reserve.old.store rs → LeavesOnly (F.chip flash.old) (F.chip flash.new) (IsPut rs item.now) }
-    ensures mark { (rs : List StoreRecord) → IsStoreOf (F.chip flash.old) reserve.old.store rs → LeavesOnly (F.chip flash.old) (F.chip flash.new) (HasMarkFrom reserve.old.store.persist.mark) }
-    ensures durable { (rs : List StoreRecord) → IsStoreOf (F.chip flash.old) reserve.old.store rs → IsDurable (F.chip flash.new) reserve.new.keeper.mark }
+    ensures kept { (rs : List StoreRecord) → IsStoreOf (F.chip flash.old) reserve.old.store rs
+        → OnOk result (IsStoreOf (F.chip flash.new) reserve.new.store (rs ++ item.now ∷ [])) }
+    ensures any_moment { (rs : List StoreRecord) → IsStoreOf (F.chip flash.old) reserve.old.store rs
+        → LeavesOnly (F.chip flash.old) (F.chip flash.new) (IsPut rs item.now) }
+    ensures mark { (rs : List StoreRecord) → IsStoreOf (F.chip flash.old) reserve.old.store rs
+        → LeavesOnly (F.chip flash.old) (F.chip flash.new) (HasMarkFrom reserve.old.store.persist.mark) }
+    ensures durable { (rs : List StoreRecord) → IsStoreOf (F.chip flash.old) reserve.old.store rs
+        → IsDurable (F.chip flash.new) reserve.new.keeper.mark }
 
     // over a steady flash
-    ensures calls { IsTrue (F.chip flash.old).steady → OnOk result (Begins (calls_of reserve.old.store) (F.chip flash.old) (F.chip flash.new)) }
-    ensures most_calls { IsTrue (F.chip flash.old).steady → BeginsAtMost (calls_of reserve.old.store) (F.chip flash.old) (F.chip flash.new) }
+    ensures calls { IsTrue (F.chip flash.old).steady
+        → OnOk result (Begins (calls_of reserve.old.store) (F.chip flash.old) (F.chip flash.new)) }
+    ensures most_calls { IsTrue (F.chip flash.old).steady
+        → BeginsAtMost (calls_of reserve.old.store) (F.chip flash.old) (F.chip flash.new) }
 
     // of every flash, honest or not
     ensures reads { (F.chip flash.new).reads ≡ (F.chip flash.old).reads }
@@ -100,24 +110,36 @@ pub(crate) fn store_one<F: Flash>(
     requires place { IsFull reserve.old.store.persist item.now → ⊥ }
     requires moves { IsMove (config_in reserve.old.store.persist) item.now }
 
-    ensures cause { OnErr result ((result ≡ Err KeepFault.Flash) × (reserve.new.store.journal.closed ≡ true) × ((F.chip flash.old).faults < (F.chip flash.new).faults)) }
+    ensures cause { OnErr result
+        ((result ≡ Err KeepFault.Flash) × (reserve.new.store.journal.closed ≡ true)
+        × ((F.chip flash.old).faults < (F.chip flash.new).faults)) }
     ensures usable { OnOk result (reserve.new.store.journal.closed ≡ false) }
     ensures used { OnOk result (reserve.new.store.journal.used ≡ used_with_room reserve.old.store + 1) }
-    ensures change { OnOk result (config_in reserve.new.store.persist ≡ changed (config_in reserve.old.store.persist) item.now) }
-    ensures meaning { (rs : List StoreRecord) → IsMeaningOf rs reserve.old.store.persist → OnOk result (IsMeaningOf (rs ++ item.now ∷ []) reserve.new.store.persist) }
-    ensures advanced { OnOk result (moved_to reserve.new.keeper ≡ moved_to reserve.old.keeper ++ advance_to (config_in reserve.old.store.persist) (state_said item.now)) }
+    ensures change { OnOk result
+        (config_in reserve.new.store.persist ≡ changed (config_in reserve.old.store.persist) item.now) }
+    ensures meaning { (rs : List StoreRecord) → IsMeaningOf rs reserve.old.store.persist
+        → OnOk result (IsMeaningOf (rs ++ item.now ∷ []) reserve.new.store.persist) }
+    ensures advanced { OnOk result
+        (moved_to reserve.new.keeper
+        ≡ moved_to reserve.old.keeper ++ advance_to (config_in reserve.old.store.persist) (state_said item.now)) }
     ensures published { IsPublished reserve.new.store reserve.new.keeper }
     ensures made { reserve.new.keeper.which ≡ reserve.old.keeper.which }
 
     // of a store of this flash
-    ensures kept { (rs : List StoreRecord) → IsStoreOf (F.chip flash.old) reserve.old.store rs → OnOk result (IsStoreOf (F.chip flash.new) reserve.new.store (rs ++ item.now ∷ [])) }
-    ensures any_moment { (rs : List StoreRecord) → IsStoreOf (F.chip flash.old) reserve.old.store rs → LeavesOnly (F.chip flash.old) (F.chip flash.new) (IsPut rs item.now) }
-    ensures mark { (rs : List StoreRecord) → IsStoreOf (F.chip flash.old) reserve.old.store rs → LeavesOnly (F.chip flash.old) (F.chip flash.new) (HasMarkFrom reserve.old.store.persist.mark) }
-    ensures durable { (rs : List StoreRecord) → IsStoreOf (F.chip flash.old) reserve.old.store rs → IsDurable (F.chip flash.new) reserve.new.keeper.mark }
+    ensures kept { (rs : List StoreRecord) → IsStoreOf (F.chip flash.old) reserve.old.store rs
+        → OnOk result (IsStoreOf (F.chip flash.new) reserve.new.store (rs ++ item.now ∷ [])) }
+    ensures any_moment { (rs : List StoreRecord) → IsStoreOf (F.chip flash.old) reserve.old.store rs
+        → LeavesOnly (F.chip flash.old) (F.chip flash.new) (IsPut rs item.now) }
+    ensures mark { (rs : List StoreRecord) → IsStoreOf (F.chip flash.old) reserve.old.store rs
+        → LeavesOnly (F.chip flash.old) (F.chip flash.new) (HasMarkFrom reserve.old.store.persist.mark) }
+    ensures durable { (rs : List StoreRecord) → IsStoreOf (F.chip flash.old) reserve.old.store rs
+        → IsDurable (F.chip flash.new) reserve.new.keeper.mark }
 
     // over a steady flash
-    ensures calls { IsTrue (F.chip flash.old).steady → OnOk result (Begins (calls_of reserve.old.store) (F.chip flash.old) (F.chip flash.new)) }
-    ensures most_calls { IsTrue (F.chip flash.old).steady → BeginsAtMost (calls_of reserve.old.store) (F.chip flash.old) (F.chip flash.new) }
+    ensures calls { IsTrue (F.chip flash.old).steady
+        → OnOk result (Begins (calls_of reserve.old.store) (F.chip flash.old) (F.chip flash.new)) }
+    ensures most_calls { IsTrue (F.chip flash.old).steady
+        → BeginsAtMost (calls_of reserve.old.store) (F.chip flash.old) (F.chip flash.new) }
 
     // of every flash, honest or not
     ensures reads { (F.chip flash.new).reads ≡ (F.chip flash.old).reads }

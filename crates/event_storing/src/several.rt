@@ -33,23 +33,36 @@ fn store_each<F: Flash>(
     requires may { ArePuttable reserve.old.store.persist items.now }
     requires moves { AreMoves (config_in reserve.old.store.persist) items.now }
 
-    ensures cause { OnErr result ((result ≡ Err KeepFault.Flash) × (reserve.new.store.journal.closed ≡ true) × ((F.chip flash.old).faults < (F.chip flash.new).faults)) }
+    ensures cause { OnErr result
+        ((result ≡ Err KeepFault.Flash) × (reserve.new.store.journal.closed ≡ true)
+        × ((F.chip flash.old).faults < (F.chip flash.new).faults)) }
     ensures usable { OnOk result (reserve.new.store.journal.closed ≡ false) }
-    ensures change { OnOk result (config_in reserve.new.store.persist ≡ fold changed (config_in reserve.old.store.persist) items.now) }
-    ensures meaning { OnOk result ((rs : List StoreRecord) → IsMeaningOf rs reserve.old.store.persist → IsMeaningOf (rs ++ items.now) reserve.new.store.persist) }
-    ensures advanced { OnOk result (moved_to reserve.new.keeper ≡ moved_to reserve.old.keeper ++ advances_of (config_in reserve.old.store.persist) items.now) }
+    ensures change { OnOk result
+        (config_in reserve.new.store.persist ≡ fold changed (config_in reserve.old.store.persist) items.now) }
+    ensures meaning { OnOk result
+        ((rs : List StoreRecord) → IsMeaningOf rs reserve.old.store.persist
+        → IsMeaningOf (rs ++ items.now) reserve.new.store.persist) }
+    ensures advanced { OnOk result
+        (moved_to reserve.new.keeper
+        ≡ moved_to reserve.old.keeper ++ advances_of (config_in reserve.old.store.persist) items.now) }
     ensures published { IsPublished reserve.new.store reserve.new.keeper }
     ensures made { reserve.new.keeper.which ≡ reserve.old.keeper.which }
 
     // of a store of this flash
-    ensures kept { (rs : List StoreRecord) → IsStoreOf (F.chip flash.old) reserve.old.store rs → OnOk result (IsStoreOf (F.chip flash.new) reserve.new.store (rs ++ items.now)) }
-    ensures any_moment { (rs : List StoreRecord) → IsStoreOf (F.chip flash.old) reserve.old.store rs → LeavesOnly (F.chip flash.old) (F.chip flash.new) (IsFront rs items.now) }
-    ensures mark { (rs : List StoreRecord) → IsStoreOf (F.chip flash.old) reserve.old.store rs → LeavesOnly (F.chip flash.old) (F.chip flash.new) (HasMarkFrom reserve.old.store.persist.mark) }
-    ensures durable { (rs : List StoreRecord) → IsStoreOf (F.chip flash.old) reserve.old.store rs → IsDurable (F.chip flash.new) reserve.new.keeper.mark }
+    ensures kept { (rs : List StoreRecord) → IsStoreOf (F.chip flash.old) reserve.old.store rs
+        → OnOk result (IsStoreOf (F.chip flash.new) reserve.new.store (rs ++ items.now)) }
+    ensures any_moment { (rs : List StoreRecord) → IsStoreOf (F.chip flash.old) reserve.old.store rs
+        → LeavesOnly (F.chip flash.old) (F.chip flash.new) (IsFront rs items.now) }
+    ensures mark { (rs : List StoreRecord) → IsStoreOf (F.chip flash.old) reserve.old.store rs
+        → LeavesOnly (F.chip flash.old) (F.chip flash.new) (HasMarkFrom reserve.old.store.persist.mark) }
+    ensures durable { (rs : List StoreRecord) → IsStoreOf (F.chip flash.old) reserve.old.store rs
+        → IsDurable (F.chip flash.new) reserve.new.keeper.mark }
 
     // over a steady flash: two program calls for each record where there is room for all
-    ensures calls { IsTrue (F.chip flash.old).steady → reserve.old.store.journal.used + length items.now ≤ 1023 → OnOk result (Begins (2 * length items.now) (F.chip flash.old) (F.chip flash.new)) }
-    ensures most_calls { IsTrue (F.chip flash.old).steady → reserve.old.store.journal.used + length items.now ≤ 1023 → BeginsAtMost (2 * length items.now) (F.chip flash.old) (F.chip flash.new) }
+    ensures calls { IsTrue (F.chip flash.old).steady → reserve.old.store.journal.used + length items.now ≤ 1023
+        → OnOk result (Begins (2 * length items.now) (F.chip flash.old) (F.chip flash.new)) }
+    ensures most_calls { IsTrue (F.chip flash.old).steady → reserve.old.store.journal.used + length items.now ≤ 1023
+        → BeginsAtMost (2 * length items.now) (F.chip flash.old) (F.chip flash.new) }
 
     // of every flash, honest or not
     ensures reads { (F.chip flash.new).reads ≡ (F.chip flash.old).reads }
@@ -83,27 +96,43 @@ pub fn store_records<F: Flash>(
     requires may { ArePuttable reserve.old.store.persist records.now }
     requires moves { AreMoves (config_in reserve.old.store.persist) records.now }
 
-    ensures closed { reserve.old.store.journal.closed ≡ true → records.now ≢ [] → (result ≡ Err KeepFault.Closed) × (reserve.new ≡ reserve.old) × (flash.new ≡ flash.old) }
+    ensures closed { reserve.old.store.journal.closed ≡ true → records.now ≢ []
+        → (result ≡ Err KeepFault.Closed) × (reserve.new ≡ reserve.old) × (flash.new ≡ flash.old) }
     ensures none { records.now ≡ [] → (result ≡ Ok tt) × (reserve.new ≡ reserve.old) × (flash.new ≡ flash.old) }
-    ensures cause { reserve.old.store.journal.closed ≡ false → OnErr result ((result ≡ Err KeepFault.Flash) × (reserve.new.store.journal.closed ≡ true) × ((F.chip flash.old).faults < (F.chip flash.new).faults)) }
+    ensures cause { reserve.old.store.journal.closed ≡ false
+        → OnErr result
+        ((result ≡ Err KeepFault.Flash) × (reserve.new.store.journal.closed ≡ true)
+        × ((F.chip flash.old).faults < (F.chip flash.new).faults)) }
     ensures usable { OnOk result (reserve.new.store.journal.closed ≡ reserve.old.store.journal.closed) }
-    ensures change { OnOk result (config_in reserve.new.store.persist ≡ fold changed (config_in reserve.old.store.persist) records.now) }
-    ensures meaning { OnOk result ((rs : List StoreRecord) → IsMeaningOf rs reserve.old.store.persist → IsMeaningOf (rs ++ records.now) reserve.new.store.persist) }
-    ensures advanced { OnOk result (moved_to reserve.new.keeper ≡ moved_to reserve.old.keeper ++ advances_of (config_in reserve.old.store.persist) records.now) }
+    ensures change { OnOk result
+        (config_in reserve.new.store.persist ≡ fold changed (config_in reserve.old.store.persist) records.now) }
+    ensures meaning { OnOk result
+        ((rs : List StoreRecord) → IsMeaningOf rs reserve.old.store.persist
+        → IsMeaningOf (rs ++ records.now) reserve.new.store.persist) }
+    ensures advanced { OnOk result
+        (moved_to reserve.new.keeper
+        ≡ moved_to reserve.old.keeper ++ advances_of (config_in reserve.old.store.persist) records.now) }
     // for the next call
     ensures published { IsPublished reserve.new.store reserve.new.keeper }
     ensures made { reserve.new.keeper.which ≡ reserve.old.keeper.which }
 
     // of a store of this flash
-    ensures kept { (rs : List StoreRecord) → IsStoreOf (F.chip flash.old) reserve.old.store rs → OnOk result (IsStoreOf (F.chip flash.new) reserve.new.store (rs ++ records.now)) }
-    ensures any_moment { (rs : List StoreRecord) → IsStoreOf (F.chip flash.old) reserve.old.store rs → LeavesOnly (F.chip flash.old) (F.chip flash.new) (IsFront rs records.now) }
-    ensures fronts { (rs : List StoreRecord) → IsStoreOf (F.chip flash.old) reserve.old.store rs → (image : List ℕ) → (F.chip flash.new).images image → IsFront rs records.now image }
-    ensures mark { (rs : List StoreRecord) → IsStoreOf (F.chip flash.old) reserve.old.store rs → LeavesOnly (F.chip flash.old) (F.chip flash.new) (HasMarkFrom reserve.old.store.persist.mark) }
-    ensures durable { (rs : List StoreRecord) → IsStoreOf (F.chip flash.old) reserve.old.store rs → IsDurable (F.chip flash.new) reserve.new.keeper.mark }
+    ensures kept { (rs : List StoreRecord) → IsStoreOf (F.chip flash.old) reserve.old.store rs
+        → OnOk result (IsStoreOf (F.chip flash.new) reserve.new.store (rs ++ records.now)) }
+    ensures any_moment { (rs : List StoreRecord) → IsStoreOf (F.chip flash.old) reserve.old.store rs
+        → LeavesOnly (F.chip flash.old) (F.chip flash.new) (IsFront rs records.now) }
+    ensures fronts { (rs : List StoreRecord) → IsStoreOf (F.chip flash.old) reserve.old.store rs → (image : List ℕ)
+        → (F.chip flash.new).images image → IsFront rs records.now image }
+    ensures mark { (rs : List StoreRecord) → IsStoreOf (F.chip flash.old) reserve.old.store rs
+        → LeavesOnly (F.chip flash.old) (F.chip flash.new) (HasMarkFrom reserve.old.store.persist.mark) }
+    ensures durable { (rs : List StoreRecord) → IsStoreOf (F.chip flash.old) reserve.old.store rs
+        → IsDurable (F.chip flash.new) reserve.new.keeper.mark }
 
     // over a steady flash: two program calls for each record where there is room for all
-    ensures calls { IsTrue (F.chip flash.old).steady → reserve.old.store.journal.used + length records.now ≤ 1023 → OnOk result (Begins (2 * length records.now) (F.chip flash.old) (F.chip flash.new)) }
-    ensures most_calls { IsTrue (F.chip flash.old).steady → reserve.old.store.journal.used + length records.now ≤ 1023 → BeginsAtMost (2 * length records.now) (F.chip flash.old) (F.chip flash.new) }
+    ensures calls { IsTrue (F.chip flash.old).steady → reserve.old.store.journal.used + length records.now ≤ 1023
+        → OnOk result (Begins (2 * length records.now) (F.chip flash.old) (F.chip flash.new)) }
+    ensures most_calls { IsTrue (F.chip flash.old).steady → reserve.old.store.journal.used + length records.now ≤ 1023
+        → BeginsAtMost (2 * length records.now) (F.chip flash.old) (F.chip flash.new) }
 
     // of every flash, honest or not
     ensures reads { (F.chip flash.new).reads ≡ (F.chip flash.old).reads }

@@ -44,16 +44,19 @@ none_left [] c had = had
 none_left (x ∷ past) c had = none_left past c had
 
 -- what it holds and has held is content
-pub each_content : (octets : List ℕ) (past : List (List ℕ)) (t : ℕ) (c : List ℕ) → IsContent octets → ((d : List ℕ) → HadBeen past d → IsContent d) → (c ≡ octets) ⊎ HadBeen (drop t past) c → IsContent c
+pub each_content : (octets : List ℕ) (past : List (List ℕ)) (t : ℕ) (c : List ℕ) → IsContent octets
+    → ((d : List ℕ) → HadBeen past d → IsContent d) → (c ≡ octets) ⊎ HadBeen (drop t past) c → IsContent c
 each_content octets past t c now before (inl e) = subst IsContent (sym e) now
 each_content octets past t c now before (inr had) = before c (had_drop t past c had)
 
 -- since the last call there is what it holds
-pub only_octets : (octets : List ℕ) (past : List (List ℕ)) (c : List ℕ) → (c ≡ octets) ⊎ HadBeen (drop (length past) past) c → c ≡ octets
+pub only_octets : (octets : List ℕ) (past : List (List ℕ)) (c : List ℕ)
+    → (c ≡ octets) ⊎ HadBeen (drop (length past) past) c → c ≡ octets
 only_octets octets past c (inl e) = e
 only_octets octets past c (inr had) = absurd (none_left past c had)
 
-reached : (arm : Option Armed) (changes : ℕ) → is_reached_by arm changes ≡ true → IsReached (option_map arm_of arm) changes
+reached : (arm : Option Armed) (changes : ℕ) → is_reached_by arm changes ≡ true
+    → IsReached (option_map arm_of arm) changes
 reached None changes is = absurd (true≢false (sym is))
 reached (Some arm) changes is = either _ _ is
   where
@@ -66,6 +69,8 @@ reached (Some arm) changes is = either _ _ is
 
 -- it has failed since the last power cycle only by an arm
 pub explained_by : (past : Past) (changes reads : ℕ) (arm : Option Armed) (octets : List ℕ) (failed : Bool)
-    → (failed ≡ false → past.faults ≡ past.cycled) → (failed ≡ true → (past.cycled < past.faults) × (is_reached_by arm changes ≡ true)) → IsExplained (mem_chip past octets changes reads arm)
+    → (failed ≡ false → past.faults ≡ past.cycled)
+    → (failed ≡ true → (past.cycled < past.faults) × (is_reached_by arm changes ≡ true))
+    → IsExplained (mem_chip past octets changes reads arm)
 explained_by past changes reads arm octets false whole cut steady more = absurd (omega (arith, whole refl))
 explained_by past changes reads arm octets true whole cut steady more = reached arm changes (cut refl).1

@@ -12,4 +12,5 @@ AfterErase sector images c = (d : List ℕ) × images d × (c ≡ erased sector 
 
 -- a cut leaves an image as before, or torn while the sector is erased, or erased and torn while it is programmed
 abbrev pub IsRewrite : ℕ → List ℕ → (List ℕ → Type 0) → List ℕ → Type 0
-IsRewrite sector bytes images c = images c ⊎ (Cut (erased sector) images c ⊎ Cut (programmed (4096 * sector) bytes) (AfterErase sector images) c)
+IsRewrite sector bytes images c =
+    images c ⊎ (Cut (erased sector) images c ⊎ Cut (programmed (4096 * sector) bytes) (AfterErase sector images) c)

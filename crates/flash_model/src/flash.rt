@@ -69,8 +69,10 @@ pub trait Flash {
         requires within { at + length bytes.now ≤ FLASH_OCTETS }
         requires one_sector { at % SECTOR_OCTETS + length bytes.now ≤ SECTOR_OCTETS }
 
-        ensures ok { IsTrue (chip self.old).honest → OnOk result (IsDone (programmed at bytes.now) (chip self.old) (chip self.new)) }
-        ensures any_moment { IsTrue (chip self.old).honest → IsCut (programmed at bytes.now) (chip self.old) (chip self.new) }
+        ensures ok { IsTrue (chip self.old).honest
+            → OnOk result (IsDone (programmed at bytes.now) (chip self.old) (chip self.new)) }
+        ensures any_moment { IsTrue (chip self.old).honest
+            → IsCut (programmed at bytes.now) (chip self.old) (chip self.new) }
 
         // of every flash, honest or not
         ensures reads { (chip self.new).reads ≡ (chip self.old).reads }
@@ -78,7 +80,8 @@ pub trait Flash {
         ensures cause { OnErr result ((chip self.old).faults < (chip self.new).faults) }
         ensures sure { IsTrue (chip self.old).sure → IsOk result }
         ensures frame { Keeps (chip self.old) (chip self.new) }
-        ensures by_arm { IsTrue (chip self.old).steady → ObeysArm (programmed at bytes.now) (chip self.old) (chip self.new) result };
+        ensures by_arm { IsTrue (chip self.old).steady
+            → ObeysArm (programmed at bytes.now) (chip self.old) (chip self.new) result };
 
     /// Erases a sector, 0 to 15: each of its octets becomes ff (`ok`), and is durable then.
     ///
@@ -89,7 +92,8 @@ pub trait Flash {
     fn erase(&mut self, sector: u32) -> Result<(), FlashFailed>
         requires sector { sector < SECTORS }
 
-        ensures ok { IsTrue (chip self.old).honest → OnOk result (IsDone (erased sector) (chip self.old) (chip self.new)) }
+        ensures ok { IsTrue (chip self.old).honest
+            → OnOk result (IsDone (erased sector) (chip self.old) (chip self.new)) }
         ensures any_moment { IsTrue (chip self.old).honest → IsCut (erased sector) (chip self.old) (chip self.new) }
 
         // of every flash, honest or not
@@ -98,7 +102,8 @@ pub trait Flash {
         ensures cause { OnErr result ((chip self.old).faults < (chip self.new).faults) }
         ensures sure { IsTrue (chip self.old).sure → IsOk result }
         ensures frame { Keeps (chip self.old) (chip self.new) }
-        ensures by_arm { IsTrue (chip self.old).steady → ObeysArm (erased sector) (chip self.old) (chip self.new) result };
+        ensures by_arm { IsTrue (chip self.old).steady
+            → ObeysArm (erased sector) (chip self.old) (chip self.new) result };
 
     // What is read of an honest flash is one of its images.
     ghost reads_image: { (f : Self) → IsTrue (chip f).honest → (chip f).images (chip f).now };
@@ -107,7 +112,8 @@ pub trait Flash {
     ghost content: { (f : Self) (t : ℕ) (c : List ℕ) → IsTrue (chip f).honest → (chip f).since t c → IsContent c };
 
     // This moment is one of those since an earlier one.
-    ghost counts_now: { (f : Self) (t : ℕ) (c : List ℕ) → t ≤ (chip f).moment → (chip f).images c → (chip f).since t c };
+    ghost counts_now: { (f : Self) (t : ℕ) (c : List ℕ) → t ≤ (chip f).moment → (chip f).images c
+        → (chip f).since t c };
 
     // No more than ffffffff program and erase calls are counted.
     ghost counted: { (f : Self) → (chip f).changes ≤ 4294967295 };
@@ -128,7 +134,11 @@ pub trait Bench: Flash + Send + Drop {
     /// No such order was given since the last power cycle.
     fn arm(&mut self, calls: u32, mask: u8)
         requires { (Self.chip self.old).setting.arm ≡ None }
-        ensures setting { (Self.chip self.new).setting ≡ record { faults = (Self.chip self.old).setting.faults; arm = Some (record { calls = calls; mask = mask; changes = (Self.chip self.old).changes }) } }
+        ensures setting { (Self.chip self.new).setting
+            ≡ record {
+              faults = (Self.chip self.old).setting.faults;
+              arm = Some (record { calls = calls; mask = mask; changes = (Self.chip self.old).changes });
+            } }
         ensures left { (Self.chip self.new).left ≡ calls }
         ensures not_sure { (Self.chip self.new).sure ≡ false }
         ensures stays { IsTrue (Self.chip self.old).honest → Stays (Self.chip self.old) (Self.chip self.new) }
@@ -140,7 +150,8 @@ pub trait Bench: Flash + Send + Drop {
     fn power_cycle(&mut self)
         ensures image { IsTrue (Self.chip self.old).honest → (Self.chip self.old).images (Self.chip self.new).now }
         ensures fresh { IsTrue (Self.chip self.old).honest → IsFresh (Self.chip self.new) }
-        ensures any_moment { IsTrue (Self.chip self.old).honest → Elapses (Self.chip self.old) (Self.chip self.new) (Self.chip self.old).images }
+        ensures any_moment { IsTrue (Self.chip self.old).honest
+            → Elapses (Self.chip self.old) (Self.chip self.new) (Self.chip self.old).images }
         ensures setting { (Self.chip self.new).setting ≡ record { faults = (Self.chip self.old).faults; arm = None } }
         ensures changes { (Self.chip self.new).changes ≡ 0 }
         ensures reads { (Self.chip self.new).reads ≡ 0 }

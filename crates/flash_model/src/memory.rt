@@ -37,7 +37,9 @@ impl MemFlash {
         ensures fresh { IfOk result (λ m. IsFresh (⟦<MemFlash as Flash>⟧.chip m)) }
         ensures sure { IfOk result (λ m. IsTrue (⟦<MemFlash as Flash>⟧.chip m).sure) }
         ensures steady { IfOk result (λ m. IsTrue (⟦<MemFlash as Flash>⟧.chip m).steady) }
-        ensures unarmed { IfOk result (λ m. (⟦<MemFlash as Flash>⟧.chip m).setting ≡ record { faults = (⟦<MemFlash as Flash>⟧.chip m).faults; arm = None }) }
+        ensures unarmed { IfOk result
+            (λ m. (⟦<MemFlash as Flash>⟧.chip m).setting
+            ≡ record { faults = (⟦<MemFlash as Flash>⟧.chip m).faults; arm = None }) }
         ensures changes { IfOk result (λ m. (⟦<MemFlash as Flash>⟧.chip m).changes ≡ 0) }
         ensures reads { IfOk result (λ m. (⟦<MemFlash as Flash>⟧.chip m).reads ≡ 0) }
     {

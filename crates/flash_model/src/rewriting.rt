@@ -12,8 +12,10 @@ pub fn rewrite<F: Flash>(flash: &mut F, sector: u32, bytes: &[u8]) -> Result<(),
     requires some { 0 < length bytes.now }
     requires one_sector { length bytes.now ≤ SECTOR_OCTETS }
 
-    ensures ok { IsTrue (F.chip flash.old).honest → OnOk result (IsDone (rewritten sector bytes.now) (F.chip flash.old) (F.chip flash.new)) }
-    ensures any_moment { IsTrue (F.chip flash.old).honest → LeavesOnly (F.chip flash.old) (F.chip flash.new) (IsRewrite sector bytes.now (F.chip flash.old).images) }
+    ensures ok { IsTrue (F.chip flash.old).honest
+        → OnOk result (IsDone (rewritten sector bytes.now) (F.chip flash.old) (F.chip flash.new)) }
+    ensures any_moment { IsTrue (F.chip flash.old).honest
+        → LeavesOnly (F.chip flash.old) (F.chip flash.new) (IsRewrite sector bytes.now (F.chip flash.old).images) }
 
     // over a steady flash: two program and erase calls, and at most two where it fails
     ensures calls { IsTrue (F.chip flash.old).steady → OnOk result (Begins 2 (F.chip flash.old) (F.chip flash.new)) }

@@ -161,7 +161,8 @@ fn is_stored(f: &NetFields, s: &Friendship) -> bool
 
 /// Stores a PDU heard, if it is for this Low Power node.
 pub(crate) fn put_of(s: &mut Friendship, f: &NetFields)
-    ensures { s.new ≡ (if is_stored_in f.now s.old then queued (Q.Heard (record f.now { ttl = f.now.ttl - 1 })) s.old else s.old) }
+    ensures { s.new
+        ≡ (if is_stored_in f.now s.old then queued (Q.Heard (record f.now { ttl = f.now.ttl - 1 })) s.old else s.old) }
 {
     if is_stored(f, s) {
         enqueue_heard(s, f);
@@ -177,7 +178,8 @@ pub(crate) fn is_befriended(s: &Friendship, a: Address) -> bool
 
 /// Stores an own message, if it is for this Low Power node.
 pub(crate) fn put_own_of(s: &mut Friendship, m: &OwnShort)
-    ensures { s.new ≡ (if is_friendship_in s.old && has_address_in s.old m.now.dst then queued (Q.Own m.now) s.old else s.old) }
+    ensures { s.new
+        ≡ (if is_friendship_in s.old && has_address_in s.old m.now.dst then queued (Q.Own m.now) s.old else s.old) }
 {
     if is_befriended(s, m.dst) {
         enqueue_own(s, m);
@@ -213,7 +215,8 @@ fn remove_all(list: &mut AddressTable, removed: &[Address])
 /// A List Add of this Low Power node.
 pub(crate) fn list_add_of(s: &mut Friendship, now: u64, lpn: Address, added: &[Address])
     requires { now ≤ 2 ^ 48 }
-    ensures { s.new ≡ (if is_friend_in lpn s.old then list_changed now (λ list. list_with list added.now) s.old else s.old) }
+    ensures { s.new
+        ≡ (if is_friend_in lpn s.old then list_changed now (λ list. list_with list added.now) s.old else s.old) }
 {
     if is_friend(lpn, s) {
         s.until = renewed(now, s);
@@ -224,7 +227,8 @@ pub(crate) fn list_add_of(s: &mut Friendship, now: u64, lpn: Address, added: &[A
 /// A List Remove of this Low Power node.
 pub(crate) fn list_remove_of(s: &mut Friendship, now: u64, lpn: Address, removed: &[Address])
     requires { now ≤ 2 ^ 48 }
-    ensures { s.new ≡ (if is_friend_in lpn s.old then list_changed now (λ list. list_without list removed.now) s.old else s.old) }
+    ensures { s.new
+        ≡ (if is_friend_in lpn s.old then list_changed now (λ list. list_without list removed.now) s.old else s.old) }
 {
     if is_friend(lpn, s) {
         s.until = renewed(now, s);

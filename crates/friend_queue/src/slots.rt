@@ -155,7 +155,8 @@ pub(crate) fn keep_all(
 
 /// Stores a PDU heard for each Low Power node that it is for.
 pub(crate) fn put_all(slots: &mut [Friendship], f: &NetFields)
-    ensures { slots.new ≡ change_where (is_stored_in f.now) (queued (Q.Heard (record f.now { ttl = f.now.ttl - 1 }))) slots.old }
+    ensures { slots.new
+        ≡ change_where (is_stored_in f.now) (queued (Q.Heard (record f.now { ttl = f.now.ttl - 1 }))) slots.old }
 {
     for s in slots.iter_mut() {
         put_of(s, f);
@@ -164,7 +165,8 @@ pub(crate) fn put_all(slots: &mut [Friendship], f: &NetFields)
 
 /// Stores an own message for each Low Power node that it is for.
 pub(crate) fn put_own_all(slots: &mut [Friendship], m: &OwnShort)
-    ensures { slots.new ≡ change_where (λ s. is_friendship_in s && has_address_in s m.now.dst) (queued (Q.Own m.now)) slots.old }
+    ensures { slots.new
+        ≡ change_where (λ s. is_friendship_in s && has_address_in s m.now.dst) (queued (Q.Own m.now)) slots.old }
 {
     for s in slots.iter_mut() {
         put_own_of(s, m);
@@ -202,7 +204,8 @@ pub(crate) fn has_friend(slots: &[Friendship], now: u64, lpn: Address) -> bool
 /// A List Add of a Low Power node.
 pub(crate) fn list_add_all(slots: &mut [Friendship], now: u64, lpn: Address, added: &[Address])
     requires { now ≤ 2 ^ 48 }
-    ensures { slots.new ≡ change_where (is_friend_in lpn) (list_changed now (λ list. list_with list added.now)) slots.old }
+    ensures { slots.new
+        ≡ change_where (is_friend_in lpn) (list_changed now (λ list. list_with list added.now)) slots.old }
 {
     for s in slots.iter_mut() {
         list_add_of(s, now, lpn, added);
@@ -212,7 +215,8 @@ pub(crate) fn list_add_all(slots: &mut [Friendship], now: u64, lpn: Address, add
 /// A List Remove of a Low Power node.
 pub(crate) fn list_remove_all(slots: &mut [Friendship], now: u64, lpn: Address, removed: &[Address])
     requires { now ≤ 2 ^ 48 }
-    ensures { slots.new ≡ change_where (is_friend_in lpn) (list_changed now (λ list. list_without list removed.now)) slots.old }
+    ensures { slots.new
+        ≡ change_where (is_friend_in lpn) (list_changed now (λ list. list_without list removed.now)) slots.old }
 {
     for s in slots.iter_mut() {
         list_remove_of(s, now, lpn, removed);

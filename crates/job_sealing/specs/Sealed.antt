@@ -40,7 +40,8 @@ begins a payload = begin_event a.net a.key a.pair a.ttl a.src a.dst payload
 -- a segment under a pair
 abbrev pub segment_outcome : Segment → Pair → List ℕ → Outcome
 segment_outcome s pair tpdu =
-    O.Seg pair s.ttl s.src s.dst s.seg_o s.seg_n s.name.pair.seq (net_text s.material (own_fields pair false s.ttl s.src s.dst tpdu))
+    O.Seg pair s.ttl s.src s.dst s.seg_o s.seg_n s.name.pair.seq
+    (net_text s.material (own_fields pair false s.ttl s.src s.dst tpdu))
 
 -- an event whose payload is sent
 abbrev pub IsPayloadOf : Event → Type 0

@@ -199,7 +199,10 @@ fn sent_line(event: &Event, access: &Access) -> Line
 fn relayed(material: &NetMaterial, fields: &NetFields) -> Outcome
     requires nid { material.now.nid < 2 ^ 7 }
     requires fields { HasPdu fields.now }
-    ensures value { result ≡ O.Relay (record { iv = fields.now.iv; seq = fields.now.seq }) fields.now.ctl fields.now.ttl fields.now.src fields.now.dst fields.now.tpdu (net_text material.now fields.now) }
+    ensures value { result
+        ≡ O.Relay
+        (record { iv = fields.now.iv; seq = fields.now.seq }) fields.now.ctl fields.now.ttl fields.now.src
+        fields.now.dst fields.now.tpdu (net_text material.now fields.now) }
 {
     Outcome::Relay {
         pair: Pair {
@@ -230,8 +233,10 @@ fn control_line(
     requires least { 1 ≤ length tpdu.now }
     requires most { length tpdu.now ≤ 12 }
     requires pair { pair.seq < 2 ^ 24 }
-    ensures value { result.outcome ≡ O.Ctl pair ttl src dst tpdu.now (net_text material.now (own_fields pair true ttl src dst tpdu.now)) }
-    ensures next { option_to_list result.next ≡ kept_events keep.now src pair (net_text material.now (own_fields pair true ttl src dst tpdu.now)) }
+    ensures value { result.outcome
+        ≡ O.Ctl pair ttl src dst tpdu.now (net_text material.now (own_fields pair true ttl src dst tpdu.now)) }
+    ensures next { option_to_list result.next
+        ≡ kept_events keep.now src pair (net_text material.now (own_fields pair true ttl src dst tpdu.now)) }
 {
     let fields = NetFields {
         iv: pair.iv,

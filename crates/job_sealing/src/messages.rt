@@ -103,7 +103,8 @@ pub fn short_line(access: &Access, payload: &[u8], keep: &Option<(Address, bool)
     requires least { 1 ≤ length payload.now }
     requires most { length payload.now ≤ 11 }
     ensures value { result.outcome ≡ short_outcome access.now payload.now }
-    ensures next { option_to_list result.next ≡ kept_events keep.now access.now.src access.now.pair (message_text access.now payload.now) }
+    ensures next { option_to_list result.next
+        ≡ kept_events keep.now access.now.src access.now.pair (message_text access.now payload.now) }
     ensures own { IfSome result.next (λ e. is_outside e ≡ false) }
     ensures range { (elements : ℕ) → IfSome result.next (IsEvent elements) }
 {

@@ -81,7 +81,8 @@ pub fn later_segment(segment: &Segment, pair: Pair, tpdu: &Octets<16>) -> Outcom
     requires pair { pair.seq < 2 ^ 24 }
     requires least { 1 ≤ length tpdu.now }
     requires most { length tpdu.now ≤ 16 }
-    ensures value { result ≡ (if is_late segment.now.name.pair pair then O.Late pair else segment_outcome segment.now pair tpdu.now) }
+    ensures value { result
+        ≡ (if is_late segment.now.name.pair pair then O.Late pair else segment_outcome segment.now pair tpdu.now) }
 {
     if is_late(segment.name.pair, pair) {
         Outcome::Late { pair }

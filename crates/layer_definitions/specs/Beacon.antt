@@ -21,7 +21,8 @@ pub record BeaconSource : Type 0 where
 
 -- Key Refresh is bit 0 of the flags and IV Update bit 1; the others have no effect (3.9.3.1).
 abbrev pub beacon_of : BeaconSource → ℕ → ℕ → Beacon
-beacon_of by flags iv = record { index = by.index; fresh = by.fresh; refresh = flags % 2 == 1; update = flags / 2 % 2 == 1; iv = iv }
+beacon_of by flags iv =
+    record { index = by.index; fresh = by.fresh; refresh = flags % 2 == 1; update = flags / 2 % 2 == 1; iv = iv }
 
 -- The octets are the beacon of this key with these flags and this IV Index.
 pub record ReadsBeaconUnder (key octets : List ℕ) (flags iv : ℕ) : Type 0 where
@@ -37,4 +38,5 @@ pub record ReadsBeacon (keys : List BeaconSource) (octets : List ℕ) (b : Beaco
   pub flags : ℕ
   pub reads : ReadsBeaconUnder by.key octets flags b.iv
   pub beacon : b ≡ beacon_of by flags b.iv
-  pub first : (k : ℕ) (earlier : BeaconSource) (f iv : ℕ) → k < place → slice_get keys k ≡ Some earlier → ReadsBeaconUnder earlier.key octets f iv → ⊥
+  pub first : (k : ℕ) (earlier : BeaconSource) (f iv : ℕ) → k < place → slice_get keys k ≡ Some earlier
+      → ReadsBeaconUnder earlier.key octets f iv → ⊥

@@ -13,12 +13,15 @@ address_octets addresses = flat_map (λ (a : Address). two_octets a.0) addresses
 -- The octets of a control message: its opcode, and its parameters (3.5.2.3.1, 3.6.5.1 to 3.6.5.9). The 7 bits before FSN and the 2 bits
 -- before BlockAck are 0.
 unfoldable pub control_text : ControlMsg → List ℕ
-control_text (Acknowledgment a) = 0 ∷ two_octets ((if a.obo then 2 ^ 15 else 0) + a.seq_zero * 2 ^ 2) ++ four_octets a.block_ack
+control_text (Acknowledgment a) =
+    0 ∷ two_octets ((if a.obo then 2 ^ 15 else 0) + a.seq_zero * 2 ^ 2) ++ four_octets a.block_ack
 control_text (Poll fsn) = 1 ∷ (if fsn then 1 else 0) ∷ []
 control_text (Update u) = 2 ∷ u.flags ∷ four_octets u.iv ++ u.more_data ∷ []
 control_text (Request r) =
-    3 ∷ r.criteria ∷ r.receive_delay ∷ three_octets r.poll_timeout ++ two_octets r.previous.0 ++ r.elements ∷ two_octets r.lpn_counter
-control_text (Offer o) = 4 ∷ o.receive_window ∷ o.queue_size ∷ o.subscription_list_size ∷ o.rssi ∷ two_octets o.friend_counter
+    3 ∷ r.criteria ∷ r.receive_delay ∷ three_octets r.poll_timeout ++ two_octets r.previous.0
+    ++ r.elements ∷ two_octets r.lpn_counter
+control_text (Offer o) =
+    4 ∷ o.receive_window ∷ o.queue_size ∷ o.subscription_list_size ∷ o.rssi ∷ two_octets o.friend_counter
 control_text (Clear c) = 5 ∷ two_octets c.lpn.0 ++ two_octets c.lpn_counter
 control_text (ClearConfirm c) = 6 ∷ two_octets c.lpn.0 ++ two_octets c.lpn_counter
 control_text (ListAdd l) = 7 ∷ l.transaction ∷ address_octets l.addresses
@@ -53,9 +56,11 @@ IsControlInWidths (Acknowledgment a) = a.block_ack < 2 ^ 32
 IsControlInWidths (Poll fsn) = Unit
 IsControlInWidths (Update u) = (u.flags < 2 ^ 8) × (u.iv < 2 ^ 32) × (u.more_data < 2 ^ 8)
 IsControlInWidths (Request r) =
-    (r.criteria < 2 ^ 8) × (r.receive_delay < 2 ^ 8) × (r.previous.0 < 2 ^ 16) × (r.elements < 2 ^ 8) × (r.lpn_counter < 2 ^ 16)
+    (r.criteria < 2 ^ 8) × (r.receive_delay < 2 ^ 8) × (r.previous.0 < 2 ^ 16) × (r.elements < 2 ^ 8)
+    × (r.lpn_counter < 2 ^ 16)
 IsControlInWidths (Offer o) =
-    (o.receive_window < 2 ^ 8) × (o.queue_size < 2 ^ 8) × (o.subscription_list_size < 2 ^ 8) × (o.rssi < 2 ^ 8) × (o.friend_counter < 2 ^ 16)
+    (o.receive_window < 2 ^ 8) × (o.queue_size < 2 ^ 8) × (o.subscription_list_size < 2 ^ 8) × (o.rssi < 2 ^ 8)
+    × (o.friend_counter < 2 ^ 16)
 IsControlInWidths (Clear c) = (c.lpn.0 < 2 ^ 16) × (c.lpn_counter < 2 ^ 16)
 IsControlInWidths (ClearConfirm c) = (c.lpn.0 < 2 ^ 16) × (c.lpn_counter < 2 ^ 16)
 IsControlInWidths (ListAdd l) = (l.transaction < 2 ^ 8) × AreAddresses l.addresses

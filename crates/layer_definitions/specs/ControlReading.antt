@@ -18,17 +18,41 @@ addresses_back (a ∷ b ∷ rest) = record { 0 = a * 256 + b } ∷ addresses_bac
 -- the message whose text this is
 abbrev pub read_back : List ℕ → ControlMsg
 read_back t =
-    if slice_index t 0 == 0 then Acknowledgment (record { obo = nat_le (2 ^ 15) (two_at t 1); seq_zero = two_at t 1 % 2 ^ 15 / 2 ^ 2; block_ack = four_at t 3 })
+    if slice_index t 0 == 0
+    then Acknowledgment
+    (record {
+      obo = nat_le (2 ^ 15) (two_at t 1);
+      seq_zero = two_at t 1 % 2 ^ 15 / 2 ^ 2;
+      block_ack = four_at t 3;
+    })
     else if slice_index t 0 == 1 then Poll (slice_index t 1 == 1)
-    else if slice_index t 0 == 2 then Update (record { flags = slice_index t 1; iv = four_at t 2; more_data = slice_index t 6 })
+    else if slice_index t 0 == 2
+    then Update (record { flags = slice_index t 1; iv = four_at t 2; more_data = slice_index t 6 })
     else if slice_index t 0 == 3 then
-    Request (record { criteria = slice_index t 1; receive_delay = slice_index t 2; poll_timeout = three_at t 3; previous = address_at t 6; elements = slice_index t 8; lpn_counter = two_at t 9 })
+    Request
+    (record {
+      criteria = slice_index t 1;
+      receive_delay = slice_index t 2;
+      poll_timeout = three_at t 3;
+      previous = address_at t 6;
+      elements = slice_index t 8;
+      lpn_counter = two_at t 9;
+    })
     else if slice_index t 0 == 4 then
-    Offer (record { receive_window = slice_index t 1; queue_size = slice_index t 2; subscription_list_size = slice_index t 3; rssi = slice_index t 4; friend_counter = two_at t 5 })
+    Offer
+    (record {
+      receive_window = slice_index t 1;
+      queue_size = slice_index t 2;
+      subscription_list_size = slice_index t 3;
+      rssi = slice_index t 4;
+      friend_counter = two_at t 5;
+    })
     else if slice_index t 0 == 5 then Clear (record { lpn = address_at t 1; lpn_counter = two_at t 3 })
     else if slice_index t 0 == 6 then ClearConfirm (record { lpn = address_at t 1; lpn_counter = two_at t 3 })
-    else if slice_index t 0 == 7 then ListAdd (record { transaction = slice_index t 1; addresses = addresses_back (drop 2 t) })
-    else if slice_index t 0 == 8 then ListRemove (record { transaction = slice_index t 1; addresses = addresses_back (drop 2 t) })
+    else if slice_index t 0 == 7
+    then ListAdd (record { transaction = slice_index t 1; addresses = addresses_back (drop 2 t) })
+    else if slice_index t 0 == 8
+    then ListRemove (record { transaction = slice_index t 1; addresses = addresses_back (drop 2 t) })
     else ListConfirm (slice_index t 1)
 
 -- whether an opcode has a message with so many
@@ -48,4 +72,5 @@ has_row opcode count =
 
 -- the message of an opcode and parameters, and Other where no row has them
 abbrev pub control_of : ℕ → List ℕ → ControlMsg
-control_of opcode params = if has_row opcode (length params) then read_back (opcode ∷ params_as_read opcode params) else Other
+control_of opcode params =
+    if has_row opcode (length params) then read_back (opcode ∷ params_as_read opcode params) else Other

@@ -41,10 +41,12 @@ aged s passed = record s { hours = min 65535 (s.hours + passed); since = min 655
 -- the numbers are used, as long as there is a next IV Index, and ends after 144 hours.
 unfoldable pub iv_due : IvState → ℕ → Bool → IvStep
 iv_due s mark_seq busy =
-    if not s.progress && nat_le 96 s.hours && nat_lt s.current 0xffffffff && nat_le 0xc00000 mark_seq then Begin (begun s (s.current + 1))
+    if not s.progress && nat_le 96 s.hours && nat_lt s.current 0xffffffff && nat_le 0xc00000 mark_seq
+    then Begin (begun s (s.current + 1))
     else if s.progress && nat_le 144 s.hours && not busy then Finish (finished s)
     else Ignore 0
 
 -- what the passing of hours does: the state with these hours, and its step
 abbrev pub iv_hours : IvState → ℕ → ℕ → Bool → IvState × IvStep
-iv_hours s passed mark_seq busy = (aged s passed, if passed == 0 then Ignore 0 else iv_due (aged s passed) mark_seq busy)
+iv_hours s passed mark_seq busy =
+    (aged s passed, if passed == 0 then Ignore 0 else iv_due (aged s passed) mark_seq busy)

@@ -21,12 +21,15 @@ net_index r = r.index
 
 -- the material of the master credentials of a network key (3.8.6.3.1)
 unfoldable pub master_material : List ℕ → NetMaterial
-master_material key = let k = master_credentials key in record { nid = k.nid; encryption = k.encryption; privacy = k.privacy }
+master_material key =
+    let k = master_credentials key in
+    record { nid = k.nid; encryption = k.encryption; privacy = k.privacy }
 
 -- the material of the friendship credentials of a network key (3.8.6.3.1)
 unfoldable pub friendship_material : List ℕ → ℕ → ℕ → ℕ → ℕ → NetMaterial
 friendship_material key lpn friend lpn_counter friend_counter =
-    let k = friendship_credentials key lpn friend lpn_counter friend_counter in record { nid = k.nid; encryption = k.encryption; privacy = k.privacy }
+    let k = friendship_credentials key lpn friend lpn_counter friend_counter in
+    record { nid = k.nid; encryption = k.encryption; privacy = k.privacy }
 
 -- the master credentials of a key are heard
 abbrev pub heard_key : ℕ → Bool → List ℕ → Heard
@@ -43,7 +46,8 @@ heard_keys rows = flat_map (λ r. keys_of (heard_key r.index) r.key r.next) rows
 
 -- the keys whose beacons are read, in the same order
 abbrev pub beacon_keys : List NetKeyRow → List BeaconSource
-beacon_keys rows = flat_map (λ r. keys_of (λ fresh key. record { index = r.index; fresh = fresh; key = key }) r.key r.next) rows
+beacon_keys rows =
+    flat_map (λ r. keys_of (λ fresh key. record { index = r.index; fresh = fresh; key = key }) r.key r.next) rows
 
 -- the row of a network key index
 abbrev pub net_row : List NetKeyRow → ℕ → Option NetKeyRow
@@ -59,7 +63,8 @@ transmit_material rows index = option_map (λ r. master_material (transmit_key r
 
 -- the node's beacon of a network key: under the new key with Key Refresh flag 1 in phase 2, else under the old one with flag 0
 abbrev pub own_beacon : IvState → NetKeyRow → List ℕ
-own_beacon s r = beacon_text (transmit_key r) ((if r.phase == 2 then 1 else 0) + (if s.progress then 2 else 0)) s.current
+own_beacon s r =
+    beacon_text (transmit_key r) ((if r.phase == 2 then 1 else 0) + (if s.progress then 2 else 0)) s.current
 
 -- Application keys.
 
@@ -73,7 +78,8 @@ app_key index key = App index (aid key) key
 -- the application keys of a network key whose AID fits, in the order in which they are tried: by index, the old key before the new
 abbrev pub app_keys : List AppKeyRow → ℕ → ℕ → List UpperKey
 app_keys rows net id =
-    flat_map (λ r. map (app_key r.index) (filter (λ key. aid key == id) (keys_of (λ fresh key. key) r.key r.next))) (filter (λ r. r.net == net) rows)
+    flat_map (λ r. map (app_key r.index) (filter (λ key. aid key == id) (keys_of (λ fresh key. key) r.key r.next)))
+    (filter (λ r. r.net == net) rows)
 
 -- the row of an application key index
 abbrev pub app_row : List AppKeyRow → ℕ → Option AppKeyRow
@@ -86,7 +92,8 @@ transmit_value r net = if net.phase == 2 then unwrap_or r.next r.key else r.key
 -- the network key index and the key that an application key index is sent with, if it is held
 abbrev pub transmit_app : List AppKeyRow → List NetKeyRow → ℕ → Option (ℕ × UpperKey)
 transmit_app rows nets index =
-    option_and_then (λ r. option_map (λ net. (r.net, app_key index (transmit_value r net))) (net_row nets r.net)) (app_row rows index)
+    option_and_then (λ r. option_map (λ net. (r.net, app_key index (transmit_value r net))) (net_row nets r.net))
+    (app_row rows index)
 
 -- Each application key is bound to a network key that is held (3.8.6.2). A node meets this by what it stores: an application key is added
 -- only for a network key that is held, and goes with it.

@@ -18,15 +18,18 @@ with_label label f = record f { label = Some label }
 
 -- A label of the list, and a key of the other one, by which the octets open to this payload: DST is the label's address. By no label before
 -- it with this address, and by no key before that one with this label, do they open to anything.
-pub record OpensLabel (keys : List UpperKey) (labels : List (List ℕ)) (f : UpperFields) (upper : List ℕ) (at place : ℕ) (payload : List ℕ) : Type 0 where
+pub record OpensLabel (keys : List UpperKey) (labels : List (List ℕ)) (f : UpperFields) (upper : List ℕ) (at place : ℕ)
+    (payload : List ℕ) : Type 0 where
   pub label : List ℕ
   pub label_is : slice_get labels at ≡ Some label
   pub address : virtual_address label ≡ f.dst.0
   pub opens : Opens keys (with_label label f) upper place payload
-  pub first : (i : ℕ) (earlier : List ℕ) → i < at → slice_get labels i ≡ Some earlier → virtual_address earlier ≡ f.dst.0
+  pub first : (i : ℕ) (earlier : List ℕ) → i < at → slice_get labels i ≡ Some earlier
+      → virtual_address earlier ≡ f.dst.0
       → IsUnopened keys (with_label earlier f) upper
 
 -- by no label and key do the octets open to anything
 abbrev pub IsLabelUnopened : List UpperKey → List (List ℕ) → UpperFields → List ℕ → Type 0
 IsLabelUnopened keys labels f upper =
-    (i : ℕ) (label : List ℕ) → slice_get labels i ≡ Some label → virtual_address label ≡ f.dst.0 → IsUnopened keys (with_label label f) upper
+    (i : ℕ) (label : List ℕ) → slice_get labels i ≡ Some label → virtual_address label ≡ f.dst.0
+    → IsUnopened keys (with_label label f) upper

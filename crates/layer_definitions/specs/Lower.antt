@@ -11,7 +11,8 @@ akf_and_aid akf aid = (if akf then 2 ^ 6 else 0) + aid
 
 -- SZMIC, SeqZero, SegO and SegN in 1, 13, 5 and 5 bits; a control message has 0 in the place of SZMIC (3.5.2.2, 3.5.2.4)
 abbrev pub segmentation : Bool → ℕ → ℕ → ℕ → List ℕ
-segmentation szmic seq_zero seg_o seg_n = three_octets ((if szmic then 2 ^ 23 else 0) + seq_zero * 2 ^ 10 + seg_o * 2 ^ 5 + seg_n)
+segmentation szmic seq_zero seg_o seg_n =
+    three_octets ((if szmic then 2 ^ 23 else 0) + seq_zero * 2 ^ 10 + seg_o * 2 ^ 5 + seg_n)
 
 -- the octets of a lower transport PDU, with SEG in bit 7 of the first (3.5.2)
 unfoldable pub lower_text : Lower → List ℕ
@@ -19,7 +20,8 @@ lower_text (Access akf aid upper) = akf_and_aid akf aid ∷ upper
 lower_text (Control opcode params) = opcode ∷ params
 lower_text (AccessPart akf aid szmic seq_zero seg_o seg_n piece) =
     (2 ^ 7 + akf_and_aid akf aid) ∷ segmentation szmic seq_zero seg_o seg_n ++ piece
-lower_text (ControlPart opcode seq_zero seg_o seg_n piece) = (2 ^ 7 + opcode) ∷ segmentation false seq_zero seg_o seg_n ++ piece
+lower_text (ControlPart opcode seq_zero seg_o seg_n piece) =
+    (2 ^ 7 + opcode) ∷ segmentation false seq_zero seg_o seg_n ++ piece
 
 -- a piece of at most so many octets, where each piece but the last is full
 pub record IsPiece (size seg_o seg_n : ℕ) (piece : List ℕ) : Type 0 where
@@ -34,7 +36,8 @@ Fits (Access akf aid upper) = (aid < 2 ^ 6) × (IsFalse akf → aid ≡ 0) × (5
 Fits (Control opcode params) = (opcode < 2 ^ 7) × (length params ≤ 11)
 Fits (AccessPart akf aid szmic seq_zero seg_o seg_n piece) =
     (aid < 2 ^ 6) × (IsFalse akf → aid ≡ 0) × (seq_zero < 2 ^ 13) × (seg_n < 2 ^ 5) × IsPiece 12 seg_o seg_n piece
-Fits (ControlPart opcode seq_zero seg_o seg_n piece) = (opcode < 2 ^ 7) × (seq_zero < 2 ^ 13) × (seg_n < 2 ^ 5) × IsPiece 8 seg_o seg_n piece
+Fits (ControlPart opcode seq_zero seg_o seg_n piece) =
+    (opcode < 2 ^ 7) × (seq_zero < 2 ^ 13) × (seg_n < 2 ^ 5) × IsPiece 8 seg_o seg_n piece
 
 -- whether it is a control message
 abbrev pub is_control : Lower → Bool
@@ -64,7 +67,9 @@ pub record ReadsLower (ctl : Bool) (tpdu : List ℕ) (l : Lower) : Type 0 where
 -- SeqAuth of a segment with this pair: its IV Index with the greatest number up to SEQ whose low 13 bits are SeqZero, if there is one
 -- (3.5.3.1)
 unfoldable pub seq_auth : Pair → ℕ → Option Pair
-seq_auth p seq_zero = if nat_lt seq_zero (2 ^ 13) && nat_le seq_zero p.seq then Some (record { iv = p.iv; seq = p.seq - (p.seq - seq_zero) % 2 ^ 13 }) else None
+seq_auth p seq_zero =
+    if nat_lt seq_zero (2 ^ 13) && nat_le seq_zero p.seq
+    then Some (record { iv = p.iv; seq = p.seq - (p.seq - seq_zero) % 2 ^ 13 }) else None
 
 -- The segments of an access message's upper transport PDU, each of 12 octets but the last (3.5.3).
 
@@ -74,7 +79,8 @@ last_segment upper = (length upper - 1) / 12
 
 -- the segment with number seg_o, for SeqAuth with this SEQ and a TransMIC of 4 octets
 abbrev pub segment : Bool → ℕ → ℕ → List ℕ → ℕ → Lower
-segment akf aid seq upper seg_o = AccessPart akf aid false (seq % 2 ^ 13) seg_o (last_segment upper) (take 12 (drop (12 * seg_o) upper))
+segment akf aid seq upper seg_o =
+    AccessPart akf aid false (seq % 2 ^ 13) seg_o (last_segment upper) (take 12 (drop (12 * seg_o) upper))
 
 -- The Segment Acknowledgment message: opcode 00 with OBO 0, SeqZero, two bits 0 and BlockAck (3.5.2.3.1).
 abbrev pub acknowledgment : ℕ → ℕ → Lower

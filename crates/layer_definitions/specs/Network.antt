@@ -75,11 +75,14 @@ pub record ReadsUnder (m : NetMaterial) (current : ℕ) (octets : List ℕ) (f :
   pub text : net_text m f ≡ octets
 
 -- The octets read as these fields under the key at this place of the list, and as nothing under the keys before it.
-pub record Reads (keys : List Heard) (current : ℕ) (octets : List ℕ) (f : NetFields) (place : ℕ) (by : Heard) : Type 0 where
+pub record Reads (keys : List Heard) (current : ℕ) (octets : List ℕ) (f : NetFields) (place : ℕ)
+    (by : Heard) : Type 0 where
   pub key : slice_get keys place ≡ Some by
   pub reads : ReadsUnder by.material current octets f
-  pub first : (k : ℕ) (h : Heard) (g : NetFields) → k < place → slice_get keys k ≡ Some h → ReadsUnder h.material current octets g → ⊥
+  pub first : (k : ℕ) (h : Heard) (g : NetFields) → k < place → slice_get keys k ≡ Some h
+      → ReadsUnder h.material current octets g → ⊥
 
 -- Under no key of the list do the octets read as anything.
 abbrev pub IsUnread : List Heard → ℕ → List ℕ → Type 0
-IsUnread keys current octets = (k : ℕ) (h : Heard) (f : NetFields) → slice_get keys k ≡ Some h → ReadsUnder h.material current octets f → ⊥
+IsUnread keys current octets =
+    (k : ℕ) (h : Heard) (f : NetFields) → slice_get keys k ≡ Some h → ReadsUnder h.material current octets f → ⊥

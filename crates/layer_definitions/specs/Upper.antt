@@ -20,7 +20,8 @@ key_octets (Device key) = key
 -- IV Index (3.8.5.2, 3.8.5.3). SEQ and IV Index are those of SeqAuth.
 abbrev pub upper_nonce : UpperKey → UpperFields → List ℕ
 upper_nonce key f =
-    nonce_type key ∷ (if f.long_mic then 2 ^ 7 else 0) ∷ three_octets f.pair.seq ++ two_octets f.src.0 ++ two_octets f.dst.0 ++ four_octets f.pair.iv
+    nonce_type key ∷ (if f.long_mic then 2 ^ 7 else 0) ∷ three_octets f.pair.seq ++ two_octets f.src.0
+    ++ two_octets f.dst.0 ++ four_octets f.pair.iv
 
 -- how many octets TransMIC has: 4, or 8 with SZMIC (3.6.2.2)
 abbrev pub trans_mic_length : Bool → ℕ
@@ -47,8 +48,10 @@ pub record Opens (keys : List UpperKey) (f : UpperFields) (upper : List ℕ) (pl
   pub key : UpperKey
   pub key_is : slice_get keys place ≡ Some key
   pub opens : OpensUnder key f upper payload
-  pub first : (k : ℕ) (earlier : UpperKey) (other : List ℕ) → k < place → slice_get keys k ≡ Some earlier → OpensUnder earlier f upper other → ⊥
+  pub first : (k : ℕ) (earlier : UpperKey) (other : List ℕ) → k < place → slice_get keys k ≡ Some earlier
+      → OpensUnder earlier f upper other → ⊥
 
 -- Under no key of the list do the octets open to anything.
 abbrev pub IsUnopened : List UpperKey → UpperFields → List ℕ → Type 0
-IsUnopened keys f upper = (k : ℕ) (key : UpperKey) (payload : List ℕ) → slice_get keys k ≡ Some key → OpensUnder key f upper payload → ⊥
+IsUnopened keys f upper =
+    (k : ℕ) (key : UpperKey) (payload : List ℕ) → slice_get keys k ≡ Some key → OpensUnder key f upper payload → ⊥

@@ -46,7 +46,8 @@ pub record IsWithinLimits (c : Config) : Type 0 where
 -- these sizes.
 abbrev pub StoreFitting : Layers → Type 0
 StoreFitting layers =
-    (past : Past) (m : AccessMessage) → IsWhole (config_before past) → IsWithinLimits (config_before past) → All (λ octet. octet < 2 ^ 8) m.payload
+    (past : Past) (m : AccessMessage) → IsWhole (config_before past) → IsWithinLimits (config_before past)
+    → All (λ octet. octet < 2 ^ 8) m.payload
     → AreStorable (past.records ++ R.Replay m.name None ∷ []) (layers.changes past m)
 
 -- so no run of a node with these layers reuses a nonce or delivers a message twice

@@ -76,7 +76,14 @@ request_fault now slots lpn r =
 
 -- ReceiveWindow of 100 milliseconds, 16 messages, 16 addresses, and an RSSI that isn't known (3.6.5.4)
 abbrev pub offer_of : ℕ → Offer
-offer_of counter = record { receive_window = 0x64; queue_size = 0x10; subscription_list_size = 0x10; rssi = 0x7f; friend_counter = counter }
+offer_of counter =
+    record {
+      receive_window = 0x64;
+      queue_size = 0x10;
+      subscription_list_size = 0x10;
+      rssi = 0x7f;
+      friend_counter = counter;
+    }
 
 abbrev pub offered : FriendsState → ℕ → Address → Request → Result Offer FriendFault
 offered st now lpn r = option_map_or Err (request_fault now st.slots lpn r) (Ok (offer_of st.offers))
@@ -147,7 +154,13 @@ is_empty (e ∷ es) = false
 abbrev pub polled : ℕ → Bool → Friendship → Friendship
 polled now fsn s =
     if is_again fsn s then record s { until = renewed now s }
-    else record s { until = renewed now s; fsn = Some fsn; answered = not (is_empty (queue_left s)); kept = None; queue = queue_left s }
+    else record s {
+      until = renewed now s;
+      fsn = Some fsn;
+      answered = not (is_empty (queue_left s));
+      kept = None;
+      queue = queue_left s;
+    }
 
 abbrev pub poll_result : List Friendship → ℕ → Address → Bool → Result Polled FriendFault
 poll_result slots now lpn fsn =
@@ -240,7 +253,8 @@ pub data FriendCall : Type 0 where
 abbrev pub slots_after : List Friendship → FriendCall → List Friendship
 slots_after slots (request now net own lpn r) = slots
 slots_after slots (poll now lpn fsn) =
-    if list_any (is_of lpn) (standing now slots) then change_where (is_of lpn) (polled now fsn) (standing now slots) else slots
+    if list_any (is_of lpn) (standing now slots) then change_where (is_of lpn) (polled now fsn) (standing now slots)
+    else slots
 slots_after slots (keep lpn fsn name pdu) = change_where (is_noted lpn fsn) (with_kept name pdu) slots
 slots_after slots (put f) = change_where (is_stored f) (queued (Q.Heard (record f { ttl = f.ttl - 1 }))) slots
 slots_after slots (put_own m) = change_where (λ s. is_friendship s && has_address s m.dst) (queued (Q.Own m)) slots
@@ -257,7 +271,8 @@ slots_after slots (tick now) = standing now slots
 slots_after slots end_all = []
 
 abbrev pub after : FriendsState → FriendCall → FriendsState
-after st (request now net own lpn r) = if is_some (request_fault now st.slots lpn r) then st else requested st now net own lpn r
+after st (request now net own lpn r) =
+    if is_some (request_fault now st.slots lpn r) then st else requested st now net own lpn r
 after st call = record st { slots = slots_after st.slots call }
 
 -- the state after a list of calls

@@ -20,8 +20,10 @@ use Rattle.mesh_base.specs.declared.pair.Name.{Name}
 abbrev pub form_of : Lower → Form
 form_of (Access akf aid upper) = record { ctl = false; akf = akf; code = aid; szmic = false }
 form_of (Control opcode params) = record { ctl = true; akf = false; code = opcode; szmic = false }
-form_of (AccessPart akf aid szmic seq_zero seg_o seg_n piece) = record { ctl = false; akf = akf; code = aid; szmic = szmic }
-form_of (ControlPart opcode seq_zero seg_o seg_n piece) = record { ctl = true; akf = false; code = opcode; szmic = false }
+form_of (AccessPart akf aid szmic seq_zero seg_o seg_n piece) =
+    record { ctl = false; akf = akf; code = aid; szmic = szmic }
+form_of (ControlPart opcode seq_zero seg_o seg_n piece) =
+    record { ctl = true; akf = false; code = opcode; szmic = false }
 
 abbrev pub seg_o_of : Lower → ℕ
 seg_o_of (Access akf aid upper) = 0
@@ -115,12 +117,14 @@ is_at_odds a h =
     || is_other (piece_at a.pieces (seg_o_of h.part)) (piece_of h.part)
 
 abbrev pub with_piece : List (Option (List ℕ)) → Lower → List (Option (List ℕ))
-with_piece ps part = if is_some (piece_at ps (seg_o_of part)) then ps else slice_set ps (seg_o_of part) (Some (piece_of part))
+with_piece ps part =
+    if is_some (piece_at ps (seg_o_of part)) then ps else slice_set ps (seg_o_of part) (Some (piece_of part))
 
 -- A new piece of a message to one element starts the acknowledgment timer, if it doesn't run, with 150 + 50 x TTL milliseconds, where TTL
 -- is that of the acknowledgment (3.5.3.3).
 abbrev pub timer_after : ℕ → Option Timer → PartHeard → Option Timer
-timer_after now None h = if is_unicast h.dst then Some (record { due = now + 15 + 5 * h.ack_ttl; ttl = h.ack_ttl }) else None
+timer_after now None h =
+    if is_unicast h.dst then Some (record { due = now + 15 + 5 * h.ack_ttl; ttl = h.ack_ttl }) else None
 timer_after now (Some t) h = Some t
 
 -- the message with a segment that isn't at odds with it: an equal piece again changes nothing
@@ -155,12 +159,14 @@ has_no_room n rows = not (is_held n rows) && nat_le 8 (length rows)
 
 -- what becomes of a segment, over the messages in progress
 abbrev pub taken : List Assembly → ℕ → PartHeard → Taken
-taken rows now h = if has_no_room h.name rows then NoRoom (take 8 (names_of rows)) else judged (message_for rows now h) now h
+taken rows now h =
+    if has_no_room h.name rows then NoRoom (take 8 (names_of rows)) else judged (message_for rows now h) now h
 
 -- what it leaves of them; a whole message stays until it is released
 abbrev pub noted : List Assembly → ℕ → PartHeard → List Assembly
 noted rows now h =
-    if has_no_room h.name rows then rows else put_message (place_of h.name rows) (judged_after (message_for rows now h) now h) rows
+    if has_no_room h.name rows then rows
+    else put_message (place_of h.name rows) (judged_after (message_for rows now h) now h) rows
 
 abbrev pub without : Name → List Assembly → List Assembly
 without n rows = filter (λ a. not (is_name n a.name)) rows

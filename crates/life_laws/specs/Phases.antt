@@ -10,7 +10,8 @@ use Rattle.node_phase.specs.Part.{number_at}
 
 -- Whatever phases follow, with their parts: these phases with these parts come before them.
 pub record PhasesDone (phases : List (List (List Event))) (parts : List Part) : Type 0 where
-  pub before : (is_cut : Bool) (rest : List (List (List Event))) (tail : List Part) → PartsOf is_cut rest tail → PartsOf is_cut (phases ++ rest) (parts ++ tail)
+  pub before : (is_cut : Bool) (rest : List (List (List Event))) (tail : List Part) → PartsOf is_cut rest tail
+      → PartsOf is_cut (phases ++ rest) (parts ++ tail)
 
 -- the entries and the lines so far fall into these parts
 pub record FallInto (entries : List Entry) (sends : List (List Sent)) (parts : List Part) : Type 0 where
@@ -32,14 +33,16 @@ both_of (x ∷ xs) [] = x ∷ xs
 both_of (x ∷ xs) (y ∷ ys) = (x ++ y) ∷ both_of xs ys
 
 -- These phases are through: each bearer did all that it had, in these parts.
-pub record AreDone (phases : List (List (List Event))) (entries : List Entry) (sends : List (List Sent)) (counts : List ℕ) : Type 0 where
+pub record AreDone (phases : List (List (List Event))) (entries : List Entry) (sends : List (List Sent))
+    (counts : List ℕ) : Type 0 where
   pub parts : List Part
   pub done : PhasesDone phases parts
   pub fall : FallInto entries sends parts
   pub numbered : (k : ℕ) → AreNumbered entries counts k
 
 -- Of a life with these phases, broken off or not: its entries and lines fall into the parts of its phases.
-pub record AreOrdered (is_cut : Bool) (phases : List (List (List Event))) (entries : List Entry) (sends : List (List Sent)) : Type 0 where
+pub record AreOrdered (is_cut : Bool) (phases : List (List (List Event))) (entries : List Entry)
+    (sends : List (List Sent)) : Type 0 where
   pub parts : List Part
   pub fall : FallInto entries sends parts
   pub parts_are : PartsOf is_cut phases parts

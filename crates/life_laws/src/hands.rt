@@ -14,10 +14,15 @@ ghost use Rattle.life_laws.specs.Hands.{AreHandledAll, IsNextIn};
 /// Behind phases that are through, each bearer has handled all its events; and where a bearer was broken off in the phase behind them, the
 /// event in hand of the node, if it is one from outside, is the next of some bearer.
 pub fn hands_law<F>()
-    ensures more { (phases : List (List (List Event))) (old new : NodeView F) (d e : DrawerView) (events : List (List Event)) (counts : List ℕ) (dones : List Done)
-        → AreHandledAll phases old.machine.entries → WasPhase old new d e events counts dones → HadMemory dones → length events ≤ length counts → old.stops ≡ 0
+    ensures more { (phases : List (List (List Event))) (old new : NodeView F) (d e : DrawerView)
+        (events : List (List Event)) (counts : List ℕ) (dones : List Done)
+        → AreHandledAll phases old.machine.entries → WasPhase old new d e events counts dones → HadMemory dones
+        → length events ≤ length counts → old.stops ≡ 0
         → AreThrough dones → AreHandledAll (phases ++ events ∷ []) new.machine.entries }
-    ensures next { (phases rest : List (List (List Event))) (old new : NodeView F) (d e : DrawerView) (events : List (List Event)) (counts : List ℕ) (dones : List Done)
-        → AreHandledAll phases old.machine.entries → WasPhase old new d e events counts dones → HadMemory dones → length events ≤ length counts → old.stops ≡ 0
-        → 0 < new.stops → (event : Event) → event_in new.machine.hand ≡ Some event → is_outside event ≡ true → IsNextIn (phases ++ events ∷ rest) new.machine.entries event }
+    ensures next { (phases rest : List (List (List Event))) (old new : NodeView F) (d e : DrawerView)
+        (events : List (List Event)) (counts : List ℕ) (dones : List Done)
+        → AreHandledAll phases old.machine.entries → WasPhase old new d e events counts dones → HadMemory dones
+        → length events ≤ length counts → old.stops ≡ 0
+        → 0 < new.stops → (event : Event) → event_in new.machine.hand ≡ Some event → is_outside event ≡ true
+        → IsNextIn (phases ++ events ∷ rest) new.machine.entries event }
 {}

@@ -23,15 +23,23 @@ ghost use Rattle.life_laws.specs.Phases.{AreOrdered};
 /// When a life is one of its plan that opened over the one list of records and leaves the other.
 pub fn life_law()
     // a life that was run
-    ensures run { (layers : Layers) (plan : List Step) (over next : List StoreRecord) (told : List Told) (l : Life) (hand : Hand)
+    ensures run { (layers : Layers) (plan : List Step) (over next : List StoreRecord) (told : List Told) (l : Life)
+        (hand : Hand)
         → (config_of over).reset ≡ false → l.opened ≡ Opens.On (config_of over).iv (config_of over).mark
-        → map (λ t. t.entry) told ≡ l.entries → AreHandled layers over [] told → ((k : ℕ) → IsNumbered l k) → AreOrdered (is_cut l.end) (phases_of plan) l.entries l.sends
-        → IsLeftBy layers (past_now layers over told l.refills) hand next → ((hand ≡ Hands.Nothing) ⊎ (is_cut l.end ≡ true))
-        → ((event : Event) → hand ≡ Hands.OfEvent event → is_outside event ≡ true → IsNextIn (phases_of plan) l.entries event)
-        → IsDrawn over next l → All (λ s. IsSpentRight (config_of next).mark s.outcome) (shown l) → LifeOf layers plan over l next }
+        → map (λ t. t.entry) told ≡ l.entries → AreHandled layers over [] told → ((k : ℕ) → IsNumbered l k)
+        → AreOrdered (is_cut l.end) (phases_of plan) l.entries l.sends
+        → IsLeftBy layers (past_now layers over told l.refills) hand next
+        → ((hand ≡ Hands.Nothing) ⊎ (is_cut l.end ≡ true))
+        → ((event : Event) → hand ≡ Hands.OfEvent event → is_outside event ≡ true
+        → IsNextIn (phases_of plan) l.entries event)
+        → IsDrawn over next l → All (λ s. IsSpentRight (config_of next).mark s.outcome) (shown l)
+        → LifeOf layers plan over l next }
     // a life that wasn't run since there was a Node Reset, and one that was cut while it opened
-    ensures reset { (layers : Layers) (plan : List Step) (over next : List StoreRecord) → (config_of over).reset ≡ true → IsLeft over [] next
-        → LifeOf layers plan over (record { opened = Opens.WasReset; entries = []; refills = 0; sends = []; end = Ends.Ended }) next }
+    ensures reset { (layers : Layers) (plan : List Step) (over next : List StoreRecord) → (config_of over).reset ≡ true
+        → IsLeft over [] next
+        → LifeOf layers plan over
+        (record { opened = Opens.WasReset; entries = []; refills = 0; sends = []; end = Ends.Ended }) next }
     ensures cut { (layers : Layers) (plan : List Step) (over next : List StoreRecord) (calls : ℕ) → IsLeft over [] next
-        → LifeOf layers plan over (record { opened = Opens.CutAtStart; entries = []; refills = 0; sends = []; end = Ends.Cut calls }) next }
+        → LifeOf layers plan over
+        (record { opened = Opens.CutAtStart; entries = []; refills = 0; sends = []; end = Ends.Cut calls }) next }
 {}

@@ -14,25 +14,35 @@ ghost use Rattle.life_laws.specs.Phases.{AreDone, AreNumbered, AreOrdered, both_
 
 /// Before any phase there are no entries.
 pub fn no_phases()
-    ensures done { (sends : List (List Sent)) (counts : List ℕ) → ((k : ℕ) → list_at sends k ≡ []) → ((k : ℕ) → number_at counts k ≡ 0) → AreDone [] [] sends counts }
+    ensures done { (sends : List (List Sent)) (counts : List ℕ) → ((k : ℕ) → list_at sends k ≡ [])
+        → ((k : ℕ) → number_at counts k ≡ 0) → AreDone [] [] sends counts }
 {}
 
 /// One phase more, where none of its bearers stopped for want of memory.
 pub fn one_phase_more<F>()
     // where no bearer stopped, it is through too
-    ensures done { (phases : List (List (List Event))) (old new : NodeView F) (d e : DrawerView) (events : List (List Event)) (counts : List ℕ) (dones : List Done) (sends : List (List Sent))
-        → AreDone phases old.machine.entries sends counts → WasPhase old new d e events counts dones → HadMemory dones → length events ≤ length counts → old.stops ≡ 0
-        → AreThrough dones → AreDone (phases ++ events ∷ []) new.machine.entries (both_of sends (map lines_of dones)) (map (λ x. x.number) dones) }
+    ensures done { (phases : List (List (List Event))) (old new : NodeView F) (d e : DrawerView)
+        (events : List (List Event)) (counts : List ℕ) (dones : List Done) (sends : List (List Sent))
+        → AreDone phases old.machine.entries sends counts → WasPhase old new d e events counts dones → HadMemory dones
+        → length events ≤ length counts → old.stops ≡ 0
+        → AreThrough dones
+        → AreDone (phases ++ events ∷ []) new.machine.entries (both_of sends (map lines_of dones))
+        (map (λ x. x.number) dones) }
     // else the life is broken off in it, whatever phases it has behind it
-    ensures broken { (phases rest : List (List (List Event))) (old new : NodeView F) (d e : DrawerView) (events : List (List Event)) (counts : List ℕ) (dones : List Done) (sends : List (List Sent))
-        → AreDone phases old.machine.entries sends counts → WasPhase old new d e events counts dones → HadMemory dones → length events ≤ length counts → old.stops ≡ 0
+    ensures broken { (phases rest : List (List (List Event))) (old new : NodeView F) (d e : DrawerView)
+        (events : List (List Event)) (counts : List ℕ) (dones : List Done) (sends : List (List Sent))
+        → AreDone phases old.machine.entries sends counts → WasPhase old new d e events counts dones → HadMemory dones
+        → length events ≤ length counts → old.stops ≡ 0
         → AreOrdered true (phases ++ events ∷ rest) new.machine.entries (both_of sends (map lines_of dones)) }
-    ensures numbered { (phases : List (List (List Event))) (old new : NodeView F) (d e : DrawerView) (events : List (List Event)) (counts : List ℕ) (dones : List Done) (sends : List (List Sent))
-        → AreDone phases old.machine.entries sends counts → WasPhase old new d e events counts dones → HadMemory dones → length events ≤ length counts → old.stops ≡ 0
+    ensures numbered { (phases : List (List (List Event))) (old new : NodeView F) (d e : DrawerView)
+        (events : List (List Event)) (counts : List ℕ) (dones : List Done) (sends : List (List Sent))
+        → AreDone phases old.machine.entries sends counts → WasPhase old new d e events counts dones → HadMemory dones
+        → length events ≤ length counts → old.stops ≡ 0
         → (k : ℕ) → AreNumbered new.machine.entries (map (λ x. x.number) dones) k }
 {}
 
 /// A life all of whose phases are through is ordered, cut or not.
 pub fn all_phases()
-    ensures ordered { (is_cut : Bool) (phases : List (List (List Event))) (entries : _) (sends : List (List Sent)) (counts : List ℕ) → AreDone phases entries sends counts → AreOrdered is_cut phases entries sends }
+    ensures ordered { (is_cut : Bool) (phases : List (List (List Event))) (entries : _) (sends : List (List Sent))
+        (counts : List ℕ) → AreDone phases entries sends counts → AreOrdered is_cut phases entries sends }
 {}

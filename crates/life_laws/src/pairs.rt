@@ -22,8 +22,10 @@ ghost use Rattle.life_laws.specs.Phases.{both_of};
 /// The lines of a life draw the words that were drawn at its seats: before any phase, and with one phase more.
 pub fn pairs_law<F>()
     ensures none { (bearers : ℕ) (d : DrawerView) → d.drawn ≡ [] → PairsSo [] (replicate bearers []) d }
-    ensures more { (old new : NodeView F) (d e : DrawerView) (events : List (List Event)) (counts : List ℕ) (dones : List Done) (sends : List (List Sent))
-        → PairsSo old.machine.entries sends d → WasPhase old new d e events counts dones → HadMemory dones → old.stops ≡ 0 → length sends ≡ length counts
+    ensures more { (old new : NodeView F) (d e : DrawerView) (events : List (List Event)) (counts : List ℕ)
+        (dones : List Done) (sends : List (List Sent))
+        → PairsSo old.machine.entries sends d → WasPhase old new d e events counts dones → HadMemory dones
+        → old.stops ≡ 0 → length sends ≡ length counts
         → PairsSo new.machine.entries (both_of sends (map lines_of dones)) e }
 {}
 
@@ -31,7 +33,9 @@ pub fn pairs_law<F>()
 /// marks of these, and was drawn once; and where no look found more in the counter than the mark that is left.
 pub fn drawn_law()
     ensures drawn { (over next : List StoreRecord) (l : Life) (d : DrawerView) → PairsSo l.entries l.sends d
-        → All (λ x. (config_of over).mark ≤ x) d.drawn → All (λ x. x < (config_of next).mark) d.drawn → ((x : ℕ) → times x d.drawn ≤ 1) → IsDrawn over next l }
-    ensures spent { (mark : ℕ) (l : Life) (d : DrawerView) → PairsSo l.entries l.sends d → ((word : ℕ) → Contains d.looks (saw.Counter word) → word ≤ mark)
+        → All (λ x. (config_of over).mark ≤ x) d.drawn → All (λ x. x < (config_of next).mark) d.drawn
+        → ((x : ℕ) → times x d.drawn ≤ 1) → IsDrawn over next l }
+    ensures spent { (mark : ℕ) (l : Life) (d : DrawerView) → PairsSo l.entries l.sends d
+        → ((word : ℕ) → Contains d.looks (saw.Counter word) → word ≤ mark)
         → All (λ s. IsSpentRight mark s.outcome) (shown l) }
 {}

@@ -12,8 +12,10 @@ ghost use Rattle.life_laws.specs.Stopped.{HasStopped};
 
 /// Where no bearer stopped in a phase, the node has no stop mark; and where one did since the flash failed, it has one.
 pub fn stops_law<F>()
-    ensures none { (old new : NodeView F) (d e : DrawerView) (events : List (List Event)) (counts : List ℕ) (dones : List Done)
+    ensures none { (old new : NodeView F) (d e : DrawerView) (events : List (List Event)) (counts : List ℕ)
+        (dones : List Done)
         → WasPhase old new d e events counts dones → old.stops ≡ 0 → AreThrough dones → new.stops ≡ 0 }
-    ensures some { (old new : NodeView F) (d e : DrawerView) (events : List (List Event)) (counts : List ℕ) (dones : List Done)
+    ensures some { (old new : NodeView F) (d e : DrawerView) (events : List (List Event)) (counts : List ℕ)
+        (dones : List Done)
         → WasPhase old new d e events counts dones → old.stops ≡ 0 → HasStopped dones → 0 < new.stops }
 {}

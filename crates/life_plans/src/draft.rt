@@ -35,7 +35,10 @@ impl Model for Draft {
 
     ghost Value = { Drafted };
 
-    ghost view = { λ d. record { steps = steps_of d.steps.items; events = option_map (λ events. map (λ v. v.items) events.items) d.events } };
+    ghost view = { λ d. record {
+      steps = steps_of d.steps.items;
+      events = option_map (λ events. map (λ v. v.items) events.items) d.events;
+    } };
 
     ghost invariant = { λ d. IfSome d.events (λ events. length events.items ≡ 8) };
 }
@@ -53,7 +56,8 @@ fn no_events(alloc: Global) -> Result<Vec<Vec<Event>>, AllocError>
 
 /// The events so far of a phase that goes on, bearer by bearer.
 fn begun(alloc: Global, events: Option<Vec<Vec<Event>>>) -> Result<Vec<Vec<Event>>, AllocError>
-    ensures value { IfOk result (λ now. map (λ v. v.items) now.items ≡ begun (option_map (λ events. map (λ v. v.items) events.items) events)) }
+    ensures value { IfOk result
+        (λ now. map (λ v. v.items) now.items ≡ begun (option_map (λ events. map (λ v. v.items) events.items) events)) }
 {
     match events {
         Some(events) => Ok(events),
@@ -64,7 +68,9 @@ fn begun(alloc: Global, events: Option<Vec<Vec<Event>>>) -> Result<Vec<Vec<Event
 /// Puts an event behind those of its bearer.
 fn push_event(events: &mut Vec<Vec<Event>>, happening: Happening) -> Result<(), AllocError>
     requires bearer { happening.bearer < length events.old.items }
-    ensures ok { OnOk result (map (λ v. v.items) events.new.items ≡ with_event (map (λ v. v.items) events.old.items) happening.bearer happening.event) }
+    ensures ok { OnOk result
+        (map (λ v. v.items) events.new.items
+        ≡ with_event (map (λ v. v.items) events.old.items) happening.bearer happening.event) }
 {
     events[usize::from(happening.bearer)].push(happening.event)?;
     Ok(())
@@ -76,7 +82,9 @@ fn push_happening(
     happening: Option<Happening>,
 ) -> Result<(), AllocError>
     requires bearer { IfSome happening (λ h. h.bearer < length events.old.items) }
-    ensures ok { OnOk result (map (λ v. v.items) events.new.items ≡ with_happening (map (λ v. v.items) events.old.items) (option_map said happening)) }
+    ensures ok { OnOk result
+        (map (λ v. v.items) events.new.items
+        ≡ with_happening (map (λ v. v.items) events.old.items) (option_map said happening)) }
 {
     match happening {
         Some(happening) => push_event(events, happening),
@@ -107,7 +115,8 @@ impl Draft {
 
     /// Ends the phase, and has a call torn.
     fn arm(&mut self, line: ArmLine) -> Result<(), AllocError>
-        ensures ok { OnOk result (self.new ≡ record { steps = ended self.old ++ arm line.calls line.mask ∷ []; events = None }) }
+        ensures ok { OnOk result
+            (self.new ≡ record { steps = ended self.old ++ arm line.calls line.mask ∷ []; events = None }) }
     {
         self.end_phase()?;
         self.steps.push(PlanStep::Arm {
@@ -120,7 +129,12 @@ impl Draft {
     /// Goes on with the phase by what happens, if anything does.
     fn go_on(&mut self, alloc: Global, happening: Option<Happening>) -> Result<(), AllocError>
         requires bearer { IfSome happening (λ h. h.bearer < 8) }
-        ensures ok { OnOk result (self.new ≡ record { steps = self.old.steps; events = Some (with_happening (begun self.old.events) (option_map said happening)) }) }
+        ensures ok { OnOk result
+            (self.new
+            ≡ record {
+              steps = self.old.steps;
+              events = Some (with_happening (begun self.old.events) (option_map said happening));
+            }) }
     {
         let mut events = begun(alloc, self.events.take())?;
         push_happening(&mut events, happening)?;

@@ -29,6 +29,7 @@ pub fn provision_of(line: &ProvisionLine) -> Provision
 
 /// Of a script that was read for a node: the lines of each life are those that `plan_of` asks for, and the node can be provisioned.
 pub fn script_law()
-    ensures lives { (s : ScriptValue) → IsScriptOf G.Node s → All (λ lines. All IsRead lines × IsLife G.Node (Said.script_of s).node.elements lines) s.lives }
+    ensures lives { (s : ScriptValue) → IsScriptOf G.Node s
+        → All (λ lines. All IsRead lines × IsLife G.Node (Said.script_of s).node.elements lines) s.lives }
     ensures node { (s : ScriptValue) → IsScriptOf G.Node s → IsProvision (Said.provision_of s.provision) }
 {}

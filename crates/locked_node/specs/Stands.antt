@@ -15,7 +15,8 @@ pub record IsLater (start now : Chip) : Type 0 where
   pub began : now.setting.faults ≡ start.setting.faults
 
 -- the machine stands over this flash and the records that the life found, and bearers have stopped exactly if it is closed
-pub record Holds {M F : Type 0} (stands : Chip → List StoreRecord → M → Type 0) (view : M → MachineView) (chip : F → Chip) (machine : M) (start flash : F) (stops : ℕ) : Type 0 where
+pub record Holds {M F : Type 0} (stands : Chip → List StoreRecord → M → Type 0) (view : M → MachineView)
+    (chip : F → Chip) (machine : M) (start flash : F) (stops : ℕ) : Type 0 where
   pub over : List StoreRecord
   pub read : IsRecovered (chip start).now over
   pub tie : stands (chip flash) over machine
@@ -25,7 +26,8 @@ pub record Holds {M F : Type 0} (stands : Chip → List StoreRecord → M → Ty
   pub later : IsLater (chip start) (chip flash)
 
 -- the same as a caller sees it
-pub record IsNode {F : Type 0} (layers : Layers) (image : List ℕ → Type 0) (chip : F → Chip) (n : NodeView F) : Type 0 where
+pub record IsNode {F : Type 0} (layers : Layers) (image : List ℕ → Type 0) (chip : F → Chip)
+    (n : NodeView F) : Type 0 where
   pub over : List StoreRecord
   pub read : IsRecovered (chip n.start).now over
   pub life : IsLifeSoFar layers image (chip n.flash) over n.machine

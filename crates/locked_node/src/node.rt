@@ -44,7 +44,12 @@ impl<M: Machine, F: Bench> Model for Node<M, F> {
 
     ghost Value = { NodeView F };
 
-    ghost view = { λ n. record { machine = M.view n.machine.value; start = n.start; flash = n.flash; stops = n.stops } };
+    ghost view = { λ n. record {
+      machine = M.view n.machine.value;
+      start = n.start;
+      flash = n.flash;
+      stops = n.stops;
+    } };
 
     ghost invariant = { λ n. Holds M.stands M.view F.chip n.machine.value n.start n.flash n.stops };
 }
@@ -66,10 +71,12 @@ impl<M: Machine, F: Bench> Logged for Node<M, F> {
 impl<M: Machine, F: Bench> Node<M, F> {
     /// A machine with its flash, which the life found as `start` says. For want of memory both are dropped.
     pub fn new(alloc: Global, machine: M, flash: F, start: Known<F>) -> Result<Self, AllocError>
-        requires stands { (over : List StoreRecord) × IsRecovered (F.chip start).now over × M.stands (F.chip flash) over machine }
+        requires stands { (over : List StoreRecord) × IsRecovered (F.chip start).now over
+            × M.stands (F.chip flash) over machine }
         requires usable { (M.view machine).closed ≡ false }
         requires later { IsLater (F.chip start) (F.chip flash) }
-        ensures value { IfOk result (λ node. node ≡ record { machine = M.view machine; start = start; flash = flash; stops = 0 }) }
+        ensures value { IfOk result
+            (λ node. node ≡ record { machine = M.view machine; start = start; flash = flash; stops = 0 }) }
     {
         let machine = Box::new(alloc, machine)?;
         Ok(Node {
@@ -94,11 +101,15 @@ impl<M: Machine, F: Bench> Node<M, F> {
         requires event { IsEvent self.old.machine.elements event.now }
         ensures origin { origin_of F.chip self.new ≡ origin_of F.chip self.old }
         ensures front { IsPrefix (node_marks self.old) (node_marks self.new) }
-        ensures ok { IfOk result (λ r. node_marks self.new ≡ node_marks self.old ++ Marks.Handled (entry_for self.old.machine bearer number event.now r.answer r.jobs) ∷ []) }
+        ensures ok { IfOk result
+            (λ r. node_marks self.new
+            ≡ node_marks self.old
+            ++ Marks.Handled (entry_for self.old.machine bearer number event.now r.answer r.jobs) ∷ []) }
         ensures place { IfOk result (λ r. r.at ≡ length (node_marks self.old)) }
         ensures jobs { IfOk result (λ r. All (IsJob event.now) r.jobs) }
         ensures quiet { is_outside event.now ≡ false → IfOk result (λ r. All IsQuiet r.jobs) }
-        ensures stopped { IfErr result (λ e. OnStop e (IsStopped event.now (node_marks self.old) (node_marks self.new))) }
+        ensures stopped { IfErr result
+            (λ e. OnStop e (IsStopped event.now (node_marks self.old) (node_marks self.new))) }
     {
         if self.stops == u32::MAX {
             return Err(Stop::Memory);
@@ -149,7 +160,8 @@ impl<M: Machine, F: Bench> Node<M, F> {
     /// Tears a later call of the flash, by the one order that it takes in a life.
     pub fn arm(&mut self, calls: u32, mask: u8)
         requires none { (F.chip self.old.flash).setting.arm ≡ None }
-        ensures arm { (F.chip self.new.flash).setting.arm ≡ Some (record { calls = calls; mask = mask; changes = (F.chip self.old.flash).changes }) }
+        ensures arm { (F.chip self.new.flash).setting.arm
+            ≡ Some (record { calls = calls; mask = mask; changes = (F.chip self.old.flash).changes }) }
         ensures frame { self.new ≡ record self.old { flash = self.new.flash } }
     {
         self.flash.arm(calls, mask);

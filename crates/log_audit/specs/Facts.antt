@@ -16,7 +16,8 @@ Key = (ℕ × (ℕ × ℕ)) × (ℕ × ℕ)
 
 abbrev pub key_cmp : Key → Key → Ordering
 key_cmp x y =
-    ordering_then (ordering_then (nat_cmp x.0.0 y.0.0) (ordering_then (nat_cmp x.0.1.0 y.0.1.0) (nat_cmp x.0.1.1 y.0.1.1)))
+    ordering_then
+    (ordering_then (nat_cmp x.0.0 y.0.0) (ordering_then (nat_cmp x.0.1.0 y.0.1.0) (nat_cmp x.0.1.1 y.0.1.1)))
     (ordering_then (nat_cmp x.1.0 y.1.0) (nat_cmp x.1.1 y.1.1))
 
 abbrev pub same_key : Key → Key → Bool

@@ -19,7 +19,8 @@ pub record HasKeys (text : List ℕ) (keys : List ScriptNet) (rest : List ℕ) :
   pub are : AreKeyLines (take (length keys) (lines_of text)) keys
   pub behind : lines_of rest ≡ drop (length keys) (lines_of text)
   pub few : length keys ≤ 16
-  pub end : (t : List ℕ) (ts : List (List ℕ)) → lines_of rest ≡ t ∷ ts → (length keys ≡ 16) ⊎ ((n : ScriptNet) → IsKeyLine t n → ⊥)
+  pub end : (t : List ℕ) (ts : List (List ℕ)) → lines_of rest ≡ t ∷ ts
+      → (length keys ≡ 16) ⊎ ((n : ScriptNet) → IsKeyLine t n → ⊥)
   pub size : length rest ≤ length text
 
 -- behind so many lines, this line is the first one of a text that is none of a report

@@ -8,7 +8,8 @@ pick same None q number behind = behind
 pick same (Some fact) q number behind = if same fact.0 q then Some (number, fact.1) else behind
 
 -- the number of the first line with this key, and its fact, behind so many lines
-abbrev pub first : {K V : Type 0} → (K → K → Bool) → (ReportLine → Option (K × V)) → ℕ → K → List ReportLine → Option (ℕ × V)
+abbrev pub first : {K V : Type 0} → (K → K → Bool) → (ReportLine → Option (K × V)) → ℕ → K → List ReportLine
+    → Option (ℕ × V)
 first same f n q [] = None
 first same f n q (l ∷ ls) = pick same (f l) q (n + 1) (first same f (n + 1) q ls)
 

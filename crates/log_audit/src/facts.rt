@@ -160,7 +160,8 @@ pub fn seen(
     number: u32,
 ) -> Result<Option<(u32, bool)>, AllocError>
     ensures answer { IfOk result (λ r. r ≡ known_of (λ q. get key_cmp uses.old q) fact) }
-    ensures noted { OnOk result ((q : KeyOf) → get key_cmp uses.new q ≡ or_else (get key_cmp uses.old q) (pick same_key fact q number None)) }
+    ensures noted { OnOk result
+        ((q : KeyOf) → get key_cmp uses.new q ≡ or_else (get key_cmp uses.old q) (pick same_key fact q number None)) }
 {
     match fact {
         Some((key, value)) => note(uses, key, value, number),

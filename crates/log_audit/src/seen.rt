@@ -55,7 +55,10 @@ pub fn note(
     line: u32,
 ) -> Result<Option<(u32, bool)>, AllocError>
     ensures answer { IfOk result (λ r. r ≡ option_map (λ u. (u.0, bytes_eq u.1 value)) (get key_cmp uses.old key)) }
-    ensures noted { OnOk result ((q : KeyOf) → get key_cmp uses.new q ≡ or_else (get key_cmp uses.old q) (if same_key key q then Some (line, value) else None)) }
+    ensures noted { OnOk result
+        ((q : KeyOf)
+        → get key_cmp uses.new q
+        ≡ or_else (get key_cmp uses.old q) (if same_key key q then Some (line, value) else None)) }
 {
     match known(uses, key, value.as_slice()) {
         Some(used) => Ok(Some(used)),
@@ -68,7 +71,8 @@ pub fn note(
 
 /// Puts a use into the map.
 fn put(uses: &mut Uses, key: Key, used: (u32, Octets<380>)) -> Result<(), AllocError>
-    ensures put { OnOk result ((q : KeyOf) → get key_cmp uses.new q ≡ (if same_key key q then Some used else get key_cmp uses.old q)) }
+    ensures put { OnOk result
+        ((q : KeyOf) → get key_cmp uses.new q ≡ (if same_key key q then Some used else get key_cmp uses.old q)) }
 {
     match uses.insert(key, used) {
         Ok(_) => Ok(()),

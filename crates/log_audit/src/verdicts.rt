@@ -85,7 +85,9 @@ pub fn verdict(
 ) -> Result<Verdict, AllocError>
     requires nids { (k : ℕ) (m : Material) → slice_get keys.now k ≡ Some m → m.nid < 2 ^ 7 }
     requires count { before + length lines.now < 2 ^ 32 }
-    ensures value { IfOk result (λ v. (nets : List Net) → map material_of nets ≡ keys.now → length nets ≡ before → IsVerdictOf nets lines.now v) }
+    ensures value { IfOk result
+        (λ v. (nets : List Net) → map material_of nets ≡ keys.now → length nets ≡ before
+        → IsVerdictOf nets lines.now v) }
 {
     let own = own_sources(alloc, lines)?;
     let mut pdus = BTreeMap::new(alloc);

@@ -8,7 +8,8 @@ use Rattle.store_definitions.specs.Recovered.{IsRecovered}
 
 -- of whatever an image of the flash recovers this holds
 abbrev pub EachRecovered : Chip → (List StoreRecord → Type 0) → Type 0
-EachRecovered chip P = (image : List ℕ) (records : List StoreRecord) → chip.images image → IsRecovered image records → P records
+EachRecovered chip P =
+    (image : List ℕ) (records : List StoreRecord) → chip.images image → IsRecovered image records → P records
 
 -- an honest flash each image of which is one that a life can be opened from
 pub record IsNodeFlash (IsNodeImage : List ℕ → Type 0) (chip : Chip) : Type 0 where

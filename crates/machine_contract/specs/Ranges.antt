@@ -25,11 +25,13 @@ abbrev pub IsEvent : ℕ → Event → Type 0
 IsEvent elements (E.Net octets) = ⊤
 IsEvent elements (E.Bcn octets) = ⊤
 IsEvent elements (E.Send element dst ttl key payload) =
-    (element < elements) × (1 ≤ dst.0) × (0x8000 ≤ dst.0 → 0xc000 ≤ dst.0) × (ttl < 2 ^ 7) × IsSendKey key × (1 ≤ length payload) × (length payload ≤ 380)
+    (element < elements) × (1 ≤ dst.0) × (0x8000 ≤ dst.0 → 0xc000 ≤ dst.0) × (ttl < 2 ^ 7) × IsSendKey key
+    × (1 ≤ length payload) × (length payload ≤ 380)
 IsEvent elements (E.Raw dst ttl tpdu) = (1 ≤ dst.0) × (ttl < 2 ^ 7) × (1 ≤ length tpdu) × (length tpdu ≤ 12)
 IsEvent elements (E.Tick ticks) = ⊤
 IsEvent elements (E.Begin pair dst src ttl net akf aid upper) =
-    (pair.seq < 2 ^ 24) × (ttl < 2 ^ 7) × (aid < 2 ^ 6) × (IsFalse akf → aid ≡ 0) × (5 ≤ length upper) × (length upper ≤ 384)
+    (pair.seq < 2 ^ 24) × (ttl < 2 ^ 7) × (aid < 2 ^ 6) × (IsFalse akf → aid ≡ 0) × (5 ≤ length upper)
+    × (length upper ≤ 384)
 IsEvent elements (E.Kept lpn fsn name octets) = ⊤
 
 -- the key of an access message: AID has 6 bits
@@ -40,7 +42,8 @@ IsUpperKey (U.App index aid key) = aid < 2 ^ 6
 -- A job of an event: there is a network PDU of its fields. A job whose payload is that of a Send belongs to one.
 abbrev pub IsJob : Event → Job → Type 0
 IsJob event (J.Relay material fields) = (material.nid < 2 ^ 7) × HasPdu fields
-IsJob event (J.Control material ttl src dst tpdu keep) = (material.nid < 2 ^ 7) × (ttl < 2 ^ 7) × (1 ≤ length tpdu) × (length tpdu ≤ 12)
+IsJob event (J.Control material ttl src dst tpdu keep) =
+    (material.nid < 2 ^ 7) × (ttl < 2 ^ 7) × (1 ≤ length tpdu) × (length tpdu ≤ 12)
 IsJob event (J.Message net material key ttl src dst payload keep) =
     (material.nid < 2 ^ 7) × (ttl < 2 ^ 7) × IsUpperKey key × (1 ≤ length payload)
 IsJob (E.Send element at hops with payload) (J.Sent net material key ttl src dst) =

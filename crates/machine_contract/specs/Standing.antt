@@ -25,24 +25,28 @@ pub record IsFrontLeft (layers : Layers) (past : Past) (event : Event) (next : L
   pub insight : Insight
   pub sees : Sees layers past event insight
   pub count : ℕ
-  pub left : IsLeft past.records (take count (stores layers past event insight (answer_of layers past event insight))) next
+  pub left : IsLeft past.records
+      (take count (stores layers past event insight (answer_of layers past event insight))) next
 
 -- What an image recovers, by what a failed call had in hand: all records so far, or these and what may be left of the ones in hand.
 abbrev pub IsLeftBy : Layers → Past → Hand → List StoreRecord → Type 0
 IsLeftBy layers past H.Nothing next = IsLeft past.records [] next
 IsLeftBy layers past (H.OfEvent event) next = IsLeft past.records [] next ⊎ IsFrontLeft layers past event next
-IsLeftBy layers past H.OfRefill next = IsLeft past.records [] next ⊎ IsLeft past.records (fill_of (config_of past.records) ∷ []) next
+IsLeftBy layers past H.OfRefill next =
+    IsLeft past.records [] next ⊎ IsLeft past.records (fill_of (config_of past.records) ∷ []) next
 
 -- The entries so far were handled in order, from the records that the life opened over; an image recovers what they left, with the mark
 -- that is published at most; and the machine is closed only where the flash failed.
-pub record IsLifeSoFar (layers : Layers) (IsNodeImage : List ℕ → Type 0) (chip : Chip) (over : List StoreRecord) (m : MachineView) : Type 0 where
+pub record IsLifeSoFar (layers : Layers) (IsNodeImage : List ℕ → Type 0) (chip : Chip) (over : List StoreRecord)
+    (m : MachineView) : Type 0 where
   pub told : List Told
   pub entries : map (λ t. t.entry) told ≡ m.entries
   pub handled : AreHandled layers over [] told
   pub few : length m.entries < 2 ^ 32
   pub elements : m.elements ≡ (config_of over).elements
   pub node : IsNodeFlash IsNodeImage chip
-  pub left : EachRecovered chip (λ next. IsLeftBy layers (past_now layers over told m.fills) m.hand next × (m.mark ≤ (config_of next).mark))
+  pub left : EachRecovered chip
+      (λ next. IsLeftBy layers (past_now layers over told m.fills) m.hand next × (m.mark ≤ (config_of next).mark))
   pub idle : m.closed ≡ false → m.hand ≡ H.Nothing
   pub failed : m.closed ≡ true → chip.setting.faults < chip.faults
 

@@ -9,7 +9,8 @@ use Rattle.machine_contract.specs.declared.opening.Started.{Started}
 use Rattle.machine_contract.specs.View.{MachineView}
 
 -- It opened over the records that are read, which say no Node Reset: with no entry, at the mark that they say, from which the counter draws.
-pub record IsStarted {M : Type 0} (view : M → MachineView) (stands : Chip → List StoreRecord → M → Type 0) (old new : Chip) (s : Started M) : Type 0 where
+pub record IsStarted {M : Type 0} (view : M → MachineView) (stands : Chip → List StoreRecord → M → Type 0)
+    (old new : Chip) (s : Started M) : Type 0 where
   pub over : List StoreRecord
   pub read : IsRecovered old.now over
   pub runs : (config_of over).reset ≡ false

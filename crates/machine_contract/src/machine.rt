@@ -62,17 +62,22 @@ pub trait Machine: Send + Drop {
         requires made { (view self.old).which ≡ n.now.which }
         requires event { IsEvent (view self.old).elements event.now }
 
-        ensures ok { IfOk result (λ r. view self.new ≡ with_entry (view self.old) (entry_for (view self.old) bearer number event.now r.answer r.jobs) (view self.new).mark) }
+        ensures ok { IfOk result
+            (λ r. view self.new
+            ≡ with_entry (view self.old) (entry_for (view self.old) bearer number event.now r.answer r.jobs)
+            (view self.new).mark) }
         ensures place { IfOk result (λ r. r.at ≡ length (view self.old).entries) }
         ensures usable { OnOk result ((view self.old).closed ≡ false) }
         ensures jobs { IfOk result (λ r. All (IsJob event.now) r.jobs) }
         // After the lines of what isn't from outside nothing is handled.
         ensures quiet { is_outside event.now ≡ false → IfOk result (λ r. All IsQuiet r.jobs) }
 
-        ensures refused { IfErr result (IsRefused F.chip (Hand.OfEvent event.now) (view self.old) (view self.new) flash.old flash.new) }
+        ensures refused { IfErr result
+            (IsRefused F.chip (Hand.OfEvent event.now) (view self.old) (view self.new) flash.old flash.new) }
         ensures closed { (view self.old).closed ≡ true → result ≡ Err Stop.Closed }
 
-        ensures kept { (over : List StoreRecord) → stands (F.chip flash.old) over self.old → stands (F.chip flash.new) over self.new }
+        ensures kept { (over : List StoreRecord) → stands (F.chip flash.old) over self.old
+            → stands (F.chip flash.new) over self.new }
         ensures frame { Keeps (F.chip flash.old) (F.chip flash.new) };
 
     /// Stores a refill, and publishes its mark, where `seen` is the mark published last; else nothing changes. Returns the mark that is
@@ -81,12 +86,15 @@ pub trait Machine: Send + Drop {
         requires made { (view self.old).which ≡ n.now.which }
         requires seq { seq_of seen < 2 ^ 24 }
 
-        ensures ok { OnOk result (view self.new ≡ record (view self.old) { fills = (view self.new).fills; mark = (view self.new).mark }) }
+        ensures ok { OnOk result
+            (view self.new ≡ record (view self.old) { fills = (view self.new).fills; mark = (view self.new).mark }) }
         ensures value { IfOk result (λ mark. mark ≡ (view self.new).mark) }
 
-        ensures refused { IfErr result (IsRefused F.chip Hand.OfRefill (view self.old) (view self.new) flash.old flash.new) }
+        ensures refused { IfErr result
+            (IsRefused F.chip Hand.OfRefill (view self.old) (view self.new) flash.old flash.new) }
 
-        ensures kept { (over : List StoreRecord) → stands (F.chip flash.old) over self.old → stands (F.chip flash.new) over self.new }
+        ensures kept { (over : List StoreRecord) → stands (F.chip flash.old) over self.old
+            → stands (F.chip flash.new) over self.new }
         ensures frame { Keeps (F.chip flash.old) (F.chip flash.new) };
 
     /// Whether an earlier call failed at the flash.
@@ -105,9 +113,11 @@ pub trait Machine: Send + Drop {
 
     /// What a machine that stands tells of its life. It does nothing.
     fn tells<F: Flash>()
-        ensures known { (f : F) (over : List StoreRecord) (m : Self) → stands (F.chip f) over m → IsLifeSoFar layers image (F.chip f) over (view m) };
+        ensures known { (f : F) (over : List StoreRecord) (m : Self) → stands (F.chip f) over m
+            → IsLifeSoFar layers image (F.chip f) over (view m) };
 
     /// A machine stands over the same flash, also where that was given an arm. It does nothing.
     fn stays<F: Flash>()
-        ensures kept { (f g : F) (over : List StoreRecord) (m : Self) → IsSameFlash (F.chip f) (F.chip g) → stands (F.chip f) over m → stands (F.chip g) over m };
+        ensures kept { (f g : F) (over : List StoreRecord) (m : Self) → IsSameFlash (F.chip f) (F.chip g)
+            → stands (F.chip f) over m → stands (F.chip g) over m };
 }

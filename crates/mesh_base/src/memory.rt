@@ -95,7 +95,14 @@ pub struct MemSink {
 impl Model for MemSink {
     ghost Value = { Ledger };
 
-    ghost view = { λ s. record { octets = s.held.items; pieces = s.offered; failing = s.failing.items; calls = s.calls; faults = s.faults; lacked_memory = s.lacked_memory } };
+    ghost view = { λ s. record {
+      octets = s.held.items;
+      pieces = s.offered;
+      failing = s.failing.items;
+      calls = s.calls;
+      faults = s.faults;
+      lacked_memory = s.lacked_memory;
+    } };
 }
 
 impl MemSink {
@@ -154,7 +161,8 @@ impl Sink for MemSink {
         ensures later { self.old.faults ≤ self.new.faults }
 
         // It fails at exactly the calls of its list and those that lack memory, and else takes the whole piece.
-        ensures fails { IsErr result ↔ (Contains self.old.failing (one_more self.old.calls) ⊎ IsTrue self.new.lacked_memory) }
+        ensures fails { IsErr result
+            ↔ (Contains self.old.failing (one_more self.old.calls) ⊎ IsTrue self.new.lacked_memory) }
         ensures listed { Contains self.old.failing (one_more self.old.calls) → self.new.lacked_memory ≡ false }
         ensures ok { IfOk result (λ n. n ≡ length bytes.now) }
         ensures calls { self.new.calls ≡ one_more self.old.calls }
@@ -242,7 +250,11 @@ impl Model for SureSink {
 
     ghost Value = { Shelf };
 
-    ghost view = { λ s. record { room = s.room; pieces = s.offered; held = if s.overflowed then None else Some s.held.items } };
+    ghost view = { λ s. record {
+      room = s.room;
+      pieces = s.offered;
+      held = if s.overflowed then None else Some s.held.items;
+    } };
 
     ghost invariant = { λ s. (s.room ≤ vec_capacity s.held) × (vec_len s.held ≤ s.room) };
 }

@@ -92,8 +92,10 @@ own_octets (ControlPart opcode seq_zero seg_o seg_n piece) = []
 abbrev pub whole_octets : Past → Name → Lower → List ℕ
 whole_octets past n (Access akf aid upper) = upper
 whole_octets past n (Control opcode params) = params
-whole_octets past n (AccessPart akf aid szmic seq_zero seg_o seg_n piece) = octets_after past n (AccessPart akf aid szmic seq_zero seg_o seg_n piece)
-whole_octets past n (ControlPart opcode seq_zero seg_o seg_n piece) = octets_after past n (ControlPart opcode seq_zero seg_o seg_n piece)
+whole_octets past n (AccessPart akf aid szmic seq_zero seg_o seg_n piece) =
+    octets_after past n (AccessPart akf aid szmic seq_zero seg_o seg_n piece)
+whole_octets past n (ControlPart opcode seq_zero seg_o seg_n piece) =
+    octets_after past n (ControlPart opcode seq_zero seg_o seg_n piece)
 
 -- what becomes of a message that is no replay: its octets where it is whole, or an answer
 abbrev pub IsTakenAs : Past → Reading → Lower → Name → Result (List ℕ) Answer → Type 0
@@ -105,8 +107,10 @@ IsTakenAs past r low n taken =
 -- The answers.
 
 -- to a whole access message
-pub record IsAccessAs (past : Past) (r : Reading) (n : Name) (akf : Bool) (aid : ℕ) (szmic : Bool) (octets : List ℕ) (j : Judged) : Type 0 where
-  pub opens : IsOpenedFor (config_before past) (keys_tried (config_before past) r akf aid) (fields_heard r n szmic) octets (option_map opening_of j.opened)
+pub record IsAccessAs (past : Past) (r : Reading) (n : Name) (akf : Bool) (aid : ℕ) (szmic : Bool) (octets : List ℕ)
+    (j : Judged) : Type 0 where
+  pub opens : IsOpenedFor (config_before past) (keys_tried (config_before past) r akf aid)
+      (fields_heard r n szmic) octets (option_map opening_of j.opened)
   pub answer : j.answer ≡ opened_answer past r n (option_map opening_of j.opened)
 
 -- to a whole message
@@ -135,7 +139,8 @@ pub record IsTransportAs (past : Past) (r : Reading) (h : Hearing) : Type 0 wher
 -- the answer to a beacon that reads, by whether an own segmented message is unacknowledged
 abbrev pub beacon_row : Config → Bool → Beacon → Answer
 beacon_row c busy b =
-    A.Beacon b.index (key_step (net_row c.nets b.index) b) (iv_next c.iv (is_some (net_row c.nets 0)) b.index b.iv b.update busy)
+    A.Beacon b.index (key_step (net_row c.nets b.index) b)
+    (iv_next c.iv (is_some (net_row c.nets 0)) b.index b.iv b.update busy)
 
 -- Own segmented messages.
 

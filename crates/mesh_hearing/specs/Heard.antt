@@ -18,13 +18,15 @@ use Rattle.segment_sender.specs.Held.{has_round}
 
 -- what the octets of a network PDU were read as
 abbrev pub insight_of : Hearing → Insight
-insight_of h = if h.reset then OfNothing else OfPdu (option_map reading_of h.reading) h.low (option_map opening_of h.opened)
+insight_of h =
+    if h.reset then OfNothing else OfPdu (option_map reading_of h.reading) h.low (option_map opening_of h.opened)
 
 -- After a past, octets heard as a network PDU were read and answered so, and the tables stand for the entries with this one.
 pub record IsHeard (past : Past) (octets : List ℕ) (h : Hearing) (t : TablesView) : Type 0 where
   pub sees : Sees built_layers past (E.Net octets) (insight_of h)
   pub answer : h.answer ≡ answer_of built_layers past (E.Net octets) (insight_of h)
-  pub tables : (e : Told) → e.insight ≡ insight_of h → e.entry.answer ≡ h.answer → e.records ≡ past.records → AreTablesOf t (past.told ++ e ∷ [])
+  pub tables : (e : Told) → e.insight ≡ insight_of h → e.entry.answer ≡ h.answer → e.records ≡ past.records
+      → AreTablesOf t (past.told ++ e ∷ [])
 
 -- what the octets of a beacon were read as
 abbrev pub beacon_insight : BeaconHearing → Insight
@@ -41,5 +43,6 @@ pub record IsPassed (past : Past) (ticks : ℕ) (passed : Passed) (t : TablesVie
   pub sees : Sees built_layers past (E.Tick ticks) OfNothing
   pub answer : passed.answer ≡ answer_of built_layers past (E.Tick ticks) OfNothing
   pub acks : passed.acks ≡ (if (config_before past).reset then [] else acks_due (later past ticks) (messages past))
-  pub rounds : passed.rounds.items ≡ (if (config_before past).reset then [] else filter (has_round (later past ticks)) (own.messages past))
+  pub rounds : passed.rounds.items
+      ≡ (if (config_before past).reset then [] else filter (has_round (later past ticks)) (own.messages past))
   pub tables : (e : Told) → e.insight ≡ OfNothing → e.entry.answer ≡ passed.answer → AreTablesOf t (past.told ++ e ∷ [])

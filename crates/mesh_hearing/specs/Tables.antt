@@ -71,4 +71,5 @@ GoOn =
 
 -- A life begins with no entries.
 abbrev pub BeginWith : Type 0
-BeginWith = (keys : HeldKeys) → AreTablesOf (record { keys = keys; cache = []; parts = []; again = []; own = []; ticks = 0 }) []
+BeginWith =
+    (keys : HeldKeys) → AreTablesOf (record { keys = keys; cache = []; parts = []; again = []; own = []; ticks = 0 }) []

@@ -79,8 +79,10 @@ impl Tables {
     /// segmented messages.
     pub fn hear_beacon(&mut self, p: &Persist, octets: &[u8]) -> BeaconHearing
         requires { HasTransmit p.now.iv }
-        ensures heard { (past : Past) → IsMeaningOf past.records p.now → AreTablesOf self.old past.told → IsBeaconHeard past octets.now result }
-        ensures tables { (told : List Told) (e : Told) → AreTablesOf self.old told → e.insight ≡ beacon_insight result → e.entry.answer ≡ result.answer
+        ensures heard { (past : Past) → IsMeaningOf past.records p.now → AreTablesOf self.old past.told
+            → IsBeaconHeard past octets.now result }
+        ensures tables { (told : List Told) (e : Told) → AreTablesOf self.old told → e.insight ≡ beacon_insight result
+            → e.entry.answer ≡ result.answer
             → AreTablesOf self.new (told ++ e ∷ []) }
         ensures keys { self.new.keys ≡ self.old.keys }
     {

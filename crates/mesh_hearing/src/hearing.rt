@@ -84,11 +84,13 @@ fn hear_transport(
 ) -> Hearing
     requires fit { keys.now ≡ held_in (config_in p.now) }
     requires time { now ≤ 2 ^ 48 }
-    ensures value { (past : Past) → StandsBelow past p.now parts.old again.now now → IsTransportAs past (reading_of reading) result }
+    ensures value { (past : Past) → StandsBelow past p.now parts.old again.now now
+        → IsTransportAs past (reading_of reading) result }
     ensures reading { result.reading ≡ Some reading }
     ensures reset { result.reset ≡ false }
     ensures late { is_late result.answer ≡ true }
-    ensures parts { parts.new ≡ fold after parts.old (message_calls now (config_in p.now) (insight_of result) result.answer) }
+    ensures parts { parts.new
+        ≡ fold after parts.old (message_calls now (config_in p.now) (insight_of result) result.answer) }
 {
     match lower_transport::read(reading.fields.ctl, reading.fields.tpdu.as_slice()) {
         Ok(low) => {
@@ -127,11 +129,15 @@ fn hear_octets(
 ) -> Result<Hearing, AllocError>
     requires fit { keys.now ≡ held_in (config_in p.now) }
     requires time { now ≤ 2 ^ 48 }
-    ensures heard { (past : Past) → IsFalse p.now.reset → cache.old ≡ last_of 128 (cached_names past.told) → StandsBelow past p.now parts.old again.now now
+    ensures heard { (past : Past) → IsFalse p.now.reset → cache.old ≡ last_of 128 (cached_names past.told)
+        → StandsBelow past p.now parts.old again.now now
         → IfOk result (IsReadAs past octets.now) }
     ensures reset { IfOk result (λ h. h.reset ≡ false) }
-    ensures cache { IfOk result (λ h. cache.new ≡ cache_after cache.old (cached_name (insight_of h) (is_before_cache h.answer))) }
-    ensures parts { IfOk result (λ h. parts.new ≡ fold after parts.old (message_calls now (config_in p.now) (insight_of h) h.answer ++ tick_calls h.answer)) }
+    ensures cache { IfOk result
+        (λ h. cache.new ≡ cache_after cache.old (cached_name (insight_of h) (is_before_cache h.answer))) }
+    ensures parts { IfOk result
+        (λ h. parts.new
+        ≡ fold after parts.old (message_calls now (config_in p.now) (insight_of h) h.answer ++ tick_calls h.answer)) }
     ensures own { IfOk result (λ h. (at : ℕ) (event : Event) → own_calls at event h.answer ≡ heard_calls h.answer) }
     ensures time { IfOk result (λ h. ticks_after now h.answer ≡ now) }
     ensures unchanged { OnErr result ((cache.new ≡ cache.old) × (parts.new ≡ parts.old)) }
@@ -151,7 +157,8 @@ impl Tables {
     /// of memory, and then nothing changes.
     pub fn hear(&mut self, p: &Persist, octets: &[u8]) -> Result<Hearing, AllocError>
         requires { IsFit self.old p.now }
-        ensures heard { (past : Past) → IsMeaningOf past.records p.now → AreTablesOf self.old past.told → IfOk result (λ h. IsHeard past octets.now h self.new) }
+        ensures heard { (past : Past) → IsMeaningOf past.records p.now → AreTablesOf self.old past.told
+            → IfOk result (λ h. IsHeard past octets.now h self.new) }
         ensures fit { IsFit self.new p.now }
         ensures unchanged { OnErr result (self.new ≡ self.old) }
     {

@@ -184,10 +184,12 @@ fn take_low(
 ) -> Result<Octets<384>, Answer>
     requires fits { Fits low.now }
     requires time { now ≤ 2 ^ 48 }
-    ensures value { (past : Past) (again : List NameIn) → StandsBelow past p.now parts.old again now → IsTakenAs past (reading_of r.now) low.now name.now result }
+    ensures value { (past : Past) (again : List NameIn) → StandsBelow past p.now parts.old again now
+        → IsTakenAs past (reading_of r.now) low.now name.now result }
     ensures part { IfErr result (λ a. is_of_part a ≡ true) }
     ensures segment { OnErr result (IsTrue (is_segment_of low.now)) }
-    ensures parts { parts.new ≡ fold after parts.old (taken_calls now (config_in p.now) (reading_of r.now) low.now name.now) }
+    ensures parts { parts.new
+        ≡ fold after parts.old (taken_calls now (config_in p.now) (reading_of r.now) low.now name.now) }
     ensures control { IfOk result (λ octets. is_control low.now ≡ true → length octets ≤ 256) }
 {
     if is_segment(low) {
@@ -211,9 +213,12 @@ fn hear_named(
     requires fit { keys.now ≡ held_in (config_in p.now) }
     requires fits { Fits low.now }
     requires time { now ≤ 2 ^ 48 }
-    ensures value { (past : Past) → StandsBelow past p.now parts.old again.now now → IsNamedAs past (reading_of r.now) low.now (Some name.now) result }
+    ensures value { (past : Past) → StandsBelow past p.now parts.old again.now now
+        → IsNamedAs past (reading_of r.now) low.now (Some name.now) result }
     ensures late { is_late result.answer ≡ true }
-    ensures parts { parts.new ≡ fold after parts.old (named_calls now (config_in p.now) (reading_of r.now) low.now result.answer (Some name.now)) }
+    ensures parts { parts.new
+        ≡ fold after parts.old
+        (named_calls now (config_in p.now) (reading_of r.now) low.now result.answer (Some name.now)) }
 {
     let kept = p.entry(name.src);
     match known_row(again, kept, low, name) {
@@ -247,7 +252,8 @@ pub(crate) fn hear_low(
         → IsNamedAs past (reading_of r.now) low.now (message_name_in r.now.fields low.now) result }
     ensures late { is_late result.answer ≡ true }
     ensures parts { parts.new ≡ fold after parts.old
-        (named_calls now (config_in p.now) (reading_of r.now) low.now result.answer (message_name_in r.now.fields low.now)) }
+        (named_calls now (config_in p.now) (reading_of r.now) low.now result.answer
+        (message_name_in r.now.fields low.now)) }
 {
     match message_name(&r.fields, low) {
         Some(name) => hear_named(keys, p, again, parts, now, r, low, &name),

@@ -93,7 +93,8 @@ pub(crate) fn network_row(
     r: &NetReading,
 ) -> Result<Option<Answer>, AllocError>
     requires { keys.now ≡ held_in (config_in p.now) }
-    ensures value { (past : Past) → config_in p.now ≡ config_of past.records → cache.old ≡ last_of 128 (cached_names past.told)
+    ensures value { (past : Past) → config_in p.now ≡ config_of past.records
+        → cache.old ≡ last_of 128 (cached_names past.told)
         → IfOk result (λ row. row ≡ network_answer past (reading_of r.now)) }
     ensures early { IfOk result (λ row. IfSome row (λ a. is_early a ≡ true)) }
     ensures state { IfOk result (λ row. cache.new ≡ cache_after_row cache.old r.now.fields row) }

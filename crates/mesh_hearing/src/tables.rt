@@ -34,7 +34,14 @@ impl Model for Tables {
 
     ghost Value = { TablesView };
 
-    ghost view = { λ t. record { keys = t.keys; cache = t.cache; parts = t.parts; again = t.again.items; own = t.own; ticks = t.ticks } };
+    ghost view = { λ t. record {
+      keys = t.keys;
+      cache = t.cache;
+      parts = t.parts;
+      again = t.again.items;
+      own = t.own;
+      ticks = t.ticks;
+    } };
 
     ghost invariant = { λ t. t.ticks ≤ 2 ^ 48 };
 }
@@ -43,7 +50,9 @@ impl Tables {
     /// The tables of a life that begins over a store of this value. They take their memory from `alloc`; the error is for want of memory.
     pub fn new(alloc: Global, p: &Persist) -> Result<Tables, AllocError>
         requires { AreHeldKeys (config_in p.now) }
-        ensures value { IfOk result (λ t. t ≡ record { keys = held_in (config_in p.now); cache = []; parts = []; again = []; own = []; ticks = 0 }) }
+        ensures value { IfOk result
+            (λ t. t
+            ≡ record { keys = held_in (config_in p.now); cache = []; parts = []; again = []; own = []; ticks = 0 }) }
         ensures fit { IfOk result (λ t. IsFit t p.now) }
         ensures tables { IfOk result (λ t. AreTablesOf t []) }
     {

@@ -33,7 +33,8 @@ impl Tables {
     /// ticks old aren't in progress any more, and acknowledgments that are due are given. Own segmented messages that send a round are given,
     /// and those that have had theirs go. After a Node Reset nothing changes.
     pub fn pass(&mut self, p: &Persist, ticks: u32) -> Passed
-        ensures passed { (past : Past) → IsMeaningOf past.records p.now → AreTablesOf self.old past.told → IsPassed past ticks result self.new }
+        ensures passed { (past : Past) → IsMeaningOf past.records p.now → AreTablesOf self.old past.told
+            → IsPassed past ticks result self.new }
         ensures held { All IsHeldWell result.rounds.items }
         ensures few { length result.rounds.items ≤ 4 }
         ensures keys { self.new.keys ≡ self.old.keys }

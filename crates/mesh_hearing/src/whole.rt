@@ -73,7 +73,8 @@ fn judge_access(
     requires kept { kept ≡ entry_in p.now name.now.src.0 }
     requires most { length octets.now ≤ 384 }
     ensures value { (past : Past) → IsMeaningOf past.records p.now
-        → IsAccessAs past (reading_of r.now) name.now sealed.now.akf sealed.now.aid sealed.now.long_mic octets.now result }
+        → IsAccessAs past
+        (reading_of r.now) name.now sealed.now.akf sealed.now.aid sealed.now.long_mic octets.now result }
     ensures whole { is_of_whole result.answer ≡ true }
 {
     let Some(opened) = keys.open(r, name, sealed, octets) else {

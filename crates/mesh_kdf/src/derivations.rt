@@ -99,7 +99,8 @@ fn numbered(t: &[u8; 16], before: &[u8], p: &[u8], number: u8) -> [u8; 16]
 /// The last 263 of the 384 bits of three blocks: NID of 7 bits, and two keys.
 fn last_263_bits(first: &[u8; 16], second: &[u8; 16], third: &[u8; 16]) -> K2
     ensures nid { result.nid ≡ number_of (first.now ++ second.now ++ third.now) % 2 ^ 263 / 2 ^ 256 }
-    ensures encryption { result.encryption ≡ octets_of 16 (number_of (first.now ++ second.now ++ third.now) % 2 ^ 263 / 2 ^ 128) }
+    ensures encryption { result.encryption
+        ≡ octets_of 16 (number_of (first.now ++ second.now ++ third.now) % 2 ^ 263 / 2 ^ 128) }
     ensures privacy { result.privacy ≡ octets_of 16 (number_of (first.now ++ second.now ++ third.now) % 2 ^ 263) }
     ensures width { result.nid < 128 }
 {

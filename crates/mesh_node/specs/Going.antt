@@ -11,7 +11,8 @@ use Rattle.life_laws.specs.Pairs.{PairsSo}
 use Rattle.life_laws.specs.Phases.{AreDone, AreOrdered, entries_by}
 
 -- These phases are through, and no bearer stopped.
-pub record IsGoing {F : Type 0} (phases : List (List (List Event))) (node : NodeView F) (d : DrawerView) (sends : List (List Sent)) (counts : List ℕ) : Type 0 where
+pub record IsGoing {F : Type 0} (phases : List (List (List Event))) (node : NodeView F) (d : DrawerView)
+    (sends : List (List Sent)) (counts : List ℕ) : Type 0 where
   pub done : AreDone phases node.machine.entries sends counts
   pub pairs : PairsSo node.machine.entries sends d
   pub handled : AreHandledAll phases node.machine.entries
@@ -19,8 +20,12 @@ pub record IsGoing {F : Type 0} (phases : List (List (List Event))) (node : Node
   pub many : length sends ≡ length counts
 
 -- All that was done of these phases: all of it where no bearer stopped.
-pub record IsOver {F : Type 0} (phases : List (List (List Event))) (node : NodeView F) (d : DrawerView) (sends : List (List Sent)) : Type 0 where
+pub record IsOver {F : Type 0} (phases : List (List (List Event))) (node : NodeView F) (d : DrawerView)
+    (sends : List (List Sent)) : Type 0 where
   pub ordered : (is_cut : Bool) → (0 < node.stops → is_cut ≡ true) → AreOrdered is_cut phases node.machine.entries sends
-  pub numbers : (k : ℕ) → map (λ e. e.number) (entries_by k node.machine.entries) ≡ range_with_len 1 (length (entries_by k node.machine.entries))
+  pub numbers : (k : ℕ)
+      → map (λ e. e.number) (entries_by k node.machine.entries)
+      ≡ range_with_len 1 (length (entries_by k node.machine.entries))
   pub pairs : PairsSo node.machine.entries sends d
-  pub next : 0 < node.stops → (event : Event) → event_in node.machine.hand ≡ Some event → is_outside event ≡ true → IsNextIn phases node.machine.entries event
+  pub next : 0 < node.stops → (event : Event) → event_in node.machine.hand ≡ Some event → is_outside event ≡ true
+      → IsNextIn phases node.machine.entries event

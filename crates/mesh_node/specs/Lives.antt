@@ -40,7 +40,8 @@ pub record IsPrintable (life : Life) : Type 0 where
   pub lines : All (All IsShort) life.sends
 
 -- The life opened over what one image of the flash recovers. Whatever an image recovers now, it is a life of its plan that leaves this.
-pub record Lives (layers : Layers) (IsNodeImage : List ℕ → Type 0) (plan : List Step) (old : Chip) (log : LifeLog) (new : Chip) : Type 0 where
+pub record Lives (layers : Layers) (IsNodeImage : List ℕ → Type 0) (plan : List Step) (old : Chip) (log : LifeLog)
+    (new : Chip) : Type 0 where
   pub over : List StoreRecord
   pub image : List ℕ
   pub is_image : old.images image

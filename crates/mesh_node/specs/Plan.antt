@@ -15,12 +15,20 @@ abbrev pub steps_of : List PlanStep → List Step
 steps_of steps = map step_of steps
 
 abbrev pub life_of : LifeLog → Life
-life_of log = record { opened = log.opened; entries = log.history.entries.items; refills = log.history.refills; sends = map (λ v. v.items) log.sends.items; end = log.end }
+life_of log =
+    record {
+      opened = log.opened;
+      entries = log.history.entries.items;
+      refills = log.history.refills;
+      sends = map (λ v. v.items) log.sends.items;
+      end = log.end;
+    }
 
 -- a step for so many bearers of a node with so many elements
 abbrev pub IsStep : ℕ → ℕ → PlanStep → Type 0
 IsStep bearers elements (P.Arm calls mask) = ⊤
-IsStep bearers elements (P.Phase lists) = (length lists.items ≡ bearers) × All (λ v. AreEvents elements v.items) lists.items
+IsStep bearers elements (P.Phase lists) =
+    (length lists.items ≡ bearers) × All (λ v. AreEvents elements v.items) lists.items
 
 -- no order to tear a call; and at most one
 abbrev pub AreUnarmed : List PlanStep → Type 0

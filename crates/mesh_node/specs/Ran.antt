@@ -14,7 +14,8 @@ use Rattle.mesh_node.specs.Drawn.{TellsDrawn}
 use Rattle.mesh_node.specs.Plan.{life_of}
 use Rattle.mesh_node.specs.Steps.{HasGiven, IsOfPlan}
 
-pub record Ran (layers : Layers) (IsNodeImage : List ℕ → Type 0) (plan : List Step) (start : Chip) (log : LifeLog) (new : Chip) : Type 0 where
+pub record Ran (layers : Layers) (IsNodeImage : List ℕ → Type 0) (plan : List Step) (start : Chip) (log : LifeLog)
+    (new : Chip) : Type 0 where
   pub over : List StoreRecord
   pub recovered : IsRecovered start.now over
   pub life : EachRecovered new (λ next. LifeOf layers plan over (life_of log) next)

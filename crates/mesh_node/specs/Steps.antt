@@ -17,7 +17,8 @@ pub record IsSameNode {F : Type 0} (old new : NodeView F) : Type 0 where
 
 -- the order that the flash was given
 abbrev pub IsArmedBy : PlanStep → Chip → Chip → Type 0
-IsArmedBy (P.Arm calls mask) old new = new.setting.arm ≡ Some (record { calls = calls; mask = mask; changes = old.changes })
+IsArmedBy (P.Arm calls mask) old new =
+    new.setting.arm ≡ Some (record { calls = calls; mask = mask; changes = old.changes })
 IsArmedBy (P.Phase lists) old new = new.setting.arm ≡ old.setting.arm
 
 -- before an order to tear a call there was none
@@ -55,7 +56,8 @@ abbrev pub HasGiven : List Step → Option Arm → Type 0
 HasGiven steps order = (calls mask : ℕ) → Contains steps (arm calls mask) → order ≢ None
 
 abbrev pub IsGiven : List Step → Option Arm → Type 0
-IsGiven steps order = (calls mask : ℕ) → Contains steps (arm calls mask) → IsSomeAnd order (λ a. (a.calls ≡ calls) × (a.mask ≡ mask))
+IsGiven steps order =
+    (calls mask : ℕ) → Contains steps (arm calls mask) → IsSomeAnd order (λ a. (a.calls ≡ calls) × (a.mask ≡ mask))
 
 -- the flash was given the order that stands first, if there is one; else it is as it was
 pub record IsArmedFirst (steps : List PlanStep) (old new : Chip) : Type 0 where

@@ -38,7 +38,8 @@ pub fn no_counts(alloc: Global, bearers: u8) -> Result<Vec<u32>, AllocError>
 fn stopped_by(done: &Done) -> Result<bool, AllocError>
     ensures memory { OnOk result (done.now.stop ≢ Some Stops.Memory) }
     ensures none { IfOk result (λ stopped. stopped ≡ false → done.now.stop ≡ None) }
-    ensures some { IfOk result (λ stopped. stopped ≡ true → (done.now.stop ≡ Some Stops.Closed) ⊎ (done.now.stop ≡ Some Stops.Flash)) }
+    ensures some { IfOk result
+        (λ stopped. stopped ≡ true → (done.now.stop ≡ Some Stops.Closed) ⊎ (done.now.stop ≡ Some Stops.Flash)) }
 {
     match done.stop {
         None => Ok(false),
@@ -77,7 +78,8 @@ pub fn take_lines(
 ) -> Result<(), AllocError>
     requires sends { length sends.old ≡ length dones.items }
     requires counts { length counts.old ≡ length dones.items }
-    ensures lines { OnOk result (map (λ x. x.items) sends.new ≡ both_of (map (λ x. x.items) sends.old) (map lines_of dones.items)) }
+    ensures lines { OnOk result
+        (map (λ x. x.items) sends.new ≡ both_of (map (λ x. x.items) sends.old) (map lines_of dones.items)) }
     ensures numbers { OnOk result (counts.new ≡ map (λ x. x.number) dones.items) }
 {
     let mut k = 0;

@@ -58,11 +58,20 @@ fn do_phase<M: Machine, F: Bench, G: Gate, R: Threads + Wait + Sync>(
     requires events { All (λ v. AreEvents node.machine.elements v.items) lists.now }
     ensures which { drawer.new.which ≡ drawer.old.which }
     ensures origin { IfOk result (λ r. origin_of F.chip r.0 ≡ origin_of F.chip node) }
-    ensures many { OnOk result ((length counts.new.items ≡ length counts.old.items) × (length sends.new.items ≡ length sends.old.items)) }
-    ensures going { (phases : List (List (List Event))) → IsGoing phases node drawer.old (map (λ v. v.items) sends.old.items) counts.old.items
-        → IfOk result (λ r. r.1 ≡ false → IsGoing (phases ++ map (λ v. v.items) lists.now ∷ []) r.0 drawer.new (map (λ v. v.items) sends.new.items) counts.new.items) }
-    ensures over { (phases rest : List (List (List Event))) → IsGoing phases node drawer.old (map (λ v. v.items) sends.old.items) counts.old.items
-        → IfOk result (λ r. r.1 ≡ true → IsOver (phases ++ map (λ v. v.items) lists.now ∷ rest) r.0 drawer.new (map (λ v. v.items) sends.new.items)) }
+    ensures many { OnOk result
+        ((length counts.new.items ≡ length counts.old.items) × (length sends.new.items ≡ length sends.old.items)) }
+    ensures going { (phases : List (List (List Event)))
+        → IsGoing phases node drawer.old (map (λ v. v.items) sends.old.items) counts.old.items
+        → IfOk result
+        (λ r. r.1 ≡ false
+        → IsGoing (phases ++ map (λ v. v.items) lists.now ∷ []) r.0 drawer.new
+        (map (λ v. v.items) sends.new.items) counts.new.items) }
+    ensures over { (phases rest : List (List (List Event)))
+        → IsGoing phases node drawer.old (map (λ v. v.items) sends.old.items) counts.old.items
+        → IfOk result
+        (λ r. r.1 ≡ true
+        → IsOver (phases ++ map (λ v. v.items) lists.now ∷ rest) r.0 drawer.new
+        (map (λ v. v.items) sends.new.items)) }
     ensures stopped { node.stops ≡ 0 → IfOk result (λ r. r.1 ≡ true → 0 < r.0.stops) }
 {
     let (node, dones) = run_phase(rt, alloc, n, drawer, node, gate, lists, counts.as_slice())?;
@@ -92,11 +101,20 @@ pub fn do_step<M: Machine, F: Bench, G: Gate, R: Threads + Wait + Sync>(
     ensures which { drawer.new.which ≡ drawer.old.which }
     ensures same { IfOk result (λ r. IsSameNode node r.0) }
     ensures arm { IfOk result (λ r. IsArmedBy step.now (F.chip node.flash) (F.chip r.0.flash)) }
-    ensures many { OnOk result ((length counts.new.items ≡ length counts.old.items) × (length sends.new.items ≡ length sends.old.items)) }
-    ensures going { (phases : List (List (List Event))) → IsGoing phases node drawer.old (map (λ v. v.items) sends.old.items) counts.old.items
-        → IfOk result (λ r. r.1 ≡ false → IsGoing (phases ++ phases_of (step_of step.now ∷ [])) r.0 drawer.new (map (λ v. v.items) sends.new.items) counts.new.items) }
-    ensures over { (phases rest : List (List (List Event))) → IsGoing phases node drawer.old (map (λ v. v.items) sends.old.items) counts.old.items
-        → IfOk result (λ r. r.1 ≡ true → IsOver (phases ++ (phases_of (step_of step.now ∷ []) ++ rest)) r.0 drawer.new (map (λ v. v.items) sends.new.items)) }
+    ensures many { OnOk result
+        ((length counts.new.items ≡ length counts.old.items) × (length sends.new.items ≡ length sends.old.items)) }
+    ensures going { (phases : List (List (List Event)))
+        → IsGoing phases node drawer.old (map (λ v. v.items) sends.old.items) counts.old.items
+        → IfOk result
+        (λ r. r.1 ≡ false
+        → IsGoing (phases ++ phases_of (step_of step.now ∷ [])) r.0 drawer.new
+        (map (λ v. v.items) sends.new.items) counts.new.items) }
+    ensures over { (phases rest : List (List (List Event)))
+        → IsGoing phases node drawer.old (map (λ v. v.items) sends.old.items) counts.old.items
+        → IfOk result
+        (λ r. r.1 ≡ true
+        → IsOver (phases ++ (phases_of (step_of step.now ∷ []) ++ rest)) r.0 drawer.new
+        (map (λ v. v.items) sends.new.items)) }
     ensures stopped { node.stops ≡ 0 → IfOk result (λ r. r.1 ≡ true → 0 < r.0.stops) }
 {
     match step {
@@ -139,11 +157,13 @@ pub fn do_steps<M: Machine, F: Bench, G: Gate, R: Threads + Wait + Sync>(
     requires begins { (node.machine.entries ≡ []) × (node.stops ≡ 0) }
     ensures which { drawer.new.which ≡ drawer.old.which }
     ensures same { IfOk result (λ r. IsSameNode node r.0) }
-    ensures arm { IfOk result (λ r. IsSameOrOf (steps_of steps.now) (F.chip node.flash).setting.arm (F.chip r.0.flash).setting.arm) }
+    ensures arm { IfOk result
+        (λ r. IsSameOrOf (steps_of steps.now) (F.chip node.flash).setting.arm (F.chip r.0.flash).setting.arm) }
     ensures held { IfOk result (λ r. (F.chip node.flash).setting.arm ≢ None → (F.chip r.0.flash).setting.arm ≢ None) }
     ensures given { IfOk result (λ r. r.0.stops ≡ 0 → HasGiven (steps_of steps.now) (F.chip r.0.flash).setting.arm) }
     ensures many { IfOk result (λ r. length r.1.items ≡ bearers) }
-    ensures over { IfOk result (λ r. IsOver (phases_of (steps_of steps.now)) r.0 drawer.new (map (λ v. v.items) r.1.items)) }
+    ensures over { IfOk result
+        (λ r. IsOver (phases_of (steps_of steps.now)) r.0 drawer.new (map (λ v. v.items) r.1.items)) }
 {
     let mut sends = no_lines(alloc, bearers)?;
     let mut counts = no_counts(alloc, bearers)?;

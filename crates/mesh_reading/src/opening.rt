@@ -78,7 +78,8 @@ impl Keys {
     // With those application keys, where DST is virtual.
     fn open_labelled(&self, net: u16, aid: u8, f: &UpperFields, upper: &[u8]) -> Option<Opened>
         requires { length upper.now ≤ 384 }
-        ensures value { IsOpenedByLabel (app_keys self.now.apps net aid) self.now.labels f.now upper.now (option_map opening_of result) }
+        ensures value { IsOpenedByLabel (app_keys self.now.apps net aid) self.now.labels f.now upper.now
+            (option_map opening_of result) }
     {
         match self.labels.unseal(self.apps.values(), net, aid, f, upper) {
             Ok(found) => {
@@ -109,7 +110,8 @@ impl Keys {
     // With application keys.
     fn open_app(&self, net: u16, aid: u8, f: &UpperFields, upper: &[u8]) -> Option<Opened>
         requires { length upper.now ≤ 384 }
-        ensures value { (c : Config) → self.now ≡ held_in c → IsOpenedFor c (app_keys c.apps net aid) f.now upper.now (option_map opening_of result) }
+        ensures value { (c : Config) → self.now ≡ held_in c
+            → IsOpenedFor c (app_keys c.apps net aid) f.now upper.now (option_map opening_of result) }
     {
         if is_virtual(f.dst) {
             self.open_labelled(net, aid, f, upper)
@@ -121,7 +123,9 @@ impl Keys {
     // With the device key where DST is unicast, and else with none.
     fn open_own(&self, f: &UpperFields, upper: &[u8]) -> Option<Opened>
         requires { length upper.now ≤ 384 }
-        ensures value { (c : Config) → self.now ≡ held_in c → IsOpenedFor c (if is_unicast f.now.dst then Device c.dev_key ∷ [] else []) f.now upper.now (option_map opening_of result) }
+        ensures value { (c : Config) → self.now ≡ held_in c
+            → IsOpenedFor c (if is_unicast f.now.dst then Device c.dev_key ∷ [] else []) f.now upper.now
+            (option_map opening_of result) }
     {
         if is_unicast(f.dst) {
             self.open_device(f, upper)
@@ -142,7 +146,9 @@ impl Keys {
     ) -> Option<Opened>
         requires { length upper.now ≤ 384 }
         ensures value { (c : Config) → self.now ≡ held_in c
-            → IsOpenedFor c (keys_tried c (reading_of r.now) sealed.now.akf sealed.now.aid) (fields_heard (reading_of r.now) name.now sealed.now.long_mic) upper.now (option_map opening_of result) }
+            → IsOpenedFor c (keys_tried c (reading_of r.now) sealed.now.akf sealed.now.aid)
+            (fields_heard (reading_of r.now) name.now sealed.now.long_mic) upper.now
+            (option_map opening_of result) }
     {
         let f = UpperFields {
             pair: name.pair,

@@ -12,7 +12,8 @@ impl Keys {
     /// What octets read as under the network keys, the old key of each before the new, where `current` is the known IV Index. None exactly
     /// where they read as nothing under any of them.
     pub fn read(&self, current: u32, octets: &[u8]) -> Option<NetReading>
-        ensures some { IfSome result (λ r. (place : ℕ) × Reads (heard_keys self.now.nets) current octets.now r.fields place r.by) }
+        ensures some { IfSome result
+            (λ r. (place : ℕ) × Reads (heard_keys self.now.nets) current octets.now r.fields place r.by) }
         ensures none { IsNone result → IsUnread (heard_keys self.now.nets) current octets.now }
     {
         match read_kept(self.nets.heard(), current, octets) {

@@ -20,7 +20,9 @@ cuts lives = count_by (λ x. is_cut x.life.end) lives
 -- once it is there.)
 abbrev pub IsArmed : List Step → Life → Type 0
 IsArmed plan l = is_cut l.end ≡ true
-    → (calls : ℕ) × ((mask : ℕ) × Contains plan (arm calls mask) × IsSomeAnd (cut_calls l.end) (λ m. (calls < m) ⊎ (m ≡ 4294967295)))
+    → (calls : ℕ)
+    × ((mask : ℕ) × Contains plan (arm calls mask)
+    × IsSomeAnd (cut_calls l.end) (λ m. (calls < m) ⊎ (m ≡ 4294967295)))
 
 abbrev pub AreArmed : List (List Step) → List LifeOver → Type 0
 AreArmed [] [] = ⊤
@@ -28,7 +30,8 @@ AreArmed (plan ∷ plans) (x ∷ xs) = IsArmed plan x.life × AreArmed plans xs
 AreArmed _ _ = ⊥
 
 -- The lives of the script were run, over a flash that was so at the beginning and is so now, and their report was written.
-pub record Ran (layers : Layers) (s : Script) (hex : Bool) (start : Chip) (before : SinkView) (chip : Chip) (after : SinkView) : Type 0 where
+pub record Ran (layers : Layers) (s : Script) (hex : Bool) (start : Chip) (before : SinkView) (chip : Chip)
+    (after : SinkView) : Type 0 where
   pub run : Run
   pub is_run : RunOf layers s run
   pub report : Written (lives_lines hex 1 run.lives) before after

@@ -20,8 +20,10 @@ pub(crate) fn audit_text<K: Sink>(alloc: Global, text: &[u8], sink: &mut K) -> S
     ensures ends { ¬ Rose (K.faults sink.old) (K.faults sink.new) → IsAuditEnd result }
     ensures known { IsAuditEnd result ⊎ (result ≡ Statuses.WriteFault) }
     ensures report { (line : ℕ) → result ≡ Statuses.Report line → IsFirstOther text.now line }
-    ensures verdict { result ≡ Statuses.Done → Audited text.now (view_of K.held K.pieces sink.old) (view_of K.held K.pieces sink.new) }
-    ensures front { result ≡ Statuses.WriteFault → AuditedFront text.now (view_of K.held K.pieces sink.old) (view_of K.held K.pieces sink.new) }
+    ensures verdict { result ≡ Statuses.Done
+        → Audited text.now (view_of K.held K.pieces sink.old) (view_of K.held K.pieces sink.new) }
+    ensures front { result ≡ Statuses.WriteFault
+        → AuditedFront text.now (view_of K.held K.pieces sink.old) (view_of K.held K.pieces sink.new) }
     ensures nothing_written { result ≢ Statuses.Done → result ≢ Statuses.WriteFault → sink.new ≡ sink.old }
     ensures write_fault { result ≡ Statuses.WriteFault → Rose (K.faults sink.old) (K.faults sink.new) }
     ensures no_fault { result ≢ Statuses.WriteFault → K.faults sink.new ≡ K.faults sink.old }

@@ -73,8 +73,10 @@ fn live<R: Threads + Wait + Sync, B: Bench, G: Gate>(
     requires read { IsScriptOf Grammars.Node script.now }
     requires place { i < length script.now.lives }
     requires node { IsNodeFlash IsNode (B.chip flash) }
-    requires elements { EachRecovered (B.chip flash) (λ records. (config_of records).elements ≡ (script_of script.now).node.elements) }
-    ensures lived { IfOk result (λ r. Lived (slice_index_or (script_of script.now).lives i []) (B.chip flash) (life_of r.0) (B.chip r.1)) }
+    requires elements { EachRecovered (B.chip flash)
+        (λ records. (config_of records).elements ≡ (script_of script.now).node.elements) }
+    ensures lived { IfOk result
+        (λ r. Lived (slice_index_or (script_of script.now).lives i []) (B.chip flash) (life_of r.0) (B.chip r.1)) }
     ensures room { IfOk result (λ r. FitsLines (life_of r.0)) }
 {
     script_law();
@@ -96,9 +98,15 @@ pub(crate) fn live_all<R: Threads + Wait + Sync, B: Bench, K: Sink, G: Gate>(
 ) -> Result<B, Stopped<B>>
     requires read { IsScriptOf Grammars.Node script.now }
     requires provisioned { IsProvisioned (B.chip flash) (provisioned (script_of script.now).node) }
-    ensures all { IfOk result (λ f. Ran built_layers (script_of script.now) hex (B.chip flash) (view_of K.held K.pieces sink.old) (B.chip f) (view_of K.held K.pieces sink.new)) }
-    ensures front { OnErr result (RanFront built_layers (script_of script.now) hex (view_of K.held K.pieces sink.old) (view_of K.held K.pieces sink.new)) }
-    ensures whole { IsMemory result → RanFirst built_layers (script_of script.now) hex (view_of K.held K.pieces sink.old) (view_of K.held K.pieces sink.new) }
+    ensures all { IfOk result
+        (λ f. Ran built_layers (script_of script.now) hex (B.chip flash) (view_of K.held K.pieces sink.old) (B.chip f)
+        (view_of K.held K.pieces sink.new)) }
+    ensures front { OnErr result
+        (RanFront built_layers (script_of script.now) hex (view_of K.held K.pieces sink.old)
+        (view_of K.held K.pieces sink.new)) }
+    ensures whole { IsMemory result
+        → RanFirst built_layers (script_of script.now) hex (view_of K.held K.pieces sink.old)
+        (view_of K.held K.pieces sink.new) }
     ensures cause { IsFault result → Rose (K.faults sink.old) (K.faults sink.new) }
     ensures no_fault { ¬ IsFault result → K.faults sink.new ≡ K.faults sink.old }
     ensures later { K.faults sink.old ≤ K.faults sink.new }

@@ -19,8 +19,10 @@ fn provision_now<F: Flash>(flash: &mut F, p: &Provision) -> Result<(), FormatFau
     requires { IsProvision p.now }
     ensures cause { IfErr result (IsFormatCause (F.chip flash.old) (F.chip flash.new)) }
     ensures erased { IsTrue (F.chip flash.old).honest → OnOk result (IsErased (F.chip flash.old).now) }
-    ensures unchanged { IsTrue (F.chip flash.old).honest → ¬ IsErased (F.chip flash.old).now → Stays (F.chip flash.old) (F.chip flash.new) }
-    ensures provisioned { IsFresh (F.chip flash.old) → OnOk result (IsProvisioned (F.chip flash.new) (provisioned (provisioning p.now))) }
+    ensures unchanged { IsTrue (F.chip flash.old).honest → ¬ IsErased (F.chip flash.old).now
+        → Stays (F.chip flash.old) (F.chip flash.new) }
+    ensures provisioned { IsFresh (F.chip flash.old)
+        → OnOk result (IsProvisioned (F.chip flash.new) (provisioned (provisioning p.now))) }
     ensures no_fault { OnOk result ((F.chip flash.new).faults ≡ (F.chip flash.old).faults) }
     ensures sure { IsTrue (F.chip flash.old).sure → IfErr result IsNotErased }
     ensures frame { Keeps (F.chip flash.old) (F.chip flash.new) }
@@ -38,8 +40,10 @@ pub fn provision<F: Flash>(flash: &mut F, old: bool, p: &Provision) -> Result<()
     requires { IsProvision p.now }
     ensures cause { IfErr result (IsFormatCause (F.chip flash.old) (F.chip flash.new)) }
     ensures erased { IsTrue (F.chip flash.old).honest → OnOk result (IsErased (F.chip flash.old).now) }
-    ensures unchanged { IsTrue (F.chip flash.old).honest → ¬ IsErased (F.chip flash.old).now → Stays (F.chip flash.old) (F.chip flash.new) }
-    ensures provisioned { IsFresh (F.chip flash.old) → OnOk result (IsProvisioned (F.chip flash.new) (provisioned (provisioning p.now))) }
+    ensures unchanged { IsTrue (F.chip flash.old).honest → ¬ IsErased (F.chip flash.old).now
+        → Stays (F.chip flash.old) (F.chip flash.new) }
+    ensures provisioned { IsFresh (F.chip flash.old)
+        → OnOk result (IsProvisioned (F.chip flash.new) (provisioned (provisioning p.now))) }
     ensures no_fault { OnOk result ((F.chip flash.new).faults ≡ (F.chip flash.old).faults) }
     ensures sure { IsTrue (F.chip flash.old).sure → IfErr result IsNotErased }
     ensures frame { Keeps (F.chip flash.old) (F.chip flash.new) }

@@ -28,7 +28,8 @@ pub fn read_whole<S: Source>(alloc: Global, source: &mut S) -> Result<Vec<u8>, R
     ensures octets { IfOk result (λ v. Consumes (S.left source.old) (S.left source.new) v.items) }
     ensures end { OnOk result (IsAtEnd (S.left source.new)) }
     ensures short { IfOk result (λ v. vec_len v ≤ LONGEST_SCRIPT) }
-    ensures too_long { result ≡ Err stop.TooLong → ReadsMoreThan (S.left source.old) (S.left source.new) LONGEST_SCRIPT }
+    ensures too_long { result ≡ Err stop.TooLong
+        → ReadsMoreThan (S.left source.old) (S.left source.new) LONGEST_SCRIPT }
     ensures cause { result ≡ Err stop.Fault → Rose (S.faults source.old) (S.faults source.new) }
     ensures no_fault { result ≢ Err stop.Fault → S.faults source.new ≡ S.faults source.old }
     ensures later { S.faults source.old ≤ S.faults source.new }

@@ -55,33 +55,79 @@ pub fn run<R: Threads + Wait + Sync, S: Source, K: Sink, B: Bench, G: Gate>(
 
     // Each status has its cause, in this order.
     ensures usage { result.status ≡ Status.Usage → command_of (map (λ w. w.now) words.now) ≡ None }
-    ensures no_command { command_of (map (λ w. w.now) words.now) ≡ None → (result.status ≡ Status.Usage) ⊎ (result.status ≡ Status.Memory) }
+    ensures no_command { command_of (map (λ w. w.now) words.now) ≡ None
+        → (result.status ≡ Status.Usage) ⊎ (result.status ≡ Status.Memory) }
     ensures read_fault { result.status ≡ Status.ReadFault → Rose (S.faults source.old) (S.faults source.new) }
     ensures too_long { result.status ≡ Status.TooLong → ReadsMoreThan (S.left source.old) (S.left source.new) 4194304 }
-    ensures script { (line rule : ℕ) → result.status ≡ Status.Script line rule → IfSome (S.left source.old) (λ text. reading Grammars.Node text ≡ Fails line rule) }
-    ensures flash_fault { result.status ≡ Status.FlashFault → IsSomeAnd result.flash (λ f. (B.chip flash).faults < (B.chip f).faults) × (IsTrue (B.chip flash).steady → ⊥) }
-    ensures not_erased { (at : ℕ) → result.status ≡ Status.NotErased at → IsSomeAnd result.flash (λ f. IsWrittenAt at (B.chip flash) (B.chip f)) }
-    ensures erased { (flags : Flags) → command_of (map (λ w. w.now) words.now) ≡ Some (C.Run flags) → (result.status ≡ Status.Done) ⊎ (result.status ≡ Status.WriteFault) → WasErased (B.chip flash) }
-    ensures report { (line : ℕ) → result.status ≡ Status.Report line → IfSome (S.left source.old) (λ text. IsFirstOther text line) }
+    ensures script { (line rule : ℕ) → result.status ≡ Status.Script line rule
+        → IfSome (S.left source.old) (λ text. reading Grammars.Node text ≡ Fails line rule) }
+    ensures flash_fault { result.status ≡ Status.FlashFault
+        → IsSomeAnd result.flash (λ f. (B.chip flash).faults < (B.chip f).faults) × (IsTrue (B.chip flash).steady → ⊥) }
+    ensures not_erased { (at : ℕ) → result.status ≡ Status.NotErased at
+        → IsSomeAnd result.flash (λ f. IsWrittenAt at (B.chip flash) (B.chip f)) }
+    ensures erased { (flags : Flags) → command_of (map (λ w. w.now) words.now) ≡ Some (C.Run flags)
+        → (result.status ≡ Status.Done) ⊎ (result.status ≡ Status.WriteFault) → WasErased (B.chip flash) }
+    ensures report { (line : ℕ) → result.status ≡ Status.Report line
+        → IfSome (S.left source.old) (λ text. IsFirstOther text line) }
     ensures write_fault { result.status ≡ Status.WriteFault → Rose (K.faults sink.old) (K.faults sink.new) }
 
     // Where nothing fails, it is the one that the octets of the source ask for; and where the flash is erased, the report is written.
-    ensures due { (flags : Flags) → command_of (map (λ w. w.now) words.now) ≡ Some (C.Run flags) → IfSome (S.left source.old) (λ text. IsDue text result.status) }
-    ensures complete { (flags : Flags) → command_of (map (λ w. w.now) words.now) ≡ Some (C.Run flags) → ¬ Rose (S.faults source.old) (S.faults source.new) → ¬ Rose (K.faults sink.old) (K.faults sink.new) → IsErasedFlash (B.chip flash) → IfSome (S.left source.old) (λ text. length text ≤ 4194304 → IfScript (reading Grammars.Node text) (λ s. (result.status ≡ Status.Done) ⊎ (result.status ≡ Status.Memory) ⊎ (result.status ≡ Status.FlashFault))) }
+    ensures due { (flags : Flags) → command_of (map (λ w. w.now) words.now) ≡ Some (C.Run flags)
+        → IfSome (S.left source.old) (λ text. IsDue text result.status) }
+    ensures complete { (flags : Flags) → command_of (map (λ w. w.now) words.now) ≡ Some (C.Run flags)
+        → ¬ Rose (S.faults source.old) (S.faults source.new) → ¬ Rose (K.faults sink.old) (K.faults sink.new)
+        → IsErasedFlash (B.chip flash)
+        → IfSome (S.left source.old)
+        (λ text. length text ≤ 4194304
+        → IfScript (reading Grammars.Node text)
+        (λ s. (result.status ≡ Status.Done) ⊎ (result.status ≡ Status.Memory) ⊎ (result.status ≡ Status.FlashFault))) }
 
     // What is written is the report of a record of a run of the script, or a front of it.
-    ensures done { (flags : Flags) → command_of (map (λ w. w.now) words.now) ≡ Some (C.Run flags) → result.status ≡ Status.Done → IfSome (S.left source.old) (λ text. IsScriptAnd (reading Grammars.Node text) (λ s. IsSomeAnd result.flash (λ f. Ran built_layers (script_of s) flags.hex (B.chip flash) (view_of K.held K.pieces sink.old) (B.chip f) (view_of K.held K.pieces sink.new)))) }
-    ensures front { (flags : Flags) → command_of (map (λ w. w.now) words.now) ≡ Some (C.Run flags) → result.status ≡ Status.WriteFault → IfSome (S.left source.old) (λ text. IsScriptAnd (reading Grammars.Node text) (λ s. RanFront built_layers (script_of s) flags.hex (view_of K.held K.pieces sink.old) (view_of K.held K.pieces sink.new))) }
-    ensures memory { (flags : Flags) → command_of (map (λ w. w.now) words.now) ≡ Some (C.Run flags) → result.status ≡ Status.Memory → (sink.new ≡ sink.old) ⊎ IfSome (S.left source.old) (λ text. IsScriptAnd (reading Grammars.Node text) (λ s. RanFront built_layers (script_of s) flags.hex (view_of K.held K.pieces sink.old) (view_of K.held K.pieces sink.new))) }
-    ensures whole { (flags : Flags) → command_of (map (λ w. w.now) words.now) ≡ Some (C.Run flags) → result.status ≡ Status.Memory → (sink.new ≡ sink.old) ⊎ IfSome (S.left source.old) (λ text. IsScriptAnd (reading Grammars.Node text) (λ s. RanFirst built_layers (script_of s) flags.hex (view_of K.held K.pieces sink.old) (view_of K.held K.pieces sink.new))) }
+    ensures done { (flags : Flags) → command_of (map (λ w. w.now) words.now) ≡ Some (C.Run flags)
+        → result.status ≡ Status.Done
+        → IfSome (S.left source.old)
+        (λ text. IsScriptAnd (reading Grammars.Node text)
+        (λ s. IsSomeAnd result.flash
+        (λ f. Ran built_layers (script_of s) flags.hex (B.chip flash) (view_of K.held K.pieces sink.old) (B.chip f)
+        (view_of K.held K.pieces sink.new)))) }
+    ensures front { (flags : Flags) → command_of (map (λ w. w.now) words.now) ≡ Some (C.Run flags)
+        → result.status ≡ Status.WriteFault
+        → IfSome (S.left source.old)
+        (λ text. IsScriptAnd (reading Grammars.Node text)
+        (λ s. RanFront built_layers (script_of s) flags.hex (view_of K.held K.pieces sink.old)
+        (view_of K.held K.pieces sink.new))) }
+    ensures memory { (flags : Flags) → command_of (map (λ w. w.now) words.now) ≡ Some (C.Run flags)
+        → result.status ≡ Status.Memory
+        → (sink.new ≡ sink.old)
+        ⊎ IfSome (S.left source.old)
+        (λ text. IsScriptAnd (reading Grammars.Node text)
+        (λ s. RanFront built_layers (script_of s) flags.hex (view_of K.held K.pieces sink.old)
+        (view_of K.held K.pieces sink.new))) }
+    ensures whole { (flags : Flags) → command_of (map (λ w. w.now) words.now) ≡ Some (C.Run flags)
+        → result.status ≡ Status.Memory
+        → (sink.new ≡ sink.old)
+        ⊎ IfSome (S.left source.old)
+        (λ text. IsScriptAnd (reading Grammars.Node text)
+        (λ s. RanFirst built_layers (script_of s) flags.hex (view_of K.held K.pieces sink.old)
+        (view_of K.held K.pieces sink.new))) }
     ensures nothing_written { IsBeforeLives result.status → sink.new ≡ sink.old }
 
     // An audit writes the line of the verdict on what is read, or a front of it, and leaves the flash.
-    ensures verdict { command_of (map (λ w. w.now) words.now) ≡ Some C.Audit → result.status ≡ Status.Done → IfSome (S.left source.old) (λ text. Audited text (view_of K.held K.pieces sink.old) (view_of K.held K.pieces sink.new)) }
-    ensures verdict_front { command_of (map (λ w. w.now) words.now) ≡ Some C.Audit → result.status ≡ Status.WriteFault → IfSome (S.left source.old) (λ text. AuditedFront text (view_of K.held K.pieces sink.old) (view_of K.held K.pieces sink.new)) }
-    ensures verdict_memory { command_of (map (λ w. w.now) words.now) ≡ Some C.Audit → result.status ≡ Status.Memory → sink.new ≡ sink.old }
-    ensures verdict_due { command_of (map (λ w. w.now) words.now) ≡ Some C.Audit → ¬ Rose (S.faults source.old) (S.faults source.new) → ¬ Rose (K.faults sink.old) (K.faults sink.new) → IfSome (S.left source.old) (λ text. length text ≤ 4194304 → IsAuditEnd result.status) }
-    ensures verdict_too_long { command_of (map (λ w. w.now) words.now) ≡ Some C.Audit → IfSome (S.left source.old) (λ text. 4194304 < length text → (result.status ≡ Status.ReadFault) ⊎ (result.status ≡ Status.TooLong) ⊎ (result.status ≡ Status.Memory)) }
+    ensures verdict { command_of (map (λ w. w.now) words.now) ≡ Some C.Audit → result.status ≡ Status.Done
+        → IfSome (S.left source.old)
+        (λ text. Audited text (view_of K.held K.pieces sink.old) (view_of K.held K.pieces sink.new)) }
+    ensures verdict_front { command_of (map (λ w. w.now) words.now) ≡ Some C.Audit → result.status ≡ Status.WriteFault
+        → IfSome (S.left source.old)
+        (λ text. AuditedFront text (view_of K.held K.pieces sink.old) (view_of K.held K.pieces sink.new)) }
+    ensures verdict_memory { command_of (map (λ w. w.now) words.now) ≡ Some C.Audit → result.status ≡ Status.Memory
+        → sink.new ≡ sink.old }
+    ensures verdict_due { command_of (map (λ w. w.now) words.now) ≡ Some C.Audit
+        → ¬ Rose (S.faults source.old) (S.faults source.new) → ¬ Rose (K.faults sink.old) (K.faults sink.new)
+        → IfSome (S.left source.old) (λ text. length text ≤ 4194304 → IsAuditEnd result.status) }
+    ensures verdict_too_long { command_of (map (λ w. w.now) words.now) ≡ Some C.Audit
+        → IfSome (S.left source.old)
+        (λ text. 4194304 < length text
+        → (result.status ≡ Status.ReadFault) ⊎ (result.status ≡ Status.TooLong) ⊎ (result.status ≡ Status.Memory)) }
     ensures verdict_flash { command_of (map (λ w. w.now) words.now) ≡ Some C.Audit → result.flash ≡ Some flash }
 
     // What is read is all that there was.

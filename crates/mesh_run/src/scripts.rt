@@ -44,15 +44,25 @@ fn run_script<R: Threads + Wait + Sync, B: Bench, K: Sink, G: Gate>(
     // Each status has its cause.
     ensures due { IsFromFlash result.status ⊎ (result.status ≡ Status.Memory) }
     ensures write_fault { result.status ≡ Status.WriteFault → Rose (K.faults sink.old) (K.faults sink.new) }
-    ensures not_erased { (at : ℕ) → result.status ≡ Status.NotErased at → IsSomeAnd result.flash (λ f. IsWrittenAt at (B.chip flash) (B.chip f)) }
-    ensures flash_fault { result.status ≡ Status.FlashFault → IsSomeAnd result.flash (λ f. (B.chip flash).faults < (B.chip f).faults) × (IsTrue (B.chip flash).steady → ⊥) }
+    ensures not_erased { (at : ℕ) → result.status ≡ Status.NotErased at
+        → IsSomeAnd result.flash (λ f. IsWrittenAt at (B.chip flash) (B.chip f)) }
+    ensures flash_fault { result.status ≡ Status.FlashFault
+        → IsSomeAnd result.flash (λ f. (B.chip flash).faults < (B.chip f).faults) × (IsTrue (B.chip flash).steady → ⊥) }
     ensures erased { (result.status ≡ Status.Done) ⊎ (result.status ≡ Status.WriteFault) → WasErased (B.chip flash) }
-    ensures complete { ¬ Rose (K.faults sink.old) (K.faults sink.new) → IsErasedFlash (B.chip flash) → (result.status ≡ Status.Done) ⊎ (result.status ≡ Status.Memory) ⊎ (result.status ≡ Status.FlashFault) }
+    ensures complete { ¬ Rose (K.faults sink.old) (K.faults sink.new) → IsErasedFlash (B.chip flash)
+        → (result.status ≡ Status.Done) ⊎ (result.status ≡ Status.Memory) ⊎ (result.status ≡ Status.FlashFault) }
 
     // What is written is the report of a record of a run of the script, or a front of it.
-    ensures done { result.status ≡ Status.Done → IsSomeAnd result.flash (λ f. Ran built_layers (script_of script.now) flags.hex (B.chip flash) (view_of K.held K.pieces sink.old) (B.chip f) (view_of K.held K.pieces sink.new)) }
-    ensures front { (result.status ≡ Status.WriteFault) ⊎ (result.status ≡ Status.Memory) → RanFront built_layers (script_of script.now) flags.hex (view_of K.held K.pieces sink.old) (view_of K.held K.pieces sink.new) }
-    ensures whole { result.status ≡ Status.Memory → RanFirst built_layers (script_of script.now) flags.hex (view_of K.held K.pieces sink.old) (view_of K.held K.pieces sink.new) }
+    ensures done { result.status ≡ Status.Done
+        → IsSomeAnd result.flash
+        (λ f. Ran built_layers (script_of script.now) flags.hex (B.chip flash) (view_of K.held K.pieces sink.old)
+        (B.chip f) (view_of K.held K.pieces sink.new)) }
+    ensures front { (result.status ≡ Status.WriteFault) ⊎ (result.status ≡ Status.Memory)
+        → RanFront built_layers (script_of script.now) flags.hex (view_of K.held K.pieces sink.old)
+        (view_of K.held K.pieces sink.new) }
+    ensures whole { result.status ≡ Status.Memory
+        → RanFirst built_layers (script_of script.now) flags.hex (view_of K.held K.pieces sink.old)
+        (view_of K.held K.pieces sink.new) }
     ensures nothing_written { IsBeforeLives result.status → sink.new ≡ sink.old }
 
     // What becomes of the flash, and of the sink's count of faults.
@@ -98,18 +108,38 @@ pub(crate) fn run_text<R: Threads + Wait + Sync, B: Bench, K: Sink, G: Gate>(
 
     // Each status has its cause.
     ensures due { IsDueBy (reading Grammars.Node text.now) result.status ⊎ (result.status ≡ Status.Memory) }
-    ensures script { (line rule : ℕ) → result.status ≡ Status.Script line rule → reading Grammars.Node text.now ≡ Fails line rule }
+    ensures script { (line rule : ℕ) → result.status ≡ Status.Script line rule
+        → reading Grammars.Node text.now ≡ Fails line rule }
     ensures write_fault { result.status ≡ Status.WriteFault → Rose (K.faults sink.old) (K.faults sink.new) }
-    ensures not_erased { (at : ℕ) → result.status ≡ Status.NotErased at → IsSomeAnd result.flash (λ f. IsWrittenAt at (B.chip flash) (B.chip f)) }
-    ensures flash_fault { result.status ≡ Status.FlashFault → IsSomeAnd result.flash (λ f. (B.chip flash).faults < (B.chip f).faults) × (IsTrue (B.chip flash).steady → ⊥) }
+    ensures not_erased { (at : ℕ) → result.status ≡ Status.NotErased at
+        → IsSomeAnd result.flash (λ f. IsWrittenAt at (B.chip flash) (B.chip f)) }
+    ensures flash_fault { result.status ≡ Status.FlashFault
+        → IsSomeAnd result.flash (λ f. (B.chip flash).faults < (B.chip f).faults) × (IsTrue (B.chip flash).steady → ⊥) }
     ensures erased { (result.status ≡ Status.Done) ⊎ (result.status ≡ Status.WriteFault) → WasErased (B.chip flash) }
-    ensures complete { ¬ Rose (K.faults sink.old) (K.faults sink.new) → IsErasedFlash (B.chip flash) → IfScript (reading Grammars.Node text.now) (λ s. (result.status ≡ Status.Done) ⊎ (result.status ≡ Status.Memory) ⊎ (result.status ≡ Status.FlashFault)) }
+    ensures complete { ¬ Rose (K.faults sink.old) (K.faults sink.new) → IsErasedFlash (B.chip flash)
+        → IfScript (reading Grammars.Node text.now)
+        (λ s. (result.status ≡ Status.Done) ⊎ (result.status ≡ Status.Memory) ⊎ (result.status ≡ Status.FlashFault)) }
 
     // What is written is the report of a record of a run of the script, or a front of it.
-    ensures done { result.status ≡ Status.Done → IsScriptAnd (reading Grammars.Node text.now) (λ s. IsSomeAnd result.flash (λ f. Ran built_layers (script_of s) flags.hex (B.chip flash) (view_of K.held K.pieces sink.old) (B.chip f) (view_of K.held K.pieces sink.new))) }
-    ensures front { result.status ≡ Status.WriteFault → IsScriptAnd (reading Grammars.Node text.now) (λ s. RanFront built_layers (script_of s) flags.hex (view_of K.held K.pieces sink.old) (view_of K.held K.pieces sink.new)) }
-    ensures memory { result.status ≡ Status.Memory → (sink.new ≡ sink.old) ⊎ IsScriptAnd (reading Grammars.Node text.now) (λ s. RanFront built_layers (script_of s) flags.hex (view_of K.held K.pieces sink.old) (view_of K.held K.pieces sink.new)) }
-    ensures whole { result.status ≡ Status.Memory → (sink.new ≡ sink.old) ⊎ IsScriptAnd (reading Grammars.Node text.now) (λ s. RanFirst built_layers (script_of s) flags.hex (view_of K.held K.pieces sink.old) (view_of K.held K.pieces sink.new)) }
+    ensures done { result.status ≡ Status.Done
+        → IsScriptAnd (reading Grammars.Node text.now)
+        (λ s. IsSomeAnd result.flash
+        (λ f. Ran built_layers (script_of s) flags.hex (B.chip flash) (view_of K.held K.pieces sink.old) (B.chip f)
+        (view_of K.held K.pieces sink.new))) }
+    ensures front { result.status ≡ Status.WriteFault
+        → IsScriptAnd (reading Grammars.Node text.now)
+        (λ s. RanFront built_layers (script_of s) flags.hex (view_of K.held K.pieces sink.old)
+        (view_of K.held K.pieces sink.new)) }
+    ensures memory { result.status ≡ Status.Memory
+        → (sink.new ≡ sink.old)
+        ⊎ IsScriptAnd (reading Grammars.Node text.now)
+        (λ s. RanFront built_layers (script_of s) flags.hex (view_of K.held K.pieces sink.old)
+        (view_of K.held K.pieces sink.new)) }
+    ensures whole { result.status ≡ Status.Memory
+        → (sink.new ≡ sink.old)
+        ⊎ IsScriptAnd (reading Grammars.Node text.now)
+        (λ s. RanFirst built_layers (script_of s) flags.hex (view_of K.held K.pieces sink.old)
+        (view_of K.held K.pieces sink.new)) }
     ensures nothing_written { IsBeforeLives result.status → sink.new ≡ sink.old }
 
     // What becomes of the flash, and of the sink's count of faults.

@@ -32,14 +32,23 @@ abbrev pub network_fields : NetFields
 network_fields = record { iv = 4; ctl = false; ttl = 7; seq = 0; src = record { 0 = 2 }; dst = source; tpdu = [] }
 
 abbrev pub network_seal : Sealing
-network_seal = record { layer = Network; pair = first_pair; made = record { key = []; nonce = network_nonce network_fields; plain = [] } }
+network_seal =
+    record {
+      layer = Network;
+      pair = first_pair;
+      made = record { key = []; nonce = network_nonce network_fields; plain = [] };
+    }
 
 abbrev pub upper_fields : UpperFields
 upper_fields = record { pair = first_pair; src = record { 0 = 2 }; dst = source; long_mic = false; label = None }
 
 abbrev pub upper_seal : Sealing
 upper_seal =
-    record { layer = Upper; pair = first_pair; made = record { key = []; nonce = upper_nonce (Device []) upper_fields; plain = [] } }
+    record {
+      layer = Upper;
+      pair = first_pair;
+      made = record { key = []; nonce = upper_nonce (Device []) upper_fields; plain = [] };
+    }
 
 -- a block of 256 pairs is reserved, and the first pair is drawn
 abbrev pub draw_one : List WorldStep
@@ -56,7 +65,9 @@ forget_one = hear_one ++ Reserve 6 (5 * 2 ^ 25) ∷ Expire source ∷ []
 -- steps of all nine kinds: a pair is drawn and sealed with by both layers, a message is heard and forgotten, the node
 -- goes on under IV Index 5, and power is cut
 abbrev pub all_kinds : List WorldStep
-all_kinds = draw_one ++ Seal network_seal ∷ Seal upper_seal ∷ [] ++ forget_one ++ Publish (5 * 2 ^ 25) ∷ Advance 5 ∷ Cut (5 * 2 ^ 25) ∷ []
+all_kinds =
+    draw_one ++ Seal network_seal ∷ Seal upper_seal ∷ [] ++ forget_one
+    ++ Publish (5 * 2 ^ 25) ∷ Advance 5 ∷ Cut (5 * 2 ^ 25) ∷ []
 
 -- The steps are allowed, and with the last one behind them the end isn't good.
 abbrev pub Breaks : List WorldStep → WorldStep → Type 0

@@ -117,7 +117,8 @@ entries_with entry src e other = if other.0 == src.0 then e else entry other
 
 -- the world after the step
 abbrev pub after : World → WorldStep → World
-after w Draw = record w { next = w.next + 1; drawn = w.drawn ++ pair_of w.next ∷ []; held = w.held ++ pair_of w.next ∷ [] }
+after w Draw =
+    record w { next = w.next + 1; drawn = w.drawn ++ pair_of w.next ∷ []; held = w.held ++ pair_of w.next ∷ [] }
 after w (Seal s) = record w { seals = w.seals ++ s ∷ [] }
 after w (Reserve current mark) = record w { current = current; kept = mark }
 after w (Publish mark) = record w { mark = mark }

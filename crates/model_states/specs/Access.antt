@@ -46,8 +46,10 @@ generic_servers = 0x1000 ∷ 0x1002 ∷ []
 -- the first element has the Configuration Server, 0000, beside them
 abbrev pub elements_text : ℕ → List ℕ
 elements_text zero = []
-elements_text (suc others) = element_text (0x0000 ∷ generic_servers) ++ flat_map element_text (replicate others generic_servers)
+elements_text (suc others) =
+    element_text (0x0000 ∷ generic_servers) ++ flat_map element_text (replicate others generic_servers)
 
 -- CID ffff, PID 0001, VID 0001, CRPL, which is the size of the replay list, and Features 0005, Relay and Friend; then the elements
 unfoldable pub composition : ℕ → ℕ → List ℕ
-composition elements crpl = flat_map two_low_first (0xffff ∷ 0x0001 ∷ 0x0001 ∷ crpl ∷ 0x0005 ∷ []) ++ elements_text elements
+composition elements crpl =
+    flat_map two_low_first (0xffff ∷ 0x0001 ∷ 0x0001 ∷ crpl ∷ 0x0005 ∷ []) ++ elements_text elements

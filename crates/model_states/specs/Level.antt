@@ -28,7 +28,8 @@ signed_four a b c d = cast_signed w32 (from_le_bytes w32 (a ∷ b ∷ c ∷ d �
 -- what stands behind the number of a set: TID, then transition time and delay or nothing
 abbrev pub level_set : Bool → LevelChange → List ℕ → Option LevelMessage
 level_set acknowledged change (tid ∷ rest) =
-    option_map (λ t. Set (record { acknowledged = acknowledged; change = change; tid = tid; timing = t })) (timing_of rest)
+    option_map (λ t. Set (record { acknowledged = acknowledged; change = change; tid = tid; timing = t }))
+    (timing_of rest)
 level_set acknowledged change [] = None
 
 -- Level has two octets (3.2.2.2), Delta Level four (3.2.2.4), and the Delta Level of a Move two (3.2.2.6)
@@ -81,7 +82,14 @@ limit delta = if int_lt delta (pos 0) then lowest else highest
 -- a node opens with a value, and no message was taken
 abbrev pub level_opened : ℤ → LevelState
 level_opened value =
-    record { start = value; goal = To value; taken = 0; timing = record { delay = 0; duration = 0 }; last = None; first = value }
+    record {
+      start = value;
+      goal = To value;
+      taken = 0;
+      timing = record { delay = 0; duration = 0 };
+      last = None;
+      first = value;
+    }
 
 -- the part of a way that is gone after so many of the ticks of a transition, rounded toward zero
 abbrev pub way_gone : ℤ → ℕ → ℕ → ℤ
@@ -89,14 +97,16 @@ way_gone way ticks duration = int_div (way *ℤ pos ticks) (pos duration)
 
 -- the level so many ticks after the delay: at the target when the transition is over; a Move goes on to the limit
 abbrev pub level_after : ℤ → Goal → ℕ → ℕ → ℤ
-level_after start (To target) duration ticks = if nat_le duration ticks then target else start +ℤ way_gone (target -ℤ start) ticks duration
+level_after start (To target) duration ticks =
+    if nat_le duration ticks then target else start +ℤ way_gone (target -ℤ start) ticks duration
 level_after start (Along delta) duration ticks = in_range (start +ℤ way_gone delta ticks duration)
 
 -- Present Level: it stands until the delay is over
 abbrev pub level_present : LevelState → ℕ → ℤ
 level_present s now =
     let elapsed = now - s.taken in
-    if is_delayed s.timing elapsed then s.start else level_after s.start s.goal s.timing.duration (elapsed - s.timing.delay)
+    if is_delayed s.timing elapsed then s.start
+    else level_after s.start s.goal s.timing.duration (elapsed - s.timing.delay)
 
 -- whether the last change is over: its time is, or a Move is at its limit when the delay is over
 abbrev pub is_level_over : LevelState → ℕ → Bool
@@ -104,7 +114,8 @@ is_level_over s now = is_goal_over s.goal
   where
     is_goal_over : Goal → Bool
     is_goal_over (To target) = is_over s.timing (now - s.taken)
-    is_goal_over (Along delta) = not (is_delayed s.timing (now - s.taken) || not (int_eq (level_present s now) (limit delta)))
+    is_goal_over (Along delta) =
+        not (is_delayed s.timing (now - s.taken) || not (int_eq (level_present s now) (limit delta)))
 
 -- what a power cycle keeps: the target of the last change, and of a Move the level at which it was taken
 abbrev pub level_kept : LevelState → ℤ
@@ -120,14 +131,23 @@ abbrev pub level_changed : LevelState → ℕ → LevelSet → ℤ → LevelStat
 level_changed s now m first = changed_to m.change
   where
     to : ℤ → Timing → LevelState
-    to target t = record { start = level_present s now; goal = To target; taken = now; timing = t; last = s.last; first = first }
+    to target t =
+        record { start = level_present s now; goal = To target; taken = now; timing = t; last = s.last; first = first }
 
     changed_to : LevelChange → LevelState
     changed_to (Level target) = to target m.timing
     changed_to (Delta delta) = to (in_range (first +ℤ delta)) m.timing
     changed_to (Move delta) =
-        if int_eq delta (pos 0) || m.timing.duration == 0 then to (level_present s now) (record { delay = 0; duration = 0 })
-        else record { start = level_present s now; goal = Along delta; taken = now; timing = m.timing; last = s.last; first = first }
+        if int_eq delta (pos 0) || m.timing.duration == 0
+        then to (level_present s now) (record { delay = 0; duration = 0 })
+        else record {
+          start = level_present s now;
+          goal = Along delta;
+          taken = now;
+          timing = m.timing;
+          last = s.last;
+          first = first;
+        }
 
 -- A message of the transaction of the last one only renews it; but a Delta counts anew from the level at which the transaction began
 -- (3.3.2.2.3).
@@ -142,7 +162,9 @@ level_repeated s now m = repeated_by m.change
 abbrev pub level_taken : LevelState → ℕ → Address → Address → LevelMessage → LevelState
 level_taken s now src dst Get = s
 level_taken s now src dst (Set m) =
-    record (if is_repeated s.last now src dst m.tid then level_repeated s now m else level_changed s now m (level_present s now)) {
+    record
+    (if is_repeated s.last now src dst m.tid then level_repeated s now m else level_changed s now m
+    (level_present s now)) {
       last = Some (transaction now src dst m.tid);
     }
 
@@ -153,13 +175,15 @@ abbrev pub level_ahead : LevelState → ℕ → List ℕ
 level_ahead s now = ahead s.goal
   where
     ahead : Goal → List ℕ
-    ahead (To target) = two_low_first (cast_unsigned w16 target) ++ remaining_time (ticks_left s.timing (now - s.taken)) ∷ []
+    ahead (To target) =
+        two_low_first (cast_unsigned w16 target) ++ remaining_time (ticks_left s.timing (now - s.taken)) ∷ []
     ahead (Along delta) = two_low_first (cast_unsigned w16 (limit delta)) ++ 0x3f ∷ []
 
 -- Status 8208: Present Level, and until the change is over Target Level and Remaining Time
 abbrev pub level_status : LevelState → ℕ → List ℕ
 level_status s now =
-    0x82 ∷ 0x08 ∷ two_low_first (cast_unsigned w16 (level_present s now)) ++ (if is_level_over s now then [] else level_ahead s now)
+    0x82 ∷ 0x08 ∷ two_low_first (cast_unsigned w16 (level_present s now))
+    ++ (if is_level_over s now then [] else level_ahead s now)
 
 -- Get and the acknowledged sets ask for the Status (3.3.2.2.1 to 3.3.2.2.4)
 abbrev pub level_asks : LevelMessage → Bool

@@ -14,7 +14,8 @@ use Rattle.model_states.specs.Timing.{timing_of, is_delayed, is_over, ticks_left
 abbrev pub onoff_set : Bool → List ℕ → Option OnOffMessage
 onoff_set acknowledged (value ∷ tid ∷ rest) =
     if nat_lt 1 value then None
-    else option_map (λ t. Set (record { acknowledged = acknowledged; target = value == 1; tid = tid; timing = t })) (timing_of rest)
+    else option_map (λ t. Set (record { acknowledged = acknowledged; target = value == 1; tid = tid; timing = t }))
+    (timing_of rest)
 onoff_set acknowledged _ = None
 
 abbrev pub onoff_get : List ℕ → Option OnOffMessage
@@ -35,7 +36,8 @@ onoff_message _ = None
 
 -- a node opens with a value, and no message was taken
 abbrev pub onoff_opened : Bool → OnOffState
-onoff_opened value = record { start = value; target = value; taken = 0; timing = record { delay = 0; duration = 0 }; last = None }
+onoff_opened value =
+    record { start = value; target = value; taken = 0; timing = record { delay = 0; duration = 0 }; last = None }
 
 -- Present OnOff: a change to on is made as soon as its delay is over, and a change to off when the transition ends (1.4.1.1, 3.1.1).
 abbrev pub onoff_present : OnOffState → ℕ → Bool
@@ -70,7 +72,8 @@ abbrev pub onoff_status : OnOffState → ℕ → List ℕ
 onoff_status s now =
     let elapsed = now - s.taken in
     0x82 ∷ 0x04 ∷ onoff_octet (onoff_present s now)
-    ∷ (if is_over s.timing elapsed then [] else onoff_octet s.target ∷ remaining_time (ticks_left s.timing elapsed) ∷ [])
+    ∷ (if is_over s.timing elapsed then [] else onoff_octet s.target ∷ remaining_time (ticks_left s.timing elapsed)
+    ∷ [])
 
 -- Get and Set ask for the Status (3.3.1.2.1, 3.3.1.2.2)
 abbrev pub onoff_asks : OnOffMessage → Bool

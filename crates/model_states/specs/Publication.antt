@@ -26,7 +26,8 @@ accepted_at now row = record { row = row; accepted = now }
 
 -- a life opens with these rows, accepted at 0
 abbrev pub published_from : List PublishRow → Published
-published_from rows = record { rows = fold (λ held row. put_by row_index (accepted_at 0 row) held) [] rows; asked = 0; heartbeat = None }
+published_from rows =
+    record { rows = fold (λ held row. put_by row_index (accepted_at 0 row) held) [] rows; asked = 0; heartbeat = None }
 
 abbrev pub row_set : Published → ℕ → PublishRow → Published
 row_set p now row = record p { rows = put_by row_index (accepted_at now row) p.rows }
@@ -41,11 +42,13 @@ periods_over period accepted now = if period == 0 then 0 else (now - accepted) /
 
 -- Some end of a period is behind the last moment at which was asked, and not behind this one.
 abbrev pub has_period_ended : ℕ → ℕ → ℕ → ℕ → Bool
-has_period_ended period accepted asked now = nat_lt (periods_over period accepted asked) (periods_over period accepted now)
+has_period_ended period accepted asked now =
+    nat_lt (periods_over period accepted asked) (periods_over period accepted now)
 
 -- a row with an address and a period is due where a period ended since it was last asked
 abbrev pub is_row_due : ℕ → ℕ → Publication → Bool
-is_row_due asked now p = not (p.row.address.0 == 0) && has_period_ended (publish_period p.row.period) p.accepted asked now
+is_row_due asked now p =
+    not (p.row.address.0 == 0) && has_period_ended (publish_period p.row.period) p.accepted asked now
 
 abbrev pub rows_due : Published → ℕ → List PublishRow
 rows_due p now = map (λ r. r.row) (filter (is_row_due p.asked now) p.rows)

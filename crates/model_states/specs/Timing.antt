@@ -9,7 +9,8 @@ use Rattle.model_states.specs.declared.models.Transaction.{Transaction}
 
 -- the ticks of one step, by the Default Transition Step Resolution: 100 ms, 1 s, 10 s, 10 min (3.1.3.2)
 abbrev pub step_ticks : ℕ → ℕ
-step_ticks resolution = if resolution == 0 then 10 else if resolution == 1 then 100 else if resolution == 2 then 1000 else 60000
+step_ticks resolution =
+    if resolution == 0 then 10 else if resolution == 1 then 100 else if resolution == 2 then 1000 else 60000
 
 -- A transition time has the number of its steps in the low 6 bits and their resolution in the high 2. 3f steps are a time that isn't known.
 abbrev pub is_known_time : ℕ → Bool
@@ -25,7 +26,8 @@ delay_of octet = (octet + 1) / 2
 -- what stands at the end of a set message: a known transition time and a delay, or nothing
 abbrev pub timing_of : List ℕ → Option Timing
 timing_of [] = Some (record { delay = 0; duration = 0 })
-timing_of (time ∷ delay ∷ []) = if is_known_time time then Some (record { delay = delay_of delay; duration = duration_of time }) else None
+timing_of (time ∷ delay ∷ []) =
+    if is_known_time time then Some (record { delay = delay_of delay; duration = duration_of time }) else None
 timing_of _ = None
 
 -- Where a change is, so many ticks after it was taken.

@@ -5,7 +5,9 @@ use Rattle.layer_definitions.specs.Beacon.{BeaconSource, ReadsBeacon, ReadsBeaco
 
 -- no key of the list has a beacon with these octets
 abbrev pub IsUnread : List BeaconSource → List ℕ → Type 0
-IsUnread keys octets = (k : ℕ) (by : BeaconSource) (flags iv : ℕ) → slice_get keys k ≡ Some by → ReadsBeaconUnder by.key octets flags iv → ⊥
+IsUnread keys octets =
+    (k : ℕ) (by : BeaconSource) (flags iv : ℕ) → slice_get keys k ≡ Some by → ReadsBeaconUnder by.key octets flags iv
+    → ⊥
 
 -- the beacon that the octets read as, or none
 abbrev pub IsAnswer : List BeaconSource → List ℕ → Option Beacon → Type 0

@@ -22,7 +22,8 @@ pub struct Unread;
 /// The flags and the IV Index in octets as long as a beacon.
 fn fields_of(bytes: &[u8]) -> (u8, u32)
     requires { length bytes.now ≡ 22 }
-    ensures { (key : List ℕ) (flags iv : ℕ) → ReadsBeaconUnder key bytes.now flags iv → (flags ≡ result.0) × (iv ≡ result.1) }
+    ensures { (key : List ℕ) (flags iv : ℕ) → ReadsBeaconUnder key bytes.now flags iv
+        → (flags ≡ result.0) × (iv ≡ result.1) }
 {
     (bytes[1], BigEndian::read_u32(&bytes[10..14]))
 }
@@ -62,7 +63,8 @@ fn read_row(row: &NetKeyRow, bytes: &[u8]) -> Option<Beacon>
 
 /// The answer for some rows and for one behind them, from the answer for these rows.
 fn with_row(answer: Option<Beacon>, row: &NetKeyRow, bytes: &[u8]) -> Option<Beacon>
-    ensures { (rows : List NetKeyRow) → IsByIndex net_index rows → IsAnswer (beacon_keys rows) bytes.now answer → IsAnswer (beacon_keys (put_row net_index row.now rows)) bytes.now result }
+    ensures { (rows : List NetKeyRow) → IsByIndex net_index rows → IsAnswer (beacon_keys rows) bytes.now answer
+        → IsAnswer (beacon_keys (put_row net_index row.now rows)) bytes.now result }
 {
     match answer {
         Some(first) if first.index <= row.index => answer,
@@ -87,7 +89,9 @@ pub fn read(rows: &[NetKeyRow], bytes: &[u8]) -> Result<Beacon, Unread>
 /// The law of readings, for proofs: it does nothing. Octets have one reading under a key at most, the octets of a beacon read
 /// as its fields, and rows that stand by index are read in the order in which they stand.
 pub fn beacon_law()
-    ensures one { (key octets : List ℕ) (f g iv other : ℕ) → ReadsBeaconUnder key octets f iv → ReadsBeaconUnder key octets g other → (f ≡ g) × (iv ≡ other) }
-    ensures itself { (key : List ℕ) (flags iv : ℕ) → flags < 2 ^ 8 → iv < 2 ^ 32 → ReadsBeaconUnder key (beacon_text key flags iv) flags iv }
+    ensures one { (key octets : List ℕ) (f g iv other : ℕ) → ReadsBeaconUnder key octets f iv
+        → ReadsBeaconUnder key octets g other → (f ≡ g) × (iv ≡ other) }
+    ensures itself { (key : List ℕ) (flags iv : ℕ) → flags < 2 ^ 8 → iv < 2 ^ 32
+        → ReadsBeaconUnder key (beacon_text key flags iv) flags iv }
     ensures order { (rows : List NetKeyRow) → IsByIndex net_index rows → by_index net_index rows ≡ rows }
 {}

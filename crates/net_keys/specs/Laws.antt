@@ -18,7 +18,8 @@ HaveNidWidth keys = All (λ (h : Heard). h.material.nid < 2 ^ 7) keys
 -- behind them any others, as those of friendships.
 abbrev pub CandidatesRead : Type 0
 CandidatesRead =
-    (rows : List NetKeyRow) (more : List Heard) → HaveNidWidth more → (current : ℕ) (octets : List ℕ) (f : NetFields) (place : ℕ) (by : Heard)
+    (rows : List NetKeyRow) (more : List Heard) → HaveNidWidth more
+    → (current : ℕ) (octets : List ℕ) (f : NetFields) (place : ℕ) (by : Heard)
     → Reads (with_nid_of octets (heard_keys rows) ++ with_nid_of octets more) current octets f place by
     → (at : ℕ) × Reads (heard_keys rows ++ more) current octets f at by
 
@@ -26,4 +27,5 @@ CandidatesRead =
 abbrev pub OthersDoNotRead : Type 0
 OthersDoNotRead =
     (rows : List NetKeyRow) (more : List Heard) → HaveNidWidth more → (current : ℕ) (octets : List ℕ)
-    → IsUnread (with_nid_of octets (heard_keys rows) ++ with_nid_of octets more) current octets → IsUnread (heard_keys rows ++ more) current octets
+    → IsUnread (with_nid_of octets (heard_keys rows) ++ with_nid_of octets more) current octets
+    → IsUnread (heard_keys rows ++ more) current octets

@@ -40,7 +40,8 @@ fn unseal_in_place(
 ) -> Result<(), BadMic>
     requires { (length mic.now ≡ 4) ⊎ (length mic.now ≡ 8) }
     ensures ok { OnOk result (Seals schedule.now nonce.now [] text.new.items text.old.items mic.now) }
-    ensures bad_mic { OnErr result ((other : List ℕ) → Seals schedule.now nonce.now [] other text.old.items mic.now → ⊥) }
+    ensures bad_mic { OnErr result
+        ((other : List ℕ) → Seals schedule.now nonce.now [] other text.old.items mic.now → ⊥) }
 {
     aes_ccm::unseal(schedule, nonce, &[], text.as_mut_slice(), mic)
 }

@@ -25,7 +25,8 @@ marks_at entries = map (λ p. (p.at, M.Handled p.entry)) entries
 
 -- With these tasks bearer k, whose last number before was `first`, made these entries of its own and these lines, and drew the words that
 -- the lines show; these tasks are left.
-pub record Did (k first : ℕ) (tasks left : List Task) (own : List (ℕ × Mark)) (marks : List Mark) (lines : List Sent) (number : ℕ) (d : DrawerView) : Type 0 where
+pub record Did (k first : ℕ) (tasks left : List Task) (own : List (ℕ × Mark)) (marks : List Mark) (lines : List Sent)
+    (number : ℕ) (d : DrawerView) : Type 0 where
   pub entries : List Placed
   pub own_are : own ≡ marks_at entries
   pub walks : Walks tasks entries lines left
@@ -80,7 +81,8 @@ pub record Drew {F : Type 0} (p : Pair) (k first : ℕ) (tasks left : List Task)
 -- what a draw left: a pair more, or the end of an IV Index was seen
 abbrev pub DrewBy : {F : Type 0} → Drawn → ℕ → ℕ → List Task → List Task → BearerOf F → Type 0
 DrewBy (D.Pair p) k first tasks left b = Drew p k first tasks left b
-DrewBy (D.Spent iv) k first tasks left b = DidBy k first tasks left b × Contains b.drawer.looks (saw.Counter (iv * 2 ^ 25 + 2 ^ 24))
+DrewBy (D.Spent iv) k first tasks left b =
+    DidBy k first tasks left b × Contains b.drawer.looks (saw.Counter (iv * 2 ^ 25 + 2 ^ 24))
 
 abbrev pub IsUnspent : Drawn → Type 0
 IsUnspent (D.Pair p) = p.seq < 2 ^ 24

@@ -18,7 +18,8 @@ use Rattle.locked_node.specs.declared.marks.Mark.TheVariants as M
 
 -- what a line shows of the entry that stands at its place
 abbrev pub shown_at : Mark → Sent → Option Shown
-shown_at (M.Handled e) s = option_map (λ job. record { entry = e; job = job; outcome = s.outcome }) (slice_get e.jobs s.job)
+shown_at (M.Handled e) s =
+    option_map (λ job. record { entry = e; job = job; outcome = s.outcome }) (slice_get e.jobs s.job)
 shown_at (M.Stopped hand) s = None
 
 abbrev pub shown_in : List Mark → Sent → Option Shown

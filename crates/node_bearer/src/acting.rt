@@ -32,12 +32,14 @@ pub fn act<M: Machine, F: Bench>(
     ensures rider { IsRider n.now turn.now b.new }
     ensures on { GoesOn b.old b.new }
     ensures frame { (b.new.lines ≡ b.old.lines) × (b.new.drawer ≡ b.old.drawer) }
-    ensures did { (first : ℕ) (tasks rest : List Task) (task : Task) → IsFor event.now task → DidBy k first tasks (task ∷ rest) b.old
+    ensures did { (first : ℕ) (tasks rest : List Task) (task : Task) → IsFor event.now task
+        → DidBy k first tasks (task ∷ rest) b.old
         → IfOk result (λ a. DidBy k first tasks (write_tasks a.at 0 event.now a.jobs ++ rest) b.new) }
     ensures entry { IfOk result (λ a. HasEntry b.new.pass.seen a.at event.now a.jobs) }
     ensures jobs { IfOk result (λ a. All (IsJob event.now) a.jobs) }
     ensures quiet { is_outside event.now ≡ false → IfOk result (λ a. All IsQuiet a.jobs) }
-    ensures stopped { (first : ℕ) (tasks rest : List Task) (task : Task) → IsFor event.now task → DidBy k first tasks (task ∷ rest) b.old
+    ensures stopped { (first : ℕ) (tasks rest : List Task) (task : Task) → IsFor event.now task
+        → DidBy k first tasks (task ∷ rest) b.old
         → IfErr result (λ e. OnStop e (Broke k first tasks b.new)) }
 {
     if b.number == u32::MAX {
@@ -69,7 +71,8 @@ pub fn refill<M: Machine, F: Bench>(
     ensures rider { IsRider n.now turn.now b.new }
     ensures on { GoesOn b.old b.new }
     ensures frame { (b.new.lines ≡ b.old.lines) × (b.new.drawer ≡ b.old.drawer) }
-    ensures did { (k first : ℕ) (tasks rest : List Task) → DidBy k first tasks rest b.old → OnOk result (DidBy k first tasks rest b.new) }
+    ensures did { (k first : ℕ) (tasks rest : List Task) → DidBy k first tasks rest b.old
+        → OnOk result (DidBy k first tasks rest b.new) }
     ensures stopped { (k first : ℕ) (tasks rest : List Task) → DidBy k first tasks rest b.old
         → IfErr result (λ e. OnStop e (Broke k first tasks b.new)) }
 {

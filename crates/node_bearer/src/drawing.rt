@@ -34,7 +34,8 @@ fn raise<M: Machine, F: Bench>(
     ensures rider { IsRider n.now turn.now b.new }
     ensures on { GoesOn b.old b.new }
     ensures frame { b.new.lines ≡ b.old.lines }
-    ensures did { (k first : ℕ) (tasks rest : List Task) → DidBy k first tasks rest b.old → OnOk result (DidBy k first tasks rest b.new) }
+    ensures did { (k first : ℕ) (tasks rest : List Task) → DidBy k first tasks rest b.old
+        → OnOk result (DidBy k first tasks rest b.new) }
     ensures stopped { (k first : ℕ) (tasks rest : List Task) → DidBy k first tasks rest b.old
         → IfErr result (λ e. OnStop e (Broke k first tasks b.new)) }
 {
@@ -58,7 +59,8 @@ pub fn draw<M: Machine, F: Bench>(
     ensures on { GoesOn b.old b.new }
     ensures frame { b.new.lines ≡ b.old.lines }
     ensures seq { IfOk result IsUnspent }
-    ensures did { (k first : ℕ) (tasks rest : List Task) → DidBy k first tasks rest b.old → IfOk result (λ r. DrewBy r k first tasks rest b.new) }
+    ensures did { (k first : ℕ) (tasks rest : List Task) → DidBy k first tasks rest b.old
+        → IfOk result (λ r. DrewBy r k first tasks rest b.new) }
     ensures stopped { (k first : ℕ) (tasks rest : List Task) → DidBy k first tasks rest b.old
         → IfErr result (λ e. OnStop e (Broke k first tasks b.new)) }
 {

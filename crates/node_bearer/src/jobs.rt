@@ -38,7 +38,8 @@ fn plain_job<M: Machine, F: Bench>(
     requires plain { is_drawing job.now ≡ false }
     requires there { HasJob b.old.pass.seen at j event.now job.now }
     ensures frame { b.new ≡ record b.old { lines = b.new.lines } }
-    ensures did { (k first : ℕ) (tasks rest : List Task) → DidBy k first tasks (write at j event.now job.now ∷ rest) b.old
+    ensures did { (k first : ℕ) (tasks rest : List Task)
+        → DidBy k first tasks (write at j event.now job.now ∷ rest) b.old
         → IfOk result (λ next. DidBy k first tasks (map follow (option_to_list next) ++ rest) b.new) }
     ensures own { IfOk result (λ next. next ≡ None) }
     ensures memory { IfErr result (λ e. e ≡ Stop.Memory) }
@@ -66,7 +67,8 @@ fn spent_job<M: Machine, F: Bench>(
     requires draws { is_drawing job.now ≡ true }
     requires there { HasJob b.old.pass.seen at j event.now job.now }
     ensures frame { b.new ≡ record b.old { lines = b.new.lines } }
-    ensures did { (k first : ℕ) (tasks rest : List Task) → DrewBy (Drawn.Spent iv) k first tasks (write at j event.now job.now ∷ rest) b.old
+    ensures did { (k first : ℕ) (tasks rest : List Task)
+        → DrewBy (Drawn.Spent iv) k first tasks (write at j event.now job.now ∷ rest) b.old
         → IfOk result (λ next. DidBy k first tasks (map follow (option_to_list next) ++ rest) b.new) }
     ensures own { IfOk result (λ next. next ≡ None) }
     ensures memory { IfErr result (λ e. e ≡ Stop.Memory) }
@@ -95,7 +97,8 @@ fn drawn_job<M: Machine, F: Bench>(
     requires pair { pair.seq < 2 ^ 24 }
     requires there { HasJob b.old.pass.seen at j event.now job.now }
     ensures frame { b.new ≡ record b.old { lines = b.new.lines } }
-    ensures did { (k first : ℕ) (tasks rest : List Task) → DrewBy (Drawn.Pair pair) k first tasks (write at j event.now job.now ∷ rest) b.old
+    ensures did { (k first : ℕ) (tasks rest : List Task)
+        → DrewBy (Drawn.Pair pair) k first tasks (write at j event.now job.now ∷ rest) b.old
         → IfOk result (λ next. DidBy k first tasks (map follow (option_to_list next) ++ rest) b.new) }
     ensures own { IfOk result (λ next. IfSome next (λ e. is_outside e ≡ false)) }
     ensures range { (elements : ℕ) → IfOk result (λ next. IfSome next (IsEvent elements)) }
@@ -129,12 +132,14 @@ fn do_job<M: Machine, F: Bench>(
     requires there { HasJob b.old.pass.seen at j event.now job.now }
     ensures rider { IsRider n.now turn.now b.new }
     ensures on { GoesOn b.old b.new }
-    ensures did { (k first : ℕ) (tasks rest : List Task) → DidBy k first tasks (write at j event.now job.now ∷ rest) b.old
+    ensures did { (k first : ℕ) (tasks rest : List Task)
+        → DidBy k first tasks (write at j event.now job.now ∷ rest) b.old
         → IfOk result (λ next. DidBy k first tasks (map follow (option_to_list next) ++ rest) b.new) }
     ensures own { IfOk result (λ next. IfSome next (λ e. is_outside e ≡ false)) }
     ensures range { (elements : ℕ) → IfOk result (λ next. IfSome next (IsEvent elements)) }
     ensures quiet { IsQuiet job.now → IfOk result (λ next. next ≡ None) }
-    ensures stopped { (k first : ℕ) (tasks rest : List Task) → DidBy k first tasks (write at j event.now job.now ∷ rest) b.old
+    ensures stopped { (k first : ℕ) (tasks rest : List Task)
+        → DidBy k first tasks (write at j event.now job.now ∷ rest) b.old
         → IfErr result (λ e. OnStop e (Broke k first tasks b.new)) }
 {
     if !draws(job) {
@@ -164,9 +169,11 @@ fn do_quiet_jobs<M: Machine, F: Bench>(
     requires quiet { All IsQuiet jobs.now }
     ensures rider { IsRider n.now turn.now b.new }
     ensures on { GoesOn b.old b.new }
-    ensures did { (k first : ℕ) (tasks rest : List Task) → DidBy k first tasks (write_tasks at 0 event.now jobs.now ++ rest) b.old
+    ensures did { (k first : ℕ) (tasks rest : List Task)
+        → DidBy k first tasks (write_tasks at 0 event.now jobs.now ++ rest) b.old
         → OnOk result (DidBy k first tasks rest b.new) }
-    ensures stopped { (k first : ℕ) (tasks rest : List Task) → DidBy k first tasks (write_tasks at 0 event.now jobs.now ++ rest) b.old
+    ensures stopped { (k first : ℕ) (tasks rest : List Task)
+        → DidBy k first tasks (write_tasks at 0 event.now jobs.now ++ rest) b.old
         → IfErr result (λ e. OnStop e (Broke k first tasks b.new)) }
 {
     for j in 0..jobs.len() {
@@ -192,7 +199,8 @@ fn do_next<M: Machine, F: Bench>(
     requires own { is_outside event.now ≡ false }
     ensures rider { IsRider n.now turn.now b.new }
     ensures on { GoesOn b.old b.new }
-    ensures did { (first : ℕ) (tasks rest : List Task) → DidBy k first tasks (follow event.now ∷ rest) b.old → OnOk result (DidBy k first tasks rest b.new) }
+    ensures did { (first : ℕ) (tasks rest : List Task) → DidBy k first tasks (follow event.now ∷ rest) b.old
+        → OnOk result (DidBy k first tasks rest b.new) }
     ensures stopped { (first : ℕ) (tasks rest : List Task) → DidBy k first tasks (follow event.now ∷ rest) b.old
         → IfErr result (λ e. OnStop e (Broke k first tasks b.new)) }
 {
@@ -221,7 +229,8 @@ fn do_whole_job<M: Machine, F: Bench>(
     ensures on { GoesOn b.old b.new }
     ensures did { (first : ℕ) (tasks rest : List Task) → DidBy k first tasks (write at j event.now job.now ∷ rest) b.old
         → OnOk result (DidBy k first tasks rest b.new) }
-    ensures stopped { (first : ℕ) (tasks rest : List Task) → DidBy k first tasks (write at j event.now job.now ∷ rest) b.old
+    ensures stopped { (first : ℕ) (tasks rest : List Task)
+        → DidBy k first tasks (write at j event.now job.now ∷ rest) b.old
         → IfErr result (λ e. OnStop e (Broke k first tasks b.new)) }
 {
     match do_job(rt, n, turn, b, at, j, event, job) {
@@ -248,9 +257,11 @@ pub fn do_jobs<M: Machine, F: Bench>(
     requires jobs { All (IsJob event.now) jobs.now }
     ensures rider { IsRider n.now turn.now b.new }
     ensures on { GoesOn b.old b.new }
-    ensures did { (first : ℕ) (tasks rest : List Task) → DidBy k first tasks (write_tasks at 0 event.now jobs.now ++ rest) b.old
+    ensures did { (first : ℕ) (tasks rest : List Task)
+        → DidBy k first tasks (write_tasks at 0 event.now jobs.now ++ rest) b.old
         → OnOk result (DidBy k first tasks rest b.new) }
-    ensures stopped { (first : ℕ) (tasks rest : List Task) → DidBy k first tasks (write_tasks at 0 event.now jobs.now ++ rest) b.old
+    ensures stopped { (first : ℕ) (tasks rest : List Task)
+        → DidBy k first tasks (write_tasks at 0 event.now jobs.now ++ rest) b.old
         → IfErr result (λ e. OnStop e (Broke k first tasks b.new)) }
 {
     for j in 0..jobs.len() {

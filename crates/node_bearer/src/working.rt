@@ -34,7 +34,8 @@ fn do_event<M: Machine, F: Bench, G: Gate>(
     requires outside { IsTrue (is_outside event.now) }
     ensures rider { IsRider n.now turn.now b.new }
     ensures on { GoesOn b.old b.new }
-    ensures did { (first : ℕ) (tasks rest : List Task) → DidBy k first tasks (handle event.now ∷ rest) b.old → OnOk result (DidBy k first tasks rest b.new) }
+    ensures did { (first : ℕ) (tasks rest : List Task) → DidBy k first tasks (handle event.now ∷ rest) b.old
+        → OnOk result (DidBy k first tasks rest b.new) }
     ensures stopped { (first : ℕ) (tasks rest : List Task) → DidBy k first tasks (handle event.now ∷ rest) b.old
         → IfErr result (λ e. OnStop e (Broke k first tasks b.new)) }
 {
@@ -75,7 +76,8 @@ pub fn work<M: Machine, F: Bench, G: Gate>(
     requires events { AreEvents turn.now.first.machine.elements events.now }
     ensures rider { IsRider n.now turn.now b.new }
     ensures on { GoesOn b.old b.new }
-    ensures did { (first : ℕ) (tasks : List Task) → DidBy k first tasks (map handle events.now) b.old → OnOk result (DidBy k first tasks [] b.new) }
+    ensures did { (first : ℕ) (tasks : List Task) → DidBy k first tasks (map handle events.now) b.old
+        → OnOk result (DidBy k first tasks [] b.new) }
     ensures stopped { (first : ℕ) (tasks : List Task) → DidBy k first tasks (map handle events.now) b.old
         → IfErr result (λ e. OnStop e (Broke k first tasks b.new)) }
 {

@@ -28,15 +28,19 @@ poll_act fsn (Err fault) = A.Nothing
 
 -- a list message of a friendship is confirmed
 abbrev pub list_act : FriendsState → Reading → ℕ → FriendAct
-list_act st r transaction = if is_by_friend r && list_any (is_friend r.fields.src) st.slots then A.Confirmed transaction else A.Nothing
+list_act st r transaction =
+    if is_by_friend r && list_any (is_friend r.fields.src) st.slots then A.Confirmed transaction else A.Nothing
 
 abbrev pub friend_act : Config → FriendsState → ℕ → Reading → ControlMsg → FriendAct
 friend_act c st now r (C.Request q) =
-    if is_request c r && is_some (net_row c.nets r.by.index) then offer_act (offered st now r.fields.src q) else A.Nothing
-friend_act c st now r (C.Poll fsn) = if is_by_friend r then poll_act fsn (poll_result st.slots now r.fields.src fsn) else A.Nothing
+    if is_request c r && is_some (net_row c.nets r.by.index) then offer_act (offered st now r.fields.src q)
+    else A.Nothing
+friend_act c st now r (C.Poll fsn) =
+    if is_by_friend r then poll_act fsn (poll_result st.slots now r.fields.src fsn) else A.Nothing
 friend_act c st now r (C.ListAdd l) = list_act st r l.transaction
 friend_act c st now r (C.ListRemove l) = list_act st r l.transaction
-friend_act c st now r (C.Clear l) = if is_by_master r && list_any (is_cleared l.lpn l.lpn_counter) st.slots then A.Cleared l else A.Nothing
+friend_act c st now r (C.Clear l) =
+    if is_by_master r && list_any (is_cleared l.lpn l.lpn_counter) st.slots then A.Cleared l else A.Nothing
 friend_act c st now r _ = A.Nothing
 
 abbrev pub IsActOf : Config → FriendsState → ℕ → Reading → ControlMsg → FriendAct → Type 0
@@ -54,5 +58,6 @@ abbrev pub jobs_of_act : Config → Reading → FriendAct → List Job
 jobs_of_act c r A.Nothing = []
 jobs_of_act c r (A.Offered offer) = under c r.by.index (own_control c 0 r.fields.src (C.Offer offer) None)
 jobs_of_act c r (A.Answered fsn polled) = answer_jobs c r fsn polled.answer ++ clear_jobs c r polled.clear
-jobs_of_act c r (A.Confirmed transaction) = own_control c 0 r.fields.src (C.ListConfirm transaction) None r.by.material ∷ []
+jobs_of_act c r (A.Confirmed transaction) =
+    own_control c 0 r.fields.src (C.ListConfirm transaction) None r.by.material ∷ []
 jobs_of_act c r (A.Cleared l) = under c r.by.index (own_control c c.ttl r.fields.src (C.ClearConfirm l) None)

@@ -61,7 +61,8 @@ answer_step past st e (A.Delivered name dst key payload) = option_map_or (messag
 answer_step past st e A.Planned = fold after st (send_calls (config_before past) e.entry.event)
 answer_step past st e A.Kept = fold after st (kept_calls e.entry.event)
 answer_step past st e (A.Ticked now) =
-    after_sent (after st (tick now)) (map publication_short (publications_due past (config_before past) (now - now_of past.told)))
+    after_sent (after st (tick now))
+    (map publication_short (publications_due past (config_before past) (now - now_of past.told)))
 answer_step past st e _ = st
 
 abbrev pub friends_step : FriendsState → Past → Told → FriendsState
@@ -94,10 +95,12 @@ has_heard _ answer = false
 -- Any other entry leaves them.
 abbrev pub Stay : Type 0
 Stay =
-    (st : FriendsState) (told : List Told) (e : Told) → has_heard e.insight e.entry.answer ≡ false → has_step e.entry.answer ≡ false
+    (st : FriendsState) (told : List Told) (e : Told) → has_heard e.insight e.entry.answer ≡ false
+    → has_step e.entry.answer ≡ false
     → AreFriendsOf st told → AreFriendsOf st (told ++ e ∷ [])
 
 -- Messages that are sent one by one.
 abbrev pub SentInTurn : Type 0
 SentInTurn =
-    (st : FriendsState) (messages : List OwnShort) (m : OwnShort) → after_sent st (messages ++ m ∷ []) ≡ after_sent (after_sent st messages) (m ∷ [])
+    (st : FriendsState) (messages : List OwnShort) (m : OwnShort)
+    → after_sent st (messages ++ m ∷ []) ≡ after_sent (after_sent st messages) (m ∷ [])

@@ -71,7 +71,8 @@ impl NodeFriends {
     fn note(&mut self, r: &NetReading, fsn: bool, answer: &PollAnswer)
         requires nid { r.now.by.material.nid < 2 ^ 7 }
         requires sealable { IsSealable answer.now }
-        ensures state { self.new ≡ fold after self.old (stored_octets r.now.by.material fsn r.now.fields.src answer.now) }
+        ensures state { self.new
+            ≡ fold after self.old (stored_octets r.now.by.material fsn r.now.fields.src answer.now) }
     {
         if let PollAnswer::Stored(f) = answer {
             let pdu = seal(&r.by.material, f);
@@ -130,7 +131,8 @@ impl NodeFriends {
 
     // A Friend Clear.
     fn clear(&mut self, r: &NetReading, l: &Clear) -> FriendAct
-        ensures state { (c : Config) (now : ℕ) → self.new ≡ after_control self.old now c (reading_of r.now) (C.Clear l.now) }
+        ensures state { (c : Config) (now : ℕ)
+            → self.new ≡ after_control self.old now c (reading_of r.now) (C.Clear l.now) }
         ensures act { (c : Config) (now : ℕ) → IsActOf c self.old now (reading_of r.now) (C.Clear l.now) result }
     {
         if !is_by_master(r) {
@@ -149,7 +151,10 @@ impl NodeFriends {
     pub fn control(&mut self, p: &Persist, now: u64, r: &NetReading, m: &ControlMsg) -> FriendAct
         requires now { now ≤ 2 ^ 48 }
         requires nid { r.now.by.material.nid < 2 ^ 7 }
-        ensures state { self.new ≡ fold after self.old (control_calls now (config_in p.now) (reading_of r.now) m.now ++ answered_calls self.old now (reading_of r.now) m.now) }
+        ensures state { self.new
+            ≡ fold after self.old
+            (control_calls now (config_in p.now) (reading_of r.now) m.now
+            ++ answered_calls self.old now (reading_of r.now) m.now) }
         ensures act { IsActOf (config_in p.now) self.old now (reading_of r.now) m.now result }
     {
         match m {

@@ -120,7 +120,8 @@ impl NodeFriends {
     /// The friendship credentials with this NID under which a PDU may be heard, in the order of the offers.
     pub fn heard_keys(&self, nid: u8) -> HeardList
         ensures value { result ≡ filter (λ (h : Heard). h.material.nid == nid) (F.friend_keys self.now.slots) }
-        ensures past { (past : Past) → AreFriendsOf self.now past.told → result ≡ filter (λ (h : Heard). h.material.nid == nid) (friend_keys past) }
+        ensures past { (past : Past) → AreFriendsOf self.now past.told
+            → result ≡ filter (λ (h : Heard). h.material.nid == nid) (friend_keys past) }
         ensures length { length result ≤ 2 }
     {
         self.friends.heard(nid)

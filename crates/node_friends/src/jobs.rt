@@ -76,7 +76,8 @@ fn push_under(
     requires room { length jobs.old < 160 }
     requires nets { nets.now ≡ p.now.nets }
     requires fits { FitsControl m.now }
-    ensures value { jobs.new ≡ jobs.old ++ under (config_in p.now) r.now.by.index (own_control_in (config_in p.now) ttl dst m.now None) }
+    ensures value { jobs.new
+        ≡ jobs.old ++ under (config_in p.now) r.now.by.index (own_control_in (config_in p.now) ttl dst m.now None) }
     ensures few { length jobs.new ≤ length jobs.old + 1 }
 {
     if let Some(material) = nets.transmit(r.by.index) {
@@ -116,7 +117,9 @@ fn update_of(p: &Persist, index: u16) -> ControlMsg
 
 // The Friend Update that answers a Poll.
 fn update_job(p: &Persist, r: &NetReading, fsn: bool) -> Job
-    ensures { result ≡ own_control_in (config_in p.now) 0 r.now.fields.src (update_in (config_in p.now) r.now.by.index) (Some (r.now.fields.src, fsn)) r.now.by.material }
+    ensures { result
+        ≡ own_control_in (config_in p.now) 0 r.now.fields.src (update_in (config_in p.now) r.now.by.index)
+        (Some (r.now.fields.src, fsn)) r.now.by.material }
 {
     let keep = Some((r.fields.src, fsn));
     let update = update_of(p, r.by.index);
@@ -143,7 +146,9 @@ fn stored_job(r: &NetReading, f: &NetFields) -> Job
 
 // A message of this node that answers a Poll.
 fn message_job(r: &NetReading, fsn: bool, m: &OwnShort) -> Job
-    ensures { result ≡ J.Message m.now.net r.now.by.material m.now.key m.now.ttl m.now.src m.now.dst m.now.payload (Some (r.now.fields.src, fsn)) }
+    ensures { result
+        ≡ J.Message m.now.net r.now.by.material m.now.key m.now.ttl m.now.src m.now.dst m.now.payload
+        (Some (r.now.fields.src, fsn)) }
 {
     let mut payload = Octets::new();
     payload.extend(m.payload.as_slice());
@@ -240,7 +245,8 @@ pub fn push_friend_jobs(
 )
     requires room { length jobs.old + 2 ≤ 160 }
     requires nets { nets.now ≡ p.now.nets }
-    ensures value { (st : FriendsState) (now : ℕ) (m : Message) → IsActOf (config_in p.now) st now (reading_of r.now) m act.now
+    ensures value { (st : FriendsState) (now : ℕ) (m : Message)
+        → IsActOf (config_in p.now) st now (reading_of r.now) m act.now
         → jobs.new ≡ jobs.old ++ jobs_of_control (config_in p.now) st now (reading_of r.now) m }
     ensures few { length jobs.new ≤ length jobs.old + 2 }
 {

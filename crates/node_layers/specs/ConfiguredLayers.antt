@@ -22,7 +22,8 @@ use Rattle.store_definitions.specs.Config.{Config}
 -- What a message stores: the record of the configuration that it asks for, then the values of the models that it changes, by element.
 abbrev pub changes_of : Past → AccessMessage → List StoreRecord
 changes_of past m =
-    option_map_or (λ (act : ConfigAct). option_to_list act.change) (config_act (config_before past) [] no_heartbeat m) [] ++ model_records past m
+    option_map_or (λ (act : ConfigAct). option_to_list act.change)
+    (config_act (config_before past) [] no_heartbeat m) [] ++ model_records past m
 
 -- A reply goes from its element under the key by which the message was heard.
 
@@ -41,7 +42,8 @@ abbrev pub sent_publication : Config → Publication → List Job
 sent_publication c p = under c p.net (publication_job p)
 
 abbrev pub sent_publications : Past → Config → ℕ → List Job
-sent_publications past c ticks = flat_map (sent_publication c) (publications_due past c ticks) ++ heartbeat_jobs past c ticks
+sent_publications past c ticks =
+    flat_map (sent_publication c) (publications_due past c ticks) ++ heartbeat_jobs past c ticks
 
 unfoldable pub configured_layers : Layers
 configured_layers = record built_layers {

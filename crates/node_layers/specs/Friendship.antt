@@ -59,7 +59,14 @@ is_short payload = nat_le (length payload) 11
 
 abbrev pub own_short : Config → AccessMessage → ℕ × List ℕ → OwnShort
 own_short c m reply =
-    record { net = m.net; key = m.key; ttl = reply_ttl c m.ttl; src = element_address c reply.0; dst = m.name.src; payload = reply.1 }
+    record {
+      net = m.net;
+      key = m.key;
+      ttl = reply_ttl c m.ttl;
+      src = element_address c reply.0;
+      dst = m.name.src;
+      payload = reply.1;
+    }
 
 -- stored where it is short; a message to an address of no friendship is refused by the table, which then stays as it is
 abbrev pub stored : List OwnShort → List FriendCall
@@ -90,7 +97,8 @@ if_so false call = []
 abbrev pub control_calls : ℕ → Config → Reading → ControlMsg → List FriendCall
 control_calls now c r (C.Poll fsn) = if_so (is_by_friend r) (poll now r.fields.src fsn)
 control_calls now c r (C.Request q) =
-    flat_map (λ net. if_so (is_request c r) (request now net (element_address c 0) r.fields.src q)) (option_to_list (net_row c.nets r.by.index))
+    flat_map (λ net. if_so (is_request c r) (request now net (element_address c 0) r.fields.src q))
+    (option_to_list (net_row c.nets r.by.index))
 control_calls now c r (C.Clear l) = if_so (is_by_master r) (clear l.lpn l.lpn_counter)
 control_calls now c r (C.ListAdd l) = if_so (is_by_friend r) (list_add now r.fields.src l.addresses)
 control_calls now c r (C.ListRemove l) = if_so (is_by_friend r) (list_remove now r.fields.src l.addresses)
@@ -102,7 +110,8 @@ stored_octets m fsn lpn (P.Stored f) = keep lpn fsn (name_of f) (net_text m f) �
 stored_octets m fsn lpn _ = []
 
 abbrev pub answered_calls : FriendsState → ℕ → Reading → ControlMsg → List FriendCall
-answered_calls st now r (C.Poll fsn) = if is_by_friend r then of_result (poll_result st.slots now r.fields.src fsn) else []
+answered_calls st now r (C.Poll fsn) =
+    if is_by_friend r then of_result (poll_result st.slots now r.fields.src fsn) else []
   where
     of_result : Result Polled FriendFault → List FriendCall
     of_result (Ok p) = stored_octets r.by.material fsn r.fields.src p.answer
@@ -124,7 +133,8 @@ send_calls c (E.Send element dst ttl key payload) =
     option_map_or (λ keys. stored (short_of keys ∷ [])) (send_keys c key) []
   where
     short_of : ℕ × UpperKey → OwnShort
-    short_of keys = record { net = keys.0; key = keys.1; ttl = ttl; src = element_address c element; dst = dst; payload = payload }
+    short_of keys =
+        record { net = keys.0; key = keys.1; ttl = ttl; src = element_address c element; dst = dst; payload = payload }
 send_calls c _ = []
 
 abbrev pub kept_calls : Event → List FriendCall
@@ -145,7 +155,8 @@ calls_by_answer past st t (A.Control name dst opcode params) = of_insight t.insi
         let m = control_of opcode params in
         control_calls now (config_before past) r m ++ answered_calls st now r m
     of_insight _ = []
-calls_by_answer past st t (A.Delivered name dst key payload) = option_map_or (calls_of_message past st) (delivered_by t) []
+calls_by_answer past st t (A.Delivered name dst key payload) =
+    option_map_or (calls_of_message past st) (delivered_by t) []
 calls_by_answer past st t A.Planned = send_calls (config_before past) t.entry.event
 calls_by_answer past st t A.Kept = kept_calls t.entry.event
 calls_by_answer past st t (A.Ticked now) =
@@ -159,7 +170,8 @@ heard_by _ answer = []
 -- A PDU is stored first; then what it asks for is done.
 abbrev pub friends_with : FriendsState → Past → Told → FriendsState
 friends_with st past t =
-    let heard = fold after st (heard_by t.insight t.entry.answer) in fold after heard (calls_by_answer past heard t t.entry.answer)
+    let heard = fold after st (heard_by t.insight t.entry.answer) in
+    fold after heard (calls_by_answer past heard t t.entry.answer)
 
 abbrev pub friends_from : FriendsState → List Told → List Told → FriendsState
 friends_from st before [] = st
@@ -197,16 +209,20 @@ offer_jobs c st now r q = if is_request c r then of_result (offered st now r.fie
 
 -- flags of an Update: bit 0 where the network key is in phase 2, bit 1 where IV Update is in progress (3.6.5.2)
 abbrev pub flags_of : Config → ℕ → ℕ
-flags_of c net = (if option_map_or (λ row. row.phase == 2) (net_row c.nets net) false then 1 else 0) + (if c.iv.progress then 2 else 0)
+flags_of c net =
+    (if option_map_or (λ row. row.phase == 2) (net_row c.nets net) false then 1 else 0) +
+    (if c.iv.progress then 2 else 0)
 
 abbrev pub update_of : Config → ℕ → ControlMsg
 update_of c net = C.Update (record { flags = flags_of c net; iv = c.iv.current; more_data = 0 })
 
 -- the answer to a Poll goes under the friendship credentials by which it was heard
 abbrev pub answer_jobs : Config → Reading → Bool → PollAnswer → List Job
-answer_jobs c r fsn P.Update = own_control c 0 r.fields.src (update_of c r.by.index) (Some (r.fields.src, fsn)) r.by.material ∷ []
+answer_jobs c r fsn P.Update =
+    own_control c 0 r.fields.src (update_of c r.by.index) (Some (r.fields.src, fsn)) r.by.material ∷ []
 answer_jobs c r fsn (P.Stored f) = J.Relay r.by.material f ∷ []
-answer_jobs c r fsn (P.Own m) = J.Message m.net r.by.material m.key m.ttl m.src m.dst m.payload (Some (r.fields.src, fsn)) ∷ []
+answer_jobs c r fsn (P.Own m) =
+    J.Message m.net r.by.material m.key m.ttl m.src m.dst m.payload (Some (r.fields.src, fsn)) ∷ []
 answer_jobs c r fsn (P.Repeat name pdu) = J.Repeat name pdu ∷ []
 answer_jobs c r fsn P.Silent = []
 
@@ -234,7 +250,8 @@ confirm_jobs c st r transaction =
 abbrev pub cleared_jobs : Config → FriendsState → Reading → Address → ℕ → List Job
 cleared_jobs c st r lpn counter =
     if is_by_master r && list_any (is_cleared lpn counter) st.slots
-    then under c r.by.index (own_control c c.ttl r.fields.src (C.ClearConfirm (record { lpn = lpn; lpn_counter = counter })) None)
+    then under c r.by.index
+    (own_control c c.ttl r.fields.src (C.ClearConfirm (record { lpn = lpn; lpn_counter = counter })) None)
     else []
 
 abbrev pub jobs_of_control : Config → FriendsState → ℕ → Reading → ControlMsg → List Job
@@ -247,4 +264,5 @@ jobs_of_control c st now r _ = []
 
 abbrev pub control_jobs : Past → Config → ControlMessage → List Job
 control_jobs past c m =
-    jobs_of_control c (fold after (friends past) (heard_calls m.reading)) (now_of past.told) m.reading (control_of m.opcode m.params)
+    jobs_of_control c (fold after (friends past) (heard_calls m.reading)) (now_of past.told) m.reading
+    (control_of m.opcode m.params)

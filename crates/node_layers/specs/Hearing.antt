@@ -8,8 +8,10 @@ use Rattle.run_definitions.specs.Layers.{Layers}
 use Rattle.run_definitions.specs.Readings.{Sees}
 
 abbrev pub AnswerAlike : Layers → Layers → Type 0
-AnswerAlike a b = (past : Past) (event : Event) (insight : Insight) → answer_of a past event insight ≡ answer_of b past event insight
+AnswerAlike a b =
+    (past : Past) (event : Event) (insight : Insight) → answer_of a past event insight ≡ answer_of b past event insight
 
 -- what the one says that octets are read as the other says too
 abbrev pub ReadAlike : Layers → Layers → Type 0
-ReadAlike a b = (past : Past) (event : Event) (insight : Insight) → Sees a past event insight → Sees b past event insight
+ReadAlike a b =
+    (past : Past) (event : Event) (insight : Insight) → Sees a past event insight → Sees b past event insight

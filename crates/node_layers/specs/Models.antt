@@ -54,7 +54,8 @@ abbrev pub is_to_label : Config → ℕ → ℕ → AccessMessage → Bool
 is_to_label c element model m = option_map_or (λ label. has_label label) m.label false
   where
     has_label : List ℕ → Bool
-    has_label label = list_any (λ l. l.0.0 == (element_address c element).0 && l.1 == model && bytes_eq l.2 label) c.labels
+    has_label label =
+        list_any (λ l. l.0.0 == (element_address c element).0 && l.1 == model && bytes_eq l.2 label) c.labels
 
 -- the models of the first element take what goes to all nodes, to all friends where this node is one, and to all relays likewise
 abbrev pub is_fixed_group : Config → Address → Bool
@@ -69,7 +70,8 @@ is_bound c element model (U.App index aid key) =
 abbrev pub takes : Config → ℕ → ℕ → AccessMessage → Bool
 takes c element model m =
     is_bound c element model m.key
-    && (is_to_element c element m || is_to_group c element model m || is_to_label c element model m || (element == 0 && is_fixed_group c m.dst))
+    && (is_to_element c element m || is_to_group c element model m || is_to_label c element model m
+    || (element == 0 && is_fixed_group c m.dst))
 
 -- The states of a life.
 
@@ -100,7 +102,8 @@ taken_one element model now t = option_map_or taken_if (delivered_by t) []
 
 abbrev pub taken_from : ℕ → ℕ → ℕ → List Told → List TakenMessage
 taken_from element model now [] = []
-taken_from element model now (t ∷ ts) = taken_one element model now t ++ taken_from element model (ticks_after now t.entry.answer) ts
+taken_from element model now (t ∷ ts) =
+    taken_one element model now t ++ taken_from element model (ticks_after now t.entry.answer) ts
 
 abbrev pub onoff_with : OnOffState → TakenMessage → OnOffState
 onoff_with s t = onoff_after s t.now t.message.name.src t.message.dst t.message.payload
@@ -109,10 +112,12 @@ abbrev pub level_with : LevelState → TakenMessage → LevelState
 level_with s t = level_after_payload s t.now t.message.name.src t.message.dst t.message.payload
 
 abbrev pub onoff_state : Past → ℕ → OnOffState
-onoff_state past element = fold onoff_with (onoff_first (config_of (first_records past)) element) (taken_from element onoff_server 0 past.told)
+onoff_state past element =
+    fold onoff_with (onoff_first (config_of (first_records past)) element) (taken_from element onoff_server 0 past.told)
 
 abbrev pub level_state : Past → ℕ → LevelState
-level_state past element = fold level_with (level_first (config_of (first_records past)) element) (taken_from element level_server 0 past.told)
+level_state past element =
+    fold level_with (level_first (config_of (first_records past)) element) (taken_from element level_server 0 past.told)
 
 -- What a message stores: the value of each model that takes it, where the value to be kept changes by it.
 
@@ -133,7 +138,8 @@ level_records past c element m =
     changed_value : LevelState → List StoreRecord
     changed_value s =
         let before = cast_unsigned w16 (level_kept s) in
-        let after = cast_unsigned w16 (level_kept (level_after_payload s (now_of past.told) m.name.src m.dst m.payload)) in
+        let after =
+        cast_unsigned w16 (level_kept (level_after_payload s (now_of past.told) m.name.src m.dst m.payload)) in
         if before == after then [] else R.Model element level_server after ∷ []
 
 -- the places of the elements
@@ -142,21 +148,25 @@ elements_of c = range_with_len 0 c.elements
 
 abbrev pub model_records : Past → AccessMessage → List StoreRecord
 model_records past m =
-    let c = config_before past in flat_map (λ element. onoff_records past c element m ++ level_records past c element m) (elements_of c)
+    let c = config_before past in
+    flat_map (λ element. onoff_records past c element m ++ level_records past c element m) (elements_of c)
 
 -- What the models reply, each with the place of its element.
 
 abbrev pub onoff_answer : Past → Config → ℕ → AccessMessage → Option (List ℕ)
 onoff_answer past c element m =
-    if takes c element onoff_server m then onoff_reply (onoff_state past element) (now_of past.told) m.name.src m.dst m.payload else None
+    if takes c element onoff_server m
+    then onoff_reply (onoff_state past element) (now_of past.told) m.name.src m.dst m.payload else None
 
 abbrev pub level_answer : Past → Config → ℕ → AccessMessage → Option (List ℕ)
 level_answer past c element m =
-    if takes c element level_server m then level_reply (level_state past element) (now_of past.told) m.name.src m.dst m.payload else None
+    if takes c element level_server m
+    then level_reply (level_state past element) (now_of past.told) m.name.src m.dst m.payload else None
 
 abbrev pub element_replies : Past → Config → AccessMessage → ℕ → List (ℕ × List ℕ)
 element_replies past c m element =
-    map (λ payload. (element, payload)) (option_to_list (onoff_answer past c element m) ++ option_to_list (level_answer past c element m))
+    map (λ payload. (element, payload))
+    (option_to_list (onoff_answer past c element m) ++ option_to_list (level_answer past c element m))
 
 abbrev pub model_replies : Past → AccessMessage → List (ℕ × List ℕ)
 model_replies past m = let c = config_before past in flat_map (element_replies past c m) (elements_of c)

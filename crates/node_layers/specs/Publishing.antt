@@ -51,7 +51,8 @@ published_by_tick p _ = p
 
 abbrev pub published_with : Published → ℕ → Told → Published
 published_with p now t =
-    published_by_tick (option_map_or (published_by_message p now (config_of t.records)) (delivered_by t) p) t.entry.answer
+    published_by_tick
+    (option_map_or (published_by_message p now (config_of t.records)) (delivered_by t) p) t.entry.answer
 
 abbrev pub published_after : Published → ℕ → List Told → Published
 published_after p now [] = p
@@ -67,7 +68,8 @@ published past =
 
 abbrev pub is_row : PublishRow → PublishRow → Bool
 is_row a b =
-    a.element.0 == b.element.0 && a.model == b.model && a.address.0 == b.address.0 && a.app == b.app && a.ttl == b.ttl && a.period == b.period
+    a.element.0 == b.element.0 && a.model == b.model && a.address.0 == b.address.0 && a.app == b.app && a.ttl == b.ttl
+    && a.period == b.period
     && a.retransmit == b.retransmit
 
 abbrev pub is_still_held : Config → PublishRow → Bool
@@ -77,7 +79,8 @@ is_still_held c row = is_own_row c row && list_any (is_row row) c.publications
 abbrev pub status_of : Past → Config → PublishRow → ℕ → List ℕ
 status_of past c row now =
     let element = row.element.0 - c.unicast.0 in
-    if row.model == onoff_server then onoff_status (onoff_state past element) now else level_status (level_state past element) now
+    if row.model == onoff_server then onoff_status (onoff_state past element) now
+    else level_status (level_state past element) now
 
 -- a publication: the row, with the network key index and the key that its application key is sent with, and the Status
 pub record Publication : Type 0 where
@@ -89,7 +92,8 @@ pub record Publication : Type 0 where
 
 abbrev pub publication_of : Past → Config → ℕ → PublishRow → Option Publication
 publication_of past c now row =
-    option_map (λ keys. record { row = row; net = keys.0; key = keys.1; ttl = ttl_of row; payload = status_of past c row now })
+    option_map
+    (λ keys. record { row = row; net = keys.0; key = keys.1; ttl = ttl_of row; payload = status_of past c row now })
     (transmit_app c.apps c.nets row.app)
   where
     ttl_of : PublishRow → ℕ

@@ -22,7 +22,14 @@ use Rattle.store_definitions.specs.Config.{Config, config_of}
 -- a segment as it was heard; its acknowledgment goes with the TTL of what the records say at that moment
 abbrev pub part_heard : Config → Reading → Name → Lower → PartHeard
 part_heard c r n low =
-    record { name = n; dst = r.fields.dst; net = r.by.index; ttl = r.fields.ttl; part = low; ack_ttl = reply_ttl c r.fields.ttl }
+    record {
+      name = n;
+      dst = r.fields.dst;
+      net = r.by.index;
+      ttl = r.fields.ttl;
+      part = low;
+      ack_ttl = reply_ttl c r.fields.ttl;
+    }
 
 -- A segment that gets past the answers `again` and `replay` is taken; a message that is accepted, or that no key opens, or that has no place in
 -- the replay list, isn't in progress any more.
@@ -50,7 +57,8 @@ named_calls now c r low answer (Some n) =
     if is_segment low then part_calls now (part_heard c r n low) answer else whole_calls n answer
 
 abbrev pub message_calls : ℕ → Config → Insight → Answer → List PartCall
-message_calls now c (OfPdu (Some r) (Some low) opening) answer = named_calls now c r low answer (message_name r.fields low)
+message_calls now c (OfPdu (Some r) (Some low) opening) answer =
+    named_calls now c r low answer (message_name r.fields low)
 message_calls now c _ answer = []
 
 abbrev pub tick_calls : Answer → List PartCall
@@ -77,7 +85,9 @@ held past = live (now_of past.told) (messages past)
 -- the pieces of a message with those of a segment
 abbrev pub pieces_with : Past → Name → Lower → List (Option (List ℕ))
 pieces_with past n low =
-    with_piece (option_map_or (λ a. a.pieces) (slice_get (held past) (place_of n (held past))) (replicate (seg_n_of low + 1) None)) low
+    with_piece
+    (option_map_or (λ a. a.pieces) (slice_get (held past) (place_of n (held past)))
+    (replicate (seg_n_of low + 1) None)) low
 
 abbrev pub names_in_progress : Past → List Name
 names_in_progress past = names_of (held past)
@@ -95,7 +105,8 @@ octets_after past n low = whole_of (pieces_with past n low)
 -- Acknowledgments that are due at a tick, in the order in which their messages began.
 
 abbrev pub due_job : DueAck → NetMaterial → Job
-due_job a m = J.Control m a.ack_ttl a.dst a.name.src (lower_text (acknowledgment (a.name.pair.seq % 2 ^ 13) a.block)) None
+due_job a m =
+    J.Control m a.ack_ttl a.dst a.name.src (lower_text (acknowledgment (a.name.pair.seq % 2 ^ 13) a.block)) None
 
 abbrev pub due_jobs : Config → DueAck → List Job
 due_jobs c a = under c a.net (due_job a)

@@ -25,7 +25,8 @@ taken_answer (T.NoRoom names) = Some (A.NoRoom names)
 
 abbrev pub AnswersSegments : Layers → Type 0
 AnswersSegments layers =
-    (past : Past) (r : Reading) (n : Name) (low : Lower) → segment_answer layers past r low n ≡ taken_answer (segment_taken past r n low)
+    (past : Past) (r : Reading) (n : Name) (low : Lower)
+    → segment_answer layers past r low n ≡ taken_answer (segment_taken past r n low)
 
 -- a whole message has the octets of its pieces
 abbrev pub HasWhole : Layers → Type 0

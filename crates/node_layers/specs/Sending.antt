@@ -26,7 +26,16 @@ use Rattle.store_definitions.specs.Config.{Config}
 -- a message that begins: its upper PDU was sealed under the pair of its SeqAuth
 abbrev pub begun_calls : ℕ → Event → List SendCall
 begun_calls now (E.Begin pair dst src ttl net akf aid upper) =
-    begin now (record { name = record { src = src; pair = pair }; dst = dst; ttl = ttl; net = net; akf = akf; aid = aid; upper = upper }) ∷ []
+    begin now
+    (record {
+      name = record { src = src; pair = pair };
+      dst = dst;
+      ttl = ttl;
+      net = net;
+      akf = akf;
+      aid = aid;
+      upper = upper;
+    }) ∷ []
 begun_calls now _ = []
 
 -- a Segment Acknowledgment that was accepted, from its SRC
@@ -65,11 +74,13 @@ held_count past = length (messages past)
 
 abbrev pub segment_job : Outgoing → ℕ → NetMaterial → Job
 segment_job m seg_o material =
-    J.Segment material m.name m.ttl m.name.src m.dst seg_o (last_segment m.upper) (lower_text (segment m.akf m.aid m.name.pair.seq m.upper seg_o)) false
+    J.Segment material m.name m.ttl m.name.src m.dst seg_o (last_segment m.upper)
+    (lower_text (segment m.akf m.aid m.name.pair.seq m.upper seg_o)) false
 
 abbrev pub round_jobs : Config → ℕ → Sending → List Job
 round_jobs c now s =
-    if is_due now s && not (is_last s) then flat_map (λ seg_o. under c s.message.net (segment_job s.message seg_o)) (round_of s) else []
+    if is_due now s && not (is_last s)
+    then flat_map (λ seg_o. under c s.message.net (segment_job s.message seg_o)) (round_of s) else []
 
 abbrev pub segments_at : Past → Config → ℕ → List Job
 segments_at past c ticks = flat_map (round_jobs c (later past ticks)) (messages past)

@@ -32,12 +32,14 @@ TimeGoesOn = (told : List Told) (t : Told) → now_of (told ++ t ∷ []) ≡ tic
 abbrev pub PartsGoOn : Type 0
 PartsGoOn =
     (told : List Told) (t : Told) (records : List StoreRecord)
-    → parts.messages (with_entry told t records) ≡ fold reassembly.after (parts.messages (past_of told t)) (parts.calls_at (now_of told) t)
+    → parts.messages (with_entry told t records)
+    ≡ fold reassembly.after (parts.messages (past_of told t)) (parts.calls_at (now_of told) t)
 
 abbrev pub OwnGoOn : Type 0
 OwnGoOn =
     (told : List Told) (t : Told) (records : List StoreRecord)
-    → own.messages (with_entry told t records) ≡ fold sending.after (own.messages (past_of told t)) (own.calls_at (now_of told) t)
+    → own.messages (with_entry told t records)
+    ≡ fold sending.after (own.messages (past_of told t)) (own.calls_at (now_of told) t)
 
 -- friendships and offers
 abbrev pub FriendsGoOn : Type 0
@@ -49,12 +51,14 @@ FriendsGoOn =
 abbrev pub OnOffGoesOn : Type 0
 OnOffGoesOn =
     (told : List Told) (t : Told) (records : List StoreRecord) (element : ℕ)
-    → onoff_state (with_entry told t records) element ≡ fold onoff_with (onoff_state (past_of told t) element) (taken_one element onoff_server (now_of told) t)
+    → onoff_state (with_entry told t records) element
+    ≡ fold onoff_with (onoff_state (past_of told t) element) (taken_one element onoff_server (now_of told) t)
 
 abbrev pub LevelGoesOn : Type 0
 LevelGoesOn =
     (told : List Told) (t : Told) (records : List StoreRecord) (element : ℕ)
-    → level_state (with_entry told t records) element ≡ fold level_with (level_state (past_of told t) element) (taken_one element level_server (now_of told) t)
+    → level_state (with_entry told t records) element
+    ≡ fold level_with (level_state (past_of told t) element) (taken_one element level_server (now_of told) t)
 
 abbrev pub PublishedGoesOn : Type 0
 PublishedGoesOn =
@@ -70,7 +74,9 @@ cached_names told = filter_map (λ t. cached_name t.insight (is_before_cache t.e
 abbrev pub CacheGoesOn : Type 0
 CacheGoesOn =
     (told : List Told) (t : Told)
-    → last_of 128 (cached_names (told ++ t ∷ [])) ≡ last_of 128 (last_of 128 (cached_names told) ++ option_to_list (cached_name t.insight (is_before_cache t.entry.answer)))
+    → last_of 128 (cached_names (told ++ t ∷ []))
+    ≡ last_of 128
+    (last_of 128 (cached_names told) ++ option_to_list (cached_name t.insight (is_before_cache t.entry.answer)))
 
 -- The names of the messages that were accepted from segments.
 
@@ -84,10 +90,12 @@ segmented_names told = filter_map (λ t. segmented_name t.insight t.entry.answer
 abbrev pub SegmentedGoesOn : Type 0
 SegmentedGoesOn =
     (told : List Told) (t : Told)
-    → segmented_names (told ++ t ∷ []) ≡ segmented_names told ++ option_to_list (segmented_name t.insight t.entry.answer)
+    → segmented_names (told ++ t ∷ [])
+    ≡ segmented_names told ++ option_to_list (segmented_name t.insight t.entry.answer)
 
 -- they are those that are asked for
 abbrev pub SegmentedIsAny : Type 0
 SegmentedIsAny =
     (told : List Told) (n : Name)
-    → list_any (λ (t : Told). is_accepted_segmented n t.insight t.entry.answer) told ≡ list_any (is_name n) (segmented_names told)
+    → list_any (λ (t : Told). is_accepted_segmented n t.insight t.entry.answer) told
+    ≡ list_any (is_name n) (segmented_names told)

@@ -29,7 +29,8 @@ abbrev pub lines_of : Done → List Sent
 lines_of x = x.lines.items
 
 abbrev pub part_of : {F : Type 0} → NodeView F → NodeView F → List Done → Part
-part_of old new dones = record { entries = placed_of (added (node_marks old) (node_marks new)); sends = map lines_of dones }
+part_of old new dones =
+    record { entries = placed_of (added (node_marks old) (node_marks new)); sends = map lines_of dones }
 
 -- no bearer stopped; none stopped for want of memory
 abbrev pub AreThrough : List Done → Type 0
@@ -49,5 +50,6 @@ abbrev pub number_at : List ℕ → ℕ → ℕ
 number_at counts k = option_map_or (λ n. n) (slice_get counts k) 0
 
 pub record NumbersPart (counts : List ℕ) (part : Part) (dones : List Done) (k : ℕ) : Type 0 where
-  pub numbers : map (λ p. p.entry.number) (of_bearer k part.entries) ≡ range_with_len (number_at counts k + 1) (length (of_bearer k part.entries))
+  pub numbers : map (λ p. p.entry.number) (of_bearer k part.entries)
+      ≡ range_with_len (number_at counts k + 1) (length (of_bearer k part.entries))
   pub count : number_at (map (λ x. x.number) dones) k ≡ number_at counts k + length (of_bearer k part.entries)

@@ -41,18 +41,21 @@ abbrev pub done_of : {F : Type 0} → BearerOf F → Done
 done_of b = record { lines = b.lines; number = b.number; stop = b.stop }
 
 -- A phase between a node and the node, with the seat that took in all that was drawn: what each bearer had, and what it did.
-pub record WasPhase {F : Type 0} (old new : NodeView F) (d e : DrawerView) (events : List (List Event)) (counts : List ℕ) (dones : List Done) : Type 0 where
+pub record WasPhase {F : Type 0} (old new : NodeView F) (d e : DrawerView) (events : List (List Event))
+    (counts : List ℕ) (dones : List Done) : Type 0 where
   pub before : List (BearerOf F)
   pub bearers : List (BearerOf F)
   pub long : length bearers ≡ length before
   pub numbers : map (λ b. b.number) before ≡ counts
   pub noted : All (λ b. b.drawer.noted ≡ d.noted ++ d.drawn) before
-  pub worked : (k : ℕ) (b : BearerOf F) → k < length before → Worked k (list_at events k) (slice_index_or before k b) (slice_index_or bearers k b)
+  pub worked : (k : ℕ) (b : BearerOf F) → k < length before
+      → Worked k (list_at events k) (slice_index_or before k b) (slice_index_or bearers k b)
   pub drawn : e.drawn ≡ d.drawn ++ flat_map drawn_by bearers
   pub looks : e.looks ≡ d.looks ++ flat_map looks_by bearers
   pub same : e.noted ≡ d.noted ++ flat_map (λ b. b.drawer.noted) bearers
   pub front : IsPrefix (node_marks old) (node_marks new)
-  pub kept : (keep : ℕ × Mark → Bool) (ys : List (ℕ × Mark)) → KeptOf keep ([] ∷ map own_of bearers) ys → filter keep (added (node_marks old) (node_marks new)) ≡ ys
+  pub kept : (keep : ℕ × Mark → Bool) (ys : List (ℕ × Mark)) → KeptOf keep ([] ∷ map own_of bearers) ys
+      → filter keep (added (node_marks old) (node_marks new)) ≡ ys
   pub seen : All (λ b. IsPrefix b.pass.seen (node_marks new)) bearers
   pub holds : All (λ b. Holds b.pass.own (added (node_marks old) (node_marks new))) bearers
   pub left : dones ≡ map done_of bearers

@@ -83,8 +83,10 @@ pub fn join_all<M: Machine, F: Bench>(
     ensures parts { IfOk result (λ v. pass.new.parts ≡ pass.old.parts + length bearers.items) }
     ensures drawn { IfOk result (λ v. drawer.new.drawn ≡ drawer.old.drawn ++ flat_map drawn_by bearers.items) }
     ensures looks { IfOk result (λ v. drawer.new.looks ≡ drawer.old.looks ++ flat_map looks_by bearers.items) }
-    ensures noted { IfOk result (λ v. drawer.new.noted ≡ drawer.old.noted ++ flat_map (λ b. b.drawer.noted) bearers.items) }
-    ensures kept { (keep : ℕ × Mark → Bool) (ys : _) → KeptOf keep (pass.old.own ∷ map own_of bearers.items) ys → IfOk result (λ v. filter keep pass.new.own ≡ ys) }
+    ensures noted { IfOk result
+        (λ v. drawer.new.noted ≡ drawer.old.noted ++ flat_map (λ b. b.drawer.noted) bearers.items) }
+    ensures kept { (keep : ℕ × Mark → Bool) (ys : _) → KeptOf keep (pass.old.own ∷ map own_of bearers.items) ys
+        → IfOk result (λ v. filter keep pass.new.own ≡ ys) }
     ensures seen { IfOk result (λ v. All (λ b. IsPrefix b.pass.seen pass.new.seen) bearers.items) }
     ensures holds { IfOk result (λ v. All (λ b. Holds b.pass.own pass.new.own) bearers.items) }
     ensures dones { IfOk result (λ v. v.items ≡ map done_of bearers.items) }

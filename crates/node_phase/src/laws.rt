@@ -12,10 +12,12 @@ ghost use Rattle.node_phase.specs.Worked.{WasPhase};
 /// The entries behind those of before, and the bearers' lines, are a part of a life: each bearer does what it has, all of it where none
 /// stopped; and its entries are numbered on. No bearer stopped for want of memory.
 pub fn part_law<F>()
-    ensures does { (old new : NodeView F) (d e : DrawerView) (events : List (List Event)) (counts : List ℕ) (dones : List Done)
+    ensures does { (old new : NodeView F) (d e : DrawerView) (events : List (List Event)) (counts : List ℕ)
+        (dones : List Done)
         → WasPhase old new d e events counts dones → HadMemory dones → length events ≤ length counts
         → (k : ℕ) → DoesPart events (part_of old new dones) dones k }
-    ensures numbers { (old new : NodeView F) (d e : DrawerView) (events : List (List Event)) (counts : List ℕ) (dones : List Done)
+    ensures numbers { (old new : NodeView F) (d e : DrawerView) (events : List (List Event)) (counts : List ℕ)
+        (dones : List Done)
         → WasPhase old new d e events counts dones → HadMemory dones → length events ≤ length counts
         → (k : ℕ) → NumbersPart counts (part_of old new dones) dones k }
 {}

@@ -40,7 +40,8 @@ pub fn run_phase<M: Machine, F: Bench, G: Gate, R: Threads + Wait + Sync>(
     requires events { All (λ v. AreEvents node.machine.elements v.items) plan.now }
     ensures which { drawer.new.which ≡ drawer.old.which }
     ensures origin { IfOk result (λ r. origin_of F.chip r.0 ≡ origin_of F.chip node) }
-    ensures was { IfOk result (λ r. WasPhase node r.0 drawer.old drawer.new (map (λ v. v.items) plan.now) counts.now r.1.items) }
+    ensures was { IfOk result
+        (λ r. WasPhase node r.0 drawer.old drawer.new (map (λ v. v.items) plan.now) counts.now r.1.items) }
 {
     // It does nothing when it runs: the proof uses what it says.
     node.known();

@@ -51,7 +51,9 @@ pub fn work_all<M: Machine, F: Bench, G: Gate, R: Threads + Wait + Sync>(
     requires events { All (λ v. AreEvents turn.now.first.machine.elements v.items) plan.now }
     ensures riders { All (IsRider n.now turn.now) bearers.new }
     ensures count { length bearers.new ≡ length bearers.old }
-    ensures worked { (k : ℕ) (p : _) (b : _) → k < length bearers.old → Worked k (slice_index_or plan.now k p).items (slice_index_or bearers.old k b) (slice_index_or bearers.new k b) }
+    ensures worked { (k : ℕ) (p : _) (b : _) → k < length bearers.old
+        → Worked k (slice_index_or plan.now k p).items (slice_index_or bearers.old k b)
+        (slice_index_or bearers.new k b) }
 {
     thread::for_each_mut(
         rt,

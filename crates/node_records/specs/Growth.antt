@@ -18,4 +18,5 @@ passes_pushed here rows = length rows == 32 && not (list_any here rows)
 -- A list of 32 rows grows by op 1 where this row isn't there, and by op 4 where all rows are of other models, since those of the model go
 -- before the new one comes. `own` tells those of the model.
 abbrev pub passes_list : {A : Type 0} → (A → Bool) → (A → Bool) → ℕ → List A → Bool
-passes_list here own op rows = (op == 1 && passes_pushed here rows) || (op == 4 && count_by (λ row. not (own row)) rows == 32)
+passes_list here own op rows =
+    (op == 1 && passes_pushed here rows) || (op == 4 && count_by (λ row. not (own row)) rows == 32)

@@ -7,5 +7,6 @@ use Rattle.store_definitions.specs.Config.{finished_net}
 abbrev pub net_after : ℕ → ℕ → List ℕ → NetKeyRow → NetKeyRow
 net_after op index key r =
     if r.index == index then
-    (if op == 2 then record r { phase = 1; next = Some key } else if op == 3 then record r { phase = 2 } else finished_net r)
+    (if op == 2 then record r { phase = 1; next = Some key } else if op == 3 then record r { phase = 2 }
+    else finished_net r)
     else r

@@ -11,12 +11,14 @@ use Rattle.node_records.specs.Tables.{config_in, pair_of, IsApart}
 -- The rows of the replay list after one name more: still one row a source, and every source has the entry that the name leaves it.
 pub record KeepsName (current : ℕ) (old new : List Name) (name : Name) : Type 0 where
   pub apart : IsApart new
-  pub entries : (src : ℕ) → unexpired current (pair_of new src) ≡ unexpired current (kept_with src (pair_of old src) name)
+  pub entries : (src : ℕ)
+      → unexpired current (pair_of new src) ≡ unexpired current (kept_with src (pair_of old src) name)
 
 -- The same of a record.
 pub record KeepsEntries (current : ℕ) (old new : List Name) (item : StoreRecord) : Type 0 where
   pub apart : IsApart new
-  pub entries : (src : ℕ) → unexpired current (pair_of new src) ≡ unexpired current (kept_after src (pair_of old src) item)
+  pub entries : (src : ℕ)
+      → unexpired current (pair_of new src) ≡ unexpired current (kept_after src (pair_of old src) item)
 
 -- a value after a record
 pub record IsStep (old : Persist) (item : StoreRecord) (new : Persist) : Type 0 where

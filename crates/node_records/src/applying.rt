@@ -206,12 +206,16 @@ impl Persist {
     pub fn apply(&mut self, item: &StoreRecord) -> Result<(), Limit>
         requires in_range { IsInRange item.now }
         requires current { DoesNotFall self.old item.now }
-        ensures ok { OnOk result ((records : List StoreRecord) → IsMeaningOf records self.old → IsMeaningOf (records ++ item.now ∷ []) self.new) }
+        ensures ok { OnOk result
+            ((records : List StoreRecord) → IsMeaningOf records self.old
+            → IsMeaningOf (records ++ item.now ∷ []) self.new) }
         ensures change { OnOk result (config_in self.new ≡ changed (config_in self.old) item.now) }
         ensures limit { IsErr result ↔ IsFull self.old item.now }
         ensures held { IfErr result (λ e. e.held ≡ held_for self.old item.now) }
-        ensures passes { (records : List StoreRecord) → IsMeaningOf records self.old → IsErr result ↔ PassesLimit records item.now }
-        ensures others { (records : List StoreRecord) → IsMeaningOf records self.old → IfErr result (λ e. IsHeldByOthers records item.now e.held) }
+        ensures passes { (records : List StoreRecord) → IsMeaningOf records self.old
+            → IsErr result ↔ PassesLimit records item.now }
+        ensures others { (records : List StoreRecord) → IsMeaningOf records self.old
+            → IfErr result (λ e. IsHeldByOthers records item.now e.held) }
         ensures said { IsSaid self.old → IsSaid self.new }
         ensures unchanged { OnErr result (self.new ≡ self.old) }
     {

@@ -18,7 +18,8 @@ ghost use Rattle.node_records.specs.Meaning.{IsMeaningOf, IsSaid};
 pub fn numbers_law()
     ensures current { (records : List StoreRecord) → All IsInRange records → (config_of records).iv.current < 2 ^ 32 }
     ensures transmit { (records : List StoreRecord) → All IsInRange records → HasTransmit (config_of records).iv }
-    ensures mark { (records : List StoreRecord) → All IsInRange records → IsMark (config_of records).iv (config_of records).mark }
+    ensures mark { (records : List StoreRecord) → All IsInRange records
+        → IsMark (config_of records).iv (config_of records).mark }
     ensures hours { (records : List StoreRecord) → All IsInRange records → (config_of records).iv.hours < 2 ^ 16 }
     ensures since { (records : List StoreRecord) → All IsInRange records → (config_of records).iv.since < 2 ^ 16 }
 {}

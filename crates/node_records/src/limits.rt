@@ -31,8 +31,10 @@ impl Persist {
     pub fn check(&self, item: &StoreRecord) -> Result<(), Limit>
         ensures limit { IsErr result ↔ IsFull self.now item.now }
         ensures held { IfErr result (λ e. e.held ≡ held_for self.now item.now) }
-        ensures passes { (records : List StoreRecord) → IsMeaningOf records self.now → IsErr result ↔ PassesLimit records item.now }
-        ensures others { (records : List StoreRecord) → IsMeaningOf records self.now → IfErr result (λ e. IsHeldByOthers records item.now e.held) }
+        ensures passes { (records : List StoreRecord) → IsMeaningOf records self.now
+            → IsErr result ↔ PassesLimit records item.now }
+        ensures others { (records : List StoreRecord) → IsMeaningOf records self.now
+            → IfErr result (λ e. IsHeldByOthers records item.now e.held) }
     {
         has_few_rows(&self.replay);
         self.check_table(item)
@@ -178,7 +180,8 @@ fn passes_subs(
     model: u16,
     address: Address,
 ) -> bool
-    ensures { result ≡ table.passes_list (is_sub element model address) (λ s. s.0.0 == element.0 && s.1 == model) op rows.now }
+    ensures { result
+        ≡ table.passes_list (is_sub element model address) (λ s. s.0.0 == element.0 && s.1 == model) op rows.now }
 {
     (op == 1 && rows.len() == SUBS && !has_sub(rows, element, model, address))
         || (op == 4 && count_other_subs(rows, element, model) == SUBS)
@@ -216,7 +219,8 @@ fn passes_labels(
     model: u16,
     label: &[u8; 16],
 ) -> bool
-    ensures { result ≡ table.passes_list (is_label element model label.now) (λ l. l.0.0 == element.0 && l.1 == model) op rows.now }
+    ensures { result
+        ≡ table.passes_list (is_label element model label.now) (λ l. l.0.0 == element.0 && l.1 == model) op rows.now }
 {
     (op == 1 && rows.len() == LABELS && !has_label(rows, element, model, label))
         || (op == 4 && count_other_labels(rows, element, model) == LABELS)

@@ -124,7 +124,8 @@ impl Persist {
     /// The entry of a source in the replay list: the greatest pair accepted from it, unless it is expired under the known IV Index.
     pub fn entry(&self, src: Address) -> Option<Pair>
         ensures value { result ≡ entry_in self.now src.0 }
-        ensures records { (records : List StoreRecord) → IsMeaningOf records self.now → result ≡ entry_of records src.0 }
+        ensures records { (records : List StoreRecord) → IsMeaningOf records self.now
+            → result ≡ entry_of records src.0 }
     {
         entry_among(self.replay.as_slice(), self.iv.current, src.0)
     }

@@ -38,9 +38,11 @@ fn is_old(current: u32, pair: &Pair) -> bool
 
 /// The place of a source's row.
 fn row_of(rows: &[Name], src: u16) -> Option<usize>
-    ensures some { IfSome result (λ i. (i < length rows.now) × ((d : Name) → (slice_index_or rows.now i d).src.0 ≡ src)) }
+    ensures some { IfSome result
+        (λ i. (i < length rows.now) × ((d : Name) → (slice_index_or rows.now i d).src.0 ≡ src)) }
     ensures first { IfSome result (λ i. (k : ℕ) (d : Name) → k < i → (slice_index_or rows.now k d).src.0 ≡ src → ⊥) }
-    ensures none { IfNone result ((k : ℕ) (d : Name) → k < length rows.now → (slice_index_or rows.now k d).src.0 ≡ src → ⊥) }
+    ensures none { IfNone result
+        ((k : ℕ) (d : Name) → k < length rows.now → (slice_index_or rows.now k d).src.0 ≡ src → ⊥) }
 {
     for (place, row) in rows.iter().enumerate() {
         if row.src.0 == src {
@@ -73,8 +75,10 @@ pub(crate) fn entry_among(rows: &[Name], current: u32, src: u16) -> Option<Pair>
 
 /// The place of the first row that is expired.
 fn first_expired(rows: &[Name], current: u32) -> Option<usize>
-    ensures some { IfSome result (λ i. (i < length rows.now) × ((d : Name) → is_expired current (slice_index_or rows.now i d).pair ≡ true)) }
-    ensures none { IfNone result ((k : ℕ) (d : Name) → k < length rows.now → is_expired current (slice_index_or rows.now k d).pair ≡ false) }
+    ensures some { IfSome result
+        (λ i. (i < length rows.now) × ((d : Name) → is_expired current (slice_index_or rows.now i d).pair ≡ true)) }
+    ensures none { IfNone result
+        ((k : ℕ) (d : Name) → k < length rows.now → is_expired current (slice_index_or rows.now k d).pair ≡ false) }
 {
     for (place, row) in rows.iter().enumerate() {
         if is_old(current, &row.pair) {
@@ -98,7 +102,8 @@ fn raise(rows: &mut Table<Name, REPLAY>, current: u32, place: usize, name: &Name
 /// Puts the name of a source without a row behind the others, or in the place of the first that is expired where 512 are held.
 fn add_row(rows: &mut Table<Name, REPLAY>, current: u32, name: &Name)
     requires none { pair_of rows.old name.now.src.0 ≡ None }
-    ensures { IsApart rows.old → (LacksPlace (live_of current rows.old) name.now → ⊥) → KeepsName current rows.old rows.new name.now }
+    ensures { IsApart rows.old → (LacksPlace (live_of current rows.old) name.now → ⊥)
+        → KeepsName current rows.old rows.new name.now }
 {
     has_few_rows(rows);
     match rows.push(*name) {
@@ -114,7 +119,8 @@ fn add_row(rows: &mut Table<Name, REPLAY>, current: u32, name: &Name)
 
 /// The replay list with one name more, if there is a place for it.
 fn apply_name(rows: &mut Table<Name, REPLAY>, current: u32, name: &Name)
-    ensures { IsApart rows.old → (LacksPlace (live_of current rows.old) name.now → ⊥) → KeepsName current rows.old rows.new name.now }
+    ensures { IsApart rows.old → (LacksPlace (live_of current rows.old) name.now → ⊥)
+        → KeepsName current rows.old rows.new name.now }
 {
     match row_of(rows.as_slice(), name.src.0) {
         Some(place) => raise(rows, current, place, name),
@@ -130,7 +136,8 @@ pub(crate) fn apply_to_replay(
     second: &Option<Name>,
 )
     requires first { LacksPlace (live_of current rows.old) first.now → ⊥ }
-    requires second { IfSome second.now (λ name. LacksPlace (live_with current (live_of current rows.old) first.now) name → ⊥) }
+    requires second { IfSome second.now
+        (λ name. LacksPlace (live_with current (live_of current rows.old) first.now) name → ⊥) }
     ensures { IsApart rows.old → KeepsEntries current rows.old rows.new (R.Replay first.now second.now) }
 {
     apply_name(rows, current, first);

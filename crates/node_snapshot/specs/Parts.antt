@@ -47,7 +47,8 @@ feature_record which first value = if value == first then [] else R.Feature whic
 
 abbrev pub feature_records : ℕ → ℕ → ℕ → ℕ → ℕ → ℕ → List StoreRecord
 feature_records beacon ttl friend relay retransmit transmit =
-    feature_record 1 0 beacon ++ feature_record 2 7 ttl ++ feature_record 3 1 friend ++ feature_record 4 256 (relay * 256 + retransmit)
+    feature_record 1 0 beacon ++ feature_record 2 7 ttl ++ feature_record 3 1 friend
+    ++ feature_record 4 256 (relay * 256 + retransmit)
     ++ feature_record 5 0 transmit
 
 -- the value that a model keeps, where it isn't 0
@@ -56,7 +57,8 @@ model_record model element value = if value == 0 then [] else R.Model element mo
 
 -- of the element at a place, by model
 abbrev pub element_records : List ℕ → List ℕ → ℕ → List StoreRecord
-element_records onoffs levels element = model_record 0x1000 element (slice_index onoffs element) ++ model_record 0x1002 element (slice_index levels element)
+element_records onoffs levels element =
+    model_record 0x1000 element (slice_index onoffs element) ++ model_record 0x1002 element (slice_index levels element)
 
 abbrev pub model_records : List ℕ → List ℕ → List StoreRecord
 model_records onoffs levels = flat_map (element_records onoffs levels) (range_with_len 0 4)

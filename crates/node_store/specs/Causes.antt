@@ -46,7 +46,8 @@ IsReadCause old new journal _ = ⊥
 abbrev pub IsSlotCause : Chip → Chip → JournalView → ℕ → Persist → StoreFault → Type 0
 IsSlotCause old new journal n p F.Flash = old.faults < new.faults
 IsSlotCause old new journal n p (F.Damaged m) =
-    IsTrue old.honest → (k : ℕ) → n ≡ k + 1 → AreSaid old.now journal.bank journal.version k p → IsDamaged old.now journal.bank journal.version m
+    IsTrue old.honest → (k : ℕ) → n ≡ k + 1 → AreSaid old.now journal.bank journal.version k p
+    → IsDamaged old.now journal.bank journal.version m
 IsSlotCause old new journal n p _ = ⊥
 
 abbrev pub IsNotFlash : StoreFault → Type 0

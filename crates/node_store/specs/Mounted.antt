@@ -31,7 +31,8 @@ pub record IsDamaged (content : List ℕ) (bank format n : ℕ) : Type 0 where
   pub read : AreRead format (slots_to content bank before) records
   pub slot : Slot
   pub gate : gated (text_at content (1024 * bank + n)) ≡ Some slot
-  pub none : (item : StoreRecord) → IsInRange item → record_text item ≡ slot → IsOfFormat format item → Follows records item → ⊥
+  pub none : (item : StoreRecord) → IsInRange item → record_text item ≡ slot → IsOfFormat format item
+      → Follows records item → ⊥
 
 -- An image recovers these records, and each may follow those before it.
 pub record IsRead (content : List ℕ) (records : List StoreRecord) : Type 0 where
@@ -67,9 +68,11 @@ pub record IsTaken (format : ℕ) (old : Persist) (slot : Slot) (new : Persist) 
   pub range : IsInRange item
   pub text : record_text item ≡ slot
   pub names : IsOfFormat format item
-  pub follows : (records : List StoreRecord) → IsMeaningOf records old → Follows records item × IsMeaningOf (records ++ item ∷ []) new
+  pub follows : (records : List StoreRecord) → IsMeaningOf records old
+      → Follows records item × IsMeaningOf (records ++ item ∷ []) new
 
 -- no record that may follow those that are said has this text
 abbrev pub IsRefused : ℕ → Persist → Slot → Type 0
 IsRefused format p slot = (records : List StoreRecord) → IsMeaningOf records p
-    → (item : StoreRecord) → IsInRange item → record_text item ≡ slot → IsOfFormat format item → Follows records item → ⊥
+    → (item : StoreRecord) → IsInRange item → record_text item ≡ slot → IsOfFormat format item → Follows records item
+    → ⊥

@@ -18,4 +18,5 @@ pub record IsAfter (old : Persist) (item : StoreRecord) (new : Persist) : Type 0
 -- Each record may be put behind those before it: it is in range, lowers neither the known IV Index nor the mark, and its table has a place.
 abbrev pub MayPut : Persist → List StoreRecord → Type 0
 MayPut p [] = ⊤
-MayPut p (item ∷ items) = IsInRange item × IsNotBelow p item × (IsFull p item → ⊥) × ((q : Persist) → IsAfter p item q → MayPut q items)
+MayPut p (item ∷ items) =
+    IsInRange item × IsNotBelow p item × (IsFull p item → ⊥) × ((q : Persist) → IsAfter p item q → MayPut q items)

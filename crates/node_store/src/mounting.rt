@@ -88,26 +88,40 @@ impl Store {
     /// what any call on a journal or a store leaves of an erased flash is tidy.
     pub fn mount<F: Flash>(flash: &mut F) -> Result<Self, StoreFault>
         ensures cause { IfErr result (IsStoreCause (F.chip flash.old) (F.chip flash.new)) }
-        ensures exact { IsTrue (F.chip flash.old).honest → (fault : StoreFault) → IsFoundAs (F.chip flash.old).now fault → (result ≡ Err StoreFault.Flash) ⊎ (result ≡ Err fault) }
-        ensures mounted { IsTrue (F.chip flash.old).honest → IfOk result (λ s. IsMounted (F.chip flash.old).now s.persist) }
-        ensures unchanged { IsTrue (F.chip flash.old).honest → IfErr result (λ e. IsNotFlash e → Stays (F.chip flash.old) (F.chip flash.new)) }
-        ensures stays { IsTrue (F.chip flash.old).honest → ¬ HasFormat 1 (F.chip flash.old).now → Stays (F.chip flash.old) (F.chip flash.new) }
+        ensures exact { IsTrue (F.chip flash.old).honest → (fault : StoreFault) → IsFoundAs (F.chip flash.old).now fault
+            → (result ≡ Err StoreFault.Flash) ⊎ (result ≡ Err fault) }
+        ensures mounted { IsTrue (F.chip flash.old).honest
+            → IfOk result (λ s. IsMounted (F.chip flash.old).now s.persist) }
+        ensures unchanged { IsTrue (F.chip flash.old).honest
+            → IfErr result (λ e. IsNotFlash e → Stays (F.chip flash.old) (F.chip flash.new)) }
+        ensures stays { IsTrue (F.chip flash.old).honest → ¬ HasFormat 1 (F.chip flash.old).now
+            → Stays (F.chip flash.old) (F.chip flash.new) }
 
         // Of a flash that holds records.
-        ensures kept { IsFresh (F.chip flash.old) → IsTidy (F.chip flash.old).now → (records : List StoreRecord) → Holds (F.chip flash.old).now records → IfOk result (λ s. IsStoreOf (F.chip flash.new) s records) }
-        ensures any_moment { IsFresh (F.chip flash.old) → IsTidy (F.chip flash.old).now → (records : List StoreRecord) → Holds (F.chip flash.old).now records → LeavesOnly (F.chip flash.old) (F.chip flash.new) (IsHeld records) }
-        ensures same_mark { IsFresh (F.chip flash.old) → IsTidy (F.chip flash.old).now → (records : List StoreRecord) → Holds (F.chip flash.old).now records → LeavesOnly (F.chip flash.old) (F.chip flash.new) (HasMark (config_of records).mark) }
+        ensures kept { IsFresh (F.chip flash.old) → IsTidy (F.chip flash.old).now → (records : List StoreRecord)
+            → Holds (F.chip flash.old).now records → IfOk result (λ s. IsStoreOf (F.chip flash.new) s records) }
+        ensures any_moment { IsFresh (F.chip flash.old) → IsTidy (F.chip flash.old).now → (records : List StoreRecord)
+            → Holds (F.chip flash.old).now records → LeavesOnly (F.chip flash.old) (F.chip flash.new) (IsHeld records) }
+        ensures same_mark { IsFresh (F.chip flash.old) → IsTidy (F.chip flash.old).now → (records : List StoreRecord)
+            → Holds (F.chip flash.old).now records
+            → LeavesOnly (F.chip flash.old) (F.chip flash.new) (HasMark (config_of records).mark) }
 
         // over a steady flash: the program and erase calls of a compaction where the bank has format 01, and else none
-        ensures calls { IsTrue (F.chip flash.old).steady → IsTrue (F.chip flash.old).honest → HasFormat 1 (F.chip flash.old).now → IfOk result (λ s. Begins (compaction s.persist) (F.chip flash.old) (F.chip flash.new)) }
+        ensures calls { IsTrue (F.chip flash.old).steady → IsTrue (F.chip flash.old).honest
+            → HasFormat 1 (F.chip flash.old).now
+            → IfOk result (λ s. Begins (compaction s.persist) (F.chip flash.old) (F.chip flash.new)) }
         ensures most_calls { IsTrue (F.chip flash.old).steady → BeginsAtMost 818 (F.chip flash.old) (F.chip flash.new) }
-        ensures no_calls { IsTrue (F.chip flash.old).steady → IsTrue (F.chip flash.old).honest → ¬ HasFormat 1 (F.chip flash.old).now → (F.chip flash.new).changes ≡ (F.chip flash.old).changes }
+        ensures no_calls { IsTrue (F.chip flash.old).steady → IsTrue (F.chip flash.old).honest
+            → ¬ HasFormat 1 (F.chip flash.old).now → (F.chip flash.new).changes ≡ (F.chip flash.old).changes }
 
         // of every flash, honest or not
         ensures usable { IfOk result (λ s. s.journal.closed ≡ false) }
         ensures format { IfOk result (λ s. s.journal.version ≡ 2) }
         ensures no_fault { OnOk result ((F.chip flash.new).faults ≡ (F.chip flash.old).faults) }
-        ensures refused { IfErr result (λ e. IsNotFlash e → ((F.chip flash.new).faults ≡ (F.chip flash.old).faults) × (IsTrue (F.chip flash.old).steady → (F.chip flash.new).changes ≡ (F.chip flash.old).changes)) }
+        ensures refused { IfErr result
+            (λ e. IsNotFlash e
+            → ((F.chip flash.new).faults ≡ (F.chip flash.old).faults)
+            × (IsTrue (F.chip flash.old).steady → (F.chip flash.new).changes ≡ (F.chip flash.old).changes)) }
         ensures sure { IsTrue (F.chip flash.old).sure → IfErr result IsNotFlash }
         ensures frame { Keeps (F.chip flash.old) (F.chip flash.new) }
     {
@@ -131,10 +145,15 @@ fn migrated<F: Flash>(
     requires usable { journal.closed ≡ false }
     ensures format { IfOk result (λ j. j.version ≡ 2) }
     ensures usable { IfOk result (λ j. j.closed ≡ false) }
-    ensures kept { (found : List StoreRecord) → IsExactly (F.chip flash.old) (record { journal = journal; persist = persist.now }) found → IfOk result (λ j. IsStoreOf (F.chip flash.new) (record { journal = j; persist = persist.now }) found) }
-    ensures any_moment { (found : List StoreRecord) → IsExactly (F.chip flash.old) (record { journal = journal; persist = persist.now }) found → LeavesOnly (F.chip flash.old) (F.chip flash.new) (IsHeld found) }
+    ensures kept { (found : List StoreRecord)
+        → IsExactly (F.chip flash.old) (record { journal = journal; persist = persist.now }) found
+        → IfOk result (λ j. IsStoreOf (F.chip flash.new) (record { journal = j; persist = persist.now }) found) }
+    ensures any_moment { (found : List StoreRecord)
+        → IsExactly (F.chip flash.old) (record { journal = journal; persist = persist.now }) found
+        → LeavesOnly (F.chip flash.old) (F.chip flash.new) (IsHeld found) }
     ensures same { ¬ journal.version ≡ 1 → flash.new ≡ flash.old }
-    ensures calls { IsTrue (F.chip flash.old).steady → journal.version ≡ 1 → OnOk result (Begins (compaction persist.now) (F.chip flash.old) (F.chip flash.new)) }
+    ensures calls { IsTrue (F.chip flash.old).steady → journal.version ≡ 1
+        → OnOk result (Begins (compaction persist.now) (F.chip flash.old) (F.chip flash.new)) }
     ensures most_calls { IsTrue (F.chip flash.old).steady → BeginsAtMost 818 (F.chip flash.old) (F.chip flash.new) }
     ensures no_fault { OnOk result ((F.chip flash.new).faults ≡ (F.chip flash.old).faults) }
     ensures cause { OnErr result ((F.chip flash.old).faults < (F.chip flash.new).faults) }
@@ -152,7 +171,8 @@ fn migrated<F: Flash>(
 /// What the records of the gated slots of a journal say, up to its last used slot.
 fn read_records<F: Flash>(journal: &Journal, flash: &mut F) -> Result<Persist, StoreFault>
     ensures cause { IfErr result (IsReadCause (F.chip flash.old) (F.chip flash.new) journal.now) }
-    ensures value { IsTrue (F.chip flash.old).honest → IfOk result (AreSaid (F.chip flash.old).now journal.now.bank journal.now.version journal.now.used) }
+    ensures value { IsTrue (F.chip flash.old).honest
+        → IfOk result (AreSaid (F.chip flash.old).now journal.now.bank journal.now.version journal.now.used) }
     ensures said { IfOk result IsSaid }
     ensures stays { IsTrue (F.chip flash.old).honest → Stays (F.chip flash.old) (F.chip flash.new) }
     ensures calls { IsTrue (F.chip flash.old).steady → (F.chip flash.new).changes ≡ (F.chip flash.old).changes }
@@ -179,7 +199,9 @@ fn read_slot<F: Flash>(
     requires within { n ≤ journal.now.used }
     requires few { journal.now.used ≤ 1023 }
     ensures cause { IfErr result (IsSlotCause (F.chip flash.old) (F.chip flash.new) journal.now n persist.old) }
-    ensures value { IsTrue (F.chip flash.old).honest → (k : ℕ) → n ≡ k + 1 → AreSaid (F.chip flash.old).now journal.now.bank journal.now.version k persist.old → OnOk result (AreSaid (F.chip flash.old).now journal.now.bank journal.now.version n persist.new) }
+    ensures value { IsTrue (F.chip flash.old).honest → (k : ℕ) → n ≡ k + 1
+        → AreSaid (F.chip flash.old).now journal.now.bank journal.now.version k persist.old
+        → OnOk result (AreSaid (F.chip flash.old).now journal.now.bank journal.now.version n persist.new) }
     ensures said { IsSaid persist.old → IsSaid persist.new }
     ensures stays { IsTrue (F.chip flash.old).honest → Stays (F.chip flash.old) (F.chip flash.new) }
     ensures calls { IsTrue (F.chip flash.old).steady → (F.chip flash.new).changes ≡ (F.chip flash.old).changes }

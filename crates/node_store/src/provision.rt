@@ -66,15 +66,24 @@ impl Store {
         requires { IsProvision p.now }
         ensures cause { IfErr result (IsFormatCause (F.chip flash.old) (F.chip flash.new)) }
         ensures erased { IsTrue (F.chip flash.old).honest → OnOk result (IsErased (F.chip flash.old).now) }
-        ensures unchanged { IsTrue (F.chip flash.old).honest → ¬ IsErased (F.chip flash.old).now → Stays (F.chip flash.old) (F.chip flash.new) }
-        ensures value { IfOk result (λ s. (s.journal ≡ record { bank = 0; used = 3; closed = false; generation = 1; version = 2 }) × IsMeaningOf (provisioned (provisioning p.now)) s.persist) }
-        ensures exactly { IsFresh (F.chip flash.old) → IfOk result (λ s. IsExactly (F.chip flash.new) s (provisioned (provisioning p.now))) }
-        ensures kept { IsFresh (F.chip flash.old) → IfOk result (λ s. IsStoreOf (F.chip flash.new) s (provisioned (provisioning p.now))) }
-        ensures durable { IsFresh (F.chip flash.old) → OnOk result ((c : List ℕ) → (F.chip flash.new).images c → IsRecovered c (provisioned (provisioning p.now))) }
-        ensures any_moment { IsFresh (F.chip flash.old) → IsErased (F.chip flash.old).now → LeavesOnly (F.chip flash.old) (F.chip flash.new) (IsMade (provisioned (provisioning p.now))) }
+        ensures unchanged { IsTrue (F.chip flash.old).honest → ¬ IsErased (F.chip flash.old).now
+            → Stays (F.chip flash.old) (F.chip flash.new) }
+        ensures value { IfOk result
+            (λ s. (s.journal ≡ record { bank = 0; used = 3; closed = false; generation = 1; version = 2 })
+            × IsMeaningOf (provisioned (provisioning p.now)) s.persist) }
+        ensures exactly { IsFresh (F.chip flash.old)
+            → IfOk result (λ s. IsExactly (F.chip flash.new) s (provisioned (provisioning p.now))) }
+        ensures kept { IsFresh (F.chip flash.old)
+            → IfOk result (λ s. IsStoreOf (F.chip flash.new) s (provisioned (provisioning p.now))) }
+        ensures durable { IsFresh (F.chip flash.old)
+            → OnOk result
+            ((c : List ℕ) → (F.chip flash.new).images c → IsRecovered c (provisioned (provisioning p.now))) }
+        ensures any_moment { IsFresh (F.chip flash.old) → IsErased (F.chip flash.old).now
+            → LeavesOnly (F.chip flash.old) (F.chip flash.new) (IsMade (provisioned (provisioning p.now))) }
 
         // over a steady flash: two program calls for each record and two for the header, and at most these where it fails
-        ensures calls { IsTrue (F.chip flash.old).steady → OnOk result (Begins 8 (F.chip flash.old) (F.chip flash.new)) }
+        ensures calls { IsTrue (F.chip flash.old).steady
+            → OnOk result (Begins 8 (F.chip flash.old) (F.chip flash.new)) }
         ensures most_calls { IsTrue (F.chip flash.old).steady → BeginsAtMost 8 (F.chip flash.old) (F.chip flash.new) }
 
         // of every flash, honest or not
@@ -98,13 +107,18 @@ impl Store {
         requires { IsProvision p.now }
         ensures cause { IfErr result (IsFormatCause (F.chip flash.old) (F.chip flash.new)) }
         ensures erased { IsTrue (F.chip flash.old).honest → OnOk result (IsErased (F.chip flash.old).now) }
-        ensures unchanged { IsTrue (F.chip flash.old).honest → ¬ IsErased (F.chip flash.old).now → Stays (F.chip flash.old) (F.chip flash.new) }
+        ensures unchanged { IsTrue (F.chip flash.old).honest → ¬ IsErased (F.chip flash.old).now
+            → Stays (F.chip flash.old) (F.chip flash.new) }
         ensures kept { IsFresh (F.chip flash.old) → OnOk result (IsFresh (F.chip flash.new)) }
-        ensures durable { IsFresh (F.chip flash.old) → OnOk result ((c : List ℕ) → (F.chip flash.new).images c → IsOldNode (provisioned (provisioning p.now)) c) }
-        ensures any_moment { IsFresh (F.chip flash.old) → IsErased (F.chip flash.old).now → LeavesOnly (F.chip flash.old) (F.chip flash.new) (IsMade (provisioned (provisioning p.now))) }
+        ensures durable { IsFresh (F.chip flash.old)
+            → OnOk result
+            ((c : List ℕ) → (F.chip flash.new).images c → IsOldNode (provisioned (provisioning p.now)) c) }
+        ensures any_moment { IsFresh (F.chip flash.old) → IsErased (F.chip flash.old).now
+            → LeavesOnly (F.chip flash.old) (F.chip flash.new) (IsMade (provisioned (provisioning p.now))) }
 
         // over a steady flash: as many calls as `provision` makes
-        ensures calls { IsTrue (F.chip flash.old).steady → OnOk result (Begins 8 (F.chip flash.old) (F.chip flash.new)) }
+        ensures calls { IsTrue (F.chip flash.old).steady
+            → OnOk result (Begins 8 (F.chip flash.old) (F.chip flash.new)) }
         ensures most_calls { IsTrue (F.chip flash.old).steady → BeginsAtMost 8 (F.chip flash.old) (F.chip flash.new) }
 
         // of every flash, honest or not
@@ -160,7 +174,8 @@ fn identity(p: &Provision) -> StoreRecord
 /// The IV state and the mark: the first pair under the transmit IV Index. IV Index Recovery is allowed at once.
 fn numbers(iv: u32, flags: u8) -> StoreRecord
     requires { HasTransmit (state_of iv flags) }
-    ensures value { result ≡ StoreRecord.Numbers iv (state_of iv flags).progress (transmit_of (state_of iv flags) * 2 ^ 25) 0 192 }
+    ensures value { result
+        ≡ StoreRecord.Numbers iv (state_of iv flags).progress (transmit_of (state_of iv flags) * 2 ^ 25) 0 192 }
     ensures range { IsInRange result }
 {
     let state = IvState {

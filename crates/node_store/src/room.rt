@@ -39,10 +39,16 @@ pub fn compact<F: Flash>(
     ensures format { OnOk result (journal.new.version ≡ 2) }
     ensures closed { OnErr result (journal.new ≡ record journal.old { closed = true }) }
     ensures cause { OnErr result ((F.chip flash.old).faults < (F.chip flash.new).faults) }
-    ensures kept { (found : List StoreRecord) → IsExactly (F.chip flash.old) (record { journal = journal.old; persist = persist.now }) found → OnOk result (IsStoreOf (F.chip flash.new) (record { journal = journal.new; persist = persist.now }) found) }
-    ensures any_moment { (found : List StoreRecord) → IsExactly (F.chip flash.old) (record { journal = journal.old; persist = persist.now }) found → LeavesOnly (F.chip flash.old) (F.chip flash.new) (IsHeld found) }
-    ensures calls { IsTrue (F.chip flash.old).steady → OnOk result (Begins (compaction persist.now) (F.chip flash.old) (F.chip flash.new)) }
-    ensures most_calls { IsTrue (F.chip flash.old).steady → BeginsAtMost (compaction persist.now) (F.chip flash.old) (F.chip flash.new) }
+    ensures kept { (found : List StoreRecord)
+        → IsExactly (F.chip flash.old) (record { journal = journal.old; persist = persist.now }) found
+        → OnOk result (IsStoreOf (F.chip flash.new) (record { journal = journal.new; persist = persist.now }) found) }
+    ensures any_moment { (found : List StoreRecord)
+        → IsExactly (F.chip flash.old) (record { journal = journal.old; persist = persist.now }) found
+        → LeavesOnly (F.chip flash.old) (F.chip flash.new) (IsHeld found) }
+    ensures calls { IsTrue (F.chip flash.old).steady
+        → OnOk result (Begins (compaction persist.now) (F.chip flash.old) (F.chip flash.new)) }
+    ensures most_calls { IsTrue (F.chip flash.old).steady
+        → BeginsAtMost (compaction persist.now) (F.chip flash.old) (F.chip flash.new) }
     ensures reads { (F.chip flash.new).reads ≡ (F.chip flash.old).reads }
     ensures no_fault { OnOk result ((F.chip flash.new).faults ≡ (F.chip flash.old).faults) }
     ensures sure { IsTrue (F.chip flash.old).sure → IsOk result }
@@ -65,10 +71,14 @@ impl Store {
         ensures room { OnOk result (self.new.journal.used < 1023) }
         ensures closed { OnErr result (self.new.journal.closed ≡ true) }
         ensures cause { OnErr result ((F.chip flash.old).faults < (F.chip flash.new).faults) }
-        ensures kept { (records : List StoreRecord) → IsStoreOf (F.chip flash.old) self.old records → OnOk result (IsStoreOf (F.chip flash.new) self.new records) }
-        ensures any_moment { (records : List StoreRecord) → IsStoreOf (F.chip flash.old) self.old records → LeavesOnly (F.chip flash.old) (F.chip flash.new) (IsHeld records) }
-        ensures calls { IsTrue (F.chip flash.old).steady → OnOk result (Begins (room_of self.old) (F.chip flash.old) (F.chip flash.new)) }
-        ensures most_calls { IsTrue (F.chip flash.old).steady → BeginsAtMost (room_of self.old) (F.chip flash.old) (F.chip flash.new) }
+        ensures kept { (records : List StoreRecord) → IsStoreOf (F.chip flash.old) self.old records
+            → OnOk result (IsStoreOf (F.chip flash.new) self.new records) }
+        ensures any_moment { (records : List StoreRecord) → IsStoreOf (F.chip flash.old) self.old records
+            → LeavesOnly (F.chip flash.old) (F.chip flash.new) (IsHeld records) }
+        ensures calls { IsTrue (F.chip flash.old).steady
+            → OnOk result (Begins (room_of self.old) (F.chip flash.old) (F.chip flash.new)) }
+        ensures most_calls { IsTrue (F.chip flash.old).steady
+            → BeginsAtMost (room_of self.old) (F.chip flash.old) (F.chip flash.new) }
         ensures bounded { room_of self.old ≤ 818 }
         ensures reads { (F.chip flash.new).reads ≡ (F.chip flash.old).reads }
         ensures no_fault { OnOk result ((F.chip flash.new).faults ≡ (F.chip flash.old).faults) }
@@ -98,10 +108,15 @@ impl Store {
         ensures closed { OnErr result (self.new.journal.closed ≡ true) }
         ensures cause { OnErr result ((F.chip flash.old).faults < (F.chip flash.new).faults) }
         ensures change { OnOk result (config_in self.new.persist ≡ changed (config_in self.old.persist) item.now) }
-        ensures value { OnOk result ((records : List StoreRecord) → IsMeaningOf records self.old.persist → IsMeaningOf (records ++ item.now ∷ []) self.new.persist) }
-        ensures kept { (records : List StoreRecord) → IsStoreOf (F.chip flash.old) self.old records → OnOk result (IsStoreOf (F.chip flash.new) self.new (records ++ item.now ∷ [])) }
-        ensures any_moment { (records : List StoreRecord) → IsStoreOf (F.chip flash.old) self.old records → LeavesOnly (F.chip flash.old) (F.chip flash.new) (IsPut records item.now) }
-        ensures calls { IsTrue (F.chip flash.old).steady → OnOk result (Begins 2 (F.chip flash.old) (F.chip flash.new)) }
+        ensures value { OnOk result
+            ((records : List StoreRecord) → IsMeaningOf records self.old.persist
+            → IsMeaningOf (records ++ item.now ∷ []) self.new.persist) }
+        ensures kept { (records : List StoreRecord) → IsStoreOf (F.chip flash.old) self.old records
+            → OnOk result (IsStoreOf (F.chip flash.new) self.new (records ++ item.now ∷ [])) }
+        ensures any_moment { (records : List StoreRecord) → IsStoreOf (F.chip flash.old) self.old records
+            → LeavesOnly (F.chip flash.old) (F.chip flash.new) (IsPut records item.now) }
+        ensures calls { IsTrue (F.chip flash.old).steady
+            → OnOk result (Begins 2 (F.chip flash.old) (F.chip flash.new)) }
         ensures most_calls { IsTrue (F.chip flash.old).steady → BeginsAtMost 2 (F.chip flash.old) (F.chip flash.new) }
         ensures reads { (F.chip flash.new).reads ≡ (F.chip flash.old).reads }
         ensures no_fault { OnOk result ((F.chip flash.new).faults ≡ (F.chip flash.old).faults) }

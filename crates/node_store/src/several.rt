@@ -25,23 +25,37 @@ impl Store {
     ) -> Result<(), PutFault>
         requires may { MayPut self.old.persist items.now }
 
-        ensures closed { self.old.journal.closed ≡ true → (result ≡ Err PutFault.Closed) × (self.new ≡ self.old) × (flash.new ≡ flash.old) }
-        ensures cause { self.old.journal.closed ≡ false → OnErr result ((result ≡ Err PutFault.Flash) × (self.new.journal.closed ≡ true) × ((F.chip flash.old).faults < (F.chip flash.new).faults)) }
+        ensures closed { self.old.journal.closed ≡ true
+            → (result ≡ Err PutFault.Closed) × (self.new ≡ self.old) × (flash.new ≡ flash.old) }
+        ensures cause { self.old.journal.closed ≡ false
+            → OnErr result
+            ((result ≡ Err PutFault.Flash) × (self.new.journal.closed ≡ true)
+            × ((F.chip flash.old).faults < (F.chip flash.new).faults)) }
         ensures usable { OnOk result (self.new.journal.closed ≡ false) }
-        ensures change { OnOk result (config_in self.new.persist ≡ fold changed (config_in self.old.persist) items.now) }
-        ensures value { OnOk result ((records : List StoreRecord) → IsMeaningOf records self.old.persist → IsMeaningOf (records ++ items.now) self.new.persist) }
+        ensures change { OnOk result
+            (config_in self.new.persist ≡ fold changed (config_in self.old.persist) items.now) }
+        ensures value { OnOk result
+            ((records : List StoreRecord) → IsMeaningOf records self.old.persist
+            → IsMeaningOf (records ++ items.now) self.new.persist) }
 
         // Of a store of this flash.
-        ensures kept { (records : List StoreRecord) → IsStoreOf (F.chip flash.old) self.old records → OnOk result (IsStoreOf (F.chip flash.new) self.new (records ++ items.now)) }
-        ensures durable { (records : List StoreRecord) → IsStoreOf (F.chip flash.old) self.old records → OnOk result ((c : List ℕ) → (F.chip flash.new).images c → Holds c (records ++ items.now)) }
-        ensures any_moment { (records : List StoreRecord) → IsStoreOf (F.chip flash.old) self.old records → LeavesOnly (F.chip flash.old) (F.chip flash.new) (IsFront records items.now) }
-        ensures mark { (records : List StoreRecord) → IsStoreOf (F.chip flash.old) self.old records → LeavesOnly (F.chip flash.old) (F.chip flash.new) (HasMarkFrom self.old.persist.mark) }
+        ensures kept { (records : List StoreRecord) → IsStoreOf (F.chip flash.old) self.old records
+            → OnOk result (IsStoreOf (F.chip flash.new) self.new (records ++ items.now)) }
+        ensures durable { (records : List StoreRecord) → IsStoreOf (F.chip flash.old) self.old records
+            → OnOk result ((c : List ℕ) → (F.chip flash.new).images c → Holds c (records ++ items.now)) }
+        ensures any_moment { (records : List StoreRecord) → IsStoreOf (F.chip flash.old) self.old records
+            → LeavesOnly (F.chip flash.old) (F.chip flash.new) (IsFront records items.now) }
+        ensures mark { (records : List StoreRecord) → IsStoreOf (F.chip flash.old) self.old records
+            → LeavesOnly (F.chip flash.old) (F.chip flash.new) (HasMarkFrom self.old.persist.mark) }
 
         // over a steady flash: two program calls for each record where there is room for all, and at most these where it fails; never more
         // than a compaction takes for each
-        ensures calls { IsTrue (F.chip flash.old).steady → self.old.journal.used + length items.now ≤ 1023 → OnOk result (Begins (2 * length items.now) (F.chip flash.old) (F.chip flash.new)) }
-        ensures most_calls { IsTrue (F.chip flash.old).steady → self.old.journal.used + length items.now ≤ 1023 → BeginsAtMost (2 * length items.now) (F.chip flash.old) (F.chip flash.new) }
-        ensures bounded { IsTrue (F.chip flash.old).steady → BeginsAtMost (820 * length items.now) (F.chip flash.old) (F.chip flash.new) }
+        ensures calls { IsTrue (F.chip flash.old).steady → self.old.journal.used + length items.now ≤ 1023
+            → OnOk result (Begins (2 * length items.now) (F.chip flash.old) (F.chip flash.new)) }
+        ensures most_calls { IsTrue (F.chip flash.old).steady → self.old.journal.used + length items.now ≤ 1023
+            → BeginsAtMost (2 * length items.now) (F.chip flash.old) (F.chip flash.new) }
+        ensures bounded { IsTrue (F.chip flash.old).steady
+            → BeginsAtMost (820 * length items.now) (F.chip flash.old) (F.chip flash.new) }
 
         // of every flash, honest or not
         ensures reads { (F.chip flash.new).reads ≡ (F.chip flash.old).reads }

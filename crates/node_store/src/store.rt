@@ -131,32 +131,48 @@ impl Store {
         requires range { IsInRange item.now }
         requires rises { IsNotBelow self.old.persist item.now }
 
-        ensures closed { self.old.journal.closed ≡ true → (result ≡ Err PutFault.Closed) × (self.new ≡ self.old) × (flash.new ≡ flash.old) }
-        ensures limit { self.old.journal.closed ≡ false → IsFull self.old.persist item.now → (result ≡ Err (PutFault.Limit (held_for self.old.persist item.now))) × (self.new ≡ self.old) × (flash.new ≡ flash.old) }
-        ensures cause { self.old.journal.closed ≡ false → ¬ IsFull self.old.persist item.now → OnErr result ((result ≡ Err PutFault.Flash) × (self.new.journal.closed ≡ true) × ((F.chip flash.old).faults < (F.chip flash.new).faults)) }
+        ensures closed { self.old.journal.closed ≡ true
+            → (result ≡ Err PutFault.Closed) × (self.new ≡ self.old) × (flash.new ≡ flash.old) }
+        ensures limit { self.old.journal.closed ≡ false → IsFull self.old.persist item.now
+            → (result ≡ Err (PutFault.Limit (held_for self.old.persist item.now))) × (self.new ≡ self.old)
+            × (flash.new ≡ flash.old) }
+        ensures cause { self.old.journal.closed ≡ false → ¬ IsFull self.old.persist item.now
+            → OnErr result
+            ((result ≡ Err PutFault.Flash) × (self.new.journal.closed ≡ true)
+            × ((F.chip flash.old).faults < (F.chip flash.new).faults)) }
         ensures refused { OnErr result (self.new.persist ≡ self.old.persist) }
         ensures said { IsSaid self.new.persist }
         ensures usable { OnOk result (self.new.journal.closed ≡ false) }
         ensures used { OnOk result (self.new.journal.used ≡ used_with_room self.old + 1) }
         ensures change { OnOk result (config_in self.new.persist ≡ changed (config_in self.old.persist) item.now) }
-        ensures value { OnOk result ((records : List StoreRecord) → IsMeaningOf records self.old.persist → IsMeaningOf (records ++ item.now ∷ []) self.new.persist) }
+        ensures value { OnOk result
+            ((records : List StoreRecord) → IsMeaningOf records self.old.persist
+            → IsMeaningOf (records ++ item.now ∷ []) self.new.persist) }
 
         // Of a store of this flash.
-        ensures kept { (records : List StoreRecord) → IsStoreOf (F.chip flash.old) self.old records → OnOk result (IsStoreOf (F.chip flash.new) self.new (records ++ item.now ∷ [])) }
-        ensures durable { (records : List StoreRecord) → IsStoreOf (F.chip flash.old) self.old records → OnOk result ((c : List ℕ) → (F.chip flash.new).images c → Holds c (records ++ item.now ∷ [])) }
-        ensures any_moment { (records : List StoreRecord) → IsStoreOf (F.chip flash.old) self.old records → LeavesOnly (F.chip flash.old) (F.chip flash.new) (IsPut records item.now) }
-        ensures mark { (records : List StoreRecord) → IsStoreOf (F.chip flash.old) self.old records → LeavesOnly (F.chip flash.old) (F.chip flash.new) (HasMarkFrom self.old.persist.mark) }
-        ensures same_mark { (records : List StoreRecord) → IsStoreOf (F.chip flash.old) self.old records → IsNoNumbers item.now → LeavesOnly (F.chip flash.old) (F.chip flash.new) (HasMark self.old.persist.mark) }
+        ensures kept { (records : List StoreRecord) → IsStoreOf (F.chip flash.old) self.old records
+            → OnOk result (IsStoreOf (F.chip flash.new) self.new (records ++ item.now ∷ [])) }
+        ensures durable { (records : List StoreRecord) → IsStoreOf (F.chip flash.old) self.old records
+            → OnOk result ((c : List ℕ) → (F.chip flash.new).images c → Holds c (records ++ item.now ∷ [])) }
+        ensures any_moment { (records : List StoreRecord) → IsStoreOf (F.chip flash.old) self.old records
+            → LeavesOnly (F.chip flash.old) (F.chip flash.new) (IsPut records item.now) }
+        ensures mark { (records : List StoreRecord) → IsStoreOf (F.chip flash.old) self.old records
+            → LeavesOnly (F.chip flash.old) (F.chip flash.new) (HasMarkFrom self.old.persist.mark) }
+        ensures same_mark { (records : List StoreRecord) → IsStoreOf (F.chip flash.old) self.old records
+            → IsNoNumbers item.now → LeavesOnly (F.chip flash.old) (F.chip flash.new) (HasMark self.old.persist.mark) }
 
         // over a steady flash: two program calls, behind those of a compaction where all slots are used, and at most these where it fails
-        ensures calls { IsTrue (F.chip flash.old).steady → OnOk result (Begins (calls_of self.old) (F.chip flash.old) (F.chip flash.new)) }
-        ensures most_calls { IsTrue (F.chip flash.old).steady → BeginsAtMost (calls_of self.old) (F.chip flash.old) (F.chip flash.new) }
+        ensures calls { IsTrue (F.chip flash.old).steady
+            → OnOk result (Begins (calls_of self.old) (F.chip flash.old) (F.chip flash.new)) }
+        ensures most_calls { IsTrue (F.chip flash.old).steady
+            → BeginsAtMost (calls_of self.old) (F.chip flash.old) (F.chip flash.new) }
         ensures bounded { IsTrue (F.chip flash.old).steady → BeginsAtMost 820 (F.chip flash.old) (F.chip flash.new) }
 
         // of every flash, honest or not
         ensures reads { (F.chip flash.new).reads ≡ (F.chip flash.old).reads }
         ensures no_fault { OnOk result ((F.chip flash.new).faults ≡ (F.chip flash.old).faults) }
-        ensures sure { IsTrue (F.chip flash.old).sure → self.old.journal.closed ≡ false → ¬ IsFull self.old.persist item.now → IsOk result }
+        ensures sure { IsTrue (F.chip flash.old).sure → self.old.journal.closed ≡ false
+            → ¬ IsFull self.old.persist item.now → IsOk result }
         ensures frame { Keeps (F.chip flash.old) (F.chip flash.new) }
     {
         if self.journal.is_closed() {

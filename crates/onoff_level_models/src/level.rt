@@ -42,7 +42,15 @@ fn level_above(level: i16, delta: i32) -> i16
 // The state with a change to this goal that is taken now; `first` is the level at which its transaction began.
 fn begun(s: &LevelState, now: u64, goal: Goal, timing: Timing, first: i16) -> LevelState
     requires { now ≤ 2 ^ 48 }
-    ensures { result ≡ record { start = level_present s.now now; goal = goal; taken = now; timing = timing; last = s.now.last; first = first } }
+    ensures { result
+        ≡ record {
+          start = level_present s.now now;
+          goal = goal;
+          taken = now;
+          timing = timing;
+          last = s.now.last;
+          first = first;
+        } }
 {
     LevelState {
         start: level_at(s, now),

@@ -43,7 +43,9 @@ fn four_at(body: &[u8; 30], place: usize) -> u32
 /// The number of three octets at a place.
 fn three_at(body: &[u8; 30], place: usize) -> u32
     requires { place ≤ 27 }
-    ensures { result ≡ slice_index body.now place * 65536 + (slice_index body.now (place + 1) * 256 + slice_index body.now (place + 1 + 1)) }
+    ensures { result
+        ≡ slice_index body.now place * 65536 +
+        (slice_index body.now (place + 1) * 256 + slice_index body.now (place + 1 + 1)) }
 {
     BigEndian::read_u24(&body[place..])
 }
@@ -287,7 +289,8 @@ fn is_of_format(item: &StoreRecord, format: u8) -> bool
 /// it has a second name and the format is 01.
 pub fn decode(slot: &Slot, format: u8) -> Result<StoreRecord, BadRecord>
     ensures ok { IfOk result (λ item. IsInRange item × (record_text item ≡ slot.now) × (format ≡ 1 → HasOneName item)) }
-    ensures bad { IsErr result ↔ ((item : StoreRecord) → IsInRange item → record_text item ≡ slot.now → (format ≡ 1 → HasOneName item) → ⊥) }
+    ensures bad { IsErr result
+        ↔ ((item : StoreRecord) → IsInRange item → record_text item ≡ slot.now → (format ≡ 1 → HasOneName item) → ⊥) }
 {
     let Some(item) = fields(slot) else {
         return Err(BadRecord)

@@ -49,7 +49,8 @@ pub record Shown : Type 0 where
 -- a line of a life with these entries
 abbrev pub shown_of : List Entry → Sent → Option Shown
 shown_of entries s =
-    option_and_then (λ e. option_map (λ j. record { entry = e; job = j; outcome = s.outcome }) (slice_get e.jobs s.job)) (slice_get entries s.entry)
+    option_and_then (λ e. option_map (λ j. record { entry = e; job = j; outcome = s.outcome }) (slice_get e.jobs s.job))
+    (slice_get entries s.entry)
 
 -- the lines of a bearer in order
 abbrev pub shown_by : Life → ℕ → List Shown

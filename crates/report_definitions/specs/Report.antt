@@ -114,9 +114,11 @@ answer_text (A.Waiting missing) = codes " waiting " ++ decimal missing
 answer_text A.NoKey = codes " nokey"
 answer_text (A.ListFull held) = codes " listfull " ++ decimal held
 answer_text (A.Delivered name dst key payload) =
-    codes " delivered" ++ address_text name.src ++ address_text dst ++ pair_text name.pair ++ key_text key ++ octets_text payload
+    codes " delivered" ++ address_text name.src ++ address_text dst ++ pair_text name.pair ++ key_text key
+    ++ octets_text payload
 answer_text (A.Control name dst opcode params) =
-    codes " control" ++ address_text name.src ++ address_text dst ++ pair_text name.pair ++ word_text (hex_digits 2 opcode) ++ params_text params
+    codes " control" ++ address_text name.src ++ address_text dst ++ pair_text name.pair
+    ++ word_text (hex_digits 2 opcode) ++ params_text params
 answer_text (A.Beacon index key iv) = codes " beacon " ++ hex_digits 3 index ++ key_step_text key ++ iv_step_text iv
 answer_text A.Planned = codes " planned"
 answer_text (A.NoAppKey index) = codes " noappkey " ++ hex_digits 3 index
@@ -146,9 +148,11 @@ outcome_text hex (O.Msg pair ttl src dst key payload pdu) =
 outcome_text hex (O.Long pair ttl src dst key payload) =
     codes " long" ++ pair_text pair ++ route_text ttl src dst ++ key_text key ++ octets_text payload
 outcome_text hex (O.Seg pair ttl src dst seg_o seg_n auth pdu) =
-    codes " seg" ++ pair_text pair ++ route_text ttl src dst ++ word_text (decimal seg_o) ++ word_text (decimal seg_n) ++ word_text (hex_digits 6 auth) ++ pdu_text hex pdu
+    codes " seg" ++ pair_text pair ++ route_text ttl src dst ++ word_text (decimal seg_o) ++ word_text (decimal seg_n)
+    ++ word_text (hex_digits 6 auth) ++ pdu_text hex pdu
 outcome_text hex (O.Relay pair ctl ttl src dst tpdu pdu) =
-    codes " relay" ++ pair_text pair ++ control_bit_text ctl ++ route_text ttl src dst ++ octets_text tpdu ++ pdu_text hex pdu
+    codes " relay" ++ pair_text pair ++ control_bit_text ctl ++ route_text ttl src dst ++ octets_text tpdu
+    ++ pdu_text hex pdu
 outcome_text hex (O.Rep name pdu) = codes " rep" ++ address_text name.src ++ pair_text name.pair ++ pdu_text hex pdu
 outcome_text hex (O.Bcn octets) = codes " bcn" ++ octets_text octets
 outcome_text hex (O.Spent iv) = codes " spent" ++ iv_text iv
@@ -160,7 +164,8 @@ state_text s = iv_text s.current ++ (if s.progress then codes " p" else codes " 
 
 -- the SEQ of a mark: six digits, and seven only where none is left under its IV Index
 abbrev pub next_text : ℕ → List ℕ
-next_text mark = word_text (if mark % 2 ^ 25 == 2 ^ 24 then hex_digits 7 (mark % 2 ^ 25) else hex_digits 6 (mark % 2 ^ 25))
+next_text mark =
+    word_text (if mark % 2 ^ 25 == 2 ^ 24 then hex_digits 7 (mark % 2 ^ 25) else hex_digits 6 (mark % 2 ^ 25))
 
 -- the words of a line
 unfoldable pub words_text : ReportLine → List ℕ
@@ -168,7 +173,8 @@ words_text (L.Opened life state mark) = codes "life " ++ decimal life ++ state_t
 words_text (L.WasReset life) = codes "life " ++ decimal life ++ codes " wasreset"
 words_text (L.CutAtStart life) = codes "life " ++ decimal life ++ codes " cut"
 words_text (L.Entry at bearer number kind answer) =
-    codes "e " ++ decimal at ++ codes " b" ++ decimal bearer ++ word_text (decimal number) ++ kind_text kind ++ answer_text answer
+    codes "e " ++ decimal at ++ codes " b" ++ decimal bearer ++ word_text (decimal number) ++ kind_text kind
+    ++ answer_text answer
 words_text (L.Sent bearer entry job outcome hex) =
     codes "s b" ++ decimal bearer ++ word_text (decimal entry) ++ codes "." ++ decimal job ++ outcome_text hex outcome
 words_text L.End = codes "end"

@@ -112,7 +112,8 @@ fn push_index(text: &mut LineText, word: &[u8], index: u16) -> Result<(), AllocE
 
 /// A word, the source and the destination of a message, and its IV Index and SEQ.
 fn push_source(text: &mut LineText, word: &[u8], name: Name, dst: Address) -> Result<(), AllocError>
-    ensures ok { OnOk result (text.new ≡ text.old ++ (word.now ++ address_text name.src ++ address_text dst ++ pair_text name.pair)) }
+    ensures ok { OnOk result
+        (text.new ≡ text.old ++ (word.now ++ address_text name.src ++ address_text dst ++ pair_text name.pair)) }
 {
     text.push(word)?;
     text.push_address(name.src)?;

@@ -99,7 +99,8 @@ fn push_head(
     word: &[u8],
     head: (Pair, u8, Address, Address),
 ) -> Result<(), AllocError>
-    ensures ok { OnOk result (text.new ≡ text.old ++ (word.now ++ pair_text head.0 ++ route_text head.1 head.2 head.3)) }
+    ensures ok { OnOk result
+        (text.new ≡ text.old ++ (word.now ++ pair_text head.0 ++ route_text head.1 head.2 head.3)) }
 {
     let (pair, ttl, src, dst) = head;
     text.push(word)?;
@@ -125,7 +126,8 @@ fn push_ctl(
     tpdu: &Octets<16>,
     pdu: &Octets<29>,
 ) -> Result<(), AllocError>
-    ensures ok { OnOk result (text.new ≡ text.old ++ outcome_text hex (O.Ctl head.0 head.1 head.2 head.3 tpdu.now pdu.now)) }
+    ensures ok { OnOk result
+        (text.new ≡ text.old ++ outcome_text hex (O.Ctl head.0 head.1 head.2 head.3 tpdu.now pdu.now)) }
 {
     push_head(text, b" ctl", head)?;
     text.push_octets(tpdu.as_slice())?;

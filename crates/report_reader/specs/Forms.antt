@@ -25,7 +25,8 @@ fields_of text = slice_split is_gap text
 
 -- the number n with one more decimal digit, as long as it has 64 bits; `0` to `9` are 48 to 57
 abbrev pub next_digit : ℕ → ℕ → Option ℕ
-next_digit n c = if nat_le 48 c && nat_le c 57 && nat_lt (10 * n + (c - 48)) (2 ^ 64) then Some (10 * n + (c - 48)) else None
+next_digit n c =
+    if nat_le 48 c && nat_le c 57 && nat_lt (10 * n + (c - 48)) (2 ^ 64) then Some (10 * n + (c - 48)) else None
 
 -- the number of the decimal digits, behind those that gave n
 unfoldable pub decimal_from : ℕ → List ℕ → Option ℕ

@@ -28,7 +28,9 @@ unfoldable pub opened : ℕ → List (List ℕ) → Option ReportLine
 opened life ws =
     number_word 8 (word_at ws 2) >>= λ current.
     next_word (word_at ws 5) >>= λ next.
-    Some (L.Opened life (opening_state current (bytes_eq (word_at ws 3) (codes "p"))) (transmit_of (opening_state current (bytes_eq (word_at ws 3) (codes "p"))) * 2 ^ 25 + next))
+    Some
+    (L.Opened life (opening_state current (bytes_eq (word_at ws 3) (codes "p")))
+    (transmit_of (opening_state current (bytes_eq (word_at ws 3) (codes "p"))) * 2 ^ 25 + next))
 
 unfoldable pub life : List (List ℕ) → Option ReportLine
 life ws =

@@ -69,10 +69,12 @@ abbrev pub IsToldOutcome : Outcome → Type 0
 IsToldOutcome (O.Ctl pair ttl src dst tpdu pdu) = IsPair pair × IsRoute ttl src dst × IsOctets 16 tpdu × IsOctets 29 pdu
 IsToldOutcome (O.Msg pair ttl src dst key payload pdu) =
     IsPair pair × IsRoute ttl src dst × IsKeyName key × IsOctets 11 payload × IsOctets 29 pdu
-IsToldOutcome (O.Long pair ttl src dst key payload) = IsPair pair × IsRoute ttl src dst × IsKeyName key × IsOctets 380 payload
+IsToldOutcome (O.Long pair ttl src dst key payload) =
+    IsPair pair × IsRoute ttl src dst × IsKeyName key × IsOctets 380 payload
 IsToldOutcome (O.Seg pair ttl src dst seg_o seg_n auth pdu) =
     IsPair pair × IsRoute ttl src dst × (seg_o < 2 ^ 8) × (seg_n < 2 ^ 8) × (auth < 2 ^ 24) × IsOctets 29 pdu
-IsToldOutcome (O.Relay pair ctl ttl src dst tpdu pdu) = IsPair pair × IsRoute ttl src dst × IsOctets 16 tpdu × IsOctets 29 pdu
+IsToldOutcome (O.Relay pair ctl ttl src dst tpdu pdu) =
+    IsPair pair × IsRoute ttl src dst × IsOctets 16 tpdu × IsOctets 29 pdu
 IsToldOutcome (O.Rep name pdu) = IsName name × IsOctets 29 pdu
 IsToldOutcome (O.Bcn octets) = (length octets ≡ 22) × IsBytes octets
 IsToldOutcome (O.Spent iv) = iv < 2 ^ 32
@@ -91,7 +93,8 @@ abbrev pub IsTold : ReportLine → Type 0
 IsTold (L.Opened life state mark) = (life < 2 ^ 32) × IsToldOpening state mark
 IsTold (L.WasReset life) = life < 2 ^ 32
 IsTold (L.CutAtStart life) = life < 2 ^ 32
-IsTold (L.Entry at bearer number kind answer) = (at < 2 ^ 32) × (bearer < 2 ^ 8) × (number < 2 ^ 32) × IsToldAnswer answer
+IsTold (L.Entry at bearer number kind answer) =
+    (at < 2 ^ 32) × (bearer < 2 ^ 8) × (number < 2 ^ 32) × IsToldAnswer answer
 IsTold (L.Sent bearer entry job outcome hex) =
     (bearer < 2 ^ 8) × (entry < 2 ^ 32) × (job < 2 ^ 8) × IsToldOutcome outcome × (hex ≡ true)
 IsTold L.End = Unit {0}

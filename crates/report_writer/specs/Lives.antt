@@ -5,7 +5,14 @@ use Rattle.report_definitions.specs.Record.{Life}
 use Rattle.report_writer.specs.declared.lives.EndedLife.{EndedLife}
 
 abbrev pub life_of : EndedLife → Life
-life_of l = record { opened = l.opened; entries = l.entries.items; refills = l.refills; sends = map (λ v. v.items) l.sends.items; end = l.end }
+life_of l =
+    record {
+      opened = l.opened;
+      entries = l.entries.items;
+      refills = l.refills;
+      sends = map (λ v. v.items) l.sends.items;
+      end = l.end;
+    }
 
 -- a line shows the place of its entry in 32 bits and that of its job in 8, both from 1 on
 abbrev pub HasRoom : Sent → Type 0

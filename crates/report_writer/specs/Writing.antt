@@ -23,7 +23,8 @@ HandsOver text (piece ∷ more) = (piece ≡ text) × ((n : ℕ) × (0 < n) × (
 abbrev pub HandsLines : List ReportLine → List (List ℕ) → Type 0
 HandsLines [] pieces = pieces ≡ []
 HandsLines (line ∷ lines) pieces =
-    (first : List (List ℕ)) × ((rest : List (List ℕ)) × (pieces ≡ first ++ rest) × HandsOver (line_text line) first × HandsLines lines rest)
+    (first : List (List ℕ))
+    × ((rest : List (List ℕ)) × (pieces ≡ first ++ rest) × HandsOver (line_text line) first × HandsLines lines rest)
 
 -- of a text a front was written, and this rest wasn't
 abbrev pub WritesUpTo : Option (List ℕ) → Option (List ℕ) → List ℕ → List ℕ → Type 0

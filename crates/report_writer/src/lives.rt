@@ -137,7 +137,8 @@ fn push_sends(
 ) -> Result<(), AllocError>
     requires few { length sends.now ≤ 8 }
     requires room { All (All HasRoom) (map (λ v. v.items) sends.now) }
-    ensures ok { OnOk result (texts.new.items ≡ texts.old.items ++ map line_text (send_lines hex 0 (map (λ v. v.items) sends.now))) }
+    ensures ok { OnOk result
+        (texts.new.items ≡ texts.old.items ++ map line_text (send_lines hex 0 (map (λ v. v.items) sends.now))) }
 {
     let mut bearer: u8 = 0;
     for sent in sends {
@@ -207,8 +208,12 @@ pub fn write_life<K: Sink>(
     life: &EndedLife,
 ) -> Result<(), WriteStop>
     requires room { FitsLines (life_of life.now) }
-    ensures ok { OnOk result (Written (life_lines hex number (life_of life.now)) (view_of K.held K.pieces sink.old) (view_of K.held K.pieces sink.new)) }
-    ensures err { OnErr result (WrittenFront (life_lines hex number (life_of life.now)) (view_of K.held K.pieces sink.old) (view_of K.held K.pieces sink.new)) }
+    ensures ok { OnOk result
+        (Written (life_lines hex number (life_of life.now)) (view_of K.held K.pieces sink.old)
+        (view_of K.held K.pieces sink.new)) }
+    ensures err { OnErr result
+        (WrittenFront (life_lines hex number (life_of life.now)) (view_of K.held K.pieces sink.old)
+        (view_of K.held K.pieces sink.new)) }
     ensures memory { result ≡ Err stop.Memory → sink.new ≡ sink.old }
     ensures cause { result ≡ Err stop.Fault → Rose (K.faults sink.old) (K.faults sink.new) }
     ensures no_fault { result ≢ Err stop.Fault → K.faults sink.new ≡ K.faults sink.old }

@@ -18,7 +18,8 @@ use report_lines::LineText;
 /// `Failed` only where the sink's count of faults rose. A front of the text may have been written then.
 pub fn write_text<K: Sink>(sink: &mut K, text: &[u8]) -> Result<(), Failed>
     ensures ok { OnOk result (IsHanded text.now (view_of K.held K.pieces sink.old) (view_of K.held K.pieces sink.new)) }
-    ensures err { OnErr result (HandedFront text.now (view_of K.held K.pieces sink.old) (view_of K.held K.pieces sink.new)) }
+    ensures err { OnErr result
+        (HandedFront text.now (view_of K.held K.pieces sink.old) (view_of K.held K.pieces sink.new)) }
     ensures cause { OnErr result (Rose (K.faults sink.old) (K.faults sink.new)) }
     ensures no_fault { OnOk result (K.faults sink.new ≡ K.faults sink.old) }
     ensures later { K.faults sink.old ≤ K.faults sink.new }
@@ -39,8 +40,10 @@ pub fn write_text<K: Sink>(sink: &mut K, text: &[u8]) -> Result<(), Failed>
 ///
 /// `Failed` only where the sink's count of faults rose. A front of the texts may have been written then.
 pub(crate) fn write_texts<K: Sink>(sink: &mut K, texts: &[LineText]) -> Result<(), Failed>
-    ensures ok { (lines : List ReportLine) → texts.now ≡ map line_text lines → OnOk result (Written lines (view_of K.held K.pieces sink.old) (view_of K.held K.pieces sink.new)) }
-    ensures err { (lines : List ReportLine) → texts.now ≡ map line_text lines → OnErr result (WrittenFront lines (view_of K.held K.pieces sink.old) (view_of K.held K.pieces sink.new)) }
+    ensures ok { (lines : List ReportLine) → texts.now ≡ map line_text lines
+        → OnOk result (Written lines (view_of K.held K.pieces sink.old) (view_of K.held K.pieces sink.new)) }
+    ensures err { (lines : List ReportLine) → texts.now ≡ map line_text lines
+        → OnErr result (WrittenFront lines (view_of K.held K.pieces sink.old) (view_of K.held K.pieces sink.new)) }
     ensures cause { OnErr result (Rose (K.faults sink.old) (K.faults sink.new)) }
     ensures no_fault { OnOk result (K.faults sink.new ≡ K.faults sink.old) }
     ensures later { K.faults sink.old ≤ K.faults sink.new }

@@ -124,33 +124,57 @@ pub fn accept<F: Flash>(store: &mut Store, flash: &mut F, name: &Name) -> Result
     requires read { IsReadUnder store.old.persist.iv.current name.now }
     requires seq { name.now.pair.seq < 2 ^ 24 }
 
-    ensures closed { store.old.journal.closed ≡ true → (result ≡ Err AcceptFault.Closed) × (store.new ≡ store.old) × (flash.new ≡ flash.old) }
-    ensures old { store.old.journal.closed ≡ false → IfSome (entry_in store.old.persist name.now.src.0) (λ kept. IsNoNewer (Some kept) name.now.pair → (result ≡ Err (AcceptFault.Old kept)) × (store.new ≡ store.old) × (flash.new ≡ flash.old)) }
-    ensures full { store.old.journal.closed ≡ false → (records : List StoreRecord) → IsMeaningOf records store.old.persist → HasNoPlace records name.now → (result ≡ Err (AcceptFault.ListFull (others_held records name.now.src.0))) × (store.new ≡ store.old) × (flash.new ≡ flash.old) }
-    ensures cause { store.old.journal.closed ≡ false → IsAboveKept (entry_in store.old.persist name.now.src.0) name.now.pair → (records : List StoreRecord) → IsMeaningOf records store.old.persist → ¬ HasNoPlace records name.now → OnErr result ((result ≡ Err AcceptFault.Flash) × (store.new.journal.closed ≡ true) × ((F.chip flash.old).faults < (F.chip flash.new).faults)) }
+    ensures closed { store.old.journal.closed ≡ true
+        → (result ≡ Err AcceptFault.Closed) × (store.new ≡ store.old) × (flash.new ≡ flash.old) }
+    ensures old { store.old.journal.closed ≡ false
+        → IfSome (entry_in store.old.persist name.now.src.0)
+        (λ kept. IsNoNewer (Some kept) name.now.pair
+        → (result ≡ Err (AcceptFault.Old kept)) × (store.new ≡ store.old) × (flash.new ≡ flash.old)) }
+    ensures full { store.old.journal.closed ≡ false → (records : List StoreRecord)
+        → IsMeaningOf records store.old.persist → HasNoPlace records name.now
+        → (result ≡ Err (AcceptFault.ListFull (others_held records name.now.src.0))) × (store.new ≡ store.old)
+        × (flash.new ≡ flash.old) }
+    ensures cause { store.old.journal.closed ≡ false
+        → IsAboveKept (entry_in store.old.persist name.now.src.0) name.now.pair → (records : List StoreRecord)
+        → IsMeaningOf records store.old.persist → ¬ HasNoPlace records name.now
+        → OnErr result
+        ((result ≡ Err AcceptFault.Flash) × (store.new.journal.closed ≡ true)
+        × ((F.chip flash.old).faults < (F.chip flash.new).faults)) }
     ensures newer { OnOk result (IsAboveKept (entry_in store.old.persist name.now.src.0) name.now.pair) }
-    ensures value { OnOk result ((src : ℕ) → entry_in store.new.persist src ≡ entry_with name.now (entry_in store.old.persist) src) }
-    ensures meaning { OnOk result ((records : List StoreRecord) → IsMeaningOf records store.old.persist → IsMeaningOf (records ++ accepting name.now ∷ []) store.new.persist) }
+    ensures value { OnOk result
+        ((src : ℕ) → entry_in store.new.persist src ≡ entry_with name.now (entry_in store.old.persist) src) }
+    ensures meaning { OnOk result
+        ((records : List StoreRecord) → IsMeaningOf records store.old.persist
+        → IsMeaningOf (records ++ accepting name.now ∷ []) store.new.persist) }
     ensures same_config { config_in store.new.persist ≡ config_in store.old.persist }
     ensures refused { OnErr result (store.new.persist ≡ store.old.persist) }
     ensures usable { OnOk result (store.new.journal.closed ≡ false) }
     ensures used { OnOk result (store.new.journal.used ≡ used_with_room store.old + 1) }
-    ensures steps { (w : World) (published : ℕ) → IsWorldOf w store.old.persist published → OnOk result (GoesBy (Accept name.now ∷ []) w store.new.persist published) }
+    ensures steps { (w : World) (published : ℕ) → IsWorldOf w store.old.persist published
+        → OnOk result (GoesBy (Accept name.now ∷ []) w store.new.persist published) }
 
     // of a store of this flash
-    ensures kept { (records : List StoreRecord) → IsStoreOf (F.chip flash.old) store.old records → OnOk result (IsStoreOf (F.chip flash.new) store.new (records ++ accepting name.now ∷ [])) }
-    ensures durable { (records : List StoreRecord) → IsStoreOf (F.chip flash.old) store.old records → OnOk result ((c : List ℕ) → (F.chip flash.new).images c → Holds c (records ++ accepting name.now ∷ [])) }
-    ensures any_moment { (records : List StoreRecord) → IsStoreOf (F.chip flash.old) store.old records → LeavesOnly (F.chip flash.old) (F.chip flash.new) (IsPut records (accepting name.now)) }
-    ensures mark { (records : List StoreRecord) → IsStoreOf (F.chip flash.old) store.old records → LeavesOnly (F.chip flash.old) (F.chip flash.new) (HasMark store.old.persist.mark) }
+    ensures kept { (records : List StoreRecord) → IsStoreOf (F.chip flash.old) store.old records
+        → OnOk result (IsStoreOf (F.chip flash.new) store.new (records ++ accepting name.now ∷ [])) }
+    ensures durable { (records : List StoreRecord) → IsStoreOf (F.chip flash.old) store.old records
+        → OnOk result ((c : List ℕ) → (F.chip flash.new).images c → Holds c (records ++ accepting name.now ∷ [])) }
+    ensures any_moment { (records : List StoreRecord) → IsStoreOf (F.chip flash.old) store.old records
+        → LeavesOnly (F.chip flash.old) (F.chip flash.new) (IsPut records (accepting name.now)) }
+    ensures mark { (records : List StoreRecord) → IsStoreOf (F.chip flash.old) store.old records
+        → LeavesOnly (F.chip flash.old) (F.chip flash.new) (HasMark store.old.persist.mark) }
 
     // over a steady flash: the calls of one record put, and at most these where it fails
-    ensures calls { IsTrue (F.chip flash.old).steady → OnOk result (Begins (calls_of store.old) (F.chip flash.old) (F.chip flash.new)) }
-    ensures most_calls { IsTrue (F.chip flash.old).steady → BeginsAtMost (calls_of store.old) (F.chip flash.old) (F.chip flash.new) }
+    ensures calls { IsTrue (F.chip flash.old).steady
+        → OnOk result (Begins (calls_of store.old) (F.chip flash.old) (F.chip flash.new)) }
+    ensures most_calls { IsTrue (F.chip flash.old).steady
+        → BeginsAtMost (calls_of store.old) (F.chip flash.old) (F.chip flash.new) }
 
     // of every flash, honest or not
     ensures reads { (F.chip flash.new).reads ≡ (F.chip flash.old).reads }
     ensures no_fault { OnOk result ((F.chip flash.new).faults ≡ (F.chip flash.old).faults) }
-    ensures sure { IsTrue (F.chip flash.old).sure → store.old.journal.closed ≡ false → IsAboveKept (entry_in store.old.persist name.now.src.0) name.now.pair → (records : List StoreRecord) → IsMeaningOf records store.old.persist → ¬ HasNoPlace records name.now → IsOk result }
+    ensures sure { IsTrue (F.chip flash.old).sure → store.old.journal.closed ≡ false
+        → IsAboveKept (entry_in store.old.persist name.now.src.0) name.now.pair → (records : List StoreRecord)
+        → IsMeaningOf records store.old.persist → ¬ HasNoPlace records name.now → IsOk result }
     ensures frame { Keeps (F.chip flash.old) (F.chip flash.new) }
 {
     if store.is_closed() {

@@ -29,7 +29,8 @@ pub struct Old {
 pub fn check(p: &Persist, name: &Name) -> Result<(), Old>
     ensures exact { IsErr result ↔ IsNoNewer (entry_in p.now name.now.src.0) name.now.pair }
     ensures kept { IfErr result (λ e. entry_in p.now name.now.src.0 ≡ Some e.kept) }
-    ensures records { (records : List StoreRecord) → IsMeaningOf records p.now → IsErr result ↔ IsNoNewer (entry_of records name.now.src.0) name.now.pair }
+    ensures records { (records : List StoreRecord) → IsMeaningOf records p.now
+        → IsErr result ↔ IsNoNewer (entry_of records name.now.src.0) name.now.pair }
 {
     match p.entry(name.src) {
         Some(kept) if name.pair <= kept => Err(Old { kept }),

@@ -79,7 +79,9 @@ cached_name _ _ = None
 
 -- whether a PDU is among the last 128 of this life that got into the message cache
 abbrev pub is_cached : Past → NetFields → Bool
-is_cached past f = list_any (is_name (name_of f)) (last_of 128 (filter_map (λ t. cached_name t.insight (is_before_cache t.entry.answer)) past.told))
+is_cached past f =
+    list_any (is_name (name_of f))
+    (last_of 128 (filter_map (λ t. cached_name t.insight (is_before_cache t.entry.answer)) past.told))
 
 abbrev pub network_answer : Past → Reading → Option Answer
 network_answer past r =
@@ -112,12 +114,14 @@ replayed (Some kept) p = if is_newer p kept then None else Some (A.Replay kept)
 
 -- whether a message of this name was accepted in this life from segments
 abbrev pub is_accepted_segmented : Name → Insight → Answer → Bool
-is_accepted_segmented n (OfPdu reading (Some low) opening) answer = is_segment low && list_any (is_name n) (option_to_list (accepted answer))
+is_accepted_segmented n (OfPdu reading (Some low) opening) answer =
+    is_segment low && list_any (is_name n) (option_to_list (accepted answer))
 is_accepted_segmented n _ answer = false
 
 abbrev pub is_again : Past → Name → Bool
 is_again past n =
-    is_entry (entry_of past.records n.src.0) n.pair && list_any (λ t. is_accepted_segmented n t.insight t.entry.answer) past.told
+    is_entry (entry_of past.records n.src.0) n.pair
+    && list_any (λ t. is_accepted_segmented n t.insight t.entry.answer) past.told
 
 -- the answer to a segment
 abbrev pub segment_answer : Layers → Past → Reading → Lower → Name → Option Answer
@@ -131,14 +135,16 @@ segment_answer layers past r low n =
 abbrev pub lower_answer : Layers → Past → Reading → Lower → Name → Option Answer
 lower_answer layers past r low n =
     if is_segment low && is_again past n then Some A.Again
-    else option_or (replayed (entry_of past.records n.src.0) n.pair) (if is_segment low then segment_answer layers past r low n else None)
+    else option_or (replayed (entry_of past.records n.src.0) n.pair)
+    (if is_segment low then segment_answer layers past r low n else None)
 
 -- The last group: what becomes of a whole message.
 
 -- the answer of a source for which there is a place in the replay list
 abbrev pub placed_answer : Past → Name → Answer → Answer
 placed_answer past n answer =
-    if is_none (entry_of past.records n.src.0) && not (has_room past.records n.src.0) then A.ListFull (others_held past.records n.src.0)
+    if is_none (entry_of past.records n.src.0) && not (has_room past.records n.src.0)
+    then A.ListFull (others_held past.records n.src.0)
     else answer
 
 abbrev pub opened_answer : Past → Reading → Name → Option Opening → Answer
@@ -147,23 +153,28 @@ opened_answer past r n (Some o) = placed_answer past n (A.Delivered n r.fields.d
 
 abbrev pub whole_answer : Layers → Past → Reading → Lower → Name → Option Opening → Answer
 whole_answer layers past r (Access akf aid upper) n opening = opened_answer past r n opening
-whole_answer layers past r (AccessPart akf aid szmic seq_zero seg_o seg_n piece) n opening = opened_answer past r n opening
-whole_answer layers past r (Control opcode params) n opening = placed_answer past n (A.Control n r.fields.dst opcode params)
+whole_answer layers past r (AccessPart akf aid szmic seq_zero seg_o seg_n piece) n opening =
+    opened_answer past r n opening
+whole_answer layers past r (Control opcode params) n opening =
+    placed_answer past n (A.Control n r.fields.dst opcode params)
 whole_answer layers past r (ControlPart opcode seq_zero seg_o seg_n piece) n opening =
-    placed_answer past n (A.Control n r.fields.dst opcode (layers.whole past n (ControlPart opcode seq_zero seg_o seg_n piece)))
+    placed_answer past n
+    (A.Control n r.fields.dst opcode (layers.whole past n (ControlPart opcode seq_zero seg_o seg_n piece)))
 
 -- The whole table.
 
 abbrev pub named_answer : Layers → Past → Reading → Lower → Option Name → Option Opening → Answer
 named_answer layers past r low None opening = A.Malformed
-named_answer layers past r low (Some n) opening = unwrap_or (lower_answer layers past r low n) (whole_answer layers past r low n opening)
+named_answer layers past r low (Some n) opening =
+    unwrap_or (lower_answer layers past r low n) (whole_answer layers past r low n opening)
 
 abbrev pub transport_answer : Layers → Past → Reading → Option Lower → Option Opening → Answer
 transport_answer layers past r None opening = A.Malformed
 transport_answer layers past r (Some low) opening = named_answer layers past r low (message_name r.fields low) opening
 
 abbrev pub pdu_answer : Layers → Past → Insight → Answer
-pdu_answer layers past (OfPdu (Some r) low opening) = unwrap_or (network_answer past r) (transport_answer layers past r low opening)
+pdu_answer layers past (OfPdu (Some r) low opening) =
+    unwrap_or (network_answer past r) (transport_answer layers past r low opening)
 pdu_answer layers past _ = A.Unread
 
 -- The other events.
@@ -183,13 +194,15 @@ is_busy layers past = nat_lt 0 (layers.unacknowledged past)
 abbrev pub beacon_answer : Layers → Past → Insight → Answer
 beacon_answer layers past (OfBeacon (Some b)) =
     let c = config_before past in
-    A.Beacon b.index (key_step (net_row c.nets b.index) b) (iv_next c.iv (is_some (net_row c.nets 0)) b.index b.iv b.update (is_busy layers past))
+    A.Beacon b.index (key_step (net_row c.nets b.index) b)
+    (iv_next c.iv (is_some (net_row c.nets 0)) b.index b.iv b.update (is_busy layers past))
 beacon_answer layers past _ = A.Unread
 
 abbrev pub send_answer : Past → SendKey → Answer
 send_answer past K.Own = A.Planned
 send_answer past (K.Other key) = A.Planned
-send_answer past (K.App index) = if is_some (app_row (config_before past).apps index) then A.Planned else A.NoAppKey index
+send_answer past (K.App index) =
+    if is_some (app_row (config_before past).apps index) then A.Planned else A.NoAppKey index
 
 -- the ticks of this life when so many more have passed; they stop at 2^48
 abbrev pub later : Past → ℕ → ℕ

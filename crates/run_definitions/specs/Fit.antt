@@ -46,15 +46,22 @@ HasOwnEvents past = All (λ t. IsOwnEvent (config_before past) t.entry.event) pa
 
 pub record AreFit (layers : Layers) : Type 0 where
   -- after the record of a message in a node that is whole, whose records may each follow those before it
-  pub changes : (past : Past) (m : AccessMessage) → IsPast layers past → IsWhole (config_before past) → AreInOrder [] past.records
-      → All (λ octet. octet < 2 ^ 8) m.payload → AreStorable (past.records ++ R.Replay m.name None ∷ []) (layers.changes past m)
-  pub acks_due : (past : Past) (c : Config) (ticks : ℕ) → IsPast layers past → HasElements past c → All (IsOwn c) (layers.acks_due past c ticks)
-  pub segments_due : (past : Past) (c : Config) (ticks : ℕ) → IsPast layers past → HasOwnEvents past → HasElements past c
+  pub changes : (past : Past) (m : AccessMessage) → IsPast layers past → IsWhole (config_before past)
+      → AreInOrder [] past.records
+      → All (λ octet. octet < 2 ^ 8) m.payload
+      → AreStorable (past.records ++ R.Replay m.name None ∷ []) (layers.changes past m)
+  pub acks_due : (past : Past) (c : Config) (ticks : ℕ) → IsPast layers past → HasElements past c
+      → All (IsOwn c) (layers.acks_due past c ticks)
+  pub segments_due : (past : Past) (c : Config) (ticks : ℕ) → IsPast layers past → HasOwnEvents past
+      → HasElements past c
       → All (IsOwn c) (layers.segments_due past c ticks)
   -- in a node that is whole
-  pub control_jobs : (past : Past) (c : Config) (m : ControlMessage) → IsPast layers past → IsWhole (config_before past) → HasOwnEvents past
+  pub control_jobs : (past : Past) (c : Config) (m : ControlMessage) → IsPast layers past → IsWhole (config_before past)
+      → HasOwnEvents past
       → HasElements past c → All (IsOwn c) (layers.control_jobs past c m)
-  pub replies : (past : Past) (c : Config) (m : AccessMessage) → IsPast layers past → IsWhole (config_before past) → HasElements past c
+  pub replies : (past : Past) (c : Config) (m : AccessMessage) → IsPast layers past → IsWhole (config_before past)
+      → HasElements past c
       → All (IsOwn c) (layers.replies past c m)
-  pub published : (past : Past) (c : Config) (ticks : ℕ) → IsPast layers past → IsWhole (config_before past) → HasElements past c
+  pub published : (past : Past) (c : Config) (ticks : ℕ) → IsPast layers past → IsWhole (config_before past)
+      → HasElements past c
       → All (IsOwn c) (layers.published past c ticks)

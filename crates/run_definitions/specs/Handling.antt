@@ -14,7 +14,8 @@ use Rattle.store_definitions.specs.Numbers.{filled}
 pub record Handles (layers : Layers) (past : Past) (t : Told) : Type 0 where
   pub sees : Sees layers past t.entry.event t.insight
   pub answer : t.entry.answer ≡ answer_of layers past t.entry.event t.insight
-  pub jobs : t.entry.jobs ≡ jobs_of layers past (config_of (records_after layers past t)) t.entry.event t.insight t.entry.answer
+  pub jobs : t.entry.jobs
+      ≡ jobs_of layers past (config_of (records_after layers past t)) t.entry.event t.insight t.entry.answer
 
 -- what stands before an entry
 abbrev pub past_of : List Told → Told → Past
@@ -31,7 +32,8 @@ AreHandled layers records before (t ∷ ts) =
 -- the records that entries leave
 abbrev pub records_left : Layers → List StoreRecord → List Told → List Told → List StoreRecord
 records_left layers records before [] = records
-records_left layers records before (t ∷ ts) = records_left layers (records_after layers (past_of before t) t) (before ++ t ∷ []) ts
+records_left layers records before (t ∷ ts) =
+    records_left layers (records_after layers (past_of before t) t) (before ++ t ∷ []) ts
 
 -- What stands before an event of a life that opened over some list of records: its entries were handled in order, and the records are those
 -- that they left, with the refills since then.

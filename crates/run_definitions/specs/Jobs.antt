@@ -64,7 +64,9 @@ block_asked _ seg_n = None
 -- an acknowledgment to the source of a PDU, from the element that it went to
 abbrev pub ack_job : Config → Reading → ℕ → ℕ → List Job
 ack_job c r seq_zero block =
-    under c r.by.index (λ m. J.Control m (reply_ttl c r.fields.ttl) r.fields.dst r.fields.src (lower_text (acknowledgment seq_zero block)) None)
+    under c r.by.index
+    (λ m. J.Control m (reply_ttl c r.fields.ttl) r.fields.dst r.fields.src
+    (lower_text (acknowledgment seq_zero block)) None)
 
 abbrev pub ack_asked : Config → Reading → Answer → Option (ℕ × ℕ) → List Job
 ack_asked c r answer None = []
@@ -111,11 +113,13 @@ is_moved s t = not (s.current == t.current) || (if s.progress then not t.progres
 
 abbrev pub beacons_due : Past → Config → ℕ → List Job
 beacons_due past c ticks =
-    if nat_lt (now_of past.told / 1000) (later past ticks / 1000) || is_moved (config_before past).iv c.iv then beacon_jobs c else []
+    if nat_lt (now_of past.told / 1000) (later past ticks / 1000) || is_moved (config_before past).iv c.iv
+    then beacon_jobs c else []
 
 abbrev pub tick_jobs : Layers → Past → Config → ℕ → List Job
 tick_jobs layers past c ticks =
-    layers.acks_due past c ticks ++ layers.segments_due past c ticks ++ beacons_due past c ticks ++ layers.published past c ticks
+    layers.acks_due past c ticks ++ layers.segments_due past c ticks ++ beacons_due past c ticks
+    ++ layers.published past c ticks
 
 -- The jobs of the node's own messages.
 
@@ -143,25 +147,31 @@ unless_stored is_befriended payload jobs = if is_befriended && nat_le (length pa
 
 abbrev pub send_jobs : Layers → Past → Config → ℕ → Address → ℕ → SendKey → List ℕ → List Job
 send_jobs layers past c element dst ttl key payload =
-    unless_stored (layers.is_befriended past dst) payload (option_map_or (sent_job c element dst ttl) (send_keys c key) [])
+    unless_stored (layers.is_befriended past dst) payload
+    (option_map_or (sent_job c element dst ttl) (send_keys c key) [])
 
 -- a control PDU goes from the first element under the first network key
 abbrev pub raw_jobs : Config → Address → ℕ → List ℕ → List Job
-raw_jobs c dst ttl tpdu = option_map_or (λ net. under c net (λ m. J.Control m ttl (element_address c 0) dst tpdu None)) (first_net c) []
+raw_jobs c dst ttl tpdu =
+    option_map_or (λ net. under c net (λ m. J.Control m ttl (element_address c 0) dst tpdu None)) (first_net c) []
 
 -- a segment of an own message for the first time; the first segment goes under the pair of SeqAuth
 abbrev pub first_round_job : Pair → Address → Address → ℕ → Bool → ℕ → List ℕ → ℕ → NetMaterial → Job
 first_round_job pair dst src ttl akf aid upper seg_o m =
-    J.Segment m (record { src = src; pair = pair }) ttl src dst seg_o (last_segment upper) (lower_text (segment akf aid pair.seq upper seg_o)) (seg_o == 0)
+    J.Segment m (record { src = src; pair = pair }) ttl src dst seg_o (last_segment upper)
+    (lower_text (segment akf aid pair.seq upper seg_o)) (seg_o == 0)
 
 abbrev pub begin_jobs : Config → Pair → Address → Address → ℕ → ℕ → Bool → ℕ → List ℕ → List Job
 begin_jobs c pair dst src ttl net akf aid upper =
-    flat_map (λ seg_o. under c net (first_round_job pair dst src ttl akf aid upper seg_o)) (range_with_len 0 (last_segment upper + 1))
+    flat_map (λ seg_o. under c net (first_round_job pair dst src ttl akf aid upper seg_o))
+    (range_with_len 0 (last_segment upper + 1))
 
 unfoldable pub jobs_of : Layers → Past → Config → Event → Insight → Answer → List Job
 jobs_of layers past c (E.Net octets) insight answer = pdu_jobs layers past c insight answer
-jobs_of layers past c (E.Send element dst ttl key payload) insight A.Planned = send_jobs layers past c element dst ttl key payload
+jobs_of layers past c (E.Send element dst ttl key payload) insight A.Planned =
+    send_jobs layers past c element dst ttl key payload
 jobs_of layers past c (E.Raw dst ttl tpdu) insight A.Planned = raw_jobs c dst ttl tpdu
 jobs_of layers past c (E.Tick ticks) insight (A.Ticked now) = tick_jobs layers past c ticks
-jobs_of layers past c (E.Begin pair dst src ttl net akf aid upper) insight A.Begun = begin_jobs c pair dst src ttl net akf aid upper
+jobs_of layers past c (E.Begin pair dst src ttl net akf aid upper) insight A.Begun =
+    begin_jobs c pair dst src ttl net akf aid upper
 jobs_of layers past c _ insight answer = []

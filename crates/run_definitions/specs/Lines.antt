@@ -40,34 +40,44 @@ is_late auth p = not (p.iv == auth.iv) || nat_lt (auth.seq + 8191) p.seq
 -- A line shows the fields of its job and one pair. A payload of at most 11 octets goes unsegmented. The payload of the message that an
 -- event asks for is the event's. Where a network PDU goes out, its octets are the text of these fields.
 pub data Shows : Event → Job → Outcome → Type 0 where
-  shows_ctl : {event : Event} {m : NetMaterial} {ttl : ℕ} {src dst : Address} {tpdu : List ℕ} {keep : Option (Address × Bool)} {pair : Pair}
-      → Shows event (J.Control m ttl src dst tpdu keep) (O.Ctl pair ttl src dst tpdu (net_text m (own_fields pair true ttl src dst tpdu)))
-  shows_msg : {event : Event} {net : ℕ} {m : NetMaterial} {key : UpperKey} {ttl : ℕ} {src dst : Address} {payload : List ℕ}
+  shows_ctl : {event : Event} {m : NetMaterial} {ttl : ℕ} {src dst : Address} {tpdu : List ℕ}
+      {keep : Option (Address × Bool)} {pair : Pair}
+      → Shows event (J.Control m ttl src dst tpdu keep)
+      (O.Ctl pair ttl src dst tpdu (net_text m (own_fields pair true ttl src dst tpdu)))
+  shows_msg : {event : Event} {net : ℕ} {m : NetMaterial} {key : UpperKey} {ttl : ℕ} {src dst : Address}
+      {payload : List ℕ}
       {keep : Option (Address × Bool)} {pair : Pair}
       → length payload ≤ 11
       → Shows event (J.Message net m key ttl src dst payload keep)
       (O.Msg pair ttl src dst (key_name_of key) payload (net_text m (message_fields key pair ttl src dst payload)))
-  shows_long : {event : Event} {net : ℕ} {m : NetMaterial} {key : UpperKey} {ttl : ℕ} {src dst : Address} {payload : List ℕ}
+  shows_long : {event : Event} {net : ℕ} {m : NetMaterial} {key : UpperKey} {ttl : ℕ} {src dst : Address}
+      {payload : List ℕ}
       {keep : Option (Address × Bool)} {pair : Pair}
       → 11 < length payload
       → Shows event (J.Message net m key ttl src dst payload keep) (O.Long pair ttl src dst (key_name_of key) payload)
-  shows_sent : {element hops : ℕ} {at : Address} {with : SendKey} {net : ℕ} {m : NetMaterial} {key : UpperKey} {ttl : ℕ} {src dst : Address}
+  shows_sent : {element hops : ℕ} {at : Address} {with : SendKey} {net : ℕ} {m : NetMaterial} {key : UpperKey} {ttl : ℕ}
+      {src dst : Address}
       {payload : List ℕ} {pair : Pair}
       → length payload ≤ 11
       → Shows (E.Send element at hops with payload) (J.Sent net m key ttl src dst)
       (O.Msg pair ttl src dst (key_name_of key) payload (net_text m (message_fields key pair ttl src dst payload)))
-  shows_sent_long : {element hops : ℕ} {at : Address} {with : SendKey} {net : ℕ} {m : NetMaterial} {key : UpperKey} {ttl : ℕ} {src dst : Address}
+  shows_sent_long : {element hops : ℕ} {at : Address} {with : SendKey} {net : ℕ} {m : NetMaterial} {key : UpperKey}
+      {ttl : ℕ} {src dst : Address}
       {payload : List ℕ} {pair : Pair}
       → 11 < length payload
-      → Shows (E.Send element at hops with payload) (J.Sent net m key ttl src dst) (O.Long pair ttl src dst (key_name_of key) payload)
-  shows_first : {event : Event} {m : NetMaterial} {name : Name} {ttl : ℕ} {src dst : Address} {seg_o seg_n : ℕ} {tpdu : List ℕ}
+      → Shows (E.Send element at hops with payload) (J.Sent net m key ttl src dst)
+      (O.Long pair ttl src dst (key_name_of key) payload)
+  shows_first : {event : Event} {m : NetMaterial} {name : Name} {ttl : ℕ} {src dst : Address} {seg_o seg_n : ℕ}
+      {tpdu : List ℕ}
       → Shows event (J.Segment m name ttl src dst seg_o seg_n tpdu true)
       (O.Seg name.pair ttl src dst seg_o seg_n name.pair.seq (net_text m (own_fields name.pair false ttl src dst tpdu)))
-  shows_seg : {event : Event} {m : NetMaterial} {name : Name} {ttl : ℕ} {src dst : Address} {seg_o seg_n : ℕ} {tpdu : List ℕ} {pair : Pair}
+  shows_seg : {event : Event} {m : NetMaterial} {name : Name} {ttl : ℕ} {src dst : Address} {seg_o seg_n : ℕ}
+      {tpdu : List ℕ} {pair : Pair}
       → is_late name.pair pair ≡ false
       → Shows event (J.Segment m name ttl src dst seg_o seg_n tpdu false)
       (O.Seg pair ttl src dst seg_o seg_n name.pair.seq (net_text m (own_fields pair false ttl src dst tpdu)))
-  shows_late : {event : Event} {m : NetMaterial} {name : Name} {ttl : ℕ} {src dst : Address} {seg_o seg_n : ℕ} {tpdu : List ℕ} {pair : Pair}
+  shows_late : {event : Event} {m : NetMaterial} {name : Name} {ttl : ℕ} {src dst : Address} {seg_o seg_n : ℕ}
+      {tpdu : List ℕ} {pair : Pair}
       → is_late name.pair pair ≡ true
       → Shows event (J.Segment m name ttl src dst seg_o seg_n tpdu false) (O.Late pair)
   shows_relay : {event : Event} {m : NetMaterial} {f : NetFields}
@@ -101,7 +111,10 @@ kept_events (Some poll) src pair octets = E.Kept poll.0 poll.1 (record { src = s
 -- the node's own event that follows a line, if any
 abbrev pub after_line : Job → Outcome → List Event
 after_line (J.Control m ttl src dst tpdu keep) (O.Ctl pair hops from to text octets) = kept_events keep from pair octets
-after_line (J.Message net m key ttl src dst payload keep) (O.Msg pair hops from to name text octets) = kept_events keep from pair octets
-after_line (J.Message net m key ttl src dst payload keep) (O.Long pair hops from to name text) = begin_event net key pair hops from to text ∷ []
-after_line (J.Sent net m key ttl src dst) (O.Long pair hops from to name text) = begin_event net key pair hops from to text ∷ []
+after_line (J.Message net m key ttl src dst payload keep) (O.Msg pair hops from to name text octets) =
+    kept_events keep from pair octets
+after_line (J.Message net m key ttl src dst payload keep) (O.Long pair hops from to name text) =
+    begin_event net key pair hops from to text ∷ []
+after_line (J.Sent net m key ttl src dst) (O.Long pair hops from to name text) =
+    begin_event net key pair hops from to text ∷ []
 after_line _ _ = []

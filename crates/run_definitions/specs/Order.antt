@@ -56,7 +56,8 @@ pub data Walks : List Task → List Placed → List Sent → List Task → Type 
   follows : {tasks : List Task} {es : List Placed} {ls : List Sent} {left : List Task} (p : Placed)
       → Walks (job_tasks p ++ tasks) es ls left
       → Walks (follow p.entry.event ∷ tasks) (p ∷ es) ls left
-  writes : {i j : ℕ} {event : Event} {job : Job} {outcome : Outcome} {tasks : List Task} {es : List Placed} {ls : List Sent} {left : List Task}
+  writes : {i j : ℕ} {event : Event} {job : Job} {outcome : Outcome} {tasks : List Task} {es : List Placed}
+      {ls : List Sent} {left : List Task}
       → Shows event job outcome
       → Walks (map follow (after_line job outcome) ++ tasks) es ls left
       → Walks (write i j event job ∷ tasks) es (record { entry = i; job = j; outcome = outcome } ∷ ls) left
@@ -91,7 +92,8 @@ Does events part k left = Walks (map handle (list_at events k)) (of_bearer k par
 -- bearer may leave something, and then nothing is done in a later phase.
 pub data PartsOf : Bool → List (List (List Event)) → List Part → Type 0 where
   ends : {is_cut : Bool} → PartsOf is_cut [] []
-  whole : {is_cut : Bool} {events : List (List Event)} {more : List (List (List Event))} {part : Part} {parts : List Part}
+  whole : {is_cut : Bool} {events : List (List Event)} {more : List (List (List Event))} {part : Part}
+      {parts : List Part}
       → ((k : ℕ) → Does events part k [])
       → PartsOf is_cut more parts
       → PartsOf is_cut (events ∷ more) (part ∷ parts)

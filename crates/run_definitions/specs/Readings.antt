@@ -31,9 +31,11 @@ abbrev pub keys_heard : Layers → Past → List Heard
 keys_heard layers past = heard_keys (config_before past).nets ++ layers.friend_keys past
 
 abbrev pub IsReading : Layers → Past → List ℕ → Option Reading → Type 0
-IsReading layers past octets (Some r) = (place : ℕ) × Reads (keys_heard layers past) (config_before past).iv.current octets r.fields place r.by
+IsReading layers past octets (Some r) =
+    (place : ℕ) × Reads (keys_heard layers past) (config_before past).iv.current octets r.fields place r.by
 IsReading layers past octets None =
-    (f : NetFields) (place : ℕ) (by : Heard) → Reads (keys_heard layers past) (config_before past).iv.current octets f place by → ⊥
+    (f : NetFields) (place : ℕ) (by : Heard)
+    → Reads (keys_heard layers past) (config_before past).iv.current octets f place by → ⊥
 
 -- The lower transport layer, which a PDU comes to if the network layer has no answer to it.
 
@@ -54,7 +56,8 @@ keys_tried c r false aid = if is_unicast r.fields.dst then U.Device c.dev_key �
 
 -- what the nonce and the TransMIC of a message heard are made of, besides the key
 abbrev pub fields_heard : Reading → Name → Bool → UpperFields
-fields_heard r n szmic = record { pair = n.pair; src = r.fields.src; dst = r.fields.dst; long_mic = szmic; label = None }
+fields_heard r n szmic =
+    record { pair = n.pair; src = r.fields.src; dst = r.fields.dst; long_mic = szmic; label = None }
 
 -- the labels that are tried, in the order held
 abbrev pub labels_tried : Config → List (List ℕ)
@@ -62,18 +65,21 @@ labels_tried c = map (λ l. l.2) c.labels
 
 -- by a key alone
 abbrev pub IsOpenedUnder : List UpperKey → UpperFields → List ℕ → Option Opening → Type 0
-IsOpenedUnder keys f upper (Some o) = (place : ℕ) × (slice_get keys place ≡ Some o.key) × (o.label ≡ None) × Opens keys f upper place o.payload
+IsOpenedUnder keys f upper (Some o) =
+    (place : ℕ) × (slice_get keys place ≡ Some o.key) × (o.label ≡ None) × Opens keys f upper place o.payload
 IsOpenedUnder keys f upper None = IsUnopened keys f upper
 
 -- by a label and a key, where DST is virtual
 abbrev pub IsOpenedByLabel : List UpperKey → List (List ℕ) → UpperFields → List ℕ → Option Opening → Type 0
 IsOpenedByLabel keys labels f upper (Some o) =
-    (at : ℕ) × (place : ℕ) × (slice_get keys place ≡ Some o.key) × (slice_get labels at ≡ o.label) × OpensLabel keys labels f upper at place o.payload
+    (at : ℕ) × (place : ℕ) × (slice_get keys place ≡ Some o.key) × (slice_get labels at ≡ o.label)
+    × OpensLabel keys labels f upper at place o.payload
 IsOpenedByLabel keys labels f upper None = IsLabelUnopened keys labels f upper
 
 abbrev pub IsOpenedFor : Config → List UpperKey → UpperFields → List ℕ → Option Opening → Type 0
 IsOpenedFor c keys f upper opening =
-    MatchBool (is_virtual f.dst) (IsOpenedByLabel keys (labels_tried c) f upper opening) (IsOpenedUnder keys f upper opening)
+    MatchBool (is_virtual f.dst) (IsOpenedByLabel keys (labels_tried c) f upper opening)
+    (IsOpenedUnder keys f upper opening)
 
 abbrev pub IsOpened : Layers → Past → Reading → Name → Lower → Option Opening → Type 0
 IsOpened layers past r n (Access akf aid upper) opening =

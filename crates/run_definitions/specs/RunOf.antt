@@ -74,7 +74,8 @@ pub data Outlasts (layers : Layers) (plan : List Step) (l : Life) (past : Past) 
       → next_event plan l k ≡ Some event
       → Sees layers past event insight
       → Outlasts layers plan l past (take n (stores layers past event insight (answer_of layers past event insight)))
-  of_refill : IsTrue (is_on l.opened) → IsTrue (is_cut l.end) → Outlasts layers plan l past (fill_of (config_of past.records) ∷ [])
+  of_refill : IsTrue (is_on l.opened) → IsTrue (is_cut l.end)
+      → Outlasts layers plan l past (fill_of (config_of past.records) ∷ [])
 
 -- What the next life opens over is alike to all the records of this life.
 pub record Leaves (layers : Layers) (plan : List Step) (l : Life) (past : Past) (next : List StoreRecord) : Type 0 where
@@ -103,7 +104,8 @@ IsSpentRight mark (O.Spent iv) = iv * 2 ^ 25 + 2 ^ 24 ≤ mark
 IsSpentRight mark _ = ⊤
 
 -- The life is one of this plan: it opens over the one list of records and leaves the other.
-pub record LifeOf (layers : Layers) (plan : List Step) (over : List StoreRecord) (l : Life) (next : List StoreRecord) : Type 0 where
+pub record LifeOf (layers : Layers) (plan : List Step) (over : List StoreRecord) (l : Life)
+    (next : List StoreRecord) : Type 0 where
   pub opening : Opens (config_of over) l.opened l.end
   pub idle : is_on l.opened ≡ false → IsIdle l
   -- what the octets of the entries were read as
@@ -126,7 +128,8 @@ pub record Script : Type 0 where
 -- each life is one of its plan, and leaves what the life after it opens over; the last one leaves the last list
 abbrev pub LivesOf : Layers → List (List Step) → List LifeOver → List StoreRecord → Type 0
 LivesOf layers [] [] last = ⊤
-LivesOf layers (plan ∷ plans) (x ∷ xs) last = LifeOf layers plan x.over x.life (first_over xs last) × LivesOf layers plans xs last
+LivesOf layers (plan ∷ plans) (x ∷ xs) last =
+    LifeOf layers plan x.over x.life (first_over xs last) × LivesOf layers plans xs last
 LivesOf layers _ _ last = ⊥
 
 pub record RunOf (layers : Layers) (s : Script) (r : Run) : Type 0 where

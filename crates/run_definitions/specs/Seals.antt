@@ -38,4 +38,5 @@ access_tpdu key upper = lower_text (Access (is_app_key key) (aid_of_key key) upp
 
 -- the fields of the network PDU of an unsegmented access message of this node
 abbrev pub message_fields : UpperKey → Pair → ℕ → Address → Address → List ℕ → NetFields
-message_fields key pair ttl src dst payload = own_fields pair false ttl src dst (access_tpdu key (own_upper key pair src dst payload))
+message_fields key pair ttl src dst payload =
+    own_fields pair false ttl src dst (access_tpdu key (own_upper key pair src dst payload))

@@ -53,7 +53,16 @@ tick_records layers past ticks =
 -- the access message that a PDU completed, as it opened
 abbrev pub message_of : Insight → Name → Address → Option AccessMessage
 message_of (OfPdu (Some r) lower (Some o)) name dst =
-    Some (record { name = name; dst = dst; net = r.by.index; ttl = r.fields.ttl; key = o.key; label = o.label; payload = o.payload })
+    Some
+    (record {
+      name = name;
+      dst = dst;
+      net = r.by.index;
+      ttl = r.fields.ttl;
+      key = o.key;
+      label = o.label;
+      payload = o.payload;
+    })
 message_of _ name dst = None
 
 -- the records that an accepted message asks for
@@ -66,7 +75,8 @@ unfoldable pub stores : Layers → Past → Event → Insight → Answer → Lis
 stores layers past (E.Net octets) insight (A.Delivered name dst key payload) =
     R.Replay name None ∷ asked layers past (message_of insight name dst)
 stores layers past (E.Net octets) insight (A.Control name dst opcode params) = R.Replay name None ∷ []
-stores layers past (E.Bcn octets) insight (A.Beacon index key iv) = phase_records index key ++ step_records (config_before past) iv
+stores layers past (E.Bcn octets) insight (A.Beacon index key iv) =
+    phase_records index key ++ step_records (config_before past) iv
 stores layers past (E.Tick ticks) insight (A.Ticked now) = tick_records layers past ticks
 stores layers past _ insight _ = []
 

@@ -73,9 +73,11 @@ message_uses job pair ttl src dst payload =
 -- late and a beacon are no seals.
 unfoldable pub seals_of : Job → Outcome → List Use
 seals_of job (O.Ctl pair ttl src dst tpdu pdu) = network_uses job (own_fields pair true ttl src dst tpdu)
-seals_of job (O.Msg pair ttl src dst key payload pdu) = upper_uses job pair src dst payload ++ message_uses job pair ttl src dst payload
+seals_of job (O.Msg pair ttl src dst key payload pdu) =
+    upper_uses job pair src dst payload ++ message_uses job pair ttl src dst payload
 seals_of job (O.Long pair ttl src dst key payload) = upper_uses job pair src dst payload
-seals_of job (O.Seg pair ttl src dst seg_o seg_n auth pdu) = network_uses job (own_fields pair false ttl src dst (segment_of job))
+seals_of job (O.Seg pair ttl src dst seg_o seg_n auth pdu) =
+    network_uses job (own_fields pair false ttl src dst (segment_of job))
 seals_of job (O.Relay pair ctl ttl src dst tpdu pdu) = network_uses job (own_fields pair ctl ttl src dst tpdu)
 seals_of job (O.Rep name pdu) = []
 seals_of job (O.Bcn octets) = []

@@ -25,10 +25,13 @@ use Rattle.run_definitions.specs.Uses.{AtMostOnce, NoReuse, delivered, uses}
 
 -- there is a record by these rules that seals two plaintexts under one key and nonce, or delivers a message twice
 abbrev pub Reuses : Rules → Type 0
-Reuses rules = (layers : Layers) × (s : Script) × (r : Run) × AreSafe layers × RunBy rules layers s r × (NoReuse (uses r) → ⊥)
+Reuses rules =
+    (layers : Layers) × (s : Script) × (r : Run) × AreSafe layers × RunBy rules layers s r × (NoReuse (uses r) → ⊥)
 
 abbrev pub Repeats : Rules → Type 0
-Repeats rules = (layers : Layers) × (s : Script) × (r : Run) × AreSafe layers × RunBy rules layers s r × (AtMostOnce (delivered r) → ⊥)
+Repeats rules =
+    (layers : Layers) × (s : Script) × (r : Run) × AreSafe layers × RunBy rules layers s r
+    × (AtMostOnce (delivered r) → ⊥)
 
 -- without the bound on SEQ: the word behind the last SEQ of an IV Index may lie between the marks, and its nonce is
 -- that of SEQ 0
@@ -101,7 +104,8 @@ pub record HandlesButJobs (layers : Layers) (past : Past) (t : Told) : Type 0 wh
 -- without that octets are read as what they seal: a message of an IV Index that expired may be seen again and again
 pub record HandlesButSight (layers : Layers) (past : Past) (t : Told) : Type 0 where
   pub answer : t.entry.answer ≡ answer_of layers past t.entry.event t.insight
-  pub jobs : t.entry.jobs ≡ jobs_of layers past (config_of (records_after layers past t)) t.entry.event t.insight t.entry.answer
+  pub jobs : t.entry.jobs
+      ≡ jobs_of layers past (config_of (records_after layers past t)) t.entry.event t.insight t.entry.answer
 
 -- without the table of the IV Index, so that a beacon may take any step: where the known IV Index falls, a name comes
 -- back whose entry was expired
@@ -113,13 +117,15 @@ IsAnswerButStep a b = a ≡ b
 pub record HandlesButStep (layers : Layers) (past : Past) (t : Told) : Type 0 where
   pub sees : Sees layers past t.entry.event t.insight
   pub answer : IsAnswerButStep t.entry.answer (answer_of layers past t.entry.event t.insight)
-  pub jobs : t.entry.jobs ≡ jobs_of layers past (config_of (records_after layers past t)) t.entry.event t.insight t.entry.answer
+  pub jobs : t.entry.jobs
+      ≡ jobs_of layers past (config_of (records_after layers past t)) t.entry.event t.insight t.entry.answer
 
 -- without the records that the entries before have left: an entry may see a store that has forgotten what was accepted
 abbrev pub AreHandledOverAny : Layers → List StoreRecord → List Told → List Told → Type 0
 AreHandledOverAny layers records before [] = ⊤
 AreHandledOverAny layers records before (t ∷ ts) =
-    Handles layers (past_of before t) t × AreHandledOverAny layers (records_after layers (past_of before t) t) (before ++ t ∷ []) ts
+    Handles layers (past_of before t) t
+    × AreHandledOverAny layers (records_after layers (past_of before t) t) (before ++ t ∷ []) ts
 
 -- without the entries before: an entry may see a PDU of the node's own among what was heard, which a layer lets go on
 abbrev pub AreHandledAfterAny : Layers → List StoreRecord → List Told → List Told → Type 0

@@ -64,13 +64,15 @@ all_rules = record {
 
 -- A run by these rules.
 
-pub record LeavesBy (rules : Rules) (layers : Layers) (plan : List Step) (l : Life) (past : Past) (next : List StoreRecord) : Type 0 where
+pub record LeavesBy (rules : Rules) (layers : Layers) (plan : List Step) (l : Life) (past : Past)
+    (next : List StoreRecord) : Type 0 where
   pub more : List StoreRecord
   pub outlasts : rules.does_outlast layers plan l past more
   pub ranges : All rules.is_in_range (past.records ++ more)
   pub alike : rules.is_alike next (past.records ++ more)
 
-pub record LifeBy (rules : Rules) (layers : Layers) (plan : List Step) (over : List StoreRecord) (l : Life) (next : List StoreRecord) : Type 0 where
+pub record LifeBy (rules : Rules) (layers : Layers) (plan : List Step) (over : List StoreRecord) (l : Life)
+    (next : List StoreRecord) : Type 0 where
   pub opening : rules.does_open (config_of over) l.opened l.end
   pub idle : is_on l.opened ≡ false → rules.is_idle l
   pub told : List Told
@@ -84,7 +86,8 @@ pub record LifeBy (rules : Rules) (layers : Layers) (plan : List Step) (over : L
 
 abbrev pub LivesBy : Rules → Layers → List (List Step) → List LifeOver → List StoreRecord → Type 0
 LivesBy rules layers [] [] last = ⊤
-LivesBy rules layers (plan ∷ plans) (x ∷ xs) last = LifeBy rules layers plan x.over x.life (first_over xs last) × LivesBy rules layers plans xs last
+LivesBy rules layers (plan ∷ plans) (x ∷ xs) last =
+    LifeBy rules layers plan x.over x.life (first_over xs last) × LivesBy rules layers plans xs last
 LivesBy rules layers _ _ last = ⊥
 
 pub record RunBy (rules : Rules) (layers : Layers) (s : Script) (r : Run) : Type 0 where
@@ -111,7 +114,10 @@ pub data MayOutlast (layers : Layers) (past : Past) : List StoreRecord → Type 
 -- of all ranges: the known IV Index has 32 bits, and the mark is at most the end of its transmit IV Index
 abbrev pub HasFitNumbers : StoreRecord → Type 0
 HasFitNumbers (R.Numbers current progress mark hours since) =
-    (current < 2 ^ 32) × (mark ≤ transmit_of (record { current = current; progress = progress; hours = hours; since = since }) * 2 ^ 25 + 2 ^ 24)
+    (current < 2 ^ 32)
+    × (mark
+    ≤ transmit_of
+    (record { current = current; progress = progress; hours = hours; since = since }) * 2 ^ 25 + 2 ^ 24)
 HasFitNumbers _ = ⊤
 
 -- of all that the records say: the elements, the IV state, the mark and the replay list
@@ -150,7 +156,10 @@ IsRunByEnough = (layers : Layers) (s : Script) (r : Run) → RunOf layers s r �
 
 -- and each run by these is safe
 abbrev pub ReusesNoNonceByEnough : Type 0
-ReusesNoNonceByEnough = (layers : Layers) → AreSafe layers → (s : Script) (r : Run) → RunBy enough_rules layers s r → NoReuse (uses r)
+ReusesNoNonceByEnough =
+    (layers : Layers) → AreSafe layers → (s : Script) (r : Run) → RunBy enough_rules layers s r → NoReuse (uses r)
 
 abbrev pub DeliversOnceByEnough : Type 0
-DeliversOnceByEnough = (layers : Layers) → AreSafe layers → (s : Script) (r : Run) → RunBy enough_rules layers s r → AtMostOnce (delivered r)
+DeliversOnceByEnough =
+    (layers : Layers) → AreSafe layers → (s : Script) (r : Run) → RunBy enough_rules layers s r
+    → AtMostOnce (delivered r)

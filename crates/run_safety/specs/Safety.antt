@@ -78,7 +78,8 @@ IsChange _ = ⊥
 pub record AreSafe (layers : Layers) : Type 0 where
   pub acks_due : (past : Past) (c : Config) (ticks : ℕ) → All (IsFitJob past) (layers.acks_due past c ticks)
   pub segments_due : (past : Past) (c : Config) (ticks : ℕ) → All (IsFitJob past) (layers.segments_due past c ticks)
-  pub control_jobs : (past : Past) (c : Config) (m : ControlMessage) → All (IsFitJob past) (layers.control_jobs past c m)
+  pub control_jobs : (past : Past) (c : Config) (m : ControlMessage)
+      → All (IsFitJob past) (layers.control_jobs past c m)
   pub replies : (past : Past) (c : Config) (m : AccessMessage) → All (IsFitJob past) (layers.replies past c m)
   pub published : (past : Past) (c : Config) (ticks : ℕ) → All (IsFitJob past) (layers.published past c ticks)
   pub changes : (past : Past) (m : AccessMessage) → All IsChange (layers.changes past m)
@@ -101,7 +102,8 @@ DeliversOnce = (layers : Layers) → AreSafe layers → (s : Script) (r : Run) �
 -- no two lines of all lives draw one pair
 abbrev pub DrawsApart : Type 0
 DrawsApart =
-    (layers : Layers) → AreSafe layers → (s : Script) (r : Run) → RunOf layers s r → AllPairs (λ p q. word_of p ≢ word_of q) (all_draws r.lives)
+    (layers : Layers) → AreSafe layers → (s : Script) (r : Run) → RunOf layers s r
+    → AllPairs (λ p q. word_of p ≢ word_of q) (all_draws r.lives)
 
 -- from a life to the next the mark never falls, nor does the known IV Index, and the node keeps its elements
 pub record Keeps (before after : Config) : Type 0 where
@@ -112,5 +114,6 @@ pub record Keeps (before after : Config) : Type 0 where
 
 abbrev pub LivesKeep : Type 0
 LivesKeep =
-    (layers : Layers) → AreSafe layers → (plan : List Step) (over : List StoreRecord) (l : Life) (next : List StoreRecord)
+    (layers : Layers) → AreSafe layers
+    → (plan : List Step) (over : List StoreRecord) (l : Life) (next : List StoreRecord)
     → LifeOf layers plan over l next → Keeps (config_of over) (config_of next)

@@ -33,7 +33,8 @@ decimal_word most word = if nat_le 1 (length word) && nat_le (length word) most 
 
 -- a decimal number in which no zero leads
 unfoldable pub plain_decimal_word : ℕ → List ℕ → Option ℕ
-plain_decimal_word most word = if (length word == 1) || not (slice_index word 0 == 48) then decimal_word most word else None
+plain_decimal_word most word =
+    if (length word == 1) || not (slice_index word 0 == 48) then decimal_word most word else None
 
 -- a key: 16 octets
 unfoldable pub key_word : List ℕ → Option (List ℕ)
@@ -41,4 +42,5 @@ key_word word = result_ok (decode_sized word 16)
 
 -- octets, two digits each: at least one, and at most so many
 unfoldable pub octets_word : ℕ → List ℕ → Option (List ℕ)
-octets_word most word = if nat_le 2 (length word) && nat_le (length word) (2 * most) then result_ok (decode_of word) else None
+octets_word most word =
+    if nat_le 2 (length word) && nat_le (length word) (2 * most) then result_ok (decode_of word) else None

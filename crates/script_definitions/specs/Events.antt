@@ -35,7 +35,8 @@ use Rattle.script_definitions.specs.declared.line.TalkPiece.TheVariants as P
 -- what an outside node seals network PDUs with (3.8.6.3.1)
 abbrev pub material_of : ScriptNet → NetMaterial
 material_of (N.Master key) = master_material key
-material_of (N.Friendship key lpn friend lpn_counter friend_counter) = friendship_material key lpn.0 friend.0 lpn_counter friend_counter
+material_of (N.Friendship key lpn friend lpn_counter friend_counter) =
+    friendship_material key lpn.0 friend.0 lpn_counter friend_counter
 
 -- the octets of `peer`
 abbrev pub peer_text : PeerLine → List ℕ

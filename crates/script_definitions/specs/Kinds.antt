@@ -23,7 +23,8 @@ bearer_count G.LowPower = 1
 -- K of a word `bK`: one digit, below the number of bearers
 unfoldable pub bearer_word : Grammar → List ℕ → Option ℕ
 bearer_word g word =
-    if (length word == 2) && (slice_index word 0 == 98) && nat_le 48 (slice_index word 1) && nat_lt (slice_index word 1) (48 + bearer_count g)
+    if (length word == 2) && (slice_index word 0 == 98) && nat_le 48 (slice_index word 1)
+    && nat_lt (slice_index word 1) (48 + bearer_count g)
     then Some (slice_index word 1 - 48)
     else None
 

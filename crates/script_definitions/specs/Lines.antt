@@ -19,7 +19,8 @@ use Rattle.script_definitions.specs.declared.script.ProvisionLine.{ProvisionLine
 
 -- the element addresses, from the first one on, are unicast: 0001 to 7fff
 abbrev pub elements_fit : ℕ → ℕ → Bool
-elements_fit unicast elements = nat_le 1 elements && nat_le elements 4 && nat_le 1 unicast && nat_le (unicast + elements) 0x8000
+elements_fit unicast elements =
+    nat_le 1 elements && nat_le elements 4 && nat_le 1 unicast && nat_le (unicast + elements) 0x8000
 
 -- `provision UNICAST ELEMENTS IV FLAGS NETIDX NETKEY DEVKEY`
 unfoldable pub provision_line : List (List ℕ) → Option ProvisionLine
@@ -78,7 +79,8 @@ peer_line ws =
 -- (Mesh Profile 1.0.1, section 3.5.3.1).
 abbrev pub piece_fits : TalkPiece → ℕ → ℕ → ℕ → Bool
 piece_fits P.Whole auth seq octets = nat_le octets 11 && (auth == seq)
-piece_fits (P.Segment seg_o) auth seq octets = nat_lt seg_o ((octets + 15) / 12) && nat_le auth seq && nat_le seq (auth + 8191)
+piece_fits (P.Segment seg_o) auth seq octets =
+    nat_lt seg_o ((octets + 15) / 12) && nat_le auth seq && nat_le seq (auth + 8191)
 
 -- IV, TTL, AUTH, SEQ, SRC, DST and PIECE of `bK talk NET UKEY IV TTL AUTH SEQ SRC DST PIECE PAYLOAD`
 unfoldable pub talk_pdu : List (List ℕ) → Option TalkPdu

@@ -63,7 +63,8 @@ is_bearer_line _ = true
 
 -- rules 6 and 7 for a life
 unfoldable pub with_life : Script → Result Script ℕ
-with_life s = if length s.lives == 64 then Err 7 else Ok (record { provision = s.provision; lives = s.lives ++ [] ∷ [] })
+with_life s =
+    if length s.lives == 64 then Err 7 else Ok (record { provision = s.provision; lives = s.lives ++ [] ∷ [] })
 
 -- rules 6 and 7 for a line of a life
 unfoldable pub with_line : Script → ScriptLine → Result Script ℕ

@@ -23,7 +23,8 @@ label_behind kept (D.Label label) = Some label
 
 -- behind a line `talk`
 abbrev pub behind_talk : Kept → TalkLine → Kept
-behind_talk kept talk = record { credentials = Some talk.net; key = Some talk.key; label = label_behind kept.label talk.pdu.dst }
+behind_talk kept talk =
+    record { credentials = Some talk.net; key = Some talk.key; label = label_behind kept.label talk.pdu.dst }
 
 -- behind any line: only `peer` and `talk` are sealed by what is kept
 abbrev pub behind : Kept → ScriptLine → Kept

@@ -89,7 +89,8 @@ impl OutsideNode {
     fn lower_of(&mut self, dst: Address, talk: &TalkLine) -> Lower
         requires ranges { IsTalk talk.now }
         requires dst { dst ≡ Said.dst_of talk.now.pdu.dst }
-        ensures value { result ≡ Said.lower_of talk.now.pdu.piece talk.now.key talk.now.pdu.auth (Said.talk_upper talk.now) }
+        ensures value { result
+            ≡ Said.lower_of talk.now.pdu.piece talk.now.key talk.now.pdu.auth (Said.talk_upper talk.now) }
         ensures fits { Fits result }
         ensures kept { self.new ≡ record self.old { key = Some talk.now.key } }
     {

@@ -124,7 +124,8 @@ pub(crate) fn lower_of(key: &KeptKey, dst: Address, talk: &TalkLine) -> Lower
     requires ranges { IsTalk talk.now }
     requires key { key.now ≡ talk.now.key }
     requires dst { dst ≡ Said.dst_of talk.now.pdu.dst }
-    ensures value { result ≡ Said.lower_of talk.now.pdu.piece talk.now.key talk.now.pdu.auth (Said.talk_upper talk.now) }
+    ensures value { result
+        ≡ Said.lower_of talk.now.pdu.piece talk.now.key talk.now.pdu.auth (Said.talk_upper talk.now) }
     ensures fits { Fits result }
 {
     let upper = upper_of(key, dst, talk);

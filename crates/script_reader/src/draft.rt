@@ -41,7 +41,8 @@ impl Model for Draft {
 
     ghost view = { λ d. d.script };
 
-    ghost invariant = { λ d. (d.armed ≡ list_any is_arm (last_life d.script.lives)) × (d.events ≡ count_by is_bearer_line (last_life d.script.lives)) };
+    ghost invariant = { λ d. (d.armed ≡ list_any is_arm (last_life d.script.lives))
+        × (d.events ≡ count_by is_bearer_line (last_life d.script.lives)) };
 }
 
 /// Whether a line is an `arm`.

@@ -41,7 +41,9 @@ fn pieces(alloc: Global, line: &[u8]) -> Result<Vec<&[u8]>, AllocError>
 
 /// Puts a piece behind the words, unless it is empty.
 fn push_word<'a>(words: &mut Vec<&'a [u8]>, piece: &'a [u8]) -> Result<(), AllocError>
-    ensures ok { OnOk result (map (λ w. w.now) words.new.items ≡ map (λ w. w.now) words.old.items ++ (if not (length piece.now == 0) then piece.now ∷ [] else [])) }
+    ensures ok { OnOk result
+        (map (λ w. w.now) words.new.items
+        ≡ map (λ w. w.now) words.old.items ++ (if not (length piece.now == 0) then piece.now ∷ [] else [])) }
 {
     if piece.len() != 0 {
         words.push(piece)?;
@@ -63,7 +65,8 @@ fn whole_words(alloc: Global, line: &[u8]) -> Result<Vec<&[u8]>, AllocError>
 
 /// The words with an empty one behind them, where it is wanted.
 fn ended<'a>(mut words: Vec<&'a [u8]>, wanted: bool) -> Result<Vec<&'a [u8]>, AllocError>
-    ensures value { IfOk result (λ v. map (λ w. w.now) v.items ≡ map (λ w. w.now) words.entry.items ++ (if wanted then [] ∷ [] else [])) }
+    ensures value { IfOk result
+        (λ v. map (λ w. w.now) v.items ≡ map (λ w. w.now) words.entry.items ++ (if wanted then [] ∷ [] else [])) }
 {
     if wanted {
         words.push(b"".as_slice())?;
@@ -73,7 +76,8 @@ fn ended<'a>(mut words: Vec<&'a [u8]>, wanted: bool) -> Result<Vec<&'a [u8]>, Al
 
 /// The words with an empty one before them, where it is wanted.
 fn begun<'a>(mut words: Vec<&'a [u8]>, wanted: bool) -> Result<Vec<&'a [u8]>, AllocError>
-    ensures value { IfOk result (λ v. map (λ w. w.now) v.items ≡ (if wanted then [] ∷ [] else []) ++ map (λ w. w.now) words.entry.items) }
+    ensures value { IfOk result
+        (λ v. map (λ w. w.now) v.items ≡ (if wanted then [] ∷ [] else []) ++ map (λ w. w.now) words.entry.items) }
 {
     if wanted {
         words.insert(0, b"".as_slice())?;

@@ -63,7 +63,8 @@ fn judge_at(rows: &mut [Assembly], place: usize, now: u64, h: &PartHeard) -> Tak
     requires fits { Fits h.now.part }
     requires time { now ≤ 2 ^ 48 }
     ensures value { (d : Assembly) → result ≡ judged (slice_index_or rows.old place d) now h.now }
-    ensures state { (d : Assembly) → rows.new ≡ slice_set rows.old place (judged_after (slice_index_or rows.old place d) now h.now) }
+    ensures state { (d : Assembly)
+        → rows.new ≡ slice_set rows.old place (judged_after (slice_index_or rows.old place d) now h.now) }
 {
     judge(&mut rows[place], now, h)
 }

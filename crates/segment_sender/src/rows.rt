@@ -33,7 +33,8 @@ fn place_of(rows: &[Sending], from: Address, obo: bool, seq_zero: u16) -> Option
 fn ack_at(rows: &mut Rows, place: usize, block: u32) -> Acked
     requires { place < length rows.old.items }
     ensures value { (d : Sending) → result ≡ ack_in block (slice_index_or rows.old.items place d) }
-    ensures state { (d : Sending) → rows.new.items ≡ left_at rows.old.items place block (slice_index_or rows.old.items place d) }
+    ensures state { (d : Sending)
+        → rows.new.items ≡ left_at rows.old.items place block (slice_index_or rows.old.items place d) }
 {
     if block == 0 {
         rows.remove(place);

@@ -33,25 +33,39 @@ pub(crate) fn put_numbers<F: Flash>(
     requires rises { IsNotBelow store.old.persist item.now }
     requires said { IsSaid store.old.persist }
 
-    ensures closed { store.old.journal.closed ≡ true → (result ≡ Err KeepFault.Closed) × (store.new ≡ store.old) × (flash.new ≡ flash.old) }
-    ensures cause { store.old.journal.closed ≡ false → OnErr result ((result ≡ Err KeepFault.Flash) × (store.new.journal.closed ≡ true) × ((F.chip flash.old).faults < (F.chip flash.new).faults)) }
+    ensures closed { store.old.journal.closed ≡ true
+        → (result ≡ Err KeepFault.Closed) × (store.new ≡ store.old) × (flash.new ≡ flash.old) }
+    ensures cause { store.old.journal.closed ≡ false
+        → OnErr result
+        ((result ≡ Err KeepFault.Flash) × (store.new.journal.closed ≡ true)
+        × ((F.chip flash.old).faults < (F.chip flash.new).faults)) }
     ensures refused { OnErr result (store.new.persist ≡ store.old.persist) }
     ensures usable { OnOk result (store.new.journal.closed ≡ false) }
     ensures used { OnOk result (store.new.journal.used ≡ used_with_room store.old + 1) }
     ensures change { OnOk result (config_in store.new.persist ≡ changed (config_in store.old.persist) item.now) }
-    ensures meaning { OnOk result ((records : List StoreRecord) → IsMeaningOf records store.old.persist → IsMeaningOf (records ++ item.now ∷ []) store.new.persist) }
-    ensures steps { (w : World) (published : ℕ) → IsWorldOf w store.old.persist published → OnOk result (GoesBy (numbers_step item.now) w store.new.persist published) }
+    ensures meaning { OnOk result
+        ((records : List StoreRecord) → IsMeaningOf records store.old.persist
+        → IsMeaningOf (records ++ item.now ∷ []) store.new.persist) }
+    ensures steps { (w : World) (published : ℕ) → IsWorldOf w store.old.persist published
+        → OnOk result (GoesBy (numbers_step item.now) w store.new.persist published) }
 
     // of a store of this flash
-    ensures kept { (records : List StoreRecord) → IsStoreOf (F.chip flash.old) store.old records → OnOk result (IsStoreOf (F.chip flash.new) store.new (records ++ item.now ∷ [])) }
-    ensures safe { (records : List StoreRecord) → IsStoreOf (F.chip flash.old) store.old records → IsDurable (F.chip flash.new) store.old.persist.mark }
-    ensures durable { (records : List StoreRecord) → IsStoreOf (F.chip flash.old) store.old records → OnOk result (IsDurable (F.chip flash.new) store.new.persist.mark) }
-    ensures any_moment { (records : List StoreRecord) → IsStoreOf (F.chip flash.old) store.old records → LeavesOnly (F.chip flash.old) (F.chip flash.new) (IsPut records item.now) }
-    ensures mark { (records : List StoreRecord) → IsStoreOf (F.chip flash.old) store.old records → LeavesOnly (F.chip flash.old) (F.chip flash.new) (HasMarkFrom store.old.persist.mark) }
+    ensures kept { (records : List StoreRecord) → IsStoreOf (F.chip flash.old) store.old records
+        → OnOk result (IsStoreOf (F.chip flash.new) store.new (records ++ item.now ∷ [])) }
+    ensures safe { (records : List StoreRecord) → IsStoreOf (F.chip flash.old) store.old records
+        → IsDurable (F.chip flash.new) store.old.persist.mark }
+    ensures durable { (records : List StoreRecord) → IsStoreOf (F.chip flash.old) store.old records
+        → OnOk result (IsDurable (F.chip flash.new) store.new.persist.mark) }
+    ensures any_moment { (records : List StoreRecord) → IsStoreOf (F.chip flash.old) store.old records
+        → LeavesOnly (F.chip flash.old) (F.chip flash.new) (IsPut records item.now) }
+    ensures mark { (records : List StoreRecord) → IsStoreOf (F.chip flash.old) store.old records
+        → LeavesOnly (F.chip flash.old) (F.chip flash.new) (HasMarkFrom store.old.persist.mark) }
 
     // over a steady flash
-    ensures calls { IsTrue (F.chip flash.old).steady → OnOk result (Begins (calls_of store.old) (F.chip flash.old) (F.chip flash.new)) }
-    ensures most_calls { IsTrue (F.chip flash.old).steady → BeginsAtMost (calls_of store.old) (F.chip flash.old) (F.chip flash.new) }
+    ensures calls { IsTrue (F.chip flash.old).steady
+        → OnOk result (Begins (calls_of store.old) (F.chip flash.old) (F.chip flash.new)) }
+    ensures most_calls { IsTrue (F.chip flash.old).steady
+        → BeginsAtMost (calls_of store.old) (F.chip flash.old) (F.chip flash.new) }
 
     // of every flash, honest or not
     ensures reads { (F.chip flash.new).reads ≡ (F.chip flash.old).reads }

@@ -53,7 +53,8 @@ fn mark_under(p: &Persist, to: &IvState) -> u64
     requires transmit { HasTransmit to.now }
     requires rises { transmit_of p.now.iv ≤ transmit_of to.now }
 
-    ensures value { result ≡ (if nat_lt (transmit_of p.now.iv) (transmit_of to.now) then first_word to.now else p.now.mark) }
+    ensures value { result
+        ≡ (if nat_lt (transmit_of p.now.iv) (transmit_of to.now) then first_word to.now else p.now.mark) }
     ensures range { IsMark to.now result }
     ensures rises { p.now.mark ≤ result }
 {

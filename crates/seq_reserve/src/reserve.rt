@@ -43,7 +43,8 @@ impl Reserve {
     /// dropped then, and is mounted again.
     pub fn start(alloc: Global, store: Store) -> Result<(Reserve, Numbers, Drawer), AllocError>
         ensures opened { IfOk result (λ t. t.1.opened ≡ store.persist.mark) }
-        ensures keeper { IfOk result (λ t. t.0.keeper ≡ record { which = t.1.which; mark = store.persist.mark; advances = [] }) }
+        ensures keeper { IfOk result
+            (λ t. t.0.keeper ≡ record { which = t.1.which; mark = store.persist.mark; advances = [] }) }
         ensures drawer { IfOk result (λ t. t.2 ≡ fresh t.1.which [] 1024) }
         ensures store { IfOk result (λ t. t.0.store ≡ store) }
         ensures published { IfOk result (λ t. IsPublished t.0.store t.0.keeper) }
@@ -83,28 +84,50 @@ impl Reserve {
         requires unspent { seq_of seen < 2 ^ 24 }
 
         ensures value { IfOk result (λ mark. mark ≡ self.new.keeper.mark) }
-        ensures nothing { seen ≢ self.old.keeper.mark → (result ≡ Ok self.old.keeper.mark) × (self.new ≡ self.old) × (flash.new ≡ flash.old) }
-        ensures filled { seen ≡ self.old.keeper.mark → OnOk result ((self.new.keeper ≡ record self.old.keeper { mark = seen + 256 }) × (config_in self.new.store.persist ≡ changed (config_in self.old.store.persist) (fill_of (config_in self.old.store.persist)))) }
-        ensures meaning { (records : List StoreRecord) → IsMeaningOf records self.old.store.persist → seen ≡ self.old.keeper.mark → OnOk result (IsMeaningOf (records ++ fill_of (config_of records) ∷ []) self.new.store.persist) }
+        ensures nothing { seen ≢ self.old.keeper.mark
+            → (result ≡ Ok self.old.keeper.mark) × (self.new ≡ self.old) × (flash.new ≡ flash.old) }
+        ensures filled { seen ≡ self.old.keeper.mark
+            → OnOk result
+            ((self.new.keeper ≡ record self.old.keeper { mark = seen + 256 })
+            × (config_in self.new.store.persist
+            ≡ changed (config_in self.old.store.persist) (fill_of (config_in self.old.store.persist)))) }
+        ensures meaning { (records : List StoreRecord) → IsMeaningOf records self.old.store.persist
+            → seen ≡ self.old.keeper.mark
+            → OnOk result (IsMeaningOf (records ++ fill_of (config_of records) ∷ []) self.new.store.persist) }
         ensures usable { seen ≡ self.old.keeper.mark → OnOk result (self.new.store.journal.closed ≡ false) }
-        ensures used { seen ≡ self.old.keeper.mark → OnOk result (self.new.store.journal.used ≡ used_with_room self.old.store + 1) }
-        ensures refused { OnErr result ((self.new.keeper ≡ self.old.keeper) × (self.new.store.persist ≡ self.old.store.persist)) }
-        ensures closed { seen ≡ self.old.keeper.mark → self.old.store.journal.closed ≡ true → (result ≡ Err KeepFault.Closed) × (self.new ≡ self.old) × (flash.new ≡ flash.old) }
-        ensures cause { seen ≡ self.old.keeper.mark → self.old.store.journal.closed ≡ false → OnErr result ((result ≡ Err KeepFault.Flash) × (self.new.store.journal.closed ≡ true) × ((F.chip flash.old).faults < (F.chip flash.new).faults)) }
-        ensures steps { (w : World) → IsWorldOf w self.old.store.persist self.old.keeper.mark → seen ≡ self.old.keeper.mark → OnOk result (GoesBy (refilling self.old.store.persist) w self.new.store.persist self.new.keeper.mark) }
+        ensures used { seen ≡ self.old.keeper.mark
+            → OnOk result (self.new.store.journal.used ≡ used_with_room self.old.store + 1) }
+        ensures refused { OnErr result
+            ((self.new.keeper ≡ self.old.keeper) × (self.new.store.persist ≡ self.old.store.persist)) }
+        ensures closed { seen ≡ self.old.keeper.mark → self.old.store.journal.closed ≡ true
+            → (result ≡ Err KeepFault.Closed) × (self.new ≡ self.old) × (flash.new ≡ flash.old) }
+        ensures cause { seen ≡ self.old.keeper.mark → self.old.store.journal.closed ≡ false
+            → OnErr result
+            ((result ≡ Err KeepFault.Flash) × (self.new.store.journal.closed ≡ true)
+            × ((F.chip flash.old).faults < (F.chip flash.new).faults)) }
+        ensures steps { (w : World) → IsWorldOf w self.old.store.persist self.old.keeper.mark
+            → seen ≡ self.old.keeper.mark
+            → OnOk result (GoesBy (refilling self.old.store.persist) w self.new.store.persist self.new.keeper.mark) }
         // for the next call
         ensures published { IsPublished self.new.store self.new.keeper }
         ensures made { self.new.keeper.which ≡ self.old.keeper.which }
 
         // of a store of this flash
-        ensures kept { (records : List StoreRecord) → IsStoreOf (F.chip flash.old) self.old.store records → seen ≡ self.old.keeper.mark → OnOk result (IsStoreOf (F.chip flash.new) self.new.store (records ++ fill_of (config_of records) ∷ [])) }
-        ensures any_moment { (records : List StoreRecord) → IsStoreOf (F.chip flash.old) self.old.store records → LeavesOnly (F.chip flash.old) (F.chip flash.new) (IsPut records (fill_of (config_of records))) }
-        ensures mark { (records : List StoreRecord) → IsStoreOf (F.chip flash.old) self.old.store records → LeavesOnly (F.chip flash.old) (F.chip flash.new) (HasMarkFrom self.old.store.persist.mark) }
-        ensures durable { (records : List StoreRecord) → IsStoreOf (F.chip flash.old) self.old.store records → IsDurable (F.chip flash.new) self.new.keeper.mark }
+        ensures kept { (records : List StoreRecord) → IsStoreOf (F.chip flash.old) self.old.store records
+            → seen ≡ self.old.keeper.mark
+            → OnOk result (IsStoreOf (F.chip flash.new) self.new.store (records ++ fill_of (config_of records) ∷ [])) }
+        ensures any_moment { (records : List StoreRecord) → IsStoreOf (F.chip flash.old) self.old.store records
+            → LeavesOnly (F.chip flash.old) (F.chip flash.new) (IsPut records (fill_of (config_of records))) }
+        ensures mark { (records : List StoreRecord) → IsStoreOf (F.chip flash.old) self.old.store records
+            → LeavesOnly (F.chip flash.old) (F.chip flash.new) (HasMarkFrom self.old.store.persist.mark) }
+        ensures durable { (records : List StoreRecord) → IsStoreOf (F.chip flash.old) self.old.store records
+            → IsDurable (F.chip flash.new) self.new.keeper.mark }
 
         // over a steady flash: the calls of one record put, and at most these where it fails; none where nothing changes
-        ensures calls { seen ≡ self.old.keeper.mark → IsTrue (F.chip flash.old).steady → OnOk result (Begins (calls_of self.old.store) (F.chip flash.old) (F.chip flash.new)) }
-        ensures most_calls { IsTrue (F.chip flash.old).steady → BeginsAtMost (calls_of self.old.store) (F.chip flash.old) (F.chip flash.new) }
+        ensures calls { seen ≡ self.old.keeper.mark → IsTrue (F.chip flash.old).steady
+            → OnOk result (Begins (calls_of self.old.store) (F.chip flash.old) (F.chip flash.new)) }
+        ensures most_calls { IsTrue (F.chip flash.old).steady
+            → BeginsAtMost (calls_of self.old.store) (F.chip flash.old) (F.chip flash.new) }
 
         // of every flash, honest or not
         ensures reads { (F.chip flash.new).reads ≡ (F.chip flash.old).reads }
@@ -153,28 +176,49 @@ impl Reserve {
         requires rises { transmit_of self.old.store.persist.iv ≤ transmit_of to.now }
 
         ensures stays { transmit_of self.old.store.persist.iv ≡ transmit_of to.now → self.new.keeper ≡ self.old.keeper }
-        ensures advanced { transmit_of self.old.store.persist.iv < transmit_of to.now → OnOk result ((self.new.keeper.mark ≡ first_word to.now) × ((found : ℕ) × (self.new.keeper.advances ≡ self.old.keeper.advances ++ (found, first_word to.now) ∷ []))) }
-        ensures change { OnOk result (config_in self.new.store.persist ≡ changed (config_in self.old.store.persist) (moved (config_in self.old.store.persist) to.now)) }
-        ensures meaning { (records : List StoreRecord) → IsMeaningOf records self.old.store.persist → OnOk result (IsMeaningOf (records ++ moved (config_of records) to.now ∷ []) self.new.store.persist) }
+        ensures advanced { transmit_of self.old.store.persist.iv < transmit_of to.now
+            → OnOk result
+            ((self.new.keeper.mark ≡ first_word to.now)
+            × ((found : ℕ)
+            × (self.new.keeper.advances ≡ self.old.keeper.advances ++ (found, first_word to.now) ∷ []))) }
+        ensures change { OnOk result
+            (config_in self.new.store.persist
+            ≡ changed (config_in self.old.store.persist) (moved (config_in self.old.store.persist) to.now)) }
+        ensures meaning { (records : List StoreRecord) → IsMeaningOf records self.old.store.persist
+            → OnOk result (IsMeaningOf (records ++ moved (config_of records) to.now ∷ []) self.new.store.persist) }
         ensures usable { OnOk result (self.new.store.journal.closed ≡ false) }
         ensures used { OnOk result (self.new.store.journal.used ≡ used_with_room self.old.store + 1) }
-        ensures refused { OnErr result ((self.new.keeper ≡ self.old.keeper) × (self.new.store.persist ≡ self.old.store.persist)) }
-        ensures closed { self.old.store.journal.closed ≡ true → (result ≡ Err KeepFault.Closed) × (self.new ≡ self.old) × (flash.new ≡ flash.old) }
-        ensures cause { self.old.store.journal.closed ≡ false → OnErr result ((result ≡ Err KeepFault.Flash) × (self.new.store.journal.closed ≡ true) × ((F.chip flash.old).faults < (F.chip flash.new).faults)) }
-        ensures steps { (w : World) → IsWorldOf w self.old.store.persist self.old.keeper.mark → OnOk result (GoesBy (moving self.old.store.persist to.now) w self.new.store.persist self.new.keeper.mark) }
+        ensures refused { OnErr result
+            ((self.new.keeper ≡ self.old.keeper) × (self.new.store.persist ≡ self.old.store.persist)) }
+        ensures closed { self.old.store.journal.closed ≡ true
+            → (result ≡ Err KeepFault.Closed) × (self.new ≡ self.old) × (flash.new ≡ flash.old) }
+        ensures cause { self.old.store.journal.closed ≡ false
+            → OnErr result
+            ((result ≡ Err KeepFault.Flash) × (self.new.store.journal.closed ≡ true)
+            × ((F.chip flash.old).faults < (F.chip flash.new).faults)) }
+        ensures steps { (w : World) → IsWorldOf w self.old.store.persist self.old.keeper.mark
+            → OnOk result
+            (GoesBy (moving self.old.store.persist to.now) w self.new.store.persist self.new.keeper.mark) }
         // for the next call
         ensures published { IsPublished self.new.store self.new.keeper }
         ensures made { self.new.keeper.which ≡ self.old.keeper.which }
 
         // of a store of this flash
-        ensures kept { (records : List StoreRecord) → IsStoreOf (F.chip flash.old) self.old.store records → OnOk result (IsStoreOf (F.chip flash.new) self.new.store (records ++ moved (config_of records) to.now ∷ [])) }
-        ensures any_moment { (records : List StoreRecord) → IsStoreOf (F.chip flash.old) self.old.store records → LeavesOnly (F.chip flash.old) (F.chip flash.new) (IsPut records (moved (config_of records) to.now)) }
-        ensures mark { (records : List StoreRecord) → IsStoreOf (F.chip flash.old) self.old.store records → LeavesOnly (F.chip flash.old) (F.chip flash.new) (HasMarkFrom self.old.store.persist.mark) }
-        ensures durable { (records : List StoreRecord) → IsStoreOf (F.chip flash.old) self.old.store records → IsDurable (F.chip flash.new) self.new.keeper.mark }
+        ensures kept { (records : List StoreRecord) → IsStoreOf (F.chip flash.old) self.old.store records
+            → OnOk result
+            (IsStoreOf (F.chip flash.new) self.new.store (records ++ moved (config_of records) to.now ∷ [])) }
+        ensures any_moment { (records : List StoreRecord) → IsStoreOf (F.chip flash.old) self.old.store records
+            → LeavesOnly (F.chip flash.old) (F.chip flash.new) (IsPut records (moved (config_of records) to.now)) }
+        ensures mark { (records : List StoreRecord) → IsStoreOf (F.chip flash.old) self.old.store records
+            → LeavesOnly (F.chip flash.old) (F.chip flash.new) (HasMarkFrom self.old.store.persist.mark) }
+        ensures durable { (records : List StoreRecord) → IsStoreOf (F.chip flash.old) self.old.store records
+            → IsDurable (F.chip flash.new) self.new.keeper.mark }
 
         // over a steady flash: the calls of one record put, and at most these where it fails
-        ensures calls { IsTrue (F.chip flash.old).steady → OnOk result (Begins (calls_of self.old.store) (F.chip flash.old) (F.chip flash.new)) }
-        ensures most_calls { IsTrue (F.chip flash.old).steady → BeginsAtMost (calls_of self.old.store) (F.chip flash.old) (F.chip flash.new) }
+        ensures calls { IsTrue (F.chip flash.old).steady
+            → OnOk result (Begins (calls_of self.old.store) (F.chip flash.old) (F.chip flash.new)) }
+        ensures most_calls { IsTrue (F.chip flash.old).steady
+            → BeginsAtMost (calls_of self.old.store) (F.chip flash.old) (F.chip flash.new) }
 
         // of every flash, honest or not
         ensures reads { (F.chip flash.new).reads ≡ (F.chip flash.old).reads }
@@ -200,7 +244,8 @@ fn go_on(n: &Numbers, keeper: &mut Keeper, rises: bool, mark: u64, iv: u32)
 
     ensures stays { rises ≡ false → keeper.new ≡ keeper.old }
     ensures published { rises ≡ true → keeper.new.mark ≡ mark }
-    ensures advanced { rises ≡ true → (found : ℕ) × (keeper.new.advances ≡ keeper.old.advances ++ (found, iv * 2 ^ 25) ∷ []) }
+    ensures advanced { rises ≡ true
+        → (found : ℕ) × (keeper.new.advances ≡ keeper.old.advances ++ (found, iv * 2 ^ 25) ∷ []) }
     ensures frame { keeper.new.which ≡ keeper.old.which }
 {
     if rises {

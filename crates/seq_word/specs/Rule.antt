@@ -61,7 +61,8 @@ pub record Stands (opened next mark keeper : ℕ) (views : List View) : Type 0 w
   pub each : (by : ℕ) (v : View) → get_elem? views by ≡ some v → Fits opened next mark keeper by v
   -- the drawers' parts are 1,024 at most, and fewer where a drawer has none: one was lost, where a seat with one part was split
   pub parts : sum_by (λ v. v.parts) views ≤ 1024
-  pub lost : (by : ℕ) (v : View) → get_elem? views by ≡ some v → v.draws ≡ true → v.parts ≡ 0 → sum_by (λ v. v.parts) views < 1024
+  pub lost : (by : ℕ) (v : View) → get_elem? views by ≡ some v → v.draws ≡ true → v.parts ≡ 0
+      → sum_by (λ v. v.parts) views < 1024
 
 -- The running rule, which holds between any two atomic steps
 pub record Ruled {S : Type 0} (opened : ℕ) (s : State S View) : Type 0 where
@@ -73,7 +74,18 @@ pub record Ruled {S : Type 0} (opened : ℕ) (s : State S View) : Type 0 where
 
 -- A seat that knows nothing. A seat that was joined to another is left with this view
 abbrev pub nobody : View
-nobody = record { keeps = false; mark = 0; advances = []; draws = false; parts = 0; drawn = []; raised = []; noted = []; looks = [] }
+nobody =
+    record {
+      keeps = false;
+      mark = 0;
+      advances = [];
+      draws = false;
+      parts = 0;
+      drawn = [];
+      raised = [];
+      noted = [];
+      looks = [];
+    }
 
 -- the keeper's seat at the start, with all parts
 abbrev pub first_keeper : ℕ → View
@@ -146,7 +158,8 @@ module _ {S : Type 0} where
   abbrev pub Draws : Step S → Me S View → ℕ → Me S View → Type 0
   Draws st v found w =
       IsLastSeen st.first v.0 × (st.second ≡ st.first + 1)
-      × (found ≡ st.first → (w ≡ (drawing v.0 found st.second, v.1)) × All (λ x. x < found) v.0.drawn × All (λ x. x < found) v.0.noted)
+      × (found ≡ st.first
+      → (w ≡ (drawing v.0 found st.second, v.1)) × All (λ x. x < found) v.0.drawn × All (λ x. x < found) v.0.noted)
       × (found ≢ st.first → (w ≡ (seeing v.0 (saw.Counter found), v.1)) × (st.first < found))
 
   -- a store on the mark: it is the keeper's mark
@@ -181,5 +194,6 @@ DrawnOnce views =
 -- at most one seat keeps the mark, and the second word is its mark
 abbrev pub MarkIsKept : {S : Type 0} → State S View → Type 0
 MarkIsKept s =
-    (by by' : ℕ) (v w : View) → get_elem? s.views by ≡ some v → get_elem? s.views by' ≡ some w → v.keeps ≡ true → w.keeps ≡ true
+    (by by' : ℕ) (v w : View) → get_elem? s.views by ≡ some v → get_elem? s.views by' ≡ some w → v.keeps ≡ true
+    → w.keeps ≡ true
     → (by ≡ by') × (slice_index s.words 1 ≡ v.mark)

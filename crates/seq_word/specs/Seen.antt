@@ -62,8 +62,10 @@ pub record Finds (p : Pair) (v w : DrawerView) : Type 0 where
 
 -- The cause of a miss, by the looks of the try: first at the mark, then at the counter, and where the exchange was lost what it found
 abbrev pub HasCause : Miss → DrawerView → DrawerView → Type 0
-HasCause (missed.Spent iv) v w = (mark : ℕ) × (w.looks ≡ v.looks ++ saw.Mark mark ∷ saw.Counter (iv * 2 ^ 25 + 2 ^ 24) ∷ [])
-HasCause (missed.Dry next mark) v w = (w.looks ≡ v.looks ++ saw.Mark mark ∷ saw.Counter next ∷ []) × (mark ≤ next) × (seq_of next < 2 ^ 24)
+HasCause (missed.Spent iv) v w =
+    (mark : ℕ) × (w.looks ≡ v.looks ++ saw.Mark mark ∷ saw.Counter (iv * 2 ^ 25 + 2 ^ 24) ∷ [])
+HasCause (missed.Dry next mark) v w =
+    (w.looks ≡ v.looks ++ saw.Mark mark ∷ saw.Counter next ∷ []) × (mark ≤ next) × (seq_of next < 2 ^ 24)
 HasCause (missed.Lost expected found) v w =
     (mark : ℕ) × (w.looks ≡ v.looks ++ saw.Mark mark ∷ saw.Counter expected ∷ saw.Counter found ∷ [])
     × (expected < found) × (expected < mark) × (seq_of expected < 2 ^ 24)

@@ -22,6 +22,7 @@ pub fn mark_is_kept()
 /// the order: so lists of drawn words may be put together in any order.
 pub fn distinct()
     ensures value { (words : List ℕ) → ((x : ℕ) → times x words ≤ 1) → AllPairs (λ x y. x ≢ y) words }
-    ensures any_order { (drawn words : List ℕ) → ((x : ℕ) → times x words ≤ times x drawn) → ((x : ℕ) → times x drawn ≤ 1)
+    ensures any_order { (drawn words : List ℕ) → ((x : ℕ) → times x words ≤ times x drawn)
+        → ((x : ℕ) → times x drawn ≤ 1)
         → AllPairs (λ x y. x ≢ y) words }
 {}

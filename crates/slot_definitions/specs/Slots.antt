@@ -24,12 +24,14 @@ gate_of text = slice_index text 31
 
 -- what a text holds: only gate 00 counts
 abbrev pub gated : List ℕ → Option Slot
-gated text = if gate_of text == 0 then Some (record { kind = slice_index text 0; body = slice_range text 1 31 }) else None
+gated text =
+    if gate_of text == 0 then Some (record { kind = slice_index text 0; body = slice_range text 1 31 }) else None
 
 -- what the slots 1 to n of a bank hold, in order
 abbrev pub slots_to : List ℕ → ℕ → ℕ → List Slot
 slots_to content bank zero = []
-slots_to content bank (suc n) = slots_to content bank n ++ option_to_list (gated (text_at content (1024 * bank + suc n)))
+slots_to content bank (suc n) =
+    slots_to content bank n ++ option_to_list (gated (text_at content (1024 * bank + suc n)))
 
 -- all that the slots of a bank hold
 unfoldable pub slots_of : List ℕ → ℕ → List Slot
@@ -43,17 +45,25 @@ format_of text = slice_index text 1
 
 -- the number in 4 octets, the high one first
 abbrev pub number_at : List ℕ → ℕ → ℕ
-number_at text at = 16777216 * slice_index text at + 65536 * slice_index text (at + 1) + 256 * slice_index text (at + 2) + slice_index text (at + 3)
+number_at text at =
+    16777216 * slice_index text at + 65536 * slice_index text (at + 1) + 256 * slice_index text
+    (at + 2) + slice_index text (at + 3)
 
 abbrev pub generation_of : List ℕ → ℕ
 generation_of text = number_at text 2
 
 -- gate 00, format 01 or 02, and a true complement
 unfoldable pub is_sound : List ℕ → Bool
-is_sound text = (gate_of text == 0) && (format_of text == 1 || format_of text == 2) && (number_at text 2 + number_at text 6 == 4294967295)
+is_sound text =
+    (gate_of text == 0) && (format_of text == 1 || format_of text == 2)
+    && (number_at text 2 + number_at text 6 == 4294967295)
 
 abbrev pub header_of : ℕ → ℕ → Slot
-header_of format generation = record { kind = 240; body = format ∷ to_be_bytes w32 generation ++ to_be_bytes w32 (4294967295 - generation) ++ replicate 21 0 }
+header_of format generation =
+    record {
+      kind = 240;
+      body = format ∷ to_be_bytes w32 generation ++ to_be_bytes w32 (4294967295 - generation) ++ replicate 21 0;
+    }
 
 -- Of two sound headers the one counts whose generation is the other's plus one, modulo 2 ^ 32; where neither is, the greater, and bank 0
 -- where they are equal.
@@ -66,7 +76,8 @@ newer first second =
 -- the bank that counts, by the headers of both
 unfoldable pub counting_by : List ℕ → List ℕ → Option ℕ
 counting_by first second =
-    if is_sound first then (if is_sound second then Some (newer (generation_of first) (generation_of second)) else Some 0)
+    if is_sound first
+    then (if is_sound second then Some (newer (generation_of first) (generation_of second)) else Some 0)
     else (if is_sound second then Some 1 else None)
 
 abbrev pub counting : List ℕ → Option ℕ

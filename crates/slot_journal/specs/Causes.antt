@@ -16,7 +16,8 @@ IsMountCause old new no_mount.NoBank = (new.faults ≡ old.faults) × (IsTrue ol
 -- the flash failed in this call; or it didn't, and an octet isn't ff
 abbrev pub IsFormatCause : Chip → Chip → formatting.FormatFault → Type 0
 IsFormatCause old new format_fault.Flash = old.faults < new.faults
-IsFormatCause old new (format_fault.NotErased at) = (new.faults ≡ old.faults) × (IsTrue old.honest → IsFirstWritten old.now at)
+IsFormatCause old new (format_fault.NotErased at) =
+    (new.faults ≡ old.faults) × (IsTrue old.honest → IsFirstWritten old.now at)
 
 abbrev pub IsNotErased : formatting.FormatFault → Type 0
 IsNotErased format_fault.Flash = ⊥

@@ -58,18 +58,35 @@ impl Journal {
     pub fn compact<F: Flash>(&mut self, flash: &mut F, items: &[Slot]) -> Result<(), CompactFault>
         requires { length items.now ≤ 512 }
 
-        ensures closed { self.old.closed ≡ true → (result ≡ Err CompactFault.Closed) × (self.new ≡ self.old) × (flash.new ≡ flash.old) }
-        ensures cause { self.old.closed ≡ false → OnErr result ((result ≡ Err CompactFault.Flash) × (self.new ≡ record self.old { closed = true }) × ((F.chip flash.old).faults < (F.chip flash.new).faults)) }
-        ensures ok { OnOk result (self.new ≡ record { bank = 1 - self.old.bank; used = length items.now; closed = false; generation = (self.old.generation + 1) % 4294967296; version = 2 }) }
+        ensures closed { self.old.closed ≡ true
+            → (result ≡ Err CompactFault.Closed) × (self.new ≡ self.old) × (flash.new ≡ flash.old) }
+        ensures cause { self.old.closed ≡ false
+            → OnErr result
+            ((result ≡ Err CompactFault.Flash) × (self.new ≡ record self.old { closed = true })
+            × ((F.chip flash.old).faults < (F.chip flash.new).faults)) }
+        ensures ok { OnOk result
+            (self.new
+            ≡ record {
+              bank = 1 - self.old.bank;
+              used = length items.now;
+              closed = false;
+              generation = (self.old.generation + 1) % 4294967296;
+              version = 2;
+            }) }
 
         // Of a journal of this flash.
         ensures kept { IsJournalOf (F.chip flash.old) self.old → OnOk result (IsJournalOf (F.chip flash.new) self.new) }
-        ensures durable { IsJournalOf (F.chip flash.old) self.old → OnOk result (recovered (F.chip flash.new).now ≡ Some (record { format = 2; slots = items.now })) }
-        ensures any_moment { IsJournalOf (F.chip flash.old) self.old → LeavesOnly (F.chip flash.old) (F.chip flash.new) (IsCompacted (recovered (F.chip flash.old).now) items.now) }
+        ensures durable { IsJournalOf (F.chip flash.old) self.old
+            → OnOk result (recovered (F.chip flash.new).now ≡ Some (record { format = 2; slots = items.now })) }
+        ensures any_moment { IsJournalOf (F.chip flash.old) self.old
+            → LeavesOnly (F.chip flash.old) (F.chip flash.new)
+            (IsCompacted (recovered (F.chip flash.old).now) items.now) }
 
         // over a steady flash: 8 erase calls, two program calls for each item and two for the header, and at most these where it fails
-        ensures calls { IsTrue (F.chip flash.old).steady → OnOk result (Begins (10 + 2 * length items.now) (F.chip flash.old) (F.chip flash.new)) }
-        ensures most_calls { IsTrue (F.chip flash.old).steady → BeginsAtMost (10 + 2 * length items.now) (F.chip flash.old) (F.chip flash.new) }
+        ensures calls { IsTrue (F.chip flash.old).steady
+            → OnOk result (Begins (10 + 2 * length items.now) (F.chip flash.old) (F.chip flash.new)) }
+        ensures most_calls { IsTrue (F.chip flash.old).steady
+            → BeginsAtMost (10 + 2 * length items.now) (F.chip flash.old) (F.chip flash.new) }
 
         // of every flash, honest or not
         ensures reads { (F.chip flash.new).reads ≡ (F.chip flash.old).reads }
@@ -100,8 +117,10 @@ impl Journal {
 /// Erases the sectors of a bank, 0 or 1, in ascending order.
 fn erase_bank<F: Flash>(flash: &mut F, bank: u32) -> Result<(), FlashFailed>
     requires { bank ≤ 1 }
-    ensures erased { IsFresh (F.chip flash.old) → IsContent (F.chip flash.old).now → OnOk result (IsErasedTo bank 8 (F.chip flash.old).now (F.chip flash.new)) }
-    ensures any_moment { IsFresh (F.chip flash.old) → IsContent (F.chip flash.old).now → LeavesOnly (F.chip flash.old) (F.chip flash.new) (IsErasing bank (F.chip flash.old).now) }
+    ensures erased { IsFresh (F.chip flash.old) → IsContent (F.chip flash.old).now
+        → OnOk result (IsErasedTo bank 8 (F.chip flash.old).now (F.chip flash.new)) }
+    ensures any_moment { IsFresh (F.chip flash.old) → IsContent (F.chip flash.old).now
+        → LeavesOnly (F.chip flash.old) (F.chip flash.new) (IsErasing bank (F.chip flash.old).now) }
     ensures calls { IsTrue (F.chip flash.old).steady → OnOk result (Begins 8 (F.chip flash.old) (F.chip flash.new)) }
     ensures most_calls { IsTrue (F.chip flash.old).steady → BeginsAtMost 8 (F.chip flash.old) (F.chip flash.new) }
     ensures reads { (F.chip flash.new).reads ≡ (F.chip flash.old).reads }

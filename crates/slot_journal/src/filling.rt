@@ -13,10 +13,14 @@ use mesh_base::slot::Slot;
 pub fn fill_bank<F: Flash>(flash: &mut F, bank: u32, items: &[Slot]) -> Result<(), FlashFailed>
     requires low { bank ≤ 1 }
     requires few { length items.now ≤ 512 }
-    ensures filled { (base : List ℕ) → IsBankFilled bank items.now 0 base (F.chip flash.old) → OnOk result (IsBankFilled bank items.now (length items.now) base (F.chip flash.new)) }
-    ensures any_moment { (base : List ℕ) → IsBankFilled bank items.now 0 base (F.chip flash.old) → LeavesOnly (F.chip flash.old) (F.chip flash.new) (IsBankBare bank base) }
-    ensures calls { IsTrue (F.chip flash.old).steady → OnOk result (Begins (2 * length items.now) (F.chip flash.old) (F.chip flash.new)) }
-    ensures most_calls { IsTrue (F.chip flash.old).steady → BeginsAtMost (2 * length items.now) (F.chip flash.old) (F.chip flash.new) }
+    ensures filled { (base : List ℕ) → IsBankFilled bank items.now 0 base (F.chip flash.old)
+        → OnOk result (IsBankFilled bank items.now (length items.now) base (F.chip flash.new)) }
+    ensures any_moment { (base : List ℕ) → IsBankFilled bank items.now 0 base (F.chip flash.old)
+        → LeavesOnly (F.chip flash.old) (F.chip flash.new) (IsBankBare bank base) }
+    ensures calls { IsTrue (F.chip flash.old).steady
+        → OnOk result (Begins (2 * length items.now) (F.chip flash.old) (F.chip flash.new)) }
+    ensures most_calls { IsTrue (F.chip flash.old).steady
+        → BeginsAtMost (2 * length items.now) (F.chip flash.old) (F.chip flash.new) }
     ensures reads { (F.chip flash.new).reads ≡ (F.chip flash.old).reads }
     ensures no_fault { OnOk result ((F.chip flash.new).faults ≡ (F.chip flash.old).faults) }
     ensures cause { OnErr result ((F.chip flash.old).faults < (F.chip flash.new).faults) }

@@ -48,15 +48,21 @@ impl Journal {
 
         ensures cause { IfErr result (IsFormatCause (F.chip flash.old) (F.chip flash.new)) }
         ensures erased { IsTrue (F.chip flash.old).honest → OnOk result (IsErased (F.chip flash.old).now) }
-        ensures unchanged { IsTrue (F.chip flash.old).honest → ¬ IsErased (F.chip flash.old).now → Stays (F.chip flash.old) (F.chip flash.new) }
-        ensures value { IfOk result (λ j. j ≡ record { bank = 0; used = length items.now; closed = false; generation = 1; version = format }) }
+        ensures unchanged { IsTrue (F.chip flash.old).honest → ¬ IsErased (F.chip flash.old).now
+            → Stays (F.chip flash.old) (F.chip flash.new) }
+        ensures value { IfOk result
+            (λ j. j ≡ record { bank = 0; used = length items.now; closed = false; generation = 1; version = format }) }
         ensures kept { IsFresh (F.chip flash.old) → IfOk result (IsJournalOf (F.chip flash.new)) }
-        ensures durable { IsFresh (F.chip flash.old) → OnOk result (recovered (F.chip flash.new).now ≡ Some (record { format = format; slots = items.now })) }
-        ensures any_moment { IsFresh (F.chip flash.old) → IsErased (F.chip flash.old).now → LeavesOnly (F.chip flash.old) (F.chip flash.new) (IsFormatted format items.now) }
+        ensures durable { IsFresh (F.chip flash.old)
+            → OnOk result (recovered (F.chip flash.new).now ≡ Some (record { format = format; slots = items.now })) }
+        ensures any_moment { IsFresh (F.chip flash.old) → IsErased (F.chip flash.old).now
+            → LeavesOnly (F.chip flash.old) (F.chip flash.new) (IsFormatted format items.now) }
 
         // over a steady flash: two program calls for each item and two for the header, and at most these where it fails
-        ensures calls { IsTrue (F.chip flash.old).steady → OnOk result (Begins (2 * length items.now + 2) (F.chip flash.old) (F.chip flash.new)) }
-        ensures most_calls { IsTrue (F.chip flash.old).steady → BeginsAtMost (2 * length items.now + 2) (F.chip flash.old) (F.chip flash.new) }
+        ensures calls { IsTrue (F.chip flash.old).steady
+            → OnOk result (Begins (2 * length items.now + 2) (F.chip flash.old) (F.chip flash.new)) }
+        ensures most_calls { IsTrue (F.chip flash.old).steady
+            → BeginsAtMost (2 * length items.now + 2) (F.chip flash.old) (F.chip flash.new) }
 
         // of every flash, honest or not
         ensures no_fault { OnOk result ((F.chip flash.new).faults ≡ (F.chip flash.old).faults) }

@@ -58,7 +58,13 @@ impl Model for Journal {
 
     ghost Value = { JournalView };
 
-    ghost view = { λ j. record { bank = j.bank; used = j.used; closed = j.closed; generation = j.generation; version = j.version } };
+    ghost view = { λ j. record {
+      bank = j.bank;
+      used = j.used;
+      closed = j.closed;
+      generation = j.generation;
+      version = j.version;
+    } };
 
     ghost invariant = { λ j. (j.bank ≤ 1) × (j.used ≤ 1023) × ((j.version ≡ 1) ⊎ (j.version ≡ 2)) };
 }
@@ -123,18 +129,27 @@ impl Journal {
     /// Nothing of any flash. The clauses on content are of a journal of this flash (`IsJournalOf`): `format` gives it over a fresh flash,
     /// `mount` over a fresh and tidy one, and each Ok keeps it (`kept`), if nothing else writes there.
     pub fn append<F: Flash>(&mut self, flash: &mut F, item: &Slot) -> Result<(), AppendFault>
-        ensures closed { self.old.closed ≡ true → (result ≡ Err AppendFault.Closed) × (self.new ≡ self.old) × (flash.new ≡ flash.old) }
-        ensures full { self.old.closed ≡ false → self.old.used ≡ 1023 → (result ≡ Err (AppendFault.Full 1023)) × (self.new ≡ self.old) × (flash.new ≡ flash.old) }
-        ensures cause { self.old.closed ≡ false → self.old.used < 1023 → OnErr result ((result ≡ Err AppendFault.Flash) × (self.new ≡ record self.old { closed = true }) × ((F.chip flash.old).faults < (F.chip flash.new).faults)) }
+        ensures closed { self.old.closed ≡ true
+            → (result ≡ Err AppendFault.Closed) × (self.new ≡ self.old) × (flash.new ≡ flash.old) }
+        ensures full { self.old.closed ≡ false → self.old.used ≡ 1023
+            → (result ≡ Err (AppendFault.Full 1023)) × (self.new ≡ self.old) × (flash.new ≡ flash.old) }
+        ensures cause { self.old.closed ≡ false → self.old.used < 1023
+            → OnErr result
+            ((result ≡ Err AppendFault.Flash) × (self.new ≡ record self.old { closed = true })
+            × ((F.chip flash.old).faults < (F.chip flash.new).faults)) }
         ensures ok { OnOk result (self.new ≡ record self.old { used = self.old.used + 1 }) }
 
         // Of a journal of this flash.
         ensures kept { IsJournalOf (F.chip flash.old) self.old → OnOk result (IsJournalOf (F.chip flash.new) self.new) }
-        ensures durable { IsJournalOf (F.chip flash.old) self.old → OnOk result (recovered (F.chip flash.new).now ≡ with_last item.now (recovered (F.chip flash.old).now)) }
-        ensures any_moment { IsJournalOf (F.chip flash.old) self.old → LeavesOnly (F.chip flash.old) (F.chip flash.new) (IsAppended (recovered (F.chip flash.old).now) item.now) }
+        ensures durable { IsJournalOf (F.chip flash.old) self.old
+            → OnOk result (recovered (F.chip flash.new).now ≡ with_last item.now (recovered (F.chip flash.old).now)) }
+        ensures any_moment { IsJournalOf (F.chip flash.old) self.old
+            → LeavesOnly (F.chip flash.old) (F.chip flash.new)
+            (IsAppended (recovered (F.chip flash.old).now) item.now) }
 
         // over a steady flash: two program calls, and at most two where it fails
-        ensures calls { IsTrue (F.chip flash.old).steady → OnOk result (Begins 2 (F.chip flash.old) (F.chip flash.new)) }
+        ensures calls { IsTrue (F.chip flash.old).steady
+            → OnOk result (Begins 2 (F.chip flash.old) (F.chip flash.new)) }
         ensures most_calls { IsTrue (F.chip flash.old).steady → BeginsAtMost 2 (F.chip flash.old) (F.chip flash.new) }
 
         // of every flash, honest or not

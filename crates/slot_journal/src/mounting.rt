@@ -39,8 +39,12 @@ impl Journal {
     pub fn mount<F: Flash>(flash: &mut F) -> Result<Self, NoMount>
         ensures cause { IfErr result (IsMountCause (F.chip flash.old) (F.chip flash.new)) }
         ensures mounted { IsTrue (F.chip flash.old).honest → IfOk result (IsMounted (F.chip flash.old).now) }
-        ensures value { IsTrue (F.chip flash.old).honest → IfOk result (λ j. recovered (F.chip flash.old).now ≡ Some (record { format = j.version; slots = slots_to (F.chip flash.old).now j.bank j.used })) }
-        ensures kept { IsFresh (F.chip flash.old) → IsTidy (F.chip flash.old).now → IfOk result (IsJournalOf (F.chip flash.new)) }
+        ensures value { IsTrue (F.chip flash.old).honest
+            → IfOk result
+            (λ j. recovered (F.chip flash.old).now
+            ≡ Some (record { format = j.version; slots = slots_to (F.chip flash.old).now j.bank j.used })) }
+        ensures kept { IsFresh (F.chip flash.old) → IsTidy (F.chip flash.old).now
+            → IfOk result (IsJournalOf (F.chip flash.new)) }
         ensures stays { IsTrue (F.chip flash.old).honest → Stays (F.chip flash.old) (F.chip flash.new) }
 
         // over a steady flash: it makes no program or erase call

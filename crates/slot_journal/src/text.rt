@@ -17,8 +17,10 @@ const FRONT_OCTETS: usize = 31;
 pub fn write_slot<F: Flash>(flash: &mut F, n: u32, slot: &Slot) -> Result<(), FlashFailed>
     requires { n < 2048 }
     ensures fresh { IsFresh (F.chip flash.old) → OnOk result (IsFresh (F.chip flash.new)) }
-    ensures written { IsFresh (F.chip flash.old) → text_at (F.chip flash.old).now n ≡ blank_text → OnOk result (IsWritten n (text_of slot.now) (F.chip flash.old).now (F.chip flash.new).now) }
-    ensures any_moment { IsFresh (F.chip flash.old) → text_at (F.chip flash.old).now n ≡ blank_text → LeavesOnly (F.chip flash.old) (F.chip flash.new) (IsSlotWrite n (text_of slot.now) (F.chip flash.old).now) }
+    ensures written { IsFresh (F.chip flash.old) → text_at (F.chip flash.old).now n ≡ blank_text
+        → OnOk result (IsWritten n (text_of slot.now) (F.chip flash.old).now (F.chip flash.new).now) }
+    ensures any_moment { IsFresh (F.chip flash.old) → text_at (F.chip flash.old).now n ≡ blank_text
+        → LeavesOnly (F.chip flash.old) (F.chip flash.new) (IsSlotWrite n (text_of slot.now) (F.chip flash.old).now) }
     ensures calls { IsTrue (F.chip flash.old).steady → OnOk result (Begins 2 (F.chip flash.old) (F.chip flash.new)) }
     ensures most_calls { IsTrue (F.chip flash.old).steady → BeginsAtMost 2 (F.chip flash.old) (F.chip flash.new) }
     ensures reads { (F.chip flash.new).reads ≡ (F.chip flash.old).reads }
@@ -40,8 +42,11 @@ fn write_front<F: Flash>(
 ) -> Result<(), FlashFailed>
     requires { n < 2048 }
     ensures fresh { IsFresh (F.chip flash.old) → OnOk result (IsFresh (F.chip flash.new)) }
-    ensures written { IsFresh (F.chip flash.old) → text_at (F.chip flash.old).now n ≡ blank_text → OnOk result (IsWritten n (front.now ++ 0 ∷ []) (F.chip flash.old).now (F.chip flash.new).now) }
-    ensures any_moment { IsFresh (F.chip flash.old) → text_at (F.chip flash.old).now n ≡ blank_text → LeavesOnly (F.chip flash.old) (F.chip flash.new) (IsSlotWrite n (front.now ++ 0 ∷ []) (F.chip flash.old).now) }
+    ensures written { IsFresh (F.chip flash.old) → text_at (F.chip flash.old).now n ≡ blank_text
+        → OnOk result (IsWritten n (front.now ++ 0 ∷ []) (F.chip flash.old).now (F.chip flash.new).now) }
+    ensures any_moment { IsFresh (F.chip flash.old) → text_at (F.chip flash.old).now n ≡ blank_text
+        → LeavesOnly (F.chip flash.old) (F.chip flash.new)
+        (IsSlotWrite n (front.now ++ 0 ∷ []) (F.chip flash.old).now) }
     ensures calls { IsTrue (F.chip flash.old).steady → OnOk result (Begins 2 (F.chip flash.old) (F.chip flash.new)) }
     ensures most_calls { IsTrue (F.chip flash.old).steady → BeginsAtMost 2 (F.chip flash.old) (F.chip flash.new) }
     ensures reads { (F.chip flash.new).reads ≡ (F.chip flash.old).reads }

@@ -144,7 +144,8 @@ subs_without element model subs = filter (λ s. not (s.0.0 == element.0 && s.1 =
 -- op 1 add, 2 delete, 3 all of the model go, 4 all of the model go and this one comes
 abbrev pub subs_after : ℕ → Address → ℕ → Address → List (Address × ℕ × Address) → List (Address × ℕ × Address)
 subs_after op element model address subs =
-    if op == 1 then (if list_any (is_sub element model address) subs then subs else subs ++ (element, model, address) ∷ [])
+    if op == 1
+    then (if list_any (is_sub element model address) subs then subs else subs ++ (element, model, address) ∷ [])
     else if op == 2 then filter (λ s. not (is_sub element model address s)) subs
     else if op == 3 then subs_without element model subs
     else if op == 4 then subs_without element model subs ++ (element, model, address) ∷ []
@@ -162,7 +163,8 @@ labels_without element model labels = filter (λ l. not (l.0.0 == element.0 && l
 -- op 1 add, 2 delete, 4 all of the model go and this one comes
 abbrev pub labels_after : ℕ → Address → ℕ → List ℕ → List (Address × ℕ × List ℕ) → List (Address × ℕ × List ℕ)
 labels_after op element model label labels =
-    if op == 1 then (if list_any (is_label element model label) labels then labels else labels ++ (element, model, label) ∷ [])
+    if op == 1
+    then (if list_any (is_label element model label) labels then labels else labels ++ (element, model, label) ∷ [])
     else if op == 2 then filter (λ l. not (is_label element model label l)) labels
     else if op == 4 then labels_without element model labels ++ (element, model, label) ∷ []
     else labels
@@ -195,7 +197,8 @@ unfoldable pub changed : Config → StoreRecord → Config
 changed c (R.Identity unicast elements dev_key) = record c { unicast = unicast; elements = elements; dev_key = dev_key }
 changed c (R.Numbers current progress mark hours since) =
     record c { iv = record { current = current; progress = progress; hours = hours; since = since }; mark = mark }
-changed c (R.Hour hours since) = record c { iv = record { current = c.iv.current; progress = c.iv.progress; hours = hours; since = since } }
+changed c (R.Hour hours since) =
+    record c { iv = record { current = c.iv.current; progress = c.iv.progress; hours = hours; since = since } }
 changed c (R.Replay first second) = c
 changed c (R.NetKey op index key) = record c {
   nets = nets_after op index key c.nets;

@@ -17,9 +17,12 @@ HasNoPlace records name = (entry_of records name.src.0 ≡ None) × (has_room re
 abbrev pub PassesLimit : List StoreRecord → StoreRecord → Type 0
 PassesLimit records (R.NetKey op index key) = 4 < length (nets_after op index key (config_of records).nets)
 PassesLimit records (R.AppKey op net index key) = 8 < length (apps_after op net index key (config_of records).apps)
-PassesLimit records (R.Bind op element model app) = 32 < length (binds_after op element model app (config_of records).binds)
-PassesLimit records (R.Subscribe op element model address) = 32 < length (subs_after op element model address (config_of records).subs)
-PassesLimit records (R.Label op element model label) = 32 < length (labels_after op element model label (config_of records).labels)
+PassesLimit records (R.Bind op element model app) =
+    32 < length (binds_after op element model app (config_of records).binds)
+PassesLimit records (R.Subscribe op element model address) =
+    32 < length (subs_after op element model address (config_of records).subs)
+PassesLimit records (R.Label op element model label) =
+    32 < length (labels_after op element model label (config_of records).labels)
 PassesLimit records (R.Publish row) = 8 < length (put_by publication_index row (config_of records).publications)
 PassesLimit records (R.Replay first second) =
     HasNoPlace records first ⊎ IsSomeAnd second (HasNoPlace (records ++ R.Replay first None ∷ []))

@@ -48,6 +48,7 @@ HasNext index row = row.index ≡ index → is_some row.next ≡ true
 -- A record that keeps a node whole: phase 2 comes where there is a next key, the last network key stays, and an application key comes under
 -- a network key that is held. What configuration, beacons, ticks, refills and accepted messages store is so.
 abbrev pub KeepsWhole : Config → StoreRecord → Type 0
-KeepsWhole c (R.NetKey op index key) = (op ≡ 3 → All (HasNext index) c.nets) × (op ≡ 5 → has_other_net c.nets index ≡ true)
+KeepsWhole c (R.NetKey op index key) =
+    (op ≡ 3 → All (HasNext index) c.nets) × (op ≡ 5 → has_other_net c.nets index ≡ true)
 KeepsWhole c (R.AppKey op net index key) = op ≡ 1 → is_held c.nets net ≡ true
 KeepsWhole c _ = ⊤

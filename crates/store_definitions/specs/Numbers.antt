@@ -18,4 +18,5 @@ filled (suc n) records = filled n (records ++ fill_of (config_of records) ∷ []
 -- The record of a new IV state. Where the transmit IV Index rises, SEQ starts at 0 under it; else the mark stays.
 abbrev pub moved : Config → IvState → StoreRecord
 moved c s =
-    R.Numbers s.current s.progress (if nat_lt (transmit_of c.iv) (transmit_of s) then transmit_of s * 2 ^ 25 else c.mark) s.hours s.since
+    R.Numbers s.current s.progress
+    (if nat_lt (transmit_of c.iv) (transmit_of s) then transmit_of s * 2 ^ 25 else c.mark) s.hours s.since

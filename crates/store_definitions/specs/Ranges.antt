@@ -51,16 +51,20 @@ IsInRange (R.Numbers current progress mark hours since) =
     × IsMark (record { current = current; progress = progress; hours = hours; since = since }) mark
     × (hours < 2 ^ 16) × (since < 2 ^ 16)
 IsInRange (R.Hour hours since) = (hours < 2 ^ 16) × (since < 2 ^ 16)
-IsInRange (R.Replay first second) = IsNameInRange first × IfSome second (λ name. IsNameInRange name × (is_zeros name ≡ false))
+IsInRange (R.Replay first second) =
+    IsNameInRange first × IfSome second (λ name. IsNameInRange name × (is_zeros name ≡ false))
 IsInRange (R.NetKey op index key) = (1 ≤ op) × (op ≤ 5) × (index ≤ 0xfff) × IsKeyOf (nat_le op 2) key
-IsInRange (R.AppKey op net index key) = (1 ≤ op) × (op ≤ 3) × (net ≤ 0xfff) × (index ≤ 0xfff) × IsKeyOf (nat_le op 2) key
+IsInRange (R.AppKey op net index key) =
+    (1 ≤ op) × (op ≤ 3) × (net ≤ 0xfff) × (index ≤ 0xfff) × IsKeyOf (nat_le op 2) key
 IsInRange (R.Bind op element model app) = (1 ≤ op) × (op ≤ 2) × (element.0 < 2 ^ 16) × (model < 2 ^ 16) × (app ≤ 0xfff)
 IsInRange (R.Subscribe op element model address) =
     (1 ≤ op) × (op ≤ 4) × (element.0 < 2 ^ 16) × (model < 2 ^ 16) × (address.0 < 2 ^ 16)
 IsInRange (R.Feature which value) = IsTrue (is_feature which value)
 IsInRange R.Reset = ⊤
-IsInRange (R.Model element model value) = (element < 4) × (((model ≡ 0x1000) × (value < 2)) ⊎ ((model ≡ 0x1002) × (value < 2 ^ 16)))
-IsInRange (R.Label op element model label) = IsTrue (op == 1 || op == 2 || op == 4) × (element.0 < 2 ^ 16) × (model < 2 ^ 16) × IsKey label
+IsInRange (R.Model element model value) =
+    (element < 4) × (((model ≡ 0x1000) × (value < 2)) ⊎ ((model ≡ 0x1002) × (value < 2 ^ 16)))
+IsInRange (R.Label op element model label) =
+    IsTrue (op == 1 || op == 2 || op == 4) × (element.0 < 2 ^ 16) × (model < 2 ^ 16) × IsKey label
 IsInRange (R.Publish row) =
     (row.element.0 < 2 ^ 16) × (row.model < 2 ^ 16) × (row.address.0 < 2 ^ 16) × (row.app ≤ 0xfff)
     × IsTrue (nat_le row.ttl 0x7f || row.ttl == 0xff) × (row.period < 2 ^ 8) × (row.retransmit < 2 ^ 8)

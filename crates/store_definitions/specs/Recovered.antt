@@ -22,13 +22,15 @@ name_octets name = two_octets name.src.0 ++ four_octets name.pair.iv ++ three_oc
 unfoldable pub record_text : StoreRecord → Slot
 record_text (R.Identity unicast elements dev_key) = slot_of 1 (two_octets unicast.0 ++ elements ∷ dev_key)
 record_text (R.Numbers current progress mark hours since) =
-    slot_of 2 (four_octets current ++ (if progress then 1 else 0) ∷ octets_of 8 mark ++ two_octets hours ++ two_octets since)
+    slot_of 2
+    (four_octets current ++ (if progress then 1 else 0) ∷ octets_of 8 mark ++ two_octets hours ++ two_octets since)
 record_text (R.Hour hours since) = slot_of 3 (two_octets hours ++ two_octets since)
 record_text (R.Replay first second) = slot_of 4 (name_octets first ++ flat_map name_octets (option_to_list second))
 record_text (R.NetKey op index key) = slot_of 5 (op ∷ two_octets index ++ key)
 record_text (R.AppKey op net index key) = slot_of 6 (op ∷ two_octets net ++ two_octets index ++ key)
 record_text (R.Bind op element model app) = slot_of 7 (op ∷ two_octets element.0 ++ two_octets model ++ two_octets app)
-record_text (R.Subscribe op element model address) = slot_of 8 (op ∷ two_octets element.0 ++ two_octets model ++ two_octets address.0)
+record_text (R.Subscribe op element model address) =
+    slot_of 8 (op ∷ two_octets element.0 ++ two_octets model ++ two_octets address.0)
 record_text (R.Feature which value) = slot_of 9 (which ∷ two_octets value)
 record_text R.Reset = slot_of 10 []
 record_text (R.Model element model value) = slot_of 11 (element ∷ two_octets model ++ two_octets value)

@@ -8,5 +8,6 @@ ghost use Rattle.store_definitions.specs.Ranges.{IsInRange};
 
 /// A node that is whole stays so with each record that keeps it whole.
 pub fn node_law()
-    ensures kept { (c : Config) (item : StoreRecord) → IsInRange item → KeepsWhole c item → IsWhole c → IsWhole (changed c item) }
+    ensures kept { (c : Config) (item : StoreRecord) → IsInRange item → KeepsWhole c item → IsWhole c
+        → IsWhole (changed c item) }
 {}

@@ -9,5 +9,6 @@ ghost use Rattle.store_definitions.specs.Recovered.{record_text, IsRecovered};
 /// Records with their fields in range have different texts, so an image recovers at most one list of records.
 pub fn one_list_is_recovered()
     ensures one_text { (r s : StoreRecord) → IsInRange r → IsInRange s → record_text r ≡ record_text s → r ≡ s }
-    ensures one_list { (image : List ℕ) (rs ss : List StoreRecord) → IsRecovered image rs → IsRecovered image ss → rs ≡ ss }
+    ensures one_list { (image : List ℕ) (rs ss : List StoreRecord) → IsRecovered image rs → IsRecovered image ss
+        → rs ≡ ss }
 {}

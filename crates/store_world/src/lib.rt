@@ -22,8 +22,10 @@ ghost use Rattle.store_world.specs.Standing.{entry_with, GoesBy, IsAboveKept, Is
 /// A Numbers record whose IV Index and mark aren't below the stored ones is a Reserve. A mark from the published to the stored one is
 /// published by a Publish, and the counter moves to an IV Index whose first word is published by an Advance.
 pub fn numbers_law()
-    ensures reserve { (w : World) (p q : Persist) (published : ℕ) (records : List StoreRecord) (current : ℕ) (progress : Bool) (mark hours since : ℕ)
-        → IsWorldOf w p published → IsMeaningOf records p → IsMeaningOf (records ++ R.Numbers current progress mark hours since ∷ []) q
+    ensures reserve { (w : World) (p q : Persist) (published : ℕ) (records : List StoreRecord) (current : ℕ)
+        (progress : Bool) (mark hours since : ℕ)
+        → IsWorldOf w p published → IsMeaningOf records p
+        → IsMeaningOf (records ++ R.Numbers current progress mark hours since ∷ []) q
         → p.iv.current ≤ current → p.mark ≤ mark → GoesBy (Reserve current mark ∷ []) w q published }
     ensures publish { (w : World) (p : Persist) (published mark : ℕ)
         → IsWorldOf w p published → published ≤ mark → mark ≤ p.mark → GoesBy (Publish mark ∷ []) w p mark }
@@ -36,11 +38,13 @@ pub fn numbers_law()
 pub fn accept_law()
     ensures accept { (w : World) (p q : Persist) (published : ℕ) (records : List StoreRecord) (name : Name)
         → IsWorldOf w p published → IsMeaningOf records p → IsMeaningOf (records ++ R.Replay name None ∷ []) q
-        → (name.pair.iv ≡ p.iv.current) ⊎ (name.pair.iv + 1 ≡ p.iv.current) → IsAboveKept (entry_in p name.src.0) name.pair
+        → (name.pair.iv ≡ p.iv.current) ⊎ (name.pair.iv + 1 ≡ p.iv.current)
+        → IsAboveKept (entry_in p name.src.0) name.pair
         → GoesBy (Accept name ∷ []) w q published }
     ensures entry { (p q : Persist) (records : List StoreRecord) (name : Name)
         → IsMeaningOf records p → IsMeaningOf (records ++ R.Replay name None ∷ []) q
-        → (name.pair.iv ≡ p.iv.current) ⊎ (name.pair.iv + 1 ≡ p.iv.current) → IsAboveKept (entry_in p name.src.0) name.pair
+        → (name.pair.iv ≡ p.iv.current) ⊎ (name.pair.iv + 1 ≡ p.iv.current)
+        → IsAboveKept (entry_in p name.src.0) name.pair
         → (src : ℕ) → entry_in q src ≡ entry_with name (entry_in p) src }
 {}
 
@@ -49,10 +53,15 @@ pub fn accept_law()
 pub fn standing_law()
     ensures provisioned { (made : node.Provisioning) (p : Persist) → IsMeaningOf (node.provisioned made) p
         → IsWorldOf (provisioned p.iv.current (transmit_of p.iv)) p p.mark }
-    ensures cut { (w : World) (p : Persist) (published : ℕ) → IsWorldOf w p published → GoesBy (Cut p.mark ∷ []) w p p.mark }
-    ensures draw { (w : World) (p : Persist) (published : ℕ) → IsWorldOf w p published → IsWorldOf (after w Draw) p published }
-    ensures seal { (w : World) (p : Persist) (published : ℕ) (sealing : Sealing) → IsWorldOf w p published → IsWorldOf (after w (Seal sealing)) p published }
-    ensures deliver { (w : World) (p : Persist) (published : ℕ) (name : Name) → IsWorldOf w p published → IsWorldOf (after w (Deliver name)) p published }
-    ensures expire { (w : World) (p : Persist) (published : ℕ) (src : Address) → IsWorldOf w p published → IsAllowed w (Expire src)
+    ensures cut { (w : World) (p : Persist) (published : ℕ) → IsWorldOf w p published
+        → GoesBy (Cut p.mark ∷ []) w p p.mark }
+    ensures draw { (w : World) (p : Persist) (published : ℕ) → IsWorldOf w p published
+        → IsWorldOf (after w Draw) p published }
+    ensures seal { (w : World) (p : Persist) (published : ℕ) (sealing : Sealing) → IsWorldOf w p published
+        → IsWorldOf (after w (Seal sealing)) p published }
+    ensures deliver { (w : World) (p : Persist) (published : ℕ) (name : Name) → IsWorldOf w p published
+        → IsWorldOf (after w (Deliver name)) p published }
+    ensures expire { (w : World) (p : Persist) (published : ℕ) (src : Address) → IsWorldOf w p published
+        → IsAllowed w (Expire src)
         → IsWorldOf (after w (Expire src)) p published }
 {}

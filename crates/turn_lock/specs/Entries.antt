@@ -54,7 +54,8 @@ merged xs (ys ∷ rest) = merged (merge xs ys) rest
 -- entry keeps something of the own entries of one pass alone.
 abbrev pub KeptOf : {A : Type 0} → (A → Bool) → List (List A) → List A → Type 0
 KeptOf keep [] ys = ys ≡ []
-KeptOf keep (x ∷ xs) ys = ((filter keep x ≡ ys) × All (λ z. filter keep z ≡ []) xs) ⊎ ((filter keep x ≡ []) × KeptOf keep xs ys)
+KeptOf keep (x ∷ xs) ys =
+    ((filter keep x ≡ ys) × All (λ z. filter keep z ≡ []) xs) ⊎ ((filter keep x ≡ []) × KeptOf keep xs ys)
 
 -- 1 where the number is below the bound, else 0
 abbrev pub one_below : ℕ → ℕ → ℕ

@@ -56,7 +56,8 @@ module _ {T E O : Type 0} (entries : T → List E) (origin : T → O) where
     -- each number from the serving word on and below the ticket word is the ticket of one pass, and no other number is a ticket
     pub tickets : (t : ℕ) → count_by (has_ticket t) views + one_below t serving ≡ one_below t ticket
     -- each place from the number of entries at `start` on and below the count belongs to one pass, and no other place to any
-    pub places : (p : ℕ) → sum_by (λ v. times_at p v.own) views + one_below p (length (entries first)) ≡ one_below p (length log)
+    pub places : (p : ℕ)
+        → sum_by (λ v. times_at p v.own) views + one_below p (length (entries first)) ≡ one_below p (length log)
     pub parts : sum_by (λ v. v.parts) views ≡ 1024
     pub each : (by : ℕ) (v : View T E) → get_elem? views by ≡ some v → Fits first serving log v
     pub home : ((by : ℕ) (v : View T E) → get_elem? views by ≡ some v → v.inside ≡ false) → IsHome first log homes

@@ -70,7 +70,17 @@ module _ {T E : Type 0} where
 
   -- a split: what the new pass has
   abbrev pub fresh : View T E → View T E
-  fresh v = record { parts = 1; waits = false; ticket = 0; inside = false; first = v.first; seen = v.seen; told = []; own = [] }
+  fresh v =
+      record {
+        parts = 1;
+        waits = false;
+        ticket = 0;
+        inside = false;
+        first = v.first;
+        seen = v.seen;
+        told = [];
+        own = [];
+      }
 
   -- a join: what the pass has then
   abbrev pub both : View T E → View T E → View T E

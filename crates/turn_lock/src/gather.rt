@@ -22,7 +22,8 @@ pub fn gather<T: Logged + Send + Drop>(
     ensures origin { T.origin result ≡ T.origin turn.first }
     // The value has the entries that it began with, and behind them those of the passes, in the order of their places.
     ensures begins { IsPrefix (T.entries turn.first) (T.entries result) }
-    ensures history { added (T.entries turn.first) (T.entries result) ≡ merged first.own (map (λ p. p.own) others.items) }
+    ensures history { added (T.entries turn.first) (T.entries result)
+        ≡ merged first.own (map (λ p. p.own) others.items) }
     ensures holds_first { Holds first.own (added (T.entries turn.first) (T.entries result)) }
     ensures holds { All (λ p. Holds p.own (added (T.entries turn.first) (T.entries result))) others.items }
     // A test that keeps entries of one pass alone finds them behind the first ones, each at its place, and in their order.

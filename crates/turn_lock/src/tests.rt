@@ -41,7 +41,8 @@ impl Logged for Log {
 impl Log {
     fn add(&mut self, thread: usize, turn: u32) -> Result<(), AllocError>
         ensures name { self.new.name ≡ self.old.name }
-        ensures ok { OnOk result (self.new.lines.items ≡ self.old.lines.items ++ record { thread = thread; turn = turn } ∷ []) }
+        ensures ok { OnOk result
+            (self.new.lines.items ≡ self.old.lines.items ++ record { thread = thread; turn = turn } ∷ []) }
         ensures err { OnErr result (self.new.lines.items ≡ self.old.lines.items) }
     {
         self.lines.push(Line { thread, turn })?;

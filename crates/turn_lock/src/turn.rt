@@ -61,7 +61,14 @@ impl<T: Logged> Model for Pass<T> {
 
     ghost Value = { PassView T T.Entry };
 
-    ghost view = { λ p. record { which = p.seat.table_id; first = p.seat.me.0.first; parts = p.seat.me.0.parts; inside = p.seat.me.0.inside; seen = p.seat.me.0.seen; own = p.seat.me.0.own } };
+    ghost view = { λ p. record {
+      which = p.seat.table_id;
+      first = p.seat.me.0.first;
+      parts = p.seat.me.0.parts;
+      inside = p.seat.me.0.inside;
+      seen = p.seat.me.0.seen;
+      own = p.seat.me.0.own;
+    } };
 
     ghost invariant = { λ p. IsAtRest p.seat.me p.found };
 }

@@ -11,7 +11,8 @@ use Rattle.layer_definitions.specs.Upper.{Opens, OpensUnder, upper_text}
 -- Under one key with some fields octets open to one payload at most.
 abbrev pub HaveOneOpening : Type 0
 HaveOneOpening =
-    (key : UpperKey) (f : UpperFields) (upper payload other : List ℕ) → OpensUnder key f upper payload → OpensUnder key f upper other → payload ≡ other
+    (key : UpperKey) (f : UpperFields) (upper payload other : List ℕ) → OpensUnder key f upper payload
+    → OpensUnder key f upper other → payload ≡ other
 
 -- By a list of keys they open by one place at most, and to one payload.
 abbrev pub HaveOnePlace : Type 0
@@ -21,18 +22,25 @@ HaveOnePlace =
 
 -- What was sealed opens to itself.
 abbrev pub PayloadsOpen : Type 0
-PayloadsOpen = (key : UpperKey) (f : UpperFields) (payload : List ℕ) → 1 ≤ length payload → OpensUnder key f (upper_text key f payload) payload
+PayloadsOpen =
+    (key : UpperKey) (f : UpperFields) (payload : List ℕ) → 1 ≤ length payload
+    → OpensUnder key f (upper_text key f payload) payload
 
 -- An opcode and parameters read as one control message at most.
 abbrev pub HaveOneMessage : Type 0
-HaveOneMessage = (opcode : ℕ) (params : List ℕ) (m other : ControlMsg) → ReadsControl opcode params m → ReadsControl opcode params other → m ≡ other
+HaveOneMessage =
+    (opcode : ℕ) (params : List ℕ) (m other : ControlMsg) → ReadsControl opcode params m
+    → ReadsControl opcode params other → m ≡ other
 
 -- The text of a control message reads as that message.
 abbrev pub MessagesReadBack : Type 0
 MessagesReadBack =
-    (opcode : ℕ) (params : List ℕ) (m : ControlMsg) → FitsControl m → IsControlInWidths m → control_text m ≡ opcode ∷ params → ReadsControl opcode params m
+    (opcode : ℕ) (params : List ℕ) (m : ControlMsg) → FitsControl m → IsControlInWidths m
+    → control_text m ≡ opcode ∷ params → ReadsControl opcode params m
 
 -- A Segment Acknowledgment with OBO 0 is the one that the lower transport layer's definitions write.
 abbrev pub AcknowledgmentsAgree : Type 0
 AcknowledgmentsAgree =
-    (seq_zero block_ack : ℕ) → control_text (Acknowledgment (record { obo = false; seq_zero = seq_zero; block_ack = block_ack })) ≡ lower_text (acknowledgment seq_zero block_ack)
+    (seq_zero block_ack : ℕ)
+    → control_text (Acknowledgment (record { obo = false; seq_zero = seq_zero; block_ack = block_ack }))
+    ≡ lower_text (acknowledgment seq_zero block_ack)

@@ -42,7 +42,8 @@ fn unseal_in_place(
     requires mic_length { (length mic.now ≡ 4) ⊎ (length mic.now ≡ 8) }
     requires label_length { length label.now ≤ 16 }
     ensures ok { OnOk result (Seals schedule.now nonce.now label.now text.new.items text.old.items mic.now) }
-    ensures bad_mic { OnErr result ((other : List ℕ) → Seals schedule.now nonce.now label.now other text.old.items mic.now → ⊥) }
+    ensures bad_mic { OnErr result
+        ((other : List ℕ) → Seals schedule.now nonce.now label.now other text.old.items mic.now → ⊥) }
 {
     aes_ccm::unseal(schedule, nonce, label, text.as_mut_slice(), mic)
 }
@@ -56,7 +57,8 @@ fn text_of(
 ) -> Option<ArrayVec<u8, 380>>
     requires sealed { length sealed.now ≤ 380 }
     requires mic { (length mic.now ≡ 4) ⊎ (length mic.now ≡ 8) }
-    ensures some { IfSome result (λ t. Seals (key_octets key.now) (upper_nonce key.now f.now) (label_octets f.now) t.items sealed.now mic.now) }
+    ensures some { IfSome result
+        (λ t. Seals (key_octets key.now) (upper_nonce key.now f.now) (label_octets f.now) t.items sealed.now mic.now) }
     ensures none { IsNone result → (other : List ℕ)
         → Seals (key_octets key.now) (upper_nonce key.now f.now) (label_octets f.now) other sealed.now mic.now → ⊥ }
 {

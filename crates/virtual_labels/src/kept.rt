@@ -58,7 +58,8 @@ fn opened_by(
     requires upper { length upper.now ≤ 384 }
     requires address { address.0 ≡ virtual_address label.now }
     ensures address { IfSome result (λ _. virtual_address label.now ≡ f.now.dst.0) }
-    ensures some { IfSome result (λ o. Opens (fitting_keys net aid keys.now) (with_label label.now f.now) upper.now o.at o.payload) }
+    ensures some { IfSome result
+        (λ o. Opens (fitting_keys net aid keys.now) (with_label label.now f.now) upper.now o.at o.payload) }
     ensures none { IsNone result → virtual_address label.now ≡ f.now.dst.0
         → IsUnopened (fitting_keys net aid keys.now) (with_label label.now f.now) upper.now }
 {
@@ -121,7 +122,9 @@ impl Labels {
     ) -> Result<LabelOpened, NoLabel>
         requires keys { length keys.now ≤ 16 }
         requires upper { length upper.now ≤ 384 }
-        ensures ok { IfOk result (λ o. OpensLabel (fitting_keys net aid keys.now) self.now f.now upper.now o.label o.opened.at o.opened.payload) }
+        ensures ok { IfOk result
+            (λ o. OpensLabel
+            (fitting_keys net aid keys.now) self.now f.now upper.now o.label o.opened.at o.opened.payload) }
         ensures no_label { IsErr result ↔ IsLabelUnopened (fitting_keys net aid keys.now) self.now f.now upper.now }
     {
         let addresses = self.addresses.as_slice();

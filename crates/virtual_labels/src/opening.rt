@@ -41,7 +41,8 @@ fn opened_with(keys: &[UpperKey], label: &[u8; 16], f: &UpperFields, upper: &[u8
     requires upper { length upper.now ≤ 384 }
     ensures address { IfSome result (λ _. virtual_address label.now ≡ f.now.dst.0) }
     ensures some { IfSome result (λ o. Opens keys.now (with_label label.now f.now) upper.now o.at o.payload) }
-    ensures none { IsNone result → virtual_address label.now ≡ f.now.dst.0 → IsUnopened keys.now (with_label label.now f.now) upper.now }
+    ensures none { IsNone result → virtual_address label.now ≡ f.now.dst.0
+        → IsUnopened keys.now (with_label label.now f.now) upper.now }
 {
     if mesh_kdf::address(label) != f.dst.0 {
         return None;
@@ -65,7 +66,8 @@ pub fn unseal(
     requires keys { length keys.now ≤ 16 }
     requires labels { length labels.now ≤ 32 }
     requires upper { length upper.now ≤ 384 }
-    ensures ok { IfOk result (λ o. OpensLabel keys.now labels.now f.now upper.now o.label o.opened.at o.opened.payload) }
+    ensures ok { IfOk result
+        (λ o. OpensLabel keys.now labels.now f.now upper.now o.label o.opened.at o.opened.payload) }
     ensures no_label { IsErr result ↔ IsLabelUnopened keys.now labels.now f.now upper.now }
 {
     for (place, label) in labels.iter().enumerate() {

@@ -20,20 +20,32 @@ use Rattle.worked_layers.specs.Walk.{address, handled, heard, iv, name, start, t
 module _ (net_key dev_key pdu octets : List ℕ) where
   -- a control PDU of the node 0201, under the master credentials, or those of its friendship
   abbrev fields : ℕ → ℕ → ℕ → NetFields
-  fields ttl seq dst = record { iv = iv; ctl = true; ttl = ttl; seq = seq; src = address 0x0201; dst = address dst; tpdu = [] }
+  fields ttl seq dst =
+      record { iv = iv; ctl = true; ttl = ttl; seq = seq; src = address 0x0201; dst = address dst; tpdu = [] }
 
   abbrev material : NetMaterial
   material = friendship_material net_key 0x0201 0x1201 0 0
 
   abbrev by_friend : ℕ → ℕ → ℕ → ℕ → List ℕ → Insight
   by_friend ttl seq dst opcode params =
-      OfPdu (Some (record { fields = fields ttl seq dst; by = record { index = 0; lpn = Some (address 0x0201); fresh = false; material = material } })) (Some (Control opcode params)) None
+      OfPdu
+      (Some
+      (record {
+        fields = fields ttl seq dst;
+        by = record {
+          index = 0;
+          lpn = Some (address 0x0201);
+          fresh = false;
+          material = material;
+        };
+      })) (Some (Control opcode params)) None
 
   abbrev answer : ℕ → ℕ → ℕ → List ℕ → Answer
   answer seq dst opcode params = A.Control (name 0x0201 seq) (address dst) opcode params
 
   abbrev then_control : Past → ℕ → ℕ → ℕ → List ℕ → Insight → Past
-  then_control past seq dst opcode params insight = then_at past (E.Net pdu) insight (answer seq dst opcode params) (R.Replay (name 0x0201 seq) None ∷ [])
+  then_control past seq dst opcode params insight =
+      then_at past (E.Net pdu) insight (answer seq dst opcode params) (R.Replay (name 0x0201 seq) None ∷ [])
 
   abbrev request : List ℕ
   request = 0x4b ∷ 0x50 ∷ 0x05 ∷ 0x7e ∷ 0x40 ∷ 0x00 ∷ 0x00 ∷ 0x01 ∷ 0x00 ∷ 0x00 ∷ []
@@ -51,19 +63,29 @@ module _ (net_key dev_key pdu octets : List ℕ) where
   polled past seq fsn = then_control past seq 0x1201 1 (fsn ∷ []) (poll seq fsn)
 
   abbrev update : Bool → Job
-  update fsn = J.Control material 0 (address 0x1201) (address 0x0201) (0x02 ∷ 0x00 ∷ 0x12 ∷ 0x34 ∷ 0x56 ∷ 0x78 ∷ 0x00 ∷ []) (Some (address 0x0201, fsn))
+  update fsn =
+      J.Control material 0 (address 0x1201) (address 0x0201) (0x02 ∷ 0x00 ∷ 0x12 ∷ 0x34 ∷ 0x56 ∷ 0x78 ∷ 0x00 ∷ [])
+      (Some (address 0x0201, fsn))
 
   abbrev kept : Past
   kept = then_at (polled offered 2 0) (E.Kept (address 0x0201) false (name 0x1201 1) octets) OfNothing A.Kept []
 
   pub record IsFriendship : Type 0 where
     pub offer : handled (start 0 net_key dev_key) (E.Net pdu) requested
-        ≡ record { answer = answer 1 0xfffd 3 request; jobs = J.Control (master_material net_key) 0 (address 0x1201) (address 0x0201) (0x04 ∷ 0x64 ∷ 0x10 ∷ 0x10 ∷ 0x7f ∷ 0x00 ∷ 0x00 ∷ []) None ∷ [] }
-    pub updates : handled offered (E.Net pdu) (poll 2 0) ≡ record { answer = answer 2 0x1201 1 (0 ∷ []); jobs = update false ∷ [] }
-    pub keeps : handled (polled offered 2 0) (E.Kept (address 0x0201) false (name 0x1201 1) octets) OfNothing ≡ record { answer = A.Kept; jobs = [] }
+        ≡ record {
+          answer = answer 1 0xfffd 3 request;
+          jobs = J.Control (master_material net_key) 0 (address 0x1201) (address 0x0201)
+              (0x04 ∷ 0x64 ∷ 0x10 ∷ 0x10 ∷ 0x7f ∷ 0x00 ∷ 0x00 ∷ []) None ∷ [];
+        }
+    pub updates : handled offered (E.Net pdu) (poll 2 0)
+        ≡ record { answer = answer 2 0x1201 1 (0 ∷ []); jobs = update false ∷ [] }
+    pub keeps : handled (polled offered 2 0) (E.Kept (address 0x0201) false (name 0x1201 1) octets) OfNothing
+        ≡ record { answer = A.Kept; jobs = [] }
     -- the same FSN: the octets once more; another one: an Update anew
-    pub repeats : handled kept (E.Net pdu) (poll 3 0) ≡ record { answer = answer 3 0x1201 1 (0 ∷ []); jobs = J.Repeat (name 0x1201 1) octets ∷ [] }
-    pub goes_on : handled (polled kept 3 0) (E.Net pdu) (poll 4 1) ≡ record { answer = answer 4 0x1201 1 (1 ∷ []); jobs = update true ∷ [] }
+    pub repeats : handled kept (E.Net pdu) (poll 3 0)
+        ≡ record { answer = answer 3 0x1201 1 (0 ∷ []); jobs = J.Repeat (name 0x1201 1) octets ∷ [] }
+    pub goes_on : handled (polled kept 3 0) (E.Net pdu) (poll 4 1)
+        ≡ record { answer = answer 4 0x1201 1 (1 ∷ []); jobs = update true ∷ [] }
 
   abbrev befriended : Past
   befriended = polled (polled kept 3 0) 4 1
@@ -78,14 +100,28 @@ module _ (net_key dev_key pdu octets : List ℕ) where
     -- a short message is stored, and answers the next Poll
     pub stores : handled befriended (send (0x7f ∷ [])) OfNothing ≡ record { answer = A.Planned; jobs = [] }
     pub answers : handled sent (E.Net pdu) (poll 5 0)
-        ≡ record { answer = answer 5 0x1201 1 (0 ∷ []); jobs = J.Message 0 material (U.Device dev_key) 7 (address 0x1201) (address 0x0201) (0x7f ∷ []) (Some (address 0x0201, false)) ∷ [] }
+        ≡ record {
+          answer = answer 5 0x1201 1 (0 ∷ []);
+          jobs = J.Message 0 material (U.Device dev_key) 7 (address 0x1201) (address 0x0201) (0x7f ∷ [])
+              (Some (address 0x0201, false)) ∷ [];
+        }
     -- a long one is sent, and its segments are not begun
     pub sends : handled (polled sent 5 0) (send (replicate 12 0x7f)) OfNothing
-        ≡ record { answer = A.Planned; jobs = J.Sent 0 (master_material net_key) (U.Device dev_key) 7 (address 0x1201) (address 0x0201) ∷ [] }
+        ≡ record {
+          answer = A.Planned;
+          jobs = J.Sent 0 (master_material net_key) (U.Device dev_key) 7 (address 0x1201) (address 0x0201) ∷ [];
+        }
     pub refuses : (pair : Pair) → pair.iv ≡ iv → (upper : List ℕ)
-        → handled (polled sent 5 0) (E.Begin pair (address 0x0201) (address 0x1201) 7 0 false 0 upper) OfNothing ≡ record { answer = A.Befriended; jobs = [] }
+        → handled (polled sent 5 0) (E.Begin pair (address 0x0201) (address 0x1201) 7 0 false 0 upper) OfNothing
+        ≡ record { answer = A.Befriended; jobs = [] }
     -- what came under the friendship goes on under the master credentials
-    pub relays : handled (polled sent 5 0) (E.Net pdu) (OfPdu (Some (record { fields = fields 2 6 9; by = record { index = 0; lpn = Some (address 0x0201); fresh = false; material = material } })) None None)
+    pub relays : handled (polled sent 5 0) (E.Net pdu)
+        (OfPdu
+        (Some
+        (record {
+          fields = fields 2 6 9;
+          by = record { index = 0; lpn = Some (address 0x0201); fresh = false; material = material };
+        })) None None)
         ≡ record { answer = A.NotMine; jobs = J.Relay (master_material net_key) (fields 1 6 9) ∷ [] }
 
 abbrev pub FriendshipStands : Type 0

@@ -19,7 +19,12 @@ use Rattle.worked_layers.specs.Walk.{address, handled, heard, stored, then_at}
 module _ (net_key dev_key pdu rest : List ℕ) where
   -- the node under the IV Index 5
   abbrev under_five : Past
-  under_five = record { told = []; records = R.Identity (address 0x1201) 1 dev_key ∷ R.Numbers 5 false (5 * 2 ^ 25) 0 192 ∷ R.NetKey 1 0 net_key ∷ [] }
+  under_five =
+      record {
+        told = [];
+        records = R.Identity (address 0x1201) 1 dev_key ∷ R.Numbers 5 false (5 * 2 ^ 25) 0 192 ∷ R.NetKey 1 0 net_key
+            ∷ [];
+      }
 
   -- a control PDU of 0005 to 0009 under an IV Index, and octets that read as nothing
   abbrev passing : ℕ → NetFields
@@ -50,7 +55,12 @@ module _ (net_key dev_key pdu rest : List ℕ) where
 module _ (net_key dev_key octets : List ℕ) where
   -- the node is provisioned in progress from 5 to 6, and sends a PDU, for which 256 numbers are reserved
   abbrev provisioned : Past
-  provisioned = record { told = []; records = R.Identity (address 0x1201) 1 dev_key ∷ R.Numbers 6 true (5 * 2 ^ 25) 0 192 ∷ R.NetKey 1 0 net_key ∷ [] }
+  provisioned =
+      record {
+        told = [];
+        records = R.Identity (address 0x1201) 1 dev_key ∷ R.Numbers 6 true (5 * 2 ^ 25) 0 192 ∷ R.NetKey 1 0 net_key
+            ∷ [];
+      }
 
   abbrev raw : Event
   raw = E.Raw (address 0xfffd) 0 (0x7f ∷ [])
@@ -77,10 +87,14 @@ module _ (net_key dev_key octets : List ℕ) where
 
   pub record IsEnded : Type 0 where
     pub sends : handled provisioned raw OfNothing
-        ≡ record { answer = A.Planned; jobs = J.Control (master_material net_key) 0 (address 0x1201) (address 0xfffd) (0x7f ∷ []) None ∷ [] }
+        ≡ record {
+          answer = A.Planned;
+          jobs = J.Control (master_material net_key) 0 (address 0x1201) (address 0xfffd) (0x7f ∷ []) None ∷ [];
+        }
     -- a tick short of 96 hours
     pub counts_early : stored sent (E.Tick 34559999) OfNothing ≡ R.Hour 95 287 ∷ []
-    pub early : handled (later 34559999 95 287) (E.Bcn octets) beacon ≡ record { answer = answer (I.Ignore 4); jobs = [] }
+    pub early : handled (later 34559999 95 287) (E.Bcn octets) beacon
+        ≡ record { answer = answer (I.Ignore 4); jobs = [] }
     -- 96 hours of 360,000 ticks
     pub ticks : handled sent (E.Tick 34560000) OfNothing ≡ record { answer = A.Ticked 34560000; jobs = [] }
     pub counts : stored sent (E.Tick 34560000) OfNothing ≡ R.Hour 96 288 ∷ []
@@ -88,7 +102,8 @@ module _ (net_key dev_key octets : List ℕ) where
     -- SEQ starts at 0 under 6
     pub keeps : stored (later 34560000 96 288) (E.Bcn octets) beacon ≡ kept
     -- the same beacon once more
-    pub again : handled (then_at (later 34560000 96 288) (E.Bcn octets) beacon (answer finish) kept) (E.Bcn octets) beacon
+    pub again : handled (then_at (later 34560000 96 288) (E.Bcn octets) beacon (answer finish) kept)
+        (E.Bcn octets) beacon
         ≡ record { answer = answer (I.Ignore 5); jobs = [] }
 
 abbrev pub PdusAreReadUnder : Type 0

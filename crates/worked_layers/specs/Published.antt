@@ -15,7 +15,8 @@ use Rattle.worked_layers.specs.Walk.{address, handled, heard, iv, name, start, s
 
 -- a Label UUID; its virtual address is b529
 abbrev pub label : List ℕ
-label = 0x00 ∷ 0x73 ∷ 0xe7 ∷ 0xe4 ∷ 0xd8 ∷ 0xb9 ∷ 0x44 ∷ 0x0f ∷ 0xaf ∷ 0x84 ∷ 0x15 ∷ 0xdf ∷ 0x4c ∷ 0x56 ∷ 0xc0 ∷ 0xe1 ∷ []
+label =
+    0x00 ∷ 0x73 ∷ 0xe7 ∷ 0xe4 ∷ 0xd8 ∷ 0xb9 ∷ 0x44 ∷ 0x0f ∷ 0xaf ∷ 0x84 ∷ 0x15 ∷ 0xdf ∷ 0x4c ∷ 0x56 ∷ 0xc0 ∷ 0xe1 ∷ []
 
 module _ (net_key dev_key app_key pdu : List ℕ) where
   abbrev app : UpperKey
@@ -26,17 +27,44 @@ module _ (net_key dev_key app_key pdu : List ℕ) where
 
   abbrev message : ℕ → ℕ → UpperKey → List ℕ → Insight
   message dst seq key payload =
-      OfPdu (Some (heard 0x456 net_key (record { iv = iv; ctl = false; ttl = 4; seq = seq; src = address 3; dst = address dst; tpdu = [] }))) (Some (Access false 0 []))
+      OfPdu
+      (Some
+      (heard 0x456 net_key
+      (record {
+        iv = iv;
+        ctl = false;
+        ttl = 4;
+        seq = seq;
+        src = address 3;
+        dst = address dst;
+        tpdu = [];
+      }))) (Some (Access false 0 []))
       (Some (record { key = key; label = None; payload = payload }))
 
   abbrev by_label : ℕ → List ℕ → Insight
   by_label seq payload =
-      OfPdu (Some (heard 0x456 net_key (record { iv = iv; ctl = false; ttl = 0; seq = seq; src = address 3; dst = address 0xb529; tpdu = [] }))) (Some (Access false 0 []))
+      OfPdu
+      (Some
+      (heard 0x456 net_key
+      (record {
+        iv = iv;
+        ctl = false;
+        ttl = 0;
+        seq = seq;
+        src = address 3;
+        dst = address 0xb529;
+        tpdu = [];
+      }))) (Some (Access false 0 []))
       (Some (record { key = app; label = Some label; payload = payload }))
 
   -- the OnOff Server of the node is bound to the application key 123
   abbrev bound : Past
-  bound = record { told = []; records = (start 0x456 net_key dev_key).records ++ R.AppKey 1 0x456 0x123 app_key ∷ R.Bind 1 (address 0x1201) 0x1000 0x123 ∷ [] }
+  bound =
+      record {
+        told = [];
+        records = (start 0x456 net_key dev_key).records
+            ++ R.AppKey 1 0x456 0x123 app_key ∷ R.Bind 1 (address 0x1201) 0x1000 0x123 ∷ [];
+      }
 
   abbrev add : List ℕ
   add = 0x80 ∷ 0x20 ∷ 0x01 ∷ 0x12 ∷ label ++ 0x00 ∷ 0x10 ∷ []
@@ -46,19 +74,24 @@ module _ (net_key dev_key app_key pdu : List ℕ) where
 
   abbrev subscribed : Past
   subscribed =
-      then_at bound (E.Net pdu) (message 0x1201 0x3129ae device add) (A.Delivered (name 3 0x3129ae) (address 0x1201) (key_name_of device) add)
+      then_at bound (E.Net pdu) (message 0x1201 0x3129ae device add)
+      (A.Delivered (name 3 0x3129ae) (address 0x1201) (key_name_of device) add)
       (R.Replay (name 3 0x3129ae) None ∷ R.Label 1 (address 0x1201) 0x1000 label ∷ [])
 
   pub record IsLabelled : Type 0 where
     pub adds : handled bound (E.Net pdu) (message 0x1201 0x3129ae device add) ≡ record {
       answer = A.Delivered (name 3 0x3129ae) (address 0x1201) (key_name_of device) add;
-      jobs = J.Message 0x456 (master_material net_key) device 7 (address 0x1201) (address 3) (0x80 ∷ 0x1f ∷ 0x00 ∷ 0x01 ∷ 0x12 ∷ 0x29 ∷ 0xb5 ∷ 0x00 ∷ 0x10 ∷ []) None ∷ [];
+      jobs =
+          J.Message 0x456 (master_material net_key) device 7 (address 0x1201) (address 3)
+          (0x80 ∷ 0x1f ∷ 0x00 ∷ 0x01 ∷ 0x12 ∷ 0x29 ∷ 0xb5 ∷ 0x00 ∷ 0x10 ∷ []) None ∷ [];
     }
-    pub stores : stored bound (E.Net pdu) (message 0x1201 0x3129ae device add) ≡ R.Replay (name 3 0x3129ae) None ∷ R.Label 1 (address 0x1201) 0x1000 label ∷ []
+    pub stores : stored bound (E.Net pdu) (message 0x1201 0x3129ae device add)
+        ≡ R.Replay (name 3 0x3129ae) None ∷ R.Label 1 (address 0x1201) 0x1000 label ∷ []
     -- a message by the label is delivered and taken; without it to the same address it isn't this node's
     pub delivers : handled subscribed (E.Net pdu) (by_label 0x3129b1 off_to_on)
         ≡ record { answer = A.Delivered (name 3 0x3129b1) (address 0xb529) (key_name_of app) off_to_on; jobs = [] }
-    pub takes : stored subscribed (E.Net pdu) (by_label 0x3129b1 off_to_on) ≡ R.Replay (name 3 0x3129b1) None ∷ R.Model 0 0x1000 1 ∷ []
+    pub takes : stored subscribed (E.Net pdu) (by_label 0x3129b1 off_to_on)
+        ≡ R.Replay (name 3 0x3129b1) None ∷ R.Model 0 0x1000 1 ∷ []
     pub passes : handled bound (E.Net pdu) (by_label 0x3129b1 off_to_on) ≡ record { answer = A.NotMine; jobs = [] }
 
   -- What the OnOff Server publishes to c000 each second, from the moment at which it was set.
@@ -71,14 +104,25 @@ module _ (net_key dev_key app_key pdu : List ℕ) where
 
   abbrev switched_on : Past
   switched_on =
-      then_at bound (E.Net pdu) (message 0x1201 0x3129ae app (0x82 ∷ 0x02 ∷ 0x01 ∷ 0x01 ∷ [])) (A.Delivered (name 3 0x3129ae) (address 0x1201) (key_name_of app) (0x82 ∷ 0x02 ∷ 0x01 ∷ 0x01 ∷ []))
+      then_at bound (E.Net pdu) (message 0x1201 0x3129ae app (0x82 ∷ 0x02 ∷ 0x01 ∷ 0x01 ∷ []))
+      (A.Delivered (name 3 0x3129ae) (address 0x1201) (key_name_of app) (0x82 ∷ 0x02 ∷ 0x01 ∷ 0x01 ∷ []))
       (R.Replay (name 3 0x3129ae) None ∷ R.Model 0 0x1000 1 ∷ [])
 
   abbrev publishing : Past
   publishing =
-      then_at switched_on (E.Net pdu) (message 0x1201 0x3129af device set) (A.Delivered (name 3 0x3129af) (address 0x1201) (key_name_of device) set)
+      then_at switched_on (E.Net pdu) (message 0x1201 0x3129af device set)
+      (A.Delivered (name 3 0x3129af) (address 0x1201) (key_name_of device) set)
       (R.Replay (name 3 0x3129af) None
-      ∷ R.Publish (record { element = address 0x1201; model = 0x1000; address = address 0xc000; app = 0x123; ttl = 0; period = 0x41; retransmit = 0 })
+      ∷ R.Publish
+      (record {
+        element = address 0x1201;
+        model = 0x1000;
+        address = address 0xc000;
+        app = 0x123;
+        ttl = 0;
+        period = 0x41;
+        retransmit = 0;
+      })
       ∷ [])
 
   pub record IsPublished : Type 0 where
@@ -88,10 +132,15 @@ module _ (net_key dev_key app_key pdu : List ℕ) where
     }
     pub waits : handled publishing (E.Tick 99) OfNothing ≡ record { answer = A.Ticked 99; jobs = [] }
     pub publishes : handled publishing (E.Tick 100) OfNothing
-        ≡ record { answer = A.Ticked 100; jobs = J.Message 0x456 (master_material net_key) app 0 (address 0x1201) (address 0xc000) (0x82 ∷ 0x04 ∷ 0x01 ∷ []) None ∷ [] }
+        ≡ record {
+          answer = A.Ticked 100;
+          jobs = J.Message 0x456 (master_material net_key) app 0 (address 0x1201) (address 0xc000)
+              (0x82 ∷ 0x04 ∷ 0x01 ∷ []) None ∷ [];
+        }
 
 abbrev pub LabelsAreHeard : Type 0
-LabelsAreHeard = virtual_address label ≡ 0xb529 → (net_key dev_key app_key pdu : List ℕ) → IsLabelled net_key dev_key app_key pdu
+LabelsAreHeard =
+    virtual_address label ≡ 0xb529 → (net_key dev_key app_key pdu : List ℕ) → IsLabelled net_key dev_key app_key pdu
 
 abbrev pub StatusIsPublished : Type 0
 StatusIsPublished = (net_key dev_key app_key pdu : List ℕ) → IsPublished net_key dev_key app_key pdu

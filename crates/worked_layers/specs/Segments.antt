@@ -17,7 +17,8 @@ use Rattle.worked_layers.specs.Walk.{Handled, address, handled, heard, iv, name,
 
 -- 00, the indexes 456 and 123, and the application key
 abbrev pub app_key : List ℕ
-app_key = 0x63 ∷ 0x96 ∷ 0x47 ∷ 0x71 ∷ 0x73 ∷ 0x4f ∷ 0xbd ∷ 0x76 ∷ 0xe3 ∷ 0xb4 ∷ 0x05 ∷ 0x19 ∷ 0xd1 ∷ 0xd9 ∷ 0x4a ∷ 0x48 ∷ []
+app_key =
+    0x63 ∷ 0x96 ∷ 0x47 ∷ 0x71 ∷ 0x73 ∷ 0x4f ∷ 0xbd ∷ 0x76 ∷ 0xe3 ∷ 0xb4 ∷ 0x05 ∷ 0x19 ∷ 0xd1 ∷ 0xd9 ∷ 0x4a ∷ 0x48 ∷ []
 
 abbrev pub add : List ℕ
 add = 0x00 ∷ 0x56 ∷ 0x34 ∷ 0x12 ∷ app_key
@@ -31,9 +32,11 @@ module _ (net_key dev_key a b piece_a piece_b : List ℕ) where
   pdu seq = record { iv = iv; ctl = false; ttl = 4; seq = seq; src = address 3; dst = address 0x1201; tpdu = [] }
 
   abbrev insight_of : ℕ → ℕ → ℕ → List ℕ → Option (List ℕ) → Insight
-  insight_of seq_zero seq seg_o piece None = OfPdu (Some (heard 0x456 net_key (pdu seq))) (Some (part seq_zero seg_o piece)) None
+  insight_of seq_zero seq seg_o piece None =
+      OfPdu (Some (heard 0x456 net_key (pdu seq))) (Some (part seq_zero seg_o piece)) None
   insight_of seq_zero seq seg_o piece (Some payload) =
-      OfPdu (Some (heard 0x456 net_key (pdu seq))) (Some (part seq_zero seg_o piece)) (Some (record { key = U.Device dev_key; label = None; payload = payload }))
+      OfPdu (Some (heard 0x456 net_key (pdu seq))) (Some (part seq_zero seg_o piece))
+      (Some (record { key = U.Device dev_key; label = None; payload = payload }))
 
   -- SeqZero of 3129ab is 09ab
   abbrev insight : ℕ → ℕ → List ℕ → Option (List ℕ) → Insight
@@ -57,7 +60,8 @@ module _ (net_key dev_key a b piece_a piece_b : List ℕ) where
     answer = A.Delivered (name 3 seq) (address 0x1201) N.Dev add;
     jobs =
         acknowledged tpdu
-        ∷ J.Message 0x456 (master_material net_key) (U.Device dev_key) 7 (address 0x1201) (address 3) (0x80 ∷ 0x03 ∷ 0x00 ∷ 0x56 ∷ 0x34 ∷ 0x12 ∷ []) None
+        ∷ J.Message 0x456 (master_material net_key) (U.Device dev_key) 7 (address 0x1201) (address 3)
+        (0x80 ∷ 0x03 ∷ 0x00 ∷ 0x56 ∷ 0x34 ∷ 0x12 ∷ []) None
         ∷ [];
   }
 
@@ -74,7 +78,8 @@ module _ (net_key dev_key a b piece_a piece_b : List ℕ) where
     pub delivers : handled after_a (E.Net b) (insight 0x3129ac 1 piece_b (Some add)) ≡ delivered
     pub stores : stored after_a (E.Net b) (insight 0x3129ac 1 piece_b (Some add)) ≡ kept
     -- piece 1, then piece 0
-    pub waits_too : handled first (E.Net b) (insight 0x3129ac 1 piece_b None) ≡ record { answer = A.Waiting 1; jobs = [] }
+    pub waits_too : handled first (E.Net b) (insight 0x3129ac 1 piece_b None)
+        ≡ record { answer = A.Waiting 1; jobs = [] }
     pub delivers_too : handled after_b (E.Net a) (insight 0x3129ab 0 piece_a (Some add)) ≡ delivered
 
   abbrev after_no_key : Past
@@ -91,19 +96,23 @@ module _ (net_key dev_key a b piece_a piece_b : List ℕ) where
   pub record IsUnopened : Type 0 where
     pub no_key : handled after_a (E.Net b) (insight 0x3129ac 1 piece_b None)
         ≡ record { answer = A.NoKey; jobs = acknowledged (0x00 ∷ 0x26 ∷ 0xac ∷ 0x00 ∷ 0x00 ∷ 0x00 ∷ 0x03 ∷ []) ∷ [] }
-    pub begins_anew : handled after_no_key (E.Net a) (insight 0x3129ad 0 piece_a None) ≡ record { answer = A.Waiting 1; jobs = [] }
+    pub begins_anew : handled after_no_key (E.Net a) (insight 0x3129ad 0 piece_a None)
+        ≡ record { answer = A.Waiting 1; jobs = [] }
     -- the two pieces under the next name, by which it opens: delivered, acknowledged by its own SeqZero, stored
-    pub waits_anew : handled after_no_key (E.Net a) (anew 0x3129ad 0 piece_a None) ≡ record { answer = A.Waiting 1; jobs = [] }
+    pub waits_anew : handled after_no_key (E.Net a) (anew 0x3129ad 0 piece_a None)
+        ≡ record { answer = A.Waiting 1; jobs = [] }
     pub delivers_anew : handled after_next (E.Net b) (anew 0x3129ae 1 piece_b (Some add))
         ≡ delivered_as 0x3129ad (0x00 ∷ 0x26 ∷ 0xb4 ∷ 0x00 ∷ 0x00 ∷ 0x00 ∷ 0x03 ∷ [])
-    pub stores_anew : stored after_next (E.Net b) (anew 0x3129ae 1 piece_b (Some add)) ≡ R.Replay (name 3 0x3129ad) None ∷ R.AppKey 1 0x456 0x123 app_key ∷ []
+    pub stores_anew : stored after_next (E.Net b) (anew 0x3129ae 1 piece_b (Some add))
+        ≡ R.Replay (name 3 0x3129ad) None ∷ R.AppKey 1 0x456 0x123 app_key ∷ []
 
   abbrev after_both : Past
   after_both = then_at after_a (E.Net b) (insight 0x3129ac 1 piece_b (Some add)) delivered.answer kept
 
   pub record IsAddRepeated : Type 0 where
     -- piece 0 as it was: in the message cache
-    pub cached : handled after_both (E.Net a) (insight 0x3129ab 0 piece_a None) ≡ record { answer = A.Cached; jobs = [] }
+    pub cached : handled after_both (E.Net a) (insight 0x3129ab 0 piece_a None)
+        ≡ record { answer = A.Cached; jobs = [] }
     -- piece 1 in a new PDU: acknowledged once more
     pub again : handled after_both (E.Net b) (insight 0x3129ad 1 piece_b None)
         ≡ record { answer = A.Again; jobs = acknowledged (0x00 ∷ 0x26 ∷ 0xac ∷ 0x00 ∷ 0x00 ∷ 0x00 ∷ 0x03 ∷ []) ∷ [] }
@@ -114,11 +123,15 @@ module _ (net_key dev_key a b piece_a piece_b : List ℕ) where
   pub record IsTimePassed : Type 0 where
     -- 999 ticks on, the acknowledgment timer has ended, and the message is still in progress
     pub acknowledges : handled after_a (E.Tick 999) OfNothing
-        ≡ record { answer = A.Ticked 999; jobs = acknowledged (0x00 ∷ 0x26 ∷ 0xac ∷ 0x00 ∷ 0x00 ∷ 0x00 ∷ 0x01 ∷ []) ∷ [] }
+        ≡ record {
+          answer = A.Ticked 999;
+          jobs = acknowledged (0x00 ∷ 0x26 ∷ 0xac ∷ 0x00 ∷ 0x00 ∷ 0x00 ∷ 0x01 ∷ []) ∷ [];
+        }
     pub delivers : handled (after_ticks 999) (E.Net b) (insight 0x3129ac 1 piece_b (Some add)) ≡ delivered
     -- 1000 ticks on it is gone, with its timer
     pub forgets : handled after_a (E.Tick 1000) OfNothing ≡ record { answer = A.Ticked 1000; jobs = [] }
-    pub waits : handled (after_ticks 1000) (E.Net b) (insight 0x3129ac 1 piece_b None) ≡ record { answer = A.Waiting 1; jobs = [] }
+    pub waits : handled (after_ticks 1000) (E.Net b) (insight 0x3129ac 1 piece_b None)
+        ≡ record { answer = A.Waiting 1; jobs = [] }
 
 abbrev pub SegmentsHeard : Type 0
 SegmentsHeard = (net_key dev_key a b piece_a piece_b : List ℕ) → IsAddHeard net_key dev_key a b piece_a piece_b

@@ -28,7 +28,9 @@ stored_by layers past event insight = stores layers past event insight (answer_o
 abbrev pub handled_by : Layers → Past → Event → Insight → Handled
 handled_by layers past event insight = record {
   answer = answer_of layers past event insight;
-  jobs = jobs_of layers past (config_of (past.records ++ stored_by layers past event insight)) event insight (answer_of layers past event insight);
+  jobs =
+      jobs_of layers past (config_of (past.records ++ stored_by layers past event insight)) event insight
+      (answer_of layers past event insight);
 }
 
 abbrev pub stored : Past → Event → Insight → List StoreRecord
@@ -62,9 +64,14 @@ name src seq = record { src = address src; pair = record { iv = iv; seq = seq } 
 abbrev pub start : ℕ → List ℕ → List ℕ → Past
 start index net_key dev_key = record {
   told = [];
-  records = R.Identity (address 0x1201) 1 dev_key ∷ R.Numbers iv false (iv * 2 ^ 25) 0 192 ∷ R.NetKey 1 index net_key ∷ [];
+  records =
+      R.Identity (address 0x1201) 1 dev_key ∷ R.Numbers iv false (iv * 2 ^ 25) 0 192 ∷ R.NetKey 1 index net_key ∷ [];
 }
 
 -- a PDU heard under the master credentials of that key
 abbrev pub heard : ℕ → List ℕ → NetFields → Reading
-heard index net_key fields = record { fields = fields; by = record { index = index; lpn = None; fresh = false; material = master_material net_key } }
+heard index net_key fields =
+    record {
+      fields = fields;
+      by = record { index = index; lpn = None; fresh = false; material = master_material net_key };
+    }
