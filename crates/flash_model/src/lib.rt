@@ -8,6 +8,8 @@
 //! - `armed`, `octets`, `past`: which of its calls is torn, writes under a mask, and what it has been through
 //! - `rewriting`: two calls in a row, over any flash
 //!
+//! A caller to begin with: `a_sector_is_rewritten` and `a_torn_program` in `src/tests.rt`.
+//!
 //! # What an adapter must give
 //!
 //! An adapter is a type with `impl Flash`: three calls, and a meaning, `chip`, that nobody runs and that says of each of its values what

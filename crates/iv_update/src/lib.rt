@@ -5,6 +5,9 @@
 //! - `beacons`: the table of steps for a beacon
 //! - `hours`: the rule for the end of an hour
 //! - `laws`: the transmit IV Index never falls, and the IV Index moves up by at most 42
+//!
+//! A caller to begin with: `beacon_answer` in `crates/mesh_hearing/src/beacons.rt`, and `hour_records` in
+//! `crates/event_records/src/ticks.rt`.
 #![tactic(auto)]
 
 mod beacons;

@@ -6,6 +6,8 @@
 //! - `verdicts`: the first thing that is wrong
 //! - `facts`, `seen`: what a line is compared by, and what the lines before it used and accepted
 //! - `seals`: whether the octets of a line are those of the PDU that it tells
+//!
+//! A caller to begin with: `says` and `tells_the_line` in `src/tests.rt`.
 #![tactic(auto)]
 
 pub mod auditing;

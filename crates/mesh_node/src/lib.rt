@@ -4,6 +4,8 @@
 //! - `log`: the lines of the bearers, phase by phase
 //! - `steps`: the steps of a plan, one after another
 //! - `living`: the whole, from a flash to the flash
+//!
+//! A caller to begin with: `live` in `crates/mesh_run/src/lives.rt`, which has `plan_of` of `life_plans` make the plan.
 #![tactic(auto)]
 
 mod living;

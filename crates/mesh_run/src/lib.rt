@@ -8,6 +8,8 @@
 //! - `reading`: a source to its end
 //! - `status`: how a run ends
 //!
+//! A caller to begin with: `run_words` in `crates/meshnode/src/main.rt`.
+//!
 //! In `specs/`, `Ran` says what a whole run leaves, and `Causes` where each status comes.
 #![tactic(auto)]
 

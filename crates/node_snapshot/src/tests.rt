@@ -430,7 +430,7 @@ fn later_kinds(rt: HostRuntime) {
     assert!(rt; p.publications.len() == 2);
     assert!(rt; put(&mut p, net_key(5, 0, ZEROS)) == Some(Ok(())));
     assert!(rt; p.publications.is_empty());
-    // eight publications, and 32 labels beside 32 groups
+    // eight publications: there is no place for a ninth, and one of them is written over
     for i in 0..8u16 {
         assert!(rt; put(&mut p, publish(0x1201, i, 0)) == Some(Ok(())));
     }

@@ -7,6 +7,8 @@
 //! - `node_lines`, `outside_lines`, `event_lines`: the kinds of lines
 //! - `forms`, `digits`: what one word stands for
 //! - `words`: a text cut into lines, and a line into words
+//!
+//! A caller to begin with: `read` in `src/tests.rt`, and `node` in `src/tests/lines.rt`, which looks at what it gives.
 #![tactic(auto)]
 
 mod counted;

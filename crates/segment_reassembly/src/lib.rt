@@ -7,6 +7,8 @@
 //! - `message`: a segment and its message
 //! - `pieces`: the pieces of a message
 //! - `segment`: what a segment says
+//!
+//! A caller to begin with: `copies` and `timers` in `src/tests.rt`.
 #![tactic(auto)]
 
 mod message;
