@@ -133,7 +133,7 @@ fn migrated<F: Flash>(
     ensures usable { IfOk result (λ j. j.closed ≡ false) }
     ensures kept { (found : List StoreRecord) → IsExactly (F.chip flash.old) (record { journal = journal; persist = persist.now }) found → IfOk result (λ j. IsStoreOf (F.chip flash.new) (record { journal = j; persist = persist.now }) found) }
     ensures any_moment { (found : List StoreRecord) → IsExactly (F.chip flash.old) (record { journal = journal; persist = persist.now }) found → LeavesOnly (F.chip flash.old) (F.chip flash.new) (IsHeld found) }
-    ensures same { ¬ journal.version ≡ 1 → flash.new ≡ flash.old }
+    ensures unchanged { ¬ journal.version ≡ 1 → flash.new ≡ flash.old }
     ensures calls { IsTrue (F.chip flash.old).steady → journal.version ≡ 1 → OnOk result (Begins (compaction persist.now) (F.chip flash.old) (F.chip flash.new)) }
     ensures most_calls { IsTrue (F.chip flash.old).steady → BeginsAtMost 818 (F.chip flash.old) (F.chip flash.new) }
     ensures no_fault { OnOk result ((F.chip flash.new).faults ≡ (F.chip flash.old).faults) }
