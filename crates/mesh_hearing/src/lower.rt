@@ -39,7 +39,6 @@ use segment_reassembly::{PartHeard, Parts, Taken};
 // Whether a lower transport PDU is a segment.
 fn is_segment(low: &Lower) -> bool
     ensures value { result ≡ is_segment_of low.now }
-    ensures same { result ≡ is_segment_of low.now }
 {
     matches!(low, Lower::AccessPart { .. } | Lower::ControlPart { .. })
 }

@@ -99,7 +99,7 @@ pub fn do_step<M: Machine, F: Bench, G: Gate, R: Threads + Wait + Sync>(
     requires step { IsStep (length counts.old.items) node.machine.elements step.now }
     requires arm { MayArm step.now (F.chip node.flash) }
     ensures which { drawer.new.which ≡ drawer.old.which }
-    ensures same { IfOk result (λ r. IsSameNode node r.0) }
+    ensures frame { IfOk result (λ r. IsSameNode node r.0) }
     ensures arm { IfOk result (λ r. IsArmedBy step.now (F.chip node.flash) (F.chip r.0.flash)) }
     ensures many { OnOk result
         ((length counts.new.items ≡ length counts.old.items) × (length sends.new.items ≡ length sends.old.items)) }
@@ -156,7 +156,7 @@ pub fn do_steps<M: Machine, F: Bench, G: Gate, R: Threads + Wait + Sync>(
     requires may { MayFollow steps.now (F.chip node.flash).setting.arm }
     requires begins { (node.machine.entries ≡ []) × (node.stops ≡ 0) }
     ensures which { drawer.new.which ≡ drawer.old.which }
-    ensures same { IfOk result (λ r. IsSameNode node r.0) }
+    ensures frame { IfOk result (λ r. IsSameNode node r.0) }
     ensures arm { IfOk result
         (λ r. IsSameOrOf (steps_of steps.now) (F.chip node.flash).setting.arm (F.chip r.0.flash).setting.arm) }
     ensures held { IfOk result (λ r. (F.chip node.flash).setting.arm ≢ None → (F.chip r.0.flash).setting.arm ≢ None) }

@@ -4,14 +4,17 @@
 //! - `publisher`: the rows of the models, and the heartbeat
 //! - `rows`: rows in their order, and which are due
 //! - `heartbeats`: periods and counts of a heartbeat, and whether one is due
+//! - `laws`: rows of a node's own models are at most 8
 #![tactic(auto)]
 
 mod heartbeats;
+mod laws;
 mod publisher;
 mod rows;
 #[cfg(test)]
 mod tests;
 
+pub use laws::rows_law;
 pub use model_states::publication::HeartbeatRow;
 pub use publisher::Publisher;
 pub use record_types::records::PublishRow;

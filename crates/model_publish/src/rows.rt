@@ -51,7 +51,7 @@ fn place_of(rows: &[Publication], index: u32) -> usize
 // Whether the row at a place has this index.
 fn is_at(rows: &[Publication], place: usize, index: u32) -> bool
     ensures yes { OnTrue result (place < length rows.now) }
-    ensures same { OnTrue result ((d : Publication) → row_index (slice_index_or rows.now place d) ≡ index) }
+    ensures index { OnTrue result ((d : Publication) → row_index (slice_index_or rows.now place d) ≡ index) }
     ensures no { OnFalse result ((d : Publication) → place < length rows.now → row_index (slice_index_or rows.now place d) ≡ index → ⊥) }
 {
     place < rows.len() && row_index(&rows[place]) == index

@@ -74,7 +74,7 @@ fn place_of<R: Keyed>(rows: &[R], number: u32) -> usize
 /// Whether the row at a place has this number.
 fn is_at<R: Keyed>(rows: &[R], place: usize, number: u32) -> bool
     ensures yes { OnTrue result (place < length rows.now) }
-    ensures same { OnTrue result ((d : R) → R.key (slice_index_or rows.now place d) ≡ number) }
+    ensures number { OnTrue result ((d : R) → R.key (slice_index_or rows.now place d) ≡ number) }
     ensures no { OnFalse result
         ((d : R) → place < length rows.now → R.key (slice_index_or rows.now place d) ≡ number → ⊥) }
 {

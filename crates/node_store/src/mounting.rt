@@ -151,7 +151,7 @@ fn migrated<F: Flash>(
     ensures any_moment { (found : List StoreRecord)
         → IsExactly (F.chip flash.old) (record { journal = journal; persist = persist.now }) found
         → LeavesOnly (F.chip flash.old) (F.chip flash.new) (IsHeld found) }
-    ensures same { ¬ journal.version ≡ 1 → flash.new ≡ flash.old }
+    ensures unchanged { ¬ journal.version ≡ 1 → flash.new ≡ flash.old }
     ensures calls { IsTrue (F.chip flash.old).steady → journal.version ≡ 1
         → OnOk result (Begins (compaction persist.now) (F.chip flash.old) (F.chip flash.new)) }
     ensures most_calls { IsTrue (F.chip flash.old).steady → BeginsAtMost 818 (F.chip flash.old) (F.chip flash.new) }

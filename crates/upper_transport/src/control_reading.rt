@@ -4,6 +4,7 @@
 ghost use Rattle.std.specs.Prelude.{◌≡◌, ◌↔◌, ◌+◌, ◌%◌, ◌<◌, ◌≤◌, ◌^◌, length, IsFalse, IsTrue};
 ghost use Rattle.mesh_base.specs.declared.control.ControlMsg.TheVariants as C;
 ghost use Rattle.layer_definitions.specs.Control.{AreAddresses, IsNoControl, ReadsControl, address_octets, is_other};
+ghost use Rattle.layer_definitions.specs.ControlReading.{control_of};
 
 use byteorder::{BigEndian, ByteOrder};
 use mesh_base::address::Address;
@@ -124,6 +125,7 @@ fn list_of(params: &[u8]) -> SubscriptionList
 /// The control message that these octets are the text of. Reserved bits are read as anything. `Other` comes exactly where they are the
 /// text of no message: at another opcode, or with parameters of another length.
 pub fn read_control(opcode: u8, params: &[u8]) -> ControlMsg
+    ensures value { result ≡ control_of opcode params.now }
     ensures reads { IsFalse (is_other result) → ReadsControl opcode params.now result }
     ensures other { IsTrue (is_other result) ↔ IsNoControl opcode params.now }
 {

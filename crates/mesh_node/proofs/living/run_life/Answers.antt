@@ -61,7 +61,7 @@ returns g c =
     λ live. given_whole items before (chip node.flash).setting.arm c.requires.first held (subst (λ xs. HasGiven (steps_of xs) (chip node.flash).setting.arm) c.requires.behind (did.given live)) in
     let calls = subst (λ k. IfSome (cut_calls c.end_of-end.result) (λ n. n ≡ k)) (c.changes.ensures ∙ ap (λ f. (chip f).changes) c.into_parts-machine.ensures.flash) c.end_of-end.ensures.calls in
     let whole = ran g.M.Machine.layers g.M.Machine.image chip plan start node c.do_steps.new.drawer log c.one_list_is_recovered.ensures.one_list
-    s.over s.read s.runs opened c.known.ensures.known (did.same.start ∙ ap (λ n. n.start) c.in_ok-opened.ensures.value) over
+    s.over s.read s.runs opened c.known.ensures.known (did.frame.start ∙ ap (λ n. n.start) c.in_ok-opened.ensures.value) over
     (c.finish-history.ensures.entries ∙ ap (λ m. m.entries) machine) (c.finish-history.ensures.refills ∙ ap (λ m. m.fills) machine)
     (c.end_of-end.ensures.cut ∙ c.is_closed.ensures.value ∙ ap (λ m. m.closed) machine)
     c.close-drawn.result.next c.close-drawn.result.mark started.numbers.opened c.close-drawn.ensures.order.1

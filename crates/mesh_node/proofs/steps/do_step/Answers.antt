@@ -20,8 +20,8 @@ do_phase-requires-clause-events g c κs lives =
 pub returns-in-Arm-clause-arm : goal.returns-in-Arm-clause-arm
 returns-in-Arm-clause-arm g c = subst (λ s. IsArmedBy s (g.F.Flash.chip c.args.node.flash) (g.F.Flash.chip c.arm.new.self.flash)) (sym c.in-Arm.is) c.arm.ensures.arm
 
-pub returns-in-Arm-clause-same : goal.returns-in-Arm-clause-same
-returns-in-Arm-clause-same g c = other_flash c.args.node c.arm.new.self c.arm.new.self.flash c.arm.ensures.frame
+pub returns-in-Arm-clause-frame : goal.returns-in-Arm-clause-frame
+returns-in-Arm-clause-frame g c = other_flash c.args.node c.arm.new.self c.arm.new.self.flash c.arm.ensures.frame
 
 pub returns-in-Arm-clause-going : goal.returns-in-Arm-clause-going
 returns-in-Arm-clause-going g c = λ phases h off.
@@ -35,8 +35,8 @@ returns-in-Arm-clause-going g c = λ phases h off.
 pub returns-in-Arm-clause-over : goal.returns-in-Arm-clause-over
 returns-in-Arm-clause-over g c = λ phases rest h on. absurd (true≢false (sym on))
 
-pub returns-in-Phase-clause-same : goal.returns-in-Phase-clause-same
-returns-in-Phase-clause-same g c = IfOk-weaker c.do_phase.result _ _ (λ r h. same_node g.F.Flash.chip c.args.node r.0 h) c.do_phase.ensures.origin
+pub returns-in-Phase-clause-frame : goal.returns-in-Phase-clause-frame
+returns-in-Phase-clause-frame g c = IfOk-weaker c.do_phase.result _ _ (λ r h. same_node g.F.Flash.chip c.args.node r.0 h) c.do_phase.ensures.origin
 
 pub returns-in-Phase-clause-arm : goal.returns-in-Phase-clause-arm
 returns-in-Phase-clause-arm g c =

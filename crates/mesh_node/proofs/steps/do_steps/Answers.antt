@@ -61,7 +61,7 @@ loop-step-preserved g c =
     let did = c.in_ok-next.ensures in
     record {
       which = c.do_step.ensures.which ∙ inv.which;
-      same = same_more c.args.node l.node next inv.same did.same;
+      same = same_more c.args.node l.node next inv.same did.frame;
       counts = did.many.0 ∙ inv.counts;
       sends = did.many.1 ∙ inv.sends;
       going = subst (λ ps. IsGoing ps next c.do_step.new.drawer (map (λ v. v.items) c.do_step.new.sends.items) c.do_step.new.counts.items) (sym (phases_taken steps i x lt is))
@@ -92,8 +92,8 @@ returns-clause-held g c = c.loop-step.invariant.held
 pub returns-clause-arm : goal.returns-clause-arm
 returns-clause-arm g c = c.loop-step.invariant.order
 
-pub returns-clause-same : goal.returns-clause-same
-returns-clause-same g c = c.loop-step.invariant.same
+pub returns-clause-frame : goal.returns-clause-frame
+returns-clause-frame g c = c.loop-step.invariant.same
 
 pub returns-then-stopped-clause-held : goal.returns-then-stopped-clause-held
 returns-then-stopped-clause-held g c = λ some.

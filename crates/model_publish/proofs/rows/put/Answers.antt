@@ -12,7 +12,7 @@ returns-then-is_at c =
     ∙ sym (put_set row_index c.args.rows.now c.place_of-place.result c.args.row c.args.row
     (rw c.as_slice-2.ensures.value at c.if-is_at.ensures.yes)
     (λ k h. rw (c.as_slice.ensures.value, c.row_index-index.ensures) at (c.place_of-place.ensures.before k c.args.row h))
-    (rw (c.as_slice-2.ensures.value, c.row_index-index.ensures) at (c.if-is_at.ensures.same c.args.row)))
+    (rw (c.as_slice-2.ensures.value, c.row_index-index.ensures) at (c.if-is_at.ensures.index c.args.row)))
 
 -- the row is new there
 is_new : (c : After-insert) → put_by row_index c.args.row c.args.rows.now ≡ insert c.args.rows.now c.place_of-place.result c.args.row

@@ -11,8 +11,8 @@ returns-then-is_at g c =
     let number = c.number-number.ensures.value in
     let before = rw (c.as_slice.ensures.value, number) at c.place_of-place.ensures.before in
     let yes = rw c.as_slice-2.ensures.value at c.if-is_at.ensures.yes in
-    let same = rw (c.as_slice-2.ensures.value, number) at c.if-is_at.ensures.same in
-    c.set.ensures.value ∙ sym (put_set key c.args.rows.now c.place_of-place.result c.args.row c.args.row yes (λ k h. before k c.args.row h) (same c.args.row))
+    let here = rw (c.as_slice-2.ensures.value, number) at c.if-is_at.ensures.number in
+    c.set.ensures.value ∙ sym (put_set key c.args.rows.now c.place_of-place.result c.args.row c.args.row yes (λ k h. before k c.args.row h) (here c.args.row))
 
 pub unwrap-requires : goal.unwrap-requires
 unwrap-requires g c =
