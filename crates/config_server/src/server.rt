@@ -1,7 +1,7 @@
 //! A case for each configuration message.
 #![tactic(auto)]
 
-ghost use Rattle.std.specs.Prelude.{◌≡◌, ◌≤◌, ◌<◌, IsErr, IfOk, OnErr, None, Some};
+ghost use Rattle.std.specs.Prelude.{◌≡◌, ◌≤◌, ◌<◌, IsErr, IfOk, OnErr, None, Some, length};
 ghost use Rattle.config_definitions.specs.Answers.{config_answer, first_answers, last_answers, middle_answers};
 ghost use Rattle.node_records.specs.Tables.{config_in};
 
@@ -132,7 +132,7 @@ fn answer(
 
 /// What a configuration message does, heard under the network key of this index, 12 bits. `polls` are the Low Power nodes of the node's
 /// friendships with their PollTimeouts, in units of 100 ms, 24 bits; `beat` is the node's heartbeat as a Status shows it. `Ignored` comes
-/// exactly where opcode, length or a value is that of no message.
+/// exactly where opcode, length or a value is that of no message. A reply begins with its opcode.
 ///
 /// The node has at most 4 elements.
 pub fn take(
@@ -144,6 +144,7 @@ pub fn take(
 ) -> Result<ConfigAct, Ignored>
     requires { p.now.elements ≤ 4 }
     ensures ok { IfOk result (λ act. config_answer (config_in p.now) under polls.now beat.now payload.now ≡ Some act) }
+    ensures reply { IfOk result (λ act. 1 ≤ length act.reply) }
     ensures ignored { OnErr result (config_answer (config_in p.now) under polls.now beat.now payload.now ≡ None) }
 {
     match answer(p, under, polls, beat, payload) {

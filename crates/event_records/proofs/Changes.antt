@@ -6,7 +6,7 @@ use Rattle.std.proofs.lemmas.List.Elements.{recursion_from_All}
 use Rattle.std.specs.Prelude.{All, None}
 use Rattle.event_records.specs.Putting.{AreMoves, ArePuttable, IsMove}
 use Rattle.layer_definitions.specs.Order.{put_by}
-use Rattle.node_records.proofs.Meanings.{config_push}
+use Rattle.store_definitions.proofs.Pushes.{config_push}
 use Rattle.node_records.specs.Full.{IsFull}
 use Rattle.node_records.specs.Tables.{config_in}
 use Rattle.node_records.specs.declared.persist.Persist.{Persist}

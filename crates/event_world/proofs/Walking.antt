@@ -13,7 +13,7 @@ use Rattle.mesh_base.specs.declared.pair.Pair.{Pair}
 use Rattle.mesh_world.specs.World.{after, after_all, AreAllowed, World, WorldStep}
 use Rattle.mesh_world.specs.World.WorldStep.{Advance, Publish, Reserve}
 use Rattle.node_records.proofs.Entries.{raised}
-use Rattle.node_records.proofs.Meanings.{config_push, kept_push}
+use Rattle.store_definitions.proofs.Pushes.{config_push, kept_push}
 use Rattle.node_records.specs.Meaning.{IsMeaningOf}
 use Rattle.node_records.specs.declared.persist.Persist.{Persist}
 use Rattle.record_types.specs.declared.records.StoreRecord.{StoreRecord}

@@ -22,7 +22,7 @@ use Rattle.run_definitions.specs.Answers.{config_before}
 use Rattle.run_definitions.specs.Fit.{AreStorable}
 use Rattle.run_definitions.specs.History.{Past, now_of}
 use Rattle.run_safety.proofs.Lists.{every_append}
-use Rattle.run_safety.proofs.Rising.{config_push}
+use Rattle.store_definitions.proofs.Pushes.{config_push}
 use Rattle.run_safety.specs.Safety.{IsChange}
 use Rattle.store_definitions.specs.Following.{AreInOrder, Follows}
 use Rattle.store_definitions.specs.Node.{IsWhole, KeepsWhole}

@@ -8,7 +8,8 @@ use Rattle.store_definitions.specs.Following.{DoesNotLower}
 use Rattle.node_records.specs.declared.persist.Persist.{Persist}
 use Rattle.node_records.specs.Meaning.{IsMeaningOf}
 use Rattle.node_records.proofs.Entries.{raised, kept_more}
-use Rattle.node_records.proofs.Meanings.{config_push, kept_push, current_later}
+use Rattle.store_definitions.proofs.Pushes.{config_push, kept_push}
+use Rattle.node_records.proofs.Meanings.{current_later}
 
 pub alike_by : (a b : List StoreRecord) (p : Persist) → IsMeaningOf a p → IsMeaningOf b p → IsAlike a b
 alike_by a b p h k = record { config = sym h.config ∙ k.config; entries = λ src. sym (h.entries src) ∙ k.entries src }

@@ -1,10 +1,9 @@
 -- A value after a record is the meaning of the records with that one at their end.
 use Rattle.std.proofs.Common.{◌≡◌, ℕ, ◌≤◌, Bool, refl, List, [], ◌∷◌, ◌++◌, ap, ◌∙◌, sym, subst, arith}
-use Rattle.std.specs.Prelude.{None}
-use Rattle.std.proofs.lemmas.List.Sums.{fold-append}
 use Rattle.record_types.specs.declared.records.StoreRecord.{StoreRecord}
 use Rattle.record_types.specs.declared.records.StoreRecord.TheVariants as R
-use Rattle.store_definitions.specs.Config.{Config, no_config, changed, config_of}
+use Rattle.store_definitions.proofs.Pushes.{config_push, kept_push}
+use Rattle.store_definitions.specs.Config.{Config, changed, config_of}
 use Rattle.store_definitions.specs.Entries.{kept_after, kept_of, unexpired}
 use Rattle.node_records.specs.declared.persist.Persist.{Persist}
 use Rattle.node_records.specs.Tables.{config_in, pair_of}
@@ -13,12 +12,6 @@ use Rattle.store_definitions.specs.Ranges.{IsInRange}
 use Rattle.std.proofs.lemmas.List.Elements.{All-nil, All-push}
 use Rattle.node_records.specs.Steps.{IsStep, KeepsEntries}
 use Rattle.node_records.proofs.Entries.{raised, kept_more}
-
-pub config_push : (records : List StoreRecord) (item : StoreRecord) → config_of (records ++ item ∷ []) ≡ changed (config_of records) item
-config_push records item = fold-append changed no_config records (item ∷ [])
-
-pub kept_push : (records : List StoreRecord) (item : StoreRecord) (src : ℕ) → kept_of (records ++ item ∷ []) src ≡ kept_after src (kept_of records src) item
-kept_push records item src = fold-append (kept_after src) None records (item ∷ [])
 
 -- the known IV Index doesn't fall
 pub current_later : (c : Config) (item : StoreRecord)

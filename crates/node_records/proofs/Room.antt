@@ -23,7 +23,7 @@ use Rattle.node_records.specs.Steps.{KeepsName}
 use Rattle.node_records.proofs.Changes.{filter_few}
 use Rattle.node_records.proofs.Counts.{stands, AreApart, same_test, own_test, stands_filter, filter_stands, filter_apart, at_most}
 use Rattle.node_records.proofs.Entries.{some_with}
-use Rattle.node_records.proofs.Meanings.{config_push, kept_push}
+use Rattle.store_definitions.proofs.Pushes.{config_push, kept_push}
 use Rattle.node_records.proofs.Rows.{new_row_apart}
 
 -- The sources of the records.

@@ -1,9 +1,9 @@
 -- What records say of one that comes after them, by the value that they stand for.
 use Rattle.std.proofs.Common.{◌≡◌, ℕ, ◌≤◌, List, [], ◌∷◌, ◌++◌, ap, sym, subst, ◌∙◌, arith}
-use Rattle.std.proofs.lemmas.List.Sums.{fold_push}
 use Rattle.record_types.specs.declared.records.StoreRecord.{StoreRecord}
 use Rattle.record_types.specs.declared.records.StoreRecord.TheVariants as R
-use Rattle.store_definitions.specs.Config.{Config, changed, config_of, no_config}
+use Rattle.store_definitions.proofs.Pushes.{config_push}
+use Rattle.store_definitions.specs.Config.{Config, changed, config_of}
 use Rattle.node_records.specs.declared.persist.Persist.{Persist}
 use Rattle.node_records.specs.Meaning.{DoesNotFall, IsMeaningOf}
 use Rattle.store_definitions.specs.Following.{DoesNotLower}
@@ -34,9 +34,6 @@ module _ (records : List StoreRecord) (p : Persist) (meaning : IsMeaningOf recor
 
   same_mark : p.mark ≡ (config_of records).mark
   same_mark = ap (λ (d : Config). d.mark) meaning.config
-
-  config_push : (item : StoreRecord) → config_of (records ++ item ∷ []) ≡ changed (config_of records) item
-  config_push item = fold_push changed no_config records item
 
   -- the mark with one record more
   mark_after : (item : StoreRecord) → IsNotBelow p item → p.mark ≤ (changed (config_of records) item).mark
@@ -75,10 +72,10 @@ module _ (records : List StoreRecord) (p : Persist) (meaning : IsMeaningOf recor
   mark_before = same_mark
 
   pub mark_from : (item : StoreRecord) → IsNotBelow p item → p.mark ≤ (config_of (records ++ item ∷ [])).mark
-  mark_from item h = subst (λ (d : Config). p.mark ≤ d.mark) (sym (config_push item)) (mark_after item h)
+  mark_from item h = subst (λ (d : Config). p.mark ≤ d.mark) (sym (config_push records item)) (mark_after item h)
 
   pub mark_same : (item : StoreRecord) → IsNoNumbers item → (config_of (records ++ item ∷ [])).mark ≡ p.mark
-  mark_same item h = ap (λ (d : Config). d.mark) (config_push item) ∙ mark_kept item h
+  mark_same item h = ap (λ (d : Config). d.mark) (config_push records item) ∙ mark_kept item h
 
 -- what a Numbers record may not lower
 pub not_below_current : (p : Persist) (item : StoreRecord) → IsNotBelow p item → DoesNotFall p item

@@ -25,7 +25,8 @@ use Rattle.run_safety.specs.Rules.{HasFitNumbers}
 use Rattle.run_safety.specs.Safety.{AreSafe, IsChange}
 use Rattle.run_definitions.specs.Stores.{asked, hours_passed, hours_step, message_of, phase_records, step_records, stores, tick_records}
 use Rattle.store_definitions.specs.Numbers.{fill_of, filled, moved}
-use Rattle.run_safety.proofs.Rising.{Rise, same, more, Rises, config_push, rise_after}
+use Rattle.run_safety.proofs.Rising.{Rise, same, more, Rises, rise_after}
+use Rattle.store_definitions.proofs.Pushes.{config_push}
 
 -- The mark of a list of records with fit numbers is at most the end of its transmit IV Index, and the known IV Index has 32
 -- bits.

@@ -26,7 +26,8 @@ use Rattle.run_safety.proofs.Accepting.{Fresh, beacon_silent, fresh, nothing_acc
 use Rattle.run_definitions.proofs.Accepting.{some_is}
 use Rattle.run_safety.proofs.Handled.{RiseAll, marked, rise_all, rise_filled, stores_rise}
 use Rattle.run_safety.proofs.Lists.{Apart, apart_push, every_append, every_front, every_map}
-use Rattle.run_safety.proofs.Rising.{config_push, Blocked, by_expiry, by_kept, IsBlocked, Rise, same, blocked_by_replay, blocked_entry, blocked_rise, rise_after}
+use Rattle.store_definitions.proofs.Pushes.{config_push}
+use Rattle.run_safety.proofs.Rising.{Blocked, by_expiry, by_kept, IsBlocked, Rise, same, blocked_by_replay, blocked_entry, blocked_rise, rise_after}
 
 -- Records grow at their end.
 

@@ -33,7 +33,7 @@ use Rattle.run_definitions.specs.Layers.{quiet_layers}
 use Rattle.run_safety.specs.WrittenRun.{node, opened_state, pair}
 use Rattle.run_safety.proofs.Lists.{pairs_from_apart}
 use Rattle.run_safety.proofs.NeededDraws.{Clash, first_list, first_opens, mark, other_text, raw_entry, raw_event, raw_line, some_use}
-use Rattle.run_safety.proofs.Rising.{config_push, kept_push}
+use Rattle.store_definitions.proofs.Pushes.{config_push, kept_push}
 use Rattle.run_safety.proofs.WrittenRun.{all_of, others_none, others_placed, quiet_safe}
 
 -- What any number of refills says: the mark is 256 higher for each.

@@ -2,21 +2,15 @@
 use Rattle.std.proofs.Common.{eq-eqb, eqb, ◌≡◌, ℕ, ◌≤◌, Bool, true, false, cond, List, [], ◌∷◌, ◌++◌, refl, ap, ◌∙◌, arith, Option, Some, None}
 use Rattle.std.specs.Bool.{⊤}
 use Rattle.std.specs.List.{fold}
-use Rattle.std.proofs.lemmas.Grind.{fold-append}
 use Rattle.mesh_base.specs.declared.pair.Name.{Name}
 use Rattle.mesh_base.specs.declared.pair.Pair.{Pair}
 use Rattle.record_types.specs.declared.records.StoreRecord.{StoreRecord}
 use Rattle.record_types.specs.declared.records.StoreRecord.TheVariants as R
-use Rattle.store_definitions.specs.Config.{Config, changed, config_of, no_config}
+use Rattle.store_definitions.proofs.Pushes.{config_push, kept_push}
+use Rattle.store_definitions.specs.Config.{Config, changed, config_of}
 use Rattle.store_definitions.specs.Entries.{greatest_with, kept_after, kept_of, kept_with, names_in, unexpired}
 use Rattle.mesh_base.specs.Pairs.{is_expired, is_newer}
 use Rattle.mesh_base.proofs.Pairs.{expired_below, expired_later, not_newer_left, not_newer_right, not_newer_itself}
-
-pub config_push : (records : List StoreRecord) (r : StoreRecord) → config_of (records ++ r ∷ []) ≡ changed (config_of records) r
-config_push records r = fold-append changed no_config records (r ∷ [])
-
-pub kept_push : (records : List StoreRecord) (r : StoreRecord) (src : ℕ) → kept_of (records ++ r ∷ []) src ≡ kept_after src (kept_of records src) r
-kept_push records r src = fold-append (kept_after src) None records (r ∷ [])
 
 -- what a record may not do
 abbrev pub Rises : Config → StoreRecord → Type 0

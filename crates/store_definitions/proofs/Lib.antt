@@ -1,2 +1,3 @@
 pub mod Texts
 mod Whole
+pub mod Pushes

@@ -13,7 +13,7 @@ use Rattle.node_records.specs.declared.persist.Persist.{Persist}
 use Rattle.node_records.specs.Meaning.{IsMeaningOf}
 use Rattle.node_records.specs.Tables.{entry_in, config_in}
 use Rattle.node_records.proofs.Entries.{gone, noted, raised}
-use Rattle.node_records.proofs.Meanings.{config_push, kept_push}
+use Rattle.store_definitions.proofs.Pushes.{config_push, kept_push}
 use Rattle.record_types.specs.declared.records.StoreRecord.{StoreRecord}
 use Rattle.record_types.specs.declared.records.StoreRecord.TheVariants as R
 use Rattle.store_definitions.specs.Config.{Config, changed, config_of}
