@@ -1,6 +1,6 @@
 -- What is opened and sent under the values of rows.
 use Rattle.std.proofs.Common.{◌≡◌, ℕ, ◌+◌, ◌<◌, Bool, true, false, cond, List, [], ◌∷◌, ◌++◌, length, take, get_or, map, Option, Some, None, refl, sym, ap, ◌∙◌, arith, append-nil}
-use Rattle.std.specs.Prelude.{◌==◌, ◌&&◌, ◌↔◌, ◌≢◌, if◌then◌else◌, unwrap_or, is_some, IsNone, IsSome, IfSome, filter, All}
+use Rattle.std.specs.Prelude.{◌==◌, ◌&&◌, ◌↔◌, ◌≢◌, is_some, IsNone, IsSome, IfSome, filter, All}
 use Rattle.std.specs.List.{AllByRecursion as ByRecursion, find, flat_map}
 use Rattle.std.specs.Option.{option_and_then, option_map}
 use Rattle.std.proofs.lemmas.List.{take_more}
@@ -17,6 +17,7 @@ use Rattle.layer_definitions.proofs.KeyLaws.{aid_width}
 use Rattle.layer_definitions.proofs.OrderLaws.{All-by_index}
 use Rattle.kept_keys.specs.declared.upper.BoundSchedule.{BoundSchedule}
 use Rattle.kept_keys.specs.Bound.{bound_key, bound_keys, fitting_keys}
+use Rattle.kept_keys.proofs.Finding.{and_false, and_true, both_false, every_behind, new_sent, old_sent, row_first, row_new, row_passed, some_once}
 use Rattle.kept_keys.proofs.Fitting.{fitting-append}
 use Rattle.app_keys.specs.AppRows.{HasAidWidth}
 use Rattle.app_keys.specs.Held.{pair_of, sends_new}
@@ -41,54 +42,18 @@ stay_bound rows nets b = All-by_index (λ r. IsSome (net_row nets r.net)) app_in
 abbrev values_of : ℕ → AppKeyRow → List UpperKey
 values_of id r = map (app_key r.index) (filter (λ key. aid key == id) (keys_of (λ fresh key. key) r.key r.next))
 
-both : (P : UpperKey → Type 0) (xs ys : List UpperKey) → ByRecursion P xs → ByRecursion P ys → ByRecursion P (xs ++ ys)
-both P [] ys a b = b
-both P (x ∷ xs) ys (p, a) b = (p, both P xs ys a b)
-
 made_in_width : (index : ℕ) (keys : List (List ℕ)) → ByRecursion HasAidWidth (map (app_key index) keys)
 made_in_width index [] = tt
 made_in_width index (k ∷ keys) = (aid_width k, made_in_width index keys)
 
 rows_in_width : (id : ℕ) (rows : List AppKeyRow) → ByRecursion HasAidWidth (flat_map (values_of id) rows)
 rows_in_width id [] = tt
-rows_in_width id (r ∷ rows) = both HasAidWidth _ _ (made_in_width r.index (filter (λ key. aid key == id) (keys_of (λ fresh key. key) r.key r.next))) (rows_in_width id rows)
+rows_in_width id (r ∷ rows) = every_behind HasAidWidth _ _ (made_in_width r.index (filter (λ key. aid key == id) (keys_of (λ fresh key. key) r.key r.next))) (rows_in_width id rows)
 
 pub all_in_width : (rows : List AppKeyRow) (net id : ℕ) → All HasAidWidth (app_keys rows net id)
 all_in_width rows net id = All-from_recursion HasAidWidth (app_keys rows net id) (rows_in_width id (filter (λ r. r.net == net) rows))
 
 -- What is sent with.
-
-first : (p : BoundSchedule → Bool) (x : BoundSchedule) (xs : List BoundSchedule) → p x ≡ true → find p (x ∷ xs) ≡ Some x
-first p x xs e = ap (λ t. cond t (Some x) (find p xs)) e
-
-passed : (p : BoundSchedule → Bool) (x : BoundSchedule) (xs : List BoundSchedule) → p x ≡ false → find p (x ∷ xs) ≡ find p xs
-passed p x xs e = ap (λ t. cond t (Some x) (find p xs)) e
-
--- a row's values in front of others
-row_first : (p : BoundSchedule → Bool) (make : Bool → List ℕ → BoundSchedule) (key : List ℕ) (next : Option (List ℕ)) (rest : List BoundSchedule) → p (make false key) ≡ true
-    → find p (keys_of make key next ++ rest) ≡ Some (make false key)
-row_first p make key None rest e = first p (make false key) rest e
-row_first p make key (Some k) rest e = first p (make false key) (make true k ∷ rest) e
-
-row_passed : (p : BoundSchedule → Bool) (make : Bool → List ℕ → BoundSchedule) (key : List ℕ) (next : Option (List ℕ)) (rest : List BoundSchedule)
-    → ((fresh : Bool) (k : List ℕ) → p (make fresh k) ≡ false) → find p (keys_of make key next ++ rest) ≡ find p rest
-row_passed p make key None rest e = passed p (make false key) rest (e false key)
-row_passed p make key (Some k) rest e = passed p (make false key) (make true k ∷ rest) (e false key) ∙ passed p (make true k) rest (e true k)
-
-row_new : (p : BoundSchedule → Bool) (make : Bool → List ℕ → BoundSchedule) (key k : List ℕ) (rest : List BoundSchedule) → p (make false key) ≡ false → p (make true k) ≡ true
-    → find p (keys_of make key (Some k) ++ rest) ≡ Some (make true k)
-row_new p make key k rest e f = passed p (make false key) (make true k ∷ rest) e ∙ first p (make true k) rest f
-
-and_false : (t : Bool) → (t && false) ≡ false
-and_false true = refl
-and_false false = refl
-
-and_true : (t : Bool) → (t && true) ≡ t
-and_true true = refl
-and_true false = refl
-
-both_false : (t u : Bool) → t ≡ false → (t && u) ≡ false
-both_false t u e = ap (λ x. x && u) e
 
 abbrev Sent : Type 0
 Sent = ℕ × UpperKey
@@ -117,9 +82,6 @@ old_found (r ∷ rows) index = row (old_found rows index) (r.index == index) ref
         ∙ ap (λ n. Some (old_value n r)) (same_index index r e)
     row i false e = ap (λ o. option_map pair_of o) (row_passed (is_of index) (bound_key r.net r.index) r.key r.next (bound_keys rows) (λ fresh k. e)) ∙ i
 
-some_once : (a b : AppKeyRow) → Some a ≡ Some b → a ≡ b
-some_once a b e = cc
-
 abbrev new_value : ℕ → ℕ → List ℕ → Sent
 new_value index net k = (net, app_key index k)
 
@@ -143,20 +105,10 @@ new_found (x ∷ rows) index r k e n = row (λ f. new_found rows index r k f n) 
         ap (λ o. option_map pair_of o) (row_passed (is_new_of index) (bound_key x.net x.index) x.key x.next (bound_keys rows) (λ fresh y. both_false (x.index == index) fresh t)) ∙ i f
 
 old_key : (r : AppKeyRow) (net : NetKeyRow) → sends_new r net ≡ false → transmit_value r net ≡ r.key
-old_key r net e = either (net.phase == 2) r.next e
-  where
-    either : (t : Bool) (next : Option (List ℕ)) → (t && is_some next) ≡ false → (if t then unwrap_or next r.key else r.key) ≡ r.key
-    either true None e = refl
-    either true (Some k) e = absurd (cc)
-    either false next e = refl
+old_key r net e = old_sent (net.phase == 2) r.next r.key e
 
 new_key : (r : AppKeyRow) (net : NetKeyRow) → sends_new r net ≡ true → (k : List ℕ) × (r.next ≡ Some k) × (transmit_value r net ≡ k)
-new_key r net e = either (net.phase == 2) r.next e
-  where
-    either : (t : Bool) (next : Option (List ℕ)) → (t && is_some next) ≡ true → (k : List ℕ) × (next ≡ Some k) × ((if t then unwrap_or next r.key else r.key) ≡ k)
-    either true None e = absurd (cc)
-    either true (Some k) e = (k, refl, refl)
-    either false next e = absurd (cc)
+new_key r net e = new_sent (net.phase == 2) r.next r.key e
 
 -- what is sent with under a row and its network key
 abbrev sent_with : List NetKeyRow → ℕ → AppKeyRow → Option Sent

@@ -1,5 +1,5 @@
 -- In a life of a node that has an element, each entry has an own event, and its jobs go from an element.
-use Rattle.std.proofs.Common.{◌≡◌, suc, ◌<◌, ◌≤◌, true, List, [], ◌∷◌, ◌++◌, map, length, refl, ap, sym, subst, ◌∙◌, append_assoc, append-nil, length-append, arith, Some}
+use Rattle.std.proofs.Common.{◌≡◌, suc, ◌<◌, ◌≤◌, true, List, [], ◌∷◌, ◌++◌, map, length, refl, ap, sym, subst, ◌∙◌, length-append, arith, Some}
 use Rattle.std.specs.Prelude.{slice_get}
 use Rattle.std.specs.List.{AllByRecursion as Every}
 use Rattle.std.proofs.lemmas.List.Elements.{All-from_recursion}
@@ -12,6 +12,7 @@ use Rattle.mesh_types.specs.declared.history.Entry.{Entry}
 use Rattle.mesh_types.specs.declared.jobs.Job.{Job}
 use Rattle.mesh_types.specs.declared.jobs.Job.TheVariants as J
 use Rattle.record_types.specs.declared.records.StoreRecord.{StoreRecord}
+use Rattle.run_definitions.proofs.Handling.{handled_more, left_more}
 use Rattle.run_definitions.specs.Fit.{IsOwn, IsOwnEvent}
 use Rattle.run_definitions.specs.Handling.{AreHandled, Handles, IsPast, past_of, records_left}
 use Rattle.run_definitions.specs.History.{Past, Told}
@@ -47,26 +48,6 @@ own_event_same c d s (E.Bcn octets) h = tt
 own_event_same c d s (E.Raw dst ttl tpdu) h = tt
 own_event_same c d s (E.Tick ticks) h = tt
 own_event_same c d s (E.Kept lpn fsn name octets) h = tt
-
--- An entry more.
-
-handled_push : (layers : Layers) (records : List StoreRecord) (before ts : List Told) (t : Told) → AreHandled layers records before ts
-    → t.records ≡ filled t.entry.fills (records_left layers records before ts) → Handles layers (past_of (before ++ ts) t) t
-    → AreHandled layers records before (ts ++ t ∷ [])
-handled_push layers records before [] t h r k = (r, subst (λ l. Handles layers (past_of l t) t) (append-nil before) k, tt)
-handled_push layers records before (x ∷ ts) t h r k = (
-  h.0,
-  h.1,
-  handled_push layers (records_after layers (past_of before x) x) (before ++ x ∷ []) ts t h.2 r
-      (subst (λ l. Handles layers (past_of l t) t) (sym (append_assoc before (x ∷ []) ts)) k),
-)
-
-left_push : (layers : Layers) (records : List StoreRecord) (before ts : List Told) (t : Told)
-    → records_left layers records before (ts ++ t ∷ []) ≡ records_after layers (past_of (before ++ ts) t) t
-left_push layers records before [] t = ap (λ l. records_after layers (past_of l t) t) (sym (append-nil before))
-left_push layers records before (x ∷ ts) t =
-    left_push layers (records_after layers (past_of before x) x) (before ++ x ∷ []) ts t
-    ∙ ap (λ l. records_after layers (past_of l t) t) (append_assoc before (x ∷ []) ts)
 
 -- What is known of an entry.
 pub record OwnEntry (own : Config) (e : Entry) : Type 0 where
@@ -137,8 +118,8 @@ module _ (layers : Layers) (safe : AreSafe layers) (sends : SendOwn layers) (own
       record {
         owned = owned;
         so_far = record {
-          handled = handled_push layers over [] before t so.handled filled_is handles;
-          records_are = sym (left_push layers over [] before t);
+          handled = handled_more layers over [] before t so.handled filled_is handles;
+          records_are = sym (left_more layers over [] before t);
           node = left;
           owned = every_append (λ (u : Told). OwnEntry own u.entry) before (t ∷ []) so.owned (owned, tt);
         };

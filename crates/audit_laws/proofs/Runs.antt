@@ -1,11 +1,9 @@
 -- The lines of the report of every run: whose each is, and that no two seal under one pair for one layer or accept one name.
-use Rattle.std.proofs.Common.{◌≡◌, ◌≢◌, ℕ, Bool, true, false, List, [], ◌∷◌, ◌++◌, refl, ap, sym, subst, ◌∙◌, arith, Option, Some, None}
+use Rattle.std.proofs.Common.{◌≡◌, ◌≢◌, ℕ, Bool, List, [], ◌∷◌, ◌++◌, refl, ap, sym, subst, ◌∙◌, arith, Option, Some, None}
 use Rattle.std.specs.List.{All, AllByRecursion as Every, cons_option, filter_map, flat_map}
 use Rattle.std.proofs.lemmas.List.Elements.{recursion_from_All}
 use Rattle.audit_definitions.specs.Seals.{accepted}
-use Rattle.mesh_base.specs.Pairs.{word_of}
 use Rattle.mesh_base.specs.declared.pair.Name.{Name}
-use Rattle.mesh_base.specs.declared.pair.Pair.{Pair}
 use Rattle.mesh_types.specs.declared.report.ReportLine.{ReportLine}
 use Rattle.record_types.specs.declared.records.StoreRecord.{StoreRecord}
 use Rattle.report_definitions.specs.Record.{Life, LifeOver, Run, first_over}
@@ -20,9 +18,9 @@ use Rattle.run_safety.proofs.Enough as enough
 use Rattle.run_safety.proofs.Lists.{Apart, apart_from_pairs, apart_sub, every_back, every_front, every_map, every_sub}
 use Rattle.run_safety.proofs.Names.{filled_is, left_is}
 use Rattle.run_safety.proofs.Nonces.{Wide}
-use Rattle.run_safety.proofs.Reuse.{Drawn, lives_drawn}
+use Rattle.run_safety.proofs.Reuse.{Drawn, both_wide, doubled_apart, lives_drawn}
 use Rattle.run_safety.proofs.Rising.{later_same}
-use Rattle.run_safety.proofs.Walking.{Tag, doubled, network_tag, upper_tag}
+use Rattle.run_safety.proofs.Walking.{Tag}
 use Rattle.run_safety.specs.Rules.{LivesBy, enough_rules}
 use Rattle.run_safety.specs.Safety.{AreSafe, all_draws}
 use Rattle.store_definitions.specs.Config.{Config, changed, config_of}
@@ -80,22 +78,6 @@ module _ {A B : Type 0} (R : B → B → Type 0) (f : A → Option B) where
       by_choice None e k m = (every_any (ChosenApart x) (λ y a b g h. absurd cc) xs, m k)
       by_choice (Some w) e k m =
           (every_map (λ y. (b : B) → f y ≡ Some b → R w b) (ChosenApart x) (λ y r a b g h. let same : w ≡ a = cc in subst (λ c. R c b) same (r b h)) xs (each_chosen w xs k.0), m k.1)
-
--- Each pair seals at most once for each layer.
-
-both_wide : (ps : List Pair) → Every Wide ps → Every (λ (t : Tag). Wide t.pair) (doubled ps)
-both_wide [] h = tt
-both_wide (p ∷ ps) h = (h.0, (h.0, both_wide ps h.1))
-
-other_pair : (p : Pair) (t : Tag) (qs : List Pair) → t.pair ≡ p → Every (λ (q : Pair). word_of p ≢ word_of q) qs → Every (λ s. t ≢ s) (doubled qs)
-other_pair p t [] is h = tt
-other_pair p t (q ∷ qs) is h =
-    ((λ e. h.0 (ap word_of (sym is) ∙ ap (λ (s : Tag). word_of s.pair) e)), ((λ e. h.0 (ap word_of (sym is) ∙ ap (λ (s : Tag). word_of s.pair) e)), other_pair p t qs is h.1))
-
-doubled_apart : (ps : List Pair) → Apart (λ p q. word_of p ≢ word_of q) ps → Apart (λ s t. s ≢ t) (doubled ps)
-doubled_apart [] h = tt
-doubled_apart (p ∷ ps) h =
-    (((λ e. let f : true ≡ false = ap (λ (s : Tag). s.upper) e in cc), other_pair p (upper_tag p) ps refl h.0), (other_pair p (network_tag p) ps refl h.0, doubled_apart ps h.1))
 
 -- The node of a run.
 

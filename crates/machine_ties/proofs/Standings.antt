@@ -9,7 +9,8 @@ use Rattle.machine_contract.specs.Standing.{IsLeftBy, past_now}
 use Rattle.machine_ties.proofs.Fronts.{all_ranges, all_whole}
 use Rattle.machine_ties.proofs.Images.{front_left, front_node, store_left, store_mark, store_node}
 use Rattle.machine_ties.proofs.Lists.{all_append, all_one}
-use Rattle.machine_ties.proofs.Lives.{filled_more, handled_more, left_more}
+use Rattle.machine_ties.proofs.Lives.{filled_more}
+use Rattle.run_definitions.proofs.Handling.{handled_more, left_more}
 use Rattle.machine_ties.specs.Kept.{AreKept, KeptLaw}
 use Rattle.machine_ties.specs.Ties.{IsBefore, IsCutIn, IsOver, Stands, entered, refilled, stopped}
 use Rattle.machine_ties.specs.Views.{NodeMachine}

@@ -1,11 +1,8 @@
 -- A flash on which a node was just provisioned.
-use Rattle.std.proofs.Common.{◌≡◌, ℕ, List, [], ◌∷◌, true, refl, sym, subst, arith, None}
-use Rattle.std.specs.Prelude.{All, IsTrue, OnOk, Result, Ok, Err}
-use Rattle.std.proofs.lemmas.List.Elements.{All-from_recursion}
+use Rattle.std.proofs.Common.{◌≡◌, ℕ, List, sym, subst}
+use Rattle.std.specs.Prelude.{IsTrue, OnOk, Result, Ok, Err}
 use Rattle.flash_model.specs.Chip.{Chip, IsFresh}
-use Rattle.mesh_base.specs.declared.keys.AppKeyRow.{AppKeyRow}
-use Rattle.mesh_base.specs.declared.keys.NetKeyRow.{NetKeyRow}
-use Rattle.node_records.proofs.Said.{iv_of}
+use Rattle.node_store.proofs.Provisions.{provisioned_whole}
 use Rattle.node_store.specs.Mounted.{IsOldNode, IsRead}
 use Rattle.node_store.specs.Provisioning.{IsProvision, provisioning}
 use Rattle.node_store.specs.Tie.{IsExactly}
@@ -13,31 +10,9 @@ use Rattle.node_store.specs.View.{StoreView}
 use Rattle.node_store.specs.declared.provision.Provision.{Provision}
 use Rattle.record_types.specs.declared.records.StoreRecord.{StoreRecord}
 use Rattle.slot_journal.specs.Headers.{IsTidy}
-use Rattle.store_definitions.specs.Config.{changed, config_of}
-use Rattle.store_definitions.specs.Node.{IsPhased, IsWhole, is_held}
 use Rattle.store_definitions.specs.Provisioning.{provisioned}
-use Rattle.store_definitions.specs.Ranges.{IsInRange}
 use Rattle.store_definitions.specs.Recovered.{IsRecovered}
 use Rattle.mesh_run.specs.Provisioned.{IsProvisioned}
-
--- the records of a node that can be run
-provisioned_whole : (p : Provision) → IsProvision p → All IsInRange (provisioned (provisioning p)) → IsWhole (config_of (provisioned (provisioning p)))
-unfolding changed
-provisioned_whole p h ranges =
-    let row : NetKeyRow = record { index = p.net_index; phase = 0; key = p.net_key; next = None } in
-    let iv = iv_of (provisioned (provisioning p)) ranges in
-    record {
-      some = h.some;
-      few = h.few;
-      unicast = h.unicast;
-      last = h.last;
-      current = iv.current;
-      transmit = iv.transmit;
-      mark = iv.mark;
-      nets = λ e. absurd cc;
-      phased = All-from_recursion IsPhased (row ∷ []) (record { phase = omega arith; next = refl }, tt);
-      bound = All-from_recursion (λ (a : AppKeyRow). is_held (config_of (provisioned (provisioning p))).nets a.net ≡ true) [] tt;
-    }
 
 abbrev pub OneList : Type 0
 OneList = (image : List ℕ) (rs ss : List StoreRecord) → IsRecovered image rs → IsRecovered image ss → rs ≡ ss

@@ -12,7 +12,8 @@ use Rattle.layer_definitions.specs.KeyRefresh.{heard_keys}
 use Rattle.layer_definitions.specs.Network.{IsUnread, net_text, Reads, ReadsUnder}
 use Rattle.layer_definitions.proofs.KeyLaws.{nid_width}
 use Rattle.net_keys.specs.Laws.{CandidatesRead, HaveNidWidth, OthersDoNotRead}
-use Rattle.net_keys.proofs.Rows.{both, of_rows}
+use Rattle.kept_keys.proofs.Finding.{every_behind}
+use Rattle.net_keys.proofs.Rows.{of_rows}
 
 low_bits : (a n : ℕ) → n < 2 ^ 7 → (a * 2 ^ 7 + n) % 2 ^ 7 ≡ n
 low_bits a n l = omega (arith, l)
@@ -70,7 +71,7 @@ read_by_all (x ∷ ks) current o f place by (l, w) r = either (λ p q. read_by_a
     either next false t p q = behind x ks current o f by (λ g s. let yes = reads_by_nid x current o g l s in absurd (cc)) (next p q)
 
 widths : (rows : List NetKeyRow) (more : List Heard) → HaveNidWidth more → ByRecursion HasWidth (heard_keys rows ++ more)
-widths rows more w = both HasWidth (heard_keys rows) more (of_rows HasWidth (λ index fresh key. nid_width key) rows) (recursion_from_All HasWidth more w)
+widths rows more w = every_behind HasWidth (heard_keys rows) more (of_rows HasWidth (λ index fresh key. nid_width key) rows) (recursion_from_All HasWidth more w)
 
 apart : (octets : List ℕ) (keys more : List Heard) → filter (has_nid octets) keys ++ filter (has_nid octets) more ≡ filter (has_nid octets) (keys ++ more)
 apart octets keys more = sym (filter-append (has_nid octets) keys more)

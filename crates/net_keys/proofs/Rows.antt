@@ -1,6 +1,6 @@
 -- What is heard and sent under the keys of rows.
 use Rattle.std.proofs.Common.{◌≡◌, ℕ, ◌+◌, ◌<◌, ◌^◌, Bool, true, false, cond, List, [], ◌∷◌, ◌++◌, length, take, get_or, Option, Some, None, refl, sym, ap, ◌∙◌, arith, append-nil}
-use Rattle.std.specs.Prelude.{◌==◌, ◌&&◌, ◌↔◌, ◌≢◌, if◌then◌else◌, unwrap_or, is_some, IsNone, IfSome, filter, All}
+use Rattle.std.specs.Prelude.{◌==◌, ◌&&◌, ◌↔◌, ◌≢◌, is_some, IsNone, IfSome, filter, All}
 use Rattle.std.specs.List.{AllByRecursion as ByRecursion, find}
 use Rattle.std.specs.Option.{option_map}
 use Rattle.std.proofs.lemmas.List.{take_more}
@@ -13,6 +13,7 @@ use Rattle.mesh_base.specs.declared.keys.NetKeyRow.{NetKeyRow}
 use Rattle.layer_definitions.specs.KeyRefresh.{heard_key, heard_keys, keys_of, master_material, net_index, net_row, transmit_key, transmit_material}
 use Rattle.layer_definitions.specs.Order.{LacksIndex}
 use Rattle.layer_definitions.proofs.KeyLaws.{nid_width}
+use Rattle.kept_keys.proofs.Finding.{and_false, and_true, both_false, every_behind, new_sent, old_sent, row_first, row_new, row_passed, some_once}
 use Rattle.net_keys.specs.Held.{sends_new}
 
 -- the keys of one row more
@@ -38,38 +39,6 @@ is_of index h = h.index == index
 abbrev is_new_of : ℕ → Heard → Bool
 is_new_of index h = (h.index == index) && h.fresh
 
-first : (p : Heard → Bool) (x : Heard) (xs : List Heard) → p x ≡ true → find p (x ∷ xs) ≡ Some x
-first p x xs e = ap (λ t. cond t (Some x) (find p xs)) e
-
-passed : (p : Heard → Bool) (x : Heard) (xs : List Heard) → p x ≡ false → find p (x ∷ xs) ≡ find p xs
-passed p x xs e = ap (λ t. cond t (Some x) (find p xs)) e
-
--- a row's keys in front of others
-row_first : (p : Heard → Bool) (make : Bool → List ℕ → Heard) (key : List ℕ) (next : Option (List ℕ)) (rest : List Heard) → p (make false key) ≡ true
-    → find p (keys_of make key next ++ rest) ≡ Some (make false key)
-row_first p make key None rest e = first p (make false key) rest e
-row_first p make key (Some k) rest e = first p (make false key) (make true k ∷ rest) e
-
-row_passed : (p : Heard → Bool) (make : Bool → List ℕ → Heard) (key : List ℕ) (next : Option (List ℕ)) (rest : List Heard)
-    → ((fresh : Bool) (k : List ℕ) → p (make fresh k) ≡ false) → find p (keys_of make key next ++ rest) ≡ find p rest
-row_passed p make key None rest e = passed p (make false key) rest (e false key)
-row_passed p make key (Some k) rest e = passed p (make false key) (make true k ∷ rest) (e false key) ∙ passed p (make true k) rest (e true k)
-
-row_new : (p : Heard → Bool) (make : Bool → List ℕ → Heard) (key k : List ℕ) (rest : List Heard) → p (make false key) ≡ false → p (make true k) ≡ true
-    → find p (keys_of make key (Some k) ++ rest) ≡ Some (make true k)
-row_new p make key k rest e f = passed p (make false key) (make true k ∷ rest) e ∙ first p (make true k) rest f
-
-and_false : (t : Bool) → (t && false) ≡ false
-and_false true = refl
-and_false false = refl
-
-and_true : (t : Bool) → (t && true) ≡ t
-and_true true = refl
-and_true false = refl
-
-both_false : (t u : Bool) → t ≡ false → (t && u) ≡ false
-both_false t u e = ap (λ x. x && u) e
-
 -- the first key of an index is the old one of its row
 old_found : (rows : List NetKeyRow) (index : ℕ) → option_map material (find (is_of index) (heard_keys rows)) ≡ option_map (λ r. master_material r.key) (net_row rows index)
 old_found [] index = refl
@@ -79,9 +48,6 @@ old_found (r ∷ rows) index = row (old_found rows index) (r.index == index) ref
         → option_map material (find (is_of index) (keys_of (heard_key r.index) r.key r.next ++ heard_keys rows)) ≡ option_map (λ x. master_material x.key) (cond t (Some r) (net_row rows index))
     row i true e = ap (λ o. option_map material o) (row_first (is_of index) (heard_key r.index) r.key r.next (heard_keys rows) e)
     row i false e = ap (λ o. option_map material o) (row_passed (is_of index) (heard_key r.index) r.key r.next (heard_keys rows) (λ fresh k. e)) ∙ i
-
-some_once : (a b : NetKeyRow) → Some a ≡ Some b → a ≡ b
-some_once a b e = cc
 
 -- and the first new one is that of its row, if it has one
 new_found : (rows : List NetKeyRow) (index : ℕ) (r : NetKeyRow) (k : List ℕ) → net_row rows index ≡ Some r → r.next ≡ Some k
@@ -100,20 +66,10 @@ new_found (x ∷ rows) index r k e n = row (λ f. new_found rows index r k f n) 
         ap (λ o. option_map material o) (row_passed (is_new_of index) (heard_key x.index) x.key x.next (heard_keys rows) (λ fresh y. both_false (x.index == index) fresh t)) ∙ i f
 
 old_key : (r : NetKeyRow) → sends_new r ≡ false → transmit_key r ≡ r.key
-old_key r e = either (r.phase == 2) r.next e
-  where
-    either : (t : Bool) (next : Option (List ℕ)) → (t && is_some next) ≡ false → (if t then unwrap_or next r.key else r.key) ≡ r.key
-    either true None e = refl
-    either true (Some k) e = absurd (cc)
-    either false next e = refl
+old_key r e = old_sent (r.phase == 2) r.next r.key e
 
 new_key : (r : NetKeyRow) → sends_new r ≡ true → (k : List ℕ) × (r.next ≡ Some k) × (transmit_key r ≡ k)
-new_key r e = either (r.phase == 2) r.next e
-  where
-    either : (t : Bool) (next : Option (List ℕ)) → (t && is_some next) ≡ true → (k : List ℕ) × (next ≡ Some k) × ((if t then unwrap_or next r.key else r.key) ≡ k)
-    either true None e = absurd (cc)
-    either true (Some k) e = (k, refl, refl)
-    either false next e = absurd (cc)
+new_key r e = new_sent (r.phase == 2) r.next r.key e
 
 sent_of : (rows : List NetKeyRow) (index : ℕ) (r : NetKeyRow) (k : List ℕ) → net_row rows index ≡ Some r → transmit_key r ≡ k → Some (master_material k) ≡ transmit_material rows index
 sent_of rows index r k e t =
@@ -172,13 +128,9 @@ of_row : (P : Heard → Type 0) → IsOfKeys P → (index : ℕ) (key : List ℕ
 of_row P p index key None = (p index false key, tt)
 of_row P p index key (Some k) = (p index false key, (p index true k, tt))
 
-pub both : (P : Heard → Type 0) (xs ys : List Heard) → ByRecursion P xs → ByRecursion P ys → ByRecursion P (xs ++ ys)
-both P [] ys a b = b
-both P (x ∷ xs) ys (p, a) b = (p, both P xs ys a b)
-
 pub of_rows : (P : Heard → Type 0) → IsOfKeys P → (rows : List NetKeyRow) → ByRecursion P (heard_keys rows)
 of_rows P p [] = tt
-of_rows P p (r ∷ rows) = both P _ _ (of_row P p r.index r.key r.next) (of_rows P p rows)
+of_rows P p (r ∷ rows) = every_behind P _ _ (of_row P p r.index r.key r.next) (of_rows P p rows)
 
 pub all_candidates : (P : Heard → Type 0) → IsOfKeys P → (rows : List NetKeyRow) (test : Heard → Bool) → All P (filter test (heard_keys rows))
 all_candidates P p rows test = All-filter test P (heard_keys rows) (All-from_recursion P (heard_keys rows) (of_rows P p rows))

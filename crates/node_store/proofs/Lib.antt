@@ -5,6 +5,7 @@ pub mod Holding
 pub mod Made
 pub mod Mounts
 pub mod Orders
+pub mod Provisions
 pub mod Puts
 pub mod Rooms
 pub mod Takes

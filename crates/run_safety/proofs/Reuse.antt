@@ -110,7 +110,7 @@ lives_sealed layers safe own (plan ∷ plans) (x ∷ xs) last h k =
 
 -- Each pair seals at most once for each layer.
 
-both_wide : (ps : List Pair) → AllByRecursion Wide ps → AllByRecursion (λ (t : Tag). Wide t.pair) (doubled ps)
+pub both_wide : (ps : List Pair) → AllByRecursion Wide ps → AllByRecursion (λ (t : Tag). Wide t.pair) (doubled ps)
 both_wide [] h = tt
 both_wide (p ∷ ps) h = (h.0, (h.0, both_wide ps h.1))
 
@@ -119,7 +119,7 @@ other_pair p t [] is h = tt
 other_pair p t (q ∷ qs) is h =
     ((λ e. h.0 (ap word_of (sym is) ∙ ap (λ (s : Tag). word_of s.pair) e)), ((λ e. h.0 (ap word_of (sym is) ∙ ap (λ (s : Tag). word_of s.pair) e)), other_pair p t qs is h.1))
 
-doubled_apart : (ps : List Pair) → Apart (λ p q. word_of p ≢ word_of q) ps → Apart (λ s t. s ≢ t) (doubled ps)
+pub doubled_apart : (ps : List Pair) → Apart (λ p q. word_of p ≢ word_of q) ps → Apart (λ s t. s ≢ t) (doubled ps)
 doubled_apart [] h = tt
 doubled_apart (p ∷ ps) h =
     (((λ e. let f : true ≡ false = ap (λ (s : Tag). s.upper) e in cc), other_pair p (upper_tag p) ps refl h.0), (other_pair p (network_tag p) ps refl h.0, doubled_apart ps h.1))

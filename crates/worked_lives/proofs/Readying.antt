@@ -1,18 +1,15 @@
 -- A life can be opened from a flash on which a node was provisioned, and from one that a life left.
-use Rattle.std.proofs.Common.{◌≡◌, ◌∙◌, ◌<◌, ℕ, List, [], ◌∷◌, true, None, length, get_or, refl, sym, subst, ap, arith}
+use Rattle.std.proofs.Common.{◌≡◌, ◌∙◌, ◌<◌, ℕ, List, [], length, get_or, refl, sym, subst, ap, arith}
 use Rattle.std.specs.Prelude.{All}
 use Rattle.std.proofs.lemmas.List.{get_or_default}
-use Rattle.std.proofs.lemmas.List.Elements.{All-from_recursion}
 use Rattle.flash_model.specs.Chip.{Chip}
 use Rattle.life_plans.specs.Plans.{IsPlanFor}
-use Rattle.mesh_base.specs.declared.keys.AppKeyRow.{AppKeyRow}
-use Rattle.mesh_base.specs.declared.keys.NetKeyRow.{NetKeyRow}
 use Rattle.mesh_node.specs.Lives.{IsPlanned, Lives}
 use Rattle.mesh_node.specs.Plan.{IsStep, life_of}
 use Rattle.mesh_node.specs.declared.plan.LifeLog.{LifeLog}
 use Rattle.mesh_node.specs.declared.plan.LifePlan.{LifePlan}
 use Rattle.node_layers.specs.BuiltLayers.{built_layers}
-use Rattle.node_records.proofs.Said.{iv_of}
+use Rattle.node_store.proofs.Provisions.{provisioned_whole}
 use Rattle.node_store.specs.Mounted.{IsRead}
 use Rattle.node_store.specs.Provisioning.{IsProvision, provisioning}
 use Rattle.node_store.specs.Tie.{IsExactly, IsNode}
@@ -24,30 +21,9 @@ use Rattle.run_safety.specs.Safety.{AreSafe, LivesKeep}
 use Rattle.script_definitions.specs.declared.line.ScriptLine.{ScriptLine}
 use Rattle.slot_journal.specs.Headers.{IsTidy}
 use Rattle.store_definitions.specs.Config.{changed, config_of}
-use Rattle.store_definitions.specs.Node.{IsPhased, IsWhole, is_held}
 use Rattle.store_definitions.specs.Provisioning.{provisioned}
-use Rattle.store_definitions.specs.Ranges.{IsInRange}
 use Rattle.store_definitions.specs.Recovered.{IsRecovered}
 use Rattle.worked_lives.specs.Ready.{IsReady}
-
--- the records of provisioning are those of a node that can be run
-provisioned_whole : (p : Provision) → IsProvision p → All IsInRange (provisioned (provisioning p)) → IsWhole (config_of (provisioned (provisioning p)))
-unfolding changed
-provisioned_whole p h ranges =
-    let row : NetKeyRow = record { index = p.net_index; phase = 0; key = p.net_key; next = None } in
-    let iv = iv_of (provisioned (provisioning p)) ranges in
-    record {
-      some = h.some;
-      few = h.few;
-      unicast = h.unicast;
-      last = h.last;
-      current = iv.current;
-      transmit = iv.transmit;
-      mark = iv.mark;
-      nets = λ e. absurd cc;
-      phased = All-from_recursion IsPhased (row ∷ []) (record { phase = omega arith; next = refl }, tt);
-      bound = All-from_recursion (λ (a : AppKeyRow). is_held (config_of (provisioned (provisioning p))).nets a.net ≡ true) [] tt;
-    }
 
 elements_of : (p : Provision) → (config_of (provisioned (provisioning p))).elements ≡ p.elements
 unfolding changed
