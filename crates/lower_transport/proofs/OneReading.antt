@@ -3,6 +3,7 @@ use Rattle.std.proofs.Common.{◌≡◌, ℕ, ◌+◌, ◌*◌, ◌/◌, ◌%◌
 use Rattle.std.proofs.lemmas.Bool.Decides.{nat_tests}
 use Rattle.mesh_base.specs.declared.lower.Lower.{Lower}
 use Rattle.mesh_base.specs.declared.lower.Lower.TheVariants.{Access, AccessPart, Control, ControlPart}
+use Rattle.layer_definitions.proofs.OctetLaws.{three_octets_once}
 use Rattle.layer_definitions.specs.Lower.{akf_and_aid, Fits, is_control, IsPiece, lower_text, ReadsLower, segmentation}
 
 abbrev IsKey : Bool → ℕ → Type 0
@@ -17,9 +18,6 @@ key_once true true x y h k e = (refl, omega arith)
 key_once false false x y h k e = (refl, omega arith)
 key_once true false x y h k e = absurd (omega arith)
 key_once false true x y h k e = absurd (omega arith)
-
-three_octets_once : (m n : ℕ) → m < 2 ^ 24 → n < 2 ^ 24 → m / 65536 % 256 ≡ n / 65536 % 256 → m / 256 % 256 ≡ n / 256 % 256 → m % 256 ≡ n % 256 → m ≡ n
-three_octets_once m n h k e f g = omega arith
 
 abbrev IsSegment : ℕ → ℕ → ℕ → ℕ → List ℕ → Type 0
 IsSegment full seq_zero seg_o seg_n piece = (seq_zero < 2 ^ 13) × (seg_n < 2 ^ 5) × IsPiece full seg_o seg_n piece

@@ -1,13 +1,8 @@
 -- Headers octet by octet.
 use Rattle.std.proofs.Common.{◌≡◌, ℕ, ◌+◌, ◌*◌, ◌/◌, ◌%◌, ◌<◌, List, [], ◌∷◌, ◌++◌, length, get_or, nat_le, if◌then◌else◌, sym, ◌∙◌, refl, arith, ap}
-use Rattle.std.proofs.lemmas.List.FromFn.{fill_by_all}
 use Rattle.cipher_definitions.proofs.Octets.{three_octets-of, two_octets-of}
 use Rattle.cipher_definitions.specs.Octets.{two_octets, three_octets}
-
--- a header is the list of its six octets
-pub six_octets : (h : List ℕ) → length h ≡ 6
-    → h ≡ get_or h 0 0 ∷ get_or h 1 0 ∷ get_or h 2 0 ∷ get_or h 3 0 ∷ get_or h 4 0 ∷ get_or h 5 0 ∷ []
-six_octets h e = fill_by_all (λ i. get_or h i 0) h 6 0 e (λ k below. refl)
+use Rattle.layer_definitions.proofs.OctetLaws.{six_octets}
 
 -- an octet of CTL and TTL, taken apart and put together
 pub control_octet : (a : ℕ) → a < 256 → (if nat_le 128 a then 128 else 0) + a % 128 ≡ a

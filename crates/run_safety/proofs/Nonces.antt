@@ -2,6 +2,7 @@
 use Rattle.std.proofs.Common.{◌≡◌, ◌≢◌, ℕ, ◌/◌, ◌%◌, ◌^◌, ◌<◌, Bool, true, false, not, cond, eqb, List, [], ◌∷◌, ◌++◌, get_or, refl, ap, sym, ◌∙◌, arith}
 use Rattle.std.specs.List.{AllByRecursion, filter, flat_map}
 use Rattle.cipher_definitions.proofs.Octets.{two_back}
+use Rattle.layer_definitions.proofs.OctetLaws.{three_octets_once}
 use Rattle.layer_definitions.specs.Network.{network_nonce}
 use Rattle.layer_definitions.specs.Upper.{upper_nonce}
 use Rattle.mesh_base.specs.declared.address.Address.{Address}
@@ -72,9 +73,6 @@ pub record Wide (p : Pair) : Type 0 where
   pub seq : p.seq < 2 ^ 24
   pub iv : p.iv < 2 ^ 32
 
-seq_by_octets : (a b : ℕ) → a < 2 ^ 24 → b < 2 ^ 24 → a / 65536 % 256 ≡ b / 65536 % 256 → a / 256 % 256 ≡ b / 256 % 256 → a % 256 ≡ b % 256 → a ≡ b
-seq_by_octets a b h k e f g = omega arith
-
 iv_by_octets : (a b : ℕ) → a < 2 ^ 32 → b < 2 ^ 32 → a / 16777216 % 256 ≡ b / 16777216 % 256 → a / 65536 % 256 ≡ b / 65536 % 256
     → a / 256 % 256 ≡ b / 256 % 256 → a % 256 ≡ b % 256 → a ≡ b
 iv_by_octets a b h k e f g i = omega arith
@@ -91,7 +89,7 @@ tag_of_nonce n m s t e h k v w =
     let at : (i : ℕ) → get_or n i 0 ≡ get_or m i 0 = λ i. ap (λ l. get_or l i 0) e in
     let layer : s.upper ≡ t.upper = not_same s.upper t.upper (sym h.layer ∙ ap (λ x. eqb x 0) (at 0) ∙ k.layer) in
     let seq : s.pair.seq ≡ t.pair.seq =
-    seq_by_octets s.pair.seq t.pair.seq v.seq w.seq (sym h.seq_high ∙ at 2 ∙ k.seq_high) (sym h.seq_middle ∙ at 3 ∙ k.seq_middle) (sym h.seq_low ∙ at 4 ∙ k.seq_low) in
+    three_octets_once s.pair.seq t.pair.seq v.seq w.seq (sym h.seq_high ∙ at 2 ∙ k.seq_high) (sym h.seq_middle ∙ at 3 ∙ k.seq_middle) (sym h.seq_low ∙ at 4 ∙ k.seq_low) in
     let iv : s.pair.iv ≡ t.pair.iv =
     iv_by_octets s.pair.iv t.pair.iv v.iv w.iv (sym h.iv_first ∙ at 9 ∙ k.iv_first) (sym h.iv_second ∙ at 10 ∙ k.iv_second) (sym h.iv_third ∙ at 11 ∙ k.iv_third)
     (sym h.iv_last ∙ at 12 ∙ k.iv_last) in

@@ -10,6 +10,7 @@ use Rattle.mesh_base.specs.declared.address.Address.{Address}
 use Rattle.mesh_base.specs.declared.control.ControlMsg.{ControlMsg}
 use Rattle.mesh_base.specs.declared.control.ControlMsg.TheVariants as C
 use Rattle.layer_definitions.specs.ControlReading.{has_row}
+use Rattle.layer_definitions.proofs.OctetLaws.{six_octets}
 use Rattle.layer_definitions.proofs.ControlLaws.{fits-not-other, length-address_octets, reading-row}
 use Rattle.cipher_definitions.proofs.Octets.{two_octets-of, three_octets-of, four_octets-of}
 use Rattle.layer_definitions.specs.Control.{AreAddresses, IsNoControl, ReadsControl, address_octets, control_text, is_other, without_reserved}
@@ -24,9 +25,6 @@ one_octet p e = fill_by_all (λ i. get_or p i 0) p 1 0 e (λ k below. refl)
 
 pub four_listed : (p : List ℕ) → length p ≡ 4 → p ≡ get_or p 0 0 ∷ get_or p 1 0 ∷ get_or p 2 0 ∷ get_or p 3 0 ∷ []
 four_listed p e = fill_by_all (λ i. get_or p i 0) p 4 0 e (λ k below. refl)
-
-pub six_listed : (p : List ℕ) → length p ≡ 6 → p ≡ get_or p 0 0 ∷ get_or p 1 0 ∷ get_or p 2 0 ∷ get_or p 3 0 ∷ get_or p 4 0 ∷ get_or p 5 0 ∷ []
-six_listed p e = fill_by_all (λ i. get_or p i 0) p 6 0 e (λ k below. refl)
 
 pub ten_listed : (p : List ℕ) → length p ≡ 10
     → p ≡ get_or p 0 0 ∷ get_or p 1 0 ∷ get_or p 2 0 ∷ get_or p 3 0 ∷ get_or p 4 0 ∷ get_or p 5 0 ∷ get_or p 6 0 ∷ get_or p 7 0 ∷ get_or p 8 0 ∷ get_or p 9 0 ∷ []
@@ -62,7 +60,7 @@ reads_acknowledgment p n block_ack e octets first last =
           ap (λ l. 0 ∷ l ++ four_octets block_ack) (first_octets n (get_or p 0 0) (get_or p 1 0) (octets 0) (octets 1) first)
           ∙ ap (λ l. 0 ∷ get_or p 0 0 ∷ get_or p 1 0 / 2 ^ 2 * 2 ^ 2 ∷ l)
           (four_octets-of block_ack (get_or p 2 0) (get_or p 3 0) (get_or p 4 0) (get_or p 5 0) (octets 2) (octets 3) (octets 4) (octets 5) last)
-          ∙ ap (λ l. 0 ∷ without_reserved l) (sym (six_listed p e));
+          ∙ ap (λ l. 0 ∷ without_reserved l) (sym (six_octets p e));
     }
 
 pub reads_poll : (p : List ℕ) → length p ≡ 1 → ReadsControl 1 p (C.Poll (get_or p 0 0 % 2 == 1))
@@ -91,7 +89,7 @@ reads_update p iv e octets value =
       text =
           ap (λ l. 2 ∷ get_or p 0 0 ∷ l ++ get_or p 5 0 ∷ [])
           (four_octets-of iv (get_or p 1 0) (get_or p 2 0) (get_or p 3 0) (get_or p 4 0) (octets 1) (octets 2) (octets 3) (octets 4) value)
-          ∙ ap (λ l. 2 ∷ l) (sym (six_listed p e));
+          ∙ ap (λ l. 2 ∷ l) (sym (six_octets p e));
     }
 
 pub reads_request : (p : List ℕ) (timeout previous counter : ℕ) → length p ≡ 10 → AreOctets p
@@ -146,7 +144,7 @@ reads_offer p counter e octets n =
       text =
           ap (λ l. 4 ∷ get_or p 0 0 ∷ get_or p 1 0 ∷ get_or p 2 0 ∷ get_or p 3 0 ∷ l)
           (two_octets-of counter (get_or p 4 0) (get_or p 5 0) (octets 4) (octets 5) n)
-          ∙ ap (λ l. 4 ∷ l) (sym (six_listed p e));
+          ∙ ap (λ l. 4 ∷ l) (sym (six_octets p e));
     }
 
 -- the parameters of a Friend Clear and of a Friend Clear Confirm

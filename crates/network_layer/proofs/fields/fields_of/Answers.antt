@@ -1,6 +1,7 @@
 use Rattle.std.proofs.Common.{◌≡◌, ◌*◌, ◌+◌, ◌<◌, get_or, arith}
 use Rattle.std.proofs.lemmas.List.Elements.{All-take, All-drop, All-from_get_or}
-use Rattle.network_layer.proofs.Headers.{header_of, six_octets}
+use Rattle.layer_definitions.proofs.OctetLaws.{six_octets}
+use Rattle.network_layer.proofs.Headers.{header_of}
 use Rattle.network_layer.proofs.fields.fields_of.Goals as goal
 
 pub returns-clause-in_widths : goal.returns-clause-in_widths

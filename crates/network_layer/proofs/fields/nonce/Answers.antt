@@ -1,5 +1,5 @@
 use Rattle.std.proofs.Common.{refl}
-use Rattle.network_layer.proofs.Headers.{six_octets}
+use Rattle.layer_definitions.proofs.OctetLaws.{six_octets}
 use Rattle.network_layer.proofs.fields.nonce.Goals as goal
 
 pub returns-clause-value : goal.returns-clause-value

@@ -1,11 +1,12 @@
 use Rattle.std.proofs.Common.{◌≡◌, ◌+◌, ◌*◌, get_or, arith}
-use Rattle.upper_transport.proofs.ControlRows.{reads_acknowledgment, six_listed}
+use Rattle.layer_definitions.proofs.OctetLaws.{six_octets}
+use Rattle.upper_transport.proofs.ControlRows.{reads_acknowledgment}
 use Rattle.upper_transport.proofs.control_reading.acknowledgment_of.Goals as goal
 
 pub returns : goal.returns
 returns c =
     let p = c.args.params.now in
-    let listed = six_listed p c.requires in
+    let listed = six_octets p c.requires in
     let first : c.read_u16-bits.result ≡ get_or p 0 0 * 256 + get_or p 1 0 = omega (arith, rw listed at c.read_u16-bits.ensures) in
     let last : c.read_u32.result ≡ get_or p 2 0 * 16777216 + (get_or p 3 0 * 65536 + (get_or p 4 0 * 256 + get_or p 5 0)) =
     omega (arith, rw listed at c.read_u32.ensures) in
