@@ -1,4 +1,4 @@
--- Each answer by its opcode has a reply.
+-- Each answer by its opcode has a reply; a heartbeat that it sets has a TTL of 7 bits.
 use Rattle.std.proofs.Common.{◌≡◌, ℕ, ◌≤◌, eqb, ltb, List, [], ◌∷◌, length, subst, Some, None}
 use Rattle.config_definitions.specs.Answers.{config_answer, first_answers, last_answers, middle_answers}
 use Rattle.config_definitions.specs.Features.{is_default_ttl, is_octet, is_switch}
@@ -29,7 +29,8 @@ module _ (c : Config) where
       (pick (eqb second 0x16) _ _ (phase_is_set c params)
       (pick (eqb second 0x18) _ _ (publication_got c params) silent)))))))))))))
 
-  middle_replies : (polls : List (Address × ℕ)) (beat : HeartbeatRow) (second : ℕ) (params : List ℕ) → Replies (middle_answers c polls beat second params)
+  middle_replies : (polls : List (Address × ℕ)) (beat : HeartbeatRow) (second : ℕ) (params : List ℕ)
+      → Replies (middle_answers c polls beat second params)
   unfolding middle_answers
   middle_replies polls beat second params =
       pick (eqb second 0x1b) _ _ (group_is_set c (group_add c) params)
@@ -58,7 +59,8 @@ module _ (c : Config) where
       (pick (eqb second 0x45) _ _ (net_is_set (net_key_update c) params)
       (pick (eqb second 0x49) _ _ (reset_is params) silent))))))
 
-  replies : (under : ℕ) (polls : List (Address × ℕ)) (beat : HeartbeatRow) (payload : List ℕ) → Replies (config_answer c under polls beat payload)
+  pub replies : (under : ℕ) (polls : List (Address × ℕ)) (beat : HeartbeatRow) (payload : List ℕ)
+      → Replies (config_answer c under polls beat payload)
   unfolding config_answer
   replies under polls beat [] = silent
   replies under polls beat (first ∷ []) =
