@@ -38,19 +38,19 @@ impl Model for Replies {
 }
 
 impl Replies {
-    // No replies.
-    fn new() -> Replies
-        ensures { result ≡ [] }
+    /// No replies.
+    pub fn new() -> Replies
+        ensures value { result ≡ [] }
     {
         Replies {
             rows: ArrayVec::new(),
         }
     }
 
-    // Puts a reply behind the others.
-    fn push(&mut self, reply: Reply)
-        requires { length self.old < 8 }
-        ensures { self.new ≡ self.old ++ reply ∷ [] }
+    /// Puts a reply behind the others, for which the caller has room.
+    pub fn push(&mut self, reply: Reply)
+        requires room { length self.old < 8 }
+        ensures value { self.new ≡ self.old ++ reply ∷ [] }
     {
         self.rows.push(reply);
     }
