@@ -138,7 +138,8 @@ fn delete_group(p: &Persist, element: Address, group: Address, model: u16) -> Ou
 
 // Whether the group is the only subscription of the model.
 fn is_only_group(p: &Persist, element: Address, group: Address, model: u16) -> bool
-    ensures { result ≡ (list_any (is_sub element model group) p.now.subs && count_of_model (config_in p.now) element model == 1) }
+    ensures { result
+        ≡ (list_any (is_sub element model group) p.now.subs && count_of_model (config_in p.now) element model == 1) }
 {
     has_sub(p, element, model, group) && count_of_model(p, element, model) == 1
 }

@@ -67,7 +67,9 @@ fn delete_label(p: &Persist, element: Address, label: &[u8; 16], model: u16) -> 
 
 // Whether the label is the only subscription of the model.
 fn is_only_label(p: &Persist, element: Address, label: &[u8; 16], model: u16) -> bool
-    ensures { result ≡ (list_any (is_label element model label.now) p.now.labels && count_of_model (config_in p.now) element model == 1) }
+    ensures { result
+        ≡ (list_any (is_label element model label.now) p.now.labels
+        && count_of_model (config_in p.now) element model == 1) }
 {
     has_label(p, element, model, label) && count_of_model(p, element, model) == 1
 }

@@ -5,7 +5,16 @@ use Rattle.element_models.specs.declared.taken.Reply.{Reply}
 use Rattle.run_definitions.specs.Layers.{AccessMessage}
 
 abbrev pub message_in : Message → AccessMessage
-message_in m = record { name = m.name; dst = m.dst; net = m.net; ttl = m.ttl; key = m.key; label = m.label; payload = m.payload.now }
+message_in m =
+    record {
+      name = m.name;
+      dst = m.dst;
+      net = m.net;
+      ttl = m.ttl;
+      key = m.key;
+      label = m.label;
+      payload = m.payload.now;
+    }
 
 -- the place of the element, and the payload
 abbrev pub reply_in : Reply → ℕ × List ℕ

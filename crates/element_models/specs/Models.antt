@@ -37,7 +37,9 @@ abbrev pub StandOver : Type 0
 StandOver =
     (servers : List Servers) (past : Past) (records : List StoreRecord) → AreModelsOf servers past
     → (config_of records).elements ≡ (config_before past).elements
-    → (past.told ≡ [] → ((config_of records).onoffs ≡ (config_before past).onoffs) × ((config_of records).levels ≡ (config_before past).levels))
+    → (past.told ≡ []
+    → ((config_of records).onoffs ≡ (config_before past).onoffs)
+    × ((config_of records).levels ≡ (config_before past).levels))
     → AreModelsOf servers (over past records)
 
 -- a record that tells neither what the node is nor the value of a model
@@ -54,7 +56,8 @@ StandWith =
 
 abbrev pub StandRefilled : Type 0
 StandRefilled =
-    (servers : List Servers) (past : Past) (fills : ℕ) → AreModelsOf servers past → AreModelsOf servers (over past (filled fills past.records))
+    (servers : List Servers) (past : Past) (fills : ℕ) → AreModelsOf servers past
+    → AreModelsOf servers (over past (filled fills past.records))
 
 -- a record that doesn't tell what the node is
 abbrev pub is_no_identity : StoreRecord → Bool

@@ -22,7 +22,8 @@ abbrev pub value_record : ℕ → ℕ → ℕ → ℕ → List StoreRecord
 value_record element model before after = if before == after then [] else R.Model element model after ∷ []
 
 abbrev pub onoff_change : ℕ → OnOffState → OnOffState → List StoreRecord
-onoff_change element before after = value_record element onoff_server (onoff_octet (onoff_kept before)) (onoff_octet (onoff_kept after))
+onoff_change element before after =
+    value_record element onoff_server (onoff_octet (onoff_kept before)) (onoff_octet (onoff_kept after))
 
 abbrev pub level_change : ℕ → LevelState → LevelState → List StoreRecord
 level_change element before after =
@@ -30,10 +31,12 @@ level_change element before after =
 
 -- the state after a message
 abbrev pub onoff_step : Config → ℕ → AccessMessage → ℕ → OnOffState → OnOffState
-onoff_step c now m element s = if takes c element onoff_server m then onoff_after s now m.name.src m.dst m.payload else s
+onoff_step c now m element s =
+    if takes c element onoff_server m then onoff_after s now m.name.src m.dst m.payload else s
 
 abbrev pub level_step : Config → ℕ → AccessMessage → ℕ → LevelState → LevelState
-level_step c now m element s = if takes c element level_server m then level_after_payload s now m.name.src m.dst m.payload else s
+level_step c now m element s =
+    if takes c element level_server m then level_after_payload s now m.name.src m.dst m.payload else s
 
 -- what it stores
 abbrev pub onoff_stored : Config → ℕ → AccessMessage → ℕ → OnOffState → List StoreRecord
@@ -50,10 +53,12 @@ level_stored c now m element s =
 
 -- what is replied
 abbrev pub onoff_replied : Config → ℕ → AccessMessage → ℕ → OnOffState → Option (List ℕ)
-onoff_replied c now m element s = if takes c element onoff_server m then onoff_reply s now m.name.src m.dst m.payload else None
+onoff_replied c now m element s =
+    if takes c element onoff_server m then onoff_reply s now m.name.src m.dst m.payload else None
 
 abbrev pub level_replied : Config → ℕ → AccessMessage → ℕ → LevelState → Option (List ℕ)
-level_replied c now m element s = if takes c element level_server m then level_reply s now m.name.src m.dst m.payload else None
+level_replied c now m element s =
+    if takes c element level_server m then level_reply s now m.name.src m.dst m.payload else None
 
 -- Both servers of an element.
 
@@ -61,7 +66,8 @@ abbrev pub servers_first : Config → ℕ → Servers
 servers_first c element = record { onoff = onoff_first c element; level = level_first c element }
 
 abbrev pub servers_step : Config → ℕ → AccessMessage → ℕ → Servers → Servers
-servers_step c now m element s = record { onoff = onoff_step c now m element s.onoff; level = level_step c now m element s.level }
+servers_step c now m element s =
+    record { onoff = onoff_step c now m element s.onoff; level = level_step c now m element s.level }
 
 abbrev pub servers_stored : Config → ℕ → AccessMessage → ℕ → Servers → List StoreRecord
 servers_stored c now m element s = onoff_stored c now m element s.onoff ++ level_stored c now m element s.level
@@ -71,7 +77,8 @@ abbrev pub placed : ℕ → Option (List ℕ) → List (ℕ × List ℕ)
 placed element reply = map (λ payload. (element, payload)) (option_to_list reply)
 
 abbrev pub servers_replied : Config → ℕ → AccessMessage → ℕ → Servers → List (ℕ × List ℕ)
-servers_replied c now m element s = placed element (onoff_replied c now m element s.onoff) ++ placed element (level_replied c now m element s.level)
+servers_replied c now m element s =
+    placed element (onoff_replied c now m element s.onoff) ++ placed element (level_replied c now m element s.level)
 
 -- The servers of all elements, in their order.
 

@@ -90,9 +90,11 @@ impl ElementModels {
     pub fn take(&mut self, p: &Persist, now: u64, m: &Message<'_>) -> ModelsTaken
         requires { now ≤ 2 ^ 48 }
         ensures count { length self.new ≡ length self.old }
-        ensures records { (past : Past) → IsMeaningOf past.records p.now → AreModelsOf self.old past → now ≡ now_of past.told
+        ensures records { (past : Past) → IsMeaningOf past.records p.now → AreModelsOf self.old past
+            → now ≡ now_of past.told
             → result.records ≡ model_records past (message_in m.now) }
-        ensures replies { (past : Past) → IsMeaningOf past.records p.now → AreModelsOf self.old past → now ≡ now_of past.told
+        ensures replies { (past : Past) → IsMeaningOf past.records p.now → AreModelsOf self.old past
+            → now ≡ now_of past.told
             → map reply_in result.replies ≡ model_replies past (message_in m.now) }
         ensures models { (past : Past) (t : Told) (records : List StoreRecord)
             → IsMeaningOf past.records p.now → AreModelsOf self.old past → now ≡ now_of past.told

@@ -57,7 +57,8 @@ pub(crate) fn first_servers(p: &Persist, element: u8) -> Servers
 // The Generic OnOff Server takes a message.
 fn answer_onoff(server: &mut OnOff, element: u8, now: u64, m: &Message<'_>) -> Answered
     requires { element < 4 }
-    ensures change { option_to_list result.change ≡ onoff_change element server.old (onoff_after server.old now m.now.name.src m.now.dst m.now.payload.now) }
+    ensures change { option_to_list result.change
+        ≡ onoff_change element server.old (onoff_after server.old now m.now.name.src m.now.dst m.now.payload.now) }
     ensures reply { result.reply ≡ onoff_reply server.old now m.now.name.src m.now.dst m.now.payload.now }
     ensures state { server.new ≡ onoff_after server.old now m.now.name.src m.now.dst m.now.payload.now }
     ensures range { IfSome result.change IsInRange }
@@ -75,7 +76,9 @@ fn answer_onoff(server: &mut OnOff, element: u8, now: u64, m: &Message<'_>) -> A
 fn answer_level(server: &mut Level, element: u8, now: u64, m: &Message<'_>) -> Answered
     requires element { element < 4 }
     requires time { now ≤ 2 ^ 48 }
-    ensures change { option_to_list result.change ≡ level_change element server.old (level_after_payload server.old now m.now.name.src m.now.dst m.now.payload.now) }
+    ensures change { option_to_list result.change
+        ≡ level_change element server.old
+        (level_after_payload server.old now m.now.name.src m.now.dst m.now.payload.now) }
     ensures reply { result.reply ≡ level_reply server.old now m.now.name.src m.now.dst m.now.payload.now }
     ensures state { server.new ≡ level_after_payload server.old now m.now.name.src m.now.dst m.now.payload.now }
     ensures range { IfSome result.change IsInRange }
@@ -92,7 +95,8 @@ fn answer_level(server: &mut Level, element: u8, now: u64, m: &Message<'_>) -> A
 // The Generic OnOff Server of an element takes a message, if it is one that it takes.
 fn take_onoff(server: &mut OnOff, p: &Persist, element: u8, now: u64, m: &Message<'_>) -> Answered
     requires { element < 4 }
-    ensures change { option_to_list result.change ≡ onoff_stored (config_in p.now) now (message_in m.now) element server.old }
+    ensures change { option_to_list result.change
+        ≡ onoff_stored (config_in p.now) now (message_in m.now) element server.old }
     ensures reply { result.reply ≡ onoff_replied (config_in p.now) now (message_in m.now) element server.old }
     ensures state { server.new ≡ onoff_step (config_in p.now) now (message_in m.now) element server.old }
     ensures range { IfSome result.change IsInRange }
@@ -108,7 +112,8 @@ fn take_onoff(server: &mut OnOff, p: &Persist, element: u8, now: u64, m: &Messag
 fn take_level(server: &mut Level, p: &Persist, element: u8, now: u64, m: &Message<'_>) -> Answered
     requires element { element < 4 }
     requires time { now ≤ 2 ^ 48 }
-    ensures change { option_to_list result.change ≡ level_stored (config_in p.now) now (message_in m.now) element server.old }
+    ensures change { option_to_list result.change
+        ≡ level_stored (config_in p.now) now (message_in m.now) element server.old }
     ensures reply { result.reply ≡ level_replied (config_in p.now) now (message_in m.now) element server.old }
     ensures state { server.new ≡ level_step (config_in p.now) now (message_in m.now) element server.old }
     ensures range { IfSome result.change IsInRange }
@@ -134,8 +139,10 @@ pub(crate) fn take_at(
     requires records { length taken.old.records ≤ 6 }
     requires replies { length taken.old.replies ≤ 6 }
     ensures state { s.new ≡ servers_step (config_in p.now) now (message_in m.now) element s.old }
-    ensures records { taken.new.records ≡ taken.old.records ++ servers_stored (config_in p.now) now (message_in m.now) element s.old }
-    ensures replies { map reply_in taken.new.replies ≡ map reply_in taken.old.replies ++ servers_replied (config_in p.now) now (message_in m.now) element s.old }
+    ensures records { taken.new.records
+        ≡ taken.old.records ++ servers_stored (config_in p.now) now (message_in m.now) element s.old }
+    ensures replies { map reply_in taken.new.replies
+        ≡ map reply_in taken.old.replies ++ servers_replied (config_in p.now) now (message_in m.now) element s.old }
     ensures records_grow { length taken.new.records ≤ length taken.old.records + 2 }
     ensures replies_grow { length taken.new.replies ≤ length taken.old.replies + 2 }
     ensures ranges { All IsInRange taken.old.records → All IsInRange taken.new.records }

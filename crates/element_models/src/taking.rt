@@ -31,7 +31,9 @@ fn is_group(a: Address) -> bool
 
 // Whether a model subscribes to a group.
 fn has_group(rows: &[(Address, u16, Address)], element: u32, model: u16, dst: Address) -> bool
-    ensures { result ≡ list_any (λ (s : Address × ℕ × Address). s.0.0 == element && s.1 == model && is_group s.2 && s.2.0 == dst.0) rows.now }
+    ensures { result
+        ≡ list_any
+        (λ (s : Address × ℕ × Address). s.0.0 == element && s.1 == model && is_group s.2 && s.2.0 == dst.0) rows.now }
 {
     rows.iter().any(|s| u32::from(s.0.0) == element
         && s.1 == model
@@ -48,7 +50,8 @@ fn is_same_label(a: &[u8; 16], b: &[u8; 16]) -> bool
 
 // Whether a model subscribes to a label.
 fn has_label(rows: &[(Address, u16, [u8; 16])], element: u32, model: u16, label: &[u8; 16]) -> bool
-    ensures { result ≡ list_any (λ (l : Address × ℕ × List ℕ). l.0.0 == element && l.1 == model && bytes_eq l.2 label.now) rows.now }
+    ensures { result
+        ≡ list_any (λ (l : Address × ℕ × List ℕ). l.0.0 == element && l.1 == model && bytes_eq l.2 label.now) rows.now }
 {
     rows.iter().any(|l| u32::from(l.0.0) == element && l.1 == model && is_same_label(&l.2, label))
 }

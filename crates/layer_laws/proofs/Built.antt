@@ -1,4 +1,4 @@
--- The layers that the machine has so far are safe and fit.
+-- The layers below the access layer are safe and fit.
 use Rattle.std.proofs.lemmas.List.Elements.{All-from_recursion, All-nil}
 use Rattle.node_layers.specs.BuiltLayers.{built_layers}
 use Rattle.node_layers.specs.Reassembly.{due_job, due_jobs}

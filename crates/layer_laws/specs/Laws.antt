@@ -1,4 +1,4 @@
--- What the layers of the node have, all of them, those without friendships, and those that the machine has so far: safety, and that what they
+-- What the layers of the node have, all of them, those without friendships, and those below the access layer: safety, and that what they
 -- store and send is fit.
 use Rattle.std.specs.Prelude.{◌<◌, ◌≤◌, ◌^◌, [], ◌∷◌, ◌++◌, length, None, All}
 use Rattle.node_layers.specs.BuiltLayers.{built_layers}

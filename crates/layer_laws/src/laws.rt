@@ -6,7 +6,7 @@ ghost use Rattle.node_layers.specs.BuiltLayers.{built_layers};
 ghost use Rattle.node_layers.specs.ConfiguredLayers.{configured_layers};
 ghost use Rattle.node_layers.specs.NodeLayers.{node_layers};
 
-/// The law of the layers that the machine has so far: they are safe, so no run of a node with them reuses a nonce or delivers a message twice;
+/// The law of the layers below the access layer: they are safe, so no run of a node with them reuses a nonce or delivers a message twice;
 /// and what they send comes from an element.
 pub fn built_law()
     ensures safe { BuiltIsSafe }

@@ -11,7 +11,8 @@ ghost use Rattle.record_types.specs.declared.records.PublishRow.{PublishRow};
 /// Rows of the models of at most 4 elements, in their order, are at most 8. They stay such rows with one more that is put in its place, and
 /// those that a life opens with are such rows, in whatever order they come.
 pub fn rows_law()
-    ensures few { (unicast elements : ℕ) (rows : List Publication) → elements ≤ 4 → AreRowsOf unicast elements rows → length rows ≤ 8 }
+    ensures few { (unicast elements : ℕ) (rows : List Publication) → elements ≤ 4 → AreRowsOf unicast elements rows
+        → length rows ≤ 8 }
     ensures put { (unicast elements : ℕ) (p : Publication) (rows : List Publication) → IsOwnRow unicast elements p.row
         → AreRowsOf unicast elements rows → AreRowsOf unicast elements (put_by row_index p rows) }
     ensures opened { (unicast elements : ℕ) (rows : List PublishRow) → All (IsOwnRow unicast elements) rows

@@ -38,7 +38,8 @@ fn number_of(element: Address, model: u16) -> u32
 fn place_of(rows: &[Publication], index: u32) -> usize
     ensures within { result ≤ length rows.now }
     ensures before { (k : ℕ) (d : Publication) → k < result → row_index (slice_index_or rows.now k d) < index }
-    ensures there { (d : Publication) → result < length rows.now → index ≤ row_index (slice_index_or rows.now result d) }
+    ensures there { (d : Publication) → result < length rows.now
+        → index ≤ row_index (slice_index_or rows.now result d) }
 {
     for (place, row) in rows.iter().enumerate() {
         if row_index(row) >= index {
@@ -52,7 +53,8 @@ fn place_of(rows: &[Publication], index: u32) -> usize
 fn is_at(rows: &[Publication], place: usize, index: u32) -> bool
     ensures yes { OnTrue result (place < length rows.now) }
     ensures index { OnTrue result ((d : Publication) → row_index (slice_index_or rows.now place d) ≡ index) }
-    ensures no { OnFalse result ((d : Publication) → place < length rows.now → row_index (slice_index_or rows.now place d) ≡ index → ⊥) }
+    ensures no { OnFalse result
+        ((d : Publication) → place < length rows.now → row_index (slice_index_or rows.now place d) ≡ index → ⊥) }
 {
     place < rows.len() && row_index(&rows[place]) == index
 }

@@ -5,7 +5,7 @@
 //! - `Configuration`, `Models`, `Publishing`: the Configuration Server, the models, and what is published
 //! - `Friendship`: what is stored for Low Power nodes, and what their messages ask for
 //! - `NodeLayers`: the constant, `node_layers`
-//! - `BuiltLayers`: the layers that the machine has so far, `built_layers`
+//! - `BuiltLayers`: reassembly and own segmented messages alone, `built_layers`
 //! - `ConfiguredLayers`: these with the configuration, the models and what is published, `configured_layers`: all but friendships
 //! - `Segments`, `Hearing`, `Steps`: what the laws of `laws` say: the answer to a segment by the state of reassembly, which layers hear alike, and
 //!   that an entry more is one step of each state

@@ -10,7 +10,7 @@ use mesh_base::pair::Pair;
 use mesh_base::upper::UpperFields;
 use upper_transport::seal_access;
 
-// The sample of the Mesh Profile, section 8.3.22: Label UUID f4a002c7fb1e4ca0a469a021de0db875 has the virtual address 9736.
+// The sample of the Mesh Profile, section 8.3.23: Label UUID f4a002c7fb1e4ca0a469a021de0db875 has the virtual address 9736.
 const LABEL: [u8; 16] = [
     0xf4, 0xa0, 0x02, 0xc7, 0xfb, 0x1e, 0x4c, 0xa0, 0xa4, 0x69, 0xa0, 0x21, 0xde, 0x0d, 0xb8, 0x75,
 ];
