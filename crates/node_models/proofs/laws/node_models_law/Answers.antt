@@ -1,0 +1,15 @@
+use Rattle.std.proofs.Common.{◌∙◌}
+use Rattle.node_models.proofs.Published.{published_filled, stays}
+use Rattle.node_models.proofs.laws.node_models_law.Goals as goal
+
+pub returns-clause-more : goal.returns-clause-more
+returns-clause-more c = λ m past t records are same none still elements. record {
+  servers = c.models_law.ensures.more m.servers past t records are.servers same none elements;
+  published = are.published ∙ stays c.step_law.ensures.publications past t records same none still;
+}
+
+pub returns-clause-refill : goal.returns-clause-refill
+returns-clause-refill c = λ m past fills are. record {
+  servers = c.models_law.ensures.refill m.servers past fills are.servers;
+  published = are.published ∙ published_filled past.told fills past.records;
+}

@@ -1,0 +1,4 @@
+pub mod Acts
+pub mod Due
+pub mod Models
+pub mod Replies
