@@ -1,3 +1,5 @@
 mod Numbers
 mod Phases
+mod Published
+mod Replied
 pub mod Rounds

@@ -1,5 +1,5 @@
 -- Segments under a key that is held or isn't, and their places.
-use Rattle.std.proofs.Common.{◌≡◌, ◌∙◌, ℕ, ◌≤◌, Bool, true, false, cond, List, [], ◌∷◌, ◌++◌, map, filter, append-nil, refl, ap, sym, arith, Option, Some, None}
+use Rattle.std.proofs.Common.{◌≡◌, ◌∙◌, ℕ, ◌≤◌, Bool, true, false, cond, List, [], ◌∷◌, ◌++◌, map, filter, refl, ap, sym, arith, Option, Some, None}
 use Rattle.std.specs.Prelude.{All}
 use Rattle.std.specs.List.{flat_map}
 use Rattle.std.specs.Option.{option_map, option_to_list}
@@ -13,6 +13,7 @@ use Rattle.mesh_types.specs.declared.answers.Answer.TheVariants as A
 use Rattle.mesh_types.specs.declared.events.Event.TheVariants as E
 use Rattle.mesh_types.specs.declared.jobs.Job.{Job}
 use Rattle.node_layers.specs.BuiltLayers.{built_layers}
+use Rattle.node_layers.specs.ConfiguredLayers.{configured_layers, sent_publications}
 use Rattle.node_layers.specs.Reassembly.{acks_at}
 use Rattle.node_layers.specs.Sending.{round_jobs, segments_at}
 use Rattle.run_definitions.specs.History.{Insight, Past}
@@ -65,9 +66,10 @@ rounds_are c now (s ∷ rows) = round_of_one (has_round now s) (round_jobs c now
 
 -- the jobs of a tick
 pub jobs_are : (past : Past) (c : Config) (ticks now : ℕ) (insight : Insight)
-    → acks_at past c ticks ++ segments_at past c ticks ++ beacons_due past c ticks ≡ jobs_of built_layers past c (E.Tick ticks) insight (A.Ticked now)
-unfolding built_layers jobs_of
-jobs_are past c ticks now insight = sym (append-nil (acks_at past c ticks ++ segments_at past c ticks ++ beacons_due past c ticks))
+    → acks_at past c ticks ++ segments_at past c ticks ++ beacons_due past c ticks ++ sent_publications past c ticks
+    ≡ jobs_of configured_layers past c (E.Tick ticks) insight (A.Ticked now)
+unfolding built_layers configured_layers jobs_of
+jobs_are past c ticks now insight = refl
 
 -- Jobs put behind others.
 pub none_put : (xs ys : List Job) → ys ≡ [] → xs ≡ xs ++ ys

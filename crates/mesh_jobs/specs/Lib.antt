@@ -3,3 +3,5 @@ pub mod Phases
 pub mod Ticks
 pub mod Own
 pub mod Segments
+pub mod Replying
+pub mod Publishing

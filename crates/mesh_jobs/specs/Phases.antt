@@ -15,4 +15,6 @@ phases_of rows = map phase_of rows
 
 -- whether the phase of a network key that is held isn't what it was
 abbrev pub is_changed : List KeyPhase → NetKeyRow → Bool
-is_changed before r = option_map_or (λ (b : KeyPhase). not (b.phase == r.phase)) (find (λ (b : KeyPhase). b.index == r.index) before) false
+is_changed before r =
+    option_map_or (λ (b : KeyPhase). not (b.phase == r.phase))
+    (find (λ (b : KeyPhase). b.index == r.index) before) false

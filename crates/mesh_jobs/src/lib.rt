@@ -1,13 +1,15 @@
-//! What an event's answer asks to be sent, in the order in which it is sent. Each call answers, or puts behind others, the very list that the
-//! definitions of a run say (`run_definitions`, `specs/Jobs.antt`), for what the records after the event say. There is no flash here and no
-//! table of a life: what a call needs of these comes as plain values. Nothing here wants memory: jobs are made in a draft that has room for all
-//! of them, and the rest of its memory is handed back.
+//! What an event's answer asks to be sent, in the order in which it is sent. Each call answers, or puts behind others,
+//! the very list that the definitions of a run say (`run_definitions`, `specs/Jobs.antt`), for what the records after
+//! the event say. There is no flash here and no table of a life: what a call needs of these comes as plain values.
+//! Nothing here wants memory: jobs are made in a draft that has room for all of them, and the rest of its memory is
+//! handed back.
 //!
-//! - `pdus`: a network PDU heard: it goes on, it is acknowledged, and beacons follow a Key Refresh
-//! - `ticks`: time that passed: acknowledgments, segments and beacons that are due
+//! - `pdus`: a network PDU heard: it goes on, it is acknowledged, what it delivered is replied to, and beacons follow a
+//!   Key Refresh
+//! - `ticks`: time that passed: acknowledgments, segments and beacons that are due, and what is published
 //! - `messages`: the node's own messages
 //! - `segments`: the segments of an own message
-//! - `acknowledgments`, `beacons`, `refresh`: what these are made of
+//! - `acknowledgments`, `replying`, `beacons`, `refresh`, `publishing`: what these are made of
 //! - `replies`: the TTL of what answers a message, and what is stored instead of being sent
 //! - `elements`: the addresses of the node
 #![tactic(auto)]
@@ -18,16 +20,20 @@ mod elements;
 mod making;
 mod messages;
 mod pdus;
+mod publishing;
 mod refresh;
 mod replies;
+mod replying;
 mod segments;
 mod ticks;
 
 pub use beacons::push_beacons;
 pub use messages::{begin_jobs, own_jobs};
 pub use pdus::{pdu_jobs, push_ack, push_relay};
+pub use publishing::push_publications;
 pub use refresh::{KeyPhase, Phases, held_phases, push_refresh};
 pub use replies::{is_stored, reply_ttl};
+pub use replying::push_replies;
 pub use segments::push_rounds;
 pub use ticks::{Span, push_acks, push_beacons_due, tick_jobs};
 

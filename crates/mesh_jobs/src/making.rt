@@ -1,9 +1,10 @@
-//! A job that is made only where its key is held.
+//! A job that is made only where its key is held, and its payload.
 #![tactic(auto)]
 
 ghost use Rattle.std.specs.Prelude.{◌≡◌, ◌+◌, ◌<◌, ◌≤◌, ◌++◌, length};
 ghost use Rattle.std.specs.Option.{option_to_list};
 
+use mesh_base::octets::Octets;
 use mesh_types::jobs::{Job, JobDraft};
 
 /// Puts a job behind the others, if it was made.
@@ -15,4 +16,14 @@ pub(crate) fn push_made(jobs: &mut JobDraft, job: Option<Job>)
     if let Some(job) = job {
         jobs.push(job);
     }
+}
+
+/// These octets as the payload of a job.
+pub(crate) fn payload_of(octets: &[u8]) -> Octets<48>
+    requires short { length octets.now ≤ 48 }
+    ensures value { result ≡ octets.now }
+{
+    let mut payload = Octets::new();
+    payload.extend(octets);
+    payload
 }

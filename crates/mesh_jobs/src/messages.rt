@@ -106,7 +106,8 @@ fn send_job(
     requires nets { nets.now ≡ p.now.nets }
     requires apps { apps.now ≡ record { apps = p.now.apps; nets = p.now.nets } }
     requires element { p.now.unicast.0 + element < 2 ^ 16 }
-    ensures { option_to_list result ≡ option_map_or (sent_job_in (config_in p.now) element dst ttl) (send_keys_in (config_in p.now) key.now) [] }
+    ensures { option_to_list result
+        ≡ option_map_or (sent_job_in (config_in p.now) element dst ttl) (send_keys_in (config_in p.now) key.now) [] }
 {
     let keys = send_keys(p, apps, key)?;
     sent_job(p, nets, element, dst, ttl, keys)
@@ -185,8 +186,10 @@ pub fn begin_jobs(
     requires empty { draft ≡ [] }
     requires nets { nets.now ≡ p.now.nets }
     requires outgoing { IsOutgoing m.now }
-    ensures value { (layers : Layers) (past : Past) (insight : Insight) →
-        result ≡ jobs_of layers past (config_in p.now) (E.Begin m.now.name.pair m.now.dst m.now.name.src m.now.ttl m.now.net m.now.akf m.now.aid m.now.upper) insight answer.now }
+    ensures value { (layers : Layers) (past : Past) (insight : Insight)
+        → result ≡ jobs_of layers past (config_in p.now)
+        (E.Begin m.now.name.pair m.now.dst m.now.name.src m.now.ttl m.now.net m.now.akf m.now.aid m.now.upper)
+        insight answer.now }
     ensures few { length result ≤ 32 }
 {
     if let Answer::Begun = answer {

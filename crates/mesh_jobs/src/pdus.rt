@@ -6,15 +6,17 @@ ghost use Rattle.std.specs.Option.{option_map, option_copied, option_to_list};
 ghost use Rattle.layer_definitions.specs.KeyRefresh.{transmit_material};
 ghost use Rattle.layer_definitions.specs.Lower.{Fits};
 ghost use Rattle.mesh_base.specs.declared.fields.NetMaterial.{NetMaterial};
+ghost use Rattle.mesh_base.specs.declared.lower.Lower.{Lower as LowerPdu};
 ghost use Rattle.mesh_jobs.specs.Hearing.{insight_of, reading_of};
 ghost use Rattle.mesh_jobs.specs.Phases.{phases_of};
+ghost use Rattle.mesh_jobs.specs.Replying.{AreRepliesTo};
 ghost use Rattle.mesh_types.specs.declared.events.Event.TheVariants as E;
 ghost use Rattle.mesh_types.specs.declared.jobs.Job.TheVariants as J;
-ghost use Rattle.node_layers.specs.BuiltLayers.{built_layers};
+ghost use Rattle.node_layers.specs.ConfiguredLayers.{configured_layers};
 ghost use Rattle.node_records.specs.Tables.{config_in};
 ghost use Rattle.run_definitions.specs.Answers.{config_before, is_before_cache as is_before_cache_in};
 ghost use Rattle.run_definitions.specs.History.{Opening, Past};
-ghost use Rattle.run_definitions.specs.Jobs.{ack_job as ack_job_in, ack_jobs, block_asked as block_asked_in, jobs_of, relay_jobs, segment_numbers as segment_numbers_in};
+ghost use Rattle.run_definitions.specs.Jobs.{ack_job as ack_job_in, ack_jobs, block_asked as block_asked_in, jobs_of, message_jobs, relay_jobs, segment_numbers as segment_numbers_in};
 ghost use Rattle.store_definitions.specs.Config.{is_element as is_element_in};
 
 use crate::acknowledgments::{acknowledgment, all_pieces};
@@ -22,12 +24,15 @@ use crate::elements::{is_element, is_unicast};
 use crate::making::push_made;
 use crate::refresh::{Phases, push_refresh};
 use crate::replies::reply_ttl;
+use crate::replying::push_replies;
 use mesh_base::fields::NetFields;
+use mesh_base::keys::UpperKey;
 use mesh_base::lower::Lower;
 use mesh_types::answers::Answer;
 use mesh_types::jobs::{Job, JobDraft, Jobs};
 use net_keys::NetKeys;
 use network_layer::NetReading;
+use node_models::MessageReplies;
 use node_records::Persist;
 
 // Whether a PDU goes on: Relay is on, a TTL is left, and it isn't for an element of this node.
@@ -56,7 +61,9 @@ fn lowered(f: &NetFields) -> NetFields
 // The PDU as it goes on, under the master credentials of the network key that it was heard with.
 fn relay_job(nets: &NetKeys, r: &NetReading) -> Option<Job>
     requires { 1 ≤ r.now.fields.ttl }
-    ensures { result ≡ option_map (λ (m : NetMaterial). J.Relay m (record r.now.fields { ttl = r.now.fields.ttl - 1 })) (transmit_material nets.now r.now.by.index) }
+    ensures { result
+        ≡ option_map (λ (m : NetMaterial). J.Relay m (record r.now.fields { ttl = r.now.fields.ttl - 1 }))
+        (transmit_material nets.now r.now.by.index) }
 {
     let material = nets.transmit(r.by.index)?;
     Some(Job::Relay {
@@ -65,8 +72,8 @@ fn relay_job(nets: &NetKeys, r: &NetReading) -> Option<Job>
     })
 }
 
-/// Puts the relay of a PDU behind the others, if it goes on: its own SRC, IV Index and SEQ with one TTL less, where Relay is on, TTL is 2 or
-/// more, and DST isn't an element of this node.
+/// Puts the relay of a PDU behind the others, if it goes on: its own SRC, IV Index and SEQ with one TTL less, where
+/// Relay is on, TTL is 2 or more, and DST isn't an element of this node.
 pub fn push_relay(jobs: &mut JobDraft, p: &Persist, nets: &NetKeys, r: &NetReading)
     requires room { length jobs.old < 160 }
     requires nets { nets.now ≡ p.now.nets }
@@ -100,8 +107,8 @@ fn segment_numbers(low: &Lower) -> Option<(u16, u8)>
     }
 }
 
-// BlockAck of the acknowledgment that an answer asks for, if it asks for one: all pieces of a message that is through, none where there was
-// no room.
+// BlockAck of the acknowledgment that an answer asks for, if it asks for one: all pieces of a message that is through,
+// none where there was no room.
 fn block_asked(answer: &Answer, seg_n: u8) -> Option<u32>
     requires { seg_n < 2 ^ 5 }
     ensures { result ≡ block_asked_in answer.now seg_n }
@@ -133,8 +140,9 @@ fn ack_job(p: &Persist, nets: &NetKeys, r: &NetReading, seq_zero: u16, block: u3
     })
 }
 
-/// Puts the acknowledgment of a segment behind the others, if its answer asks for one: it went to one element, and its message is through or
-/// found no room. `low` is what the transport PDU of `r` reads as; its fields are within their widths.
+/// Puts the acknowledgment of a segment behind the others, if its answer asks for one: it went to one element, and its
+/// message is through or found no room. `low` is what the transport PDU of `r` reads as; its fields are within their
+/// widths.
 pub fn push_ack(
     jobs: &mut JobDraft,
     p: &Persist,
@@ -187,7 +195,8 @@ fn push_heard_ack(
     requires room { length jobs.old < 160 }
     requires nets { nets.now ≡ p.now.nets }
     requires fits { IfSome low (λ l. Fits l.now) }
-    ensures value { jobs.new ≡ jobs.old ++ ack_jobs (config_in p.now) (reading_of r.now) (option_copied low.entry) answer.now }
+    ensures value { jobs.new
+        ≡ jobs.old ++ ack_jobs (config_in p.now) (reading_of r.now) (option_copied low.entry) answer.now }
     ensures few { length jobs.new ≤ length jobs.old + 1 }
 {
     if let Some(low) = low {
@@ -195,10 +204,43 @@ fn push_heard_ack(
     }
 }
 
-/// The jobs of a network PDU heard: it goes on, it is acknowledged, and where a Key Refresh phase isn't what it was the node's beacons
-/// follow. `reading` and `low` are what its octets read as, and `low` is within its widths. `p` is what the records after the event say,
-/// `nets` are its keys, and `before` the phases before the event. The jobs are made in `draft`, which has none.
-#[tactic(auto, unfolding(node_layers::specs::BuiltLayers::built_layers, run_definitions::specs::Jobs::jobs_of))]
+// Puts the replies to the message that an answer delivered behind the others.
+#[tactic(auto, unfolding(node_layers::specs::ConfiguredLayers::configured_layers))]
+fn push_delivered(
+    jobs: &mut JobDraft,
+    p: &Persist,
+    nets: &NetKeys,
+    r: &NetReading,
+    key: Option<&UpperKey>,
+    replies: &MessageReplies,
+    answer: &Answer,
+)
+    requires room { length jobs.old + 9 ≤ 160 }
+    requires nets { nets.now ≡ p.now.nets }
+    requires unicast { p.now.unicast.0 < 2 ^ 15 }
+    ensures value { (past : Past) (low : Option LowerPdu) (opening : Option Opening)
+        → option_copied key.entry ≡ option_map (λ (o : Opening). o.key) opening
+        → AreRepliesTo past (insight_of (Some r.now) low opening) answer.now replies.now
+        → jobs.new ≡ jobs.old
+        ++ message_jobs configured_layers past (config_in p.now) (reading_of r.now)
+        (insight_of (Some r.now) low opening) answer.now }
+    ensures few { length jobs.new ≤ length jobs.old + 9 }
+{
+    let Answer::Delivered { name, .. } = answer else {
+        return;
+    };
+    let Some(key) = key else {
+        return;
+    };
+    push_replies(jobs, p, nets, r, key, name.src, replies);
+}
+
+/// The jobs of a network PDU heard: it goes on, it is acknowledged, a delivered message is replied to, and where a Key
+/// Refresh phase isn't what it was the node's beacons follow. `reading` and `low` are what its octets read as, and
+/// `low` is within its widths; `key` is the key that opened it, and `replies` are those to the message that it
+/// delivered. `p` is what the records after the event say, `nets` are its keys, and `before` the phases before the
+/// event. The jobs are made in `draft`, which has none.
+#[tactic(auto, unfolding(node_layers::specs::ConfiguredLayers::configured_layers, run_definitions::specs::Jobs::jobs_of))]
 pub fn pdu_jobs(
     mut draft: JobDraft,
     p: &Persist,
@@ -206,14 +248,22 @@ pub fn pdu_jobs(
     before: &Phases,
     reading: Option<&NetReading>,
     low: Option<&Lower>,
+    key: Option<&UpperKey>,
+    replies: &MessageReplies,
     answer: &Answer,
 ) -> Jobs
     requires empty { draft ≡ [] }
     requires nets { nets.now ≡ p.now.nets }
     requires fits { IfSome low (λ l. Fits l.now) }
-    ensures value { (past : Past) (octets : List ℕ) (opening : Option Opening) → before.now ≡ phases_of (config_before past).nets
-        → result ≡ jobs_of built_layers past (config_in p.now) (E.Net octets) (insight_of (option_copied reading.entry) (option_copied low.entry) opening) answer.now }
-    ensures few { length result ≤ 6 }
+    requires unicast { p.now.unicast.0 < 2 ^ 15 }
+    ensures value { (past : Past) (octets : List ℕ) (opening : Option Opening)
+        → before.now ≡ phases_of (config_before past).nets
+        → option_copied key.entry ≡ option_map (λ (o : Opening). o.key) opening
+        → AreRepliesTo past (insight_of (option_copied reading.entry) (option_copied low.entry) opening)
+        answer.now replies.now
+        → result ≡ jobs_of configured_layers past (config_in p.now) (E.Net octets)
+        (insight_of (option_copied reading.entry) (option_copied low.entry) opening) answer.now }
+    ensures few { length result ≤ 15 }
 {
     let Some(r) = reading else {
         return draft.finish();
@@ -223,6 +273,7 @@ pub fn pdu_jobs(
     }
     push_relay(&mut draft, p, nets, r);
     push_heard_ack(&mut draft, p, nets, r, low, answer);
+    push_delivered(&mut draft, p, nets, r, key, replies, answer);
     push_refresh(&mut draft, p, before);
     draft.finish()
 }

@@ -77,7 +77,8 @@ fn any_changed(before: &[KeyPhase], rows: &[NetKeyRow]) -> bool
 /// Puts the node's beacons behind the others where the phase of a network key that is held isn't what it was before the event.
 pub fn push_refresh(jobs: &mut JobDraft, p: &Persist, before: &Phases)
     requires room { length jobs.old + 4 ≤ 160 }
-    ensures value { (c : Config) → before.now ≡ phases_of c.nets → jobs.new ≡ jobs.old ++ refresh_jobs c (config_in p.now) }
+    ensures value { (c : Config) → before.now ≡ phases_of c.nets
+        → jobs.new ≡ jobs.old ++ refresh_jobs c (config_in p.now) }
     ensures few { length jobs.new ≤ length jobs.old + 4 }
 {
     if any_changed(before.as_slice(), p.nets.as_slice()) {

@@ -78,7 +78,9 @@ fn segment(m: &Outgoing, seg_o: u8) -> Lower
 fn segment_job(material: NetMaterial, m: &Outgoing, seg_o: u8, first: bool) -> Job
     requires outgoing { IsOutgoing m.now }
     requires place { seg_o ≤ last_segment_in m.now.upper }
-    ensures { result ≡ J.Segment material m.now.name m.now.ttl m.now.name.src m.now.dst seg_o (last_segment_in m.now.upper) (lower_text (segment_in m.now.akf m.now.aid m.now.name.pair.seq m.now.upper seg_o)) first }
+    ensures { result
+        ≡ J.Segment material m.now.name m.now.ttl m.now.name.src m.now.dst seg_o (last_segment_in m.now.upper)
+        (lower_text (segment_in m.now.akf m.now.aid m.now.name.pair.seq m.now.upper seg_o)) first }
 {
     Job::Segment {
         material,
@@ -99,7 +101,10 @@ pub(crate) fn push_first_round(jobs: &mut JobDraft, p: &Persist, nets: &NetKeys,
     requires room { length jobs.old + 32 ≤ 160 }
     requires nets { nets.now ≡ p.now.nets }
     requires outgoing { IsOutgoing m.now }
-    ensures value { jobs.new ≡ jobs.old ++ begin_jobs (config_in p.now) m.now.name.pair m.now.dst m.now.name.src m.now.ttl m.now.net m.now.akf m.now.aid m.now.upper }
+    ensures value { jobs.new
+        ≡ jobs.old
+        ++ begin_jobs
+        (config_in p.now) m.now.name.pair m.now.dst m.now.name.src m.now.ttl m.now.net m.now.akf m.now.aid m.now.upper }
     ensures few { length jobs.new ≤ length jobs.old + 32 }
 {
     let Some(material) = nets.transmit(m.net) else {

@@ -1,13 +1,14 @@
 //! Worked rows: what is sent for what was heard, for time that passed, and for own messages.
 #![tactic(auto)]
 
-ghost use Rattle.std.specs.Prelude.{◌≡◌, [], ◌∷◌};
+ghost use Rattle.std.specs.Prelude.{◌≡◌, ◌<◌, ◌^◌, [], ◌∷◌};
 ghost use Rattle.segment_sender.specs.Held.{IsHeldWell, IsOutgoing};
 
 use crate::{
     KeyPhase, Phases, Span, begin_jobs, held_phases, own_jobs, pdu_jobs, push_rounds, tick_jobs,
 };
 use app_keys::AppKeys;
+use element_models::{LEVEL_SERVER, ONOFF_SERVER};
 use layer_states::reassembly::{AckList, DueAck};
 use layer_states::sending::{Outgoing, PieceList, Sending};
 use mesh_base::address::Address;
@@ -20,9 +21,11 @@ use mesh_base::table::Table;
 use mesh_types::answers::{Answer, KeyName};
 use mesh_types::events::{Event, SendKey};
 use mesh_types::jobs::{Job, JobDraft, Jobs};
+use model_states::publication::HeartbeatRow;
 use net_keys::NetKeys;
 use network_layer::NetReading;
-use node_records::Persist;
+use node_models::{Due, DueRow, MessageReplies, Reply};
+use node_records::{Persist, PublishRow};
 use std::alloc::{AllocError, Global};
 use std::test::Fail;
 
@@ -44,8 +47,8 @@ const OTHER_KEY: [u8; 16] = [
 
 const DEV_KEY: [u8; 16] = [0xdd; 16];
 
-// The beacon of the sample data, section 8.4; that of the other key in phase 2, and that of the first key in IV Update in Progress, by another
-// implementation.
+// The beacon of the sample data, section 8.4; that of the other key in phase 2, and that of the first key in IV Update
+// in Progress, by another implementation.
 const BEACON: [u8; 22] = [
     0x01, 0x00, 0x3e, 0xca, 0xff, 0x67, 0x2f, 0x67, 0x33, 0x70, 0x12, 0x34, 0x56, 0x78, 0x8e, 0xa2,
     0x61, 0x58, 0x2f, 0x36, 0x4f, 0x6f,
@@ -81,6 +84,7 @@ struct Node {
     apps: AppKeys,
     ghost nets_held: { nets ≡ p.nets },
     ghost apps_held: { apps ≡ record { apps = p.apps; nets = p.nets } },
+    ghost unicast_held: { p.unicast.0 < 2 ^ 15 },
 }
 
 fn one_net(row: NetKeyRow) -> Table<NetKeyRow, 4>
@@ -99,7 +103,8 @@ fn one_app(row: AppKeyRow) -> Table<AppKeyRow, 8>
     rows
 }
 
-// A node of one element whose network key with index 0 is in this phase, with this IV Index, and with the Beacon feature on.
+// A node of one element whose network key with index 0 is in this phase, with this IV Index, and with the Beacon
+// feature on.
 #[tactic(auto, unfolding(layer_definitions::specs::Order::IsByIndexFrom))]
 fn node_in(phase: u8, next: Option<[u8; 16]>, current: u32, progress: bool) -> Node {
     let mut p = Persist::new();
@@ -159,6 +164,45 @@ fn reading(ctl: bool, ttl: u8, src: u16, dst: Address, tpdu: &[u8]) -> NetReadin
     }
 }
 
+// What is sent for a PDU that was heard; where it was delivered, it was opened under this key, and these are the
+// replies to it.
+fn replied(
+    alloc: Global,
+    n: &Node,
+    before: &Phases,
+    r: &NetReading,
+    key: Option<&UpperKey>,
+    replies: &MessageReplies,
+    answer: &Answer,
+) -> Result<Jobs, AllocError> {
+    let draft = JobDraft::new(alloc)?;
+    let jobs = match lower_transport::read(r.fields.ctl, r.fields.tpdu.as_slice()) {
+        Ok(low) => pdu_jobs(
+            draft,
+            &n.p,
+            &n.nets,
+            before,
+            Some(r),
+            Some(&low),
+            key,
+            replies,
+            answer,
+        ),
+        Err(_) => pdu_jobs(
+            draft,
+            &n.p,
+            &n.nets,
+            before,
+            Some(r),
+            None,
+            key,
+            replies,
+            answer,
+        ),
+    };
+    Ok(jobs)
+}
+
 fn heard(
     alloc: Global,
     n: &Node,
@@ -166,12 +210,7 @@ fn heard(
     r: &NetReading,
     answer: &Answer,
 ) -> Result<Jobs, AllocError> {
-    let draft = JobDraft::new(alloc)?;
-    let jobs = match lower_transport::read(r.fields.ctl, r.fields.tpdu.as_slice()) {
-        Ok(low) => pdu_jobs(draft, &n.p, &n.nets, before, Some(r), Some(&low), answer),
-        Err(_) => pdu_jobs(draft, &n.p, &n.nets, before, Some(r), None, answer),
-    };
-    Ok(jobs)
+    replied(alloc, n, before, r, None, &MessageReplies::none(), answer)
 }
 
 fn is_only(jobs: &Jobs, job: &Job) -> bool {
@@ -192,7 +231,8 @@ fn control(ttl: u8, dst: Address, tpdu: &[u8]) -> Job {
     }
 }
 
-// A PDU goes on with one TTL less: TTL 2, 1 and 0, to an element of the node, with Relay off, and by an answer before the message cache.
+// A PDU goes on with one TTL less: TTL 2, 1 and 0, to an element of the node, with Relay off, and by an answer before
+// the message cache.
 #[test]
 fn relays(rt: HostRuntime) -> Result<(), Fail> {
     let alloc = rt.alloc();
@@ -245,6 +285,8 @@ fn relays(rt: HostRuntime) -> Result<(), Fail> {
         &before,
         None,
         None,
+        None,
+        &MessageReplies::none(),
         &Answer::Unread,
     );
     assert!(rt; none.is_empty());
@@ -258,8 +300,8 @@ fn name(seq: u32) -> Name {
     }
 }
 
-// The last segment of the sample's message, and the last of 32: what acknowledges them, to one element alone, with TTL 0 where they were
-// heard with 0.
+// The last segment of the sample's message, and the last of 32: what acknowledges them, to one element alone, with TTL
+// 0 where they were heard with 0.
 #[test]
 fn acknowledges(rt: HostRuntime) -> Result<(), Fail> {
     let alloc = rt.alloc();
@@ -269,14 +311,8 @@ fn acknowledges(rt: HostRuntime) -> Result<(), Fail> {
         0x80, 0x26, 0xac, 0x21, 0xcf, 0xdc, 0x18, 0xc5, 0x2f, 0xde, 0xf7, 0x72, 0xe0, 0xe1, 0x73,
         0x08,
     ];
-    let delivered = Answer::Delivered {
-        name: name(0x3129ab),
-        dst: ELEMENT,
-        key: KeyName::Dev,
-        payload: octets(&[0x00]),
-    };
     let all = [0x00, 0x26, 0xac, 0x00, 0x00, 0x00, 0x03];
-    for answer in [delivered, Answer::Again, Answer::NoKey] {
+    for answer in [delivered(), Answer::Again, Answer::NoKey] {
         let jobs = heard(
             alloc,
             &n,
@@ -337,6 +373,107 @@ fn acknowledges(rt: HostRuntime) -> Result<(), Fail> {
     Ok(())
 }
 
+fn app_key() -> UpperKey {
+    UpperKey::App {
+        index: 0x123,
+        aid: 0x26,
+        key: APP_KEY,
+    }
+}
+
+fn message_from(src: u16, key: UpperKey, ttl: u8, dst: Address, payload: &[u8]) -> Job {
+    Job::Message {
+        net: 0,
+        material: material(),
+        key,
+        ttl,
+        src: Address(src),
+        dst,
+        payload: octets(payload),
+        keep: None,
+    }
+}
+
+// The TTL of the node as a reply of the Configuration Server tells it, and the Statuses of two elements.
+const TTL_STATUS: [u8; 3] = [0x80, 0x0e, 0x07];
+
+const ONOFF_STATUS: [u8; 3] = [0x82, 0x04, 0x01];
+
+const LEVEL_STATUS: [u8; 4] = [0x82, 0x08, 0x34, 0x12];
+
+fn three_replies() -> MessageReplies {
+    let mut replies = MessageReplies::none();
+    replies.configuration = Some(octets(&TTL_STATUS));
+    replies.models.push(Reply {
+        element: 0,
+        payload: octets(&ONOFF_STATUS),
+    });
+    replies.models.push(Reply {
+        element: 1,
+        payload: octets(&LEVEL_STATUS),
+    });
+    replies
+}
+
+fn delivered() -> Answer {
+    Answer::Delivered {
+        name: name(0x3129ab),
+        dst: ELEMENT,
+        key: KeyName::Dev,
+        payload: octets(&[0x00]),
+    }
+}
+
+// Replies go from their elements to the message's source, under the key that opened it, with TTL 0 to what was heard
+// with 0; none under a network key that isn't held, to a message that no key opened, or by another answer. They stand
+// behind the acknowledgment and before the beacon.
+#[test]
+fn replies(rt: HostRuntime) -> Result<(), Fail> {
+    let alloc = rt.alloc();
+    let n = plain();
+    let before = held_phases(&n.p);
+    let replies = three_replies();
+    let access = [0x66, 0x5a, 0x8b, 0xde, 0x6d, 0x91, 0x06];
+    for (ttl, sent) in [(5, 7), (0, 0)] {
+        for key in [app_key(), UpperKey::Device(DEV_KEY)] {
+            let all = [
+                message_from(0x1201, key, sent, PEER, &TTL_STATUS),
+                message_from(0x1201, key, sent, PEER, &ONOFF_STATUS),
+                message_from(0x1202, key, sent, PEER, &LEVEL_STATUS),
+            ];
+            let r = reading(false, ttl, 3, ELEMENT, &access);
+            let jobs = replied(alloc, &n, &before, &r, Some(&key), &replies, &delivered())?;
+            assert!(rt; jobs.as_slice() == all.as_slice(), "{ttl}");
+        }
+    }
+    let key = app_key();
+    let mut r = reading(false, 5, 3, ELEMENT, &access);
+    let jobs = replied(alloc, &n, &before, &r, Some(&key), &replies, &Answer::NoKey)?;
+    assert!(rt; jobs.is_empty(), "another answer");
+    let jobs = replied(alloc, &n, &before, &r, None, &replies, &delivered())?;
+    assert!(rt; jobs.is_empty(), "no key");
+    r.by.index = 1;
+    let jobs = replied(alloc, &n, &before, &r, Some(&key), &replies, &delivered())?;
+    assert!(rt; jobs.is_empty(), "no network key");
+    let mut phases = Phases::new();
+    let _ = phases.push(KeyPhase { index: 0, phase: 1 });
+    let last = [
+        0x80, 0x26, 0xac, 0x21, 0xcf, 0xdc, 0x18, 0xc5, 0x2f, 0xde, 0xf7, 0x72, 0xe0, 0xe1, 0x73,
+        0x08,
+    ];
+    let r = reading(false, 5, 3, ELEMENT, &last);
+    let mut one = MessageReplies::none();
+    one.configuration = Some(octets(&TTL_STATUS));
+    let all = [
+        control(7, PEER, &[0x00, 0x26, 0xac, 0x00, 0x00, 0x00, 0x03]),
+        message_from(0x1201, key, 7, PEER, &TTL_STATUS),
+        Job::Beacon(BEACON),
+    ];
+    let jobs = replied(alloc, &n, &phases, &r, Some(&key), &one, &delivered())?;
+    assert!(rt; jobs.as_slice() == all.as_slice(), "order");
+    Ok(())
+}
+
 // The node's beacons after a change of phase: under the new key with flag 1 in phase 2.
 #[test]
 fn refreshes(rt: HostRuntime) -> Result<(), Fail> {
@@ -380,8 +517,10 @@ fn ticked(
         JobDraft::new(alloc)?,
         &n.p,
         &n.nets,
+        &n.apps,
         acks,
         &[],
+        &Due::nothing(),
         &Span { from, to, iv },
         &Answer::Ticked { now: to },
     ))
@@ -432,7 +571,17 @@ fn ticks(rt: HostRuntime) -> Result<(), Fail> {
         iv,
     };
     let draft = JobDraft::new(alloc)?;
-    let reset = tick_jobs(draft, &n.p, &n.nets, &acks, &[], &span, &Answer::Reset);
+    let reset = tick_jobs(
+        draft,
+        &n.p,
+        &n.nets,
+        &n.apps,
+        &acks,
+        &[],
+        &Due::nothing(),
+        &span,
+        &Answer::Reset,
+    );
     assert!(rt; reset.is_empty());
     Ok(())
 }
@@ -530,13 +679,8 @@ fn own_messages(rt: HostRuntime) -> Result<(), Fail> {
     assert!(rt; is_only(&own, &sent(UpperKey::Device(DEV_KEY), 0x1201)));
     let other = asked(alloc, &n, 1, SendKey::Other([1; 16]), &[0x7f], false)?;
     assert!(rt; is_only(&other, &sent(UpperKey::Device([1; 16]), 0x1202)));
-    let app = UpperKey::App {
-        index: 0x123,
-        aid: 0x26,
-        key: APP_KEY,
-    };
     let jobs = asked(alloc, &n, 0, SendKey::App(0x123), &[0x7f; 12], true)?;
-    assert!(rt; is_only(&jobs, &sent(app, 0x1201)), "12 octets");
+    assert!(rt; is_only(&jobs, &sent(app_key(), 0x1201)), "12 octets");
     assert!(rt; asked(alloc, &n, 0, SendKey::App(0x123), &[0x7f; 11], true)?.is_empty());
     assert!(rt; asked(alloc, &n, 0, SendKey::App(5), &[0x7f], false)?.is_empty());
     Ok(())
@@ -633,8 +777,8 @@ fn round(alloc: Global, n: &Node, now: u64, dst: Address, rounds: u8) -> Result<
     Ok(draft.finish())
 }
 
-// A round that is due: to one element what isn't acknowledged, to a group all, each segment under a pair of its own; none too early, and
-// none after the last.
+// A round that is due: to one element what isn't acknowledged, to a group all, each segment under a pair of its own;
+// none too early, and none after the last.
 #[test]
 fn rounds(rt: HostRuntime) -> Result<(), Fail> {
     let alloc = rt.alloc();
@@ -648,6 +792,134 @@ fn rounds(rt: HostRuntime) -> Result<(), Fail> {
     assert!(rt; round(alloc, &n, 55, PEER, 4)?.is_empty());
     assert!(rt; round(alloc, &n, 55, Address(0xc000), 2)?.len() == 2);
     assert!(rt; round(alloc, &n, 55, Address(0xc000), 3)?.is_empty());
+    Ok(())
+}
+
+fn publish_row(element: Address, model: u16, app: u16, ttl: u8) -> PublishRow {
+    PublishRow {
+        element,
+        model,
+        address: Address(0xc001),
+        app,
+        ttl,
+        period: 0x41,
+        retransmit: 0,
+    }
+}
+
+// What is sent at a tick where this row is due, and this heartbeat.
+fn published(
+    alloc: Global,
+    n: &Node,
+    row: PublishRow,
+    heartbeat: Option<HeartbeatRow>,
+    to: u64,
+) -> Result<Jobs, AllocError> {
+    let mut due = Due::nothing();
+    due.rows.push(DueRow {
+        row,
+        status: octets(&ONOFF_STATUS),
+    });
+    due.heartbeat = heartbeat;
+    let span = Span {
+        from: 1,
+        to,
+        iv: n.p.iv,
+    };
+    Ok(tick_jobs(
+        JobDraft::new(alloc)?,
+        &n.p,
+        &n.nets,
+        &n.apps,
+        &AckList::new(),
+        &[],
+        &due,
+        &span,
+        &Answer::Ticked { now: to },
+    ))
+}
+
+// A row that is due is published with its TTL, which ff stands for the Default TTL in; none of an application key that
+// isn't held, of another node's element, or of a model that the node doesn't have, and none that the store holds
+// otherwise.
+#[test]
+fn publications(rt: HostRuntime) -> Result<(), Fail> {
+    let alloc = rt.alloc();
+    let other = Address(0x1202);
+    for (element, model, app, ttl, sent) in [
+        (ELEMENT, ONOFF_SERVER, 0x123, 0xff, Some(7)),
+        (ELEMENT, LEVEL_SERVER, 0x123, 0xff, Some(7)),
+        (ELEMENT, ONOFF_SERVER, 0x123, 5, Some(5)),
+        (ELEMENT, ONOFF_SERVER, 0x123, 0, Some(0)),
+        (ELEMENT, ONOFF_SERVER, 0x124, 5, None),
+        (ELEMENT, 0x1001, 0x123, 5, None),
+        (other, ONOFF_SERVER, 0x123, 5, None),
+    ] {
+        let row = publish_row(element, model, app, ttl);
+        let mut n = plain();
+        let _ = n.p.publications.push(row);
+        let jobs = published(alloc, &n, row, None, 2)?;
+        match sent {
+            Some(ttl) => {
+                let dst = Address(0xc001);
+                let job = message_from(0x1201, app_key(), ttl, dst, &ONOFF_STATUS);
+                assert!(rt; is_only(&jobs, &job), "{model} {ttl}");
+            }
+            None => assert!(rt; jobs.is_empty(), "{app} {model}"),
+        }
+    }
+    let row = publish_row(ELEMENT, ONOFF_SERVER, 0x123, 5);
+    assert!(rt;
+        published(alloc, &plain(), row, None, 2)?.is_empty(),
+        "no row"
+    );
+    let mut n = plain();
+    let _ = n.p.publications.push(PublishRow {
+        period: 0x42,
+        ..row
+    });
+    assert!(rt;
+        published(alloc, &n, row, None, 2)?.is_empty(),
+        "another period"
+    );
+    Ok(())
+}
+
+fn heartbeat(net: u16) -> HeartbeatRow {
+    HeartbeatRow {
+        dst: Address(0xc002),
+        count: 0xff,
+        period: 1,
+        ttl: 3,
+        features: 0,
+        net,
+    }
+}
+
+// A heartbeat tells the features that are on, by its bits, under its network key; beacons, a publication and a
+// heartbeat go in this order.
+#[test]
+fn heartbeats(rt: HostRuntime) -> Result<(), Fail> {
+    let alloc = rt.alloc();
+    let row = publish_row(ELEMENT, ONOFF_SERVER, 0x123, 5);
+    for (relay, friend, features) in [(1, 1, 5), (0, 1, 4), (1, 0, 1), (0, 0, 0), (2, 0, 0)] {
+        let mut n = plain();
+        n.p.relay = relay;
+        n.p.friend = friend;
+        let jobs = published(alloc, &n, row, Some(heartbeat(0)), 2)?;
+        let job = control(3, Address(0xc002), &[0x0a, 0x03, 0x00, features]);
+        assert!(rt; is_only(&jobs, &job), "{features}");
+    }
+    let mut n = plain();
+    assert!(rt; published(alloc, &n, row, Some(heartbeat(1)), 2)?.is_empty());
+    let _ = n.p.publications.push(row);
+    let all = [
+        Job::Beacon(BEACON),
+        message_from(0x1201, app_key(), 5, Address(0xc001), &ONOFF_STATUS),
+        control(3, Address(0xc002), &[0x0a, 0x03, 0x00, 0x05]),
+    ];
+    let jobs = published(alloc, &n, row, Some(heartbeat(0)), 1000)?;
+    assert!(rt; jobs.as_slice() == all.as_slice());
     Ok(())
 }
 
@@ -682,8 +954,10 @@ fn ticks_with_a_round(rt: HostRuntime) -> Result<(), Fail> {
         JobDraft::new(alloc)?,
         &n.p,
         &n.nets,
+        &n.apps,
         &acks,
         &[held(PEER, 1)],
+        &Due::nothing(),
         &span,
         &told,
     );

@@ -1,15 +1,17 @@
 //! What is due when time passed.
 #![tactic(auto)]
 
-ghost use Rattle.std.specs.Prelude.{◌≡◌, ℕ, ◌+◌, ◌≤◌, ◌++◌, if◌then◌else◌, [], filter, length, All};
+ghost use Rattle.std.specs.Prelude.{◌≡◌, ℕ, ◌+◌, ◌<◌, ◌≤◌, ◌^◌, ◌++◌, if◌then◌else◌, [], filter, length, All};
 ghost use Rattle.std.specs.List.{flat_map};
 ghost use Rattle.std.specs.Option.{option_to_list};
+ghost use Rattle.app_keys.specs.AppRows.{AppRows};
 ghost use Rattle.layer_states.specs.Reassembly.{acks_due};
 ghost use Rattle.mesh_jobs.specs.Ticks.{IsSpan, is_beacon_due as is_beacon_due_in};
 ghost use Rattle.mesh_types.specs.declared.events.Event.TheVariants as E;
-ghost use Rattle.node_layers.specs.BuiltLayers.{built_layers};
+ghost use Rattle.node_layers.specs.ConfiguredLayers.{configured_layers};
 ghost use Rattle.node_layers.specs.Reassembly.{due_jobs, messages};
 ghost use Rattle.node_layers.specs.Sending as own;
+ghost use Rattle.node_models.specs.Due.{IsDue};
 ghost use Rattle.node_records.specs.Tables.{config_in};
 ghost use Rattle.run_definitions.specs.Answers.{later};
 ghost use Rattle.run_definitions.specs.History.{Insight, Past};
@@ -19,13 +21,16 @@ ghost use Rattle.segment_sender.specs.Held.{IsHeldWell, has_round};
 use crate::acknowledgments::acknowledgment;
 use crate::beacons::push_beacons;
 use crate::making::push_made;
+use crate::publishing::push_publications;
 use crate::segments::push_rounds;
+use app_keys::AppKeys;
 use layer_states::reassembly::{AckList, DueAck};
 use layer_states::sending::Sending;
 use mesh_base::iv_state::IvState;
 use mesh_types::answers::Answer;
 use mesh_types::jobs::{Job, JobDraft, Jobs};
 use net_keys::NetKeys;
+use node_models::Due;
 use node_records::Persist;
 
 /// Between two multiples of so many ticks the node's beacons are sent once.
@@ -88,7 +93,8 @@ fn is_beacon_due(span: &Span, iv: &IvState) -> bool
 /// Puts the node's beacons behind the others where a multiple of 1000 ticks was passed or the IV state changed.
 pub fn push_beacons_due(jobs: &mut JobDraft, p: &Persist, span: &Span)
     requires room { length jobs.old + 4 ≤ 160 }
-    ensures value { (past : Past) (ticks : ℕ) → IsSpan past ticks span.now → jobs.new ≡ jobs.old ++ beacons_due past (config_in p.now) ticks }
+    ensures value { (past : Past) (ticks : ℕ) → IsSpan past ticks span.now
+        → jobs.new ≡ jobs.old ++ beacons_due past (config_in p.now) ticks }
     ensures few { length jobs.new ≤ length jobs.old + 4 }
 {
     if is_beacon_due(span, &p.iv) {
@@ -96,27 +102,34 @@ pub fn push_beacons_due(jobs: &mut JobDraft, p: &Persist, span: &Span)
     }
 }
 
-/// The jobs of a tick event: the acknowledgments that are due, the rounds of own messages, and then the node's beacons, if they are due. `rounds`
-/// are the messages that send one, as they are before the time is counted. `p` is what the records after the event say, and `nets` are its
-/// keys. The jobs are made in `draft`, which has none.
-#[tactic(auto, unfolding(node_layers::specs::BuiltLayers::built_layers, run_definitions::specs::Jobs::jobs_of))]
+/// The jobs of a tick event: the acknowledgments that are due, the rounds of own messages, the node's beacons, if they
+/// are due, and then what is published. `rounds` are the messages that send one, as they are before the time is
+/// counted, and `due` is what is due of the models and of the heartbeat. `p` is what the records after the event say,
+/// and `nets` and `apps` are its keys. The jobs are made in `draft`, which has none.
+#[tactic(auto, unfolding(node_layers::specs::ConfiguredLayers::configured_layers, run_definitions::specs::Jobs::jobs_of))]
 pub fn tick_jobs(
     mut draft: JobDraft,
     p: &Persist,
     nets: &NetKeys,
+    apps: &AppKeys,
     acks: &AckList,
     rounds: &[Sending],
+    due: &Due,
     span: &Span,
     answer: &Answer,
 ) -> Jobs
     requires empty { draft ≡ [] }
     requires nets { nets.now ≡ p.now.nets }
+    requires apps { apps.now ≡ record { apps = p.now.apps; nets = p.now.nets } }
     requires few { length rounds.now ≤ 4 }
     requires held { All IsHeldWell rounds.now }
-    ensures value { (past : Past) (ticks : ℕ) (insight : Insight) → IsSpan past ticks span.now → acks.now ≡ acks_due (later past ticks) (messages past)
+    requires unicast { p.now.unicast.0 < 2 ^ 15 }
+    ensures value { (past : Past) (ticks : ℕ) (insight : Insight) → IsSpan past ticks span.now
+        → acks.now ≡ acks_due (later past ticks) (messages past)
         → rounds.now ≡ filter (has_round (later past ticks)) (own.messages past)
-        → result ≡ jobs_of built_layers past (config_in p.now) (E.Tick ticks) insight answer.now }
-    ensures few { length result ≤ 140 }
+        → IsDue past (config_in p.now) (later past ticks) due.now
+        → result ≡ jobs_of configured_layers past (config_in p.now) (E.Tick ticks) insight answer.now }
+    ensures few { length result ≤ 149 }
 {
     let Answer::Ticked { .. } = answer else {
         return draft.finish();
@@ -124,5 +137,6 @@ pub fn tick_jobs(
     push_acks(&mut draft, p, nets, acks);
     push_rounds(&mut draft, p, nets, span.to, rounds);
     push_beacons_due(&mut draft, p, span);
+    push_publications(&mut draft, p, nets, apps, due);
     draft.finish()
 }

@@ -7,7 +7,7 @@ use Rattle.mesh_jobs.proofs.Rounds.{jobs_are, rounds_are}
 use Rattle.mesh_types.specs.declared.answers.Answer.{Answer}
 use Rattle.mesh_types.specs.declared.events.Event.TheVariants as E
 use Rattle.mesh_types.specs.declared.jobs.Job.{Job}
-use Rattle.node_layers.specs.BuiltLayers.{built_layers}
+use Rattle.node_layers.specs.ConfiguredLayers.{configured_layers, sent_publications}
 use Rattle.node_layers.specs.Reassembly.{due_jobs, messages}
 use Rattle.node_layers.specs.Sending.{round_jobs}
 use Rattle.node_layers.specs.Sending as own
@@ -17,7 +17,7 @@ use Rattle.run_definitions.specs.Jobs.{beacons_due, jobs_of}
 use Rattle.mesh_jobs.proofs.ticks.tick_jobs.Goals as goal
 
 pub returns-clause-value : goal.returns-clause-value
-returns-clause-value c past ticks insight span acks rounds =
+returns-clause-value c past ticks insight span acks rounds due =
     let n = config_in c.args.p.now in
     let to = later past ticks in
     let sent = own.messages past in
@@ -26,13 +26,15 @@ returns-clause-value c past ticks insight span acks rounds =
     ∙ ap (λ (rs : List Sending). flat_map (round_jobs n to) rs) rounds
     ∙ rounds_are n to sent in
     c.finish-2.ensures.value
-    ∙ c.push_beacons_due.ensures.value past ticks span
+    ∙ c.push_publications.ensures.value past ticks due
+    ∙ ap (λ (js : List Job). js ++ sent_publications past n ticks)
+    (c.push_beacons_due.ensures.value past ticks span
     ∙ ap (λ (js : List Job). js ++ beacons_due past n ticks)
     (c.push_rounds.ensures.value
     ∙ ap (λ (js : List Job). js ++ flat_map (round_jobs n c.args.span.now.to) c.args.rounds.now)
     (c.push_acks.ensures.value
     ∙ ap (λ (js : List Job). js ++ flat_map (due_jobs n) c.args.acks.now) c.requires.empty
     ∙ ap (λ (list : List DueAck). flat_map (due_jobs n) list) acks)
-    ∙ ap (λ (js : List Job). flat_map (due_jobs n) (acks_due to (messages past)) ++ js) rows)
+    ∙ ap (λ (js : List Job). flat_map (due_jobs n) (acks_due to (messages past)) ++ js) rows))
     ∙ jobs_are past n ticks c.in-Ticked.now insight
-    ∙ ap (λ (a : Answer). jobs_of built_layers past n (E.Tick ticks) insight a) (sym c.in-Ticked.is)
+    ∙ ap (λ (a : Answer). jobs_of configured_layers past n (E.Tick ticks) insight a) (sym c.in-Ticked.is)

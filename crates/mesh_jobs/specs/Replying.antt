@@ -1,0 +1,33 @@
+-- The replies to a message that was delivered.
+use Rattle.std.specs.Prelude.{◌≡◌, ⊤, [], None, Some}
+use Rattle.mesh_base.specs.declared.address.Address.{Address}
+use Rattle.mesh_base.specs.declared.keys.UpperKey.{UpperKey}
+use Rattle.mesh_types.specs.declared.answers.Answer.{Answer}
+use Rattle.mesh_types.specs.declared.answers.Answer.TheVariants as A
+use Rattle.network_layer.specs.declared.reading.NetReading.{NetReading}
+use Rattle.node_layers.specs.Friendship.{no_friends, replies_to}
+use Rattle.node_models.specs.Replies.{replies_in}
+use Rattle.node_models.specs.declared.taken.MessageReplies.{MessageReplies}
+use Rattle.run_definitions.specs.History.{Insight, Past}
+use Rattle.run_definitions.specs.Layers.{AccessMessage}
+use Rattle.run_definitions.specs.Stores.{message_of}
+
+-- These are the replies to the message that an answer delivered, of a node without friendships. Of another answer
+-- nothing is asked: it has no replies.
+abbrev pub AreRepliesTo : Past → Insight → Answer → MessageReplies → Type 0
+AreRepliesTo past insight (A.Delivered name dst key payload) replies =
+    (m : AccessMessage) → message_of insight name dst ≡ Some m → replies_in replies ≡ replies_to past no_friends m
+AreRepliesTo past insight _ replies = ⊤
+
+-- A message from this source that was read so and opened under this key, as far as the jobs of its replies go by it: by
+-- its source, the network key index and the TTL that it was heard with, and the key. What else it says is left out.
+abbrev pub heard_as : NetReading → UpperKey → Address → AccessMessage
+heard_as r key src = record {
+  name = record { src = src; pair = record { iv = r.fields.iv; seq = r.fields.seq } };
+  dst = r.fields.dst;
+  net = r.by.index;
+  ttl = r.fields.ttl;
+  key = key;
+  label = None;
+  payload = [];
+}

@@ -1,0 +1,120 @@
+//! The replies to a message that was delivered (Mesh Profile 1.0.1, section 3.7.4.1).
+#![tactic(auto)]
+
+ghost use Rattle.std.specs.Prelude.{◌≡◌, ◌+◌, ◌<◌, ◌≤◌, ◌^◌, ◌++◌, length, map};
+ghost use Rattle.std.specs.List.{flat_map};
+ghost use Rattle.std.specs.Option.{option_copied, option_to_list};
+ghost use Rattle.element_models.specs.Messages.{reply_in};
+ghost use Rattle.mesh_jobs.specs.Replying.{heard_as};
+ghost use Rattle.node_layers.specs.ConfiguredLayers.{sent_reply};
+ghost use Rattle.node_models.specs.Replies.{from_first, replies_in};
+ghost use Rattle.node_records.specs.Tables.{config_in};
+
+use crate::elements::element_address;
+use crate::making::{payload_of, push_made};
+use crate::replies::reply_ttl;
+use mesh_base::address::Address;
+use mesh_base::keys::UpperKey;
+use mesh_base::octets::Octets;
+use mesh_types::jobs::{Job, JobDraft};
+use net_keys::NetKeys;
+use network_layer::NetReading;
+use node_models::{MessageReplies, Replies};
+use node_records::Persist;
+
+// A reply of the element at this place to a message from `to`, under the keys by which that was heard.
+fn reply_job(
+    p: &Persist,
+    nets: &NetKeys,
+    r: &NetReading,
+    key: &UpperKey,
+    to: Address,
+    element: u8,
+    payload: &[u8],
+) -> Option<Job>
+    requires nets { nets.now ≡ p.now.nets }
+    requires element { p.now.unicast.0 + element < 2 ^ 16 }
+    requires short { length payload.now ≤ 48 }
+    ensures { option_to_list result ≡ sent_reply (config_in p.now) (heard_as r.now key.now to) (element, payload.now) }
+{
+    let material = nets.transmit(r.by.index)?;
+    Some(Job::Message {
+        net: r.by.index,
+        material,
+        key: *key,
+        ttl: reply_ttl(p, r.fields.ttl),
+        src: element_address(p, element),
+        dst: to,
+        payload: payload_of(payload),
+        keep: None,
+    })
+}
+
+// Puts the reply of the Configuration Server, which is on the first element, behind the others, if there is one.
+fn push_first_reply(
+    jobs: &mut JobDraft,
+    p: &Persist,
+    nets: &NetKeys,
+    r: &NetReading,
+    key: &UpperKey,
+    to: Address,
+    payload: Option<&Octets<48>>,
+)
+    requires room { length jobs.old < 160 }
+    requires nets { nets.now ≡ p.now.nets }
+    requires unicast { p.now.unicast.0 < 2 ^ 15 }
+    ensures value { jobs.new ≡ jobs.old
+        ++ flat_map (sent_reply (config_in p.now) (heard_as r.now key.now to))
+        (map from_first (option_to_list (option_copied payload.entry))) }
+    ensures few { length jobs.new ≤ length jobs.old + 1 }
+{
+    if let Some(payload) = payload {
+        push_made(jobs, reply_job(p, nets, r, key, to, 0, payload.as_slice()));
+    }
+}
+
+// Puts the replies of the models behind the others.
+fn push_model_replies(
+    jobs: &mut JobDraft,
+    p: &Persist,
+    nets: &NetKeys,
+    r: &NetReading,
+    key: &UpperKey,
+    to: Address,
+    replies: &Replies,
+)
+    requires room { length jobs.old + 8 ≤ 160 }
+    requires nets { nets.now ≡ p.now.nets }
+    requires unicast { p.now.unicast.0 < 2 ^ 15 }
+    ensures value { jobs.new ≡ jobs.old
+        ++ flat_map (sent_reply (config_in p.now) (heard_as r.now key.now to)) (map reply_in replies.now) }
+    ensures few { length jobs.new ≤ length jobs.old + 8 }
+{
+    for reply in replies.as_slice() {
+        let job = reply_job(p, nets, r, key, to, reply.element, reply.payload.as_slice());
+        push_made(jobs, job);
+    }
+}
+
+/// Puts the replies to a message behind the others, that of the Configuration Server first: each from its element to
+/// the message's source `to`, under the network key that the message was heard with, if that is held, and the key that
+/// opened it, with TTL 0 where it was heard with that, and else the Default TTL.
+pub fn push_replies(
+    jobs: &mut JobDraft,
+    p: &Persist,
+    nets: &NetKeys,
+    r: &NetReading,
+    key: &UpperKey,
+    to: Address,
+    replies: &MessageReplies,
+)
+    requires room { length jobs.old + 9 ≤ 160 }
+    requires nets { nets.now ≡ p.now.nets }
+    requires unicast { p.now.unicast.0 < 2 ^ 15 }
+    ensures value { jobs.new ≡ jobs.old
+        ++ flat_map (sent_reply (config_in p.now) (heard_as r.now key.now to)) (replies_in replies.now) }
+    ensures few { length jobs.new ≤ length jobs.old + 9 }
+{
+    push_first_reply(jobs, p, nets, r, key, to, replies.configuration.as_ref());
+    push_model_replies(jobs, p, nets, r, key, to, &replies.models);
+}
