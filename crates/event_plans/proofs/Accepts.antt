@@ -1,10 +1,7 @@
 -- What is stored for an accepted message: its SEQ has 24 bits, and there is a place for it.
-use Rattle.std.proofs.Common.{◌≡◌, ℕ, ◌-◌, ◌<◌, ◌^◌, inl, inr, Bool, true, false, cond, not, eqb, ◌||◌, List, [], ◌∷◌, refl, ap, sym, subst, ◌∙◌, arith, Option, Some, None}
-use Rattle.std.specs.Prelude.{IsTrue, IfSome, All, is_some, ◌%◌}
-use Rattle.std.specs.List.{AllByRecursion as Every}
-use Rattle.std.specs.Option.{option_map, option_map_or}
-use Rattle.std.proofs.lemmas.List.Elements.{recursion_from_All}
-use Rattle.event_records.specs.Asked.{AreAskedFor}
+use Rattle.std.proofs.Common.{◌≡◌, ℕ, ◌-◌, ◌<◌, ◌^◌, inl, inr, Bool, true, false, cond, not, eqb, ◌||◌, List, refl, ap, sym, subst, ◌∙◌, arith, Option, Some, None}
+use Rattle.std.specs.Prelude.{IsTrue, IfSome, is_some, ◌%◌}
+use Rattle.std.specs.Option.{option_map}
 use Rattle.layer_definitions.specs.Lower.{seq_auth}
 use Rattle.layer_states.specs.Names.{is_unicast}
 use Rattle.mesh_base.specs.declared.fields.NetFields.{NetFields}
@@ -15,24 +12,20 @@ use Rattle.mesh_base.specs.declared.pair.Pair.{Pair}
 use Rattle.mesh_types.specs.declared.answers.Answer.{Answer}
 use Rattle.mesh_types.specs.declared.answers.Answer.TheVariants as A
 use Rattle.mesh_types.specs.declared.events.Event.TheVariants as E
-use Rattle.node_layers.specs.BuiltLayers.{built_layers}
+use Rattle.node_layers.specs.ConfiguredLayers.{configured_layers}
 use Rattle.node_records.proofs.Room.{full_passes}
 use Rattle.node_records.specs.Full.{IsFull}
 use Rattle.node_records.specs.Meaning.{IsMeaningOf}
 use Rattle.node_records.specs.declared.persist.Persist.{Persist}
-use Rattle.record_types.specs.declared.records.StoreRecord.{StoreRecord}
 use Rattle.record_types.specs.declared.records.StoreRecord.TheVariants as R
 use Rattle.run_definitions.proofs.Accepting.{HasPlace, Refuses, named_accepts, no_answer, past_refusal, refused, refuses_pick, some_is}
 use Rattle.run_definitions.specs.Answers.{answer_of, config_before, is_cached, is_mine, message_name, message_pair, network_answer, pair_of, pdu_answer, transport_answer}
 use Rattle.run_definitions.specs.History.{Insight, OfBeacon, OfNothing, OfPdu, Opening, Past, Reading}
-use Rattle.run_definitions.specs.Layers.{AccessMessage}
 use Rattle.run_definitions.specs.Readings.{Sees, sees_pdu}
-use Rattle.run_definitions.specs.Stores.{message_of, stores}
 use Rattle.run_definitions.specs.Uses.{accepted}
 use Rattle.store_definitions.specs.Config.{is_element}
 use Rattle.store_definitions.specs.Entries.{entry_of, has_room}
 use Rattle.store_definitions.specs.Following.{PassesLimit}
-use Rattle.store_definitions.specs.Ranges.{IsInRange}
 
 -- The SEQ of a message.
 
@@ -70,22 +63,22 @@ network_refuses past r =
     (refuses_pick (not (is_mine (config_before past) r.fields.dst)) (Some A.NotMine) None (refused refl) no_answer)))
 
 transport_taken : (past : Past) (r : Reading) (low : Option Lower) (opening : Option Opening) (n : Name) → r.fields.seq < 2 ^ 24
-    → accepted (transport_answer built_layers past r low opening) ≡ Some n → IsTaken past n
+    → accepted (transport_answer configured_layers past r low opening) ≡ Some n → IsTaken past n
 transport_taken past r None opening n h e = absurd cc
 transport_taken past r (Some low) opening n h e =
-    let (named, passes) = named_accepts built_layers past r low (message_name r.fields low) opening n e in
+    let (named, passes) = named_accepts configured_layers past r low (message_name r.fields low) opening n e in
     record { seq = name_seq r.fields low n named h; place = passes.place }
 
 unless : (b : Bool) (a : Answer) (n : Name) → accepted (cond b A.Reset a) ≡ Some n → accepted a ≡ Some n
 unless true a n e = absurd cc
 unless false a n e = e
 
-pub heard_taken : (past : Past) (octets : List ℕ) (i : Insight) (n : Name) → Sees built_layers past (E.Net octets) i
-    → accepted (answer_of built_layers past (E.Net octets) i) ≡ Some n → IsTaken past n
+pub heard_taken : (past : Past) (octets : List ℕ) (i : Insight) (n : Name) → Sees configured_layers past (E.Net octets) i
+    → accepted (answer_of configured_layers past (E.Net octets) i) ≡ Some n → IsTaken past n
 unfolding answer_of
 heard_taken past octets (OfPdu (Some r) low opening) n (sees_pdu reset reads lower opens) e =
-    let inner = unless (config_before past).reset (pdu_answer built_layers past (OfPdu (Some r) low opening)) n e in
-    let (none, taken) = past_refusal (network_answer past r) (transport_answer built_layers past r low opening) n (network_refuses past r) inner in
+    let inner = unless (config_before past).reset (pdu_answer configured_layers past (OfPdu (Some r) low opening)) n e in
+    let (none, taken) = past_refusal (network_answer past r) (transport_answer configured_layers past r low opening) n (network_refuses past r) inner in
     transport_taken past r low opening n reads.1.reads.has_pdu.seq taken
 heard_taken past octets (OfPdu None low opening) n h e = absurd (none_taken (unless (config_before past).reset A.Unread n e))
   where
@@ -114,15 +107,7 @@ not_full past p n m place full = no_limit ((full_passes past.records p (R.Replay
 
 -- The records of an answer.
 
-abbrev pub replay_of : Option Name → List StoreRecord
-replay_of None = []
-replay_of (Some n) = R.Replay n None ∷ []
-
-no_more : (o : Option AccessMessage) → option_map_or (λ (m : AccessMessage). let l : List StoreRecord = [] in l) o [] ≡ []
-no_more None = refl
-no_more (Some m) = refl
-
-pub seq_of_answer : (past : Past) (octets : List ℕ) (i : Insight) (a : Answer) → Sees built_layers past (E.Net octets) i → a ≡ answer_of built_layers past (E.Net octets) i
+pub seq_of_answer : (past : Past) (octets : List ℕ) (i : Insight) (a : Answer) → Sees configured_layers past (E.Net octets) i → a ≡ answer_of configured_layers past (E.Net octets) i
     → IfSome (accepted a) (λ (n : Name). n.pair.seq < 2 ^ 24)
 seq_of_answer past octets i a sees is = pick (accepted a) refl
   where
@@ -130,21 +115,9 @@ seq_of_answer past octets i a sees is = pick (accepted a) refl
     pick None e = tt
     pick (Some n) e = (heard_taken past octets i n sees (ap accepted (sym is) ∙ e)).seq
 
-pub stores_replay : (past : Past) (octets : List ℕ) (i : Insight) (a : Answer) → stores built_layers past (E.Net octets) i a ≡ replay_of (accepted a)
-unfolding built_layers stores
-stores_replay past octets i (A.Delivered name dst key payload) = ap (λ l. R.Replay name None ∷ l) (no_more (message_of i name dst))
-stores_replay past octets i (A.Control name dst opcode params) = refl
-stores_replay past octets i _ = refl
-
--- the layers so far ask for nothing
-pub nothing_asked : (past : Past) (i : Insight) (a : Answer) (changes : List StoreRecord) → changes ≡ [] → AreAskedFor built_layers past i a changes
-unfolding built_layers
-nothing_asked past i (A.Delivered name dst key payload) changes e = e ∙ sym (no_more (message_of i name dst))
-nothing_asked past i _ changes e = tt
-
 -- there is a place for the name of an accepted message
 pub place_of_answer : (past : Past) (p : Persist) (octets : List ℕ) (i : Insight) (a : Answer) → IsMeaningOf past.records p
-    → Sees built_layers past (E.Net octets) i → a ≡ answer_of built_layers past (E.Net octets) i
+    → Sees configured_layers past (E.Net octets) i → a ≡ answer_of configured_layers past (E.Net octets) i
     → IfSome (accepted a) (λ (n : Name). IsFull p (R.Replay n None) → ⊥)
 place_of_answer past p octets i a m sees is = pick (accepted a) refl
   where

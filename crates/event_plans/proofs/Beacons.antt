@@ -15,7 +15,7 @@ use Rattle.mesh_base.specs.declared.keys.NetKeyRow.{NetKeyRow}
 use Rattle.mesh_types.specs.declared.answers.Answer.{Answer}
 use Rattle.mesh_types.specs.declared.answers.Answer.TheVariants as A
 use Rattle.mesh_types.specs.declared.events.Event.TheVariants as E
-use Rattle.node_layers.specs.BuiltLayers.{built_layers}
+use Rattle.node_layers.specs.ConfiguredLayers.{configured_layers}
 use Rattle.node_records.specs.Meaning.{IsMeaningOf}
 use Rattle.node_records.specs.declared.persist.Persist.{Persist}
 use Rattle.run_definitions.specs.Answers.{answer_of, beacon_answer, config_before, is_busy}
@@ -53,22 +53,22 @@ unless_step : (s : IvState) (b : Bool) (a : Answer) → IsStepFrom s a → IsSte
 unless_step s true a h = tt
 unless_step s false a h = h
 
-heard_step : (past : Past) (octets : List ℕ) (i : Insight) → BeaconSteps → All IsInRange past.records → HasTransmit (config_before past).iv → Sees built_layers past (E.Bcn octets) i
-    → IsStepFrom (config_before past).iv (answer_of built_layers past (E.Bcn octets) i)
+heard_step : (past : Past) (octets : List ℕ) (i : Insight) → BeaconSteps → All IsInRange past.records → HasTransmit (config_before past).iv → Sees configured_layers past (E.Bcn octets) i
+    → IsStepFrom (config_before past).iv (answer_of configured_layers past (E.Bcn octets) i)
 unfolding answer_of
 heard_step past octets (OfBeacon (Some b)) laws ranges transmit (sees_beacon reset reads) =
     let c = config_before past in
     let small : b.index ≤ 0xfff = subst (λ (x : Beacon). x.index ≤ 0xfff) (sym reads.beacon)
     (every_at IsSmall (beacon_keys c.nets) reads.place reads.by reads.by_is (sources_small c.nets (narrow_of past.records ranges).nets)) in
-    unless_step c.iv c.reset (beacon_answer built_layers past (OfBeacon (Some b)))
-    (small, laws c.iv (is_some (net_row c.nets 0)) b.index b.iv b.update (is_busy built_layers past) transmit)
+    unless_step c.iv c.reset (beacon_answer configured_layers past (OfBeacon (Some b)))
+    (small, laws c.iv (is_some (net_row c.nets 0)) b.index b.iv b.update (is_busy configured_layers past) transmit)
 heard_step past octets (OfBeacon None) laws ranges transmit h = unless_step (config_before past).iv (config_before past).reset A.Unread tt
 heard_step past octets (OfPdu r low opening) laws ranges transmit h = unless_step (config_before past).iv (config_before past).reset A.Unread tt
 heard_step past octets OfNothing laws ranges transmit h = unless_step (config_before past).iv (config_before past).reset A.Unread tt
 
 pub beacon_step : (past : Past) (p : Persist) (octets : List ℕ) (i : Insight) (a : Answer) → BeaconSteps → IsMeaningOf past.records p → All IsInRange past.records → HasTransmit p.iv
-    → Sees built_layers past (E.Bcn octets) i → a ≡ answer_of built_layers past (E.Bcn octets) i → IsStepFrom p.iv a
+    → Sees configured_layers past (E.Bcn octets) i → a ≡ answer_of configured_layers past (E.Bcn octets) i → IsStepFrom p.iv a
 beacon_step past p octets i a laws m ranges transmit sees is =
     let iv : (config_before past).iv ≡ p.iv = ap (λ (c : Config). c.iv) (sym m.config) in
     subst (λ x. IsStepFrom p.iv x) (sym is)
-    (subst (λ s. IsStepFrom s (answer_of built_layers past (E.Bcn octets) i)) iv (heard_step past octets i laws ranges (subst HasTransmit (sym iv) transmit) sees))
+    (subst (λ s. IsStepFrom s (answer_of configured_layers past (E.Bcn octets) i)) iv (heard_step past octets i laws ranges (subst HasTransmit (sym iv) transmit) sees))

@@ -1,4 +1,5 @@
 pub mod Narrow
+pub mod Delivered
 pub mod Accepts
 pub mod Beacons
 pub mod Own

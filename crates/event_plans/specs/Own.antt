@@ -21,7 +21,8 @@ raw_row c = if c.reset then A.Reset else A.Planned
 abbrev pub keyed_row : Config → SendKey → Answer
 keyed_row c K.Own = A.Planned
 keyed_row c (K.Other key) = A.Planned
-keyed_row c (K.App index) = if list_any (λ (r : AppKeyRow). r.index == index) c.apps then A.Planned else A.NoAppKey index
+keyed_row c (K.App index) =
+    if list_any (λ (r : AppKeyRow). r.index == index) c.apps then A.Planned else A.NoAppKey index
 
 abbrev pub send_row : Config → SendKey → Answer
 send_row c key = if c.reset then A.Reset else keyed_row c key
@@ -29,7 +30,8 @@ send_row c key = if c.reset then A.Reset else keyed_row c key
 -- a segmented message that begins while these are held, where no friendship is in the way
 abbrev pub begin_row : Config → List Sending → Pair → Answer
 begin_row c rows pair =
-    if not (pair.iv == transmit_of c.iv) then A.Moved (transmit_of c.iv) else if is_full rows then A.SendFull (length rows) else A.Begun
+    if not (pair.iv == transmit_of c.iv) then A.Moved (transmit_of c.iv)
+    else if is_full rows then A.SendFull (length rows) else A.Begun
 
 -- what its answer does to the messages that are held
 abbrev pub begin_calls : ℕ → Outgoing → Answer → List SendCall

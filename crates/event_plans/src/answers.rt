@@ -58,7 +58,8 @@ pub(crate) fn begin_answer(tables: &mut Tables, p: &Persist, m: &Outgoing) -> An
     requires transmit { HasTransmit p.now.iv }
     requires outgoing { IsOutgoing m.now }
     ensures value { result ≡ begin_row (config_in p.now) tables.old.own m.now.name.pair }
-    ensures tables { tables.new ≡ record tables.old { own = fold after tables.old.own (begin_calls tables.old.ticks m.now result) } }
+    ensures tables { tables.new
+        ≡ record tables.old { own = fold after tables.old.own (begin_calls tables.old.ticks m.now result) } }
 {
     let transmit = p.iv.transmit();
     if m.name.pair.iv != transmit {

@@ -1,35 +1,50 @@
 //! The jobs of a plan.
 #![tactic(auto)]
 
-ghost use Rattle.std.specs.Prelude.{◌≡◌, []};
+ghost use Rattle.std.specs.Prelude.{◌≡◌, ◌<◌, ◌^◌, []};
+ghost use Rattle.std.specs.Option.{option_copied, option_map};
+ghost use Rattle.event_plans.specs.Memory.{NodeTablesView};
 ghost use Rattle.event_plans.specs.Plans.{IsPlanned, IsSomePlan, insight_in};
 ghost use Rattle.event_plans.specs.Sending.{IsSendable};
-ghost use Rattle.mesh_hearing.specs.Tables.{TablesView};
 ghost use Rattle.mesh_types.specs.declared.events.Event.TheVariants as E;
-ghost use Rattle.mesh_reading.specs.Held.{held_in};
-ghost use Rattle.node_layers.specs.BuiltLayers.{built_layers};
+ghost use Rattle.mesh_reading.specs.Held.{held_in, opening_of};
+ghost use Rattle.node_layers.specs.ConfiguredLayers.{configured_layers};
 ghost use Rattle.node_records.specs.Tables.{config_in};
-ghost use Rattle.run_definitions.specs.History.{Past};
+ghost use Rattle.run_definitions.specs.Answers.{config_before};
+ghost use Rattle.run_definitions.specs.History.{Opening, Past};
 ghost use Rattle.run_definitions.specs.Jobs.{jobs_of};
 
 use crate::plan::{Basis, Plan};
 use layer_states::sending::Outgoing;
+use mesh_base::keys::UpperKey;
 use mesh_base::octets::Octets;
 use mesh_base::pair::Name;
-use mesh_hearing::Keys;
+use mesh_hearing::{Keys, Opened};
 use mesh_jobs::{begin_jobs, own_jobs, pdu_jobs, tick_jobs};
 use mesh_types::answers::Answer;
 use mesh_types::events::Event;
 use mesh_types::jobs::{JobDraft, Jobs};
 use node_records::Persist;
 
+// The key that opened a message, if there was one.
+fn opening_key(opened: &Option<Opened>) -> Option<&UpperKey>
+    ensures { option_copied result ≡ option_map (λ (o : Opening). o.key) (option_map opening_of opened.now) }
+{
+    match opened {
+        Some(opened) => Some(&opened.key),
+        None => None,
+    }
+}
+
 // Of a network PDU heard.
 fn heard_jobs(draft: JobDraft, p: &Persist, keys: &Keys, octets: &Octets<40>, plan: &Plan) -> Jobs
     requires empty { draft ≡ [] }
     requires keys { keys.now ≡ held_in (config_in p.now) }
     requires planned { IsSomePlan (E.Net octets.now) plan.now }
-    ensures value { (past : Past) (t : TablesView) → IsPlanned past (E.Net octets.now) plan.now t
-        → result ≡ jobs_of built_layers past (config_in p.now) (E.Net octets.now) (insight_in plan.now.basis) plan.now.answer }
+    requires unicast { p.now.unicast.0 < 2 ^ 15 }
+    ensures value { (past : Past) (t : NodeTablesView) → IsPlanned past (E.Net octets.now) plan.now t
+        → result ≡ jobs_of configured_layers past (config_in p.now) (E.Net octets.now)
+        (insight_in plan.now.basis) plan.now.answer }
 {
     let _ = octets;
     match &plan.basis {
@@ -37,8 +52,9 @@ fn heard_jobs(draft: JobDraft, p: &Persist, keys: &Keys, octets: &Octets<40>, pl
             reset,
             reading,
             low,
+            opened,
             phases,
-            ..
+            replies,
         } => {
             if *reset {
                 return draft.finish();
@@ -50,6 +66,8 @@ fn heard_jobs(draft: JobDraft, p: &Persist, keys: &Keys, octets: &Octets<40>, pl
                 phases,
                 reading.as_ref(),
                 low.as_ref(),
+                opening_key(opened),
+                replies,
                 &plan.answer,
             )
         }
@@ -64,16 +82,34 @@ fn passed_jobs(draft: JobDraft, p: &Persist, keys: &Keys, ticks: u32, plan: &Pla
     requires empty { draft ≡ [] }
     requires keys { keys.now ≡ held_in (config_in p.now) }
     requires planned { IsSomePlan (E.Tick ticks) plan.now }
-    ensures value { (past : Past) (t : TablesView) → IsPlanned past (E.Tick ticks) plan.now t
-        → result ≡ jobs_of built_layers past (config_in p.now) (E.Tick ticks) (insight_in plan.now.basis) plan.now.answer }
+    requires unicast { p.now.unicast.0 < 2 ^ 15 }
+    ensures value { (past : Past) (t : NodeTablesView) → IsPlanned past (E.Tick ticks) plan.now t
+        → (config_in p.now).unicast ≡ (config_before past).unicast
+        → result ≡ jobs_of configured_layers past (config_in p.now) (E.Tick ticks)
+        (insight_in plan.now.basis) plan.now.answer }
 {
     let Answer::Ticked { .. } = &plan.answer else {
         return draft.finish();
     };
     match &plan.basis {
-        Basis::Time { acks, rounds, span } => {
+        Basis::Time {
+            acks,
+            rounds,
+            due,
+            span,
+        } => {
             let rounds = rounds.as_slice();
-            tick_jobs(draft, p, keys.nets(), acks, rounds, span, &plan.answer)
+            tick_jobs(
+                draft,
+                p,
+                keys.nets(),
+                keys.apps(),
+                acks,
+                rounds,
+                due,
+                span,
+                &plan.answer,
+            )
         }
         Basis::Pdu { .. } => draft.finish(),
         Basis::Beacon { .. } => draft.finish(),
@@ -81,15 +117,19 @@ fn passed_jobs(draft: JobDraft, p: &Persist, keys: &Keys, ticks: u32, plan: &Pla
     }
 }
 
-/// The jobs of an event that was planned so. `p` is what the records after the event say, and `keys` are its keys. The jobs are made in
-/// `draft`, which has none.
+/// The jobs of an event that was planned so. `p` is what the records after the event say, and `keys` are its keys; the
+/// address of the node is that of before, as no event tells a node anew what it is. The jobs are made in `draft`, which
+/// has none.
 pub fn plan_jobs(draft: JobDraft, p: &Persist, keys: &Keys, event: &Event, plan: &Plan) -> Jobs
     requires empty { draft ≡ [] }
     requires keys { keys.now ≡ held_in (config_in p.now) }
     requires planned { IsSomePlan event.now plan.now }
     requires sendable { IsSendable (config_in p.now) event.now }
-    ensures value { (past : Past) (t : TablesView) → IsPlanned past event.now plan.now t
-        → result ≡ jobs_of built_layers past (config_in p.now) event.now (insight_in plan.now.basis) plan.now.answer }
+    requires unicast { p.now.unicast.0 < 2 ^ 15 }
+    ensures value { (past : Past) (t : NodeTablesView) → IsPlanned past event.now plan.now t
+        → (config_in p.now).unicast ≡ (config_before past).unicast
+        → result ≡ jobs_of configured_layers past (config_in p.now) event.now
+        (insight_in plan.now.basis) plan.now.answer }
 {
     match event {
         Event::Net(octets) => heard_jobs(draft, p, keys, octets, plan),

@@ -1,19 +1,27 @@
-//! One event apart from its flash: its answer, what it stores, and then its jobs. What an event does to the tables in memory is done here; its
-//! records come as values, and its jobs are asked for when these are stored.
+//! One event apart from its flash: its answer, what it stores, and then its jobs. What an event does to what a node keeps
+//! in memory, its tables and its models, is done here; its records come as values, and its jobs are asked for when these
+//! are stored.
 //!
+//! - `tables`: what a node keeps in memory in a life
+//! - `models`: what the models make of an answer
 //! - `plan`: the answer and the records, with what the jobs need of the time before the records
 //! - `planning`: the plan of an event
 //! - `answers`: the answers to events that bring no octets and no time
 //! - `jobs`: the jobs of a plan
+//! - `bounds`: what the types of values in hand say
 #![tactic(auto)]
 
 mod answers;
+mod bounds;
 mod jobs;
+mod models;
 mod plan;
 mod planning;
+mod tables;
 
+pub use bounds::{are_octets, are_within};
 pub use event_records::Records;
 pub use jobs::plan_jobs;
-pub use mesh_hearing::Tables;
 pub use plan::{Basis, Plan};
 pub use planning::plan_event;
+pub use tables::NodeTables;

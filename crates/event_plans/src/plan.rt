@@ -7,6 +7,7 @@ use mesh_base::lower::Lower;
 use mesh_hearing::{AckList, NetReading, Opened, Rounds};
 use mesh_jobs::{Phases, Span};
 use mesh_types::answers::Answer;
+use node_models::{Due, MessageReplies};
 
 /// What the octets of an event were read as, and what its jobs need of the time before its records.
 #[derive(Drop)]
@@ -23,6 +24,8 @@ pub enum Basis {
         opened: Option<Opened>,
         /// The Key Refresh phases before the records.
         phases: Phases,
+        /// The replies to the message that it delivered.
+        replies: MessageReplies,
     },
     /// A beacon was heard.
     Beacon {
@@ -37,6 +40,8 @@ pub enum Basis {
         acks: AckList,
         /// The own segmented messages that send a round, as they were before.
         rounds: Rounds,
+        /// What is published then.
+        due: Due,
         /// The time before and after, and the IV state before.
         span: Span,
     },

@@ -2,11 +2,11 @@
 #![tactic(auto)]
 
 ghost use Rattle.std.specs.Prelude.{◌≡◌, ◌+◌, ◌≤◌, ◌^◌, min, [], IfOk, OnErr};
+ghost use Rattle.event_plans.specs.Memory.{IsFitFor};
 ghost use Rattle.event_plans.specs.Plans.{IsPlanned, IsSomePast, IsStanding};
 ghost use Rattle.event_plans.specs.Sending.{IsSendable};
 ghost use Rattle.event_plans.specs.declared.plan.Basis.TheVariants as B;
 ghost use Rattle.event_records.specs.Putting.{AreMoves, ArePuttable};
-ghost use Rattle.mesh_hearing.specs.Tables.{IsFit};
 ghost use Rattle.mesh_types.specs.declared.events.Event.TheVariants as E;
 ghost use Rattle.node_records.specs.Meaning.{IsSaid};
 ghost use Rattle.node_records.specs.Tables.{config_in};
@@ -14,15 +14,19 @@ ghost use Rattle.run_definitions.specs.History.{Past};
 ghost use Rattle.segment_sender.specs.Held.{IsOutgoing};
 
 use crate::answers::{begin_answer, raw_answer, send_answer};
+use crate::models::{publish_due, take_heard};
 use crate::plan::{Basis, Plan};
-use event_records::{Changes, Records, beacon_records, heard_records, tick_records};
+use crate::tables::NodeTables;
+use event_records::{Records, beacon_records, heard_records, tick_records};
 use iv_update::steps_law;
 use layer_states::sending::Outgoing;
 use mesh_base::pair::Name;
-use mesh_hearing::{Tables, tables_law};
+use mesh_hearing::tables_law;
 use mesh_jobs::{Span, held_phases};
 use mesh_types::answers::Answer;
 use mesh_types::events::Event;
+use node_layers::laws::hearing_law;
+use node_models::node_models_law;
 use node_records::Persist;
 use node_records::laws::value_law;
 use std::alloc::AllocError;
@@ -31,19 +35,23 @@ use std::alloc::AllocError;
 const MOST_TICKS: u64 = 1 << 48;
 
 // Of a network PDU heard.
-fn plan_pdu(tables: &mut Tables, p: &Persist, octets: &[u8]) -> Result<Plan, AllocError>
+fn plan_pdu(tables: &mut NodeTables, p: &Persist, octets: &[u8]) -> Result<Plan, AllocError>
     requires standing { IsSomePast p.now tables.old }
-    requires fit { IsFit tables.old p.now }
-    ensures planned { (past : Past) → IsStanding past p.now tables.old → IfOk result (λ plan. IsPlanned past (E.Net octets.now) plan tables.new) }
+    requires fit { IsFitFor tables.old p.now }
+    ensures planned { (past : Past) → IsStanding past p.now tables.old
+        → IfOk result (λ plan. IsPlanned past (E.Net octets.now) plan tables.new) }
     ensures may { IfOk result (λ plan. ArePuttable p.now plan.records) }
     ensures moves { IfOk result (λ plan. AreMoves (config_in p.now) plan.records) }
-    ensures fit { IsFit tables.new p.now }
+    ensures fit { IsFitFor tables.new p.now }
     ensures unchanged { OnErr result (tables.new ≡ tables.old) }
 {
+    // It does nothing when it runs: the proof uses what it says.
+    hearing_law();
     let phases = held_phases(p);
-    let heard = tables.hear(p, octets)?;
-    // The layers so far ask for nothing.
-    let records = heard_records(&heard.answer, &Changes::new());
+    let now = tables.hearing.ticks();
+    let heard = tables.hearing.hear(p, octets)?;
+    let taken = take_heard(&mut tables.models, p, now, &heard);
+    let records = heard_records(&heard.answer, &taken.changes);
     Ok(Plan {
         answer: heard.answer,
         records,
@@ -53,22 +61,28 @@ fn plan_pdu(tables: &mut Tables, p: &Persist, octets: &[u8]) -> Result<Plan, All
             low: heard.low,
             opened: heard.opened,
             phases,
+            replies: taken.replies,
         },
     })
 }
 
 // Of a beacon heard.
-fn plan_beacon(tables: &mut Tables, p: &Persist, octets: &[u8]) -> Plan
+fn plan_beacon(tables: &mut NodeTables, p: &Persist, octets: &[u8]) -> Plan
     requires standing { IsSomePast p.now tables.old }
+    requires fit { IsFitFor tables.old p.now }
     requires said { IsSaid p.now }
-    ensures planned { (past : Past) → IsStanding past p.now tables.old → IsPlanned past (E.Bcn octets.now) result tables.new }
+    ensures planned { (past : Past) → IsStanding past p.now tables.old
+        → IsPlanned past (E.Bcn octets.now) result tables.new }
     ensures may { ArePuttable p.now result.records }
     ensures moves { AreMoves (config_in p.now) result.records }
-    ensures keys { tables.new.keys ≡ tables.old.keys }
+    ensures fit { IsFitFor tables.new p.now }
 {
     value_law();
     steps_law();
-    let heard = tables.hear_beacon(p, octets);
+    // They do nothing when they run: the proof uses what they say.
+    hearing_law();
+    node_models_law();
+    let heard = tables.hearing.hear_beacon(p, octets);
     let records = beacon_records(p, &heard.answer);
     Plan {
         answer: heard.answer,
@@ -90,17 +104,22 @@ fn later(from: u64, ticks: u32) -> u64
 }
 
 // Of time that passed.
-fn plan_tick(tables: &mut Tables, p: &Persist, ticks: u32) -> Plan
+fn plan_tick(tables: &mut NodeTables, p: &Persist, ticks: u32) -> Plan
+    requires fit { IsFitFor tables.old p.now }
     requires said { IsSaid p.now }
-    ensures planned { (past : Past) → IsStanding past p.now tables.old → IsPlanned past (E.Tick ticks) result tables.new }
+    ensures planned { (past : Past) → IsStanding past p.now tables.old
+        → IsPlanned past (E.Tick ticks) result tables.new }
     ensures may { ArePuttable p.now result.records }
     ensures moves { AreMoves (config_in p.now) result.records }
-    ensures keys { tables.new.keys ≡ tables.old.keys }
+    ensures fit { IsFitFor tables.new p.now }
 {
-    let from = tables.ticks();
+    // It does nothing when it runs: the proof uses what it says.
+    hearing_law();
+    let from = tables.hearing.ticks();
     let to = later(from, ticks);
-    let busy = tables.is_busy();
-    let passed = tables.pass(p, ticks);
+    let busy = tables.hearing.is_busy();
+    let passed = tables.hearing.pass(p, ticks);
+    let due = publish_due(&mut tables.models, p, to, &passed.answer);
     let records = tick_records(p, from, to, busy, &passed.answer);
     Plan {
         answer: passed.answer,
@@ -108,6 +127,7 @@ fn plan_tick(tables: &mut Tables, p: &Persist, ticks: u32) -> Plan
         basis: Basis::Time {
             acks: passed.acks,
             rounds: passed.rounds,
+            due,
             span: Span { from, to, iv: p.iv },
         },
     }
@@ -125,39 +145,45 @@ fn own_plan(answer: Answer) -> Plan
 }
 
 // Of an own segmented message that begins.
-fn plan_begin(tables: &mut Tables, p: &Persist, m: &Outgoing) -> Plan
+fn plan_begin(tables: &mut NodeTables, p: &Persist, m: &Outgoing) -> Plan
+    requires fit { IsFitFor tables.old p.now }
     requires said { IsSaid p.now }
     requires outgoing { IsOutgoing m.now }
     ensures planned { (past : Past) → IsStanding past p.now tables.old
-        → IsPlanned past (E.Begin m.now.name.pair m.now.dst m.now.name.src m.now.ttl m.now.net m.now.akf m.now.aid m.now.upper) result tables.new }
+        → IsPlanned past
+        (E.Begin m.now.name.pair m.now.dst m.now.name.src m.now.ttl m.now.net m.now.akf m.now.aid m.now.upper)
+        result tables.new }
     ensures records { result.records ≡ [] }
-    ensures keys { tables.new.keys ≡ tables.old.keys }
+    ensures fit { IsFitFor tables.new p.now }
 {
     value_law();
-    // It does nothing when it runs: the proof uses what it says.
+    // They do nothing when they run: the proof uses what they say.
     tables_law();
-    own_plan(begin_answer(tables, p, m))
+    node_models_law();
+    own_plan(begin_answer(&mut tables.hearing, p, m))
 }
 
-/// The plan of an event, where the records before it say `p`, and the tables with this event. An error says that memory ran out, and then
-/// the tables are as before.
+/// The plan of an event, where the records before it say `p`, and what is kept in memory with this event. An error says
+/// that memory ran out, and then all is as before.
 ///
-/// `p` and the tables stand for some past, and the event is one that the node can send. Each record of the plan may be put behind those before
-/// it, and each Numbers record is a move to an IV state that may follow.
-pub fn plan_event(tables: &mut Tables, p: &Persist, event: &Event) -> Result<Plan, AllocError>
+/// `p` and what is kept stand for some past of a node that is whole, and the event is one that the node can send. Each
+/// record of the plan may be put behind those before it, and each Numbers record is a move to an IV state that may follow.
+pub fn plan_event(tables: &mut NodeTables, p: &Persist, event: &Event) -> Result<Plan, AllocError>
     requires standing { IsSomePast p.now tables.old }
-    requires fit { IsFit tables.old p.now }
+    requires fit { IsFitFor tables.old p.now }
     requires said { IsSaid p.now }
     requires sendable { IsSendable (config_in p.now) event.now }
-    ensures planned { (past : Past) → IsStanding past p.now tables.old → IfOk result (λ plan. IsPlanned past event.now plan tables.new) }
+    ensures planned { (past : Past) → IsStanding past p.now tables.old
+        → IfOk result (λ plan. IsPlanned past event.now plan tables.new) }
     ensures may { IfOk result (λ plan. ArePuttable p.now plan.records) }
     ensures moves { IfOk result (λ plan. AreMoves (config_in p.now) plan.records) }
-    ensures fit { IsFit tables.new p.now }
+    ensures fit { IsFitFor tables.new p.now }
     ensures unchanged { OnErr result (tables.new ≡ tables.old) }
 {
     value_law();
-    // It does nothing when it runs: the proof uses what it says.
+    // They do nothing when they run: the proof uses what they say.
     tables_law();
+    node_models_law();
     match event {
         Event::Net(octets) => plan_pdu(tables, p, octets.as_slice()),
         Event::Bcn(octets) => Ok(plan_beacon(tables, p, octets.as_slice())),

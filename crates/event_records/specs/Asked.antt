@@ -9,5 +9,6 @@ use Rattle.run_definitions.specs.Stores.{asked, message_of}
 
 -- These are the records that a delivered message asks for; no other answer has any.
 abbrev pub AreAskedFor : Layers → Past → Insight → Answer → List StoreRecord → Type 0
-AreAskedFor layers past insight (A.Delivered name dst key payload) changes = changes ≡ asked layers past (message_of insight name dst)
+AreAskedFor layers past insight (A.Delivered name dst key payload) changes =
+    changes ≡ asked layers past (message_of insight name dst)
 AreAskedFor layers past insight _ changes = ⊤

@@ -16,7 +16,8 @@ use Rattle.store_definitions.specs.Ranges.{IsInRange}
 abbrev pub ArePuttable : Persist → List StoreRecord → Type 0
 ArePuttable p [] = ⊤
 ArePuttable p (item ∷ items) =
-    IsInRange item × IsNotBelow p item × (IsFull p item → ⊥) × ((q : Persist) → config_in q ≡ changed (config_in p) item → ArePuttable q items)
+    IsInRange item × IsNotBelow p item × (IsFull p item → ⊥)
+    × ((q : Persist) → config_in q ≡ changed (config_in p) item → ArePuttable q items)
 
 -- A record is that of a new IV state that may follow: neither the known IV Index nor the one to send with falls, and the mark is that of the move.
 pub record IsMoveTo (c : Config) (to : IvState) (item : StoreRecord) : Type 0 where
@@ -28,7 +29,8 @@ pub record IsMoveTo (c : Config) (to : IvState) (item : StoreRecord) : Type 0 wh
 -- a Numbers record is the one of a move to the state that it says
 abbrev pub IsMove : Config → StoreRecord → Type 0
 IsMove c (R.Numbers current progress mark hours since) =
-    IsMoveTo c (record { current = current; progress = progress; hours = hours; since = since }) (R.Numbers current progress mark hours since)
+    IsMoveTo c (record { current = current; progress = progress; hours = hours; since = since })
+    (R.Numbers current progress mark hours since)
 IsMove c _ = ⊤
 
 -- each is, over what those before it leave

@@ -74,7 +74,8 @@ fn step_and_phase(p: &Persist, index: u16, key: KeyStep, iv: &IvStep) -> Records
 pub fn beacon_records(p: &Persist, answer: &Answer) -> Records
     requires said { IsSaid p.now }
     requires step { IsStepFrom p.now.iv answer.now }
-    ensures value { (layers : Layers) (past : Past) (octets : List ℕ) (insight : Insight) → config_in p.now ≡ config_before past
+    ensures value { (layers : Layers) (past : Past) (octets : List ℕ) (insight : Insight)
+        → config_in p.now ≡ config_before past
         → result ≡ stores layers past (E.Bcn octets) insight answer.now }
     ensures may { ArePuttable p.now result }
     ensures moves { AreMoves (config_in p.now) result }

@@ -19,14 +19,16 @@ ghost use Rattle.store_definitions.specs.Config.{Config, config_of};
 /// each beacon that is read under these keys.
 pub fn index_law()
     ensures nets { (p : Persist) → IsSaid p → All HasIndexWidth p.nets }
-    ensures read { (p : Persist) (octets : List ℕ) (b : Beacon) → IsSaid p → ReadsBeacon (beacon_keys p.nets) octets b → b.index ≤ 0xfff }
+    ensures read { (p : Persist) (octets : List ℕ) (b : Beacon) → IsSaid p → ReadsBeacon (beacon_keys p.nets) octets b
+        → b.index ≤ 0xfff }
 {}
 
 /// The law of changes, for proofs: it does nothing. Changes that may be stored behind some records may be put over each value that says the
 /// same as these but for the replay list; and they are moves, as none is a Numbers record. That what a message asks for are such is the layers'
 /// part: of a whole node within the limits of the store `layer_laws` says it (`safe`, `storable`).
 pub fn changes_law()
-    ensures may { (before changes : List StoreRecord) (p : Persist) → config_in p ≡ config_of before → All IsChange changes
+    ensures may { (before changes : List StoreRecord) (p : Persist) → config_in p ≡ config_of before
+        → All IsChange changes
         → AreStorable before changes → ArePuttable p changes }
     ensures moves { (c : Config) (changes : List StoreRecord) → All IsChange changes → AreMoves c changes }
 {}

@@ -42,7 +42,8 @@ fn named_records(first: Name, changes: &Changes) -> Records
 #[tactic(auto, unfolding(run_definitions::specs::Stores::stores))]
 pub fn heard_records(answer: &Answer, changes: &Changes) -> Records
     requires { IfSome (accepted answer.now) (λ (name : Name). name.pair.seq < 2 ^ 24) }
-    ensures value { (layers : Layers) (past : Past) (octets : List ℕ) (insight : Insight) → AreAskedFor layers past insight answer.now changes.now
+    ensures value { (layers : Layers) (past : Past) (octets : List ℕ) (insight : Insight)
+        → AreAskedFor layers past insight answer.now changes.now
         → result ≡ stores layers past (E.Net octets) insight answer.now }
     ensures ranges { All IsInRange changes.now → All IsInRange result }
     ensures may { (p : Persist) → IfSome (accepted answer.now) (λ (name : Name). IsFull p (R.Replay name None) → ⊥)

@@ -23,7 +23,8 @@ use record_types::records::StoreRecord;
 fn mark_under(p: &Persist, s: &IvState) -> u64
     requires old { HasTransmit p.now.iv }
     requires new { HasTransmit s.now }
-    ensures { result ≡ (if nat_lt (transmit_of p.now.iv) (transmit_of s.now) then transmit_of s.now * 2 ^ 25 else p.now.mark) }
+    ensures { result
+        ≡ (if nat_lt (transmit_of p.now.iv) (transmit_of s.now) then transmit_of s.now * 2 ^ 25 else p.now.mark) }
 {
     let transmit = s.transmit();
     if p.iv.transmit() < transmit {
@@ -45,9 +46,11 @@ pub(crate) fn moved(p: &Persist, s: &IvState) -> StoreRecord
     requires old { HasTransmit p.now.iv }
     requires new { HasTransmit s.now }
     ensures value { result ≡ moved_in (config_in p.now) s.now }
-    ensures may { IsMark p.now.iv p.now.mark → IsLater p.now.iv s.now → (q : Persist) → q.iv.current ≡ p.now.iv.current → q.mark ≡ p.now.mark
+    ensures may { IsMark p.now.iv p.now.mark → IsLater p.now.iv s.now → (q : Persist) → q.iv.current ≡ p.now.iv.current
+        → q.mark ≡ p.now.mark
         → ArePuttable q (result ∷ []) }
-    ensures moves { IsLater p.now.iv s.now → (c : Config) → c.iv.current ≡ p.now.iv.current → c.iv.progress ≡ p.now.iv.progress → c.mark ≡ p.now.mark
+    ensures moves { IsLater p.now.iv s.now → (c : Config) → c.iv.current ≡ p.now.iv.current
+        → c.iv.progress ≡ p.now.iv.progress → c.mark ≡ p.now.mark
         → AreMoves c (result ∷ []) }
 {
     in_widths(s.current, s.hours, s.since);
@@ -67,7 +70,8 @@ pub(crate) fn step_record(p: &Persist, step: &IvStep) -> Option<StoreRecord>
     ensures value { option_to_list result ≡ step_records (config_in p.now) step.now }
     ensures may { IsMark p.now.iv p.now.mark → (q : Persist) → q.iv.current ≡ p.now.iv.current → q.mark ≡ p.now.mark
         → ArePuttable q (option_to_list result) }
-    ensures moves { (c : Config) → c.iv.current ≡ p.now.iv.current → c.iv.progress ≡ p.now.iv.progress → c.mark ≡ p.now.mark
+    ensures moves { (c : Config) → c.iv.current ≡ p.now.iv.current → c.iv.progress ≡ p.now.iv.progress
+        → c.mark ≡ p.now.mark
         → AreMoves c (option_to_list result) }
 {
     match step {

@@ -64,8 +64,10 @@ fn hour_records(p: &Persist, passed: u32, busy: bool) -> Records
 pub fn tick_records(p: &Persist, from: u64, to: u64, busy: bool, answer: &Answer) -> Records
     requires said { IsSaid p.now }
     requires time { to ≤ 2 ^ 48 }
-    ensures value { (layers : Layers) (past : Past) (ticks : ℕ) (insight : Insight) → config_in p.now ≡ config_before past → from ≡ now_of past.told
-        → to ≡ later past ticks → busy ≡ is_busy layers past → result ≡ stores layers past (E.Tick ticks) insight answer.now }
+    ensures value { (layers : Layers) (past : Past) (ticks : ℕ) (insight : Insight)
+        → config_in p.now ≡ config_before past → from ≡ now_of past.told
+        → to ≡ later past ticks → busy ≡ is_busy layers past
+        → result ≡ stores layers past (E.Tick ticks) insight answer.now }
     ensures may { ArePuttable p.now result }
     ensures moves { AreMoves (config_in p.now) result }
 {

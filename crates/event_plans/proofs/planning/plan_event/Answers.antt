@@ -15,14 +15,14 @@ returns-in-Send-clause-planned c past h =
     let t = c.args.tables.now in
     subst (λ (e : Event). IsPlanned past e c.own_plan.result t) (sym c.in-Send.is)
     (subst (λ (plan : Plan). IsPlanned past (E.Send c.in-Send.element c.in-Send.dst c.in-Send.ttl c.in-Send.key c.in-Send.payload) plan t) (sym (c.own_plan.ensures ∙ ap (λ (a : Answer). own_plan a) c.send_answer.ensures.value))
-    (send_planned c.tables_law.ensures.more past c.args.p.now t c.in-Send.element c.in-Send.dst c.in-Send.ttl c.in-Send.key c.in-Send.payload h))
+    (send_planned (record { tables = c.tables_law.ensures.more; models = c.node_models_law.ensures.more }) past c.args.p.now t c.in-Send.element c.in-Send.dst c.in-Send.ttl c.in-Send.key c.in-Send.payload h))
 
 pub returns-in-Raw-clause-planned : goal.returns-in-Raw-clause-planned
 returns-in-Raw-clause-planned c past h =
     let t = c.args.tables.now in
     subst (λ (e : Event). IsPlanned past e c.own_plan-in-Raw.result t) (sym c.in-Raw.is)
     (subst (λ (plan : Plan). IsPlanned past (E.Raw c.in-Raw.dst c.in-Raw.ttl c.in-Raw.tpdu) plan t) (sym (c.own_plan-in-Raw.ensures ∙ ap (λ (a : Answer). own_plan a) c.raw_answer.ensures.value))
-    (raw_planned c.tables_law.ensures.more past c.args.p.now t c.in-Raw.dst c.in-Raw.ttl c.in-Raw.tpdu h))
+    (raw_planned (record { tables = c.tables_law.ensures.more; models = c.node_models_law.ensures.more }) past c.args.p.now t c.in-Raw.dst c.in-Raw.ttl c.in-Raw.tpdu h))
 
 pub plan_begin-requires-clause-outgoing : goal.plan_begin-requires-clause-outgoing
 plan_begin-requires-clause-outgoing c =
@@ -43,4 +43,4 @@ returns-in-Kept-clause-planned c past h =
     let t = c.args.tables.now in
     subst (λ (e : Event). IsPlanned past e c.own_plan-in-Kept.result t) (sym c.in-Kept.is)
     (subst (λ (plan : Plan). IsPlanned past (E.Kept c.in-Kept.lpn c.in-Kept.fsn c.in-Kept.name c.in-Kept.pdu) plan t) (sym c.own_plan-in-Kept.ensures)
-    (kept_planned c.tables_law.ensures.more past t c.in-Kept.lpn c.in-Kept.fsn c.in-Kept.name c.in-Kept.pdu h.tables))
+    (kept_planned (record { tables = c.tables_law.ensures.more; models = c.node_models_law.ensures.more }) past t c.in-Kept.lpn c.in-Kept.fsn c.in-Kept.name c.in-Kept.pdu h.tables))

@@ -1,0 +1,63 @@
+//! What a node keeps in memory in a life.
+#![tactic(auto)]
+
+ghost use Rattle.std.specs.Prelude.{◌≡◌, List, [], IfOk};
+ghost use Rattle.event_plans.specs.Memory.{AreNodeTablesOf, IsFitFor};
+ghost use Rattle.mesh_reading.specs.Held.{AreHeldKeys, held_in};
+ghost use Rattle.node_records.specs.Meaning.{IsMeaningOf, IsSaid};
+ghost use Rattle.node_records.specs.Tables.{config_in};
+ghost use Rattle.run_definitions.specs.History.{Past};
+
+use mesh_hearing::{Keys, Tables};
+use node_models::NodeModels;
+use node_records::Persist;
+use std::alloc::{AllocError, Global};
+use std::marker::Model;
+
+/// What a node keeps in memory in a life: its keys and the tables of what was heard and what is sent, and its models.
+#[derive(Drop)]
+pub struct NodeTables {
+    pub(crate) hearing: Tables,
+    pub(crate) models: NodeModels,
+}
+
+impl Model for NodeTables {
+    ghost use Rattle.event_plans.specs.Memory.{NodeTablesView};
+
+    ghost Value = { NodeTablesView };
+
+    ghost view = { λ t. record { hearing = t.hearing; models = t.models } };
+}
+
+impl NodeTables {
+    /// Those of a life that opens over a store of this value. An error says that memory ran out.
+    pub fn new(alloc: Global, p: &Persist) -> Result<NodeTables, AllocError>
+        requires keys { AreHeldKeys (config_in p.now) }
+        requires said { IsSaid p.now }
+        ensures opened { IfOk result (λ t. (past : Past) → IsMeaningOf past.records p.now → past.told ≡ []
+            → AreNodeTablesOf t past) }
+        ensures fit { IfOk result (λ t. IsFitFor t p.now) }
+    {
+        let hearing = Tables::new(alloc, p)?;
+        Ok(NodeTables {
+            hearing,
+            models: NodeModels::open(p),
+        })
+    }
+
+    /// The keys derived anew from a store of this value. The rest stays.
+    pub fn renew_keys(&mut self, p: &Persist)
+        requires keys { AreHeldKeys (config_in p.now) }
+        ensures value { self.new
+            ≡ record self.old { hearing = record self.old.hearing { keys = held_in (config_in p.now) } } }
+    {
+        self.hearing.renew_keys(p);
+    }
+
+    /// The keys that the node holds.
+    pub fn keys(&self) -> &Keys
+        ensures value { result.now ≡ self.now.hearing.keys }
+    {
+        self.hearing.keys()
+    }
+}
