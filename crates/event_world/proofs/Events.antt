@@ -1,15 +1,15 @@
 -- The events of a node, as steps of the world.
-use Rattle.std.proofs.Common.{◌≡◌, ◌⊎◌, inl, inr, ℕ, ◌+◌, Bool, true, false, cond, eqb, refl, List, [], ◌∷◌, ◌++◌, Option, Some, None, ap, ◌∙◌, sym, subst, arith, append-nil}
+use Rattle.std.proofs.Common.{◌≡◌, ◌⊎◌, inl, inr, ℕ, ◌+◌, Bool, true, false, cond, eqb, refl, List, [], ◌∷◌, ◌++◌, Option, Some, None, ap, ◌∙◌, sym, subst, append-nil}
 use Rattle.std.specs.Bool.{⊤}
-use Rattle.std.specs.Prelude.{All, IfSome, IsTrue, map}
+use Rattle.std.specs.Prelude.{All, IsTrue, map}
 use Rattle.std.specs.List.{AllByRecursion as Every}
 use Rattle.std.specs.Option.{option_to_list}
-use Rattle.event_plans.proofs.Accepts.{replay_of, stores_replay}
 use Rattle.event_records.specs.Putting.{AreMoves}
 use Rattle.event_world.specs.Stepping.{event_steps, records_steps}
+use Rattle.event_world.proofs.Changes.{changes_are, changes_in, early, early_means, iv_after, mark_after, named_with, no_steps, stores_named}
 use Rattle.event_world.proofs.Walking.{IsNameless, IsWorldOver, Stays, Walks, over, under, walk}
 use Rattle.mesh_base.specs.Pairs.{is_newer}
-use Rattle.mesh_base.specs.declared.beacon.Beacon.{Beacon}
+use Rattle.mesh_base.specs.declared.iv_state.IvState.{IvState}
 use Rattle.mesh_base.specs.declared.iv_state.IvStep.{IvStep}
 use Rattle.mesh_base.specs.declared.iv_state.IvStep.TheVariants as I
 use Rattle.mesh_base.specs.declared.pair.Name.{Name}
@@ -22,10 +22,10 @@ use Rattle.mesh_types.specs.declared.events.Event.{Event}
 use Rattle.mesh_types.specs.declared.events.Event.TheVariants as E
 use Rattle.mesh_world.specs.World.{after_all, World, WorldStep}
 use Rattle.mesh_world.specs.World.WorldStep.{Accept, Deliver}
-use Rattle.node_layers.specs.BuiltLayers.{built_layers}
+use Rattle.node_layers.specs.ConfiguredLayers.{configured_layers}
 use Rattle.node_records.proofs.Said.{iv_of}
 use Rattle.node_records.specs.Meaning.{IsMeaningOf}
-use Rattle.node_records.specs.Tables.{config_in, entry_in}
+use Rattle.node_records.specs.Tables.{config_in, entry_in, pair_of}
 use Rattle.node_records.specs.declared.persist.Persist.{Persist}
 use Rattle.record_types.specs.declared.records.StoreRecord.{StoreRecord}
 use Rattle.record_types.specs.declared.records.StoreRecord.TheVariants as R
@@ -35,11 +35,12 @@ use Rattle.run_definitions.specs.History.{Insight, OfBeacon, OfNothing, OfPdu, O
 use Rattle.run_definitions.specs.Readings.{Sees, sees_pdu, sees_beacon, sees_nothing, IsReading}
 use Rattle.run_definitions.specs.Stores.{hours_passed, hours_step, phase_records, step_records, stores}
 use Rattle.run_definitions.specs.Uses.{accepted}
+use Rattle.run_safety.specs.Safety.{AreSafe, IsChange}
 use Rattle.run_safety.proofs.Accepting.{Silent, silent, beacon_silent, nothing_accepted, nothing_silent, pdu_accepts, reset_accepts, unless_silent}
 use Rattle.store_definitions.specs.Config.{Config, changed, config_of}
-use Rattle.store_definitions.specs.Entries.{entry_of}
+use Rattle.store_definitions.specs.Entries.{entry_of, unexpired}
 use Rattle.store_definitions.specs.Ranges.{IsInRange}
-use Rattle.store_world.proofs.Steps.{accept, config_after}
+use Rattle.store_world.proofs.Steps.{accept}
 use Rattle.store_world.specs.Standing.{GoesBy, IsAboveKept, IsWorldOf}
 use Rattle.mesh_base.specs.declared.lower.Lower.{Lower}
 
@@ -59,30 +60,30 @@ phase_nameless c index S.Phase0 iv = (tt, step_nameless c iv)
 
 -- it says no name, and its answer accepts none
 pub record IsSilent (past : Past) (event : Event) (answer : Answer) (i : Insight) : Type 0 where
-  pub nameless : Every IsNameless (stores built_layers past event i answer)
+  pub nameless : Every IsNameless (stores configured_layers past event i answer)
   pub none : accepted answer ≡ None
 
-bcn_silent : (past : Past) (octets : List ℕ) (i : Insight) → IsSilent past (E.Bcn octets) (answer_of built_layers past (E.Bcn octets) i) i
+bcn_silent : (past : Past) (octets : List ℕ) (i : Insight) → IsSilent past (E.Bcn octets) (answer_of configured_layers past (E.Bcn octets) i) i
 unfolding answer_of stores
 bcn_silent past octets i = pick (config_before past).reset i
   where
-    pick : (reset : Bool) (i : Insight) → IsSilent past (E.Bcn octets) (cond reset A.Reset (beacon_answer built_layers past i)) i
+    pick : (reset : Bool) (i : Insight) → IsSilent past (E.Bcn octets) (cond reset A.Reset (beacon_answer configured_layers past i)) i
     pick true i = record { nameless = tt; none = refl }
     pick false (OfBeacon (Some b)) = record { nameless = phase_nameless (config_before past) b.index _ _; none = refl }
     pick false (OfBeacon None) = record { nameless = tt; none = refl }
     pick false (OfPdu r low opening) = record { nameless = tt; none = refl }
     pick false OfNothing = record { nameless = tt; none = refl }
 
-ticks_nameless : (past : Past) (ticks : ℕ) (i : Insight) (a : Answer) → Every IsNameless (stores built_layers past (E.Tick ticks) i a)
+ticks_nameless : (past : Past) (ticks : ℕ) (i : Insight) (a : Answer) → Every IsNameless (stores configured_layers past (E.Tick ticks) i a)
 unfolding stores
 ticks_nameless past ticks i (A.Ticked now) = pick (eqb (hours_passed past ticks) 0)
   where
-    pick : (b : Bool) → Every IsNameless (cond b [] (R.Hour (hours_step built_layers past ticks).0.hours (hours_step built_layers past ticks).0.since ∷ step_records (config_before past) (hours_step built_layers past ticks).1))
+    pick : (b : Bool) → Every IsNameless (cond b [] (R.Hour (hours_step configured_layers past ticks).0.hours (hours_step configured_layers past ticks).0.since ∷ step_records (config_before past) (hours_step configured_layers past ticks).1))
     pick true = tt
-    pick false = (tt, step_nameless (config_before past) (hours_step built_layers past ticks).1)
+    pick false = (tt, step_nameless (config_before past) (hours_step configured_layers past ticks).1)
 ticks_nameless past ticks i _ = tt
 
-tick_silent : (past : Past) (ticks : ℕ) (i : Insight) → IsSilent past (E.Tick ticks) (answer_of built_layers past (E.Tick ticks) i) i
+tick_silent : (past : Past) (ticks : ℕ) (i : Insight) → IsSilent past (E.Tick ticks) (answer_of configured_layers past (E.Tick ticks) i) i
 unfolding answer_of
 tick_silent past ticks i = record { nameless = ticks_nameless past ticks i _; none = pick (config_before past).reset }
   where
@@ -100,18 +101,18 @@ IsOwn (E.Bcn octets) = ⊥
 IsOwn (E.Tick ticks) = ⊥
 IsOwn _ = ⊤
 
-own_silent : (past : Past) (event : Event) (i : Insight) → IsOwn event → IsSilent past event (answer_of built_layers past event i) i
+own_silent : (past : Past) (event : Event) (i : Insight) → IsOwn event → IsSilent past event (answer_of configured_layers past event i) i
 unfolding answer_of stores
 own_silent past (E.Net octets) i h = absurd h
 own_silent past (E.Bcn octets) i h = absurd h
 own_silent past (E.Tick ticks) i h = absurd h
 own_silent past (E.Send element dst ttl key payload) i h =
-    record { nameless = tt; none = silent_none _ (nothing_silent built_layers past (E.Send element dst ttl key payload)) }
-own_silent past (E.Raw dst ttl tpdu) i h = record { nameless = tt; none = silent_none _ (nothing_silent built_layers past (E.Raw dst ttl tpdu)) }
+    record { nameless = tt; none = silent_none _ (nothing_silent configured_layers past (E.Send element dst ttl key payload)) }
+own_silent past (E.Raw dst ttl tpdu) i h = record { nameless = tt; none = silent_none _ (nothing_silent configured_layers past (E.Raw dst ttl tpdu)) }
 own_silent past (E.Begin pair dst src ttl net akf aid upper) i h =
-    record { nameless = tt; none = silent_none _ (nothing_silent built_layers past (E.Begin pair dst src ttl net akf aid upper)) }
+    record { nameless = tt; none = silent_none _ (nothing_silent configured_layers past (E.Begin pair dst src ttl net akf aid upper)) }
 own_silent past (E.Kept lpn fsn name pdu) i h =
-    record { nameless = tt; none = silent_none _ (nothing_silent built_layers past (E.Kept lpn fsn name pdu)) }
+    record { nameless = tt; none = silent_none _ (nothing_silent configured_layers past (E.Kept lpn fsn name pdu)) }
 
 -- An accepted message: its IV Index is read, and its name is newer than the entry of its source.
 record IsFresh (past : Past) (n : Name) : Type 0 where
@@ -123,21 +124,21 @@ under_current iv heard current same (inl e) = inl (same ∙ e)
 under_current iv heard current same (inr e) = inr (ap (λ n. n + 1) same ∙ e)
 
 fresh_reading : (past : Past) (octets : List ℕ) (reading : Option Reading) (low : Option Lower) (opening : Option Opening) (n : Name)
-    → IsReading built_layers past octets reading → accepted (pdu_answer built_layers past (OfPdu reading low opening)) ≡ Some n → IsFresh past n
+    → IsReading configured_layers past octets reading → accepted (pdu_answer configured_layers past (OfPdu reading low opening)) ≡ Some n → IsFresh past n
 fresh_reading past octets None low opening n h e = absurd cc
 fresh_reading past octets (Some r) low opening n h e =
-    let from : AcceptedFrom past r n = pdu_accepts built_layers past r low opening n e in
+    let from : AcceptedFrom past r n = pdu_accepts configured_layers past r low opening n e in
     record {
       read = under_current n.pair.iv r.fields.iv (config_before past).iv.current from.iv h.1.reads.iv.0;
       newer = from.newer;
     }
 
-fresh : (past : Past) (event : Event) (i : Insight) (n : Name) → Sees built_layers past event i → accepted (answer_of built_layers past event i) ≡ Some n → IsFresh past n
+fresh : (past : Past) (event : Event) (i : Insight) (n : Name) → Sees configured_layers past event i → accepted (answer_of configured_layers past event i) ≡ Some n → IsFresh past n
 unfolding answer_of
 fresh past _ _ n (sees_pdu {octets = octets} {reading = reading} {low = low} {opening = opening} reset r l o) e =
     fresh_reading past octets reading low opening n r (reset_accepts _ _ n e)
-fresh past _ _ n (sees_beacon {b = b} reset k) e = absurd (nothing_accepted _ n (unless_silent past _ (beacon_silent built_layers past b)) e)
-fresh past _ _ n (sees_nothing {event = event} h) e = absurd (nothing_accepted _ n (nothing_silent built_layers past event) e)
+fresh past _ _ n (sees_beacon {b = b} reset k) e = absurd (nothing_accepted _ n (unless_silent past _ (beacon_silent configured_layers past b)) e)
+fresh past _ _ n (sees_nothing {event = event} h) e = absurd (nothing_accepted _ n (nothing_silent configured_layers past event) e)
 
 above : (kept : Option Pair) (p : Pair) → replayed kept p ≡ None → IsAboveKept kept p
 above None p e = tt
@@ -147,7 +148,7 @@ above (Some kept) p e = by_test (is_newer p kept) refl e
     by_test true is e = is
     by_test false is e = absurd cc
 
-module _ (w : World) (past : Past) (p q : Persist) (world : IsWorldOf w p p.mark) (meaning : IsMeaningOf past.records p) (ranges : All IsInRange past.records) where
+module _ (safe : AreSafe configured_layers) (w : World) (past : Past) (p q : Persist) (world : IsWorldOf w p p.mark) (meaning : IsMeaningOf past.records p) (ranges : All IsInRange past.records) where
   same : config_in p ≡ config_of past.records
   same = meaning.config
 
@@ -172,43 +173,55 @@ module _ (w : World) (past : Past) (p q : Persist) (world : IsWorldOf w p p.mark
       subst (λ (o : Option Name). GoesBy (records_steps (config_in p) items ++ map Deliver (option_to_list o)) w q q.mark) (sym none)
       (subst (λ ss. GoesBy ss w q q.mark) (sym (append-nil (records_steps (config_in p) items))) there)
 
-  -- an accepted message
-  name_goes : (n : Name) (answer : Answer) → accepted answer ≡ Some n → IsFresh past n → IsMeaningOf (past.records ++ R.Replay n None ∷ []) q
-      → GoesBy (event_steps (config_in p) (R.Replay n None ∷ []) answer) w q q.mark
+  -- an accepted message, and the changes that it asks for
+  name_goes : (n : Name) (changes : List StoreRecord) (answer : Answer) → accepted answer ≡ Some n → Every IsChange changes → IsFresh past n
+      → IsMeaningOf (past.records ++ R.Replay n None ∷ changes) q
+      → GoesBy (event_steps (config_in p) (R.Replay n None ∷ changes) answer) w q q.mark
   unfolding changed
-  name_goes n answer taken is_fresh after =
+  name_goes n changes answer taken are is_fresh after =
       let current : (config_before past).iv.current ≡ p.iv.current = sym (ap (λ (c : Config). c.iv.current) same) in
       let is_above : IsAboveKept (entry_in p n.src.0) n.pair = subst (λ (o : Option Pair). IsAboveKept o n.pair) (sym (meaning.entries n.src.0)) (above (entry_of past.records n.src.0) n.pair is_fresh.newer) in
       let is_read : (n.pair.iv ≡ p.iv.current) ⊎ (n.pair.iv + 1 ≡ p.iv.current) = subst (λ m. (n.pair.iv ≡ m) ⊎ (n.pair.iv + 1 ≡ m)) current is_fresh.read in
-      let first : GoesBy (Accept n ∷ []) w q p.mark = accept w p q p.mark past.records n world meaning after is_read is_above in
-      let mark : p.mark ≡ q.mark = sym (ap (λ (c : Config). c.mark) (config_after past.records (R.Replay n None) p q meaning after)) in
-      subst (λ (o : Option Name). GoesBy (Accept n ∷ [] ++ map Deliver (option_to_list o)) w q q.mark) (sym taken) (record {
+      let between : Persist = early past.records changes n p q meaning after are in
+      let first : GoesBy (Accept n ∷ []) w between p.mark =
+      accept w p between p.mark past.records n world meaning (early_means past.records changes n p q meaning after are) is_read is_above in
+      let iv : p.iv ≡ q.iv = sym (iv_after past.records changes n p q meaning after are) in
+      let mark : p.mark ≡ q.mark = sym (mark_after past.records changes n p q meaning after are) in
+      let goes : GoesBy (Accept n ∷ Deliver n ∷ []) w q q.mark = record {
         allowed = (first.allowed.0, (refl, tt));
-        world = record { current = first.world.current; kept = first.world.kept; mark = first.world.mark ∙ mark; entries = first.world.entries };
-      })
+        world = record {
+          current = first.world.current ∙ ap (λ (s : IvState). s.current) iv;
+          kept = first.world.kept ∙ mark;
+          mark = first.world.mark ∙ mark;
+          entries = λ src. first.world.entries src ∙ ap (λ (s : IvState). unexpired s.current (pair_of q.replay src.0)) iv;
+        };
+      } in
+      subst (λ (o : Option Name). GoesBy (records_steps (config_in p) (R.Replay n None ∷ changes) ++ map Deliver (option_to_list o)) w q q.mark) (sym taken)
+      (subst (λ l. GoesBy (Accept n ∷ (l ++ Deliver n ∷ [])) w q q.mark) (sym (no_steps (config_in p) changes are)) goes)
 
   -- a network PDU heard, by what its answer accepts
-  net_goes : (octets : List ℕ) (i : Insight) (answer : Answer) (o : Option Name) → accepted answer ≡ o
+  net_goes : (changes : List StoreRecord) (answer : Answer) (o : Option Name) → accepted answer ≡ o → Every IsChange changes
       → ((n : Name) → accepted answer ≡ Some n → IsFresh past n)
-      → IsMeaningOf (past.records ++ replay_of o) q → GoesBy (event_steps (config_in p) (replay_of o) answer) w q q.mark
-  net_goes octets i answer None none is_fresh after = silent_goes [] answer tt none tt after
-  net_goes octets i answer (Some n) taken is_fresh after = name_goes n answer taken (is_fresh n taken) after
+      → IsMeaningOf (past.records ++ named_with o changes) q → GoesBy (event_steps (config_in p) (named_with o changes) answer) w q q.mark
+  net_goes changes answer None none are is_fresh after = silent_goes [] answer tt none tt after
+  net_goes changes answer (Some n) taken are is_fresh after = name_goes n changes answer taken are (is_fresh n taken) after
 
-  by_silence : (event : Event) (i : Insight) → IsSilent past event (answer_of built_layers past event i) i
-      → AreMoves (config_in p) (stores built_layers past event i (answer_of built_layers past event i))
-      → IsMeaningOf (past.records ++ stores built_layers past event i (answer_of built_layers past event i)) q
-      → GoesBy (event_steps (config_in p) (stores built_layers past event i (answer_of built_layers past event i)) (answer_of built_layers past event i)) w q q.mark
+  by_silence : (event : Event) (i : Insight) → IsSilent past event (answer_of configured_layers past event i) i
+      → AreMoves (config_in p) (stores configured_layers past event i (answer_of configured_layers past event i))
+      → IsMeaningOf (past.records ++ stores configured_layers past event i (answer_of configured_layers past event i)) q
+      → GoesBy (event_steps (config_in p) (stores configured_layers past event i (answer_of configured_layers past event i)) (answer_of configured_layers past event i)) w q q.mark
   by_silence event i h moves after = silent_goes _ _ h.nameless h.none moves after
 
-  goes_now : (event : Event) (i : Insight) → Sees built_layers past event i
-      → AreMoves (config_in p) (stores built_layers past event i (answer_of built_layers past event i))
-      → IsMeaningOf (past.records ++ stores built_layers past event i (answer_of built_layers past event i)) q
-      → GoesBy (event_steps (config_in p) (stores built_layers past event i (answer_of built_layers past event i)) (answer_of built_layers past event i)) w q q.mark
+  goes_now : (event : Event) (i : Insight) → Sees configured_layers past event i
+      → AreMoves (config_in p) (stores configured_layers past event i (answer_of configured_layers past event i))
+      → IsMeaningOf (past.records ++ stores configured_layers past event i (answer_of configured_layers past event i)) q
+      → GoesBy (event_steps (config_in p) (stores configured_layers past event i (answer_of configured_layers past event i)) (answer_of configured_layers past event i)) w q q.mark
   goes_now (E.Net octets) i sees moves after =
-      let answer : Answer = answer_of built_layers past (E.Net octets) i in
-      let is : stores built_layers past (E.Net octets) i answer ≡ replay_of (accepted answer) = stores_replay past octets i answer in
+      let answer : Answer = answer_of configured_layers past (E.Net octets) i in
+      let changes : List StoreRecord = changes_in past i answer in
+      let is : stores configured_layers past (E.Net octets) i answer ≡ named_with (accepted answer) changes = stores_named past octets i answer in
       subst (λ items. GoesBy (event_steps (config_in p) items answer) w q q.mark) (sym is)
-      (net_goes octets i answer (accepted answer) refl (λ n e. fresh past (E.Net octets) i n sees e)
+      (net_goes changes answer (accepted answer) refl (changes_are safe past i answer) (λ n e. fresh past (E.Net octets) i n sees e)
       (subst (λ items. IsMeaningOf (past.records ++ items) q) is after))
   goes_now (E.Bcn octets) i sees moves after = by_silence (E.Bcn octets) i (bcn_silent past octets i) moves after
   goes_now (E.Tick ticks) i sees moves after = by_silence (E.Tick ticks) i (tick_silent past ticks i) moves after
@@ -220,10 +233,10 @@ module _ (w : World) (past : Past) (p q : Persist) (world : IsWorldOf w p p.mark
   goes_now (E.Kept lpn fsn name pdu) i sees moves after =
       by_silence (E.Kept lpn fsn name pdu) i (own_silent past (E.Kept lpn fsn name pdu) i tt) moves after
 
-  pub event_goes : (event : Event) (i : Insight) (answer : Answer) → Sees built_layers past event i → answer ≡ answer_of built_layers past event i
-      → AreMoves (config_in p) (stores built_layers past event i answer) → IsMeaningOf (past.records ++ stores built_layers past event i answer) q
-      → GoesBy (event_steps (config_in p) (stores built_layers past event i answer) answer) w q q.mark
+  pub event_goes : (event : Event) (i : Insight) (answer : Answer) → Sees configured_layers past event i → answer ≡ answer_of configured_layers past event i
+      → AreMoves (config_in p) (stores configured_layers past event i answer) → IsMeaningOf (past.records ++ stores configured_layers past event i answer) q
+      → GoesBy (event_steps (config_in p) (stores configured_layers past event i answer) answer) w q q.mark
   event_goes event i answer sees is moves after =
-      subst (λ (a : Answer). GoesBy (event_steps (config_in p) (stores built_layers past event i a) a) w q q.mark) (sym is)
-      (goes_now event i sees (subst (λ (a : Answer). AreMoves (config_in p) (stores built_layers past event i a)) is moves)
-      (subst (λ (a : Answer). IsMeaningOf (past.records ++ stores built_layers past event i a) q) is after))
+      subst (λ (a : Answer). GoesBy (event_steps (config_in p) (stores configured_layers past event i a) a) w q q.mark) (sym is)
+      (goes_now event i sees (subst (λ (a : Answer). AreMoves (config_in p) (stores configured_layers past event i a)) is moves)
+      (subst (λ (a : Answer). IsMeaningOf (past.records ++ stores configured_layers past event i a) q) is after))

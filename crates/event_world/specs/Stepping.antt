@@ -7,7 +7,7 @@ use Rattle.mesh_types.specs.declared.answers.Answer.{Answer}
 use Rattle.mesh_types.specs.declared.events.Event.{Event}
 use Rattle.mesh_world.specs.World.{World, WorldStep}
 use Rattle.mesh_world.specs.World.WorldStep.{Accept, Advance, Deliver, Publish, Reserve}
-use Rattle.node_layers.specs.BuiltLayers.{built_layers}
+use Rattle.node_layers.specs.ConfiguredLayers.{configured_layers}
 use Rattle.node_records.specs.Meaning.{IsMeaningOf}
 use Rattle.node_records.specs.Tables.{config_in}
 use Rattle.node_records.specs.declared.persist.Persist.{Persist}
@@ -25,7 +25,8 @@ use Rattle.store_world.specs.Standing.{GoesBy}
 -- counter goes on under the new one.
 abbrev pub numbers_steps : Config → IvState → ℕ → List WorldStep
 numbers_steps c to mark =
-    if nat_lt (transmit_of c.iv) (transmit_of to) then Reserve to.current mark ∷ Publish mark ∷ Advance (transmit_of to) ∷ []
+    if nat_lt (transmit_of c.iv) (transmit_of to)
+    then Reserve to.current mark ∷ Publish mark ∷ Advance (transmit_of to) ∷ []
     else Reserve to.current mark ∷ []
 
 -- The steps of a record that becomes durable over what those before it say. A record of numbers is a move, and one of a name that was
@@ -50,6 +51,6 @@ pub record HasStepped (w : World) (p q : Persist) (event : Event) (answer : Answ
   pub past : Past
   pub meaning : IsMeaningOf past.records p
   pub insight : Insight
-  pub sees : Sees built_layers past event insight
-  pub answer_is : answer ≡ answer_of built_layers past event insight
-  pub goes : GoesBy (event_steps (config_in p) (stores built_layers past event insight answer) answer) w q q.mark
+  pub sees : Sees configured_layers past event insight
+  pub answer_is : answer ≡ answer_of configured_layers past event insight
+  pub goes : GoesBy (event_steps (config_in p) (stores configured_layers past event insight answer) answer) w q q.mark

@@ -1,12 +1,11 @@
 -- The jobs of an event are within their ranges.
-use Rattle.std.proofs.Common.{◌≡◌, ℕ, zero, suc, ◌-◌, ◌*◌, ◌/◌, ◌%◌, ◌<◌, ◌≤◌, ◌^◌, Bool, false, List, [], ◌∷◌, ◌++◌, length, take, drop, filter, refl, subst, arith, Option, Some, None}
+use Rattle.std.proofs.Common.{◌≡◌, ℕ, suc, ◌-◌, ◌*◌, ◌<◌, ◌≤◌, ◌^◌, Bool, false, List, [], ◌++◌, length, take, drop, filter, refl, subst, arith, Option, Some, None}
 use Rattle.std.specs.Bool.{⊤}
-use Rattle.std.specs.Prelude.{All, option_and_then}
+use Rattle.std.specs.Prelude.{All}
 use Rattle.std.specs.List.{AllByRecursion as Every, range_with_len}
-use Rattle.std.specs.Option.{option_map, option_map_or, option_to_list}
+use Rattle.std.specs.Option.{option_map, option_map_or}
 use Rattle.std.proofs.lemmas.List.Elements.{All-from_recursion}
-use Rattle.cipher_definitions.specs.Kdf.{aid, k2, k2_number, k4, master_credentials}
-use Rattle.layer_definitions.specs.KeyRefresh.{app_key, app_row, master_material, net_row, own_beacon, transmit_app, transmit_key, transmit_value}
+use Rattle.layer_definitions.specs.KeyRefresh.{own_beacon}
 use Rattle.layer_definitions.specs.Lower.{lower_text, segment}
 use Rattle.layer_definitions.specs.Network.{HasPdu}
 use Rattle.layer_states.specs.Reassembly.{acks_due}
@@ -17,9 +16,11 @@ use Rattle.layer_states.specs.declared.sending.Sending.{Sending}
 use Rattle.machine_contract.specs.Ranges.{IsEvent, IsJob, IsQuiet, IsUpperKey}
 use Rattle.machine_ties.proofs.Acks.{IsShort, IsShortTold, acks_short, reply_short}
 use Rattle.machine_ties.proofs.Lists.{Inside, every_append, every_flat, every_flat_any, every_made, every_pick}
+use Rattle.machine_ties.proofs.Published.{published_in}
+use Rattle.machine_ties.proofs.Replied.{key_width, replied_in}
+use Rattle.machine_ties.proofs.Widths.{HasUpperKey, app_width, every_under, take_few}
 use Rattle.mesh_base.specs.declared.address.Address.{Address}
 use Rattle.mesh_base.specs.declared.fields.NetMaterial.{NetMaterial}
-use Rattle.mesh_base.specs.declared.keys.AppKeyRow.{AppKeyRow}
 use Rattle.mesh_base.specs.declared.keys.NetKeyRow.{NetKeyRow}
 use Rattle.mesh_base.specs.declared.keys.UpperKey.{UpperKey}
 use Rattle.mesh_base.specs.declared.keys.UpperKey.TheVariants as U
@@ -34,47 +35,19 @@ use Rattle.mesh_types.specs.declared.events.SendKey.TheVariants as K
 use Rattle.mesh_types.specs.declared.jobs.Job.{Job}
 use Rattle.mesh_types.specs.declared.jobs.Job.TheVariants as J
 use Rattle.node_layers.specs.BuiltLayers.{built_layers}
+use Rattle.node_layers.specs.ConfiguredLayers.{configured_layers, sent_publications}
 use Rattle.mesh_jobs.proofs.Rounds.{rounds_are}
 use Rattle.node_layers.specs.Reassembly.{acks_at, due_job, due_jobs, messages}
 use Rattle.node_layers.specs.Sending.{round_jobs, segment_job, segments_at}
 use Rattle.node_layers.specs.Sending as own
+use Rattle.node_snapshot.proofs.Built.{IsPublishRow}
 use Rattle.run_definitions.specs.Answers.{config_before, is_before_cache, later}
-use Rattle.run_definitions.specs.History.{Insight, OfBeacon, OfNothing, OfPdu, Past, Reading}
+use Rattle.run_definitions.specs.History.{Insight, OfBeacon, OfNothing, OfPdu, Opening, Past, Reading}
 use Rattle.run_definitions.specs.Jobs.{ack_asked, ack_job, ack_jobs, beacon_jobs, beacons_due, begin_jobs, block_asked, element_address, first_net, first_round_job, jobs_of, message_jobs, pdu_jobs, raw_jobs, refresh_jobs, relay_jobs, segment_numbers, send_jobs, send_keys, sent_job, under}
-use Rattle.run_definitions.specs.Layers.{AccessMessage}
 use Rattle.run_definitions.specs.Order.{is_outside}
-use Rattle.run_definitions.specs.Readings.{Sees, sees_pdu}
-use Rattle.run_definitions.specs.Stores.{message_of}
+use Rattle.run_definitions.specs.Readings.{IsOpening, Sees, sees_pdu}
 use Rattle.segment_sender.specs.Held.{IsHeldWell, IsOutgoing, has_round}
 use Rattle.store_definitions.specs.Config.{Config}
-
--- Widths of what is derived.
-
-low_seven : (x : ℕ) → x % 2 ^ 263 / 2 ^ 256 < 2 ^ 7
-low_seven x = omega arith
-
-low_six : (x : ℕ) → x % 2 ^ 6 < 2 ^ 6
-low_six x = omega arith
-
-nid_width : (key : List ℕ) → (master_material key).nid < 2 ^ 7
-unfolding master_material master_credentials k2 k2_number
-nid_width key = low_seven _
-
-aid_width : (key : List ℕ) → aid key < 2 ^ 6
-unfolding aid k4
-aid_width key = low_six _
-
-every_under : (P : Job → Type 0) (c : Config) (net : ℕ) (job : NetMaterial → Job) → ((m : NetMaterial) → m.nid < 2 ^ 7 → P (job m)) → Every P (under c net job)
-every_under P c net job k = made (net_row c.nets net)
-  where
-    made : (o : Option NetKeyRow) → Every P (option_to_list (option_map job (option_map (λ (r : NetKeyRow). master_material (transmit_key r)) o)))
-    made None = tt
-    made (Some r) = (k (master_material (transmit_key r)) (nid_width (transmit_key r)), tt)
-
-take_few : (n : ℕ) (xs : List ℕ) → length (take n xs) ≤ n
-take_few zero xs = omega arith
-take_few (suc n) [] = omega arith
-take_few (suc n) (x ∷ xs) = omega (arith, take_few n xs)
 
 -- Of a network PDU.
 
@@ -86,12 +59,14 @@ module _ (event : Event) where
       (λ m nid. (nid, record { ttl = omega (arith, h.ttl); seq = h.seq; least = h.least; most = h.most })))
       tt
 
-  ack_in : (c : Config) (r : Reading) (seq_zero block : ℕ) → IsShort c.ttl → Every (IsJob event) (ack_job c r seq_zero block)
+  ack_in : (c : Config) (r : Reading) (seq_zero block : ℕ) → IsShort c.ttl
+      → Every (IsJob event) (ack_job c r seq_zero block)
   unfolding lower_text
   ack_in c r seq_zero block h =
       every_under (IsJob event) c r.by.index _ (λ m nid. (nid, reply_short c r.fields.ttl h, omega arith, omega arith))
 
-  asked_in : (c : Config) (r : Reading) (a : Answer) (numbers : Option (ℕ × ℕ)) → IsShort c.ttl → Every (IsJob event) (ack_asked c r a numbers)
+  asked_in : (c : Config) (r : Reading) (a : Answer) (numbers : Option (ℕ × ℕ)) → IsShort c.ttl
+      → Every (IsJob event) (ack_asked c r a numbers)
   asked_in c r a None h = tt
   asked_in c r a (Some numbers) h = pick (block_asked a numbers.1)
     where
@@ -99,7 +74,8 @@ module _ (event : Event) where
       pick None = tt
       pick (Some block) = ack_in c r numbers.0 block h
 
-  acks_in : (c : Config) (r : Reading) (low : Option Lower) (a : Answer) → IsShort c.ttl → Every (IsJob event) (ack_jobs c r low a)
+  acks_in : (c : Config) (r : Reading) (low : Option Lower) (a : Answer) → IsShort c.ttl
+      → Every (IsJob event) (ack_jobs c r low a)
   acks_in c r None a h = tt
   acks_in c r (Some low) a h = every_pick (IsJob event) _ _ [] (asked_in c r a (segment_numbers low) h) tt
 
@@ -112,25 +88,34 @@ module _ (event : Event) where
   due_beacons_in : (past : Past) (c : Config) (ticks : ℕ) → Every (IsJob event) (beacons_due past c ticks)
   due_beacons_in past c ticks = every_pick (IsJob event) _ _ [] (beacons_in c) tt
 
-  message_in : (past : Past) (c : Config) (r : Reading) (i : Insight) (a : Answer) → Every (IsJob event) (message_jobs built_layers past c r i a)
-  unfolding built_layers
-  message_in past c r i (A.Control name dst opcode params) = tt
-  message_in past c r i (A.Delivered name dst key payload) = pick (message_of i name dst)
-    where
-      pick : (o : Option AccessMessage) → Every (IsJob event) (option_map_or (λ (m : AccessMessage). let l : List Job = [] in l) o [])
-      pick None = tt
-      pick (Some m) = tt
-  message_in past c r i _ = tt
+  message_in : (past : Past) (c : Config) (r : Reading) (low : Option Lower) (opening : Option Opening) (a : Answer)
+      → IsShort c.ttl → Inside (λ (o : Opening). IsUpperKey o.key) opening
+      → Every (IsJob event) (message_jobs configured_layers past c r (OfPdu (Some r) low opening) a)
+  unfolding configured_layers built_layers
+  message_in past c r low opening (A.Control name dst opcode params) h k = tt
+  message_in past c r low None (A.Delivered name dst key payload) h k = tt
+  message_in past c r low (Some o) (A.Delivered name dst key payload) h k =
+      replied_in event past c
+      (record { name = name; dst = dst; net = r.by.index; ttl = r.fields.ttl; key = o.key; label = o.label; payload = o.payload }) h k
+  message_in past c r low opening _ h k = tt
 
-  pdu_in : (past : Past) (c : Config) (octets : List ℕ) (i : Insight) (a : Answer) → Sees built_layers past (E.Net octets) i → IsShort c.ttl → Every (IsJob event) (pdu_jobs built_layers past c i a)
+  opening_width : (past : Past) (r : Reading) (low : Option Lower) (opening : Option Opening)
+      → IsOpening configured_layers past (Some r) low opening
+      → Inside (λ (o : Opening). IsUpperKey o.key) opening
+  opening_width past r low None s = tt
+  opening_width past r low (Some o) s = key_width past r low o s
+
+  pdu_in : (past : Past) (c : Config) (octets : List ℕ) (i : Insight) (a : Answer)
+      → Sees configured_layers past (E.Net octets) i → IsShort c.ttl
+      → Every (IsJob event) (pdu_jobs configured_layers past c i a)
   pdu_in past c octets (OfPdu (Some r) low opening) a (sees_pdu reset reads lower opens) h =
       let refresh : List Job = refresh_jobs (config_before past) c in
-      let messages : List Job = message_jobs built_layers past c r (OfPdu (Some r) low opening) a in
+      let messages : List Job = message_jobs configured_layers past c r (OfPdu (Some r) low opening) a in
       every_pick (IsJob event) (is_before_cache a) [] (relay_jobs c r ++ ack_jobs c r low a ++ messages ++ refresh) tt
       (every_append (IsJob event) (relay_jobs c r ++ ack_jobs c r low a ++ messages) refresh
       (every_append (IsJob event) (relay_jobs c r ++ ack_jobs c r low a) messages
       (every_append (IsJob event) (relay_jobs c r) (ack_jobs c r low a) (relay_in c r reads.1.reads.has_pdu) (acks_in c r low a h))
-      (message_in past c r (OfPdu (Some r) low opening) a))
+      (message_in past c r low opening a h (opening_width past r low opening opens)))
       (refresh_in (config_before past) c))
   pdu_in past c octets (OfPdu None low opening) a s h = tt
   pdu_in past c octets (OfBeacon b) a s h = tt
@@ -144,11 +129,13 @@ module _ (event : Event) where
 
   -- A round of an own segmented message.
 
-  segment_length : (akf : Bool) (id seq : ℕ) (upper : List ℕ) (seg_o : ℕ) → length (lower_text (segment akf id seq upper seg_o)) ≡ suc (suc (suc (suc (length (take 12 (drop (12 * seg_o) upper))))))
+  segment_length : (akf : Bool) (id seq : ℕ) (upper : List ℕ) (seg_o : ℕ)
+      → length (lower_text (segment akf id seq upper seg_o)) ≡ suc (suc (suc (suc (length (take 12 (drop (12 * seg_o) upper))))))
   unfolding lower_text
   segment_length akf id seq upper seg_o = refl
 
-  piece_in : (m : Outgoing) (seg_o : ℕ) (material : NetMaterial) → IsOutgoing m → material.nid < 2 ^ 7 → IsJob event (segment_job m seg_o material)
+  piece_in : (m : Outgoing) (seg_o : ℕ) (material : NetMaterial) → IsOutgoing m → material.nid < 2 ^ 7
+      → IsJob event (segment_job m seg_o material)
   piece_in m seg_o material h nid =
       let octets = segment_length m.akf m.aid m.name.pair.seq m.upper seg_o in
       (nid, h.ttl, h.seq, omega (arith, octets), omega (arith, octets, take_few 12 (drop (12 * seg_o) m.upper)))
@@ -160,34 +147,41 @@ module _ (event : Event) where
       (λ seg_o. every_under (IsJob event) c s.message.net (segment_job s.message seg_o) (λ m nid. piece_in s.message seg_o m h.message nid)) (round_of s))
       tt
 
-  rounds_in : (past : Past) (c : Config) (ticks : ℕ) → Every IsHeldWell (filter (has_round (later past ticks)) (own.messages past)) → Every (IsJob event) (segments_at past c ticks)
+  rounds_in : (past : Past) (c : Config) (ticks : ℕ)
+      → Every IsHeldWell (filter (has_round (later past ticks)) (own.messages past))
+      → Every (IsJob event) (segments_at past c ticks)
   rounds_in past c ticks h =
       let now : ℕ = later past ticks in
       subst (Every (IsJob event)) (rounds_are c now (own.messages past))
       (every_flat IsHeldWell (IsJob event) (round_jobs c now) (round_in c now) (filter (has_round now) (own.messages past)) h)
 
-  tick_in : (past : Past) (c : Config) (ticks : ℕ) (i : Insight) (now : ℕ) → Every IsShortTold past.told
-      → Every IsHeldWell (filter (has_round (later past ticks)) (own.messages past)) → Every (IsJob event) (jobs_of built_layers past c (E.Tick ticks) i (A.Ticked now))
-  unfolding built_layers jobs_of
-  tick_in past c ticks i now h rounds =
-      every_append (IsJob event) (acks_at past c ticks ++ segments_at past c ticks ++ beacons_due past c ticks) []
+  tick_in : (past : Past) (c : Config) (ticks : ℕ) (i : Insight) (now : ℕ) → IsShort c.ttl
+      → Every IsPublishRow c.publications → Every IsShortTold past.told
+      → Every IsHeldWell (filter (has_round (later past ticks)) (own.messages past))
+      → Every (IsJob event) (jobs_of configured_layers past c (E.Tick ticks) i (A.Ticked now))
+  unfolding configured_layers built_layers jobs_of
+  tick_in past c ticks i now short rows h rounds =
+      every_append (IsJob event) (acks_at past c ticks ++ segments_at past c ticks ++ beacons_due past c ticks) (sent_publications past c ticks)
       (every_append (IsJob event) (acks_at past c ticks ++ segments_at past c ticks) (beacons_due past c ticks)
       (every_append (IsJob event) (acks_at past c ticks) (segments_at past c ticks)
       (every_flat (λ (d : DueAck). IsShort d.ack_ttl) (IsJob event) (due_jobs c) (due_in c) (acks_due (later past ticks) (messages past)) (acks_short past (later past ticks) h))
       (rounds_in past c ticks rounds))
       (due_beacons_in past c ticks))
-      tt
+      (published_in event past c ticks short rows)
 
-  raw_in : (c : Config) (dst : Address) (ttl : ℕ) (tpdu : List ℕ) → ttl < 2 ^ 7 → 1 ≤ length tpdu → length tpdu ≤ 12 → Every (IsJob event) (raw_jobs c dst ttl tpdu)
+  raw_in : (c : Config) (dst : Address) (ttl : ℕ) (tpdu : List ℕ) → ttl < 2 ^ 7 → 1 ≤ length tpdu → length tpdu ≤ 12
+      → Every (IsJob event) (raw_jobs c dst ttl tpdu)
   raw_in c dst ttl tpdu short least most = pick (first_net c)
     where
-      pick : (o : Option ℕ) → Every (IsJob event) (option_map_or (λ net. under c net (λ m. J.Control m ttl (element_address c 0) dst tpdu None)) o [])
+      pick : (o : Option ℕ)
+          → Every (IsJob event) (option_map_or (λ net. under c net (λ m. J.Control m ttl (element_address c 0) dst tpdu None)) o [])
       pick None = tt
       pick (Some net) = every_under (IsJob event) c net _ (λ m nid. (nid, short, least, most))
 
   -- Of a segmented message that begins.
 
-  begin_in : (c : Config) (pair : Pair) (dst src : Address) (ttl net : ℕ) (akf : Bool) (id : ℕ) (upper : List ℕ) → pair.seq < 2 ^ 24 → ttl < 2 ^ 7
+  begin_in : (c : Config) (pair : Pair) (dst src : Address) (ttl net : ℕ) (akf : Bool) (id : ℕ) (upper : List ℕ)
+      → pair.seq < 2 ^ 24 → ttl < 2 ^ 7
       → Every (IsJob event) (begin_jobs c pair dst src ttl net akf id upper)
   begin_in c pair dst src ttl net akf id upper seq short =
       every_flat_any (IsJob event) _
@@ -197,36 +191,26 @@ module _ (event : Event) where
 
 -- Of a message that the node is asked to send.
 
-app_width : (c : Config) (index : ℕ) → Inside (λ (keys : ℕ × UpperKey). IsUpperKey keys.1) (transmit_app c.apps c.nets index)
-app_width c index = pick (app_row c.apps index)
-  where
-    rows : (r : AppKeyRow) (o : Option NetKeyRow) → Inside (λ (keys : ℕ × UpperKey). IsUpperKey keys.1) (option_map (λ (net : NetKeyRow). (r.net, app_key index (transmit_value r net))) o)
-    rows r None = tt
-    rows r (Some net) = aid_width (transmit_value r net)
-
-    pick : (o : Option AppKeyRow) → Inside (λ (keys : ℕ × UpperKey). IsUpperKey keys.1) (option_and_then (λ (r : AppKeyRow). option_map (λ (net : NetKeyRow). (r.net, app_key index (transmit_value r net))) (net_row c.nets r.net)) o)
-    pick None = tt
-    pick (Some r) = rows r (net_row c.nets r.net)
-
-keys_width : (c : Config) (key : SendKey) → Inside (λ (keys : ℕ × UpperKey). IsUpperKey keys.1) (send_keys c key)
+keys_width : (c : Config) (key : SendKey) → Inside HasUpperKey (send_keys c key)
 keys_width c K.Own = pick (first_net c)
   where
-    pick : (o : Option ℕ) → Inside (λ (keys : ℕ × UpperKey). IsUpperKey keys.1) (option_map (λ net. (net, U.Device c.dev_key)) o)
+    pick : (o : Option ℕ) → Inside HasUpperKey (option_map (λ net. (net, U.Device c.dev_key)) o)
     pick None = tt
     pick (Some net) = tt
 keys_width c (K.Other key) = pick (first_net c)
   where
-    pick : (o : Option ℕ) → Inside (λ (keys : ℕ × UpperKey). IsUpperKey keys.1) (option_map (λ net. (net, U.Device key)) o)
+    pick : (o : Option ℕ) → Inside HasUpperKey (option_map (λ net. (net, U.Device key)) o)
     pick None = tt
     pick (Some net) = tt
 keys_width c (K.App index) = app_width c index
 
-send_in : (past : Past) (c : Config) (element : ℕ) (dst : Address) (ttl : ℕ) (key : SendKey) (payload : List ℕ) → ttl < 2 ^ 7 → 1 ≤ length payload → length payload ≤ 380
-    → Every (IsJob (E.Send element dst ttl key payload)) (send_jobs built_layers past c element dst ttl key payload)
-unfolding built_layers
+send_in : (past : Past) (c : Config) (element : ℕ) (dst : Address) (ttl : ℕ) (key : SendKey) (payload : List ℕ)
+    → ttl < 2 ^ 7 → 1 ≤ length payload → length payload ≤ 380
+    → Every (IsJob (E.Send element dst ttl key payload)) (send_jobs configured_layers past c element dst ttl key payload)
+unfolding configured_layers built_layers
 send_in past c element dst ttl key payload short least most = pick (send_keys c key) (keys_width c key)
   where
-    pick : (o : Option (ℕ × UpperKey)) → Inside (λ (keys : ℕ × UpperKey). IsUpperKey keys.1) o
+    pick : (o : Option (ℕ × UpperKey)) → Inside HasUpperKey o
         → Every (IsJob (E.Send element dst ttl key payload)) (option_map_or (sent_job c element dst ttl) o [])
     pick None h = tt
     pick (Some keys) h = every_under (IsJob (E.Send element dst ttl key payload)) c keys.0 _ (λ m nid. (nid, short, h, least, most))
@@ -236,32 +220,39 @@ abbrev pub HasRounds : Past → Event → Answer → Type 0
 HasRounds past (E.Tick ticks) (A.Ticked now) = Every IsHeldWell (filter (has_round (later past ticks)) (own.messages past))
 HasRounds past event answer = ⊤
 
-every_job : (past : Past) (c : Config) (event : Event) (i : Insight) (a : Answer) (elements : ℕ) → Sees built_layers past event i → IsEvent elements event → IsShort c.ttl
-    → Every IsShortTold past.told → HasRounds past event a → Every (IsJob event) (jobs_of built_layers past c event i a)
+every_job : (past : Past) (c : Config) (event : Event) (i : Insight) (a : Answer) (elements : ℕ)
+    → Sees configured_layers past event i → IsEvent elements event → IsShort c.ttl
+    → Every IsPublishRow c.publications → Every IsShortTold past.told → HasRounds past event a
+    → Every (IsJob event) (jobs_of configured_layers past c event i a)
 unfolding jobs_of
-every_job past c (E.Net octets) i a elements s e h k r = pdu_in (E.Net octets) past c octets i a s h
-every_job past c (E.Bcn octets) i a elements s e h k r = tt
-every_job past c (E.Send element dst ttl key payload) i A.Planned elements s e h k r = send_in past c element dst ttl key payload e.3 e.5 e.6
-every_job past c (E.Send element dst ttl key payload) i _ elements s e h k r = tt
-every_job past c (E.Raw dst ttl tpdu) i A.Planned elements s e h k r = raw_in (E.Raw dst ttl tpdu) c dst ttl tpdu e.1 e.2 e.3
-every_job past c (E.Raw dst ttl tpdu) i _ elements s e h k r = tt
-every_job past c (E.Tick ticks) i (A.Ticked now) elements s e h k r = tick_in (E.Tick ticks) past c ticks i now k r
-every_job past c (E.Tick ticks) i _ elements s e h k r = tt
-every_job past c (E.Begin pair dst src ttl net akf id upper) i A.Begun elements s e h k r = begin_in (E.Begin pair dst src ttl net akf id upper) c pair dst src ttl net akf id upper e.0 e.1
-every_job past c (E.Begin pair dst src ttl net akf id upper) i _ elements s e h k r = tt
-every_job past c (E.Kept lpn fsn name pdu) i a elements s e h k r = tt
+every_job past c (E.Net octets) i a elements s e h rows k r = pdu_in (E.Net octets) past c octets i a s h
+every_job past c (E.Bcn octets) i a elements s e h rows k r = tt
+every_job past c (E.Send element dst ttl key payload) i A.Planned elements s e h rows k r = send_in past c element dst ttl key payload e.3 e.5 e.6
+every_job past c (E.Send element dst ttl key payload) i _ elements s e h rows k r = tt
+every_job past c (E.Raw dst ttl tpdu) i A.Planned elements s e h rows k r = raw_in (E.Raw dst ttl tpdu) c dst ttl tpdu e.1 e.2 e.3
+every_job past c (E.Raw dst ttl tpdu) i _ elements s e h rows k r = tt
+every_job past c (E.Tick ticks) i (A.Ticked now) elements s e h rows k r = tick_in (E.Tick ticks) past c ticks i now h rows k r
+every_job past c (E.Tick ticks) i _ elements s e h rows k r = tt
+every_job past c (E.Begin pair dst src ttl net akf id upper) i A.Begun elements s e h rows k r = begin_in (E.Begin pair dst src ttl net akf id upper) c pair dst src ttl net akf id upper e.0 e.1
+every_job past c (E.Begin pair dst src ttl net akf id upper) i _ elements s e h rows k r = tt
+every_job past c (E.Kept lpn fsn name pdu) i a elements s e h rows k r = tt
 
-pub jobs_ranged : (past : Past) (c : Config) (event : Event) (i : Insight) (a : Answer) (elements : ℕ) → Sees built_layers past event i → IsEvent elements event → IsShort c.ttl
-    → Every IsShortTold past.told → HasRounds past event a → All (IsJob event) (jobs_of built_layers past c event i a)
-jobs_ranged past c event i a elements s e h k r = All-from_recursion (IsJob event) _ (every_job past c event i a elements s e h k r)
+pub jobs_ranged : (past : Past) (c : Config) (event : Event) (i : Insight) (a : Answer) (elements : ℕ)
+    → Sees configured_layers past event i → IsEvent elements event → IsShort c.ttl
+    → Every IsPublishRow c.publications → Every IsShortTold past.told → HasRounds past event a
+    → All (IsJob event) (jobs_of configured_layers past c event i a)
+jobs_ranged past c event i a elements s e h rows k r =
+    All-from_recursion (IsJob event) _ (every_job past c event i a elements s e h rows k r)
 
 -- After the lines of a segmented message nothing is handled.
 
-begun_quiet : (c : Config) (pair : Pair) (dst src : Address) (ttl net : ℕ) (akf : Bool) (id : ℕ) (upper : List ℕ) → Every IsQuiet (begin_jobs c pair dst src ttl net akf id upper)
+begun_quiet : (c : Config) (pair : Pair) (dst src : Address) (ttl net : ℕ) (akf : Bool) (id : ℕ) (upper : List ℕ)
+    → Every IsQuiet (begin_jobs c pair dst src ttl net akf id upper)
 begun_quiet c pair dst src ttl net akf id upper =
     every_flat_any IsQuiet _ (λ seg_o. every_under IsQuiet c net (first_round_job pair dst src ttl akf id upper seg_o) (λ m nid outcome. refl)) (range_with_len 0 _)
 
-every_quiet : (past : Past) (c : Config) (event : Event) (i : Insight) (a : Answer) → is_outside event ≡ false → Every IsQuiet (jobs_of built_layers past c event i a)
+every_quiet : (past : Past) (c : Config) (event : Event) (i : Insight) (a : Answer) → is_outside event ≡ false
+    → Every IsQuiet (jobs_of configured_layers past c event i a)
 unfolding jobs_of
 every_quiet past c (E.Begin pair dst src ttl net akf id upper) i A.Begun e = begun_quiet c pair dst src ttl net akf id upper
 every_quiet past c (E.Begin pair dst src ttl net akf id upper) i _ e = tt
@@ -272,5 +263,6 @@ every_quiet past c (E.Send element dst ttl key payload) i a e = absurd cc
 every_quiet past c (E.Raw dst ttl tpdu) i a e = absurd cc
 every_quiet past c (E.Tick ticks) i a e = absurd cc
 
-pub jobs_quiet : (past : Past) (c : Config) (event : Event) (i : Insight) (a : Answer) → is_outside event ≡ false → All IsQuiet (jobs_of built_layers past c event i a)
+pub jobs_quiet : (past : Past) (c : Config) (event : Event) (i : Insight) (a : Answer) → is_outside event ≡ false
+    → All IsQuiet (jobs_of configured_layers past c event i a)
 jobs_quiet past c event i a e = All-from_recursion IsQuiet _ (every_quiet past c event i a e)

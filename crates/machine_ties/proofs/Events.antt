@@ -1,9 +1,10 @@
 -- What an event that was planned leaves, whether its records were stored or not.
-use Rattle.std.proofs.Common.{◌≡◌, ℕ, ◌+◌, ◌≤◌, ◌<◌, ◌^◌, false, List, [], ◌∷◌, ◌++◌, length, refl, ap, sym, subst, ◌∙◌, arith}
-use Rattle.std.specs.Prelude.{All, fold}
+use Rattle.std.proofs.Common.{◌≡◌, ℕ, ◌+◌, ◌≤◌, ◌<◌, ◌^◌, Bool, true, false, cond, List, ◌++◌, length, refl, ap, sym, subst, ◌∙◌, arith}
+use Rattle.std.specs.Prelude.{All}
+use Rattle.std.specs.List.{AllByRecursion as Every}
 use Rattle.std.proofs.lemmas.List.Elements.{recursion_from_All}
-use Rattle.event_plans.proofs.Asked.{told_time}
 use Rattle.event_plans.proofs.Narrow.{narrow_of}
+use Rattle.event_plans.specs.Memory.{AreNodeTablesOf, IsFitFor, NodeTablesView}
 use Rattle.event_plans.specs.Plans.{IsBasisOf, IsPlanned, insight_in}
 use Rattle.event_plans.specs.Sending.{IsSendable}
 use Rattle.event_plans.specs.declared.plan.Basis.{Basis}
@@ -11,34 +12,36 @@ use Rattle.event_plans.specs.declared.plan.Basis.TheVariants as B
 use Rattle.event_plans.specs.declared.plan.Plan.{Plan}
 use Rattle.event_records.specs.Putting.{ArePuttable}
 use Rattle.flash_model.specs.Chip.{Chip, Keeps, Setting}
+use Rattle.layer_laws.specs.Laws.{IsWithinLimits}
 use Rattle.machine_contract.specs.Ranges.{IsEvent, IsJob, IsQuiet}
 use Rattle.machine_contract.specs.Standing.{past_now}
 use Rattle.machine_contract.specs.declared.answers.Hand.TheVariants as H
 use Rattle.machine_ties.proofs.Acks.{IsShortTold}
 use Rattle.machine_ties.proofs.Asked.{HasRounds, jobs_quiet, jobs_ranged}
-use Rattle.machine_ties.proofs.Fronts.{IsSameNode, all_ranges, all_whole, kept_node, puttable_kept}
+use Rattle.machine_ties.proofs.Fronts.{IsSameNode, all_ranges, all_whole, kept_node_of, puttable_kept}
 use Rattle.machine_ties.proofs.Lists.{every_map}
 use Rattle.machine_ties.proofs.Standings.{before_more, entered_stands, stopped_stands, told_by}
 use Rattle.machine_ties.proofs.Stored.{stores_keep}
-use Rattle.machine_ties.specs.Kept.{AreKept, KeepWhole, KeptLaw}
+use Rattle.machine_ties.specs.Kept.{AreKeeping, AreKept, IsBounded, KeepWhole}
 use Rattle.machine_ties.specs.Ties.{IsBefore, IsCutIn, IsReady, Stands, entered, stopped}
 use Rattle.machine_ties.specs.Views.{NodeMachine}
-use Rattle.mesh_hearing.specs.Tables.{AreTablesOf, IsFit, TablesView}
 use Rattle.mesh_types.specs.declared.answers.Answer.{Answer}
 use Rattle.mesh_types.specs.declared.answers.Answer.TheVariants as A
 use Rattle.mesh_types.specs.declared.events.Event.{Event}
 use Rattle.mesh_types.specs.declared.events.Event.TheVariants as E
 use Rattle.mesh_types.specs.declared.history.Entry.{Entry}
 use Rattle.mesh_types.specs.declared.jobs.Job.{Job}
-use Rattle.node_layers.specs.BuiltLayers.{built_layers}
+use Rattle.node_layers.specs.ConfiguredLayers.{configured_layers}
+use Rattle.node_layers.specs.Steps.{with_entry}
 use Rattle.node_records.specs.Meaning.{IsMeaningOf}
 use Rattle.node_records.specs.Tables.{config_in}
 use Rattle.node_records.specs.declared.persist.Persist.{Persist}
+use Rattle.node_snapshot.proofs.Built.{IsPublishRow, built_of}
 use Rattle.node_store.specs.Tie.{IsStoreOf}
 use Rattle.record_types.specs.declared.records.StoreRecord.{StoreRecord}
-use Rattle.run_definitions.specs.Answers.{answer_of}
+use Rattle.run_definitions.specs.Answers.{answer_of, config_before, later}
 use Rattle.run_definitions.specs.Handling.{Handles}
-use Rattle.run_definitions.specs.History.{OfNothing, Past, Told}
+use Rattle.run_definitions.specs.History.{Insight, OfNothing, Past, Told}
 use Rattle.run_definitions.specs.Jobs.{jobs_of}
 use Rattle.run_definitions.specs.Order.{is_outside}
 use Rattle.run_definitions.specs.Readings.{Sees}
@@ -46,19 +49,21 @@ use Rattle.run_definitions.specs.Stores.{stores}
 use Rattle.segment_sender.specs.Held.{IsHeldWell}
 use Rattle.seq_reserve.specs.Reserving.{IsPublished}
 use Rattle.seq_reserve.specs.declared.reserve.Reserve.{Reserve}
-use Rattle.store_definitions.specs.Config.{Config, changed, config_of}
+use Rattle.store_definitions.specs.Config.{Config, config_of}
 use Rattle.store_definitions.specs.Node.{IsWhole}
 use Rattle.store_definitions.specs.Ranges.{IsInRange}
 
--- The records of a plan keep the node whole.
-pub plan_kept : (past : Past) (m : NodeMachine) (event : Event) (plan : Plan) (t : TablesView) → IsBefore past m → IsPlanned past event plan t
-    → ArePuttable m.reserve.store.persist plan.records → AreKept (config_of past.records) plan.records
-plan_kept past m event plan t h planned may =
+-- The records of a plan keep the node whole, and say no identity.
+pub plan_kept : AreKeeping → (past : Past) (m : NodeMachine) (event : Event) (plan : Plan) (t : NodeTablesView) → IsBefore past m → IsPlanned past event plan t
+    → ArePuttable m.reserve.store.persist plan.records → IsBounded m.reserve.store.persist (insight_in plan.basis) → AreKept (config_of past.records) plan.records
+plan_kept laws past m event plan t h planned may bounded =
     let p = m.reserve.store.persist in
-    let stored : stores built_layers past event (insight_in plan.basis) (answer_of built_layers past event (insight_in plan.basis)) ≡ plan.records =
-    ap (λ a. stores built_layers past event (insight_in plan.basis) a) (sym planned.answer) ∙ sym planned.records in
+    let i = insight_in plan.basis in
+    let stored : stores configured_layers past event i (answer_of configured_layers past event i) ≡ plan.records =
+    ap (λ a. stores configured_layers past event i a) (sym planned.answer) ∙ sym planned.records in
+    let limits : IsWithinLimits (config_of past.records) = subst IsWithinLimits h.standing.meaning.config bounded.limits in
     let keep : KeepWhole (config_of past.records) plan.records =
-    subst (λ l. KeepWhole (config_of past.records) l) stored (stores_keep past event (insight_in plan.basis) h.whole) in
+    subst (λ l. KeepWhole (config_of past.records) l) stored (stores_keep laws past event i h.standing.whole limits bounded.octets) in
     subst (λ c. AreKept c plan.records) h.standing.meaning.config
     (puttable_kept p plan.records may (subst (λ c. KeepWhole c plan.records) (sym h.standing.meaning.config) keep))
 
@@ -66,28 +71,28 @@ plan_kept past m event plan t h planned may =
 pub record IsEntryOf (past : Past) (event : Event) (plan : Plan) (p : Persist) (entry : Entry) : Type 0 where
   pub is_of : entry.event ≡ event
   pub has : entry.answer ≡ plan.answer
-  pub jobs : entry.jobs ≡ jobs_of built_layers past (config_in p) event (insight_in plan.basis) plan.answer
+  pub jobs : entry.jobs ≡ jobs_of configured_layers past (config_in p) event (insight_in plan.basis) plan.answer
 
-plan_handles : (past : Past) (event : Event) (plan : Plan) (t : TablesView) (p : Persist) (entry : Entry) → IsPlanned past event plan t → IsEntryOf past event plan p entry
-    → IsMeaningOf (past.records ++ plan.records) p → Handles built_layers past (told_by past entry (insight_in plan.basis))
+plan_handles : (past : Past) (event : Event) (plan : Plan) (t : NodeTablesView) (p : Persist) (entry : Entry) → IsPlanned past event plan t → IsEntryOf past event plan p entry
+    → IsMeaningOf (past.records ++ plan.records) p → Handles configured_layers past (told_by past entry (insight_in plan.basis))
 plan_handles past event plan t p entry planned e meaning =
     let i = insight_in plan.basis in
-    let after : config_in p ≡ config_of (past.records ++ stores built_layers past entry.event i entry.answer) =
+    let after : config_in p ≡ config_of (past.records ++ stores configured_layers past entry.event i entry.answer) =
     meaning.config ∙ ap (λ l. config_of (past.records ++ l))
-    (planned.records ∙ ap (λ x. stores built_layers past x i plan.answer) (sym e.is_of) ∙ ap (λ a. stores built_layers past entry.event i a) (sym e.has)) in
+    (planned.records ∙ ap (λ x. stores configured_layers past x i plan.answer) (sym e.is_of) ∙ ap (λ a. stores configured_layers past entry.event i a) (sym e.has)) in
     record {
-      sees = subst (λ x. Sees built_layers past x i) (sym e.is_of) planned.sees;
-      answer = e.has ∙ planned.answer ∙ ap (λ x. answer_of built_layers past x i) (sym e.is_of);
-      jobs = e.jobs ∙ ap (λ c. jobs_of built_layers past c event i plan.answer) after
-          ∙ ap (λ x. jobs_of built_layers past (config_of (past.records ++ stores built_layers past entry.event i entry.answer)) x i plan.answer) (sym e.is_of)
-          ∙ ap (λ a. jobs_of built_layers past (config_of (past.records ++ stores built_layers past entry.event i entry.answer)) entry.event i a) (sym e.has);
+      sees = subst (λ x. Sees configured_layers past x i) (sym e.is_of) planned.sees;
+      answer = e.has ∙ planned.answer ∙ ap (λ x. answer_of configured_layers past x i) (sym e.is_of);
+      jobs = e.jobs ∙ ap (λ c. jobs_of configured_layers past c event i plan.answer) after
+          ∙ ap (λ x. jobs_of configured_layers past (config_of (past.records ++ stores configured_layers past entry.event i entry.answer)) x i plan.answer) (sym e.is_of)
+          ∙ ap (λ a. jobs_of configured_layers past (config_of (past.records ++ stores configured_layers past entry.event i entry.answer)) entry.event i a) (sym e.has);
     }
 
-plan_stores : (past : Past) (event : Event) (plan : Plan) (t : TablesView) (p : Persist) (entry : Entry) → IsPlanned past event plan t → IsEntryOf past event plan p entry
-    → plan.records ≡ stores built_layers past entry.event (insight_in plan.basis) entry.answer
+plan_stores : (past : Past) (event : Event) (plan : Plan) (t : NodeTablesView) (p : Persist) (entry : Entry) → IsPlanned past event plan t → IsEntryOf past event plan p entry
+    → plan.records ≡ stores configured_layers past entry.event (insight_in plan.basis) entry.answer
 plan_stores past event plan t p entry planned e =
-    planned.records ∙ ap (λ x. stores built_layers past x (insight_in plan.basis) plan.answer) (sym e.is_of)
-    ∙ ap (λ a. stores built_layers past entry.event (insight_in plan.basis) a) (sym e.has)
+    planned.records ∙ ap (λ x. stores configured_layers past x (insight_in plan.basis) plan.answer) (sym e.is_of)
+    ∙ ap (λ a. stores configured_layers past entry.event (insight_in plan.basis) a) (sym e.has)
 
 -- what the store says after an event, and the elements of the node
 pub record IsAfter (elements : ℕ) (p : Persist) : Type 0 where
@@ -98,7 +103,7 @@ pub record IsAfter (elements : ℕ) (p : Persist) : Type 0 where
 -- what the store says between two events
 pub ready_after : (m : NodeMachine) → IsReady m → IsAfter m.elements m.reserve.store.persist
 ready_after m ready =
-    let whole : IsWhole (config_in m.reserve.store.persist) = subst IsWhole (sym ready.before.standing.meaning.config) ready.before.whole in
+    let whole : IsWhole (config_in m.reserve.store.persist) = subst IsWhole (sym ready.before.standing.meaning.config) ready.before.standing.whole in
     record { whole = whole; same = ready.elements; unicast = whole.last }
 
 pub event_sendable : (elements : ℕ) (event : Event) (p : Persist) → IsAfter elements p → IsEvent elements event → IsSendable (config_in p) event
@@ -111,73 +116,85 @@ event_sendable elements (E.Raw dst ttl tpdu) p after h = tt
 event_sendable elements (E.Tick ticks) p after h = tt
 event_sendable elements (E.Kept lpn fsn name pdu) p after h = tt
 
+-- where time was told, there was no Node Reset
+told_running : (past : Past) (ticks now : ℕ) (i : Insight) → A.Ticked now ≡ answer_of configured_layers past (E.Tick ticks) i → (config_before past).reset ≡ false
+unfolding answer_of
+told_running past ticks now i e = pick (config_before past).reset refl e
+  where
+    pick : (b : Bool) → (config_before past).reset ≡ b → A.Ticked now ≡ cond b A.Reset (A.Ticked (later past ticks)) → (config_before past).reset ≡ false
+    pick true is e = absurd cc
+    pick false is e = is
+
 -- what sends a round is what the plan says
-rounds_held : (past : Past) (event : Event) (basis : Basis) (a : Answer) → IsBasisOf past event basis → a ≡ answer_of built_layers past event (insight_in basis)
+rounds_held : (past : Past) (event : Event) (basis : Basis) (a : Answer) → IsBasisOf past event a basis → a ≡ answer_of configured_layers past event (insight_in basis)
     → HasRounds past event a
-rounds_held past (E.Tick ticks) (B.Time acks rounds span) (A.Ticked now) b is =
-    let reset = told_time past ticks now OfNothing (A.Ticked now) is refl in
-    recursion_from_All IsHeldWell _ (subst (All IsHeldWell) (b.1.rounds reset) b.1.held)
-rounds_held past (E.Tick ticks) (B.Pdu reset reading low opened phases) a b is = absurd b
+rounds_held past (E.Tick ticks) (B.Time acks rounds due span) (A.Ticked now) b is =
+    let running = told_running past ticks now OfNothing is in
+    recursion_from_All IsHeldWell _ (subst (All IsHeldWell) (b.1.rounds running) b.1.held)
+rounds_held past (E.Tick ticks) (B.Pdu reset reading low opened phases replies) a b is = absurd b
 rounds_held past (E.Tick ticks) (B.Beacon reset beacon) a b is = absurd b
 rounds_held past (E.Tick ticks) B.Own a b is = absurd b
 rounds_held past _ basis a b is = tt
 
-module _ (law : KeptLaw) (m : NodeMachine) (event : Event) (plan : Plan) (planned_tables : TablesView) where
+module _ (laws : AreKeeping) (m : NodeMachine) (event : Event) (plan : Plan) (planned_tables : NodeTablesView) where
   -- where all records were stored
   pub event_stands : (old new : Chip) (over : List StoreRecord) (s : Stands old over m) → m.closed ≡ false
-      → (r : Reserve) (tables : TablesView) (entry : Entry)
-      → IsPlanned (past_now built_layers over s.life.told m.fills) event plan planned_tables
-      → ArePuttable m.reserve.store.persist plan.records
-      → ((told : List Told) → AreTablesOf planned_tables told → AreTablesOf tables told)
-      → IsEntryOf (past_now built_layers over s.life.told m.fills) event plan r.store.persist entry → entry.fills ≡ m.fills
+      → (r : Reserve) (tables : NodeTablesView) (entry : Entry)
+      → IsPlanned (past_now configured_layers over s.life.told m.fills) event plan planned_tables
+      → ArePuttable m.reserve.store.persist plan.records → IsBounded m.reserve.store.persist (insight_in plan.basis)
+      → ((past : Past) → AreNodeTablesOf planned_tables past → AreNodeTablesOf tables past)
+      → IsEntryOf (past_now configured_layers over s.life.told m.fills) event plan r.store.persist entry → entry.fills ≡ m.fills
       → length m.entries + 1 < 2 ^ 32
-      → IsStoreOf new r.store ((past_now built_layers over s.life.told m.fills).records ++ plan.records)
-      → IsMeaningOf ((past_now built_layers over s.life.told m.fills).records ++ plan.records) r.store.persist
+      → IsStoreOf new r.store ((past_now configured_layers over s.life.told m.fills).records ++ plan.records)
+      → IsMeaningOf ((past_now configured_layers over s.life.told m.fills).records ++ plan.records) r.store.persist
       → IsPublished r.store r.keeper → Keeps old new
       → Stands new over (entered m r tables entry)
-  event_stands old new over s runs r tables entry planned may renewed e fills few store meaning published keeps =
-      let past : Past = past_now built_layers over s.life.told m.fills in
+  event_stands old new over s runs r tables entry planned may bounded renewed e fills few store meaning published keeps =
+      let past : Past = past_now configured_layers over s.life.told m.fills in
       let h : IsBefore past m = (s.usable runs).before in
-      entered_stands law old new over m s runs r tables entry (insight_in plan.basis) plan.records fills
+      let kept : AreKept (config_of past.records) plan.records = plan_kept laws past m event plan planned_tables h planned may bounded in
+      entered_stands laws old new over m s runs r tables entry (insight_in plan.basis) plan.records fills
       (plan_handles past event plan planned_tables r.store.persist entry planned e meaning)
       (plan_stores past event plan planned_tables r.store.persist entry planned e)
-      (plan_kept past m event plan planned_tables h planned may)
-      (renewed _ (planned.tables (told_by past entry (insight_in plan.basis)) e.is_of refl e.has refl))
+      kept
+      (renewed _ (planned.tables (told_by past entry (insight_in plan.basis)) (past.records ++ plan.records) e.is_of refl e.has refl (kept_node_of past.records plan.records kept).elements))
       few store published keeps meaning
       (omega (arith, s.began, keeps.later, ap (λ (x : Setting). x.faults) keeps.setting))
 
   -- where the flash failed
   pub event_stops : (old new : Chip) (over : List StoreRecord) (s : Stands old over m) → m.closed ≡ false
-      → (r : Reserve) (tables : TablesView)
-      → IsPlanned (past_now built_layers over s.life.told m.fills) event plan planned_tables
-      → ArePuttable m.reserve.store.persist plan.records
-      → IsCutIn new (past_now built_layers over s.life.told m.fills).records plan.records r.keeper.mark
+      → (r : Reserve) (tables : NodeTablesView)
+      → IsPlanned (past_now configured_layers over s.life.told m.fills) event plan planned_tables
+      → ArePuttable m.reserve.store.persist plan.records → IsBounded m.reserve.store.persist (insight_in plan.basis)
+      → IsCutIn new (past_now configured_layers over s.life.told m.fills).records plan.records r.keeper.mark
       → old.faults < new.faults → Keeps old new
       → Stands new over (stopped m r tables (H.OfEvent event))
-  event_stops old new over s runs r tables planned may cut rose keeps =
-      let past : Past = past_now built_layers over s.life.told m.fills in
+  event_stops old new over s runs r tables planned may bounded cut rose keeps =
+      let past : Past = past_now configured_layers over s.life.told m.fills in
       let h : IsBefore past m = (s.usable runs).before in
-      stopped_stands law old new over m s runs r tables event (insight_in plan.basis) plan.records planned.sees
-      (planned.records ∙ ap (λ a. stores built_layers past event (insight_in plan.basis) a) planned.answer)
-      (plan_kept past m event plan planned_tables h planned may) cut
+      let kept : AreKept (config_of past.records) plan.records = plan_kept laws past m event plan planned_tables h planned may bounded in
+      stopped_stands laws old new over m s runs r tables event (insight_in plan.basis) plan.records planned.sees
+      (planned.records ∙ ap (λ a. stores configured_layers past event (insight_in plan.basis) a) planned.answer)
+      kept cut
       (omega (arith, s.began, rose, ap (λ (x : Setting). x.faults) keeps.setting))
 
   -- the invariant
-  pub event_ready : (ready : IsReady m) (r : Reserve) (tables : TablesView) (entry : Entry)
+  pub event_ready : (ready : IsReady m) (r : Reserve) (tables : NodeTablesView) (entry : Entry)
       → IsPlanned ready.past event plan planned_tables
-      → ArePuttable m.reserve.store.persist plan.records
-      → ((told : List Told) → AreTablesOf planned_tables told → AreTablesOf tables told)
+      → ArePuttable m.reserve.store.persist plan.records → IsBounded m.reserve.store.persist (insight_in plan.basis)
+      → ((past : Past) → AreNodeTablesOf planned_tables past → AreNodeTablesOf tables past)
       → entry.event ≡ event → entry.answer ≡ plan.answer
       → IsMeaningOf (ready.past.records ++ plan.records) r.store.persist
-      → IsPublished r.store r.keeper → IsFit tables r.store.persist → r.store.journal.closed ≡ false → m.elements ≡ r.store.persist.elements
+      → IsPublished r.store r.keeper → IsFitFor tables r.store.persist → r.store.journal.closed ≡ false → m.elements ≡ r.store.persist.elements
       → IsReady (entered m r tables entry)
-  event_ready ready r tables entry planned may renewed is answer meaning published fit usable elements =
+  event_ready ready r tables entry planned may bounded renewed is answer meaning published fit usable elements =
       let past : Past = ready.past in
+      let kept : AreKept (config_of past.records) plan.records = plan_kept laws past m event plan planned_tables ready.before planned may bounded in
       record {
-        past = record { told = past.told ++ told_by past entry (insight_in plan.basis) ∷ []; records = past.records ++ plan.records };
-        before = before_more law past m r tables entry (insight_in plan.basis) plan.records ready.before
-            (plan_kept past m event plan planned_tables ready.before planned may) meaning
-            (renewed _ (planned.tables (told_by past entry (insight_in plan.basis)) is refl answer refl));
+        past = with_entry past.told (told_by past entry (insight_in plan.basis)) (past.records ++ plan.records);
+        before = before_more laws.whole past m r tables entry (insight_in plan.basis) plan.records ready.before
+            kept meaning
+            (renewed _ (planned.tables (told_by past entry (insight_in plan.basis)) (past.records ++ plan.records) is refl answer refl (kept_node_of past.records plan.records kept).elements));
         published = published;
         fit = fit;
         usable = usable;
@@ -190,37 +207,45 @@ module _ (law : KeptLaw) (m : NodeMachine) (event : Event) (plan : Plan) (planne
   -- the jobs
   pub event_jobs : (ready : IsReady m) (p : Persist) (jobs : List Job) (elements : ℕ)
       → IsPlanned ready.past event plan planned_tables
-      → ArePuttable m.reserve.store.persist plan.records
+      → ArePuttable m.reserve.store.persist plan.records → IsBounded m.reserve.store.persist (insight_in plan.basis)
       → IsMeaningOf (ready.past.records ++ plan.records) p
-      → jobs ≡ jobs_of built_layers ready.past (config_in p) event (insight_in plan.basis) plan.answer
+      → jobs ≡ jobs_of configured_layers ready.past (config_in p) event (insight_in plan.basis) plan.answer
       → IsEvent elements event → All (IsJob event) jobs
-  event_jobs ready p jobs elements planned may meaning is e =
+  event_jobs ready p jobs elements planned may bounded meaning is e =
       let past : Past = ready.past in
-      let kept : AreKept (config_of past.records) plan.records = plan_kept past m event plan planned_tables ready.before planned may in
-      let short = (narrow_of (past.records ++ plan.records) (all_ranges past.records plan.records kept ready.before.standing.ranges)).ttl in
+      let kept : AreKept (config_of past.records) plan.records = plan_kept laws past m event plan planned_tables ready.before planned may bounded in
+      let ranges : All IsInRange (past.records ++ plan.records) = all_ranges past.records plan.records kept ready.before.standing.ranges in
       subst (λ l. All (IsJob event) l) (sym is)
       (jobs_ranged past (config_in p) event (insight_in plan.basis) plan.answer elements planned.sees e
-      (subst (λ (c : Config). c.ttl < 2 ^ 7) (sym meaning.config) short)
+      (subst (λ (c : Config). c.ttl < 2 ^ 7) (sym meaning.config) (narrow_of (past.records ++ plan.records) ranges).ttl)
+      (subst (λ (c : Config). Every IsPublishRow c.publications) (sym meaning.config) (built_of (past.records ++ plan.records) ranges).publications)
       (every_map (λ (t : Told). All IsInRange t.records) IsShortTold short_told past.told (recursion_from_All (λ (t : Told). All IsInRange t.records) past.told ready.before.told))
       (rounds_held past event plan.basis plan.answer planned.basis planned.answer))
 
   pub event_quiet : (ready : IsReady m) (p : Persist) (jobs : List Job)
-      → jobs ≡ jobs_of built_layers ready.past (config_in p) event (insight_in plan.basis) plan.answer
+      → jobs ≡ jobs_of configured_layers ready.past (config_in p) event (insight_in plan.basis) plan.answer
       → is_outside event ≡ false → All IsQuiet jobs
   event_quiet ready p jobs is e =
       subst (λ l. All IsQuiet l) (sym is) (jobs_quiet ready.past (config_in p) event (insight_in plan.basis) plan.answer e)
 
-  pub event_after : (ready : IsReady m) (p : Persist) → IsPlanned ready.past event plan planned_tables → ArePuttable m.reserve.store.persist plan.records
-      → IsMeaningOf (ready.past.records ++ plan.records) p → config_in p ≡ fold changed (config_in m.reserve.store.persist) plan.records
-      → IsAfter m.elements p
-  event_after ready p planned may meaning change =
+  -- the elements are those of before
+  pub event_node_over : (past : Past) (p : Persist) → IsBefore past m → IsPlanned past event plan planned_tables
+      → ArePuttable m.reserve.store.persist plan.records → IsBounded m.reserve.store.persist (insight_in plan.basis)
+      → IsMeaningOf (past.records ++ plan.records) p → IsSameNode (config_before past) (config_in p)
+  event_node_over past p h planned may bounded meaning =
+      subst (λ c. IsSameNode (config_of past.records) c) (sym meaning.config)
+      (kept_node_of past.records plan.records (plan_kept laws past m event plan planned_tables h planned may bounded))
+
+  pub event_after : (ready : IsReady m) (p : Persist) → IsPlanned ready.past event plan planned_tables
+      → ArePuttable m.reserve.store.persist plan.records → IsBounded m.reserve.store.persist (insight_in plan.basis)
+      → IsMeaningOf (ready.past.records ++ plan.records) p → IsAfter m.elements p
+  event_after ready p planned may bounded meaning =
       let past : Past = ready.past in
-      let kept : AreKept (config_of past.records) plan.records = plan_kept past m event plan planned_tables ready.before planned may in
-      let whole : IsWhole (config_in p) = subst IsWhole (sym meaning.config) (all_whole law past.records plan.records kept ready.before.whole) in
-      let same : IsSameNode (config_in m.reserve.store.persist) (fold changed (config_in m.reserve.store.persist) plan.records) =
-      kept_node (config_in m.reserve.store.persist) plan.records (subst (λ c. AreKept c plan.records) (sym ready.before.standing.meaning.config) kept) in
+      let kept : AreKept (config_of past.records) plan.records = plan_kept laws past m event plan planned_tables ready.before planned may bounded in
+      let whole : IsWhole (config_in p) = subst IsWhole (sym meaning.config) (all_whole laws.whole past.records plan.records kept ready.before.standing.whole) in
+      let node : IsSameNode (config_of past.records) (config_in p) = event_node_over past p ready.before planned may bounded meaning in
       record {
         whole = whole;
-        same = ready.elements ∙ sym (ap (λ (c : Config). c.elements) change ∙ same.elements);
+        same = ready.elements ∙ ap (λ (c : Config). c.elements) ready.before.standing.meaning.config ∙ sym node.elements;
         unicast = whole.last;
       }

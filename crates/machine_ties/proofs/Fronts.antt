@@ -96,3 +96,8 @@ kept_node c (item ∷ items) h =
     let one : IsSameNode c (changed c item) = same_changed c item h.2 in
     let rest : IsSameNode (changed c item) (fold changed (changed c item) items) = kept_node (changed c item) items h.3 in
     record { unicast = rest.unicast ∙ one.unicast; elements = rest.elements ∙ one.elements }
+
+-- those that records say
+pub kept_node_of : (records items : List StoreRecord) → AreKept (config_of records) items → IsSameNode (config_of records) (config_of (records ++ items))
+kept_node_of records items h =
+    subst (λ c. IsSameNode (config_of records) c) (sym (fold-append changed no_config records items)) (kept_node (config_of records) items h)

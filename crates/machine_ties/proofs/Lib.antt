@@ -3,6 +3,9 @@ pub mod Lives
 pub mod Fronts
 pub mod Images
 pub mod Acks
+pub mod Widths
+pub mod Replied
+pub mod Published
 pub mod Asked
 pub mod Stored
 pub mod Standings

@@ -2,6 +2,7 @@
 use Rattle.std.proofs.Common.{◌≡◌, ℕ, ◌≤◌, Bool, true, false, List, [], append-nil, refl, ap, sym, subst, ◌∙◌, arith, true≢false}
 use Rattle.std.specs.Prelude.{All, IsTrue}
 use Rattle.std.proofs.lemmas.List.Elements.{All-from_recursion}
+use Rattle.event_plans.specs.Memory.{AreNodeTablesOf, IsFitFor, NodeTablesView}
 use Rattle.flash_model.specs.Chip.{Chip}
 use Rattle.machine_contract.specs.Refused.{IsStartCause, IsUntouched, WasReset}
 use Rattle.machine_contract.specs.Standing.{IsSameFlash}
@@ -10,7 +11,6 @@ use Rattle.machine_ties.proofs.Lists.{all_nothing}
 use Rattle.machine_ties.specs.Opening.{start_fault_of}
 use Rattle.machine_ties.specs.Ties.{IsBefore, IsReady, Stands, opened}
 use Rattle.machine_ties.specs.Views.{NodeMachine}
-use Rattle.mesh_hearing.specs.Tables.{AreTablesOf, IsFit, TablesView}
 use Rattle.node_records.specs.Meaning.{IsMeaningOf}
 use Rattle.node_store.proofs.Holding.{held_node, store_meaning}
 use Rattle.node_store.specs.Causes.{IsFoundAs, IsStoreCause}
@@ -29,16 +29,15 @@ use Rattle.store_definitions.specs.Config.{Config, config_of}
 use Rattle.store_definitions.specs.Node.{IsWhole}
 use Rattle.store_definitions.specs.Ranges.{IsInRange}
 
-opened_before : (over : List StoreRecord) (r : Reserve) (t : TablesView) (elements : ℕ) → IsMeaningOf over r.store.persist → All IsInRange over → IsWhole (config_of over)
-    → AreTablesOf t [] → IsBefore (record { told = []; records = over }) (opened r t elements)
+opened_before : (over : List StoreRecord) (r : Reserve) (t : NodeTablesView) (elements : ℕ) → IsMeaningOf over r.store.persist → All IsInRange over → IsWhole (config_of over)
+    → AreNodeTablesOf t (record { told = []; records = over }) → IsBefore (record { told = []; records = over }) (opened r t elements)
 opened_before over r t elements meaning ranges whole tables = record {
-  standing = record { meaning = meaning; tables = tables; ranges = ranges };
-  whole = whole;
+  standing = record { meaning = meaning; tables = tables; ranges = ranges; whole = whole };
   told = All-from_recursion (λ (x : Told). All IsInRange x.records) [] tt;
 }
 
-pub opened_stands : (chip : Chip) (over : List StoreRecord) (r : Reserve) (t : TablesView) (elements : ℕ) → IsStoreOf chip r.store over → All IsInRange over → IsWhole (config_of over)
-    → AreTablesOf t [] → IsPublished r.store r.keeper → elements ≡ r.store.persist.elements → chip.setting.faults ≤ chip.faults
+pub opened_stands : (chip : Chip) (over : List StoreRecord) (r : Reserve) (t : NodeTablesView) (elements : ℕ) → IsStoreOf chip r.store over → All IsInRange over → IsWhole (config_of over)
+    → AreNodeTablesOf t (record { told = []; records = over }) → IsPublished r.store r.keeper → elements ≡ r.store.persist.elements → chip.setting.faults ≤ chip.faults
     → Stands chip over (opened r t elements)
 opened_stands chip over r t elements store ranges whole tables published is began =
     let meaning = store_meaning chip r.store over store in
@@ -58,8 +57,8 @@ opened_stands chip over r t elements store ranges whole tables published is bega
       began = began;
     }
 
-pub opened_ready : (over : List StoreRecord) (r : Reserve) (t : TablesView) (elements : ℕ) → IsMeaningOf over r.store.persist → All IsInRange over → IsWhole (config_of over)
-    → AreTablesOf t [] → IsPublished r.store r.keeper → IsFit t r.store.persist → r.store.journal.closed ≡ false → elements ≡ r.store.persist.elements
+pub opened_ready : (over : List StoreRecord) (r : Reserve) (t : NodeTablesView) (elements : ℕ) → IsMeaningOf over r.store.persist → All IsInRange over → IsWhole (config_of over)
+    → AreNodeTablesOf t (record { told = []; records = over }) → IsPublished r.store r.keeper → IsFitFor t r.store.persist → r.store.journal.closed ≡ false → elements ≡ r.store.persist.elements
     → IsReady (opened r t elements)
 opened_ready over r t elements meaning ranges whole tables published fit usable is = record {
   past = record { told = []; records = over };

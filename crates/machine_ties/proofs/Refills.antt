@@ -1,20 +1,21 @@
 -- What a refill leaves, whether its record was stored or not.
 use Rattle.std.proofs.Common.{◌≡◌, ℕ, ◌<◌, ◌^◌, ⊎_elim, false, List, [], ◌∷◌, ◌++◌, append-nil, ap, sym, subst, ◌∙◌, arith}
 use Rattle.std.specs.Prelude.{All, IsTrue}
+use Rattle.event_plans.specs.Memory.{IsFitFor}
 use Rattle.flash_model.specs.Chip.{Chip, Keeps, Setting}
 use Rattle.machine_contract.specs.Standing.{past_now}
 use Rattle.machine_contract.specs.declared.answers.Hand.TheVariants as H
-use Rattle.machine_ties.proofs.Fronts.{all_ranges, all_whole}
-use Rattle.machine_ties.proofs.Standings.{refilled_stands, unfilled_stands}
-use Rattle.machine_ties.specs.Kept.{AreKept, KeptLaw}
+use Rattle.machine_ties.proofs.Fronts.{IsSameNode, kept_node_of}
+use Rattle.machine_ties.proofs.Standings.{refilled_standing, refilled_stands, unfilled_stands}
+use Rattle.machine_ties.specs.Kept.{AreKeeping, AreKept}
 use Rattle.machine_ties.specs.Ties.{IsBefore, IsCutIn, IsReady, Stands, refilled, stopped}
 use Rattle.machine_ties.specs.Views.{NodeMachine}
-use Rattle.mesh_reading.specs.Held.{held_in}
 use Rattle.node_records.proofs.Said.{iv_of}
 use Rattle.node_records.specs.Meaning.{IsMeaningOf}
 use Rattle.node_records.specs.Tables.{config_in}
+use Rattle.node_records.specs.declared.persist.Persist.{Persist}
 use Rattle.node_store.specs.Tie.{Holds, IsFront, IsPut, IsStoreOf}
-use Rattle.node_layers.specs.BuiltLayers.{built_layers}
+use Rattle.node_layers.specs.ConfiguredLayers.{configured_layers}
 use Rattle.record_types.specs.declared.records.StoreRecord.{StoreRecord}
 use Rattle.run_definitions.specs.History.{Past}
 use Rattle.seq_reserve.proofs.Marks.{mark_more}
@@ -46,37 +47,45 @@ put_cut chip records item mark honest puts durable = record {
   durable = durable;
 }
 
-module _ (law : KeptLaw) (m : NodeMachine) where
+module _ (laws : AreKeeping) (m : NodeMachine) where
   seq_now : (past : Past) → IsBefore past m → m.reserve.keeper.mark ≡ m.reserve.store.persist.mark → seq_of m.reserve.keeper.mark < 2 ^ 24 → seq_of (config_of past.records).mark < 2 ^ 24
   seq_now past h published seq =
       subst (λ n. seq_of n < 2 ^ 24) (published ∙ ap (λ (c : Config). c.mark) h.standing.meaning.config) seq
 
+  -- a refill leaves the elements
+  pub refill_node : (past : Past) (p : Persist) → IsBefore past m → m.reserve.keeper.mark ≡ m.reserve.store.persist.mark → seq_of m.reserve.keeper.mark < 2 ^ 24
+      → IsMeaningOf (past.records ++ fill_of (config_of past.records) ∷ []) p → IsSameNode (config_in m.reserve.store.persist) (config_in p)
+  refill_node past p h published seq meaning =
+      let c = config_of past.records in
+      let same : IsSameNode c (config_of (past.records ++ fill_of c ∷ [])) = kept_node_of past.records (fill_of c ∷ []) (fill_kept past.records h.standing.ranges (seq_now past h published seq)) in
+      subst (λ d. IsSameNode (config_in m.reserve.store.persist) d) (sym meaning.config) (subst (λ d. IsSameNode d (config_of (past.records ++ fill_of c ∷ []))) (sym h.standing.meaning.config) same)
+
   pub refill_stands : (old new : Chip) (over : List StoreRecord) (s : Stands old over m) → m.closed ≡ false → (r : Reserve)
       → IsPublished m.reserve.store m.reserve.keeper → seq_of m.reserve.keeper.mark < 2 ^ 24
-      → IsStoreOf new r.store ((past_now built_layers over s.life.told m.fills).records ++ fill_of (config_of (past_now built_layers over s.life.told m.fills).records) ∷ [])
-      → IsMeaningOf ((past_now built_layers over s.life.told m.fills).records ++ fill_of (config_of (past_now built_layers over s.life.told m.fills).records) ∷ []) r.store.persist
+      → IsStoreOf new r.store ((past_now configured_layers over s.life.told m.fills).records ++ fill_of (config_of (past_now configured_layers over s.life.told m.fills).records) ∷ [])
+      → IsMeaningOf ((past_now configured_layers over s.life.told m.fills).records ++ fill_of (config_of (past_now configured_layers over s.life.told m.fills).records) ∷ []) r.store.persist
       → IsPublished r.store r.keeper → Keeps old new
       → Stands new over (refilled m r)
   refill_stands old new over s runs r before seq store meaning published keeps =
-      let past : Past = past_now built_layers over s.life.told m.fills in
+      let past : Past = past_now configured_layers over s.life.told m.fills in
       let h : IsBefore past m = (s.usable runs).before in
-      refilled_stands law old new over m s runs r (fill_kept past.records h.standing.ranges (seq_now past h before seq)) store published meaning
+      refilled_stands laws old new over m s runs r (fill_kept past.records h.standing.ranges (seq_now past h before seq)) store published meaning
       (omega (arith, s.began, keeps.later, ap (λ (x : Setting). x.faults) keeps.setting))
 
   pub refill_stops : (old new : Chip) (over : List StoreRecord) (s : Stands old over m) → m.closed ≡ false → (r : Reserve)
       → IsPublished m.reserve.store m.reserve.keeper → seq_of m.reserve.keeper.mark < 2 ^ 24
-      → IsCutIn new (past_now built_layers over s.life.told m.fills).records (fill_of (config_of (past_now built_layers over s.life.told m.fills).records) ∷ []) r.keeper.mark
+      → IsCutIn new (past_now configured_layers over s.life.told m.fills).records (fill_of (config_of (past_now configured_layers over s.life.told m.fills).records) ∷ []) r.keeper.mark
       → old.faults < new.faults → Keeps old new
       → Stands new over (stopped m r m.tables H.OfRefill)
   refill_stops old new over s runs r before seq cut rose keeps =
-      let past : Past = past_now built_layers over s.life.told m.fills in
+      let past : Past = past_now configured_layers over s.life.told m.fills in
       let h : IsBefore past m = (s.usable runs).before in
-      unfilled_stands law old new over m s runs r (fill_kept past.records h.standing.ranges (seq_now past h before seq)) cut
+      unfilled_stands laws old new over m s runs r (fill_kept past.records h.standing.ranges (seq_now past h before seq)) cut
       (omega (arith, s.began, rose, ap (λ (x : Setting). x.faults) keeps.setting))
 
   pub refill_ready : (ready : IsReady m) (r : Reserve) → seq_of m.reserve.keeper.mark < 2 ^ 24
       → IsMeaningOf (ready.past.records ++ fill_of (config_of ready.past.records) ∷ []) r.store.persist → IsPublished r.store r.keeper → r.store.journal.closed ≡ false
-      → m.tables.keys ≡ held_in (config_in r.store.persist) → m.elements ≡ r.store.persist.elements
+      → IsFitFor m.tables r.store.persist → m.elements ≡ r.store.persist.elements
       → IsReady (refilled m r)
   refill_ready ready r seq meaning published usable fit elements =
       let past : Past = ready.past in
@@ -85,8 +94,7 @@ module _ (law : KeptLaw) (m : NodeMachine) where
       record {
         past = record { told = past.told; records = past.records ++ fill_of (config_of past.records) ∷ [] };
         before = record {
-          standing = record { meaning = meaning; tables = h.standing.tables; ranges = all_ranges past.records (fill_of (config_of past.records) ∷ []) kept h.standing.ranges };
-          whole = all_whole law past.records (fill_of (config_of past.records) ∷ []) kept h.whole;
+          standing = refilled_standing laws past m r kept meaning h;
           told = h.told;
         };
         published = published;

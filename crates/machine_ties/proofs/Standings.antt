@@ -2,6 +2,9 @@
 use Rattle.std.proofs.Common.{◌≡◌, ℕ, ◌+◌, ◌≤◌, ◌<◌, ◌^◌, suc, zero, ◌⊎◌, inl, inr, false, List, [], ◌∷◌, ◌++◌, length, take, refl, ap, sym, subst, ◌∙◌, arith, true≢false, add-one, length-append}
 use Rattle.std.specs.Prelude.{All}
 use Rattle.std.proofs.lemmas.List.{map-append}
+use Rattle.event_plans.specs.Memory.{AreNodeTablesOf, NodeTablesView}
+use Rattle.event_plans.specs.Plans.{IsStanding}
+use Rattle.element_models.specs.Models.{over as over_records}
 use Rattle.flash_model.specs.Chip.{Chip, Keeps}
 use Rattle.machine_contract.specs.declared.answers.Hand.TheVariants as H
 use Rattle.machine_contract.specs.Opening.{IsLeft}
@@ -10,18 +13,18 @@ use Rattle.machine_ties.proofs.Fronts.{all_ranges, all_whole}
 use Rattle.machine_ties.proofs.Images.{front_left, front_node, store_left, store_mark, store_node}
 use Rattle.machine_ties.proofs.Lists.{all_append, all_one}
 use Rattle.machine_ties.proofs.Lives.{filled_more}
-use Rattle.run_definitions.proofs.Handling.{handled_more, left_more}
-use Rattle.machine_ties.specs.Kept.{AreKept, KeptLaw}
+use Rattle.machine_ties.specs.Kept.{AreKeeping, AreKept, KeptLaw}
 use Rattle.machine_ties.specs.Ties.{IsBefore, IsCutIn, IsOver, Stands, entered, refilled, stopped}
 use Rattle.machine_ties.specs.Views.{NodeMachine}
-use Rattle.mesh_hearing.specs.Tables.{AreTablesOf, TablesView}
 use Rattle.mesh_types.specs.declared.events.Event.{Event}
 use Rattle.mesh_types.specs.declared.history.Entry.{Entry}
-use Rattle.node_layers.specs.BuiltLayers.{built_layers}
+use Rattle.node_layers.specs.ConfiguredLayers.{configured_layers}
+use Rattle.node_layers.specs.Steps.{with_entry}
 use Rattle.node_records.specs.Meaning.{IsMeaningOf}
 use Rattle.node_store.specs.Tie.{IsStoreOf}
 use Rattle.record_types.specs.declared.records.StoreRecord.{StoreRecord}
 use Rattle.run_definitions.specs.Answers.{answer_of}
+use Rattle.run_definitions.proofs.Handling.{handled_more, left_more}
 use Rattle.run_definitions.specs.Handling.{Handles, records_left}
 use Rattle.run_definitions.specs.History.{Insight, Past, Told}
 use Rattle.run_definitions.specs.Readings.{Sees}
@@ -35,36 +38,48 @@ use Rattle.store_definitions.specs.Ranges.{IsInRange}
 abbrev pub told_by : Past → Entry → Insight → Told
 told_by past entry insight = record { entry = entry; insight = insight; records = past.records }
 
-abbrev with_told : Past → Told → List StoreRecord → Past
-with_told past t records = record { told = past.told ++ t ∷ []; records = records }
-
 -- What stands before the next event.
-pub before_more : KeptLaw → (past : Past) (m : NodeMachine) (r : Reserve) (tables : TablesView) (entry : Entry) (insight : Insight) (records : List StoreRecord)
+pub before_more : KeptLaw → (past : Past) (m : NodeMachine) (r : Reserve) (tables : NodeTablesView) (entry : Entry) (insight : Insight) (records : List StoreRecord)
     → IsBefore past m → AreKept (config_of past.records) records → IsMeaningOf (past.records ++ records) r.store.persist
-    → AreTablesOf tables (past.told ++ told_by past entry insight ∷ [])
-    → IsBefore (with_told past (told_by past entry insight) (past.records ++ records)) (entered m r tables entry)
+    → AreNodeTablesOf tables (with_entry past.told (told_by past entry insight) (past.records ++ records))
+    → IsBefore (with_entry past.told (told_by past entry insight) (past.records ++ records)) (entered m r tables entry)
 before_more law past m r tables entry insight records h kept meaning tied = record {
-  standing = record { meaning = meaning; tables = tied; ranges = all_ranges past.records records kept h.standing.ranges };
-  whole = all_whole law past.records records kept h.whole;
+  standing = record {
+    meaning = meaning;
+    tables = tied;
+    ranges = all_ranges past.records records kept h.standing.ranges;
+    whole = all_whole law past.records records kept h.standing.whole;
+  };
   told = all_append (λ (t : Told). All IsInRange t.records) past.told (told_by past entry insight ∷ []) h.told (all_one (λ (t : Told). All IsInRange t.records) (told_by past entry insight) h.standing.ranges);
+}
+
+-- What stands before the next event after a refill: what is kept in memory knows nothing of it.
+pub refilled_standing : AreKeeping → (past : Past) (m : NodeMachine) (r : Reserve) → AreKept (config_of past.records) (fill_of (config_of past.records) ∷ [])
+    → IsMeaningOf (past.records ++ fill_of (config_of past.records) ∷ []) r.store.persist → IsBefore past m
+    → IsStanding (over_records past (past.records ++ fill_of (config_of past.records) ∷ [])) r.store.persist m.tables
+refilled_standing laws past m r kept meaning h = record {
+  meaning = meaning;
+  tables = record { hearing = h.standing.tables.hearing; models = laws.refilled m.tables.models past 1 h.standing.tables.models };
+  ranges = all_ranges past.records (fill_of (config_of past.records) ∷ []) kept h.standing.ranges;
+  whole = all_whole laws.whole past.records (fill_of (config_of past.records) ∷ []) kept h.standing.whole;
 }
 
 -- A machine with an entry more.
 
-entered_left : (over : List StoreRecord) (told : List Told) (n : ℕ) (t : Told) → t.records ≡ filled n (records_left built_layers over [] told)
-    → records_left built_layers over [] (told ++ t ∷ []) ≡ filled n (records_left built_layers over [] told) ++ stores built_layers (past_now built_layers over told n) t.entry.event t.insight t.entry.answer
+entered_left : (over : List StoreRecord) (told : List Told) (n : ℕ) (t : Told) → t.records ≡ filled n (records_left configured_layers over [] told)
+    → records_left configured_layers over [] (told ++ t ∷ []) ≡ filled n (records_left configured_layers over [] told) ++ stores configured_layers (past_now configured_layers over told n) t.entry.event t.insight t.entry.answer
 entered_left over told n t e =
-    left_more built_layers over [] told t
-    ∙ ap (λ l. l ++ stores built_layers (record { told = told; records = l }) t.entry.event t.insight t.entry.answer) e
+    left_more configured_layers over [] told t
+    ∙ ap (λ l. l ++ stores configured_layers (record { told = told; records = l }) t.entry.event t.insight t.entry.answer) e
 
-module _ (law : KeptLaw) (old new : Chip) (over : List StoreRecord) (m : NodeMachine) (s : Stands old over m) (runs : m.closed ≡ false) where
+module _ (laws : AreKeeping) (old new : Chip) (over : List StoreRecord) (m : NodeMachine) (s : Stands old over m) (runs : m.closed ≡ false) where
   abbrev past : Past
-  past = past_now built_layers over s.life.told m.fills
+  past = past_now configured_layers over s.life.told m.fills
 
-  pub entered_stands : (r : Reserve) (tables : TablesView) (entry : Entry) (insight : Insight) (records : List StoreRecord)
-      → entry.fills ≡ m.fills → Handles built_layers past (told_by past entry insight)
-      → records ≡ stores built_layers past entry.event insight entry.answer → AreKept (config_of past.records) records
-      → AreTablesOf tables (past.told ++ told_by past entry insight ∷ []) → length m.entries + 1 < 2 ^ 32
+  pub entered_stands : (r : Reserve) (tables : NodeTablesView) (entry : Entry) (insight : Insight) (records : List StoreRecord)
+      → entry.fills ≡ m.fills → Handles configured_layers past (told_by past entry insight)
+      → records ≡ stores configured_layers past entry.event insight entry.answer → AreKept (config_of past.records) records
+      → AreNodeTablesOf tables (with_entry past.told (told_by past entry insight) (past.records ++ records)) → length m.entries + 1 < 2 ^ 32
       → IsStoreOf new r.store (past.records ++ records) → r.keeper.mark ≡ r.store.persist.mark → Keeps old new
       → IsMeaningOf (past.records ++ records) r.store.persist
       → new.setting.faults ≤ new.faults
@@ -72,19 +87,19 @@ module _ (law : KeptLaw) (old new : Chip) (over : List StoreRecord) (m : NodeMac
   entered_stands r tables entry insight records fills handles is kept tied few store mark keeps meaning began =
       let t : Told = told_by past entry insight in
       let all : List StoreRecord = past.records ++ records in
-      let left_is : records_left built_layers over [] (past.told ++ t ∷ []) ≡ all =
+      let left_is : records_left configured_layers over [] (past.told ++ t ∷ []) ≡ all =
       entered_left over past.told m.fills t refl ∙ ap (λ l. past.records ++ l) (sym is) in
-      let before : IsBefore (with_told past t all) (entered m r tables entry) = before_more law past m r tables entry insight records (s.usable runs).before kept meaning tied in
+      let before : IsBefore (with_entry past.told t all) (entered m r tables entry) = before_more laws.whole past m r tables entry insight records (s.usable runs).before kept meaning tied in
       record {
         life = record {
           told = past.told ++ t ∷ [];
           entries = map-append (λ (x : Told). x.entry) past.told (t ∷ []) ∙ ap (λ l. l ++ entry ∷ []) s.life.entries;
-          handled = handled_more built_layers over [] past.told t s.life.handled (ap (λ n. filled n (records_left built_layers over [] past.told)) (sym fills)) handles;
+          handled = handled_more configured_layers over [] past.told t s.life.handled (ap (λ n. filled n (records_left configured_layers over [] past.told)) (sym fills)) handles;
           few = omega (arith, few, length-append m.entries (entry ∷ []));
           elements = s.life.elements;
-          node = store_node new r.store all store before.whole;
+          node = store_node new r.store all store before.standing.whole;
           left = λ image next held found. (
-            subst (λ h. IsLeftBy built_layers (past_now built_layers over (past.told ++ t ∷ []) 0) h next) (sym (s.life.idle runs))
+            subst (λ h. IsLeftBy configured_layers (past_now configured_layers over (past.told ++ t ∷ []) 0) h next) (sym (s.life.idle runs))
                 (subst (λ l. IsLeft l [] next) (sym left_is) (store_left new r.store all store before.standing.ranges image next held found)),
             store_mark new r.store all r.keeper.mark store mark image next held found,
           );
@@ -96,9 +111,9 @@ module _ (law : KeptLaw) (old new : Chip) (over : List StoreRecord) (m : NodeMac
       }
 
   -- A machine that a failed event closed.
-  pub stopped_stands : (r : Reserve) (tables : TablesView) (event : Event) (insight : Insight) (records : List StoreRecord)
-      → Sees built_layers past event insight
-      → records ≡ stores built_layers past event insight (answer_of built_layers past event insight) → AreKept (config_of past.records) records
+  pub stopped_stands : (r : Reserve) (tables : NodeTablesView) (event : Event) (insight : Insight) (records : List StoreRecord)
+      → Sees configured_layers past event insight
+      → records ≡ stores configured_layers past event insight (answer_of configured_layers past event insight) → AreKept (config_of past.records) records
       → IsCutIn new past.records records r.keeper.mark → new.setting.faults < new.faults
       → Stands new over (stopped m r tables (H.OfEvent event))
   stopped_stands r tables event insight records sees is kept cut rose = record {
@@ -108,7 +123,7 @@ module _ (law : KeptLaw) (old new : Chip) (over : List StoreRecord) (m : NodeMac
       handled = s.life.handled;
       few = s.life.few;
       elements = s.life.elements;
-      node = record { honest = cut.honest; each = λ image held. front_node law image past.records records (cut.fronts image held) kept (s.usable runs).before.whole };
+      node = record { honest = cut.honest; each = λ image held. front_node laws.whole image past.records records (cut.fronts image held) kept (s.usable runs).before.standing.whole };
       left = λ image next held found. (
         inr (record {
           insight = insight;
@@ -137,7 +152,7 @@ module _ (law : KeptLaw) (old new : Chip) (over : List StoreRecord) (m : NodeMac
       handled = s.life.handled;
       few = s.life.few;
       elements = s.life.elements;
-      node = record { honest = cut.honest; each = λ image held. front_node law image past.records _ (cut.fronts image held) kept (s.usable runs).before.whole };
+      node = record { honest = cut.honest; each = λ image held. front_node laws.whole image past.records _ (cut.fronts image held) kept (s.usable runs).before.standing.whole };
       left = λ image next held found. (
         by_count (cut.fronts image held).n next (front_left image past.records _ next (cut.fronts image held) kept (s.usable runs).before.standing.ranges found),
         cut.durable image held next found,
@@ -163,12 +178,11 @@ module _ (law : KeptLaw) (old new : Chip) (over : List StoreRecord) (m : NodeMac
   refilled_stands r kept store mark meaning began =
       let item : List StoreRecord = fill_of (config_of past.records) ∷ [] in
       let all : List StoreRecord = past.records ++ item in
-      let left_is : filled (m.fills + 1) (records_left built_layers over [] past.told) ≡ all =
-      ap (λ n. filled n (records_left built_layers over [] past.told)) (add-one m.fills) ∙ filled_more m.fills (records_left built_layers over [] past.told) in
+      let left_is : filled (m.fills + 1) (records_left configured_layers over [] past.told) ≡ all =
+      ap (λ n. filled n (records_left configured_layers over [] past.told)) (add-one m.fills) ∙ filled_more m.fills (records_left configured_layers over [] past.told) in
       let h : IsBefore past m = (s.usable runs).before in
       let before : IsBefore (record { told = past.told; records = all }) (refilled m r) = record {
-        standing = record { meaning = meaning; tables = h.standing.tables; ranges = all_ranges past.records item kept h.standing.ranges };
-        whole = all_whole law past.records item kept h.whole;
+        standing = refilled_standing laws past m r kept meaning h;
         told = h.told;
       } in
       record {
@@ -178,9 +192,9 @@ module _ (law : KeptLaw) (old new : Chip) (over : List StoreRecord) (m : NodeMac
           handled = s.life.handled;
           few = s.life.few;
           elements = s.life.elements;
-          node = store_node new r.store all store before.whole;
+          node = store_node new r.store all store before.standing.whole;
           left = λ image next held found. (
-            subst (λ h. IsLeftBy built_layers (past_now built_layers over past.told (m.fills + 1)) h next) (sym (s.life.idle runs))
+            subst (λ h. IsLeftBy configured_layers (past_now configured_layers over past.told (m.fills + 1)) h next) (sym (s.life.idle runs))
                 (subst (λ l. IsLeft l [] next) (sym left_is) (store_left new r.store all store before.standing.ranges image next held found)),
             store_mark new r.store all r.keeper.mark store mark image next held found,
           );

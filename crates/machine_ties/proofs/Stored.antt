@@ -1,13 +1,14 @@
 -- What an event stores keeps the node whole.
-use Rattle.std.proofs.Common.{◌≡◌, ℕ, ◌<◌, suc, Bool, true, false, cond, eqb, leb, ◌&&◌, not, List, [], ◌∷◌, ◌++◌, refl, ap, sym, subst, ◌∙◌, arith, Option, Some, None}
+use Rattle.std.proofs.Common.{◌≡◌, ℕ, ◌<◌, suc, Bool, true, false, cond, eqb, leb, ◌&&◌, not, List, [], ◌∷◌, ◌++◌, refl, ap, subst, ◌∙◌, arith, Option, Some, None}
 use Rattle.std.specs.Bool.{⊤}
 use Rattle.std.specs.Prelude.{All}
 use Rattle.std.specs.List.{AllByRecursion as Every}
 use Rattle.std.proofs.lemmas.Bool.Decides.{nat_tests}
 use Rattle.std.proofs.lemmas.List.Elements.{All-from_recursion, recursion_from_All}
-use Rattle.event_plans.proofs.Accepts.{replay_of, stores_replay}
 use Rattle.layer_definitions.specs.KeyRefresh.{net_index, net_row}
-use Rattle.machine_ties.specs.Kept.{KeepWhole}
+use Rattle.layer_laws.specs.Laws.{IsWithinLimits, StoreFitting}
+use Rattle.machine_ties.specs.Kept.{AreKeeping, HasOctets, IsNoIdentity, KeepWhole}
+use Rattle.mesh_base.specs.declared.address.Address.{Address}
 use Rattle.mesh_base.specs.declared.beacon.Beacon.{Beacon}
 use Rattle.mesh_base.specs.declared.iv_state.IvStep.{IvStep}
 use Rattle.mesh_base.specs.declared.iv_state.IvStep.TheVariants as I
@@ -19,16 +20,60 @@ use Rattle.mesh_types.specs.declared.answers.KeyStep.{KeyStep}
 use Rattle.mesh_types.specs.declared.answers.KeyStep.TheVariants as S
 use Rattle.mesh_types.specs.declared.events.Event.{Event}
 use Rattle.mesh_types.specs.declared.events.Event.TheVariants as E
-use Rattle.node_layers.specs.BuiltLayers.{built_layers}
+use Rattle.node_layers.specs.ConfiguredLayers.{configured_layers}
+use Rattle.store_definitions.proofs.Pushes.{config_push}
 use Rattle.node_records.proofs.Rising.{RisesFrom, keyed_of}
 use Rattle.record_types.specs.declared.records.StoreRecord.{StoreRecord}
 use Rattle.record_types.specs.declared.records.StoreRecord.TheVariants as R
 use Rattle.run_definitions.specs.Answers.{answer_of, beacon_answer, config_before, key_step}
+use Rattle.run_definitions.specs.Fit.{AreStorable}
 use Rattle.run_definitions.specs.History.{Insight, OfBeacon, OfNothing, OfPdu, Past}
-use Rattle.run_definitions.specs.Stores.{hours_passed, hours_step, phase_records, step_records, stores}
-use Rattle.run_definitions.specs.Uses.{accepted}
-use Rattle.store_definitions.specs.Config.{Config, config_of}
-use Rattle.store_definitions.specs.Node.{HasNext, IsPhased, IsWhole}
+use Rattle.run_definitions.specs.Layers.{AccessMessage}
+use Rattle.run_definitions.specs.Stores.{asked, hours_passed, hours_step, message_of, phase_records, step_records, stores}
+use Rattle.run_safety.specs.Safety.{AreSafe, IsChange}
+use Rattle.store_definitions.specs.Config.{Config, changed, config_of}
+use Rattle.store_definitions.specs.Node.{HasNext, IsPhased, IsWhole, KeepsWhole}
+
+-- Changes that may be stored keep the node whole, and say no identity.
+
+no_identity : (item : StoreRecord) → IsChange item → IsNoIdentity item
+no_identity (R.Identity unicast elements dev_key) h = absurd h
+no_identity _ h = tt
+
+changes_keep : (c : Config) (before changes : List StoreRecord) → config_of before ≡ c → Every IsChange changes → AreStorable before changes → KeepWhole c changes
+changes_keep c before [] e k s = tt
+changes_keep c before (item ∷ changes) e k s = (
+  subst (λ d. KeepsWhole d item) e s.2,
+  no_identity item k.0,
+  changes_keep (changed c item) (before ++ item ∷ []) changes (config_push before item ∙ ap (λ (d : Config). changed d item) e) k.1 s.3,
+)
+
+asked_are : AreSafe configured_layers → (past : Past) (o : Option AccessMessage) → Every IsChange (asked configured_layers past o)
+asked_are safe past None = tt
+asked_are safe past (Some m) = recursion_from_All IsChange (configured_layers.changes past m) (safe.changes past m)
+
+asked_storable : StoreFitting configured_layers → (past : Past) (i : Insight) (name : Name) (dst : Address) → IsWhole (config_before past) → IsWithinLimits (config_before past) → HasOctets i
+    → AreStorable (past.records ++ R.Replay name None ∷ []) (asked configured_layers past (message_of i name dst))
+asked_storable fits past (OfPdu (Some r) low (Some o)) name dst whole limits octets =
+    fits past (record { name = name; dst = dst; net = r.by.index; ttl = r.fields.ttl; key = o.key; label = o.label; payload = o.payload }) whole limits octets
+asked_storable fits past (OfPdu (Some r) low None) name dst whole limits octets = tt
+asked_storable fits past (OfPdu None low opening) name dst whole limits octets = tt
+asked_storable fits past (OfBeacon b) name dst whole limits octets = tt
+asked_storable fits past OfNothing name dst whole limits octets = tt
+
+net_keep : AreKeeping → (past : Past) (octets : List ℕ) (i : Insight) (a : Answer) → IsWhole (config_of past.records) → IsWithinLimits (config_of past.records) → HasOctets i
+    → KeepWhole (config_of past.records) (stores configured_layers past (E.Net octets) i a)
+unfolding changed stores
+net_keep laws past octets i (A.Delivered name dst key payload) whole limits h = (
+  tt,
+  tt,
+  changes_keep (config_of past.records) (past.records ++ R.Replay name None ∷ []) (asked configured_layers past (message_of i name dst)) (config_push past.records (R.Replay name None))
+      (asked_are laws.safe past (message_of i name dst)) (asked_storable laws.storable past i name dst whole limits h),
+)
+net_keep laws past octets i (A.Control name dst opcode params) whole limits h = (tt, tt, tt)
+net_keep laws past octets i _ whole limits h = tt
+
+-- Steps of the IV state.
 
 steps_keep : (c d : Config) (step : IvStep) → KeepWhole c (step_records d step)
 steps_keep c d (I.Ignore rule) = tt
@@ -96,29 +141,25 @@ phases_keep c d index S.Phase0 iv h = (((λ e. absurd (omega (arith, e))), (λ e
 -- Events.
 
 bcn_keep : (past : Past) (octets : List ℕ) (i : Insight) → IsWhole (config_of past.records)
-    → KeepWhole (config_of past.records) (stores built_layers past (E.Bcn octets) i (answer_of built_layers past (E.Bcn octets) i))
+    → KeepWhole (config_of past.records) (stores configured_layers past (E.Bcn octets) i (answer_of configured_layers past (E.Bcn octets) i))
 unfolding answer_of stores
 bcn_keep past octets i whole = pick (config_before past).reset i
   where
-    pick : (reset : Bool) (i : Insight) → KeepWhole (config_of past.records) (stores built_layers past (E.Bcn octets) i (cond reset A.Reset (beacon_answer built_layers past i)))
+    pick : (reset : Bool) (i : Insight) → KeepWhole (config_of past.records) (stores configured_layers past (E.Bcn octets) i (cond reset A.Reset (beacon_answer configured_layers past i)))
     pick true i = tt
     pick false (OfBeacon (Some b)) = phases_keep (config_of past.records) (config_of past.records) b.index (key_step (net_row (config_of past.records).nets b.index) b) _ (phase_next past.records b whole)
     pick false (OfBeacon None) = tt
     pick false (OfPdu r low opening) = tt
     pick false OfNothing = tt
 
-tick_keep : (past : Past) (ticks : ℕ) (i : Insight) (a : Answer) → KeepWhole (config_of past.records) (stores built_layers past (E.Tick ticks) i a)
+tick_keep : (past : Past) (ticks : ℕ) (i : Insight) (a : Answer) → KeepWhole (config_of past.records) (stores configured_layers past (E.Tick ticks) i a)
 unfolding stores
 tick_keep past ticks i (A.Ticked now) = pick (eqb (hours_passed past ticks) 0)
   where
-    pick : (b : Bool) → KeepWhole (config_of past.records) (cond b [] (R.Hour (hours_step built_layers past ticks).0.hours (hours_step built_layers past ticks).0.since ∷ step_records (config_before past) (hours_step built_layers past ticks).1))
+    pick : (b : Bool) → KeepWhole (config_of past.records) (cond b [] (R.Hour (hours_step configured_layers past ticks).0.hours (hours_step configured_layers past ticks).0.since ∷ step_records (config_before past) (hours_step configured_layers past ticks).1))
     pick true = tt
-    pick false = (tt, tt, steps_keep _ (config_before past) (hours_step built_layers past ticks).1)
+    pick false = (tt, tt, steps_keep _ (config_before past) (hours_step configured_layers past ticks).1)
 tick_keep past ticks i _ = tt
-
-replays_keep : (c : Config) (o : Option Name) → KeepWhole c (replay_of o)
-replays_keep c None = tt
-replays_keep c (Some n) = (tt, tt, tt)
 
 -- an event that brings no octets and no time
 abbrev IsOwn : Event → Type 0
@@ -127,7 +168,7 @@ IsOwn (E.Bcn octets) = ⊥
 IsOwn (E.Tick ticks) = ⊥
 IsOwn _ = ⊤
 
-other_keep : (past : Past) (event : Event) (i : Insight) → IsOwn event → KeepWhole (config_of past.records) (stores built_layers past event i (answer_of built_layers past event i))
+other_keep : (past : Past) (event : Event) (i : Insight) → IsOwn event → KeepWhole (config_of past.records) (stores configured_layers past event i (answer_of configured_layers past event i))
 unfolding stores
 other_keep past (E.Net octets) i h = absurd h
 other_keep past (E.Bcn octets) i h = absurd h
@@ -137,13 +178,12 @@ other_keep past (E.Raw dst ttl tpdu) i h = tt
 other_keep past (E.Begin pair dst src ttl net akf aid upper) i h = tt
 other_keep past (E.Kept lpn fsn name pdu) i h = tt
 
-pub stores_keep : (past : Past) (event : Event) (i : Insight) → IsWhole (config_of past.records)
-    → KeepWhole (config_of past.records) (stores built_layers past event i (answer_of built_layers past event i))
-stores_keep past (E.Net octets) i whole =
-    subst (λ l. KeepWhole (config_of past.records) l) (sym (stores_replay past octets i (answer_of built_layers past (E.Net octets) i))) (replays_keep (config_of past.records) (accepted (answer_of built_layers past (E.Net octets) i)))
-stores_keep past (E.Bcn octets) i whole = bcn_keep past octets i whole
-stores_keep past (E.Tick ticks) i whole = tick_keep past ticks i (answer_of built_layers past (E.Tick ticks) i)
-stores_keep past (E.Send element dst ttl key payload) i whole = other_keep past (E.Send element dst ttl key payload) i tt
-stores_keep past (E.Raw dst ttl tpdu) i whole = other_keep past (E.Raw dst ttl tpdu) i tt
-stores_keep past (E.Begin pair dst src ttl net akf aid upper) i whole = other_keep past (E.Begin pair dst src ttl net akf aid upper) i tt
-stores_keep past (E.Kept lpn fsn name pdu) i whole = other_keep past (E.Kept lpn fsn name pdu) i tt
+pub stores_keep : AreKeeping → (past : Past) (event : Event) (i : Insight) → IsWhole (config_of past.records) → IsWithinLimits (config_of past.records) → HasOctets i
+    → KeepWhole (config_of past.records) (stores configured_layers past event i (answer_of configured_layers past event i))
+stores_keep laws past (E.Net octets) i whole limits h = net_keep laws past octets i (answer_of configured_layers past (E.Net octets) i) whole limits h
+stores_keep laws past (E.Bcn octets) i whole limits h = bcn_keep past octets i whole
+stores_keep laws past (E.Tick ticks) i whole limits h = tick_keep past ticks i (answer_of configured_layers past (E.Tick ticks) i)
+stores_keep laws past (E.Send element dst ttl key payload) i whole limits h = other_keep past (E.Send element dst ttl key payload) i tt
+stores_keep laws past (E.Raw dst ttl tpdu) i whole limits h = other_keep past (E.Raw dst ttl tpdu) i tt
+stores_keep laws past (E.Begin pair dst src ttl net akf aid upper) i whole limits h = other_keep past (E.Begin pair dst src ttl net akf aid upper) i tt
+stores_keep laws past (E.Kept lpn fsn name pdu) i whole limits h = other_keep past (E.Kept lpn fsn name pdu) i tt

@@ -1,14 +1,14 @@
 -- What holds of a machine, its flash and the records that its life opened over, between two calls.
 use Rattle.std.specs.Prelude.{◌≡◌, ℕ, ◌+◌, ◌≤◌, true, false, IsTrue, All, List, [], ◌∷◌, ◌++◌}
+use Rattle.event_plans.specs.Memory.{IsFitFor, NodeTablesView}
 use Rattle.event_plans.specs.Plans.{IsStanding}
 use Rattle.flash_model.specs.Chip.{Chip}
 use Rattle.machine_contract.specs.declared.answers.Hand.{Hand}
 use Rattle.machine_contract.specs.declared.answers.Hand.TheVariants as H
 use Rattle.machine_contract.specs.Standing.{IsLifeSoFar, past_now}
 use Rattle.machine_ties.specs.Views.{NodeMachine, shown}
-use Rattle.mesh_hearing.specs.Tables.{IsFit, TablesView}
 use Rattle.mesh_types.specs.declared.history.Entry.{Entry}
-use Rattle.node_layers.specs.BuiltLayers.{built_layers}
+use Rattle.node_layers.specs.ConfiguredLayers.{configured_layers}
 use Rattle.node_records.specs.Meaning.{IsMeaningOf}
 use Rattle.node_records.specs.declared.persist.Persist.{Persist}
 use Rattle.node_store.specs.Tie.{IsFront, IsNode, IsStoreOf}
@@ -20,19 +20,19 @@ use Rattle.store_definitions.specs.Config.{config_of}
 use Rattle.store_definitions.specs.Node.{IsWhole}
 use Rattle.store_definitions.specs.Ranges.{IsInRange}
 
--- What stands before the next event of a machine that isn't closed: the store's value says the records, whose node can be run, and the
--- tables are those of the entries. The records before each entry were in range, too.
+-- What stands before the next event of a machine that isn't closed: the store's value says the records, whose node can
+-- be run, and what it keeps in memory is that of the entries. The records before each entry were in range, too.
 pub record IsBefore (past : Past) (m : NodeMachine) : Type 0 where
   pub standing : IsStanding past m.reserve.store.persist m.tables
-  pub whole : IsWhole (config_of past.records)
   pub told : All (λ (t : Told). All IsInRange t.records) past.told
 
--- The store takes records, its mark is the keeper's, the keys are those that it says, and so are the elements.
+-- The store takes records, its mark is the keeper's, the keys are those that it says, the models are within its bounds,
+-- and the elements are those that it says.
 pub record IsReady (m : NodeMachine) : Type 0 where
   pub past : Past
   pub before : IsBefore past m
   pub published : IsPublished m.reserve.store m.reserve.keeper
-  pub fit : IsFit m.tables m.reserve.store.persist
+  pub fit : IsFitFor m.tables m.reserve.store.persist
   pub usable : m.reserve.store.journal.closed ≡ false
   pub elements : m.elements ≡ m.reserve.store.persist.elements
 
@@ -47,16 +47,17 @@ pub record IsOver (chip : Chip) (past : Past) (m : NodeMachine) : Type 0 where
 
 -- A machine stands over a flash and the records that its life opened over.
 pub record Stands (chip : Chip) (over : List StoreRecord) (m : NodeMachine) : Type 0 where
-  pub life : IsLifeSoFar built_layers IsNode chip over (shown m)
-  pub usable : m.closed ≡ false → IsOver chip (past_now built_layers over life.told m.fills) m
+  pub life : IsLifeSoFar configured_layers IsNode chip over (shown m)
+  pub usable : m.closed ≡ false → IsOver chip (past_now configured_layers over life.told m.fills) m
   pub began : chip.setting.faults ≤ chip.faults
 
 -- The machine after an event: with this entry, and no refill behind it.
-abbrev pub entered : NodeMachine → Reserve → TablesView → Entry → NodeMachine
-entered m reserve tables entry = record m { reserve = reserve; tables = tables; entries = m.entries ++ entry ∷ []; fills = 0 }
+abbrev pub entered : NodeMachine → Reserve → NodeTablesView → Entry → NodeMachine
+entered m reserve tables entry =
+    record m { reserve = reserve; tables = tables; entries = m.entries ++ entry ∷ []; fills = 0 }
 
 -- the machine that a call closed, with this in hand
-abbrev pub stopped : NodeMachine → Reserve → TablesView → Hand → NodeMachine
+abbrev pub stopped : NodeMachine → Reserve → NodeTablesView → Hand → NodeMachine
 stopped m reserve tables hand = record m { reserve = reserve; tables = tables; closed = true; hand = hand }
 
 -- the machine after a refill
@@ -70,7 +71,7 @@ pub record IsCutIn (chip : Chip) (records items : List StoreRecord) (mark : ℕ)
   pub durable : IsDurable chip mark
 
 -- the machine at the beginning of a life
-abbrev pub opened : Reserve → TablesView → ℕ → NodeMachine
+abbrev pub opened : Reserve → NodeTablesView → ℕ → NodeMachine
 opened reserve tables elements = record {
   reserve = reserve;
   tables = tables;

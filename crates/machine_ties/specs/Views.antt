@@ -1,16 +1,16 @@
 -- A machine as its own clauses see it, and what it shows of itself.
 use Rattle.std.specs.Prelude.{ℕ, Bool, List}
+use Rattle.event_plans.specs.Memory.{NodeTablesView}
 use Rattle.machine_contract.specs.View.{MachineView}
 use Rattle.machine_contract.specs.declared.answers.Hand.{Hand}
-use Rattle.mesh_hearing.specs.Tables.{TablesView}
 use Rattle.mesh_types.specs.declared.history.Entry.{Entry}
 use Rattle.seq_reserve.specs.declared.reserve.Reserve.{Reserve}
 
 pub record NodeMachine : Type 0 where
   -- the store with the seat that moves the mark
   pub reserve : Reserve
-  -- the tables in memory
-  pub tables : TablesView
+  -- what it keeps in memory: the tables and the models
+  pub tables : NodeTablesView
   -- the history of this life, and the number of refills that were stored since the last entry
   pub entries : List Entry
   pub fills : ℕ

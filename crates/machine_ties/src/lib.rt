@@ -1,7 +1,15 @@
-//! What ties a machine to its flash, to the records that its life opened over, and to its history. There is no code here: definitions, and
-//! what follows from them, for the machine above.
+//! What ties a machine to its flash, to the records that its life opened over, and to its history: definitions, and what
+//! follows from them, for the machine above. No code here does anything when it runs.
 //!
-//! - `Views`: a machine as proofs see it
+//! - `Views` (in `specs/`): a machine as proofs see it
 //! - `Ties`: what holds between two calls
 //! - `Kept`: which records keep a node whole
+//! - `laws`: the laws by which a node stays one
+//! - `bounds`: what the types of values in hand say
 #![tactic(auto)]
+
+mod bounds;
+mod laws;
+
+pub use bounds::are_bounded;
+pub use laws::ties_law;
