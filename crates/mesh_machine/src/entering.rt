@@ -3,20 +3,24 @@
 
 ghost use Rattle.std.specs.Prelude.{◌≡◌, ◌+◌, ◌-◌, ◌<◌, ◌^◌, List, [], ◌∷◌, ◌++◌, length, IfOk, OnOk, OnErr, vec_len, vec_capacity};
 ghost use Rattle.std.specs.List.{list_any};
+ghost use Rattle.event_plans.specs.Memory.{AreNodeTablesOf, IsFitFor, NodeTablesView};
 ghost use Rattle.event_plans.specs.Plans.{IsPlanned, IsSomePast, IsSomePlan, IsStanding, insight_in};
 ghost use Rattle.event_plans.specs.Sending.{IsSendable};
 ghost use Rattle.event_records.specs.Putting.{AreMoves, ArePuttable};
-ghost use Rattle.mesh_hearing.specs.Tables.{AreTablesOf, IsFit, TablesView};
+ghost use Rattle.machine_ties.specs.Kept.{IsBounded};
+ghost use Rattle.mesh_hearing.specs.Tables.{IsFit};
 ghost use Rattle.mesh_machine.specs.Keys.{HadKeys, changes_keys as changes_keys_in};
 ghost use Rattle.mesh_reading.specs.Held.{AreHeldKeys};
-ghost use Rattle.node_layers.specs.BuiltLayers.{built_layers};
+ghost use Rattle.node_layers.specs.ConfiguredLayers.{configured_layers};
 ghost use Rattle.node_records.specs.Meaning.{IsSaid};
 ghost use Rattle.node_records.specs.Tables.{config_in};
-ghost use Rattle.run_definitions.specs.History.{Past, Told};
+ghost use Rattle.run_definitions.specs.Answers.{config_before};
+ghost use Rattle.run_definitions.specs.History.{Past};
 ghost use Rattle.run_definitions.specs.Jobs.{jobs_of};
 
-use event_plans::{Plan, Tables, plan_event, plan_jobs};
+use event_plans::{NodeTables, Plan, plan_event, plan_jobs};
 use machine_contract::Answered;
+use machine_ties::are_bounded;
 use mesh_types::events::Event;
 use mesh_types::history::Entry;
 use mesh_types::jobs::JobDraft;
@@ -39,20 +43,22 @@ pub(crate) struct Prepared {
 /// entries are as they were.
 pub(crate) fn prepare(
     history: &mut Vec<Entry>,
-    tables: &mut Tables,
+    tables: &mut NodeTables,
     p: &Persist,
     event: &Event,
 ) -> Result<Prepared, AllocError>
     requires standing { IsSomePast p.now tables.old }
-    requires fit { IsFit tables.old p.now }
+    requires fit { IsFitFor tables.old p.now }
     requires said { IsSaid p.now }
     requires sendable { IsSendable (config_in p.now) event.now }
-    ensures planned { (past : Past) → IsStanding past p.now tables.old → IfOk result (λ r. IsPlanned past event.now r.plan tables.new) }
+    ensures planned { (past : Past) → IsStanding past p.now tables.old
+        → IfOk result (λ r. IsPlanned past event.now r.plan tables.new) }
     ensures may { IfOk result (λ r. ArePuttable p.now r.plan.records) }
     ensures moves { IfOk result (λ r. AreMoves (config_in p.now) r.plan.records) }
+    ensures bounded { IfOk result (λ r. IsBounded p.now (insight_in r.plan.basis)) }
     ensures empty { IfOk result (λ r. r.draft ≡ []) }
     ensures entry_empty { IfOk result (λ r. r.entry_draft ≡ []) }
-    ensures fit { IsFit tables.new p.now }
+    ensures fit { IsFitFor tables.new p.now }
     ensures room { OnOk result (vec_len history.new < vec_capacity history.new) }
     ensures entries { history.new.items ≡ history.old.items }
     ensures unchanged { OnErr result (tables.new ≡ tables.old) }
@@ -62,6 +68,8 @@ pub(crate) fn prepare(
     let draft = JobDraft::new(alloc)?;
     let entry_draft = JobDraft::new(alloc)?;
     let plan = plan_event(tables, p, event)?;
+    // It does nothing when it runs: the proof uses what it says.
+    are_bounded(p, &plan);
     Ok(Prepared {
         plan,
         draft,
@@ -80,15 +88,17 @@ pub(crate) struct Place {
     pub(crate) fills: u32,
 }
 
-// Whether a record changes the keys.
+// Whether a record changes the keys or the labels. With all subscriptions of a model its labels go.
 fn changes_keys(item: &StoreRecord) -> bool
     ensures { result ≡ changes_keys_in item.now }
 {
     match item {
-        StoreRecord::Numbers { .. } => false,
-        StoreRecord::Hour { .. } => false,
-        StoreRecord::Replay { .. } => false,
-        _ => true,
+        StoreRecord::Identity { .. } => true,
+        StoreRecord::NetKey { .. } => true,
+        StoreRecord::AppKey { .. } => true,
+        StoreRecord::Label { .. } => true,
+        StoreRecord::Subscribe { op, .. } => *op == 3 || *op == 4,
+        _ => false,
     }
 }
 
@@ -99,12 +109,13 @@ fn change_keys(records: &[StoreRecord]) -> bool
     records.iter().any(|item| changes_keys(item))
 }
 
-/// Derives the keys anew where records changed them. `p` is what the records say with these ones.
-pub(crate) fn renew(tables: &mut Tables, p: &Persist, records: &[StoreRecord])
+/// Derives the keys anew where records changed what they are derived from. The models stay. `p` is what the records say with these ones.
+pub(crate) fn renew(tables: &mut NodeTables, p: &Persist, records: &[StoreRecord])
     requires held { AreHeldKeys (config_in p.now) }
     requires had { HadKeys tables.old p.now records.now }
-    ensures fit { IsFit tables.new p.now }
-    ensures tables { (told : List Told) → AreTablesOf tables.old told → AreTablesOf tables.new told }
+    ensures fit { IsFit tables.new.hearing p.now }
+    ensures tables { (past : Past) → AreNodeTablesOf tables.old past → AreNodeTablesOf tables.new past }
+    ensures unchanged { tables.new.models ≡ tables.old.models }
 {
     if change_keys(records) {
         tables.renew_keys(p);
@@ -114,7 +125,7 @@ pub(crate) fn renew(tables: &mut Tables, p: &Persist, records: &[StoreRecord])
 /// Makes the jobs of a plan, and appends its entry, for both of which there is memory. `p` is what the records say with those of the plan.
 pub(crate) fn enter(
     history: &mut Vec<Entry>,
-    tables: &Tables,
+    tables: &NodeTables,
     p: &Persist,
     place: Place,
     event: &Event,
@@ -122,17 +133,30 @@ pub(crate) fn enter(
 ) -> Answered
     requires room { vec_len history.old < vec_capacity history.old }
     requires few { length history.old.items < 2 ^ 32 - 1 }
-    requires fit { IsFit tables.now p.now }
+    requires fit { IsFit tables.now.hearing p.now }
+    requires unicast { p.now.unicast.0 < 2 ^ 15 }
     requires empty { prepared.draft ≡ [] }
     requires entry_empty { prepared.entry_draft ≡ [] }
     requires planned { IsSomePlan event.now prepared.plan }
     requires sendable { IsSendable (config_in p.now) event.now }
-    ensures entry { history.new.items ≡ history.old.items ++ (record { bearer = place.bearer; number = place.number; event = event.now; fills = place.fills; answer = result.answer; jobs = result.jobs }) ∷ [] }
+    ensures entry { history.new.items
+        ≡ history.old.items
+        ++ (record {
+          bearer = place.bearer;
+          number = place.number;
+          event = event.now;
+          fills = place.fills;
+          answer = result.answer;
+          jobs = result.jobs;
+        }) ∷ [] }
     ensures place { result.at ≡ length history.old.items }
     ensures few { length history.old.items + 1 < 2 ^ 32 }
     ensures answer { result.answer ≡ prepared.plan.answer }
-    ensures jobs { (past : Past) (t : TablesView) → IsPlanned past event.now prepared.plan t
-        → result.jobs ≡ jobs_of built_layers past (config_in p.now) event.now (insight_in prepared.plan.basis) prepared.plan.answer }
+    ensures jobs { (past : Past) (t : NodeTablesView) → IsPlanned past event.now prepared.plan t
+        → (config_in p.now).unicast ≡ (config_before past).unicast
+        → result.jobs
+        ≡ jobs_of configured_layers past (config_in p.now) event.now
+        (insight_in prepared.plan.basis) prepared.plan.answer }
 {
     let Prepared {
         plan,

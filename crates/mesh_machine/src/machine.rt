@@ -16,18 +16,19 @@ ghost use Rattle.seq_word.specs.Word.{seq_of};
 ghost use Rattle.store_world.specs.Standing.{IsWorldOf};
 
 use crate::entering::{Place, enter, prepare, renew};
-use event_plans::Tables;
+use event_plans::NodeTables;
 use event_storing::store_records;
 use event_world::event_law;
 use flash_model::Flash;
 use machine_contract::{Answered, Hand, Stop};
+use machine_ties::ties_law;
 use mesh_reading::held_keys_law;
 use mesh_types::events::Event;
 use mesh_types::history::Entry;
+use node_models::node_models_law;
 use seq_reserve::Reserve;
 use seq_word::Numbers;
 use std::marker::Model;
-use store_definitions::node::node_law;
 
 /// A history has at most so many entries.
 const MOST_ENTRIES: usize = 0xffff_ffff;
@@ -36,7 +37,7 @@ const MOST_ENTRIES: usize = 0xffff_ffff;
 #[derive(Drop)]
 pub struct MeshMachine {
     pub(crate) reserve: Reserve,
-    pub(crate) tables: Tables,
+    pub(crate) tables: NodeTables,
     pub(crate) history: Vec<Entry>,
     pub(crate) fills: u32,
     pub(crate) closed: bool,
@@ -50,9 +51,26 @@ impl Model for MeshMachine {
 
     ghost Value = { NodeMachine };
 
-    ghost view = { λ m. record { reserve = m.reserve; tables = m.tables; entries = m.history.items; fills = m.fills; closed = m.closed; hand = m.hand; elements = m.elements } };
+    ghost view = { λ m. record {
+      reserve = m.reserve;
+      tables = m.tables;
+      entries = m.history.items;
+      fills = m.fills;
+      closed = m.closed;
+      hand = m.hand;
+      elements = m.elements;
+    } };
 
-    ghost invariant = { λ m. IsSound (record { reserve = m.reserve; tables = m.tables; entries = m.history.items; fills = m.fills; closed = m.closed; hand = m.hand; elements = m.elements }) };
+    ghost invariant = { λ m. IsSound
+        (record {
+          reserve = m.reserve;
+          tables = m.tables;
+          entries = m.history.items;
+          fills = m.fills;
+          closed = m.closed;
+          hand = m.hand;
+          elements = m.elements;
+        }) };
 }
 
 impl MeshMachine {
@@ -69,16 +87,22 @@ impl MeshMachine {
         requires made { (shown self.old).which ≡ n.now.which }
         requires event { IsEvent (shown self.old).elements event.now }
 
-        ensures ok { IfOk result (λ r. shown self.new ≡ with_entry (shown self.old) (entry_for (shown self.old) bearer number event.now r.answer r.jobs) (shown self.new).mark) }
+        ensures ok { IfOk result
+            (λ r. shown self.new
+            ≡ with_entry (shown self.old) (entry_for (shown self.old) bearer number event.now r.answer r.jobs)
+            (shown self.new).mark) }
         ensures place { IfOk result (λ r. r.at ≡ length (shown self.old).entries) }
         ensures usable { OnOk result ((shown self.old).closed ≡ false) }
         ensures jobs { IfOk result (λ r. All (IsJob event.now) r.jobs) }
         ensures quiet { is_outside event.now ≡ false → IfOk result (λ r. All IsQuiet r.jobs) }
         ensures steps { (w : World) → IsWorldOf w self.old.reserve.store.persist self.old.reserve.store.persist.mark
-            → IfOk result (λ r. HasStepped w self.old.reserve.store.persist self.new.reserve.store.persist event.now r.answer) }
-        ensures refused { IfErr result (IsRefused F.chip (Hand.OfEvent event.now) (shown self.old) (shown self.new) flash.old flash.new) }
+            → IfOk result
+            (λ r. HasStepped w self.old.reserve.store.persist self.new.reserve.store.persist event.now r.answer) }
+        ensures refused { IfErr result
+            (IsRefused F.chip (Hand.OfEvent event.now) (shown self.old) (shown self.new) flash.old flash.new) }
         ensures closed { (shown self.old).closed ≡ true → result ≡ Err Stop.Closed }
-        ensures kept { (over : List StoreRecord) → Stands (F.chip flash.old) over self.old → Stands (F.chip flash.new) over self.new }
+        ensures kept { (over : List StoreRecord) → Stands (F.chip flash.old) over self.old
+            → Stands (F.chip flash.new) over self.new }
         ensures frame { Keeps (F.chip flash.old) (F.chip flash.new) }
     {
         if self.closed {
@@ -88,7 +112,8 @@ impl MeshMachine {
             return Err(Stop::Memory);
         }
         // They do nothing when they run: the proof uses what they say.
-        node_law();
+        ties_law();
+        node_models_law();
         held_keys_law();
         event_law();
         let prepared = match prepare(
@@ -131,10 +156,14 @@ impl MeshMachine {
         requires made { (shown self.old).which ≡ n.now.which }
         requires seq { seq_of seen < 2 ^ 24 }
 
-        ensures ok { OnOk result (shown self.new ≡ record (shown self.old) { fills = (shown self.new).fills; mark = (shown self.new).mark }) }
+        ensures ok { OnOk result
+            (shown self.new
+            ≡ record (shown self.old) { fills = (shown self.new).fills; mark = (shown self.new).mark }) }
         ensures value { IfOk result (λ mark. mark ≡ (shown self.new).mark) }
-        ensures refused { IfErr result (IsRefused F.chip Hand.OfRefill (shown self.old) (shown self.new) flash.old flash.new) }
-        ensures kept { (over : List StoreRecord) → Stands (F.chip flash.old) over self.old → Stands (F.chip flash.new) over self.new }
+        ensures refused { IfErr result
+            (IsRefused F.chip Hand.OfRefill (shown self.old) (shown self.new) flash.old flash.new) }
+        ensures kept { (over : List StoreRecord) → Stands (F.chip flash.old) over self.old
+            → Stands (F.chip flash.new) over self.new }
         ensures frame { Keeps (F.chip flash.old) (F.chip flash.new) }
     {
         if self.closed {
@@ -147,8 +176,9 @@ impl MeshMachine {
         if self.fills == u32::MAX {
             return Err(Stop::Memory);
         }
-        // It does nothing when it runs: the proof uses what it says.
-        node_law();
+        // They do nothing when they run: the proof uses what they say.
+        ties_law();
+        node_models_law();
         match self.reserve.refill(n, flash, seen) {
             Ok(mark) => {
                 self.fills += 1;

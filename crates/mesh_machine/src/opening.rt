@@ -2,20 +2,21 @@
 #![tactic(auto)]
 
 ghost use Rattle.std.specs.Prelude.{◌≡◌, false, List, [], IfOk};
+ghost use Rattle.event_plans.specs.Memory.{AreNodeTablesOf};
 ghost use Rattle.machine_ties.specs.Opening.{start_fault_of};
 ghost use Rattle.machine_ties.specs.Ties.{IsNodeStore, Stands, opened};
 ghost use Rattle.machine_ties.specs.Views.{shown};
-ghost use Rattle.mesh_hearing.specs.Tables.{AreTablesOf};
-ghost use Rattle.node_layers.specs.BuiltLayers.{built_layers};
+ghost use Rattle.node_layers.specs.ConfiguredLayers.{configured_layers};
+ghost use Rattle.node_records.specs.Meaning.{IsMeaningOf};
 ghost use Rattle.node_store.specs.Tie.{IsNode};
 ghost use Rattle.record_types.specs.declared.records.StoreRecord.{StoreRecord};
 ghost use Rattle.seq_reserve.specs.Reserving.{IsPublished};
 ghost use Rattle.seq_word.specs.Seen.{fresh};
 
 use crate::machine::MeshMachine;
+use event_plans::NodeTables;
 use flash_model::Flash;
 use machine_contract::{Answered, Hand, History, Machine, StartFault, Started, Stop};
-use mesh_hearing::Tables;
 use mesh_reading::held_keys_law;
 use mesh_types::events::Event;
 use node_store::laws::what_is_read_is_mounted;
@@ -41,7 +42,8 @@ fn open(alloc: Global, store: Store) -> Result<Started<MeshMachine>, AllocError>
     ensures machine { IfOk result (λ s. s.machine ≡ opened s.machine.reserve s.machine.tables store.persist.elements) }
     ensures store { IfOk result (λ s. s.machine.reserve.store ≡ store) }
     ensures published { IfOk result (λ s. IsPublished s.machine.reserve.store s.machine.reserve.keeper) }
-    ensures tables { IfOk result (λ s. AreTablesOf s.machine.tables []) }
+    ensures tables { (over : List StoreRecord) → IsMeaningOf over store.persist
+        → IfOk result (λ s. AreNodeTablesOf s.machine.tables (record { told = []; records = over })) }
     ensures which { IfOk result (λ s. s.machine.reserve.keeper.which ≡ s.numbers.which) }
     ensures opened { IfOk result (λ s. s.numbers.opened ≡ store.persist.mark) }
     ensures drawer { IfOk result (λ s. s.drawer ≡ fresh s.numbers.which [] 1024) }
@@ -50,7 +52,7 @@ fn open(alloc: Global, store: Store) -> Result<Started<MeshMachine>, AllocError>
 {
     // It does nothing when it runs: the proof uses what it says.
     held_keys_law();
-    let tables = Tables::new(alloc, store.persist())?;
+    let tables = NodeTables::new(alloc, store.persist())?;
     let (reserve, numbers, drawer) = Reserve::start(alloc, store)?;
     let p = reserve.store.persist();
     let state = p.iv;
@@ -75,7 +77,7 @@ fn open(alloc: Global, store: Store) -> Result<Started<MeshMachine>, AllocError>
 }
 
 impl Machine for MeshMachine {
-    ghost layers = { built_layers };
+    ghost layers = { configured_layers };
 
     ghost image = { IsNode };
 

@@ -1,8 +1,9 @@
-use Rattle.std.proofs.Common.{◌≡◌, List, false, ap, sym, subst}
+use Rattle.std.proofs.Common.{◌≡◌, List, [], false, refl, ap, sym, subst}
+use Rattle.event_plans.specs.Memory.{IsFitFor}
 use Rattle.machine_ties.proofs.Opened.{opened_ready}
 use Rattle.machine_ties.specs.Ties.{IsNodeStore, IsReady, opened}
-use Rattle.mesh_hearing.specs.Tables.{IsFit}
 use Rattle.mesh_types.specs.declared.history.Entry.{Entry}
+use Rattle.node_records.specs.Meaning.{IsMeaningOf}
 use Rattle.node_records.specs.declared.persist.Persist.{Persist}
 use Rattle.node_store.specs.View.{StoreView}
 use Rattle.mesh_machine.proofs.opening.open.Goals as goal
@@ -14,9 +15,15 @@ invariant_of-machine c e =
     let t = c.in_ok-tables.tables in
     let store : c.args.store ≡ r.store = sym c.in_ok-reserve.ensures.store in
     let says : IsNodeStore over r.store.persist = subst (λ (s : StoreView). IsNodeStore over s.persist) store node in
+    let meaning : IsMeaningOf over c.persist.result.now =
+    subst (λ (p : Persist). IsMeaningOf over p) (sym c.persist.ensures.value) node.meaning in
     let base : IsReady (opened r t c.persist-p.result.now.elements) =
-    opened_ready over r t c.persist-p.result.now.elements says.meaning says.ranges says.whole c.in_ok-tables.ensures.tables c.in_ok-reserve.ensures.published
-    (subst (λ (s : StoreView). IsFit t s.persist) store (subst (λ (p : Persist). IsFit t p) c.persist.ensures.value c.in_ok-tables.ensures.fit))
+    opened_ready over r t c.persist-p.result.now.elements says.meaning says.ranges says.whole (c.in_ok-tables.ensures.opened (record { told = []; records = over }) meaning refl) c.in_ok-reserve.ensures.published
+    (subst (λ (s : StoreView). IsFitFor t s.persist) store (subst (λ (p : Persist). IsFitFor t p) c.persist.ensures.value c.in_ok-tables.ensures.fit))
     (subst (λ (s : StoreView). s.journal.closed ≡ false) store c.requires.usable)
     (ap (λ (p : Persist). p.elements) c.persist-p.ensures.value) in
     subst (λ (l : List Entry). IsReady (record (opened r t c.persist-p.result.now.elements) { entries = l })) (sym c.new-2.ensures.items) base
+
+pub returns-clause-tables : goal.returns-clause-tables
+returns-clause-tables c over meaning =
+    c.in_ok-tables.ensures.opened (record { told = []; records = over }) (subst (λ (p : Persist). IsMeaningOf over p) (sym c.persist.ensures.value) meaning) refl

@@ -1,4 +1,5 @@
-use Rattle.std.proofs.Common.{◌≡◌, ◌++◌, [], ◌∷◌, ◌<◌, ◌+◌, ◌^◌, List, length, refl, ap, sym, subst, ◌∙◌}
+use Rattle.std.proofs.Common.{◌≡◌, ◌++◌, [], ◌∷◌, ◌<◌, ◌+◌, ◌^◌, List, length, refl, ap, sym, subst, ◌∙◌, arith}
+use Rattle.event_plans.specs.Memory.{NodeTablesView}
 use Rattle.event_plans.specs.Plans.{IsPlanned, IsStanding, insight_in}
 use Rattle.event_plans.specs.Sending.{IsSendable}
 use Rattle.event_records.specs.Putting.{AreMoves, ArePuttable}
@@ -6,18 +7,23 @@ use Rattle.event_world.specs.Stepping.{HasStepped}
 use Rattle.machine_contract.specs.Ranges.{IsEvent}
 use Rattle.machine_contract.specs.Standing.{past_now}
 use Rattle.machine_contract.specs.declared.answers.Hand.TheVariants as H
-use Rattle.machine_ties.proofs.Events.{IsAfter, IsEntryOf, event_after, event_jobs, event_quiet, event_ready, event_sendable, event_stands, event_stops, ready_after}
+use Rattle.machine_ties.proofs.Fronts.{IsSameNode}
+use Rattle.machine_ties.proofs.Events.{IsAfter, IsEntryOf, event_after, event_jobs, event_node_over, event_quiet, event_ready, event_sendable, event_stands, event_stops, ready_after}
+use Rattle.machine_ties.specs.Kept.{IsBounded}
 use Rattle.machine_ties.specs.Ties.{IsCutIn, IsOver, IsReady, Stands, entered, stopped}
 use Rattle.machine_ties.specs.Views.{NodeMachine}
-use Rattle.mesh_hearing.specs.Tables.{IsFit, TablesView}
+use Rattle.mesh_hearing.specs.Tables.{IsFit}
+use Rattle.mesh_machine.proofs.Within.{within_after}
 use Rattle.mesh_reading.specs.Held.{AreHeldKeys}
 use Rattle.mesh_types.specs.declared.answers.Answer.{Answer}
 use Rattle.mesh_types.specs.declared.events.Event.{Event}
 use Rattle.mesh_types.specs.declared.history.Entry.{Entry}
-use Rattle.node_layers.specs.BuiltLayers.{built_layers}
+use Rattle.node_layers.specs.ConfiguredLayers.{configured_layers}
+use Rattle.node_models.specs.Models.{AreWithin, ModelsView}
 use Rattle.node_records.specs.Meaning.{IsMeaningOf}
 use Rattle.node_records.specs.Tables.{config_in}
 use Rattle.node_records.specs.declared.persist.Persist.{Persist}
+use Rattle.run_definitions.specs.Answers.{config_before}
 use Rattle.run_definitions.specs.History.{Insight, Past}
 use Rattle.run_definitions.specs.Jobs.{jobs_of}
 use Rattle.run_definitions.specs.Stores.{stores}
@@ -39,7 +45,7 @@ returns-in-Err-clause-kept g c over stands =
     let i = c.self.inside in
     let m : NodeMachine = record { reserve = i.reserve; tables = i.tables; entries = i.history.items; fills = i.fills; closed = i.closed; hand = i.hand; elements = i.elements } in
     let same : record m { tables = c.prepare.new.tables; entries = c.prepare.new.history.items } ≡ m =
-    ap (λ (t : TablesView). record m { tables = t; entries = c.prepare.new.history.items }) c.in-Err.ensures.unchanged ∙ ap (λ (l : List Entry). record m { entries = l }) c.prepare.ensures.entries in
+    ap (λ (t : NodeTablesView). record m { tables = t; entries = c.prepare.new.history.items }) c.in-Err.ensures.unchanged ∙ ap (λ (l : List Entry). record m { entries = l }) c.prepare.ensures.entries in
     subst (λ (v : NodeMachine). Stands (g.F.Flash.chip c.args.flash.now) over v) (sym (same ∙ c.self.view_is)) stands
 
 pub returns-in-Err-store_records-clause-kept : goal.returns-in-Err-store_records-clause-kept
@@ -47,9 +53,11 @@ returns-in-Err-store_records-clause-kept g c over stands =
     let i = c.self.inside in
     let m : NodeMachine = record { reserve = i.reserve; tables = i.tables; entries = i.history.items; fills = i.fills; closed = i.closed; hand = i.hand; elements = i.elements } in
     let s : Stands (g.F.Flash.chip c.args.flash.now) over m = subst (λ (v : NodeMachine). Stands (g.F.Flash.chip c.args.flash.now) over v) (sym c.self.view_is) stands in
-    let past : Past = past_now built_layers over s.life.told i.fills in
+    let past : Past = past_now configured_layers over s.life.told i.fills in
     let h : IsOver (g.F.Flash.chip c.args.flash.now) past m = s.usable c.if-self.false in
     let may : ArePuttable i.reserve.store.persist c.in-Ok.prepared.plan.records = subst (λ (p : Persist). ArePuttable p c.in-Ok.prepared.plan.records) c.persist.ensures.value c.in-Ok.ensures.may in
+    let bounded : IsBounded i.reserve.store.persist (insight_in c.in-Ok.prepared.plan.basis) =
+    subst (λ (p : Persist). IsBounded p (insight_in c.in-Ok.prepared.plan.basis)) c.persist.ensures.value c.in-Ok.ensures.bounded in
     let planned : IsPlanned past c.args.event.now c.in-Ok.prepared.plan c.prepare.new.tables =
     c.in-Ok.ensures.planned past (subst (λ (p : Persist). IsStanding past p i.tables) (sym c.persist.ensures.value) h.before.standing) in
     let r = c.store_records.new.reserve in
@@ -61,7 +69,7 @@ returns-in-Err-store_records-clause-kept g c over stands =
       durable = c.store_records.ensures.durable past.records h.store;
     } in
     let base : Stands new over (stopped m r c.prepare.new.tables (H.OfEvent c.args.event.now)) =
-    event_stops c.node_law.ensures.kept m c.args.event.now c.in-Ok.prepared.plan c.prepare.new.tables (g.F.Flash.chip c.args.flash.now) new over s c.if-self.false r c.prepare.new.tables planned may cut
+    event_stops c.ties_law.ensures.laws m c.args.event.now c.in-Ok.prepared.plan c.prepare.new.tables (g.F.Flash.chip c.args.flash.now) new over s c.if-self.false r c.prepare.new.tables planned may bounded cut
     (c.in-Err-store_records.ensures.cause ready.usable).2 c.store_records.ensures.frame in
     subst (λ (e : Event). Stands new over (record (stopped m r c.prepare.new.tables (H.OfEvent e)) { entries = c.prepare.new.history.items })) (sym c.copied.ensures.value)
     (subst (λ (l : List Entry). Stands new over (record (stopped m r c.prepare.new.tables (H.OfEvent c.args.event.now)) { entries = l })) (sym c.prepare.ensures.entries) base)
@@ -72,11 +80,13 @@ renew-requires-clause-held g c =
     let m : NodeMachine = record { reserve = i.reserve; tables = i.tables; entries = i.history.items; fills = i.fills; closed = i.closed; hand = i.hand; elements = i.elements } in
     let ready : IsReady m = c.self.invariant c.if-self.false in
     let may : ArePuttable i.reserve.store.persist c.in-Ok.prepared.plan.records = subst (λ (p : Persist). ArePuttable p c.in-Ok.prepared.plan.records) c.persist.ensures.value c.in-Ok.ensures.may in
+    let bounded : IsBounded i.reserve.store.persist (insight_in c.in-Ok.prepared.plan.basis) =
+    subst (λ (p : Persist). IsBounded p (insight_in c.in-Ok.prepared.plan.basis)) c.persist.ensures.value c.in-Ok.ensures.bounded in
     let planned : IsPlanned ready.past c.args.event.now c.in-Ok.prepared.plan c.prepare.new.tables =
     c.in-Ok.ensures.planned ready.past (subst (λ (p : Persist). IsStanding ready.past p i.tables) (sym c.persist.ensures.value) ready.before.standing) in
     let q : Persist = c.store_records.new.reserve.store.persist in
     let meaning : IsMeaningOf (ready.past.records ++ c.in-Ok.prepared.plan.records) q = c.in-Ok-store_records.ensures.meaning ready.past.records ready.before.standing.meaning in
-    let after : IsAfter i.elements q = event_after c.node_law.ensures.kept m c.args.event.now c.in-Ok.prepared.plan c.prepare.new.tables ready q planned may meaning c.in-Ok-store_records.ensures.change in
+    let after : IsAfter i.elements q = event_after c.ties_law.ensures.laws m c.args.event.now c.in-Ok.prepared.plan c.prepare.new.tables ready q planned may bounded meaning in
     subst (λ (p : Persist). AreHeldKeys (config_in p)) (sym c.persist-p.ensures.value)
     (subst AreHeldKeys (sym meaning.config)
     (c.held_keys_law.ensures.whole (ready.past.records ++ c.in-Ok.prepared.plan.records) (subst IsWhole meaning.config after.whole)))
@@ -87,9 +97,26 @@ enter-answered-requires-clause-planned g c =
     let m : NodeMachine = record { reserve = i.reserve; tables = i.tables; entries = i.history.items; fills = i.fills; closed = i.closed; hand = i.hand; elements = i.elements } in
     let ready : IsReady m = c.self.invariant c.if-self.false in
     let may : ArePuttable i.reserve.store.persist c.in-Ok.prepared.plan.records = subst (λ (p : Persist). ArePuttable p c.in-Ok.prepared.plan.records) c.persist.ensures.value c.in-Ok.ensures.may in
+    let bounded : IsBounded i.reserve.store.persist (insight_in c.in-Ok.prepared.plan.basis) =
+    subst (λ (p : Persist). IsBounded p (insight_in c.in-Ok.prepared.plan.basis)) c.persist.ensures.value c.in-Ok.ensures.bounded in
     let planned : IsPlanned ready.past c.args.event.now c.in-Ok.prepared.plan c.prepare.new.tables =
     c.in-Ok.ensures.planned ready.past (subst (λ (p : Persist). IsStanding ready.past p i.tables) (sym c.persist.ensures.value) ready.before.standing) in
     (ready.past, (c.prepare.new.tables, planned))
+
+pub enter-answered-requires-clause-unicast : goal.enter-answered-requires-clause-unicast
+enter-answered-requires-clause-unicast g c =
+    let i = c.self.inside in
+    let m : NodeMachine = record { reserve = i.reserve; tables = i.tables; entries = i.history.items; fills = i.fills; closed = i.closed; hand = i.hand; elements = i.elements } in
+    let ready : IsReady m = c.self.invariant c.if-self.false in
+    let may : ArePuttable i.reserve.store.persist c.in-Ok.prepared.plan.records = subst (λ (p : Persist). ArePuttable p c.in-Ok.prepared.plan.records) c.persist.ensures.value c.in-Ok.ensures.may in
+    let bounded : IsBounded i.reserve.store.persist (insight_in c.in-Ok.prepared.plan.basis) =
+    subst (λ (p : Persist). IsBounded p (insight_in c.in-Ok.prepared.plan.basis)) c.persist.ensures.value c.in-Ok.ensures.bounded in
+    let planned : IsPlanned ready.past c.args.event.now c.in-Ok.prepared.plan c.prepare.new.tables =
+    c.in-Ok.ensures.planned ready.past (subst (λ (p : Persist). IsStanding ready.past p i.tables) (sym c.persist.ensures.value) ready.before.standing) in
+    let q : Persist = c.store_records.new.reserve.store.persist in
+    let meaning : IsMeaningOf (ready.past.records ++ c.in-Ok.prepared.plan.records) q = c.in-Ok-store_records.ensures.meaning ready.past.records ready.before.standing.meaning in
+    let after : IsAfter i.elements q = event_after c.ties_law.ensures.laws m c.args.event.now c.in-Ok.prepared.plan c.prepare.new.tables ready q planned may bounded meaning in
+    subst (λ (p : Persist). p.unicast.0 < 2 ^ 15) (sym c.persist-p.ensures.value) (omega (arith, after.unicast, after.whole.some))
 
 pub enter-answered-requires-clause-sendable : goal.enter-answered-requires-clause-sendable
 enter-answered-requires-clause-sendable g c =
@@ -97,11 +124,13 @@ enter-answered-requires-clause-sendable g c =
     let m : NodeMachine = record { reserve = i.reserve; tables = i.tables; entries = i.history.items; fills = i.fills; closed = i.closed; hand = i.hand; elements = i.elements } in
     let ready : IsReady m = c.self.invariant c.if-self.false in
     let may : ArePuttable i.reserve.store.persist c.in-Ok.prepared.plan.records = subst (λ (p : Persist). ArePuttable p c.in-Ok.prepared.plan.records) c.persist.ensures.value c.in-Ok.ensures.may in
+    let bounded : IsBounded i.reserve.store.persist (insight_in c.in-Ok.prepared.plan.basis) =
+    subst (λ (p : Persist). IsBounded p (insight_in c.in-Ok.prepared.plan.basis)) c.persist.ensures.value c.in-Ok.ensures.bounded in
     let planned : IsPlanned ready.past c.args.event.now c.in-Ok.prepared.plan c.prepare.new.tables =
     c.in-Ok.ensures.planned ready.past (subst (λ (p : Persist). IsStanding ready.past p i.tables) (sym c.persist.ensures.value) ready.before.standing) in
     let q : Persist = c.store_records.new.reserve.store.persist in
     let meaning : IsMeaningOf (ready.past.records ++ c.in-Ok.prepared.plan.records) q = c.in-Ok-store_records.ensures.meaning ready.past.records ready.before.standing.meaning in
-    let after : IsAfter i.elements q = event_after c.node_law.ensures.kept m c.args.event.now c.in-Ok.prepared.plan c.prepare.new.tables ready q planned may meaning c.in-Ok-store_records.ensures.change in
+    let after : IsAfter i.elements q = event_after c.ties_law.ensures.laws m c.args.event.now c.in-Ok.prepared.plan c.prepare.new.tables ready q planned may bounded meaning in
     subst (λ (p : Persist). IsSendable (config_in p) c.args.event.now) (sym c.persist-p.ensures.value)
     (event_sendable i.elements c.args.event.now q after
     (subst (λ (v : NodeMachine). IsEvent v.elements c.args.event.now) (sym c.self.view_is) c.requires.event))
@@ -112,18 +141,27 @@ invariant_of-self-2 g c e =
     let m : NodeMachine = record { reserve = i.reserve; tables = i.tables; entries = i.history.items; fills = i.fills; closed = i.closed; hand = i.hand; elements = i.elements } in
     let ready : IsReady m = c.self.invariant c.if-self.false in
     let may : ArePuttable i.reserve.store.persist c.in-Ok.prepared.plan.records = subst (λ (p : Persist). ArePuttable p c.in-Ok.prepared.plan.records) c.persist.ensures.value c.in-Ok.ensures.may in
+    let bounded : IsBounded i.reserve.store.persist (insight_in c.in-Ok.prepared.plan.basis) =
+    subst (λ (p : Persist). IsBounded p (insight_in c.in-Ok.prepared.plan.basis)) c.persist.ensures.value c.in-Ok.ensures.bounded in
     let planned : IsPlanned ready.past c.args.event.now c.in-Ok.prepared.plan c.prepare.new.tables =
     c.in-Ok.ensures.planned ready.past (subst (λ (p : Persist). IsStanding ready.past p i.tables) (sym c.persist.ensures.value) ready.before.standing) in
     let q : Persist = c.store_records.new.reserve.store.persist in
     let meaning : IsMeaningOf (ready.past.records ++ c.in-Ok.prepared.plan.records) q = c.in-Ok-store_records.ensures.meaning ready.past.records ready.before.standing.meaning in
-    let after : IsAfter i.elements q = event_after c.node_law.ensures.kept m c.args.event.now c.in-Ok.prepared.plan c.prepare.new.tables ready q planned may meaning c.in-Ok-store_records.ensures.change in
+    let after : IsAfter i.elements q = event_after c.ties_law.ensures.laws m c.args.event.now c.in-Ok.prepared.plan c.prepare.new.tables ready q planned may bounded meaning in
     let a = c.enter-answered.result in
     let entry : Entry = record { bearer = c.args.bearer; number = c.args.number; event = c.args.event.now; fills = i.fills; answer = a.answer; jobs = a.jobs } in
     let items : c.enter-answered.new.history.items ≡ i.history.items ++ entry ∷ [] = c.enter-answered.ensures.entry ∙ ap (λ l. l ++ entry ∷ []) c.prepare.ensures.entries in
     let r = c.store_records.new.reserve in
+    let node : IsSameNode (config_before ready.past) (config_in q) =
+    event_node_over c.ties_law.ensures.laws m c.args.event.now c.in-Ok.prepared.plan c.prepare.new.tables ready.past q ready.before planned may bounded meaning in
+    let keys : IsFit c.renew.new.tables.hearing q = subst (λ (p : Persist). IsFit c.renew.new.tables.hearing p) c.persist-p.ensures.value c.renew.ensures.fit in
+    let was : AreWithin c.prepare.new.tables.models i.reserve.store.persist =
+    subst (λ (p : Persist). AreWithin c.prepare.new.tables.models p) c.persist.ensures.value c.prepare.ensures.fit.models in
+    let within : AreWithin c.renew.new.tables.models q = subst (λ (v : ModelsView). AreWithin v q) (sym c.renew.ensures.unchanged)
+    (within_after c.node_models_law.ensures.within c.prepare.new.tables.models ready.past i.reserve.store.persist q ready.before.standing.meaning node was) in
     let base : IsReady (entered m r c.renew.new.tables entry) =
-    event_ready c.node_law.ensures.kept m c.args.event.now c.in-Ok.prepared.plan c.prepare.new.tables ready r c.renew.new.tables entry planned may c.renew.ensures.tables refl c.enter-answered.ensures.answer
-    meaning c.store_records.ensures.published (subst (λ (p : Persist). IsFit c.renew.new.tables p) c.persist-p.ensures.value c.renew.ensures.fit)
+    event_ready c.ties_law.ensures.laws m c.args.event.now c.in-Ok.prepared.plan c.prepare.new.tables ready r c.renew.new.tables entry planned may bounded c.renew.ensures.tables refl c.enter-answered.ensures.answer
+    meaning c.store_records.ensures.published (record { keys = keys; models = within })
     (c.in-Ok-store_records.ensures.usable ∙ ready.usable) after.same in
     subst (λ (l : List Entry). IsReady (record (entered m r c.renew.new.tables entry) { entries = l })) (sym items) base
 
@@ -133,15 +171,20 @@ returns-clause-jobs g c =
     let m : NodeMachine = record { reserve = i.reserve; tables = i.tables; entries = i.history.items; fills = i.fills; closed = i.closed; hand = i.hand; elements = i.elements } in
     let ready : IsReady m = c.self.invariant c.if-self.false in
     let may : ArePuttable i.reserve.store.persist c.in-Ok.prepared.plan.records = subst (λ (p : Persist). ArePuttable p c.in-Ok.prepared.plan.records) c.persist.ensures.value c.in-Ok.ensures.may in
+    let bounded : IsBounded i.reserve.store.persist (insight_in c.in-Ok.prepared.plan.basis) =
+    subst (λ (p : Persist). IsBounded p (insight_in c.in-Ok.prepared.plan.basis)) c.persist.ensures.value c.in-Ok.ensures.bounded in
     let planned : IsPlanned ready.past c.args.event.now c.in-Ok.prepared.plan c.prepare.new.tables =
     c.in-Ok.ensures.planned ready.past (subst (λ (p : Persist). IsStanding ready.past p i.tables) (sym c.persist.ensures.value) ready.before.standing) in
     let q : Persist = c.store_records.new.reserve.store.persist in
     let meaning : IsMeaningOf (ready.past.records ++ c.in-Ok.prepared.plan.records) q = c.in-Ok-store_records.ensures.meaning ready.past.records ready.before.standing.meaning in
-    let after : IsAfter i.elements q = event_after c.node_law.ensures.kept m c.args.event.now c.in-Ok.prepared.plan c.prepare.new.tables ready q planned may meaning c.in-Ok-store_records.ensures.change in
+    let after : IsAfter i.elements q = event_after c.ties_law.ensures.laws m c.args.event.now c.in-Ok.prepared.plan c.prepare.new.tables ready q planned may bounded meaning in
     let a = c.enter-answered.result in
-    event_jobs c.node_law.ensures.kept m c.args.event.now c.in-Ok.prepared.plan c.prepare.new.tables ready c.persist-p.result.now a.jobs c.args.self.now.elements planned may
-    (subst (λ (p : Persist). IsMeaningOf (ready.past.records ++ c.in-Ok.prepared.plan.records) p) (sym c.persist-p.ensures.value) meaning)
-    (c.enter-answered.ensures.jobs ready.past c.prepare.new.tables planned) c.requires.event
+    let meaning_p : IsMeaningOf (ready.past.records ++ c.in-Ok.prepared.plan.records) c.persist-p.result.now =
+    subst (λ (p : Persist). IsMeaningOf (ready.past.records ++ c.in-Ok.prepared.plan.records) p) (sym c.persist-p.ensures.value) meaning in
+    let node : IsSameNode (config_before ready.past) (config_in c.persist-p.result.now) =
+    event_node_over c.ties_law.ensures.laws m c.args.event.now c.in-Ok.prepared.plan c.prepare.new.tables ready.past c.persist-p.result.now ready.before planned may bounded meaning_p in
+    event_jobs c.ties_law.ensures.laws m c.args.event.now c.in-Ok.prepared.plan c.prepare.new.tables ready c.persist-p.result.now a.jobs c.args.self.now.elements planned may bounded meaning_p
+    (c.enter-answered.ensures.jobs ready.past c.prepare.new.tables planned node.unicast) c.requires.event
 
 pub returns-clause-quiet : goal.returns-clause-quiet
 returns-clause-quiet g c outside =
@@ -149,11 +192,18 @@ returns-clause-quiet g c outside =
     let m : NodeMachine = record { reserve = i.reserve; tables = i.tables; entries = i.history.items; fills = i.fills; closed = i.closed; hand = i.hand; elements = i.elements } in
     let ready : IsReady m = c.self.invariant c.if-self.false in
     let may : ArePuttable i.reserve.store.persist c.in-Ok.prepared.plan.records = subst (λ (p : Persist). ArePuttable p c.in-Ok.prepared.plan.records) c.persist.ensures.value c.in-Ok.ensures.may in
+    let bounded : IsBounded i.reserve.store.persist (insight_in c.in-Ok.prepared.plan.basis) =
+    subst (λ (p : Persist). IsBounded p (insight_in c.in-Ok.prepared.plan.basis)) c.persist.ensures.value c.in-Ok.ensures.bounded in
     let planned : IsPlanned ready.past c.args.event.now c.in-Ok.prepared.plan c.prepare.new.tables =
     c.in-Ok.ensures.planned ready.past (subst (λ (p : Persist). IsStanding ready.past p i.tables) (sym c.persist.ensures.value) ready.before.standing) in
+    let q : Persist = c.store_records.new.reserve.store.persist in
+    let meaning : IsMeaningOf (ready.past.records ++ c.in-Ok.prepared.plan.records) q = c.in-Ok-store_records.ensures.meaning ready.past.records ready.before.standing.meaning in
+    let node : IsSameNode (config_before ready.past) (config_in c.persist-p.result.now) =
+    event_node_over c.ties_law.ensures.laws m c.args.event.now c.in-Ok.prepared.plan c.prepare.new.tables ready.past c.persist-p.result.now ready.before planned may bounded
+    (subst (λ (p : Persist). IsMeaningOf (ready.past.records ++ c.in-Ok.prepared.plan.records) p) (sym c.persist-p.ensures.value) meaning) in
     let a = c.enter-answered.result in
-    event_quiet c.node_law.ensures.kept m c.args.event.now c.in-Ok.prepared.plan c.prepare.new.tables ready c.persist-p.result.now a.jobs
-    (c.enter-answered.ensures.jobs ready.past c.prepare.new.tables planned) outside
+    event_quiet c.ties_law.ensures.laws m c.args.event.now c.in-Ok.prepared.plan c.prepare.new.tables ready c.persist-p.result.now a.jobs
+    (c.enter-answered.ensures.jobs ready.past c.prepare.new.tables planned node.unicast) outside
 
 pub returns-clause-steps : goal.returns-clause-steps
 returns-clause-steps g c w world =
@@ -169,8 +219,8 @@ returns-clause-steps g c w world =
     let insight : Insight = insight_in c.in-Ok.prepared.plan.basis in
     let a = c.enter-answered.result in
     let is : a.answer ≡ c.in-Ok.prepared.plan.answer = c.enter-answered.ensures.answer in
-    let records : c.in-Ok.prepared.plan.records ≡ stores built_layers ready.past c.args.event.now insight a.answer =
-    planned.records ∙ ap (λ (x : Answer). stores built_layers ready.past c.args.event.now insight x) (sym is) in
+    let records : c.in-Ok.prepared.plan.records ≡ stores configured_layers ready.past c.args.event.now insight a.answer =
+    planned.records ∙ ap (λ (x : Answer). stores configured_layers ready.past c.args.event.now insight x) (sym is) in
     let before : IsWorldOf w p p.mark = subst (λ (v : NodeMachine). IsWorldOf w v.reserve.store.persist v.reserve.store.persist.mark) (sym c.self.view_is) world in
     let stepped : HasStepped w p q c.args.event.now a.answer = record {
       past = ready.past;
@@ -189,9 +239,11 @@ returns-clause-kept g c over stands =
     let i = c.self.inside in
     let m : NodeMachine = record { reserve = i.reserve; tables = i.tables; entries = i.history.items; fills = i.fills; closed = i.closed; hand = i.hand; elements = i.elements } in
     let s : Stands (g.F.Flash.chip c.args.flash.now) over m = subst (λ (v : NodeMachine). Stands (g.F.Flash.chip c.args.flash.now) over v) (sym c.self.view_is) stands in
-    let past : Past = past_now built_layers over s.life.told i.fills in
+    let past : Past = past_now configured_layers over s.life.told i.fills in
     let h : IsOver (g.F.Flash.chip c.args.flash.now) past m = s.usable c.if-self.false in
     let may : ArePuttable i.reserve.store.persist c.in-Ok.prepared.plan.records = subst (λ (p : Persist). ArePuttable p c.in-Ok.prepared.plan.records) c.persist.ensures.value c.in-Ok.ensures.may in
+    let bounded : IsBounded i.reserve.store.persist (insight_in c.in-Ok.prepared.plan.basis) =
+    subst (λ (p : Persist). IsBounded p (insight_in c.in-Ok.prepared.plan.basis)) c.persist.ensures.value c.in-Ok.ensures.bounded in
     let planned : IsPlanned past c.args.event.now c.in-Ok.prepared.plan c.prepare.new.tables =
     c.in-Ok.ensures.planned past (subst (λ (p : Persist). IsStanding past p i.tables) (sym c.persist.ensures.value) h.before.standing) in
     let a = c.enter-answered.result in
@@ -199,17 +251,21 @@ returns-clause-kept g c over stands =
     let items : c.enter-answered.new.history.items ≡ i.history.items ++ entry ∷ [] = c.enter-answered.ensures.entry ∙ ap (λ l. l ++ entry ∷ []) c.prepare.ensures.entries in
     let r = c.store_records.new.reserve in
     let new = g.F.Flash.chip c.store_records.new.flash in
+    let meaning : IsMeaningOf (past.records ++ c.in-Ok.prepared.plan.records) r.store.persist = c.in-Ok-store_records.ensures.meaning past.records h.before.standing.meaning in
+    let node : IsSameNode (config_before past) (config_in c.persist-p.result.now) =
+    event_node_over c.ties_law.ensures.laws m c.args.event.now c.in-Ok.prepared.plan c.prepare.new.tables past c.persist-p.result.now h.before planned may bounded
+    (subst (λ (p : Persist). IsMeaningOf (past.records ++ c.in-Ok.prepared.plan.records) p) (sym c.persist-p.ensures.value) meaning) in
     let is_entry : IsEntryOf past c.args.event.now c.in-Ok.prepared.plan r.store.persist entry = record {
       is_of = refl;
       has = c.enter-answered.ensures.answer;
-      jobs = subst (λ (p : Persist). a.jobs ≡ jobs_of built_layers past (config_in p) c.args.event.now (insight_in c.in-Ok.prepared.plan.basis) c.in-Ok.prepared.plan.answer) c.persist-p.ensures.value
-          (c.enter-answered.ensures.jobs past c.prepare.new.tables planned);
+      jobs = subst (λ (p : Persist). a.jobs ≡ jobs_of configured_layers past (config_in p) c.args.event.now (insight_in c.in-Ok.prepared.plan.basis) c.in-Ok.prepared.plan.answer) c.persist-p.ensures.value
+          (c.enter-answered.ensures.jobs past c.prepare.new.tables planned node.unicast);
     } in
     let base : Stands new over (entered m r c.renew.new.tables entry) =
-    event_stands c.node_law.ensures.kept m c.args.event.now c.in-Ok.prepared.plan c.prepare.new.tables (g.F.Flash.chip c.args.flash.now) new over s c.if-self.false r c.renew.new.tables entry planned may
+    event_stands c.ties_law.ensures.laws m c.args.event.now c.in-Ok.prepared.plan c.prepare.new.tables (g.F.Flash.chip c.args.flash.now) new over s c.if-self.false r c.renew.new.tables entry planned may bounded
     c.renew.ensures.tables is_entry refl
     (subst (λ (l : List Entry). length l + 1 < 2 ^ 32) c.prepare.ensures.entries c.enter-answered.ensures.few)
     (c.in-Ok-store_records.ensures.kept past.records h.store)
-    (c.in-Ok-store_records.ensures.meaning past.records h.before.standing.meaning)
+    meaning
     c.store_records.ensures.published c.store_records.ensures.frame in
     subst (λ (l : List Entry). Stands new over (record (entered m r c.renew.new.tables entry) { entries = l })) (sym items) base

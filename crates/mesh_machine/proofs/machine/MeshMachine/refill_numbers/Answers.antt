@@ -1,12 +1,15 @@
-use Rattle.std.proofs.Common.{◌≡◌, [], ◌∷◌, ◌<◌, ◌^◌, ap, sym, subst, ◌∙◌, arith}
+use Rattle.std.proofs.Common.{◌≡◌, [], ◌∷◌, ◌++◌, ◌<◌, ◌^◌, ap, sym, subst, ◌∙◌, arith}
 use Rattle.std.proofs.lemmas.Bool.Decides.{nat_tests}
 use Rattle.machine_contract.specs.Standing.{past_now}
-use Rattle.machine_ties.proofs.Refills.{put_cut, refill_ready, refill_stands, refill_stops}
+use Rattle.machine_ties.proofs.Fronts.{IsSameNode}
+use Rattle.machine_ties.proofs.Refills.{put_cut, refill_node, refill_ready, refill_stands, refill_stops}
 use Rattle.machine_ties.specs.Ties.{IsCutIn, IsOver, IsReady, Stands}
 use Rattle.machine_ties.specs.Views.{NodeMachine}
 use Rattle.mesh_machine.proofs.Same.{fill_elements, fill_keys}
+use Rattle.mesh_machine.proofs.Within.{within_refilled}
 use Rattle.mesh_reading.specs.Held.{held_in}
-use Rattle.node_layers.specs.BuiltLayers.{built_layers}
+use Rattle.node_layers.specs.ConfiguredLayers.{configured_layers}
+use Rattle.node_records.specs.Meaning.{IsMeaningOf}
 use Rattle.node_records.specs.Tables.{config_in}
 use Rattle.node_records.specs.declared.persist.Persist.{Persist}
 use Rattle.run_definitions.specs.History.{Past}
@@ -25,8 +28,15 @@ invariant_of-self g c e =
     let seq : seq_of i.reserve.keeper.mark < 2 ^ 24 = subst (λ n. seq_of n < 2 ^ 24) seen c.requires.seq in
     let r = c.refill.new.self in
     let change : config_in r.store.persist ≡ changed (config_in i.reserve.store.persist) (fill_of (config_in i.reserve.store.persist)) = (c.in-Ok.ensures.filled seen).1 in
-    refill_ready c.node_law.ensures.kept m ready r seq (c.in-Ok.ensures.meaning ready.past.records ready.before.standing.meaning seen) c.refill.ensures.published (c.in-Ok.ensures.usable seen)
-    (ready.fit ∙ sym (ap held_in change ∙ fill_keys (config_in i.reserve.store.persist)))
+    let meaning : IsMeaningOf (ready.past.records ++ fill_of (config_of ready.past.records) ∷ []) r.store.persist =
+    c.in-Ok.ensures.meaning ready.past.records ready.before.standing.meaning seen in
+    let node : IsSameNode (config_in i.reserve.store.persist) (config_in r.store.persist) =
+    refill_node c.ties_law.ensures.laws m ready.past r.store.persist ready.before ready.published seq meaning in
+    refill_ready c.ties_law.ensures.laws m ready r seq meaning c.refill.ensures.published (c.in-Ok.ensures.usable seen)
+    (record {
+      keys = ready.fit.keys ∙ sym (ap held_in change ∙ fill_keys (config_in i.reserve.store.persist));
+      models = within_refilled c.node_models_law.ensures.within i.tables.models i.reserve.store.persist r.store.persist node ready.fit.models;
+    })
     (ready.elements ∙ sym (ap (λ (x : Config). x.elements) change ∙ fill_elements (config_in i.reserve.store.persist)))
 
 pub returns-in-Ok-clause-kept : goal.returns-in-Ok-clause-kept
@@ -40,9 +50,9 @@ returns-in-Ok-clause-kept g c over stands =
     let old = g.F.Flash.chip c.args.flash.now in
     let new = g.F.Flash.chip c.refill.new.flash in
     let s : Stands old over m = subst (λ (v : NodeMachine). Stands old over v) (sym c.self.view_is) stands in
-    let past : Past = past_now built_layers over s.life.told i.fills in
+    let past : Past = past_now configured_layers over s.life.told i.fills in
     let h : IsOver old past m = s.usable c.if-self.false in
-    refill_stands c.node_law.ensures.kept m old new over s c.if-self.false c.refill.new.self ready.published seq (c.in-Ok.ensures.kept past.records h.store seen)
+    refill_stands c.ties_law.ensures.laws m old new over s c.if-self.false c.refill.new.self ready.published seq (c.in-Ok.ensures.kept past.records h.store seen)
     (c.in-Ok.ensures.meaning past.records h.before.standing.meaning seen) c.refill.ensures.published c.refill.ensures.frame
 
 pub returns-in-Err-clause-kept : goal.returns-in-Err-clause-kept
@@ -56,10 +66,10 @@ returns-in-Err-clause-kept g c over stands =
     let old = g.F.Flash.chip c.args.flash.now in
     let new = g.F.Flash.chip c.refill.new.flash in
     let s : Stands old over m = subst (λ (v : NodeMachine). Stands old over v) (sym c.self.view_is) stands in
-    let past : Past = past_now built_layers over s.life.told i.fills in
+    let past : Past = past_now configured_layers over s.life.told i.fills in
     let h : IsOver old past m = s.usable c.if-self.false in
     let leaves = c.refill.ensures.any_moment past.records h.store in
     let cut : IsCutIn new past.records (fill_of (config_of past.records) ∷ []) c.refill.new.self.keeper.mark =
     put_cut new past.records (fill_of (config_of past.records)) c.refill.new.self.keeper.mark (c.refill.ensures.frame.honest ∙ s.life.node.honest)
     (λ image is. leaves.each image (g.met.F.Flash.counts_now c.refill.new.flash _ image leaves.later is)) (c.refill.ensures.durable past.records h.store) in
-    refill_stops c.node_law.ensures.kept m old new over s c.if-self.false c.refill.new.self ready.published seq cut (c.in-Err.ensures.cause seen ready.usable).2 c.refill.ensures.frame
+    refill_stops c.ties_law.ensures.laws m old new over s c.if-self.false c.refill.new.self ready.published seq cut (c.in-Err.ensures.cause seen ready.usable).2 c.refill.ensures.frame

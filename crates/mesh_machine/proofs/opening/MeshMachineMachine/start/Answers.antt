@@ -53,7 +53,7 @@ returns-in-Ok-open-clause-ok g c =
     let t = started.machine.tables in
     let base : Stands new node.records (opened r t c.in-Ok.store.persist.elements) =
     opened_stands new node.records r t c.in-Ok.store.persist.elements (subst (λ (s : StoreView). IsStoreOf new s node.records) (sym says.store) store) node.read.held.ranges (node.whole runs)
-    says.tables says.published (ap (λ (s : StoreView). s.persist.elements) (sym says.store))
+    (says.tables node.records meaning) says.published (ap (λ (s : StoreView). s.persist.elements) (sym says.store))
     (omega (arith, c.requires.began, c.mount.ensures.frame.later, ap (λ (x : Setting). x.faults) c.mount.ensures.frame.setting)) in
     record {
       over = node.records;
