@@ -2,18 +2,20 @@
 #![tactic(auto)]
 
 ghost use Rattle.audit_laws.specs.Covered.{AreReportsSound, ReportsAreSound};
-ghost use Rattle.audit_laws.specs.Laws.{AreReportsSafe, AreVerdictsSafe, BuiltSendOwn, NodeSendOwn, ReportsAreSafe, VerdictsAreSafe};
+ghost use Rattle.audit_laws.specs.Laws.{AreReportsSafe, AreVerdictsSafe, BuiltSendOwn, ConfiguredSendOwn, NodeSendOwn, ReportsAreSafe, VerdictsAreSafe};
 ghost use Rattle.audit_laws.specs.Reading.{LivesNameElements, ReportsAreRead};
 ghost use Rattle.node_layers.specs.BuiltLayers.{built_layers};
+ghost use Rattle.node_layers.specs.ConfiguredLayers.{configured_layers};
 ghost use Rattle.node_layers.specs.NodeLayers.{node_layers};
 
 /// The law of the audit. Take any script whose `send` lines name elements of the node, any run of it, over all lives, bearers, refills and
 /// power cuts, its report, with the octets of network PDUs or without, and any lines of keys in front. Of the lines that this text is read as
 /// no two use a nonce twice, and no two accept one message. It holds of all safe layers that send from an element alone, and so of the layers
-/// of the node and of those that the machine has so far.
+/// of the node, of those without friendships, which the machine has so far, and of those below the access layer.
 pub fn audit_law()
     ensures safe { ReportsAreSafe }
     ensures node { AreReportsSafe node_layers }
+    ensures configured { AreReportsSafe configured_layers }
     ensures built { AreReportsSafe built_layers }
 {}
 
@@ -21,6 +23,7 @@ pub fn audit_law()
 pub fn verdict_law()
     ensures safe { VerdictsAreSafe }
     ensures node { AreVerdictsSafe node_layers }
+    ensures configured { AreVerdictsSafe configured_layers }
     ensures built { AreVerdictsSafe built_layers }
 {}
 
@@ -29,6 +32,7 @@ pub fn verdict_law()
 pub fn sound_law()
     ensures sound { ReportsAreSound }
     ensures node { AreReportsSound node_layers }
+    ensures configured { AreReportsSound configured_layers }
     ensures built { AreReportsSound built_layers }
 {}
 
@@ -44,8 +48,10 @@ pub fn script_law()
     ensures named { LivesNameElements }
 {}
 
-/// What the layers of the node, and those that the machine has so far, send comes from an element of the node.
+/// What the layers of the node send comes from an element of the node; so does what those without friendships send, which the machine has so
+/// far, and those below the access layer.
 pub fn sources_law()
     ensures node { NodeSendOwn }
+    ensures configured { ConfiguredSendOwn }
     ensures built { BuiltSendOwn }
 {}
