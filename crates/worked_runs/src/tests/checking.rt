@@ -7,6 +7,7 @@ use flash_model::{Bench, MemFlash};
 use mesh_base::memory::{MemSink, MemSource};
 use mesh_node::FreeGate;
 use mesh_run::{Ended, Status, run};
+use std::alloc::{AllocError, Global};
 use std::process::Abort;
 use std::str::from_utf8;
 use std::sync::Wait;
@@ -113,5 +114,25 @@ pub(super) fn calls_made(outcome: &Outcome<MemFlash>) -> Option<u32> {
     match &outcome.ended.flash {
         Some(flash) => Some(flash.changes()),
         None => None,
+    }
+}
+
+/// How many records count in the next life, where the call behind so many is torn by this mask. Each takes two calls, of which the second one
+/// writes its gate; torn, it counts where each bit was written.
+pub(super) fn count_after(calls: u32, mask: &str) -> u32 {
+    if mask == "ff" {
+        calls.saturating_add(1) / 2
+    } else {
+        calls / 2
+    }
+}
+
+/// How a life with so many calls in all ends, where the one behind so many is torn.
+pub(super) fn end_after(alloc: Global, calls: u32, all: u32) -> Result<String, AllocError> {
+    if calls < all {
+        let begun = calls + 1;
+        format!(in alloc; "cut {begun}")
+    } else {
+        format!(in alloc; "end")
     }
 }

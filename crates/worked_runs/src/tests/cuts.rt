@@ -1,6 +1,8 @@
 //! Power that is cut: what a life ends with, and what the next one answers.
 
-use super::checking::{calls_made, check, check_each, check_words, run_over};
+use super::checking::{
+    calls_made, check, check_each, check_words, count_after, end_after, run_over,
+};
 use mesh_run::Status;
 use std::alloc::{AllocError, Global};
 use std::process::Abort;
@@ -27,6 +29,7 @@ life 2 12345678 n 12345678 000000
 e 1 b0 1 net waiting 1
 e 2 b0 2 net delivered 0003 1201 12345678 3129ab dev ADD
 s b0 2.1 ctl 12345678 000000 07 1201 0003 0026ac00000003
+s b0 2.2 msg 12345678 000001 07 1201 0003 dev 800300563412
 end
 ",
     ),
@@ -95,10 +98,11 @@ e 1 b0 1 net replay 12345678 3129ab
 e 2 b0 2 net waiting 1
 e 3 b0 3 net delivered 0003 1201 12345678 3129ad dev ADD
 s b0 3.1 ctl 12345678 000000 07 1201 0003 0026b400000003
+s b0 3.2 msg 12345678 000001 07 1201 0003 dev 800300563412
 end
 ",
     ),
-    // the numbers for an acknowledgment are stored, and its pair isn't drawn any more
+    // the key outlived the cut too, and its message is answered when it comes under another number
     (
         "START-456
 arm 3 ff
@@ -111,13 +115,37 @@ b0 talk NK dev:DK 12345678 04 3129ad 3129ae 0003 1201 1 ADD
 ",
         "life 1 12345678 n 12345678 000000
 e 1 b0 1 net waiting 1
-e 2 b0 2 net delivered 0003 1201 12345678 3129ab dev ADD
 cut 4
+life 2 12345678 n 12345678 000000
+e 1 b0 1 net replay 12345678 3129ab
+e 2 b0 2 net waiting 1
+e 3 b0 3 net delivered 0003 1201 12345678 3129ad dev ADD
+s b0 3.1 ctl 12345678 000000 07 1201 0003 0026b400000003
+s b0 3.2 msg 12345678 000001 07 1201 0003 dev 800300563412
+end
+",
+    ),
+    // the numbers for an acknowledgment are stored, and its pair isn't drawn any more
+    (
+        "START-456
+arm 5 ff
+b0 net PDU-A
+b0 net PDU-B
+life
+b0 net PDU-A
+b0 talk NK dev:DK 12345678 04 3129ad 3129ad 0003 1201 0 ADD
+b0 talk NK dev:DK 12345678 04 3129ad 3129ae 0003 1201 1 ADD
+",
+        "life 1 12345678 n 12345678 000000
+e 1 b0 1 net waiting 1
+e 2 b0 2 net delivered 0003 1201 12345678 3129ab dev ADD
+cut 6
 life 2 12345678 n 12345678 000100
 e 1 b0 1 net replay 12345678 3129ab
 e 2 b0 2 net waiting 1
 e 3 b0 3 net delivered 0003 1201 12345678 3129ad dev ADD
 s b0 3.1 ctl 12345678 000100 07 1201 0003 0026b400000003
+s b0 3.2 msg 12345678 000101 07 1201 0003 dev 800300563412
 end
 ",
     ),
@@ -214,6 +242,23 @@ fn numbers_where_a_bank_is_full(rt: HostRuntime) -> Result<(), Fail> {
     Ok(())
 }
 
+/// A Node Reset fills the bank, and the number for its reply is drawn: the refill compacts.
+#[test]
+fn a_reset_where_a_bank_is_full(rt: HostRuntime) -> Result<(), Fail> {
+    let alloc = rt.alloc();
+    let lines = messages(alloc, 1018)?;
+    let script = format!(in alloc;
+        "START-000\n{lines}b0 talk NK dev:DK 12345678 04 000001 000001 0003 1201 u 8049\nlife\n"
+    )?;
+    let outcome = run_over(&rt, &["run"], script.as_str())?;
+    let report = from_utf8(outcome.written.octets())?;
+    assert_eq!(rt; outcome.ended.status, Status::Done);
+    let last =
+        "e 1019 b0 1019 net delivered 0003 1201 12345678 000001 dev 8049\ns b0 1019.1 msg 12345678 000000 07 1201 0003 dev 804a\nend\nlife 2 wasreset\n";
+    assert!(rt; report.ends_with(last), "{report}");
+    Ok(())
+}
+
 /// Tests a refill that compacts and is cut by this order: how its life ends, and where the numbers of the next one begin.
 fn check_refill<R: Abort + AllocGlobal + Threads + Wait + Sync>(
     rt: &R,
@@ -266,56 +311,75 @@ fn at_a_migration(rt: HostRuntime) -> Result<(), Fail> {
     Ok(())
 }
 
-/// What becomes of a message whose life is cut at each of its calls.
-fn after_cut(calls: u32, mask: &str) -> (&'static str, &'static str) {
-    let taken =
-        "e 1 b0 1 net waiting 1\ne 2 b0 2 net delivered 0003 1201 12345678 3129ab dev ADD\n";
-    let refused = "e 1 b0 1 net replay 12345678 3129ab\ne 2 b0 2 net replay 12345678 3129ab\n";
+/// An AppKey Add in two segments, twice, and the question for the application keys of its network key.
+const ADDED: &str = "b0 net PDU-A
+b0 net PDU-B
+life
+b0 net PDU-A
+b0 net PDU-B
+b0 talk NK dev:DK 12345678 04 3129ad 3129ad 0003 1201 u 80015604
+";
+
+const DELIVERED: &str = "e 2 b0 2 net delivered 0003 1201 12345678 3129ab dev ADD\n";
+
+const ANSWERED: &str = "s b0 2.1 ctl 12345678 000000 07 1201 0003 0026ac00000003
+s b0 2.2 msg 12345678 000001 07 1201 0003 dev 800300563412
+";
+
+const ASKED: &str = "e 3 b0 3 net delivered 0003 1201 12345678 3129ad dev 80015604\n";
+
+/// What the first life answers and sends, where it is cut behind so many calls.
+fn first_life(calls: u32) -> (&'static str, &'static str) {
     match calls {
-        0 => ("000000", taken),
-        1 => {
-            if mask == "ff" {
-                ("000000", refused)
-            } else {
-                ("000000", taken)
-            }
-        }
-        2 => ("000000", refused),
-        _ => {
-            if mask == "ff" {
-                ("000100", refused)
-            } else {
-                ("000000", refused)
-            }
-        }
+        0..=3 => ("", ""),
+        4 | 5 => (DELIVERED, ""),
+        _ => (DELIVERED, ANSWERED),
     }
 }
 
-/// The calls of a message: its replay record, and then the numbers for its acknowledgment.
+/// What the second life opens with, what it answers of the message, and what it sends, where so many records count: first the replay record,
+/// then the key, then the numbers.
+fn second_life(records: u32) -> (&'static str, &'static str, &'static str) {
+    let replayed = "e 1 b0 1 net replay 12345678 3129ab\ne 2 b0 2 net replay 12345678 3129ab\n";
+    match records {
+        0 => (
+            "000000",
+            "e 1 b0 1 net waiting 1\ne 2 b0 2 net delivered 0003 1201 12345678 3129ab dev ADD\n",
+            "s b0 2.1 ctl 12345678 000000 07 1201 0003 0026ac00000003
+s b0 2.2 msg 12345678 000001 07 1201 0003 dev 800300563412
+s b0 3.1 msg 12345678 000002 07 1201 0003 dev 80020056042301
+",
+        ),
+        1 => (
+            "000000",
+            replayed,
+            "s b0 3.1 msg 12345678 000000 07 1201 0003 dev 8002005604\n",
+        ),
+        2 => (
+            "000000",
+            replayed,
+            "s b0 3.1 msg 12345678 000000 07 1201 0003 dev 80020056042301\n",
+        ),
+        _ => (
+            "000100",
+            replayed,
+            "s b0 3.1 msg 12345678 000100 07 1201 0003 dev 80020056042301\n",
+        ),
+    }
+}
+
+/// The calls of the message: two each for its replay record, for its key, and for the numbers of acknowledgment and reply.
 #[test]
 fn at_every_call_of_a_message(rt: HostRuntime) -> Result<(), Fail> {
     let alloc = rt.alloc();
-    let masks = ["00", "ff", "f0", "55"];
-    for calls in 0..4u32 {
-        for i in 0..masks.len() {
-            let mask = masks[i];
-            let script = format!(in alloc;
-                "START-456\narm {calls} {mask}\nb0 net PDU-A\nb0 net PDU-B\nlife\nb0 net PDU-A\nb0 net PDU-B\n"
-            )?;
-            let (seq, answers) = after_cut(calls, mask);
-            let delivered = if calls < 2 {
-                ""
-            } else {
-                "e 2 b0 2 net delivered 0003 1201 12345678 3129ab dev ADD\n"
-            };
-            let sent = if answers.starts_with("e 1 b0 1 net waiting") {
-                "s b0 2.1 ctl 12345678 000000 07 1201 0003 0026ac00000003\n"
-            } else {
-                ""
-            };
-            let made = calls + 1;
+    for calls in 0..7u32 {
+        for mask in ["00", "ff", "f0", "55"] {
+            let script = format!(in alloc; "START-456\narm {calls} {mask}\n{ADDED}")?;
+            let (delivered, answered) = first_life(calls);
+            let end = end_after(alloc, calls, 6)?;
+            let (mark, answers, sent) = second_life(count_after(calls, mask));
             let report = format!(in alloc;
-                "life 1 12345678 n 12345678 000000\ne 1 b0 1 net waiting 1\n{delivered}cut {made}\nlife 2 12345678 n 12345678 {seq}\n{answers}{sent}end\n"
+                "life 1 12345678 n 12345678 000000\ne 1 b0 1 net waiting 1\n{delivered}{answered}{end}\nlife 2 12345678 n 12345678 {mark}\n{answers}{ASKED}{sent}end\n"
             )?;
             check(&rt, script.as_str(), report.as_str())?;
         }

@@ -27,7 +27,7 @@ const TWO_PDUS_END: &str =
 end
 ";
 
-/// Messages in segments. A message of the node's own Configuration Server has no effect yet.
+/// Messages in segments. The one that is in both PDUs is an AppKey Add, which the Configuration Server answers.
 const SEGMENTS: &[(&str, &str)] = &[
     (
         "START-456
@@ -38,6 +38,7 @@ b0 net PDU-B
 e 1 b0 1 net waiting 1
 e 2 b0 2 net delivered 0003 1201 12345678 3129ab dev ADD
 s b0 2.1 ctl 12345678 000000 07 1201 0003 0026ac00000003
+s b0 2.2 msg 12345678 000001 07 1201 0003 dev 800300563412
 end
 ",
     ),
@@ -50,6 +51,7 @@ b0 net PDU-A
 e 1 b0 1 net waiting 1
 e 2 b0 2 net delivered 0003 1201 12345678 3129ab dev ADD
 s b0 2.1 ctl 12345678 000000 07 1201 0003 0026ac00000003
+s b0 2.2 msg 12345678 000001 07 1201 0003 dev 800300563412
 end
 ",
     ),
@@ -66,7 +68,8 @@ e 2 b0 2 net delivered 0003 1201 12345678 3129ab dev ADD
 e 3 b0 3 net cached
 e 4 b0 4 net again
 s b0 2.1 ctl 12345678 000000 07 1201 0003 0026ac00000003
-s b0 4.1 ctl 12345678 000001 07 1201 0003 0026ac00000003
+s b0 2.2 msg 12345678 000001 07 1201 0003 dev 800300563412
+s b0 4.1 ctl 12345678 000002 07 1201 0003 0026ac00000003
 end
 ",
     ),
@@ -83,6 +86,7 @@ b0 net PDU-B
 e 1 b0 1 net waiting 1
 e 2 b0 2 net delivered 0003 1201 12345678 3129ab dev ADD
 s b0 2.1 ctl 12345678 000000 07 1201 0003 0026ac00000003
+s b0 2.2 msg 12345678 000001 07 1201 0003 dev 800300563412
 end
 life 2 12345678 n 12345678 000100
 e 1 b0 1 net replay 12345678 3129ab
@@ -103,6 +107,7 @@ e 2 b0 2 tick ticked 999
 e 3 b0 3 net delivered 0003 1201 12345678 3129ab dev ADD
 s b0 2.1 ctl 12345678 000000 07 1201 0003 0026ac00000001
 s b0 3.1 ctl 12345678 000001 07 1201 0003 0026ac00000003
+s b0 3.2 msg 12345678 000002 07 1201 0003 dev 800300563412
 end
 ",
     ),
@@ -144,6 +149,7 @@ e 3 b0 3 net waiting 1
 e 4 b0 4 net delivered 0003 1201 12345678 3129ad dev ADD
 s b0 2.1 ctl 12345678 000000 07 1201 0003 0026ac00000003
 s b0 4.1 ctl 12345678 000001 07 1201 0003 0026b400000003
+s b0 4.2 msg 12345678 000002 07 1201 0003 dev 800300563412
 end
 ",
     ),

@@ -11,13 +11,14 @@ use std::sync::Wait;
 use std::test::Fail;
 use std::thread::Threads;
 
-/// Lines of a life on two bearers that send and hear, with four events in each round.
+/// Lines of a life on two bearers that send and hear, with five events in each round. One of them sets the Default TTL, and is answered.
 fn workload(alloc: Global, rounds: u32) -> Result<String, AllocError> {
     let mut lines = String::new(alloc);
     for k in 0..rounds {
         let seq = k.saturating_add(1);
+        let ttl = k.saturating_add(16);
         let heard = format!(in alloc;
-            "b0 RAW\nb1 RAW\nb0 peer NK 12345678 1 00 {seq:06x} 0101 1201 7f\nb1 peer NK 12345678 1 00 {seq:06x} 0102 1201 7f\n"
+            "b0 RAW\nb1 RAW\nb0 peer NK 12345678 1 00 {seq:06x} 0101 1201 7f\nb1 peer NK 12345678 1 00 {seq:06x} 0102 1201 7f\nb1 talk NK dev:DK 12345678 04 {seq:06x} {seq:06x} 0103 1201 u 800d{ttl:02x}\n"
         )?;
         lines.push_str(heard.as_str())?;
     }
@@ -30,9 +31,20 @@ fn name_after<'a>(line: &'a str, word: &str) -> Option<&'a str> {
     rest.get(..15)
 }
 
-/// The source and the name of a control message that a line shows as taken.
+/// The pair of a PDU that a line shows as sent: IV Index and SEQ.
+fn sent(line: &str) -> Option<&str> {
+    match name_after(line, " ctl ") {
+        Some(pair) => Some(pair),
+        None => name_after(line, " msg "),
+    }
+}
+
+/// The source and the name of a message that a line shows as taken.
 fn taken(line: &str) -> Option<&str> {
-    let (_, rest) = line.split_once(" net control ")?;
+    let (_, rest) = match line.split_once(" net control ") {
+        Some(parts) => parts,
+        None => line.split_once(" net delivered ")?,
+    };
     rest.get(..25)
 }
 
@@ -41,7 +53,7 @@ fn is_sound(alloc: Global, report: &str) -> Result<bool, AllocError> {
     let mut pairs = BTreeSet::new(alloc);
     let mut messages = BTreeSet::new(alloc);
     for line in report.lines() {
-        if let Some(pair) = name_after(line, " ctl ") {
+        if let Some(pair) = sent(line) {
             if !pairs.insert(pair)? {
                 return Ok(false);
             }
@@ -55,7 +67,7 @@ fn is_sound(alloc: Global, report: &str) -> Result<bool, AllocError> {
     Ok(true)
 }
 
-/// Runs 40 events in a life that is cut at a call, and eight in each of two lives after it, of which the first is cut too, and tests the
+/// Runs 30 events in a life that is cut at a call, and ten in each of two lives after it, of which the first is cut too, and tests the
 /// report. Returns whether the first life went to its end.
 fn cut_at<R: Abort + AllocGlobal + Threads + Wait + Sync>(
     rt: &R,
@@ -63,7 +75,7 @@ fn cut_at<R: Abort + AllocGlobal + Threads + Wait + Sync>(
     mask: &str,
 ) -> Result<bool, Fail> {
     let alloc = rt.alloc();
-    let first = workload(alloc, 10)?;
+    let first = workload(alloc, 6)?;
     let later = workload(alloc, 2)?;
     let second = call % 7;
     let script = format!(in alloc;

@@ -1,0 +1,85 @@
+//! Virtual addresses: a lamp that subscribes to a label hears what is sealed with it.
+
+use super::checking::check_each;
+use std::test::Fail;
+
+const LABELS: &[(&str, &str)] = &[
+    // a message to the virtual address without the label opens under none; and without the subscription it is none of the node's
+    (
+        "START-456
+b0 net PDU-A
+b0 net PDU-B
+b0 talk NK dev:DK 12345678 04 3129ad 3129ad 0003 1201 u 803d011223010010
+b0 talk NK dev:DK 12345678 04 3129ae 3129ae 0003 1201 0 80200112LABEL0010
+b0 talk NK dev:DK 12345678 04 3129ae 3129af 0003 1201 1 80200112LABEL0010
+b0 talk NK dev:DK 12345678 04 3129ae 3129b0 0003 1201 2 80200112LABEL0010
+b0 talk NK app:AK 12345678 00 3129b1 3129b1 0003 v:LABEL u 82030101
+b0 talk NK app:AK 12345678 00 3129b2 3129b2 0003 b529 u 82030101
+b0 talk NK app:AK 12345678 04 3129b3 3129b3 0003 1201 u 8201
+b0 talk NK dev:DK 12345678 04 3129b4 3129b4 0003 1201 0 80210112LABEL0010
+b0 talk NK dev:DK 12345678 04 3129b4 3129b5 0003 1201 1 80210112LABEL0010
+b0 talk NK dev:DK 12345678 04 3129b4 3129b6 0003 1201 2 80210112LABEL0010
+b0 talk NK app:AK 12345678 00 3129b7 3129b7 0003 v:LABEL u 82030001
+",
+        "life 1 12345678 n 12345678 000000
+e 1 b0 1 net waiting 1
+e 2 b0 2 net delivered 0003 1201 12345678 3129ab dev ADD
+e 3 b0 3 net delivered 0003 1201 12345678 3129ad dev 803d011223010010
+e 4 b0 4 net waiting 2
+e 5 b0 5 net waiting 1
+e 6 b0 6 net delivered 0003 1201 12345678 3129ae dev 80200112LABEL0010
+e 7 b0 7 net delivered 0003 b529 12345678 3129b1 app:123 82030101
+e 8 b0 8 net nokey
+e 9 b0 9 net delivered 0003 1201 12345678 3129b3 app:123 8201
+e 10 b0 10 net waiting 2
+e 11 b0 11 net waiting 1
+e 12 b0 12 net delivered 0003 1201 12345678 3129b4 dev 80210112LABEL0010
+e 13 b0 13 net notmine
+s b0 2.1 ctl 12345678 000000 07 1201 0003 0026ac00000003
+s b0 2.2 msg 12345678 000001 07 1201 0003 dev 800300563412
+s b0 3.1 msg 12345678 000002 07 1201 0003 dev 803e00011223010010
+s b0 6.1 ctl 12345678 000003 07 1201 0003 0026b800000007
+s b0 6.2 msg 12345678 000004 07 1201 0003 dev 801f00011229b50010
+s b0 9.1 msg 12345678 000005 07 1201 0003 app:123 820401
+s b0 12.1 ctl 12345678 000006 07 1201 0003 0026d000000007
+s b0 12.2 msg 12345678 000007 07 1201 0003 dev 801f00011229b50010
+end
+",
+    ),
+    // the next life has the label
+    (
+        "START-456
+b0 net PDU-A
+b0 net PDU-B
+b0 talk NK dev:DK 12345678 04 3129ad 3129ad 0003 1201 u 803d011223010010
+b0 talk NK dev:DK 12345678 04 3129ae 3129ae 0003 1201 0 80200112LABEL0010
+b0 talk NK dev:DK 12345678 04 3129ae 3129af 0003 1201 1 80200112LABEL0010
+b0 talk NK dev:DK 12345678 04 3129ae 3129b0 0003 1201 2 80200112LABEL0010
+life
+b0 talk NK app:AK 12345678 00 3129b1 3129b1 0003 v:LABEL u 82020101
+",
+        "life 1 12345678 n 12345678 000000
+e 1 b0 1 net waiting 1
+e 2 b0 2 net delivered 0003 1201 12345678 3129ab dev ADD
+e 3 b0 3 net delivered 0003 1201 12345678 3129ad dev 803d011223010010
+e 4 b0 4 net waiting 2
+e 5 b0 5 net waiting 1
+e 6 b0 6 net delivered 0003 1201 12345678 3129ae dev 80200112LABEL0010
+s b0 2.1 ctl 12345678 000000 07 1201 0003 0026ac00000003
+s b0 2.2 msg 12345678 000001 07 1201 0003 dev 800300563412
+s b0 3.1 msg 12345678 000002 07 1201 0003 dev 803e00011223010010
+s b0 6.1 ctl 12345678 000003 07 1201 0003 0026b800000007
+s b0 6.2 msg 12345678 000004 07 1201 0003 dev 801f00011229b50010
+end
+life 2 12345678 n 12345678 000100
+e 1 b0 1 net delivered 0003 b529 12345678 3129b1 app:123 82020101
+s b0 1.1 msg 12345678 000100 00 1201 0003 app:123 820401
+end
+",
+    ),
+];
+
+#[test]
+fn labels(rt: HostRuntime) -> Result<(), Fail> {
+    check_each(&rt, LABELS)
+}
