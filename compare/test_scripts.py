@@ -1,0 +1,63 @@
+"""The random scripts, and that a report which differs is told."""
+import re
+import tempfile
+import unittest
+from pathlib import Path
+
+from compare import difference, first_difference
+from oracle.report import report_of
+from scripts import KINDS, kind_of, make
+
+EVENT = re.compile(r'b0 (net|bcn|peer|talk|beacon|send|raw|tick)( [0-9a-f:v/]+| app:\w+| u)+')
+LINES_OF_LIFE = 4096
+
+
+def program_that_prints(folder: str, report: str) -> str:
+    """A program that prints a report, and finds each one sound."""
+    program, printed = Path(folder) / 'program', Path(folder) / 'report'
+    printed.write_text(report)
+    program.write_text(f'#!/bin/sh\n[ $1 = audit ] && echo sound 1 || cat {printed}\n')
+    program.chmod(0o700)
+    return str(program)
+
+
+class Scripts(unittest.TestCase):
+    def test_lines(self) -> None:
+        """Every script is of the form, within its bounds, and has the report of a run anew."""
+        for kind in KINDS:
+            with self.subTest(kind):
+                script, report = make(7, kind)
+                self.assertEqual(report_of(script), report)
+                first, *lives = re.split(r'(?m)^life\n', script)
+                self.assertTrue(first.startswith('provision '))
+                for life in lives:
+                    lines = life.splitlines()
+                    self.assertLess(len(lines), LINES_OF_LIFE)
+                    arms = [line for line in lines if line.startswith('arm ')]
+                    self.assertLessEqual(len(arms), 1)
+                    for line in lines:
+                        self.assertTrue(line in arms or EVENT.fullmatch(line), line)
+
+    def test_seed(self) -> None:
+        self.assertEqual(make(8, 'odd'), make(8, 'odd'))
+        self.assertNotEqual(make(8, 'odd'), make(9, 'odd'))
+
+    def test_kinds(self) -> None:
+        self.assertEqual({kind_of(seed) for seed in range(50)}, set(KINDS))
+
+
+class Differences(unittest.TestCase):
+    def test_first_difference(self) -> None:
+        told = first_difference('a\nb\n', 'a\nc\n')
+        self.assertEqual(told, 'line 2\n  node    b\n  program c')
+        self.assertIn('(no line)', first_difference('a\n', ''))
+
+    def test_difference(self) -> None:
+        with tempfile.TemporaryDirectory() as folder:
+            self.assertIsNone(difference(program_that_prints(folder, 'end\n'), '', 'end\n'))
+            wrong = difference(program_that_prints(folder, 'cut 3\n'), '', 'end\n')
+            self.assertIn('program cut 3', wrong)
+
+
+if __name__ == '__main__':
+    unittest.main()
