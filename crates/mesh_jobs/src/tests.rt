@@ -1,5 +1,11 @@
 //! Worked rows: what is sent for what was heard, for time that passed, and for own messages.
+//!
+//! - `replying`: replies
+//! - `publishing`: publications and heartbeats
 #![tactic(auto)]
+
+mod publishing;
+mod replying;
 
 ghost use Rattle.std.specs.Prelude.{◌≡◌, ◌<◌, ◌^◌, [], ◌∷◌};
 ghost use Rattle.segment_sender.specs.Held.{IsHeldWell, IsOutgoing};
@@ -8,7 +14,6 @@ use crate::{
     KeyPhase, Phases, Span, begin_jobs, held_phases, own_jobs, pdu_jobs, push_rounds, tick_jobs,
 };
 use app_keys::AppKeys;
-use element_models::{LEVEL_SERVER, ONOFF_SERVER};
 use layer_states::reassembly::{AckList, DueAck};
 use layer_states::sending::{Outgoing, PieceList, Sending};
 use mesh_base::address::Address;
@@ -21,11 +26,10 @@ use mesh_base::table::Table;
 use mesh_types::answers::{Answer, KeyName};
 use mesh_types::events::{Event, SendKey};
 use mesh_types::jobs::{Job, JobDraft, Jobs};
-use model_states::publication::HeartbeatRow;
 use net_keys::NetKeys;
 use network_layer::NetReading;
-use node_models::{Due, DueRow, MessageReplies, Reply};
-use node_records::{Persist, PublishRow};
+use node_models::{Due, MessageReplies};
+use node_records::Persist;
 use std::alloc::{AllocError, Global};
 use std::test::Fail;
 
@@ -373,6 +377,18 @@ fn acknowledges(rt: HostRuntime) -> Result<(), Fail> {
     Ok(())
 }
 
+fn delivered() -> Answer {
+    Answer::Delivered {
+        name: name(0x3129ab),
+        dst: ELEMENT,
+        key: KeyName::Dev,
+        payload: octets(&[0x00]),
+    }
+}
+
+// A Generic OnOff Status: on.
+const ONOFF_STATUS: [u8; 3] = [0x82, 0x04, 0x01];
+
 fn app_key() -> UpperKey {
     UpperKey::App {
         index: 0x123,
@@ -392,86 +408,6 @@ fn message_from(src: u16, key: UpperKey, ttl: u8, dst: Address, payload: &[u8]) 
         payload: octets(payload),
         keep: None,
     }
-}
-
-// The TTL of the node as a reply of the Configuration Server tells it, and the Statuses of two elements.
-const TTL_STATUS: [u8; 3] = [0x80, 0x0e, 0x07];
-
-const ONOFF_STATUS: [u8; 3] = [0x82, 0x04, 0x01];
-
-const LEVEL_STATUS: [u8; 4] = [0x82, 0x08, 0x34, 0x12];
-
-fn three_replies() -> MessageReplies {
-    let mut replies = MessageReplies::none();
-    replies.configuration = Some(octets(&TTL_STATUS));
-    replies.models.push(Reply {
-        element: 0,
-        payload: octets(&ONOFF_STATUS),
-    });
-    replies.models.push(Reply {
-        element: 1,
-        payload: octets(&LEVEL_STATUS),
-    });
-    replies
-}
-
-fn delivered() -> Answer {
-    Answer::Delivered {
-        name: name(0x3129ab),
-        dst: ELEMENT,
-        key: KeyName::Dev,
-        payload: octets(&[0x00]),
-    }
-}
-
-// Replies go from their elements to the message's source, under the key that opened it, with TTL 0 to what was heard
-// with 0; none under a network key that isn't held, to a message that no key opened, or by another answer. They stand
-// behind the acknowledgment and before the beacon.
-#[test]
-fn replies(rt: HostRuntime) -> Result<(), Fail> {
-    let alloc = rt.alloc();
-    let n = plain();
-    let before = held_phases(&n.p);
-    let replies = three_replies();
-    let access = [0x66, 0x5a, 0x8b, 0xde, 0x6d, 0x91, 0x06];
-    for (ttl, sent) in [(5, 7), (0, 0)] {
-        for key in [app_key(), UpperKey::Device(DEV_KEY)] {
-            let all = [
-                message_from(0x1201, key, sent, PEER, &TTL_STATUS),
-                message_from(0x1201, key, sent, PEER, &ONOFF_STATUS),
-                message_from(0x1202, key, sent, PEER, &LEVEL_STATUS),
-            ];
-            let r = reading(false, ttl, 3, ELEMENT, &access);
-            let jobs = replied(alloc, &n, &before, &r, Some(&key), &replies, &delivered())?;
-            assert!(rt; jobs.as_slice() == all.as_slice(), "{ttl}");
-        }
-    }
-    let key = app_key();
-    let mut r = reading(false, 5, 3, ELEMENT, &access);
-    let jobs = replied(alloc, &n, &before, &r, Some(&key), &replies, &Answer::NoKey)?;
-    assert!(rt; jobs.is_empty(), "another answer");
-    let jobs = replied(alloc, &n, &before, &r, None, &replies, &delivered())?;
-    assert!(rt; jobs.is_empty(), "no key");
-    r.by.index = 1;
-    let jobs = replied(alloc, &n, &before, &r, Some(&key), &replies, &delivered())?;
-    assert!(rt; jobs.is_empty(), "no network key");
-    let mut phases = Phases::new();
-    let _ = phases.push(KeyPhase { index: 0, phase: 1 });
-    let last = [
-        0x80, 0x26, 0xac, 0x21, 0xcf, 0xdc, 0x18, 0xc5, 0x2f, 0xde, 0xf7, 0x72, 0xe0, 0xe1, 0x73,
-        0x08,
-    ];
-    let r = reading(false, 5, 3, ELEMENT, &last);
-    let mut one = MessageReplies::none();
-    one.configuration = Some(octets(&TTL_STATUS));
-    let all = [
-        control(7, PEER, &[0x00, 0x26, 0xac, 0x00, 0x00, 0x00, 0x03]),
-        message_from(0x1201, key, 7, PEER, &TTL_STATUS),
-        Job::Beacon(BEACON),
-    ];
-    let jobs = replied(alloc, &n, &phases, &r, Some(&key), &one, &delivered())?;
-    assert!(rt; jobs.as_slice() == all.as_slice(), "order");
-    Ok(())
 }
 
 // The node's beacons after a change of phase: under the new key with flag 1 in phase 2.
@@ -792,134 +728,6 @@ fn rounds(rt: HostRuntime) -> Result<(), Fail> {
     assert!(rt; round(alloc, &n, 55, PEER, 4)?.is_empty());
     assert!(rt; round(alloc, &n, 55, Address(0xc000), 2)?.len() == 2);
     assert!(rt; round(alloc, &n, 55, Address(0xc000), 3)?.is_empty());
-    Ok(())
-}
-
-fn publish_row(element: Address, model: u16, app: u16, ttl: u8) -> PublishRow {
-    PublishRow {
-        element,
-        model,
-        address: Address(0xc001),
-        app,
-        ttl,
-        period: 0x41,
-        retransmit: 0,
-    }
-}
-
-// What is sent at a tick where this row is due, and this heartbeat.
-fn published(
-    alloc: Global,
-    n: &Node,
-    row: PublishRow,
-    heartbeat: Option<HeartbeatRow>,
-    to: u64,
-) -> Result<Jobs, AllocError> {
-    let mut due = Due::nothing();
-    due.rows.push(DueRow {
-        row,
-        status: octets(&ONOFF_STATUS),
-    });
-    due.heartbeat = heartbeat;
-    let span = Span {
-        from: 1,
-        to,
-        iv: n.p.iv,
-    };
-    Ok(tick_jobs(
-        JobDraft::new(alloc)?,
-        &n.p,
-        &n.nets,
-        &n.apps,
-        &AckList::new(),
-        &[],
-        &due,
-        &span,
-        &Answer::Ticked { now: to },
-    ))
-}
-
-// A row that is due is published with its TTL, which ff stands for the Default TTL in; none of an application key that
-// isn't held, of another node's element, or of a model that the node doesn't have, and none that the store holds
-// otherwise.
-#[test]
-fn publications(rt: HostRuntime) -> Result<(), Fail> {
-    let alloc = rt.alloc();
-    let other = Address(0x1202);
-    for (element, model, app, ttl, sent) in [
-        (ELEMENT, ONOFF_SERVER, 0x123, 0xff, Some(7)),
-        (ELEMENT, LEVEL_SERVER, 0x123, 0xff, Some(7)),
-        (ELEMENT, ONOFF_SERVER, 0x123, 5, Some(5)),
-        (ELEMENT, ONOFF_SERVER, 0x123, 0, Some(0)),
-        (ELEMENT, ONOFF_SERVER, 0x124, 5, None),
-        (ELEMENT, 0x1001, 0x123, 5, None),
-        (other, ONOFF_SERVER, 0x123, 5, None),
-    ] {
-        let row = publish_row(element, model, app, ttl);
-        let mut n = plain();
-        let _ = n.p.publications.push(row);
-        let jobs = published(alloc, &n, row, None, 2)?;
-        match sent {
-            Some(ttl) => {
-                let dst = Address(0xc001);
-                let job = message_from(0x1201, app_key(), ttl, dst, &ONOFF_STATUS);
-                assert!(rt; is_only(&jobs, &job), "{model} {ttl}");
-            }
-            None => assert!(rt; jobs.is_empty(), "{app} {model}"),
-        }
-    }
-    let row = publish_row(ELEMENT, ONOFF_SERVER, 0x123, 5);
-    assert!(rt;
-        published(alloc, &plain(), row, None, 2)?.is_empty(),
-        "no row"
-    );
-    let mut n = plain();
-    let _ = n.p.publications.push(PublishRow {
-        period: 0x42,
-        ..row
-    });
-    assert!(rt;
-        published(alloc, &n, row, None, 2)?.is_empty(),
-        "another period"
-    );
-    Ok(())
-}
-
-fn heartbeat(net: u16) -> HeartbeatRow {
-    HeartbeatRow {
-        dst: Address(0xc002),
-        count: 0xff,
-        period: 1,
-        ttl: 3,
-        features: 0,
-        net,
-    }
-}
-
-// A heartbeat tells the features that are on, by its bits, under its network key; beacons, a publication and a
-// heartbeat go in this order.
-#[test]
-fn heartbeats(rt: HostRuntime) -> Result<(), Fail> {
-    let alloc = rt.alloc();
-    let row = publish_row(ELEMENT, ONOFF_SERVER, 0x123, 5);
-    for (relay, friend, features) in [(1, 1, 5), (0, 1, 4), (1, 0, 1), (0, 0, 0), (2, 0, 0)] {
-        let mut n = plain();
-        n.p.relay = relay;
-        n.p.friend = friend;
-        let jobs = published(alloc, &n, row, Some(heartbeat(0)), 2)?;
-        let job = control(3, Address(0xc002), &[0x0a, 0x03, 0x00, features]);
-        assert!(rt; is_only(&jobs, &job), "{features}");
-    }
-    let mut n = plain();
-    assert!(rt; published(alloc, &n, row, Some(heartbeat(1)), 2)?.is_empty());
-    let _ = n.p.publications.push(row);
-    let all = [
-        Job::Beacon(BEACON),
-        message_from(0x1201, app_key(), 5, Address(0xc001), &ONOFF_STATUS),
-        control(3, Address(0xc002), &[0x0a, 0x03, 0x00, 0x05]),
-    ];
-    let jobs = published(alloc, &n, row, Some(heartbeat(0)), 1000)?;
-    assert!(rt; jobs.as_slice() == all.as_slice());
     Ok(())
 }
 
