@@ -1,11 +1,10 @@
-//! Worked scripts, each with the report that `run` writes of it, over sources, sinks and flashes in memory. There is no code here but tests.
+//! Runs of scripts over sources, sinks and flashes that fail, and with gates between bearers. There is no code here but tests. Scripts with
+//! their reports stand in `worked/` at the top.
 //!
 //! - `names`: the words that stand in the scripts for keys and octets
 //! - `checking`: one script over one flash
-//! - `heard`, `sent`: what one bearer hears and sends; `bearers`, `gates`: bearers beside one another; `cuts`, `sweep`: power that is cut
-//! - `configured`: keys, features and models, as they are set; `models`: OnOff and Level; `labels`: virtual addresses; `published`: publications
-//!   and heartbeats
-//! - `streams`, `flashes`: words, sources, sinks and flashes that fail; `auditing`: what an audit says of reports; `examples`: those of examples/
+//! - `streams`, `flashes`: sources, sinks and flashes that fail
+//! - `gates`: bearers beside one another
 #![tactic(auto)]
 
 #[cfg(test)]

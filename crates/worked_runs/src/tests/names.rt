@@ -8,12 +8,8 @@ const NAMES: &[(&str, &str)] = &[
     ("START-000", "provision 1201 1 12345678 00 000 NK DK\nlife"),
     ("START-456", "provision 1201 1 12345678 00 456 NK DK\nlife"),
     ("RAW", "raw fffd 00 034b50057e400000010000"),
-    ("NK2", "f7a2a44f8e8a8029064f173ddc1e2b00"),
     ("NK", "7dd7364cd842ad18c17c2b820c84c3d6"),
     ("DK", "9d6dd0e96eb25dc19a40ed9914f8f03f"),
-    ("AK2", "3216d1509884b533248541792b877f98"),
-    ("AK", "63964771734fbd76e3b40519d1d94a48"),
-    ("LABEL", "0073e7e4d8b9440faf8415df4c56c0e1"),
     (
         "PDU-A",
         "68cab5c5348a230afba8c63d4e686364979deaf4fd40961145939cda0e",

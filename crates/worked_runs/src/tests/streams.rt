@@ -1,6 +1,6 @@
-//! Words that are no command, scripts that are none, and sources and sinks that fail.
+//! Sources and sinks that fail.
 
-use super::checking::{check_refused, run_failing};
+use super::checking::run_failing;
 use super::names::spelled;
 use flash_model::MemFlash;
 use mesh_base::memory::{SureSink, SureSource};
@@ -60,48 +60,6 @@ end
 ",
     ),
 ];
-
-/// Words that are no command.
-const NO_COMMANDS: &[&[&str]] = &[
-    &[],
-    &["walk"],
-    &["run", "--", "--hex"],
-    &["run", "--help"],
-    &["run", "--version"],
-    &["run", "more"],
-    &["run", "--hex", "--hex"],
-    &["run", "--HEX"],
-];
-
-/// Scripts that are refused, each with its first failing line and the rule that fails there.
-const REFUSED: &[(&str, u32, u8)] = &[
-    ("", 1, 2),
-    ("START-000\nb0 net 6\n", 3, 5),
-    ("life\n", 1, 2),
-    ("START-000\nb9 net 68\n", 3, 3),
-    ("START-000\nb0 net\n", 3, 4),
-    ("START-000\narm 0 f0\nb0 RAW\narm 1 f0\n", 5, 6),
-];
-
-#[test]
-fn words_that_are_no_command(rt: HostRuntime) -> Result<(), Fail> {
-    for i in 0..NO_COMMANDS.len() {
-        check_refused(&rt, NO_COMMANDS[i], TWO_PDUS, Status::Usage)?;
-    }
-    Ok(())
-}
-
-#[test]
-fn scripts_that_are_none(rt: HostRuntime) -> Result<(), Fail> {
-    for i in 0..REFUSED.len() {
-        let (script, line, rule) = REFUSED[i];
-        check_refused(&rt, &["run"], script, Status::Script { line, rule })?;
-    }
-    let payload = "7f".repeat(rt.alloc(), 381)?;
-    let script = format!(in rt.alloc(); "START-000\nb0 send 0 0003 07 dev {payload}\n")?;
-    let status = Status::Script { line: 3, rule: 5 };
-    check_refused(&rt, &["run"], script.as_str(), status)
-}
 
 /// Runs a script with a source that fails at each of its calls, up to the first call that isn't made.
 fn fail_each_read<R: Abort + AllocGlobal + Threads + Wait + Sync>(

@@ -1,0 +1,343 @@
+"""Worked scripts that are made: those of many lines, and those of one power cut at each call of the flash."""
+from rows import Row
+
+LIFE = 'life 1 12345678 n 12345678 000000\n'
+PAYLOAD = '7f' * 380
+FIRST_SEGMENT = '80000001000000000000000000000000'
+
+
+def long_message():
+    script = ''.join(f'b0 talk NK dev:DK 12345678 04 000001 {piece + 1:06x} 0003 1201 {piece} {PAYLOAD}\n' for piece in range(32))
+    entries = ''.join(f'e {piece + 1} b0 {piece + 1} net waiting {31 - piece}\n' for piece in range(31))
+    last = f'e 32 b0 32 net delivered 0003 1201 12345678 000001 dev {PAYLOAD}\n'
+    sent = 's b0 32.1 ctl 12345678 000000 07 1201 0003 000004ffffffff\n'
+    yield Row('a message of 380 octets in 32 segments, and its acknowledgment', f'START-000\n{script}', f'{LIFE}{entries}{last}{sent}end\n')
+
+
+def nine_messages():
+    peers = ''.join(f'b0 peer NK 12345678 0 04 000000 010{k} 1201 {FIRST_SEGMENT}\n' for k in range(1, 10))
+    script = f'{peers}b0 tick 1000\nb0 peer NK 12345678 0 04 000001 0109 1201 {FIRST_SEGMENT}\n'
+    entries = ''.join(f'e {k} b0 {k} net waiting 1\n' for k in range(1, 9))
+    names = ''.join(f' 010{k}/12345678/000000' for k in range(1, 9))
+    rest = f'e 9 b0 9 net noroom{names}\ne 10 b0 10 tick ticked 1000\ne 11 b0 11 net waiting 1\n'
+    sent = 's b0 9.1 ctl 12345678 000000 07 1201 0109 00000000000000\n'
+    title = 'first segments of nine messages, of which eight have room until they are given up'
+    yield Row(title, f'START-000\n{script}', f'{LIFE}{entries}{rest}{sent}end\n')
+
+
+def from_many_in_segments():
+    peers = ''.join(f'b0 peer NK 12345678 0 04 000000 {0x100 + k:04x} 1201 {FIRST_SEGMENT}\n' for k in range(1, 201))
+    names = ''.join(f' {0x100 + k:04x}/12345678/000000' for k in range(1, 9))
+    entries = ''.join(f'e {k} b0 {k} net {"waiting 1" if k < 9 else f"noroom{names}"}\n' for k in range(1, 201))
+    sent = ''.join(f's b0 {k}.1 ctl 12345678 {k - 9:06x} 07 1201 {0x100 + k:04x} 00000000000000\n' for k in range(9, 201))
+    script = f'START-000\n{peers}b0 tick 1000\nb0 peer NK 12345678 0 04 000000 01c9 1201 {FIRST_SEGMENT}\n'
+    rest = 'e 201 b0 201 tick ticked 1000\ne 202 b0 202 net waiting 1\n'
+    title = 'first segments of messages from 200 sources, of which eight have room until they are given up'
+    yield Row(title, script, f'{LIFE}{entries}{rest}{sent}end\n')
+
+
+def own_come_back():
+    peers = ''.join(f'b0 peer NK 12345678 1 {129 - k:02x} 000000 1201 fffd 034b50057e400000010000\n' for k in range(2, 128))
+    entries = ''.join(f'e {k} b0 {k} net own\n' for k in range(2, 128))
+    sent = 's b0 1.1 ctl 12345678 000000 00 1201 fffd 034b50057e400000010000\n'
+    title = "a PDU of the node's own comes back with every TTL"
+    yield Row(title, f'START-000\nb0 RAW\n{peers}', f'{LIFE}e 1 b0 1 raw planned\n{entries}{sent}end\n')
+
+
+def from_many(iv):
+    """Control messages under an IV Index from 512 sources and one more, and their entries."""
+    peers = ''.join(f'b0 peer NK {iv} 1 00 000001 {0x100 + k:04x} 1201 7f\n' for k in range(1, 513))
+    entries = ''.join(f'e {k} b0 {k} net control {0x100 + k:04x} 1201 {iv} 000001 7f -\n' for k in range(1, 513))
+    return f'{peers}b0 peer NK {iv} 1 00 000001 0301 1201 7f\n', f'{entries}e 513 b0 513 net listfull 512\n'
+
+
+def full_lists():
+    peers, entries = from_many('12345678')
+    script = f'START-000\n{peers}b0 peer NK 12345678 1 00 000002 0101 1201 7f\n'
+    rest = 'e 514 b0 514 net control 0101 1201 12345678 000002 7f -\n'
+    yield Row('a replay list has room for 512 sources', script, f'{LIFE}{entries}{rest}end\n')
+    peers, entries = from_many('00000005')
+    start = 'provision 1201 1 00000005 00 000 NK DK\nlife\n'
+    script = f'{start}{peers}b0 beacon NK 00 0000002f\nb0 peer NK 0000002f 1 00 000002 0301 1201 7f\n'
+    rest = 'e 514 b0 514 bcn beacon 000 same recover\ne 515 b0 515 net control 0301 1201 0000002f 000002 7f -\n'
+    yield Row('entries that expire make room', script, f'life 1 00000005 n 00000005 000000\n{entries}{rest}end\n')
+
+
+def five_messages():
+    script, entries, lines = '', '', ''
+    for k in range(5):
+        send, begin, auth = 2 * k + 1, 2 * k + 2, 2 * k
+        script += 'b0 send 0 0003 07 dev 7f7f7f7f7f7f7f7f7f7f7f7f\n'
+        entries += f'e {send} b0 {send} send planned\ne {begin} b0 {begin} begin {"begun" if k < 4 else "sendfull 4"}\n'
+        lines += f's b0 {send}.1 long 12345678 {auth:06x} 07 1201 0003 dev 7f7f7f7f7f7f7f7f7f7f7f7f\n'
+        if k < 4:
+            lines += f's b0 {begin}.1 seg 12345678 {auth:06x} 07 1201 0003 0 1 {auth:06x}\n'
+            lines += f's b0 {begin}.2 seg 12345678 {auth + 1:06x} 07 1201 0003 1 1 {auth:06x}\n'
+    title = 'five messages in two segments each, of which four are held until they are acknowledged'
+    yield Row(title, f'START-000\n{script}', f'{LIFE}{entries}{lines}end\n')
+
+
+def to_a_group():
+    script = f'START-000\nb0 send 0 c001 00 dev {PAYLOAD}\nb0 tick 20\nb0 tick 20\nb0 tick 20\n'
+    entries = 'e 1 b0 1 send planned\ne 2 b0 2 begin begun\ne 3 b0 3 tick ticked 20\ne 4 b0 4 tick ticked 40\ne 5 b0 5 tick ticked 60\n'
+    long = f's b0 1.1 long 12345678 000000 00 1201 c001 dev {PAYLOAD}\n'
+    lines = ''.join(f's b0 {k // 32 + 2}.{k % 32 + 1} seg 12345678 {k:06x} 00 1201 c001 {k % 32} 31 000000\n' for k in range(96))
+    title = 'a message of 380 octets to a group, in 32 segments, with its three rounds'
+    yield Row(title, script, f'{LIFE}{entries}{long}{lines}end\n')
+
+
+# Messages to the Configuration Server, each with the TTL and the payload of its reply; without one it isn't answered. What the node does,
+# and its keys.
+FEATURES = [
+    ('8009', '07', '800b00'),
+    ('800a01', '07', '800b01'),
+    ('800a02', '', ''),
+    ('8009', '07', '800b01'),
+    ('800a00', '07', '800b00'),
+    ('800c', '07', '800e07'),
+    ('800d05', '05', '800e05'),
+    ('800d01', '', ''),
+    ('800c', '05', '800e05'),
+    ('800d00', '00', '800e00'),
+    ('800d07', '07', '800e07'),
+    ('800f', '07', '801101'),
+    ('801000', '07', '801100'),
+    ('801001', '07', '801101'),
+    ('8012', '07', '801402'),
+    ('801301', '07', '801402'),
+    ('8023', '07', '802500'),
+    ('802407', '07', '802507'),
+    ('8026', '07', '80280100'),
+    ('80270005', '07', '80280005'),
+    ('802701ff', '07', '802801ff'),
+    ('802d0102', '07', '802e0102000000'),
+    ('8008', '', ''),
+    ('8201', '', ''),
+    ('8042', '07', '80430000'),
+    ('80410000', '07', '80440c0000'),
+    ('80410100', '07', '8044000100'),
+    ('80150000', '07', '801700000000'),
+    ('80150100', '07', '801704010000'),
+    ('8016000002', '07', '80170f000000'),
+    ('8016000003', '07', '801700000000'),
+    ('8016000004', '', ''),
+    ('80010000', '07', '8002000000'),
+    ('80010100', '07', '8002040100'),
+    ('8000001000', '07', '800300001000'),
+    ('8000011000', '07', '800304011000'),
+]
+
+# Its models, and its heartbeat.
+MODELS = [
+    ('803d011223010010', '07', '803e03011223010010'),
+    ('803d021223010010', '07', '803e01021223010010'),
+    ('803d011223010110', '07', '803e02011223010110'),
+    ('803d011223010000', '07', '803e0d011223010000'),
+    ('803d01122301aabb0010', '07', '803e0201122301aabb0010'),
+    ('803f011223010010', '07', '803e03011223010010'),
+    ('801b011200c00010', '07', '801f00011200c00010'),
+    ('801b011200c00010', '07', '801f00011200c00010'),
+    ('801b011200000010', '07', '801f01011200000010'),
+    ('801b0112ffff0010', '07', '801f010112ffff0010'),
+    ('801b011200c00000', '07', '801f08011200c00000'),
+    ('801e011201c00010', '07', '801f00011201c00010'),
+    ('801c011200c00010', '07', '801f00011200c00010'),
+    ('801d01120010', '07', '801f00011200000010'),
+    ('8038', '07', '0600000000000000000000'),
+    ('8039fdff02010000000100', '07', '0604fdff02010000000100'),
+    ('8039008002010000000000', '07', '0601008002010000000000'),
+    ('8039fdff02120000000000', '', ''),
+]
+
+
+def conversation(title, told):
+    """A script in which 0003 says all this, and its report."""
+    script, entries, lines, seq = '', '', '', 0
+    for number, (message, ttl, reply) in enumerate(told, 1):
+        script += f'b0 talk NK dev:DK 12345678 04 {number:06x} {number:06x} 0003 1201 u {message}\n'
+        entries += f'e {number} b0 {number} net delivered 0003 1201 12345678 {number:06x} dev {message}\n'
+        if reply:
+            lines += f's b0 {number}.1 msg 12345678 {seq:06x} {ttl} 1201 0003 dev {reply}\n'
+            seq += 1
+    return Row(title, f'START-000\n{script}', f'{LIFE}{entries}{lines}end\n')
+
+
+def conversations():
+    yield conversation('what a node does, and its keys', FEATURES)
+    yield conversation('its models, and its heartbeat', MODELS)
+    script = 'START-000\nb0 talk NK dev:DK 12345678 00 000001 000001 0003 1201 u 800c\n'
+    entry = 'e 1 b0 1 net delivered 0003 1201 12345678 000001 dev 800c\n'
+    yield Row('what is heard with TTL 00 is answered with it', script, f'{LIFE}{entry}s b0 1.1 msg 12345678 000000 00 1201 0003 dev 800e07\nend\n')
+
+
+def messages(count):
+    """So many control messages from one source, each with the next SEQ, and their entries."""
+    lines = ''.join(f'b0 peer NK 12345678 1 00 {k:06x} 0101 1201 7f\n' for k in range(1, count + 1))
+    entries = ''.join(f'e {k} b0 {k} net control 0101 1201 12345678 {k:06x} 7f -\n' for k in range(1, count + 1))
+    return lines, entries
+
+
+NEXT_TWO = 'b0 peer NK 12345678 1 00 0003fc 0101 1201 7f\nb0 peer NK 12345678 1 00 0003fd 0101 1201 7f\n'
+SECOND_TAKEN = 'e 1 b0 1 net replay 12345678 0003fc\ne 2 b0 2 net control 0101 1201 12345678 0003fd 7f -\nend\n'
+
+
+def more_than_a_bank():
+    lines, entries = messages(1021)
+    title = 'more records than a bank has room for: 2,060 calls of the flash'
+    yield Row(title, f'START-000\narm 2060 00\n{lines}', f'{LIFE}{entries}end\n')
+    _, before = messages(1020)
+    yield Row(f'{title}, of which the last is torn', f'START-000\narm 2059 00\n{lines}', f'{LIFE}{before}cut 2060\n')
+    for order, end in [('2057 ff', 'cut 2058'), ('2044 55', 'cut 2045')]:
+        second = f'life 2 12345678 n 12345678 000000\n{SECOND_TAKEN}'
+        yield Row(f'cut at a compaction: arm {order}', f'START-000\narm {order}\n{lines}life\n{NEXT_TWO}', f'{LIFE}{before}{end}\n{second}')
+
+
+def numbers_where_a_bank_is_full():
+    lines, entries = messages(1020)
+    planned = 'e 1021 b0 1021 raw planned\n'
+    sent = 's b0 1021.1 ctl 12345678 000000 00 1201 fffd 034b50057e400000010000\n'
+    title = 'a bank is full, and numbers are drawn: the refill compacts, with 2,060 calls in all'
+    yield Row(title, f'START-000\narm 2060 00\n{lines}b0 RAW\n', f'{LIFE}{entries}{planned}{sent}end\n')
+    for order, end, seq in [('2057 ff', 'cut 2058', '000000'), ('2059 ff', 'cut 2060', '000100')]:
+        second = f'life 2 12345678 n 12345678 {seq}\n{SECOND_TAKEN}'
+        script = f'START-000\narm {order}\n{lines}b0 RAW\nlife\n{NEXT_TWO}'
+        yield Row(f'a refill that compacts, and is cut: arm {order}', script, f'{LIFE}{entries}{planned}{end}\n{second}')
+
+
+def reset_where_a_bank_is_full():
+    lines, entries = messages(1018)
+    script = f'START-000\n{lines}b0 talk NK dev:DK 12345678 04 000001 000001 0003 1201 u 8049\nlife\n'
+    entry = 'e 1019 b0 1019 net delivered 0003 1201 12345678 000001 dev 8049\n'
+    sent = 's b0 1019.1 msg 12345678 000000 07 1201 0003 dev 804a\n'
+    title = 'a Node Reset fills the bank, and the number for its reply is drawn: the refill compacts'
+    yield Row(title, script, f'{LIFE}{entries}{entry}{sent}end\nlife 2 wasreset\n')
+
+
+def at_a_migration():
+    second = 'life 2 12345678 n 12345678 000000\nend\n'
+    for order, first in [('arm 10 00\n', 'life 1 cut\ncut 11\n'), ('arm 15 ff\n', 'life 1 cut\ncut 16\n'), ('', f'{LIFE}end\n')]:
+        yield Row(f'a bank of the old format: {order.strip() or "no cut"}', f'START-000\n{order}life\n', f'{first}{second}', ('run', '--old'))
+
+
+def at_an_iv_update():
+    rows = [
+        ('4 f0', 'cut 5', '00000006 p 00000005 000100'),
+        ('4 00', 'cut 5', '00000006 p 00000005 000100'),
+        ('5 0f', 'cut 6', '00000006 p 00000005 000100'),
+        ('5 ff', 'cut 6', '00000006 n 00000006 000000'),
+    ]
+    for order, end, second in rows:
+        lines = 'b0 raw fffd 00 7f\nb0 tick 34560000\nb0 beacon NK 00 00000006\n'
+        script = f'provision 1201 1 00000006 02 000 NK DK\nlife\narm {order}\n{lines}life\n'
+        entries = 'e 1 b0 1 raw planned\ne 2 b0 2 tick ticked 34560000\ns b0 1.1 ctl 00000005 000000 00 1201 fffd 7f\n'
+        report = f'life 1 00000006 p 00000005 000000\n{entries}{end}\nlife 2 {second}\nend\n'
+        yield Row(f'cut while an IV Update ends: arm {order}', script, report)
+
+
+def count_after(calls, mask):
+    """How many records count in the next life, where the call behind so many is torn by this mask. Each takes two calls, of which the
+    second one writes its gate; torn, it counts where each bit was written."""
+    return (calls + 1) // 2 if mask == 'ff' else calls // 2
+
+
+def end_after(calls, most):
+    """How a life with so many calls in all ends, where the one behind so many is torn."""
+    return f'cut {calls + 1}\n' if calls < most else 'end\n'
+
+
+WAITING = 'e 1 b0 1 net waiting 1\n'
+ADDED = 'e 2 b0 2 net delivered 0003 1201 12345678 3129ab dev ADD\n'
+ADDED_SENT = 's b0 2.1 ctl 12345678 000000 07 1201 0003 0026ac00000003\ns b0 2.2 msg 12345678 000001 07 1201 0003 dev 800300563412\n'
+
+
+def second_life_of_a_key(records):
+    """The second life, where so many records count: first the replay record, then the key, then the numbers."""
+    asked = 'e 3 b0 3 net delivered 0003 1201 12345678 3129ad dev 80015604\n'
+    replayed = 'e 1 b0 1 net replay 12345678 3129ab\ne 2 b0 2 net replay 12345678 3129ab\n'
+    told = {
+        0: ('000000', WAITING + ADDED, f'{ADDED_SENT}s b0 3.1 msg 12345678 000002 07 1201 0003 dev 80020056042301\n'),
+        1: ('000000', replayed, 's b0 3.1 msg 12345678 000000 07 1201 0003 dev 8002005604\n'),
+        2: ('000000', replayed, 's b0 3.1 msg 12345678 000000 07 1201 0003 dev 80020056042301\n'),
+        3: ('000100', replayed, 's b0 3.1 msg 12345678 000100 07 1201 0003 dev 80020056042301\n'),
+    }
+    mark, entries, sent = told[records]
+    return f'life 2 12345678 n 12345678 {mark}\n{entries}{asked}{sent}end\n'
+
+
+def at_every_call_of_a_message():
+    """An AppKey Add in two segments, and in the next life again, with the question for the keys. Its calls: two each for its replay record,
+    for its key, and for the numbers of acknowledgment and reply."""
+    pdus = 'b0 net PDU-A\nb0 net PDU-B\n'
+    asks = 'b0 talk NK dev:DK 12345678 04 3129ad 3129ad 0003 1201 u 80015604\n'
+    for calls in range(7):
+        for mask in ['00', 'ff', 'f0', '55']:
+            first = WAITING + (ADDED if calls >= 4 else '') + (ADDED_SENT if calls >= 6 else '')
+            report = f'{LIFE}{first}{end_after(calls, 6)}{second_life_of_a_key(count_after(calls, mask))}'
+            yield Row(f'an AppKey Add: arm {calls} {mask}', f'START-456\narm {calls} {mask}\n{pdus}life\n{pdus}{asks}', report)
+
+
+def first_life_of_a_lamp(records):
+    """What the first life answers and sends, where so many records were stored: those of the AppKey Add, the numbers, those of the binding,
+    and those of the switch. Each message has its replay record first."""
+    bound = 'e 3 b0 3 net delivered 0003 1201 12345678 3129ad dev 803d011223010010\n'
+    bound_sent = 's b0 3.1 msg 12345678 000002 07 1201 0003 dev 803e00011223010010\n'
+    switched = 'e 4 b0 4 net delivered 0003 1201 12345678 3129ae app:123 82020101\n'
+    switched_sent = 's b0 4.1 msg 12345678 000003 07 1201 0003 app:123 820401\n'
+    entries = (ADDED if records >= 2 else '') + (bound if records >= 5 else '') + (switched if records >= 7 else '')
+    sent = (ADDED_SENT if records >= 3 else '') + (bound_sent if records >= 5 else '') + (switched_sent if records >= 7 else '')
+    return f'{LIFE}{WAITING}{entries}{sent}'
+
+
+def second_life_of_a_lamp(records):
+    """The second life, where so many records count: without the key nothing opens, without the binding no model listens."""
+    mark = '000000' if records <= 2 else '000100'
+    heard = 'nokey' if records <= 1 else 'delivered 0003 1201 12345678 3129af app:123 8201'
+    state = '01' if records >= 7 else '00'
+    sent = f's b0 1.1 msg 12345678 000100 07 1201 0003 app:123 8204{state}\n' if records >= 5 else ''
+    return f'life 2 12345678 n 12345678 {mark}\ne 1 b0 1 net {heard}\n{sent}end\n'
+
+
+def at_every_call_of_a_switch():
+    """A lamp is configured and switched on, and in the next life asked. The calls of its seven records, two each."""
+    lamp = (
+        'b0 net PDU-A\nb0 net PDU-B\n'
+        'b0 talk NK dev:DK 12345678 04 3129ad 3129ad 0003 1201 u 803d011223010010\n'
+        'b0 talk NK app:AK 12345678 04 3129ae 3129ae 0003 1201 u 82020101\n'
+        'life\nb0 talk NK app:AK 12345678 04 3129af 3129af 0003 1201 u 8201\n'
+    )
+    for calls in range(15):
+        for mask in ['00', 'ff', 'f0', '55']:
+            report = first_life_of_a_lamp(calls // 2) + end_after(calls, 14) + second_life_of_a_lamp(count_after(calls, mask))
+            yield Row(f'a lamp that is switched on: arm {calls} {mask}', f'START-456\narm {calls} {mask}\n{lamp}', report)
+
+
+def one_after_the_other():
+    entries = 'e 1 b0 1 raw planned\ne 2 b1 1 raw planned\n'
+    first = 's b0 1.1 ctl 12345678 000000 00 1201 fffd 034b50057e400000010000\n'
+    second = 's b1 2.1 ctl 12345678 000001 00 1201 fffd 034b50057e400000010000\n'
+    yield Row('one bearer after the other', 'START-000\nb0 RAW\nsync\nb1 RAW\n', f'{LIFE}{entries}{first}{second}end\n')
+
+
+MADE = [
+    long_message,
+    nine_messages,
+    from_many_in_segments,
+    own_come_back,
+    full_lists,
+    five_messages,
+    to_a_group,
+    conversations,
+    more_than_a_bank,
+    numbers_where_a_bank_is_full,
+    reset_where_a_bank_is_full,
+    at_a_migration,
+    at_an_iv_update,
+    at_every_call_of_a_message,
+    at_every_call_of_a_switch,
+    one_after_the_other,
+]
+
+
+def all_made():
+    for made in MADE:
+        yield from made()

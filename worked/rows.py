@@ -1,0 +1,74 @@
+"""Worked scripts with their reports: the files NAME.rows, and the words that stand in them for keys and octets.
+
+A row is a line `@ TITLE`, the lines of a script, a line `=>`, and the lines of its report. Behind the title may stand `% WORDS`: the words
+of the command, where they aren't `run`. An empty line ends a row; other lines between two rows are comments.
+"""
+import pathlib
+
+# Each word with what stands in its place. A word that begins another comes after it. The two network PDUs are sample data of the Mesh
+# Profile: both segments of a message from 0003 to 1201 under the device key, whose payload is ADD.
+NAMES = [
+    ('START-000', 'provision 1201 1 12345678 00 000 NK DK\nlife'),
+    ('START-456', 'provision 1201 1 12345678 00 456 NK DK\nlife'),
+    ('RAW', 'raw fffd 00 034b50057e400000010000'),
+    ('NK2', 'f7a2a44f8e8a8029064f173ddc1e2b00'),
+    ('NK', '7dd7364cd842ad18c17c2b820c84c3d6'),
+    ('DK', '9d6dd0e96eb25dc19a40ed9914f8f03f'),
+    ('AK2', '3216d1509884b533248541792b877f98'),
+    ('AK', '63964771734fbd76e3b40519d1d94a48'),
+    ('LABEL', '0073e7e4d8b9440faf8415df4c56c0e1'),
+    ('PDU-A', '68cab5c5348a230afba8c63d4e686364979deaf4fd40961145939cda0e'),
+    ('PDU-B', '681615b5dd4a846cae0c032bf0746f44f1b8cc8ce5edc57e55beed49c0'),
+    ('ADD', '0056341263964771734fbd76e3b40519d1d94a48'),
+]
+
+
+class Row:
+    """A script, the words that it is run with, and its report."""
+
+    def __init__(self, title, script, report, words=('run',)):
+        self.title, self.words = title, list(words)
+        self.script, self.report = spelled(script), spelled(report)
+
+    def net_key(self):
+        """The network key that the script provisions."""
+        return self.script.split('provision ', 1)[1].split()[5]
+
+
+def spelled(text):
+    """The text with what stands for each word."""
+    for name, meant in NAMES:
+        text = text.replace(name, meant)
+    return text
+
+
+def of_file(path):
+    """The rows of a file."""
+    for block in path.read_text().split('\n\n'):
+        lines = [line for line in block.strip('\n').split('\n')]
+        if not lines[0].startswith('@ '):
+            continue
+        title, words, at = lines[0][2:], ['run'], 1
+        if lines[1].startswith('% '):
+            words, at = lines[1][2:].split(), 2
+        end = lines.index('=>')
+        script, report = lines[at:end], lines[end + 1 :]
+        yield Row(f'{path.stem}: {title}', ''.join(f'{line}\n' for line in script), ''.join(f'{line}\n' for line in report), words)
+
+
+def of_example(path):
+    """The row of a script of examples/, whose first line has the words."""
+    script = path.read_text()
+    words = script.split('\n')[0].removeprefix('# meshnode ').split()
+    row = Row(f'examples/{path.name}', '', '', words)
+    row.script, row.report = script, path.with_suffix('.report').read_text()
+    return row
+
+
+def all_rows():
+    """The rows of all files here and of examples/."""
+    here = pathlib.Path(__file__).resolve().parent
+    for path in sorted(here.glob('*.rows')):
+        yield from of_file(path)
+    for path in sorted((here.parent / 'examples').glob('*.mesh')):
+        yield of_example(path)

@@ -1,0 +1,89 @@
+"""Scripts whose report isn't one text alone, with a search through it; and texts that aren't run, with how the program ends.
+
+Bearers are served in any order. Whatever it is: no line shows a pair or a message that an earlier one shows, and where nothing is cut, each
+number is drawn once and none is left out.
+"""
+import re
+
+TWO_PDUS = 'START-000\nb0 RAW\nb0 RAW\n'
+# a PDU that is sample data of the Mesh Profile, with its octets but for the last
+LINE = 's b0 2.1 ctl 12345678 000001 00 1201 fffd 034b50057e400000010000 68eca487516765b5e5bfdacbaf6cb7fb6bff871f035444ce83a670'
+HEARD = 'e 1 b0 1 net control 0101 1201 12345678 000001 7f -\n'
+
+NO_COMMANDS = ['', 'walk', 'run -- --hex', 'run --help', 'run --version', 'run more', 'run --hex --hex', 'run --HEX']
+
+# The words, the text, what the program writes, its exit status, and its message.
+ENDS = [
+    *[(words.split(), TWO_PDUS, '', 2, 'usage\n') for words in NO_COMMANDS],
+    (['run'], '', '', 3, 'script 1 2\n'),
+    (['run'], 'START-000\nb0 net 6\n', '', 3, 'script 3 5\n'),
+    (['run'], 'life\n', '', 3, 'script 1 2\n'),
+    (['run'], 'START-000\nb9 net 68\n', '', 3, 'script 3 3\n'),
+    (['run'], 'START-000\nb0 net\n', '', 3, 'script 3 4\n'),
+    (['run'], 'START-000\narm 0 f0\nb0 RAW\narm 1 f0\n', '', 3, 'script 5 6\n'),
+    (['run'], f'START-000\nb0 send 0 0003 07 dev {"7f" * 381}\n', '', 3, 'script 3 5\n'),
+    (['audit'], f'key NK\n{LINE}df\n', 'sound 2\n', 0, ''),
+    (['audit'], f'key NK\n{LINE}df\n{LINE}df\n', 'sound 3\n', 0, ''),
+    (['audit'], f'key NK\n{LINE}df\n{LINE}e0\n', 'reuse 2 3\n', 0, ''),
+    (['audit'], HEARD + HEARD, 'twice 1 2\n', 0, ''),
+    (['audit'], '', 'sound 0\n', 0, ''),
+    (['audit'], 'x', '', 11, 'report 1\n'),
+]
+
+
+def doubled(report):
+    """The first line that shows a pair or a message once more."""
+    shown = set()
+    for line in report.split('\n'):
+        sent = re.search(r' (?:ctl|msg) (\w{8} \w{6}) ', line)
+        taken = re.search(r' net (?:control|delivered) (\w{4}) \w{4} (\w{8} \w{6}) ', line)
+        for name in [('pair', sent[1])] if sent else [('message', *taken.groups())] if taken else []:
+            if name in shown:
+                return f'{name} stands twice: {line}'
+            shown.add(name)
+    return None
+
+
+def workload(rounds):
+    """Lines of two bearers that send and hear, with five events in each round. One of them sets the Default TTL, and is answered."""
+    return ''.join(
+        f'b0 RAW\nb1 RAW\nb0 peer NK 12345678 1 00 {k:06x} 0101 1201 7f\nb1 peer NK 12345678 1 00 {k:06x} 0102 1201 7f\n'
+        f'b1 talk NK dev:DK 12345678 04 {k:06x} {k:06x} 0103 1201 u 800d{k + 15:02x}\n'
+        for k in range(1, rounds + 1)
+    )
+
+
+def cut_anywhere():
+    """30 events in a life that is cut at some call, and ten in each of two lives after it, of which the first is cut too. The first life
+    makes fewer than 100 calls."""
+    for mask in ['00', 'ff', 'f0', '55']:
+        for call in range(100):
+            script = f'START-000\narm {call} {mask}\n{workload(6)}life\narm {call % 7} {mask}\n{workload(2)}life\n{workload(2)}'
+            yield f'cut at call {call}, mask {mask}', script, doubled
+    ends = lambda report: None if report.split('\nlife 2')[0].endswith('end') else 'the first life makes more than 99 calls'
+    yield 'not cut', f'START-000\narm 99 00\n{workload(6)}life\n', ends
+
+
+def drawn_once(count, parts):
+    """Whether the SEQs are the first ones, each once, and the report has these parts."""
+
+    def search(report):
+        drawn = sorted(int(it, 16) for it in re.findall(r' ctl 12345678 (\w{6}) ', report))
+        if drawn != list(range(count)):
+            return f'{len(drawn)} numbers are drawn, and not each of the first {count} once'
+        missing = [part for part in parts if part not in report]
+        return f'no {missing[0]!r}' if missing else doubled(report)
+
+    return search
+
+
+def many_bearers():
+    for lives, bearers, each, marks in [(1, 1, 257, ['000200']), (1, 2, 300, ['000300']), (2, 8, 512, ['001000', '002000'])]:
+        life = ''.join(f'b{k} RAW\n' for k in range(bearers)) * each + 'life\n'
+        parts = [f'\nend\nlife {place} 12345678 n 12345678 {mark}\n' for place, mark in enumerate(marks, 2)]
+        yield f'{bearers} bearers', f'START-000\n{life * lives}', drawn_once(lives * bearers * each, [*parts, '\nend\n'])
+
+
+def all_cases():
+    yield from cut_anywhere()
+    yield from many_bearers()
