@@ -4,8 +4,8 @@
 ghost use Rattle.std.specs.Prelude.{◌≡◌, ◌⊎◌, ◌≤◌, length};
 
 use crate::vectors::{VECTORS, Vector};
-use crate::{BadMic, seal, unseal};
 use aes_block::Schedule;
+use aes_ccm::{BadMic, seal, unseal};
 use std::process::Abort;
 use std::test::Fail;
 

@@ -1,7 +1,7 @@
 //! The standards' own vectors: the proof says that the code is the definition, and these that the definition is AES.
 #![tactic(auto)]
 
-use super::{Schedule, add_to};
+use aes_block::{Schedule, add_to};
 
 #[test]
 fn encrypts_as_the_standards_say(rt: HostRuntime) {

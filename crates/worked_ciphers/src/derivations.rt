@@ -1,8 +1,8 @@
 //! The standards' own vectors: RFC 4493, section 4, and Mesh Profile 1.0.1, section 8.1 and 8.2.
 #![tactic(auto)]
 
-use crate::{address, cmac, k1, k2, k3, k4, s1};
 use hex::{FromHex, FromHexError};
+use mesh_kdf::{address, cmac, k1, k2, k3, k4, s1};
 use std::test::Fail;
 
 const NETWORK_KEY: &str = "f7a2a44f8e8a8029064f173ddc1e2b00";
