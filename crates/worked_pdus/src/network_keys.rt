@@ -1,12 +1,12 @@
 //! The samples of the standard, and which keys are heard and sent with in each phase.
 #![tactic(auto)]
 
-use crate::{NetKeys, friendship};
 use hex::{FromHex, FromHexError};
 use mesh_base::address::Address;
 use mesh_base::fields::{Heard, NetMaterial};
 use mesh_base::keys::NetKeyRow;
 use mesh_base::table::HeardList;
+use net_keys::{NetKeys, friendship};
 use std::test::Fail;
 
 // The network key of the Mesh Profile's sample data, section 8.2.

@@ -1,13 +1,13 @@
 //! The standard's sample messages: the proof says that the code is the definition, and these that the definition is the standard's.
 #![tactic(auto)]
 
-use crate::{
-    HeardSchedules, NetReading, NetSchedules, Unread, read, read_kept, read_kept_behind, read_one,
-    seal, seal_kept,
-};
 use mesh_base::address::Address;
 use mesh_base::fields::{Heard, NetFields, NetMaterial};
 use mesh_base::octets::Octets;
+use network_layer::{
+    HeardSchedules, NetReading, NetSchedules, Unread, read, read_kept, read_kept_behind, read_one,
+    seal, seal_kept,
+};
 
 // The master credentials of NetKey 7dd7364cd842ad18c17c2b820c84c3d6.
 const MATERIAL: NetMaterial = NetMaterial {

@@ -1,7 +1,7 @@
 //! The samples of the standard, and which keys are tried and sent with in each phase.
 #![tactic(auto)]
 
-use crate::AppKeys;
+use app_keys::AppKeys;
 use mesh_base::keys::{AppKeyRow, NetKeyRow, UpperKey};
 
 // The application key of the Mesh Profile's sample data, section 8.2; AID 26.

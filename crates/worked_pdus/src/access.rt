@@ -2,14 +2,14 @@
 //! the definition is the standard's.
 #![tactic(auto)]
 
-use crate::{
-    BoundSchedule, NoKey, Opened, UpperFields, UpperKey, UpperSchedule, open_kept, seal_access,
-    seal_kept, unseal_access, unseal_bound, unseal_kept,
-};
 use mesh_base::address::Address;
 use mesh_base::pair::Pair;
 use std::process::Abort;
 use std::test::Fail;
+use upper_transport::{
+    BoundSchedule, NoKey, Opened, UpperFields, UpperKey, UpperSchedule, open_kept, seal_access,
+    seal_kept, unseal_access, unseal_bound, unseal_kept,
+};
 
 // The device key and the application key of the Mesh Profile's sample data, section 8.2.
 const DEVICE_OCTETS: [u8; 16] = [

@@ -1,7 +1,7 @@
 //! Each public call once.
 #![tactic(auto)]
 
-use crate::{BoundSchedule, HeardSchedules, NetSchedules, UpperSchedule};
+use kept_keys::{BoundSchedule, HeardSchedules, NetSchedules, UpperSchedule};
 use mesh_base::fields::{Heard, NetMaterial};
 use mesh_base::keys::UpperKey;
 

@@ -1,7 +1,7 @@
 //! Every row of the table of beacons with values at both of its edges, and the rule for hours.
 #![tactic(auto)]
 
-use crate::{on_beacon, on_hours};
+use iv_update::{on_beacon, on_hours};
 use mesh_base::iv_state::{IvState, IvStep};
 
 fn state(current: u32, progress: bool, hours: u16, since: u16) -> IvState {

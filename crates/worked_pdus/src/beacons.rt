@@ -1,8 +1,8 @@
 //! The sample of the standard, and which of several keys reads a beacon.
 #![tactic(auto)]
 
-use crate::{Beacon, Unread, read, write};
 use mesh_base::keys::NetKeyRow;
+use net_beacon::{Beacon, Unread, read, write};
 
 // NetKey, IV Index and beacon of the Mesh Profile's sample data, sections 8.2 and 8.4.
 const KEY: [u8; 16] = [

@@ -1,18 +1,15 @@
 //! What no clause says: that calls which may lack memory succeed, that the sources and sinks serve as their callers need them,
-//! that no key is printed, and the edges of the standard's table of addresses.
+//! and the edges of the standard's table of addresses.
 #![tactic(auto)]
 
-use crate::address::{Address, AddressKind};
-use crate::fields::{Heard, NetMaterial};
-use crate::keys::{AppKeyRow, NetKeyRow, UpperKey};
-use crate::memory::{MemSink, MemSource, SureSink, SureSource};
-use crate::octets::{Octets, TooMany};
-use crate::outside::{Failed, Sink, Source};
-use crate::slot::Slot;
-use crate::standard::{StdSink, StdSource};
-use crate::table::Table;
+use mesh_base::address::{Address, AddressKind};
+use mesh_base::keys::UpperKey;
+use mesh_base::memory::{MemSink, MemSource, SureSink, SureSource};
+use mesh_base::octets::{Octets, TooMany};
+use mesh_base::outside::{Failed, Sink, Source};
+use mesh_base::standard::{StdSink, StdSource};
+use mesh_base::table::Table;
 use std::io::{self, Read, Write};
-use std::test::Fail;
 
 #[test]
 fn kinds_of_addresses(rt: HostRuntime) {
@@ -165,58 +162,4 @@ fn std_errors_are_told_once(rt: HostRuntime) {
     // A piece of no octets is taken whole.
     assert!(rt; sink.write(&[]) == Ok(0));
     assert!(rt; sink.faults == 2);
-}
-
-#[test]
-fn keys_are_not_printed(rt: HostRuntime) -> Result<(), Fail> {
-    let alloc = rt.alloc();
-    let key = [0xab; 16];
-    let material = NetMaterial {
-        nid: 5,
-        encryption: key,
-        privacy: key,
-    };
-    assert!(rt; format!(in alloc; "{material:?}")?.as_str() == "NetMaterial { nid: 5, .. }");
-    let device = UpperKey::Device(key);
-    assert!(rt; format!(in alloc; "{device:?}")?.as_str() == "Device(..)");
-    let app = UpperKey::App {
-        index: 3,
-        aid: 38,
-        key,
-    };
-    assert!(rt; format!(in alloc; "{app:?}")?.as_str() == "App { index: 3, aid: 38, .. }");
-    let net_row = NetKeyRow {
-        index: 1,
-        phase: 2,
-        key,
-        next: Some(key),
-    };
-    assert!(rt;
-        format!(in alloc; "{net_row:?}")?.as_str()
-            == "NetKeyRow { index: 1, phase: 2, updated: true, .. }"
-    );
-    let app_row = AppKeyRow {
-        net: 1,
-        index: 3,
-        key,
-        next: None,
-    };
-    assert!(rt;
-        format!(in alloc; "{app_row:?}")?.as_str()
-            == "AppKeyRow { net: 1, index: 3, updated: false, .. }"
-    );
-    let slot = Slot {
-        kind: 5,
-        body: [0xab; 30],
-    };
-    assert!(rt; format!(in alloc; "{slot:?}")?.as_str() == "Slot { kind: 5, .. }");
-    let heard = Heard {
-        material,
-        ..Heard::default()
-    };
-    let text = format!(in alloc; "{heard:?}")?;
-    assert!(rt; text.as_str().contains("NetMaterial { nid: 5, .. }"));
-    // 0xab is 171 in decimal.
-    assert!(rt; !text.as_str().contains("171"));
-    Ok(())
 }
