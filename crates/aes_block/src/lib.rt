@@ -8,7 +8,7 @@
 //! Tables are read at places that depend on the key and on the text, so time, through the processor's cache, tells of both: this isn't
 //! AES in constant time.
 //!
-//! A caller to begin with: `encrypts_as_the_standards_say` in `src/tests.rt`.
+//! A caller to begin with: `encrypts_as_the_standards_say` of crate worked_ciphers, in `src/blocks.rt`.
 #![tactic(auto)]
 
 mod schedule;
@@ -19,5 +19,3 @@ mod tables;
 pub use schedule::Schedule;
 pub use sums::add_to;
 
-#[cfg(test)]
-mod tests;

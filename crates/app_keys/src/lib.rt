@@ -4,13 +4,10 @@
 //! - `keys`: the keys by index, and what is opened and sent under them
 //! - `held`: the values with their AIDs and schedules, in the order in which they are tried
 //!
-//! A caller to begin with: `phases` in `src/tests.rt`.
+//! A caller to begin with: `phases` of crate worked_pdus, in `src/application_keys.rt`.
 #![tactic(auto)]
 
 mod held;
 mod keys;
 
 pub use keys::AppKeys;
-
-#[cfg(test)]
-mod tests;

@@ -1,4 +1,3 @@
-pub mod Vectors
 pub mod Sums
 pub mod Lengths
 pub mod Sealing

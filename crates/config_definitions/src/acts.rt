@@ -6,7 +6,7 @@ use model_states::publication::HeartbeatRow;
 use record_types::records::StoreRecord;
 
 /// The status codes of configuration messages that this node uses (Mesh Profile 1.0.1, section 4.3.5).
-#[derive(Clone, Copy, PartialEq, Eq)]
+#[derive(Clone, Copy)]
 pub enum Status {
     /// 00: the message was done, or asked for what is so already.
     Success,

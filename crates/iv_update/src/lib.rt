@@ -13,8 +13,6 @@
 mod beacons;
 mod hours;
 mod laws;
-#[cfg(test)]
-mod tests;
 
 pub use beacons::on_beacon;
 pub use hours::on_hours;

@@ -6,7 +6,7 @@
 //!
 //! Nothing here is printed: the types have no `Debug`.
 //!
-//! A caller to begin with: `keep_what_they_are_made_of` in `src/tests.rt`.
+//! A caller to begin with: `keep_what_they_are_made_of` of crate worked_pdus, in `src/schedules.rt`.
 #![tactic(auto)]
 
 mod network;
@@ -14,6 +14,3 @@ mod upper;
 
 pub use network::{HeardSchedules, NetSchedules};
 pub use upper::{BoundSchedule, UpperSchedule};
-
-#[cfg(test)]
-mod tests;

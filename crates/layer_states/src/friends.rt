@@ -77,7 +77,7 @@ impl Default for Queue {
 }
 
 /// The octets that answered a Poll.
-#[derive(Debug, Drop, PartialEq, Eq)]
+#[derive(Drop, PartialEq, Eq)]
 pub struct KeptPdu {
     /// SRC, IV Index and SEQ of the octets.
     pub name: Name,

@@ -10,7 +10,7 @@ use mesh_base::table::Table;
 use std::marker::Model;
 
 /// What all segments of a message have in common besides their name and SegN.
-#[derive(Clone, Copy, Debug, Default, PartialEq, Eq)]
+#[derive(Clone, Copy, Default)]
 pub struct Form {
     /// Whether it is a control message; else an access message.
     pub ctl: bool,
@@ -50,7 +50,7 @@ impl Default for Pieces {
 }
 
 /// An acknowledgment timer that runs (section 3.5.3.3).
-#[derive(Clone, Copy, Debug, Default, PartialEq, Eq)]
+#[derive(Clone, Copy, Default)]
 pub struct Timer {
     /// When it ends, in ticks of 10 ms.
     pub due: u64,
@@ -95,7 +95,7 @@ pub struct PartHeard {
 }
 
 /// What becomes of a segment.
-#[derive(Debug, Drop, PartialEq, Eq)]
+#[derive(Drop, PartialEq, Eq)]
 pub enum Taken {
     /// Pieces are missing.
     Waiting {
@@ -114,7 +114,7 @@ pub enum Taken {
 }
 
 /// An acknowledgment that is due.
-#[derive(Clone, Copy, Debug, Default, PartialEq, Eq)]
+#[derive(Clone, Copy, Default, PartialEq, Eq)]
 pub struct DueAck {
     /// The message that it acknowledges.
     pub name: Name,

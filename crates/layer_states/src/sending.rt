@@ -42,7 +42,7 @@ pub struct Sending {
 }
 
 /// What an acknowledgment does.
-#[derive(Clone, Copy, Debug, PartialEq, Eq)]
+#[derive(Clone, Copy, PartialEq, Eq)]
 pub enum Acked {
     /// It concerns no message that is held.
     Stranger,

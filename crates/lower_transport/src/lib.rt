@@ -6,14 +6,12 @@
 //! - `sequence`: SeqAuth
 //! - `laws`: a text has one reading
 //!
-//! A caller to begin with: `is_read` and `standard_samples` in `src/tests.rt`.
+//! A caller to begin with: `is_read` and `standard_samples` of crate worked_pdus, in `src/lower.rt`.
 #![tactic(auto)]
 
 mod laws;
 mod reading;
 mod sequence;
-#[cfg(test)]
-mod tests;
 mod writing;
 
 pub use laws::one_reading_law;

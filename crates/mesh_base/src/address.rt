@@ -2,7 +2,7 @@
 #![tactic(auto)]
 
 /// A 16-bit address, of any kind.
-#[derive(Clone, Copy, Debug, Default, PartialEq, Eq, PartialOrd, Ord, Hash)]
+#[derive(Clone, Copy, Debug, Default, PartialEq, Eq, Hash)]
 pub struct Address(pub u16);
 
 /// What an address names.

@@ -2,7 +2,7 @@
 #![tactic(auto)]
 
 /// An authentic Secure Network beacon.
-#[derive(Clone, Copy, Debug, Default, PartialEq, Eq)]
+#[derive(Clone, Copy, PartialEq, Eq)]
 pub struct Beacon {
     /// The index of the network key whose beacon it is, 12 bits.
     pub index: u16,

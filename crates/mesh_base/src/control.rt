@@ -5,7 +5,7 @@ use crate::address::Address;
 use crate::table::Table;
 
 /// A control message, without the network PDU's fields.
-#[derive(Debug, Drop, PartialEq, Eq)]
+#[derive(Drop)]
 pub enum ControlMsg {
     /// Segment Acknowledgment, opcode 00 (section 3.5.2.3.1).
     Acknowledgment(Acknowledgment),
@@ -38,7 +38,7 @@ pub enum ControlMsg {
 }
 
 /// Which segments of a message were heard (section 3.5.2.3.1).
-#[derive(Clone, Copy, Debug, Default, PartialEq, Eq)]
+#[derive(Clone, Copy)]
 pub struct Acknowledgment {
     /// OBO, 1 bit: whether a Friend node sends it on behalf of a Low Power node.
     pub obo: bool,
@@ -49,7 +49,7 @@ pub struct Acknowledgment {
 }
 
 /// The security state that a Friend node tells (section 3.6.5.2).
-#[derive(Clone, Copy, Debug, Default, PartialEq, Eq)]
+#[derive(Clone, Copy)]
 pub struct Update {
     /// Flags, 8 bits: bit 0 is Key Refresh, bit 1 IV Update.
     pub flags: u8,
@@ -77,7 +77,7 @@ pub struct Request {
 }
 
 /// What a Friend node offers a Low Power node (section 3.6.5.4).
-#[derive(Clone, Copy, Debug, Default, PartialEq, Eq)]
+#[derive(Clone, Copy, PartialEq, Eq)]
 pub struct Offer {
     /// ReceiveWindow in milliseconds, 8 bits.
     pub receive_window: u8,
@@ -92,7 +92,7 @@ pub struct Offer {
 }
 
 /// The friendship that ends, or ended (sections 3.6.5.5 and 3.6.5.6).
-#[derive(Clone, Copy, Debug, Default, PartialEq, Eq)]
+#[derive(Clone, Copy, PartialEq, Eq)]
 pub struct Clear {
     /// LPNAddress, 16 bits: the Low Power node.
     pub lpn: Address,
@@ -104,7 +104,7 @@ pub struct Clear {
 pub type AddressList = Table<Address, 5>;
 
 /// Addresses that come to a Friend Subscription List, or go from it (sections 3.6.5.7 and 3.6.5.8).
-#[derive(Debug, Default, Drop, PartialEq, Eq)]
+#[derive(Drop)]
 pub struct SubscriptionList {
     /// TransactionNumber, 8 bits.
     pub transaction: u8,

@@ -3,10 +3,8 @@
 
 use crate::address::Address;
 use crate::octets::Octets;
-use std::fmt;
-use std::fmt::{Debug, Formatter};
 
-/// What seals and opens network PDUs: derived from a network key by k2 (section 3.8.6.3.1).
+/// What seals and opens network PDUs: derived from a network key by k2 (section 3.8.6.3.1). It holds keys, so it can't be printed.
 #[derive(Clone, Copy, Default, PartialEq, Eq)]
 pub struct NetMaterial {
     /// NID, below 128.
@@ -17,17 +15,8 @@ pub struct NetMaterial {
     pub privacy: [u8; 16],
 }
 
-/// Without the keys, which are secret.
-impl Debug for NetMaterial {
-    fn fmt<W: fmt::Write>(&self, f: &mut Formatter<W>) -> fmt::Result {
-        f.debug_struct("NetMaterial")
-            .field("nid", &self.nid)
-            .finish_non_exhaustive()
-    }
-}
-
 /// Network material under which a PDU may be heard, and whose it is.
-#[derive(Clone, Copy, Debug, Default, PartialEq, Eq)]
+#[derive(Clone, Copy, Default, PartialEq, Eq)]
 pub struct Heard {
     /// The index of the network key, 12 bits.
     pub index: u16,
@@ -40,7 +29,7 @@ pub struct Heard {
 }
 
 /// The fields of a network PDU (section 3.4.4), with the whole IV Index of which the PDU carries the lowest bit.
-#[derive(Clone, Debug, Default, Drop, PartialEq, Eq)]
+#[derive(Debug, Drop, PartialEq, Eq)]
 pub struct NetFields {
     /// The IV Index.
     pub iv: u32,
@@ -56,4 +45,23 @@ pub struct NetFields {
     pub dst: Address,
     /// The transport PDU: 1 to 16 octets, or 1 to 12 with CTL.
     pub tpdu: Octets<16>,
+}
+
+impl NetFields {
+    ghost use Rattle.std.specs.Prelude.{◌≡◌};
+
+    /// The same fields once more. It takes no memory.
+    pub fn copied(&self) -> NetFields
+        ensures value { result ≡ self.now }
+    {
+        NetFields {
+            iv: self.iv,
+            ctl: self.ctl,
+            ttl: self.ttl,
+            seq: self.seq,
+            src: self.src,
+            dst: self.dst,
+            tpdu: self.tpdu.copied(),
+        }
+    }
 }

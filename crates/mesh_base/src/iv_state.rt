@@ -2,7 +2,7 @@
 #![tactic(auto)]
 
 /// What a node knows of the IV Index.
-#[derive(Clone, Copy, Debug, Default, PartialEq, Eq)]
+#[derive(Clone, Copy, Debug, PartialEq, Eq)]
 pub struct IvState {
     /// The known IV Index. In progress it is at least 1.
     pub current: u32,

@@ -1,10 +1,7 @@
 //! Keys as a node holds them (Mesh Profile 1.0.1, sections 3.8.6 and 3.10.4).
 #![tactic(auto)]
 
-use std::fmt;
-use std::fmt::{Debug, Formatter};
-
-/// A key of the upper transport layer.
+/// A key of the upper transport layer. It can't be printed.
 #[derive(Clone, Copy, PartialEq, Eq)]
 pub enum UpperKey {
     /// The device key.
@@ -32,21 +29,7 @@ impl Default for UpperKey {
     }
 }
 
-/// Without the key, which is secret.
-impl Debug for UpperKey {
-    fn fmt<W: fmt::Write>(&self, f: &mut Formatter<W>) -> fmt::Result {
-        match self {
-            UpperKey::Device(_) => f.write_str("Device(..)"),
-            UpperKey::App { index, aid, .. } => f
-                .debug_struct("App")
-                .field("index", index)
-                .field("aid", aid)
-                .finish_non_exhaustive(),
-        }
-    }
-}
-
-/// A network key and how far its Key Refresh is.
+/// A network key and how far its Key Refresh is. It holds keys, so it can't be printed.
 #[derive(Clone, Copy, Default, PartialEq, Eq)]
 pub struct NetKeyRow {
     /// The index of the key, 12 bits.
@@ -60,18 +43,7 @@ pub struct NetKeyRow {
     pub next: Option<[u8; 16]>,
 }
 
-/// Without the keys, which are secret; of the new one it says whether there is one.
-impl Debug for NetKeyRow {
-    fn fmt<W: fmt::Write>(&self, f: &mut Formatter<W>) -> fmt::Result {
-        f.debug_struct("NetKeyRow")
-            .field("index", &self.index)
-            .field("phase", &self.phase)
-            .field("updated", &self.next.is_some())
-            .finish_non_exhaustive()
-    }
-}
-
-/// An application key with the network key that it is bound to.
+/// An application key with the network key that it is bound to. It holds keys, so it can't be printed.
 #[derive(Clone, Copy, Default, PartialEq, Eq)]
 pub struct AppKeyRow {
     /// The index of the network key, 12 bits.
@@ -82,15 +54,4 @@ pub struct AppKeyRow {
     pub key: [u8; 16],
     /// The new key, while the network key is refreshed.
     pub next: Option<[u8; 16]>,
-}
-
-/// Without the keys, which are secret; of the new one it says whether there is one.
-impl Debug for AppKeyRow {
-    fn fmt<W: fmt::Write>(&self, f: &mut Formatter<W>) -> fmt::Result {
-        f.debug_struct("AppKeyRow")
-            .field("net", &self.net)
-            .field("index", &self.index)
-            .field("updated", &self.next.is_some())
-            .finish_non_exhaustive()
-    }
 }

@@ -33,6 +33,4 @@ mod pieces;
 pub mod slot;
 pub mod standard;
 pub mod table;
-#[cfg(test)]
-mod tests;
 pub mod upper;

@@ -2,9 +2,10 @@
 #![tactic(auto)]
 
 use crate::octets::Octets;
+use std::alloc::AllocError;
 
 /// A lower transport PDU.
-#[derive(Clone, Debug, Drop, PartialEq, Eq)]
+#[derive(Drop)]
 pub enum Lower {
     /// An unsegmented access message (section 3.5.2.1).
     Access {
@@ -52,4 +53,67 @@ pub enum Lower {
         /// 8 octets of the parameters; the last segment has 1 to 8.
         piece: Octets<8>,
     },
+}
+
+impl Clone for Lower {
+    ghost use Rattle.std.specs.Prelude.{◌≡◌, ⊤};
+
+    ghost is_clone = { λ l m. m ≡ l };
+
+    ghost is_infallible = { λ _. ⊤ };
+
+    fn clone(&self) -> Result<Lower, AllocError> {
+        Ok(self.copied())
+    }
+}
+
+impl Lower {
+    ghost use Rattle.std.specs.Prelude.{◌≡◌};
+
+    /// The same PDU once more. It takes no memory, so it can't fail as a `clone` may.
+    pub fn copied(&self) -> Lower
+        ensures value { result ≡ self.now }
+    {
+        match self {
+            Lower::Access { akf, aid, upper } => Lower::Access {
+                akf: *akf,
+                aid: *aid,
+                upper: upper.copied(),
+            },
+            Lower::Control { opcode, params } => Lower::Control {
+                opcode: *opcode,
+                params: params.copied(),
+            },
+            Lower::AccessPart {
+                akf,
+                aid,
+                szmic,
+                seq_zero,
+                seg_o,
+                seg_n,
+                piece,
+            } => Lower::AccessPart {
+                akf: *akf,
+                aid: *aid,
+                szmic: *szmic,
+                seq_zero: *seq_zero,
+                seg_o: *seg_o,
+                seg_n: *seg_n,
+                piece: piece.copied(),
+            },
+            Lower::ControlPart {
+                opcode,
+                seq_zero,
+                seg_o,
+                seg_n,
+                piece,
+            } => Lower::ControlPart {
+                opcode: *opcode,
+                seq_zero: *seq_zero,
+                seg_o: *seg_o,
+                seg_n: *seg_n,
+                piece: piece.copied(),
+            },
+        }
+    }
 }

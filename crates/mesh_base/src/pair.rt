@@ -8,7 +8,7 @@ ghost use Rattle.mesh_base.specs.Pairs.{is_newer, word_of, IsPair};
 use crate::address::Address;
 
 /// An IV Index and a sequence number (Mesh Profile 1.0.1, section 3.8.3). Pairs are ordered by the IV Index first.
-#[derive(Clone, Copy, Debug, Default, PartialEq, Eq, PartialOrd, Ord, Hash)]
+#[derive(Clone, Copy, Debug, Default, PartialEq, Eq, PartialOrd, Hash)]
 pub struct Pair {
     /// The IV Index.
     pub iv: u32,
@@ -18,7 +18,7 @@ pub struct Pair {
 
 /// The name of a message: who sent it, and under which pair. Of a segmented message the pair is its SeqAuth
 /// (section 3.5.3.1).
-#[derive(Clone, Copy, Debug, Default, PartialEq, Eq, PartialOrd, Ord, Hash)]
+#[derive(Clone, Copy, Debug, Default, PartialEq, Eq, Hash)]
 pub struct Name {
     /// SRC, the unicast address of the sender.
     pub src: Address,

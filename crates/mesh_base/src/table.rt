@@ -12,7 +12,7 @@ use arrayvec::ArrayVec;
 use std::marker::Model;
 
 /// At most N items, which lie in the value itself. A clause sees it as the list of its items.
-#[derive(Debug, Drop, PartialEq, Eq)]
+#[derive(Drop, PartialEq, Eq)]
 pub struct Table<T, const N: usize> {
     places: ArrayVec<T, N>,
 }

@@ -5,7 +5,7 @@ use crate::address::Address;
 use crate::pair::Pair;
 
 /// The fields of an upper transport access PDU that its nonce and its MIC are made of.
-#[derive(Clone, Copy, Debug, Default, PartialEq, Eq)]
+#[derive(Clone, Copy)]
 pub struct UpperFields {
     /// SeqAuth: the IV Index and the SEQ of the message, or of its first segment.
     pub pair: Pair,

@@ -6,7 +6,7 @@
 //! - `derivations`: s1 to k4, and virtual addresses
 //! - `credentials`: what k2 derives
 //!
-//! A caller to begin with: `identifiers` and `credentials` in `src/tests.rt`.
+//! A caller to begin with: `identifiers` and `credentials` of crate worked_ciphers, in `src/derivations.rt`.
 #![tactic(auto)]
 
 mod credentials;
@@ -18,5 +18,3 @@ pub use credentials::K2;
 pub use derivations::{address, k1, k2, k3, k4, s1};
 pub use mac::cmac;
 
-#[cfg(test)]
-mod tests;

@@ -43,7 +43,7 @@ pub enum KeyStep {
 }
 
 /// The answer to an event, one variant for each answer of the report.
-#[derive(Clone, Debug, Drop, PartialEq, Eq)]
+#[derive(Debug, Drop, PartialEq, Eq)]
 pub enum Answer {
     /// No key held reads the octets.
     Unread,
@@ -155,6 +155,57 @@ impl Answer {
     pub fn copied(&self) -> Answer
         ensures value { result ≡ self.now }
     {
-        self.clone().unwrap()
+        match self {
+            Answer::Unread => Answer::Unread,
+            Answer::BadAddress => Answer::BadAddress,
+            Answer::Own => Answer::Own,
+            Answer::Cached => Answer::Cached,
+            Answer::NotMine => Answer::NotMine,
+            Answer::Malformed => Answer::Malformed,
+            Answer::Again => Answer::Again,
+            Answer::Replay { kept } => Answer::Replay { kept: *kept },
+            Answer::NoRoom { held } => Answer::NoRoom { held: *held },
+            Answer::Conflict => Answer::Conflict,
+            Answer::Waiting { missing } => Answer::Waiting { missing: *missing },
+            Answer::NoKey => Answer::NoKey,
+            Answer::ListFull { held } => Answer::ListFull { held: *held },
+            Answer::Delivered {
+                name,
+                dst,
+                key,
+                payload,
+            } => Answer::Delivered {
+                name: *name,
+                dst: *dst,
+                key: *key,
+                payload: payload.copied(),
+            },
+            Answer::Control {
+                name,
+                dst,
+                opcode,
+                params,
+            } => Answer::Control {
+                name: *name,
+                dst: *dst,
+                opcode: *opcode,
+                params: params.copied(),
+            },
+            Answer::Beacon { index, key, iv } => Answer::Beacon {
+                index: *index,
+                key: *key,
+                iv: *iv,
+            },
+            Answer::Planned => Answer::Planned,
+            Answer::NoAppKey { index } => Answer::NoAppKey { index: *index },
+            Answer::Ticked { now } => Answer::Ticked { now: *now },
+            Answer::Begun => Answer::Begun,
+            Answer::Moved { iv } => Answer::Moved { iv: *iv },
+            Answer::Befriended => Answer::Befriended,
+            Answer::SendFull { held } => Answer::SendFull { held: *held },
+            Answer::Kept => Answer::Kept,
+            Answer::Dropped => Answer::Dropped,
+            Answer::Reset => Answer::Reset,
+        }
     }
 }

@@ -30,7 +30,7 @@ impl Debug for SendKey {
 }
 
 /// One event. The first five kinds come from outside; a `Begin` or `Kept` follows a line of one of the node's own jobs.
-#[derive(Clone, Debug, Drop, PartialEq, Eq)]
+#[derive(Debug, Drop, PartialEq, Eq)]
 pub enum Event {
     /// These octets were heard as a network PDU.
     Net(Octets<40>),
@@ -93,7 +93,7 @@ pub enum Event {
 }
 
 /// The kind of an event.
-#[derive(Clone, Copy, Debug, PartialEq, Eq)]
+#[derive(Clone, Copy)]
 pub enum Kind {
     /// A network PDU heard.
     Net,
@@ -134,6 +134,58 @@ impl Event {
     pub fn copied(&self) -> Event
         ensures value { result ≡ self.now }
     {
-        self.clone().unwrap()
+        match self {
+            Event::Net(octets) => Event::Net(octets.copied()),
+            Event::Bcn(octets) => Event::Bcn(octets.copied()),
+            Event::Send {
+                element,
+                dst,
+                ttl,
+                key,
+                payload,
+            } => Event::Send {
+                element: *element,
+                dst: *dst,
+                ttl: *ttl,
+                key: *key,
+                payload: payload.copied(),
+            },
+            Event::Raw { dst, ttl, tpdu } => Event::Raw {
+                dst: *dst,
+                ttl: *ttl,
+                tpdu: tpdu.copied(),
+            },
+            Event::Tick(ticks) => Event::Tick(*ticks),
+            Event::Begin {
+                pair,
+                dst,
+                src,
+                ttl,
+                net,
+                akf,
+                aid,
+                upper,
+            } => Event::Begin {
+                pair: *pair,
+                dst: *dst,
+                src: *src,
+                ttl: *ttl,
+                net: *net,
+                akf: *akf,
+                aid: *aid,
+                upper: upper.copied(),
+            },
+            Event::Kept {
+                lpn,
+                fsn,
+                name,
+                pdu,
+            } => Event::Kept {
+                lpn: *lpn,
+                fsn: *fsn,
+                name: *name,
+                pdu: pdu.copied(),
+            },
+        }
     }
 }

@@ -13,7 +13,7 @@ const _: () = prove!(size_of::<Entry>() <= 900);
 const _: () = prove!(size_of::<Job>() <= 144);
 
 /// An event that was handled under the node's lock.
-#[derive(Debug, Drop)]
+#[derive(Drop)]
 pub struct Entry {
     /// The bearer, 0 to 7.
     pub bearer: u8,
@@ -30,7 +30,7 @@ pub struct Entry {
 }
 
 /// A job that was done.
-#[derive(Debug, Drop)]
+#[derive(Drop)]
 pub struct Sent {
     /// The place of its entry in the life's history, from 0 on.
     pub entry: u32,

@@ -9,10 +9,12 @@ use mesh_base::keys::UpperKey;
 use mesh_base::octets::Octets;
 use mesh_base::pair::Name;
 use std::alloc::{AllocError, Global};
+use std::fmt;
+use std::fmt::{Debug, Formatter};
 use std::marker::Model;
 
 /// One job of an entry. Where it answers a Poll whose answer is to be kept, `keep` is the Low Power node and the FSN.
-#[derive(Clone, Debug, Drop, PartialEq, Eq)]
+#[derive(Drop, PartialEq, Eq)]
 pub enum Job {
     /// The network PDU of another node, with its own SRC, IV Index and SEQ.
     Relay {
@@ -107,7 +109,87 @@ impl Job {
     pub fn copied(&self) -> Job
         ensures value { result ≡ self.now }
     {
-        self.clone().unwrap()
+        match self {
+            Job::Relay { material, fields } => Job::Relay {
+                material: *material,
+                fields: fields.copied(),
+            },
+            Job::Control {
+                material,
+                ttl,
+                src,
+                dst,
+                tpdu,
+                keep,
+            } => Job::Control {
+                material: *material,
+                ttl: *ttl,
+                src: *src,
+                dst: *dst,
+                tpdu: tpdu.copied(),
+                keep: *keep,
+            },
+            Job::Message {
+                net,
+                material,
+                key,
+                ttl,
+                src,
+                dst,
+                payload,
+                keep,
+            } => Job::Message {
+                net: *net,
+                material: *material,
+                key: *key,
+                ttl: *ttl,
+                src: *src,
+                dst: *dst,
+                payload: payload.copied(),
+                keep: *keep,
+            },
+            Job::Sent {
+                net,
+                material,
+                key,
+                ttl,
+                src,
+                dst,
+            } => Job::Sent {
+                net: *net,
+                material: *material,
+                key: *key,
+                ttl: *ttl,
+                src: *src,
+                dst: *dst,
+            },
+            Job::Segment {
+                material,
+                name,
+                ttl,
+                src,
+                dst,
+                seg_o,
+                seg_n,
+                tpdu,
+                first,
+            } => Job::Segment {
+                material: *material,
+                name: *name,
+                ttl: *ttl,
+                src: *src,
+                dst: *dst,
+                seg_o: *seg_o,
+                seg_n: *seg_n,
+                tpdu: tpdu.copied(),
+                first: *first,
+            },
+            Job::Repeat { name, pdu } => Job::Repeat {
+                name: *name,
+                pdu: pdu.copied(),
+            },
+            Job::Beacon(beacon) => Job::Beacon(*beacon),
+        }
     }
 }
 
@@ -116,9 +198,18 @@ const MOST_JOBS: usize = 160;
 
 /// The jobs of an entry in their order, at most 160. They take the memory of so many as they are, as far as the allocator gives the rest back;
 /// no clause says so. A clause sees them as the list.
-#[derive(Debug, Drop)]
+#[derive(Drop)]
 pub struct Jobs {
     table: Vec<Job>,
+}
+
+/// How many they are; a job may hold a key.
+impl Debug for Jobs {
+    fn fmt<W: fmt::Write>(&self, f: &mut Formatter<W>) -> fmt::Result {
+        f.debug_struct("Jobs")
+            .field("length", &self.table.len())
+            .finish_non_exhaustive()
+    }
 }
 
 impl Model for Jobs {

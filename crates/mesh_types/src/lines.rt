@@ -7,7 +7,7 @@ use mesh_base::octets::Octets;
 use mesh_base::pair::{Name, Pair};
 
 /// What became of a job, one variant for each result of the report.
-#[derive(Clone, Debug, Drop, PartialEq, Eq)]
+#[derive(Drop)]
 pub enum Outcome {
     /// A control PDU of this node went out.
     Ctl {
@@ -120,6 +120,97 @@ impl Outcome {
     pub fn copied(&self) -> Outcome
         ensures value { result ≡ self.now }
     {
-        self.clone().unwrap()
+        match self {
+            Outcome::Ctl {
+                pair,
+                ttl,
+                src,
+                dst,
+                tpdu,
+                pdu,
+            } => Outcome::Ctl {
+                pair: *pair,
+                ttl: *ttl,
+                src: *src,
+                dst: *dst,
+                tpdu: tpdu.copied(),
+                pdu: pdu.copied(),
+            },
+            Outcome::Msg {
+                pair,
+                ttl,
+                src,
+                dst,
+                key,
+                payload,
+                pdu,
+            } => Outcome::Msg {
+                pair: *pair,
+                ttl: *ttl,
+                src: *src,
+                dst: *dst,
+                key: *key,
+                payload: payload.copied(),
+                pdu: pdu.copied(),
+            },
+            Outcome::Long {
+                pair,
+                ttl,
+                src,
+                dst,
+                key,
+                payload,
+            } => Outcome::Long {
+                pair: *pair,
+                ttl: *ttl,
+                src: *src,
+                dst: *dst,
+                key: *key,
+                payload: payload.copied(),
+            },
+            Outcome::Seg {
+                pair,
+                ttl,
+                src,
+                dst,
+                seg_o,
+                seg_n,
+                auth,
+                pdu,
+            } => Outcome::Seg {
+                pair: *pair,
+                ttl: *ttl,
+                src: *src,
+                dst: *dst,
+                seg_o: *seg_o,
+                seg_n: *seg_n,
+                auth: *auth,
+                pdu: pdu.copied(),
+            },
+            Outcome::Relay {
+                pair,
+                ctl,
+                ttl,
+                src,
+                dst,
+                tpdu,
+                pdu,
+            } => Outcome::Relay {
+                pair: *pair,
+                ctl: *ctl,
+                ttl: *ttl,
+                src: *src,
+                dst: *dst,
+                tpdu: tpdu.copied(),
+                pdu: pdu.copied(),
+            },
+            Outcome::Rep { name, pdu } => Outcome::Rep {
+                name: *name,
+                pdu: pdu.copied(),
+            },
+            Outcome::Bcn(beacon) => Outcome::Bcn(*beacon),
+            Outcome::Spent { iv } => Outcome::Spent { iv: *iv },
+            Outcome::Late { pair } => Outcome::Late { pair: *pair },
+        }
     }
 }

@@ -7,7 +7,7 @@ use crate::lines::Outcome;
 use mesh_base::iv_state::IvState;
 
 /// How a life began.
-#[derive(Clone, Copy, Debug, PartialEq, Eq)]
+#[derive(Clone, Copy)]
 pub enum Opened {
     /// With this IV state and this mark, a word `iv * 2^25 + seq`.
     On(IvState, u64),
@@ -30,7 +30,7 @@ pub enum End {
 }
 
 /// One line of the report.
-#[derive(Debug, Drop)]
+#[derive(Drop)]
 pub enum ReportLine {
     /// A life began.
     Opened {

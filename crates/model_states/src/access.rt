@@ -3,5 +3,5 @@
 
 /// The opcode of an access message, as the number that its one, two or three octets make, the first octet highest. One octet is 00
 /// to 7e, two begin with 80 to bf, three with c0 to ff.
-#[derive(Clone, Copy, Debug, PartialEq, Eq)]
+#[derive(Clone, Copy)]
 pub struct Opcode(pub u32);

@@ -6,7 +6,7 @@ use mesh_base::address::Address;
 use record_types::records::PublishRow;
 
 /// The Heartbeat Publication state (section 4.2.17).
-#[derive(Clone, Copy, Debug, Default, PartialEq, Eq)]
+#[derive(Clone, Copy, Default, PartialEq, Eq)]
 pub struct HeartbeatRow {
     /// Heartbeat Publication Destination; 0000 where none are sent.
     pub dst: Address,

@@ -3,7 +3,7 @@
 //! - `writing`: the octets of a beacon
 //! - `reading`: which key has a beacon with these octets, and what it says
 //!
-//! A caller to begin with: `standard_sample` in `src/tests.rt`.
+//! A caller to begin with: `standard_sample` of crate worked_pdus, in `src/beacons.rt`.
 #![tactic(auto)]
 
 mod reading;
@@ -12,6 +12,3 @@ mod writing;
 pub use mesh_base::beacon::Beacon;
 pub use reading::{Unread, beacon_law, read};
 pub use writing::write;
-
-#[cfg(test)]
-mod tests;

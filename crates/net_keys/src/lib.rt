@@ -6,7 +6,7 @@
 //! - `credentials`: the material of master and friendship credentials
 //! - `laws`: why the keys that have a PDU's NID suffice to read it
 //!
-//! A caller to begin with: `phases` in `src/tests.rt`.
+//! A caller to begin with: `phases` of crate worked_pdus, in `src/network_keys.rt`.
 #![tactic(auto)]
 
 mod credentials;
@@ -17,6 +17,3 @@ mod laws;
 pub use credentials::{friendship, master};
 pub use keys::NetKeys;
 pub use laws::candidates_law;
-
-#[cfg(test)]
-mod tests;

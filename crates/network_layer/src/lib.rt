@@ -5,7 +5,7 @@
 //! - `fields`: the fixed fields
 //! - `obfuscation`: the header, obfuscated and clear
 //!
-//! A caller to begin with: `seals_and_reads_as_the_standard_says` and `reads_by_kept_schedules` in `src/tests.rt`.
+//! A caller to begin with: `seals_and_reads_as_the_standard_says` and `reads_by_kept_schedules` of crate worked_pdus, in `src/network.rt`.
 #![tactic(auto)]
 
 mod fields;
@@ -16,6 +16,3 @@ mod sealing;
 pub use kept_keys::{HeardSchedules, NetSchedules};
 pub use reading::{NetReading, Unread, read, read_kept, read_kept_behind, read_one, reading_law};
 pub use sealing::{seal, seal_kept};
-
-#[cfg(test)]
-mod tests;

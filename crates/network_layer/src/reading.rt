@@ -18,7 +18,7 @@ use mesh_base::fields::{Heard, NetFields, NetMaterial};
 use thiserror::Error;
 
 /// What octets read as, and under which key.
-#[derive(Clone, Debug, Drop, PartialEq, Eq)]
+#[derive(Drop, PartialEq, Eq)]
 pub struct NetReading {
     /// The fields of the PDU.
     pub fields: NetFields,

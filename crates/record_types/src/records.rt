@@ -7,7 +7,7 @@ use mesh_base::address::Address;
 use mesh_base::pair::Name;
 
 /// What a model publishes, and where (Mesh Profile 1.0.1, section 4.2.2). Address 0000 stands for no publication.
-#[derive(Clone, Copy, Debug, Default, PartialEq, Eq)]
+#[derive(Clone, Copy, Default, PartialEq, Eq)]
 pub struct PublishRow {
     /// The model's element.
     pub element: Address,

@@ -2,7 +2,7 @@
 #![tactic(auto)]
 
 /// Which lines a script may have. Both grammars have the same forms and the same rules.
-#[derive(Clone, Copy, Debug, PartialEq, Eq)]
+#[derive(Clone, Copy)]
 pub enum Grammar {
     /// The script of a node with up to eight bearers.
     Node,
@@ -11,7 +11,7 @@ pub enum Grammar {
 }
 
 /// What a line of a bearer tells, by its second word.
-#[derive(Clone, Copy, Debug, PartialEq, Eq)]
+#[derive(Clone, Copy)]
 pub enum EventKind {
     /// `net`: octets are heard as a network PDU.
     Net,
@@ -38,7 +38,7 @@ pub enum EventKind {
 }
 
 /// The kind of a line, by its first word, and of a line of a bearer by its first two.
-#[derive(Clone, Copy, Debug, PartialEq, Eq)]
+#[derive(Clone, Copy)]
 pub enum LineKind {
     /// `provision`: the node's data.
     Provision,

@@ -47,7 +47,7 @@ pub enum TalkDst {
 }
 
 /// Which PDU of an outside node's access message is heard.
-#[derive(Clone, Copy, Debug, PartialEq, Eq)]
+#[derive(Clone, Copy, PartialEq, Eq)]
 pub enum TalkPiece {
     /// The unsegmented PDU.
     Whole,
@@ -56,7 +56,7 @@ pub enum TalkPiece {
 }
 
 /// A line `peer`: a network PDU is heard that an outside node seals.
-#[derive(Drop, PartialEq, Eq)]
+#[derive(Drop)]
 pub struct PeerLine {
     /// What seals it.
     pub net: ScriptNet,
@@ -97,7 +97,7 @@ pub struct TalkLine {
 }
 
 /// A line `beacon`: a Secure Network beacon is heard (section 3.9.3).
-#[derive(Clone, Copy, PartialEq, Eq)]
+#[derive(Clone, Copy)]
 pub struct BeaconLine {
     /// The network key.
     pub net_key: [u8; 16],
@@ -123,7 +123,7 @@ pub struct SendLine {
 }
 
 /// A line `raw`: the node sends a control PDU from its first element.
-#[derive(Drop, PartialEq, Eq)]
+#[derive(Drop)]
 pub struct RawLine {
     /// DST, not unassigned.
     pub dst: Address,
@@ -135,7 +135,7 @@ pub struct RawLine {
 
 /// A line `arm`: a `sync`; then after so many program or erase calls the next one is torn. Directly behind `life` it is set before
 /// the store is opened.
-#[derive(Clone, Copy, Debug, PartialEq, Eq)]
+#[derive(Clone, Copy)]
 pub struct ArmLine {
     /// How many calls go by, at most 100,000.
     pub calls: u32,

@@ -9,7 +9,7 @@ use std::alloc::{AllocError, Global};
 use std::marker::Model;
 
 /// What the line `provision` says of the node.
-#[derive(Clone, Copy, PartialEq, Eq)]
+#[derive(Clone, Copy)]
 pub struct ProvisionLine {
     /// The address of the first element. All element addresses are 0001 to 7fff.
     pub unicast: Address,

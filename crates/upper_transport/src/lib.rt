@@ -8,19 +8,15 @@
 //! - `control_writing`: from a control message to octets
 //! - `laws`: octets have one reading
 //!
-//! A caller to begin with: `meets` and `kept_keys` in `src/tests.rt`.
+//! A caller to begin with: `meets` and `kept_keys` of crate worked_pdus, in `src/access.rt`.
 #![tactic(auto)]
 
 mod control_reading;
-#[cfg(test)]
-mod control_tests;
 mod control_writing;
 mod laws;
 mod nonce;
 mod opening;
 mod sealing;
-#[cfg(test)]
-mod tests;
 
 pub use control_reading::read_control;
 pub use control_writing::write_control;

@@ -18,7 +18,7 @@ use mesh_base::upper::UpperFields;
 use thiserror::Error;
 
 /// An access message that opened.
-#[derive(Clone, Debug, Default, Drop, PartialEq, Eq)]
+#[derive(Drop, PartialEq, Eq)]
 pub struct Opened {
     /// The place, from 0 on, of the key that opened it.
     pub at: u32,

@@ -7,8 +7,6 @@
 
 mod kept;
 mod opening;
-#[cfg(test)]
-mod tests;
 
 pub use kept::Labels;
 pub use opening::{LabelOpened, NoLabel, unseal};
