@@ -3,7 +3,8 @@
 
 ghost use Rattle.std.specs.Prelude.{◌≡◌, ◌≤◌, ◌++◌, ◌∷◌, length};
 ghost use Rattle.std.specs.List.{list_any};
-ghost use Rattle.config_definitions.specs.Models.{app_bind, app_unbind, bind_act, bind_set};
+ghost use Rattle.config_definitions.specs.Models.{app_bind, app_unbind, bind_act, bind_set, model_of, on_model};
+ghost use Rattle.config_definitions.specs.declared.acts.Status.TheVariants as S;
 ghost use Rattle.node_records.specs.Tables.{config_in};
 ghost use Rattle.store_definitions.specs.Config.{is_bind};
 
@@ -20,6 +21,13 @@ use node_records::{Persist, StoreRecord};
 /// The bindings that a node has at most.
 const MOST: usize = 32;
 
+// Whether a binding is this one.
+fn is_bind(b: &(Address, u16, u16), element: Address, model: u16, app: u16) -> bool
+    ensures { result ≡ is_bind element model app b.now }
+{
+    b.0.0 == element.0 && b.1 == model && b.2 == app
+}
+
 /// Whether a model is bound to an application key.
 pub fn has_bind(p: &Persist, element: Address, model: u16, app: u16) -> bool
     ensures { result ≡ list_any (is_bind element model app) p.now.binds }
@@ -27,7 +35,7 @@ pub fn has_bind(p: &Persist, element: Address, model: u16, app: u16) -> bool
     p.binds
         .as_slice()
         .iter()
-        .any(|b| b.0.0 == element.0 && b.1 == model && b.2 == app)
+        .any(|b| is_bind(b, element, model, app))
 }
 
 // Model App Bind.
@@ -81,6 +89,17 @@ fn bind_act(o: &Outcome, element: Address, app: u16, model: &[u8]) -> Option<Con
     acted(o.change, reply)
 }
 
+// Model App Bind, of the model that is meant.
+fn bound(p: &Persist, element: Address, app: u16, model: &[u8]) -> Outcome
+    ensures { result
+        ≡ on_model (model_of (config_in p.now) element model.now S.CannotBind) (app_bind (config_in p.now) element app) }
+{
+    match model_of(p, element, model, Status::CannotBind) {
+        Ok(number) => bind(p, element, app, number),
+        Err(status) => refused(status),
+    }
+}
+
 /// Model App Bind.
 pub fn app_bind(p: &Persist, params: &[u8]) -> Option<ConfigAct>
     ensures { result ≡ bind_set (config_in p.now) (app_bind (config_in p.now)) params.now }
@@ -89,13 +108,21 @@ pub fn app_bind(p: &Persist, params: &[u8]) -> Option<ConfigAct>
         [a, b, c, d, model @ ..] if is_model(model) => {
             let element = address_of(*a, *b);
             let app = index_of(*c, *d);
-            let o = match model_of(p, element, model, Status::CannotBind) {
-                Ok(number) => bind(p, element, app, number),
-                Err(status) => refused(status),
-            };
+            let o = bound(p, element, app, model);
             bind_act(&o, element, app, model)
         }
         _ => None,
+    }
+}
+
+// Model App Unbind, of the model that is meant.
+fn unbound(p: &Persist, element: Address, app: u16, model: &[u8]) -> Outcome
+    ensures { result
+        ≡ on_model (model_of (config_in p.now) element model.now S.CannotBind) (app_unbind (config_in p.now) element app) }
+{
+    match model_of(p, element, model, Status::CannotBind) {
+        Ok(number) => unbind(p, element, app, number),
+        Err(status) => refused(status),
     }
 }
 
@@ -107,10 +134,7 @@ pub fn app_unbind(p: &Persist, params: &[u8]) -> Option<ConfigAct>
         [a, b, c, d, model @ ..] if is_model(model) => {
             let element = address_of(*a, *b);
             let app = index_of(*c, *d);
-            let o = match model_of(p, element, model, Status::CannotBind) {
-                Ok(number) => unbind(p, element, app, number),
-                Err(status) => refused(status),
-            };
+            let o = unbound(p, element, app, model);
             bind_act(&o, element, app, model)
         }
         _ => None,

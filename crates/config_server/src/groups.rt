@@ -26,6 +26,20 @@ fn is_subscribed(a: Address) -> bool
     0xc000 <= a.0 && a.0 <= 0xfffe
 }
 
+// Whether a subscription is this one.
+fn is_sub(s: &(Address, u16, Address), element: Address, model: u16, group: Address) -> bool
+    ensures { result ≡ is_sub element model group s.now }
+{
+    s.0.0 == element.0 && s.1 == model && s.2.0 == group.0
+}
+
+// Whether a subscription of a holder, by element and model, is one of this model.
+fn is_held_by(holder: Address, held: u16, element: Address, model: u16) -> bool
+    ensures { result ≡ (holder.0 == element.0 && held == model) }
+{
+    holder.0 == element.0 && held == model
+}
+
 // Whether a model subscribes to a group.
 fn has_sub(p: &Persist, element: Address, model: u16, group: Address) -> bool
     ensures { result ≡ list_any (is_sub element model group) p.now.subs }
@@ -33,7 +47,7 @@ fn has_sub(p: &Persist, element: Address, model: u16, group: Address) -> bool
     p.subs
         .as_slice()
         .iter()
-        .any(|s| s.0.0 == element.0 && s.1 == model && s.2.0 == group.0)
+        .any(|s| is_sub(s, element, model, group))
 }
 
 // How many groups a model subscribes to.
@@ -44,7 +58,7 @@ fn count_of_groups(p: &Persist, element: Address, model: u16) -> usize
     p.subs
         .as_slice()
         .iter()
-        .filter(|s| s.0.0 == element.0 && s.1 == model)
+        .filter(|s| is_held_by(s.0, s.1, element, model))
         .count()
 }
 
@@ -56,7 +70,7 @@ fn count_of_labels(p: &Persist, element: Address, model: u16) -> usize
     p.labels
         .as_slice()
         .iter()
-        .filter(|l| l.0.0 == element.0 && l.1 == model)
+        .filter(|l| is_held_by(l.0, l.1, element, model))
         .count()
 }
 
@@ -75,7 +89,7 @@ fn count_of_other_groups(p: &Persist, element: Address, model: u16) -> usize
     p.subs
         .as_slice()
         .iter()
-        .filter(|s| !(s.0.0 == element.0 && s.1 == model))
+        .filter(|s| !is_held_by(s.0, s.1, element, model))
         .count()
 }
 
@@ -87,7 +101,7 @@ fn count_of_other_labels(p: &Persist, element: Address, model: u16) -> usize
     p.labels
         .as_slice()
         .iter()
-        .filter(|l| !(l.0.0 == element.0 && l.1 == model))
+        .filter(|l| !is_held_by(l.0, l.1, element, model))
         .count()
 }
 

@@ -23,8 +23,6 @@ mod models;
 mod params;
 mod publishing;
 mod server;
-#[cfg(test)]
-mod tests;
 
 pub use config_definitions::acts::ConfigAct;
 pub use server::{Ignored, take};

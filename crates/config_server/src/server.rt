@@ -1,7 +1,7 @@
 //! A case for each configuration message.
 #![tactic(auto)]
 
-ghost use Rattle.std.specs.Prelude.{◌≡◌, ◌≤◌, ◌<◌, IsErr, IfOk, OnErr, None, Some, length};
+ghost use Rattle.std.specs.Prelude.{◌≡◌, ◌≤◌, ◌∷◌, IfOk, OnErr, None, Some, length};
 ghost use Rattle.config_definitions.specs.Answers.{config_answer, first_answers, last_answers, middle_answers};
 ghost use Rattle.node_records.specs.Tables.{config_in};
 
@@ -101,6 +101,54 @@ fn last_answers(p: &Persist, under: u16, second: u8, params: &[u8]) -> Option<Co
     }
 }
 
+// The answer to a payload that begins with 80, of which this is the rest.
+#[tactic(auto, unfolding(config_definitions::specs::Answers::config_answer))]
+fn long_answer(
+    p: &Persist,
+    under: u16,
+    polls: &[(Address, u32)],
+    beat: &HeartbeatRow,
+    rest: &[u8],
+) -> Option<ConfigAct>
+    requires { p.now.elements ≤ 4 }
+    ensures { result ≡ config_answer (config_in p.now) under polls.now beat.now (0x80 ∷ rest.now) }
+{
+    match rest {
+        [second, params @ ..] => {
+            if *second < 0x1b {
+                first_answers(p, *second, params)
+            } else if *second < 0x3d {
+                middle_answers(p, polls, beat, *second, params)
+            } else {
+                last_answers(p, under, *second, params)
+            }
+        }
+        [] => None,
+    }
+}
+
+// The answer to a payload that begins with this octet, of which the others are the rest.
+#[tactic(auto, unfolding(config_definitions::specs::Answers::config_answer))]
+fn answer_by_first(
+    p: &Persist,
+    under: u16,
+    polls: &[(Address, u32)],
+    beat: &HeartbeatRow,
+    first: u8,
+    rest: &[u8],
+) -> Option<ConfigAct>
+    requires { p.now.elements ≤ 4 }
+    ensures { result ≡ config_answer (config_in p.now) under polls.now beat.now (first ∷ rest.now) }
+{
+    match first {
+        0x00 => app_key_add(p, rest),
+        0x01 => app_key_update(p, rest),
+        0x03 => publication_set(p, rest),
+        0x80 => long_answer(p, under, polls, beat, rest),
+        _ => None,
+    }
+}
+
 // The answer to a payload, if it is a message.
 #[tactic(auto, unfolding(config_definitions::specs::Answers::config_answer))]
 fn answer(
@@ -114,19 +162,8 @@ fn answer(
     ensures { result ≡ config_answer (config_in p.now) under polls.now beat.now payload.now }
 {
     match payload {
-        [0x00, params @ ..] => app_key_add(p, params),
-        [0x01, params @ ..] => app_key_update(p, params),
-        [0x03, params @ ..] => publication_set(p, params),
-        [0x80, second, params @ ..] => {
-            if *second < 0x1b {
-                first_answers(p, *second, params)
-            } else if *second < 0x3d {
-                middle_answers(p, polls, beat, *second, params)
-            } else {
-                last_answers(p, under, *second, params)
-            }
-        }
-        _ => None,
+        [first, rest @ ..] => answer_by_first(p, under, polls, beat, *first, rest),
+        [] => None,
     }
 }
 

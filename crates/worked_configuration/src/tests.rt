@@ -1,6 +1,5 @@
 //! Configuration messages, their replies and what is stored for them, by the tables of the standard: for each message what it does, each of
 //! its refusals, and which of two comes first.
-#![tactic(auto)]
 
 mod application_keys;
 mod bindings;
@@ -13,7 +12,7 @@ mod network_keys;
 mod publications;
 mod worked;
 
-use crate::take;
+use config_server::take;
 use mesh_base::address::Address;
 use mesh_base::keys::{AppKeyRow, NetKeyRow};
 use mesh_base::octets::Octets;

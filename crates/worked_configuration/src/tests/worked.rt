@@ -2,7 +2,7 @@
 //! stored.
 
 use super::{BEAT, FIRST, LABEL, is_answer};
-use crate::take;
+use config_server::take;
 use mesh_base::address::Address;
 use mesh_base::keys::{AppKeyRow, NetKeyRow};
 use model_states::publication::HeartbeatRow;

@@ -1,7 +1,7 @@
 //! Messages about the heartbeat. Nothing is stored for them.
 
 use super::{Answer, BEAT, POLLS, answers, node};
-use crate::take;
+use config_server::take;
 use mesh_base::address::Address;
 use model_states::publication::HeartbeatRow;
 use node_records::Persist;
