@@ -5,17 +5,29 @@ use Rattle.std.specs.Str.{bytes_eq}
 use Rattle.clap.specs.Walk.{Row, Rule, Text, one_of}
 use Rattle.clap.specs.Simple.{App, new_app, new_rule, with_rule, with_subcommand}
 use Rattle.clap.specs.declared.builder.action.ArgAction.TheVariants.{SetTrue}
+use Rattle.clap.specs.declared.builder.command.Command.{Command as ClapCommand}
+use Rattle.clap.specs.declared.builder.command.Command.TheViews.{out-Command}
 use Rattle.command_words.specs.declared.commands.Command.{Command}
 use Rattle.command_words.specs.declared.commands.Command.TheVariants as C
 
+abbrev pub flag : Text → Rule
+flag name = record (new_rule name) { long = Some name; action = Some SetTrue }
+
 abbrev pub hex : Rule
-hex = record (new_rule (codes "hex")) { long = Some (codes "hex"); action = Some SetTrue }
+hex = flag (codes "hex")
 
 abbrev pub old : Rule
-old = record (new_rule (codes "old")) { long = Some (codes "old"); action = Some SetTrue }
+old = flag (codes "old")
+
+abbrev pub named_run : App
+named_run = new_app (codes "run")
 
 abbrev pub run : App
-run = with_rule (with_rule (new_app (codes "run")) hex) old
+run = with_rule (with_rule named_run hex) old
+
+-- whether no argument of a command is one of its subcommands too
+abbrev pub IsLocal : ClapCommand → Type 0
+IsLocal c = (out-Command c).has_globals ≡ false
 
 abbrev pub audit : App
 audit = new_app (codes "audit")

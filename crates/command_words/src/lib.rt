@@ -6,8 +6,6 @@
 
 mod commands;
 mod reading;
-#[cfg(test)]
-mod tests;
 
 pub use commands::{Command, RunFlags};
 pub use reading::command_of;

@@ -1,32 +1,42 @@
 //! Words to the command that they are.
 #![tactic(auto)]
 
-ghost use Rattle.std.specs.Prelude.{◌≡◌, ◌≢◌, ◌<◌, length, map, IfOk, None};
-ghost use Rattle.clap.specs.Words.{app_of, kind_of, subcommand_rows_of};
+ghost use Rattle.std.specs.Prelude.{◌≡◌, ◌≢◌, ◌<◌, length, map, IfOk, None, false};
+ghost use Rattle.clap.specs.Words.{app_of, kind_of, rule_of, subcommand_rows_of};
 ghost use Rattle.command_words.specs.Commands.{command_of, has_flag, has_flags, is_at, is_run, is_spelled, is_word, kept};
-ghost use Rattle.command_words.specs.Reader.{AreFlags, reader, told};
+ghost use Rattle.command_words.specs.Reader.{AreFlags, IsLocal, flag, reader, run, told};
 
 use crate::commands::{Command, RunFlags};
 use clap::error::ErrorKind;
 use clap::{Arg, ArgAction, ArgMatches};
 use std::alloc::{AllocError, Global};
 
+/// A flag: two dashes and its name.
+fn flag<'a>(alloc: Global, name: &'a str) -> Arg<'a>
+    ensures rule { rule_of result ≡ flag name.entry.now }
+    ensures local { result.global ≡ false }
+{
+    Arg::new(alloc, name).long(name).action(ArgAction::SetTrue)
+}
+
+/// `run` with its flags.
+fn run_reader<'a>(alloc: Global) -> Result<clap::Command<'a>, AllocError>
+    ensures app { IfOk result (λ c. (app_of c ≡ run) × IsLocal c) }
+{
+    clap::Command::new(alloc, "run")
+        .arg(flag(alloc, "hex"))?
+        .arg(flag(alloc, "old"))
+}
+
 /// The reader of words: `run` with its flags, and `audit`.
 fn reader<'a>(alloc: Global) -> Result<clap::Command<'a>, AllocError>
     ensures app { IfOk result (λ c. app_of c ≡ reader) }
 {
-    let hex = Arg::new(alloc, "hex")
-        .long("hex")
-        .action(ArgAction::SetTrue);
-    let old = Arg::new(alloc, "old")
-        .long("old")
-        .action(ArgAction::SetTrue);
-    let run = clap::Command::new(alloc, "run").arg(hex)?.arg(old)?;
-    let audit = clap::Command::new(alloc, "audit");
+    let run = run_reader(alloc)?;
     clap::Command::new(alloc, "meshnode")
         .no_binary_name(true)
         .subcommand(run)?
-        .subcommand(audit)
+        .subcommand(clap::Command::new(alloc, "audit"))
 }
 
 /// The command that was read, where the texts of its flags are those of flags.
