@@ -1,9 +1,7 @@
-//! Runs of scripts over sources, sinks and flashes that fail, and with gates between bearers. There is no code here but tests. Scripts with
+//! Runs of a script over flashes that aren't erased or fail, and with gates between bearers. There is no code here but tests. Scripts with
 //! their reports stand in `worked/` at the top.
 //!
-//! - `names`: the words that stand in the scripts for keys and octets
-//! - `checking`: one script over one flash
-//! - `streams`, `flashes`: sources, sinks and flashes that fail
+//! - `flashes`: flashes that aren't erased, and flashes whose reads fail
 //! - `gates`: bearers beside one another
 #![tactic(auto)]
 

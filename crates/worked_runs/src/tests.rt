@@ -1,7 +1,4 @@
-//! Runs over what fails, and with gates.
+//! Runs over flashes that fail, and with gates.
 
-mod checking;
 mod flashes;
 mod gates;
-mod names;
-mod streams;
