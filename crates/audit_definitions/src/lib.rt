@@ -7,8 +7,6 @@
 #![tactic(auto)]
 
 pub mod laws;
-#[cfg(test)]
-mod tests;
 pub mod verdict;
 
 pub use crate::verdict::Verdict;

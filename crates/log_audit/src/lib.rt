@@ -7,7 +7,7 @@
 //! - `facts`, `seen`: what a line is compared by, and what the lines before it used and accepted
 //! - `seals`: whether the octets of a line are those of the PDU that it tells
 //!
-//! A caller to begin with: `says` and `tells_the_line` in `src/tests.rt`.
+//! A caller to begin with: `says` in `crates/worked_reports/src/tests/audits.rt`.
 #![tactic(auto)]
 
 pub mod auditing;
@@ -15,8 +15,6 @@ mod facts;
 pub mod input;
 mod seals;
 mod seen;
-#[cfg(test)]
-mod tests;
 mod verdicts;
 
 pub use crate::auditing::{audit, audit_report};

@@ -8,8 +8,6 @@
 mod answers;
 pub mod lines;
 mod outcomes;
-#[cfg(test)]
-mod tests;
 pub mod text;
 
 pub use crate::lines::write_line;

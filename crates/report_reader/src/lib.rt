@@ -13,7 +13,5 @@ pub mod laws;
 mod lines;
 mod outcomes;
 pub mod reading;
-#[cfg(test)]
-mod tests;
 
 pub use crate::reading::{LineStop, read_line};

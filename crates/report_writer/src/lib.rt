@@ -8,8 +8,6 @@
 
 mod lives;
 mod printing;
-#[cfg(test)]
-mod tests;
 
 pub use lives::{EndedLife, WriteStop, write_life};
 pub use printing::write_text;

@@ -1,8 +1,8 @@
 //! A line of each kind, each answer and each result, and the nearest texts that are none.
 
-use crate::{LineStop, read_line};
 use mesh_types::report::ReportLine;
 use report_lines::write_line;
+use report_reader::{LineStop, read_line};
 use std::process::Abort;
 use std::test::Fail;
 
@@ -121,23 +121,6 @@ const NEIGHBOURS: &[&[u8]] = &[
     b"s b0 1.1 msg 12345678 000001 07 1201 0003 dev 7f7f7f7f7f7f7f7f7f7f7f7f 68eca4\n",
 ];
 
-#[test]
-fn reads_lines(rt: HostRuntime) -> Result<(), Fail> {
-    for text in LINES {
-        let line = read_line(rt.alloc(), text)?;
-        assert_eq!(rt; write_line(rt.alloc(), &line)?.as_slice(), *text);
-    }
-    Ok(())
-}
-
-#[test]
-fn refuses_neighbours(rt: HostRuntime) -> Result<(), Fail> {
-    for text in NEIGHBOURS {
-        assert_eq!(rt; read_line(rt.alloc(), text).err(), Some(LineStop::NotLine));
-    }
-    Ok(())
-}
-
 /// The beginning of a line, how many octets stand behind it, and whether that is a line: each field of octets at its longest.
 const LENGTHS: &[(&[u8], usize, bool)] = &[
     (
@@ -182,6 +165,32 @@ const LENGTHS: &[(&[u8], usize, bool)] = &[
     ),
 ];
 
+/// Tests that a text is that of a line, which is written so, or of none.
+fn check<R: Abort + AllocGlobal>(rt: &R, text: &[u8], is_line: bool) -> Result<(), Fail> {
+    match read_line(rt.alloc(), text) {
+        Ok(line) => {
+            assert!(rt; is_line);
+            assert_eq!(rt; write_line(rt.alloc(), &line)?.as_slice(), text);
+        }
+        Err(stop) => {
+            assert!(rt; !is_line);
+            assert_eq!(rt; stop, LineStop::NotLine);
+        }
+    }
+    Ok(())
+}
+
+#[test]
+fn lines(rt: HostRuntime) -> Result<(), Fail> {
+    for text in LINES {
+        check(&rt, text, true)?;
+    }
+    for text in NEIGHBOURS {
+        check(&rt, text, false)?;
+    }
+    Ok(())
+}
+
 #[test]
 fn longest_lines(rt: HostRuntime) -> Result<(), Fail> {
     for (head, count, is_line) in LENGTHS {
@@ -191,24 +200,14 @@ fn longest_lines(rt: HostRuntime) -> Result<(), Fail> {
             text.extend_from_slice(b"7f")?;
         }
         text.push(b'\n')?;
-        match read_line(rt.alloc(), text.as_slice()) {
-            Ok(line) => {
-                assert!(rt; *is_line);
-                assert_eq!(rt; write_line(rt.alloc(), &line)?.as_slice(), text.as_slice());
-            }
-            Err(stop) => {
-                assert!(rt; !*is_line);
-                assert_eq!(rt; stop, LineStop::NotLine);
-            }
-        }
+        check(&rt, text.as_slice(), *is_line)?;
     }
     Ok(())
 }
 
 #[test]
-fn tells_numbers(rt: HostRuntime) -> Result<(), Fail> {
-    let opened = read_line(rt.alloc(), b"life 7 00000005 p 00000004 000100\n")?;
-    match opened {
+fn numbers(rt: HostRuntime) -> Result<(), Fail> {
+    match read_line(rt.alloc(), b"life 7 00000005 p 00000004 000100\n")? {
         ReportLine::Opened { life, state, mark } => {
             assert_eq!(rt; (life, state.current, state.progress), (7, 5, true));
             assert_eq!(rt; mark, (4 << 25) + 0x100);

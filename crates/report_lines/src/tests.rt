@@ -1,3 +1,0 @@
-//! The lines of the report as they are printed.
-
-mod report;

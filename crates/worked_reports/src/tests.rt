@@ -1,0 +1,5 @@
+//! Reports: written, read and audited.
+
+mod audits;
+mod reading;
+mod writing;
