@@ -8,7 +8,7 @@
 //! - `armed`, `octets`, `past`: which of its calls is torn, writes under a mask, and what it has been through
 //! - `rewriting`: two calls in a row, over any flash
 //!
-//! A caller to begin with: `a_sector_is_rewritten` and `a_torn_program` in `src/tests.rt`.
+//! A caller to begin with: `a_sector_is_rewritten` and `a_torn_program` in `src/tests/flashes.rt` of `worked_flashes`.
 //!
 //! # What an adapter must give
 //!
@@ -61,8 +61,6 @@ mod memory;
 mod octets;
 mod past;
 mod rewriting;
-#[cfg(test)]
-mod tests;
 
 pub use flash::{Bench, FLASH_OCTETS, Flash, FlashFailed, SECTOR_OCTETS, SECTORS};
 pub use memory::MemFlash;

@@ -4,7 +4,5 @@
 #![tactic(auto)]
 
 mod flaw;
-#[cfg(test)]
-mod tests;
 
 pub use flaw::FlawFlash;

@@ -133,6 +133,19 @@ pub all_pushed : {A : Type 0} (P : A → Type 0) (there : Bool) (xs : List A) (r
 all_pushed P true xs r h k = h
 all_pushed P false xs r h k = all_push P xs r h k
 
+-- What tests say of numbers that differ.
+not_below : (a b c : ℕ) → nat_lt a b ≡ true → suc b ≤ c → a ≡ c → ⊥
+not_below a b c f k e = grind (arith, nat_tests)
+
+not_same : (a b c : ℕ) → a == b ≡ true → suc b ≤ c → a ≡ c → ⊥
+not_same a b c f k e = grind (arith, nat_tests)
+
+not_other : (a b : ℕ) → a == b ≡ false → a ≡ b → ⊥
+not_other a b f e = grind (arith, nat_tests)
+
+not_less : (a b c : ℕ) → a == b ≡ true → suc a ≤ c → c ≡ b → ⊥
+not_less a b c f k e = grind (arith, nat_tests)
+
 -- Rows that rise.
 module _ {A : Type 0} (key : A → ℕ) where
   above : (n : ℕ) (done : List A) (r : A) (rest : List A) → RisesFrom key n (done ++ r ∷ rest) → n ≤ key r
@@ -149,8 +162,8 @@ module _ {A : Type 0} (key : A → ℕ) where
     where
       by_tests : (b c : Bool) → nat_lt (key x) (key y) ≡ b → key x == key y ≡ c → suc (key y) ≤ key r → put_by key x done ≡ done ++ x ∷ []
           → (if b then x ∷ y ∷ done else if c then x ∷ done else y ∷ put_by key x done) ≡ y ∷ done ++ x ∷ []
-      by_tests true c f g k more = absurd (grind (arith, nat_tests))
-      by_tests false true f g k more = absurd (grind (arith, nat_tests))
+      by_tests true c f g k more = absurd (not_below (key x) (key y) (key r) f k e)
+      by_tests false true f g k more = absurd (not_same (key x) (key y) (key r) g k e)
       by_tests false false f g k more = ap (λ l. y ∷ l) more
 
   pub put_last : (all done : List A) (r : A) (rest : List A) (x : A) → done ++ r ∷ rest ≡ all → RisesFrom key 0 all → key x ≡ key r → put_by key x done ≡ done ++ x ∷ []
@@ -163,7 +176,7 @@ module _ {A : Type 0} (key : A → ℕ) where
     where
       by_test : (b : Bool) → key x == number ≡ b → (if b then f x else x) ∷ [] ≡ f x ∷ []
       by_test true g = refl
-      by_test false g = absurd (grind (arith, nat_tests))
+      by_test false g = absurd (not_other (key x) number g k)
   change_in f number n (y ∷ done) r rest x h e k =
       let m : suc (key y) ≤ key r = above (suc (key y)) done r rest h.1 in
       let more : map (λ y. if key y == number then f y else y) (done ++ x ∷ []) ≡ done ++ f x ∷ [] = change_in f number (suc (key y)) done r rest x h.1 e k in
@@ -171,7 +184,7 @@ module _ {A : Type 0} (key : A → ℕ) where
     where
       by_test : (b : Bool) → key y == number ≡ b → suc (key y) ≤ key r → map (λ z. if key z == number then f z else z) (done ++ x ∷ []) ≡ done ++ f x ∷ []
           → (if b then f y else y) ∷ map (λ z. if key z == number then f z else z) (done ++ x ∷ []) ≡ y ∷ done ++ f x ∷ []
-      by_test true g m more = absurd (grind (arith, nat_tests))
+      by_test true g m more = absurd (not_less (key y) number (key r) g m e)
       by_test false g m more = ap (λ l. y ∷ l) more
 
   pub change_last : (f : A → A) (number : ℕ) (all done : List A) (r : A) (rest : List A) (x : A) → done ++ r ∷ rest ≡ all → RisesFrom key 0 all → key r ≡ number → key x ≡ number

@@ -81,6 +81,7 @@ module _ (p : Persist) (said : IsSaid p) (sizes : HasSizes p) where
   c10 = record c9 { reset = p.reset }
 
   pub snapshot_leads : Leads no_config [] (snapshot_of p) (config_in p) (names_of p)
+  unfolding snapshot_of
   snapshot_leads =
       let l1 : Leads no_config [] (identity_records p.unicast p.elements p.dev_key) c1 [] = identity_leads [] p.unicast p.elements p.dev_key built.identity_is in
       let l2 : Leads c1 [] (R.Numbers p.iv.current p.iv.progress p.mark p.iv.hours p.iv.since ∷ []) c2 [] = numbers_leads c1 [] p.iv p.mark refl iv in

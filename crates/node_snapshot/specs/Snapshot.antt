@@ -23,7 +23,7 @@ names_of p = by_index source_of (live_of p.iv.current p.replay)
 -- Identity, where one is stored; Numbers; network keys and application keys by index; bindings, subscriptions and labels in the order held;
 -- features that differ from provisioning's; kept values that aren't 0, by element and model; names that aren't expired, by source and two a
 -- record; Reset, where it is stored; publications.
-abbrev pub snapshot_of : Persist → List StoreRecord
+unfoldable pub snapshot_of : Persist → List StoreRecord
 snapshot_of p =
     identity_records p.unicast p.elements p.dev_key
     ++ R.Numbers p.iv.current p.iv.progress p.mark p.iv.hours p.iv.since ∷ []

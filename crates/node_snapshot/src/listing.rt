@@ -51,6 +51,7 @@ fn has_sizes(p: &Persist)
 }
 
 /// The records of a value.
+#[tactic(auto, unfolding(crate::specs::Snapshot::snapshot_of))]
 fn records_of(p: &Persist) -> Records
     ensures value { result ≡ snapshot_of p.now }
     ensures few { length result ≤ 404 }

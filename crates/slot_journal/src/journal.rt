@@ -43,7 +43,7 @@ impl From<FlashFailed> for AppendFault {
 }
 
 /// A journal on a flash. The flash stays with the caller, and is passed to each call.
-#[derive(Debug, Drop)]
+#[derive(Drop)]
 pub struct Journal {
     pub(crate) bank: u32,
     pub(crate) used: u32,

@@ -17,14 +17,12 @@
 //! Not promised: that a turn comes, that threads take turns fairly, or that a thread runs. A pass that is dropped while it
 //! is inside leaves the lock shut for ever.
 //!
-//! A caller to begin with: `written` and `split_and_joined` in `src/tests.rt`.
+//! A caller to begin with: `written` and `split_and_joined` in `src/tests/turns.rt` of `worked_flashes`.
 #![tactic(auto)]
 
 pub mod gather;
 pub mod laws;
 mod logged;
-#[cfg(test)]
-mod tests;
 mod turn;
 mod view;
 

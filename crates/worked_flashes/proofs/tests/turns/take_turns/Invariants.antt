@@ -1,6 +1,6 @@
 use Rattle.std.proofs.Common.{◌≡◌, false}
 use Rattle.turn_lock.specs.Views.{IsPassOf}
-use Rattle.turn_lock.proofs.tests.take_turns.Given as goal
+use Rattle.worked_flashes.proofs.tests.turns.take_turns.Given as goal
 
 abbrev pub invariant-loop-who : goal.invariant-loop-who
 invariant-loop-who g l = record {

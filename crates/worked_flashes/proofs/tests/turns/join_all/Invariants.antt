@@ -1,7 +1,7 @@
 use Rattle.std.proofs.Common.{◌≡◌, false, length}
 use Rattle.std.specs.List.{All}
 use Rattle.turn_lock.specs.Views.{IsPassOf}
-use Rattle.turn_lock.proofs.tests.join_all.Given as goal
+use Rattle.worked_flashes.proofs.tests.turns.join_all.Given as goal
 
 abbrev pub invariant-loop-pass : goal.invariant-loop-pass
 invariant-loop-pass l = record { pass : IsPassOf l.lock l.first; outside : l.first.inside ≡ false; passes : All (λ p. IsPassOf l.lock p × (p.inside ≡ false)) l.passes.items }

@@ -1,8 +1,9 @@
-// The worked cases, and threads that draw at once.
+//! Numbers that are drawn up to the mark, and threads that draw at once.
+
 ghost use Rattle.std.specs.Prelude.{◌≡◌, All, IfOk};
 
-use super::*;
 use mesh_base::pair::Pair;
+use seq_word::{DrawStop, Drawer, Miss, Numbers};
 use std::alloc::{AllocError, Global};
 use std::sync::Wait;
 use std::test::Fail;
@@ -62,7 +63,7 @@ fn spent_until_the_next_iv_index(rt: HostRuntime) -> Result<(), Fail> {
 #[derive(Drop)]
 struct Bearer {
     drawer: Drawer,
-    pairs: Vec<Pair>,
+    seqs: Vec<u32>,
 }
 
 fn draw_some<R: Wait>(rt: &R, numbers: &Numbers, count: usize, mut bearer: Bearer) -> Bearer
@@ -71,7 +72,7 @@ fn draw_some<R: Wait>(rt: &R, numbers: &Numbers, count: usize, mut bearer: Beare
 {
     for _ in 0..count {
         if let Ok(pair) = numbers.draw(rt, &mut bearer.drawer) {
-            let _ = bearer.pairs.push(pair);
+            let _ = bearer.seqs.push(pair.seq);
         }
     }
     bearer
@@ -91,7 +92,7 @@ fn seats(
     for _ in 0..count {
         let bearer = Bearer {
             drawer: numbers.split(drawer),
-            pairs: Vec::new(alloc),
+            seqs: Vec::new(alloc),
         };
         bearers.push(bearer)?;
     }
@@ -102,22 +103,20 @@ fn join_all(
     alloc: Global,
     numbers: &Numbers,
     drawer: &mut Drawer,
-    bearers: Vec<Bearer>,
+    mut bearers: Vec<Bearer>,
 ) -> Result<Vec<u32>, AllocError>
     requires drawer { drawer.old.which ≡ numbers.now.which }
     requires bearers { All (λ b. b.drawer.which ≡ numbers.now.which) bearers.items }
     ensures { drawer.new.which ≡ numbers.now.which }
 {
     let mut seqs = Vec::new(alloc);
-    for bearer in bearers {
+    while let Some(bearer) = bearers.pop() {
         let Bearer {
             drawer: other,
-            pairs,
+            seqs: own,
         } = bearer;
         numbers.join(drawer, other);
-        for pair in &pairs {
-            seqs.push(pair.seq)?;
-        }
+        seqs.extend_from_slice(own.as_slice())?;
     }
     seqs.sort()?;
     Ok(seqs)

@@ -1,14 +1,16 @@
+//! Threads and passes that take turns, and the entries that each keeps.
+
 ghost use Rattle.std.specs.Prelude.{◌≡◌, ◌+◌, ◌<◌, ◌≤◌, ◌^◌, false, [], ◌∷◌, ◌++◌, length, OnOk, OnErr, IfOk};
 ghost use Rattle.std.specs.List.{All};
 ghost use Rattle.turn_lock.specs.Views.{IsPassOf};
 
-use super::*;
-use crate::gather::gather;
 use std::alloc::{AllocError, Global};
 use std::sync::Wait;
-use std::test::*;
+use std::test::Fail;
 use std::thread;
 use std::thread::Threads;
+use turn_lock::gather::gather;
+use turn_lock::{Logged, Pass, Turn};
 
 /// Which thread wrote the line, and in which of its turns.
 #[derive(Debug, Clone, Copy, PartialEq, Eq)]
@@ -68,37 +70,6 @@ fn write(rt: &impl Wait, lock: &Turn<Log>, pass: &mut Pass<Log>, thread: usize, 
     for turn in 0..turns {
         write_line(rt, lock, pass, thread, turn);
     }
-}
-
-// Takes a turn in which nothing is done.
-fn visit<T: Logged + Send + Drop>(rt: &impl Wait, lock: &Turn<T>, pass: &mut Pass<T>)
-    requires pass { IsPassOf lock.now pass.old × (pass.old.inside ≡ false) }
-    ensures pass { IsPassOf lock.now pass.new × (pass.new.inside ≡ false) }
-{
-    let value = lock.enter(rt, pass);
-    lock.leave(pass, value);
-}
-
-// Threads share a lock of any value, and each has a pass of it.
-fn visit_all<T: Logged + Send + Drop, R: Threads + Wait + Sync>(
-    rt: &R,
-    lock: &Turn<T>,
-    passes: &mut [Pass<T>],
-)
-    requires passes { All (λ p. IsPassOf lock.now p × (p.inside ≡ false)) passes.old }
-    ensures passes { All (λ p. IsPassOf lock.now p × (p.inside ≡ false)) passes.new }
-{
-    thread::for_each_mut(
-        rt,
-        passes,
-        8,
-        &|_i, p: &mut Pass<T>|
-            requires pass { IsPassOf lock.now p.now × (p.now.inside ≡ false) }
-            ensures pass { IsPassOf lock.entry.now p.exit.now × (p.exit.now.inside ≡ false) }
-        {
-            visit(rt, lock, p);
-        },
-    );
 }
 
 // Each thread has a pass, and takes its turns.
@@ -168,7 +139,6 @@ fn written<R: Threads + Wait + Sync>(
     };
     let (lock, mut first) = Turn::start(alloc, log)?;
     let mut passes = split_off(alloc, &lock, &mut first, threads)?;
-    visit_all(rt, &lock, passes.as_mut_slice());
     write_all(rt, &lock, passes.as_mut_slice(), turns);
     join_all(&lock, &mut first, passes);
     let log = lock.enter(rt, &mut first);

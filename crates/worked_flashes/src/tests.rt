@@ -1,0 +1,7 @@
+//! What stands below the store of a node: the medium, the journal on it, and what threads share.
+
+mod flashes;
+mod flaws;
+mod journals;
+mod turns;
+mod words;
