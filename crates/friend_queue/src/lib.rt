@@ -15,8 +15,6 @@ mod queue;
 mod request;
 mod slot;
 mod slots;
-#[cfg(test)]
-mod tests;
 
 pub use friends::Friends;
 pub use layer_states::friends::{FriendFault, OwnShort, PollAnswer, PollList, Polled};

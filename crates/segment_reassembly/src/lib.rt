@@ -8,7 +8,7 @@
 //! - `pieces`: the pieces of a message
 //! - `segment`: what a segment says
 //!
-//! A caller to begin with: `copies` and `timers` in `src/tests.rt`.
+//! A caller to begin with: `copies` and `timers` in `worked_tables`.
 #![tactic(auto)]
 
 mod message;
@@ -16,8 +16,6 @@ mod parts;
 mod pieces;
 mod rows;
 mod segment;
-#[cfg(test)]
-mod tests;
 
 pub use layer_states::reassembly::{AckList, DueAck, PartHeard, Taken};
 pub use parts::Parts;

@@ -10,8 +10,6 @@
 mod message;
 mod rows;
 mod senders;
-#[cfg(test)]
-mod tests;
 
 pub use layer_states::sending::{Acked, DueList, Outgoing, Sending};
 pub use message::round_due;

@@ -1,9 +1,8 @@
 //! Which PDUs are heard for the first time.
-#![tactic(auto)]
 
-use crate::Cache;
 use mesh_base::address::Address;
 use mesh_base::pair::Pair;
+use relay_cache::Cache;
 use std::test::Fail;
 
 fn pair(seq: u32) -> Pair {

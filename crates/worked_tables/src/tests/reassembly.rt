@@ -1,15 +1,14 @@
 //! Rows of segments with what becomes of each.
-#![tactic(auto)]
 
 ghost use Rattle.std.specs.Prelude.{IfSome, IsTrue};
 ghost use Rattle.layer_definitions.specs.Lower.{Fits};
 ghost use Rattle.layer_states.specs.Reassembly.{is_segment};
 
-use crate::{AckList, DueAck, PartHeard, Parts, Taken};
 use mesh_base::address::Address;
 use mesh_base::lower::Lower;
 use mesh_base::octets::Octets;
 use mesh_base::pair::{Name, Pair};
+use segment_reassembly::{AckList, DueAck, PartHeard, Parts, Taken};
 
 const ELEMENT: Address = Address(0x1201);
 
@@ -196,25 +195,6 @@ fn room(rt: HostRuntime) {
     );
 }
 
-// First segments of 200 messages, each of a source of its own. The first eight stay in progress until their time is over.
-#[test]
-fn two_hundred_messages(rt: HostRuntime) {
-    let mut parts = Parts::new();
-    for src in 1..201 {
-        let taken = take(&mut parts, 0, access(src, ELEMENT, 0, 1, &FULL));
-        let want = if src < 9 {
-            WAITING
-        } else {
-            Some(Taken::NoRoom {
-                held: first_eight(),
-            })
-        };
-        assert!(rt; taken == want, "source {src}");
-    }
-    let _acks = parts.tick(1000);
-    assert!(rt; take(&mut parts, 1000, access(201, ELEMENT, 0, 1, &FULL)) == WAITING);
-}
-
 // The least and the greatest SegN, of both kinds.
 #[test]
 fn lengths(rt: HostRuntime) {
@@ -262,17 +242,4 @@ fn timers(rt: HostRuntime) {
     assert!(rt; take(&mut parts, 999, access(5, ELEMENT, 0, 2, &FULL)).is_some());
     assert!(rt; parts.tick(1049).as_slice() == [ack(5, 3)].as_slice());
     assert!(rt; parts.tick(2000) == AckList::new());
-}
-
-// One tick before the time of a message is over the acknowledgment that was due is sent, and the message goes on.
-#[test]
-fn late_ticks(rt: HostRuntime) {
-    let mut parts = Parts::new();
-    assert!(rt; take(&mut parts, 0, access(3, ELEMENT, 0, 1, &FULL)) == WAITING);
-    assert!(rt; parts.tick(999).as_slice() == [ack(3, 1)].as_slice());
-    assert!(rt; take(&mut parts, 999, access(3, ELEMENT, 1, 1, &LAST)) == whole(&BOTH));
-    let mut parts = Parts::new();
-    assert!(rt; take(&mut parts, 0, access(3, ELEMENT, 0, 1, &FULL)) == WAITING);
-    assert!(rt; parts.tick(1000) == AckList::new());
-    assert!(rt; take(&mut parts, 1000, access(3, ELEMENT, 1, 1, &LAST)) == WAITING);
 }

@@ -1,13 +1,12 @@
 //! Rounds and acknowledgments of own messages.
-#![tactic(auto)]
 
 ghost use Rattle.std.specs.Prelude.{◌≡◌, IfSome};
 ghost use Rattle.segment_sender.specs.Held.{IsOutgoing};
 
-use crate::{Acked, DueList, Outgoing, SendFull, Senders};
 use mesh_base::address::Address;
 use mesh_base::octets::Octets;
 use mesh_base::pair::{Name, Pair};
+use segment_sender::{Acked, DueList, Outgoing, SendFull, Senders};
 
 const ELEMENT: Address = Address(0x0003);
 

@@ -1,7 +1,6 @@
 //! Requests, Polls, queues and lists of Low Power nodes.
-#![tactic(auto)]
 
-use crate::{FriendFault, Friends, Offer, OwnShort, PollAnswer, Polled, Request};
+use friend_queue::{FriendFault, Friends, Offer, OwnShort, PollAnswer, Polled, Request};
 use hex::{FromHex, FromHexError};
 use mesh_base::address::Address;
 use mesh_base::fields::{Heard, NetFields, NetMaterial};
@@ -105,47 +104,6 @@ fn pdu() -> Octets<29> {
     octets
 }
 
-// The fields of the Mesh Profile's sample Friend Request, 4b50057e400000010000.
-const SAMPLE: Request = Request {
-    criteria: 0x4b,
-    receive_delay: 0x50,
-    poll_timeout: 0x057e40,
-    previous: Address(0x0000),
-    elements: 1,
-    lpn_counter: 0x0000,
-};
-
-// Two nodes of one element with addresses side by side.
-#[test]
-fn neighbours(rt: HostRuntime) {
-    let (first, second, third) = (Address(0x0201), Address(0x0202), Address(0x0203));
-    let mut friends = Friends::new();
-    assert!(rt; ask(&mut friends, 0, first, &SAMPLE) == Ok(offer(0)));
-    assert!(rt; answer(&mut friends, 0, first, false) == Some(PollAnswer::Update));
-    assert!(rt; friends.keep(first, false, &name(1), &pdu()));
-    let repeat = PollAnswer::Repeat {
-        name: name(1),
-        pdu: pdu(),
-    };
-    assert!(rt; answer(&mut friends, 0, first, false) == Some(repeat));
-    assert!(rt; answer(&mut friends, 0, first, true) == Some(PollAnswer::Update));
-    assert!(rt; ask(&mut friends, 0, second, &SAMPLE) == Ok(offer(1)));
-    assert!(rt; answer(&mut friends, 0, second, false) == Some(PollAnswer::Update));
-    let refused = Err(FriendFault::NoSlot { held: 2 });
-    assert!(rt; ask(&mut friends, 0, third, &SAMPLE) == refused);
-    let short = Request {
-        poll_timeout: 0x000009,
-        ..SAMPLE
-    };
-    assert!(rt; ask(&mut friends, 0, first, &short) == Err(FriendFault::BadRequest { field: 3 }));
-    assert!(rt; friends.belongs(first) && friends.belongs(second) && !friends.belongs(third));
-    assert!(rt; friends.put_own(&own(first, 0x7f)) == Ok(()));
-    assert!(rt; friends.put_own(&own(third, 0x7f)) == Err(FriendFault::Stranger));
-    let next = PollAnswer::Own(own(first, 0x7f));
-    assert!(rt; answer(&mut friends, 0, first, false) == Some(next));
-    assert!(rt; answer(&mut friends, 0, second, true) == Some(PollAnswer::Update));
-}
-
 // Two stand: a third is refused; a Request that is refused leaves its node's friendship.
 #[test]
 fn requests(rt: HostRuntime) {
@@ -177,80 +135,37 @@ fn requests(rt: HostRuntime) {
     );
 }
 
+// Criteria, ReceiveDelay, PollTimeout, PreviousAddress and NumElements of a Request, and the field that is refused, or 0. The first has the fields
+// of the Mesh Profile's sample, 4b50057e400000010000; of the others one is at an edge of its range.
+const FIELDS: &[(u8, u8, u32, u16, u8, u8)] = &[
+    (0x4b, 0x50, 0x057e40, 0x0000, 1, 0),
+    (0x78, 0x0a, 0x00000a, 0x0000, 2, 1),
+    (0x7c, 0x0a, 0x00000a, 0x0000, 2, 0),
+    (0x05, 0x00, 0x00000a, 0x0000, 2, 1),
+    (0x01, 0x09, 0x00000a, 0x0000, 2, 2),
+    (0x01, 0x0a, 0x34bbff, 0x0000, 2, 0),
+    (0x01, 0x0a, 0x34bc00, 0x0000, 2, 3),
+    (0x01, 0x0a, 0x00000a, 0x7fff, 2, 0),
+    (0x01, 0x0a, 0x00000a, 0x8000, 2, 4),
+    (0x01, 0x0a, 0x00000a, 0x0000, 0, 5),
+];
+
 // The nearest values outside and inside each field's range.
 #[test]
 fn fields(rt: HostRuntime) {
-    let ranges = [
-        (
-            Request {
-                criteria: 0x78,
-                ..REQUEST
-            },
-            Some(1),
-        ),
-        (
-            Request {
-                criteria: 0x7c,
-                ..REQUEST
-            },
-            None,
-        ),
-        (
-            Request {
-                criteria: 0x05,
-                receive_delay: 0,
-                ..REQUEST
-            },
-            Some(1),
-        ),
-        (
-            Request {
-                receive_delay: 0x09,
-                ..REQUEST
-            },
-            Some(2),
-        ),
-        (
-            Request {
-                poll_timeout: 0x34bbff,
-                ..REQUEST
-            },
-            None,
-        ),
-        (
-            Request {
-                poll_timeout: 0x34bc00,
-                ..REQUEST
-            },
-            Some(3),
-        ),
-        (
-            Request {
-                previous: Address(0x7fff),
-                ..REQUEST
-            },
-            None,
-        ),
-        (
-            Request {
-                previous: Address(0x8000),
-                ..REQUEST
-            },
-            Some(4),
-        ),
-        (
-            Request {
-                elements: 0,
-                ..REQUEST
-            },
-            Some(5),
-        ),
-    ];
-    for (request, outside) in ranges {
+    for row in FIELDS {
+        let request = Request {
+            criteria: row.0,
+            receive_delay: row.1,
+            poll_timeout: row.2,
+            previous: Address(row.3),
+            elements: row.4,
+            lpn_counter: 0,
+        };
         let asked = ask(&mut Friends::new(), 0, FIRST, &request);
-        let answered = match outside {
-            None => Ok(offer(0)),
-            Some(field) => Err(FriendFault::BadRequest { field }),
+        let answered = match row.5 {
+            0 => Ok(offer(0)),
+            field => Err(FriendFault::BadRequest { field }),
         };
         assert!(rt; asked == answered, "{request:?}");
     }

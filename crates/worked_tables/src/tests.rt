@@ -1,0 +1,6 @@
+//! Tests of the tables of one layer each.
+
+mod friends;
+mod reassembly;
+mod relays;
+mod senders;
