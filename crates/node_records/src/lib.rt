@@ -19,8 +19,6 @@ mod lists;
 mod persist;
 mod publications;
 mod replay;
-#[cfg(test)]
-mod tests;
 
 pub use applying::Limit;
 pub use persist::Persist;

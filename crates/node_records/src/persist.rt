@@ -31,7 +31,7 @@ pub(crate) const PUBLICATIONS: usize = 8;
 pub(crate) const REPLAY: usize = 512;
 
 /// What the records of a store say of the node. It holds keys, so it isn't printed.
-#[derive(Drop, PartialEq, Eq)]
+#[derive(Drop)]
 pub struct Persist {
     /// The address of the first element.
     pub unicast: Address,

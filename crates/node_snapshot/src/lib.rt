@@ -8,7 +8,5 @@
 mod listing;
 mod names;
 mod parts;
-#[cfg(test)]
-mod tests;
 
 pub use listing::{Snapshot, snapshot};

@@ -21,7 +21,7 @@
 //! - `mounting`: a store is found again, and migrated
 //! - `laws`: what is true of the tie of a store and its flash, and of what an image holds
 //!
-//! A caller to begin with: `the_octets_of_a_node` in `src/tests.rt`.
+//! A caller to begin with: `the_octets_of_a_node` in `src/tests/stores.rt` of `worked_stores`.
 //!
 //! # Invariants
 //!
@@ -50,7 +50,7 @@
 //!
 //! # What a cut leaves, case by case
 //!
-//! For each what is on the flash then, what `mount` answers after power came, the clause, and the tests that show it (in `src/tests.rt`).
+//! For each what is on the flash then, what `mount` answers after power came, the clause, and the tests that show it (in `worked_stores`).
 //!
 //! 1. While a node is provisioned, in the first seven of eight calls: slots of bank 0, and no header that is sound. `NoNode`. The eighth is
 //!    the header's gate: `NoNode`, or the node (`any_moment` of `provision`, `IsMade`; `a_cut_while_a_node_is_provisioned`). Where an octet
@@ -70,12 +70,12 @@
 //!    and the same mark (`any_moment`, `same_mark` of `mount`, `IsHeld`; `a_cut_while_a_mount_migrates`). The next mount begins anew, but for
 //!    one behind the whole header, which writes nothing (`stays`).
 //! 9. A second cut, of what is done anew behind a first: what a cut leaves is tidy and holds records, so all of this is said of it again
-//!    (`kept` of `mount`; `a_second_cut_behind_a_cut_erase`, `a_second_cut_behind_a_cut_program`, `a_second_cut_while_a_put_compacts`).
-//! 10. Between two calls, the last of which was Ok: its records, the new one last (`durable`; `a_slot_of_two_names`).
+//!    (`kept` of `mount`; `a_second_cut_while_a_mount_migrates`, `a_cut_while_a_put_compacts`).
+//! 10. Between two calls, the last of which was Ok: its records, the new one last (`durable`; `the_octets_of_a_node`).
 //!
 //! What no cut leaves is damage, `Damaged` with the first slot that is so (`cause`, `exact` of `mount`; `IsDamaged`): a gated slot that is no
 //! record of the bank's format, that makes a table grow past its size, or that lowers the known IV Index (`what_is_damaged`,
-//! `what_is_damaged_behind_a_node`, `what_passes_a_limit`, `the_513th_source_is_damage`, `two_names_in_a_bank_of_format_one`).
+//! `what_passes_a_limit`, `two_names_in_a_bank_of_format_one`).
 #![tactic(auto)]
 
 pub mod laws;
@@ -84,8 +84,6 @@ mod provision;
 mod room;
 mod several;
 mod store;
-#[cfg(test)]
-mod tests;
 
 pub use mounting::StoreFault;
 pub use node_records::Persist;

@@ -4,14 +4,12 @@
 //! - `decoding`: from a slot to its record
 //! - `ranges`: whether a record's fields are in their ranges
 //!
-//! A caller to begin with: `texts` in `src/tests.rt`.
+//! A caller to begin with: `texts` in `src/tests/texts.rt` of `worked_stores`.
 #![tactic(auto)]
 
 mod decoding;
 mod encoding;
 mod ranges;
-#[cfg(test)]
-mod tests;
 
 pub use decoding::{BadRecord, decode};
 pub use encoding::encode;

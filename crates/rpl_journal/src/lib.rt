@@ -9,13 +9,11 @@
 //! - `checking`: [`check`], which writes nothing
 //! - `accepting`: [`accept`]
 //!
-//! A caller to begin with: `each_message_once` in `src/tests.rt`.
+//! A caller to begin with: `each_message_once` in `src/tests/messages.rt` of `worked_stores`.
 #![tactic(auto)]
 
 mod accepting;
 mod checking;
-#[cfg(test)]
-mod tests;
 
 pub use accepting::{AcceptFault, accept};
 pub use checking::{Old, check};

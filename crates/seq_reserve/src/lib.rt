@@ -12,7 +12,7 @@
 //! - `putting`: a Numbers record is put
 //! - `keep_fault`: why numbers weren't stored
 //!
-//! A caller to begin with: `blocks_as_they_are_drawn` in `src/tests.rt`.
+//! A caller to begin with: `blocks_as_they_are_drawn` in `src/tests/reserves.rt` of `worked_stores`.
 //!
 //! # Invariants
 //!
@@ -59,8 +59,6 @@ mod keep_fault;
 mod putting;
 mod records;
 mod reserve;
-#[cfg(test)]
-mod tests;
 
 pub use keep_fault::KeepFault;
 pub use records::BLOCK;

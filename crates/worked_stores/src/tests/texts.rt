@@ -1,21 +1,10 @@
 //! Each record's octets, and the nearest texts that are no record.
-#![tactic(auto)]
 
-use crate::{decode, encode};
+use super::building::*;
 use mesh_base::address::Address;
-use mesh_base::pair::{Name, Pair};
 use mesh_base::slot::Slot;
-use record_types::records::{PublishRow, StoreRecord};
-
-const KEY: [u8; 16] = [
-    0x7d, 0xd7, 0x36, 0x4c, 0xd8, 0x42, 0xad, 0x18, 0xc1, 0x7c, 0x2b, 0x82, 0x0c, 0x84, 0xc3, 0xd6,
-];
-
-const NEXT: [u8; 16] = [
-    0xf7, 0xa2, 0xa4, 0x4f, 0x8e, 0x8a, 0x80, 0x29, 0x06, 0x4f, 0x17, 0x3d, 0xdc, 0x1e, 0x2b, 0x00,
-];
-
-const ZEROS: [u8; 16] = [0; 16];
+use record_texts::{decode, encode};
+use record_types::records::StoreRecord;
 
 /// The octets of a key behind these, and zeros.
 fn with_key(front: &[u8], key: &[u8; 16]) -> [u8; 30] {
@@ -53,78 +42,6 @@ fn read_as(kind: u8, body: [u8; 30], format: u8) -> Option<StoreRecord> {
 /// The same of format 02.
 fn read(kind: u8, body: [u8; 30]) -> Option<StoreRecord> {
     read_as(kind, body, 2)
-}
-
-fn net_key(op: u8, index: u16, key: [u8; 16]) -> StoreRecord {
-    StoreRecord::NetKey { op, index, key }
-}
-
-fn app_key(op: u8, net: u16, index: u16, key: [u8; 16]) -> StoreRecord {
-    StoreRecord::AppKey {
-        op,
-        net,
-        index,
-        key,
-    }
-}
-
-fn bind(op: u8, element: u16, model: u16, app: u16) -> StoreRecord {
-    StoreRecord::Bind {
-        op,
-        element: Address(element),
-        model,
-        app,
-    }
-}
-
-fn subscribe(op: u8, element: u16, model: u16, address: u16) -> StoreRecord {
-    StoreRecord::Subscribe {
-        op,
-        element: Address(element),
-        model,
-        address: Address(address),
-    }
-}
-
-fn name(src: u16, iv: u32, seq: u32) -> Name {
-    Name {
-        src: Address(src),
-        pair: Pair { iv, seq },
-    }
-}
-
-fn replay(src: u16, iv: u32, seq: u32) -> StoreRecord {
-    StoreRecord::Replay {
-        first: name(src, iv, seq),
-        second: None,
-    }
-}
-
-fn label(op: u8, element: u16, model: u16) -> StoreRecord {
-    StoreRecord::Label {
-        op,
-        element: Address(element),
-        model,
-        label: KEY,
-    }
-}
-
-fn model(element: u8, model: u16, value: u16) -> StoreRecord {
-    StoreRecord::Model {
-        element,
-        model,
-        value,
-    }
-}
-
-fn numbers(current: u32, progress: bool, mark: u64) -> StoreRecord {
-    StoreRecord::Numbers {
-        current,
-        progress,
-        mark,
-        hours: 0,
-        since: 0xc0,
-    }
 }
 
 // Each kind and each op: the octets of the format, one by one.
@@ -258,41 +175,31 @@ fn texts(rt: HostRuntime) {
                 second: Some(name(0x101, 0x12345678, 1)),
             },
         ),
-        (11, with_zeros(&[0, 0x10, 0, 0, 1]), model(0, 0x1000, 1)),
+        (11, with_zeros(&[0, 0x10, 0, 0, 1]), kept(0, 0x1000, 1)),
         (
             11,
             with_zeros(&[3, 0x10, 2, 0x80, 0]),
-            model(3, 0x1002, 0x8000),
+            kept(3, 0x1002, 0x8000),
         ),
         (
             12,
             with_key(&[1, 0x12, 1, 0x10, 0], &KEY),
-            label(1, 0x1201, 0x1000),
+            label(1, 0x1201, 0x1000, KEY),
         ),
         (
             12,
             with_key(&[2, 0x12, 1, 0x10, 0], &KEY),
-            label(2, 0x1201, 0x1000),
+            label(2, 0x1201, 0x1000, KEY),
         ),
         (
             12,
             with_key(&[4, 0x12, 1, 0x10, 2], &KEY),
-            label(4, 0x1201, 0x1002),
+            label(4, 0x1201, 0x1002, KEY),
         ),
         (
             13,
             with_zeros(&[0x12, 1, 0x10, 0, 0xc0, 0x23, 1, 0x23, 0xff, 0x41, 7]),
-            StoreRecord::Publish {
-                row: PublishRow {
-                    element: Address(0x1201),
-                    model: 0x1000,
-                    address: Address(0xc023),
-                    app: 0x123,
-                    ttl: 0xff,
-                    period: 0x41,
-                    retransmit: 7,
-                },
-            },
+            publish(0x1201, 0x1000, 0x123),
         ),
     ];
     for (kind, body, want) in cases {

@@ -1,157 +1,30 @@
-//! What each op changes in a value, the size of each table, and snapshots: their slots, and the value that they fold to.
-#![tactic(auto)]
+//! A new value, what each op changes in a value, and the size of each table.
 
-ghost use Rattle.std.specs.Bool.{OnFalse};
-ghost use Rattle.std.specs.Prelude.{IfSome, OnOk};
-ghost use Rattle.node_records.specs.Meaning.{DoesNotFall, IsSaid};
-
-use crate::snapshot;
+use super::building::*;
 use mesh_base::address::Address;
 use mesh_base::iv_state::IvState;
 use mesh_base::keys::{AppKeyRow, NetKeyRow};
 use mesh_base::pair::{Name, Pair};
-use mesh_base::slot::Slot;
-use node_records::{Limit, Persist, PublishRow, StoreRecord};
-use record_texts::{decode, is_in_range};
+use node_records::{Limit, Persist, StoreRecord};
 
-const KEY: [u8; 16] = [
-    0x7d, 0xd7, 0x36, 0x4c, 0xd8, 0x42, 0xad, 0x18, 0xc1, 0x7c, 0x2b, 0x82, 0x0c, 0x84, 0xc3, 0xd6,
-];
-
-const NEXT: [u8; 16] = [
-    0xf7, 0xa2, 0xa4, 0x4f, 0x8e, 0x8a, 0x80, 0x29, 0x06, 0x4f, 0x17, 0x3d, 0xdc, 0x1e, 0x2b, 0x00,
-];
-
-const ZEROS: [u8; 16] = [0; 16];
-
-/// Whether a Numbers record's IV Index is below the one held.
-fn falls(p: &Persist, item: &StoreRecord) -> bool
-    ensures { OnFalse result (DoesNotFall p.now item.now) }
-{
-    match item {
-        StoreRecord::Numbers { current, .. } => *current < p.iv.current,
-        StoreRecord::Identity { .. } => false,
-        StoreRecord::Hour { .. } => false,
-        StoreRecord::Replay { .. } => false,
-        StoreRecord::NetKey { .. } => false,
-        StoreRecord::AppKey { .. } => false,
-        StoreRecord::Bind { .. } => false,
-        StoreRecord::Subscribe { .. } => false,
-        StoreRecord::Feature { .. } => false,
-        StoreRecord::Reset => false,
-        StoreRecord::Model { .. } => false,
-        StoreRecord::Label { .. } => false,
-        StoreRecord::Publish { .. } => false,
-    }
-}
-
-/// What `check` and then `apply` answer; None where `apply` may not be called, or where they differ.
-fn put(p: &mut Persist, item: StoreRecord) -> Option<Result<(), Limit>>
-    ensures { IsSaid p.old → IsSaid p.new }
-{
-    if !is_in_range(&item) || falls(p, &item) {
-        return None;
-    }
-    let asked = p.check(&item);
-    let answer = p.apply(&item);
-    if asked == answer { Some(answer) } else { None }
-}
-
-fn net_key(op: u8, index: u16, key: [u8; 16]) -> StoreRecord {
-    StoreRecord::NetKey { op, index, key }
-}
-
-fn app_key(op: u8, net: u16, index: u16, key: [u8; 16]) -> StoreRecord {
-    StoreRecord::AppKey {
-        op,
-        net,
-        index,
-        key,
-    }
-}
-
-fn bind(op: u8, element: u16, model: u16, app: u16) -> StoreRecord {
-    StoreRecord::Bind {
-        op,
-        element: Address(element),
-        model,
-        app,
-    }
-}
-
-fn subscribe(op: u8, element: u16, model: u16, address: u16) -> StoreRecord {
-    StoreRecord::Subscribe {
-        op,
-        element: Address(element),
-        model,
-        address: Address(address),
-    }
-}
-
-fn name(src: u16, iv: u32, seq: u32) -> Name {
-    Name {
-        src: Address(src),
-        pair: Pair { iv, seq },
-    }
-}
-
-fn replay(src: u16, iv: u32, seq: u32) -> StoreRecord {
-    StoreRecord::Replay {
-        first: name(src, iv, seq),
-        second: None,
-    }
-}
-
-fn replays(first: Name, second: Name) -> StoreRecord {
-    StoreRecord::Replay {
+// The features of a node that was just provisioned, no entry, and a place for a name.
+#[test]
+fn new_value(rt: HostRuntime) {
+    let p = Persist::new();
+    assert!(rt; p.beacon == 0 && p.ttl == 7 && p.friend == 1 && p.relay == 1);
+    assert!(rt; p.retransmit == 0 && p.transmit == 0 && !p.reset && p.elements == 0);
+    assert!(rt; p.entry(Address(0x0101)).is_none());
+    let first = Name {
+        src: Address(0x0101),
+        pair: Pair { iv: 0, seq: 1 },
+    };
+    let two = StoreRecord::Replay {
         first,
-        second: Some(second),
-    }
-}
-
-fn label(op: u8, element: u16, model: u16, label: [u8; 16]) -> StoreRecord {
-    StoreRecord::Label {
-        op,
-        element: Address(element),
-        model,
-        label,
-    }
-}
-
-fn kept(element: u8, model: u16, value: u16) -> StoreRecord {
-    StoreRecord::Model {
-        element,
-        model,
-        value,
-    }
-}
-
-fn row(element: u16, model: u16, app: u16) -> PublishRow {
-    PublishRow {
-        element: Address(element),
-        model,
-        address: Address(0xc023),
-        app,
-        ttl: 0xff,
-        period: 0x41,
-        retransmit: 7,
-    }
-}
-
-fn publish(element: u16, model: u16, app: u16) -> StoreRecord {
-    StoreRecord::Publish {
-        row: row(element, model, app),
-    }
-}
-
-fn numbers(current: u32, progress: bool, mark: u64) -> StoreRecord {
-    StoreRecord::Numbers {
-        current,
-        progress,
-        mark,
-        hours: 0,
-        since: 0xc0,
-    }
+        second: Some(first),
+    };
+    assert!(rt; p.check(&two) == Ok(()));
+    let e = Limit { held: 512 };
+    assert!(rt; e.held == 512);
 }
 
 /// A network key's row.
@@ -436,129 +309,4 @@ fn later_kinds(rt: HostRuntime) {
     }
     assert!(rt; put(&mut p, publish(0x1201, 8, 0)) == Some(Err(Limit { held: 8 })));
     assert!(rt; put(&mut p, publish(0x1201, 7, 1)) == Some(Ok(())));
-}
-
-/// A value with something of each kind.
-fn full() -> Option<Persist>
-    ensures { IfSome result IsSaid }
-{
-    let mut p = Persist::new();
-    let items = [
-        StoreRecord::Identity {
-            unicast: Address(0x1201),
-            elements: 2,
-            dev_key: KEY,
-        },
-        numbers(7, false, 7 << 25),
-        net_key(1, 0x456, KEY),
-        net_key(2, 0x456, NEXT),
-        net_key(3, 0x456, ZEROS),
-        net_key(1, 0, NEXT),
-        app_key(1, 0, 0x123, KEY),
-        app_key(2, 0, 0x123, NEXT),
-        bind(1, 0x1201, 0x1000, 0x123),
-        subscribe(1, 0x1201, 0x1002, 0xc001),
-        label(1, 0x1201, 0x1000, NEXT),
-        label(1, 0x1201, 0x1000, KEY),
-        StoreRecord::Feature { which: 1, value: 1 },
-        StoreRecord::Feature {
-            which: 4,
-            value: 0x0025,
-        },
-        kept(0, 0x1002, 0x8000),
-        kept(1, 0x1000, 1),
-        replay(0x0301, 7, 1),
-        replay(0x0101, 5, 9),
-        replay(0x0201, 6, 2),
-        replay(0x0003, 7, 0x3129ab),
-        publish(0x1202, 0x1002, 0x123),
-        StoreRecord::Reset,
-    ];
-    for item in items {
-        if put(&mut p, item) != Some(Ok(())) {
-            return None;
-        }
-    }
-    Some(p)
-}
-
-// The slots in their order: kind, then the first octets.
-#[test]
-fn slots(rt: HostRuntime) {
-    let Some(p) = full() else {
-        assert!(rt; false);
-        return;
-    };
-    let slots = snapshot(&p);
-    let want = [
-        (1, [0x12, 0x01, 2, 0x7d]),
-        (2, [0, 0, 0, 7]),
-        (5, [1, 0, 0, 0xf7]),
-        (5, [1, 4, 0x56, 0x7d]),
-        (5, [2, 4, 0x56, 0xf7]),
-        (5, [3, 4, 0x56, 0]),
-        (6, [1, 0, 0, 1]),
-        (6, [2, 0, 0, 1]),
-        (7, [1, 0x12, 0x01, 0x10]),
-        (8, [1, 0x12, 0x01, 0x10]),
-        (12, [1, 0x12, 0x01, 0x10]),
-        (12, [1, 0x12, 0x01, 0x10]),
-        (9, [1, 0, 1, 0]),
-        (9, [4, 0, 0x25, 0]),
-        (11, [0, 0x10, 2, 0x80]),
-        (11, [1, 0x10, 0, 0]),
-        (4, [0, 3, 0, 0]),
-        (4, [3, 1, 0, 0]),
-        (10, [0, 0, 0, 0]),
-        (13, [0x12, 0x02, 0x10, 2]),
-    ];
-    assert!(rt; slots.len() == 20);
-    for (slot, (kind, front)) in slots.as_slice().iter().zip(want) {
-        assert!(rt; slot.kind == kind && slot.body.as_slice().starts_with(&front));
-    }
-    // 0003 and 0201 stand in one slot, 0301 in the next; 0101 is expired
-    let Some(first) = slots.as_slice().get(16) else {
-        assert!(rt; false);
-        return;
-    };
-    let names = [
-        0, 3, 0, 0, 0, 7, 0x31, 0x29, 0xab, 2, 1, 0, 0, 0, 6, 0, 0, 2, 0,
-    ];
-    assert!(rt; first.body.as_slice().starts_with(&names));
-}
-
-/// The value that slots fold to.
-fn folded(slots: &[Slot]) -> Option<Persist> {
-    let mut p = Persist::new();
-    for slot in slots {
-        let item = decode(slot, 2).ok()?;
-        if put(&mut p, item) != Some(Ok(())) {
-            return None;
-        }
-    }
-    Some(p)
-}
-
-// A snapshot folds to the value again, and its own snapshot is the same.
-#[test]
-fn folds(rt: HostRuntime) {
-    let Some(p) = full() else {
-        assert!(rt; false);
-        return;
-    };
-    let slots = snapshot(&p);
-    let Some(q) = folded(slots.as_slice()) else {
-        assert!(rt; false);
-        return;
-    };
-    assert!(rt; q.nets == p.nets && q.apps == p.apps && q.binds == p.binds && q.subs == p.subs);
-    assert!(rt; q.labels == p.labels && q.publications == p.publications);
-    assert!(rt;
-        q.onoffs == p.onoffs && q.levels == p.levels && q.relay == 0 && q.retransmit == 0x25
-    );
-    for src in [3, 0x0101, 0x0201, 0x0301, 0x0401] {
-        assert!(rt; q.entry(Address(src)) == p.entry(Address(src)));
-    }
-    assert!(rt; q.replay.len() == 3 && q.reset && q.iv == p.iv && q.mark == p.mark);
-    assert!(rt; snapshot(&Persist::new()).len() == 1);
 }

@@ -1,6 +1,6 @@
 use Rattle.std.proofs.Common.{refl, arith, lit<, true≢false, sym}
 use Rattle.mesh_base.specs.IvState.{transmit_of}
-use Rattle.rpl_journal.proofs.tests.recovered.Goals as goal
+use Rattle.worked_stores.proofs.tests.messages.recovered.Goals as goal
 
 pub returns-clause-range : goal.returns-clause-range
 unfolding transmit_of
