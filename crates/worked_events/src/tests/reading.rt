@@ -1,26 +1,17 @@
 //! A message to a virtual address, read and opened with the keys of a node.
-#![tactic(auto)]
 
-ghost use Rattle.std.specs.Prelude.{◌≡◌, [], ◌∷◌};
 ghost use Rattle.mesh_reading.specs.Held.{AreHeldKeys};
 ghost use Rattle.node_records.specs.Tables.{config_in};
 
-use crate::{Keys, SealedBy, held_keys_law};
+use super::samples::{APP_KEY, NET_KEY, one_app, one_net};
 use mesh_base::address::Address;
 use mesh_base::keys::{AppKeyRow, NetKeyRow, UpperKey};
 use mesh_base::pair::{Name, Pair};
 use mesh_base::table::Table;
+use mesh_reading::{Keys, SealedBy, held_keys_law};
 use node_records::Persist;
 
-// The keys of the Mesh Profile's sample data, section 8.2, and the label of section 8.3.22, whose virtual address is b529.
-const KEY: [u8; 16] = [
-    0x7d, 0xd7, 0x36, 0x4c, 0xd8, 0x42, 0xad, 0x18, 0xc1, 0x7c, 0x2b, 0x82, 0x0c, 0x84, 0xc3, 0xd6,
-];
-
-const APP: [u8; 16] = [
-    0x63, 0x96, 0x47, 0x71, 0x73, 0x4f, 0xbd, 0x76, 0xe3, 0xb4, 0x05, 0x19, 0xd1, 0xd9, 0x4a, 0x48,
-];
-
+// The label of the standard's sample data, section 8.3.22, whose virtual address is b529.
 const LABEL: [u8; 16] = [
     0x00, 0x73, 0xe7, 0xe4, 0xd8, 0xb9, 0x44, 0x0f, 0xaf, 0x84, 0x15, 0xdf, 0x4c, 0x56, 0xc0, 0xe1,
 ];
@@ -32,41 +23,24 @@ const PDU: &[u8] =
 const NET_ROW: NetKeyRow = NetKeyRow {
     index: 9,
     phase: 0,
-    key: KEY,
+    key: NET_KEY,
     next: None,
 };
 
 const APP_ROW: AppKeyRow = AppKeyRow {
     net: 9,
     index: 0x123,
-    key: APP,
+    key: APP_KEY,
     next: None,
 };
-
-// A table of one network key, and one of one application key.
-fn one_net() -> Table<NetKeyRow, 4>
-    ensures { result ≡ NET_ROW ∷ [] }
-{
-    let mut rows = Table::new();
-    rows.push(NET_ROW).unwrap();
-    rows
-}
-
-fn one_app() -> Table<AppKeyRow, 8>
-    ensures { result ≡ APP_ROW ∷ [] }
-{
-    let mut rows = Table::new();
-    rows.push(APP_ROW).unwrap();
-    rows
-}
 
 // What the records of a node say that has these keys and this label.
 fn node() -> Persist
     ensures { AreHeldKeys (config_in result) }
 {
     let mut p = Persist::new();
-    p.nets = one_net();
-    p.apps = one_app();
+    p.nets = one_net(NET_ROW);
+    p.apps = one_app(APP_ROW);
     let mut labels = Table::new();
     let _ = labels.push((Address(0x1201), 0x1000, [1; 16]));
     let _ = labels.push((Address(0x1201), 0x1000, LABEL));

@@ -1,7 +1,7 @@
 use Rattle.std.proofs.Common.{ℕ, ◌<◌, ◌≤◌, [], ◌∷◌, List, get_or, zero, suc, subst, sym, arith}
 use Rattle.std.specs.Prelude.{All}
 use Rattle.layer_definitions.specs.Lower.{last_segment}
-use Rattle.mesh_jobs.proofs.tests.held.Goals as goal
+use Rattle.worked_events.proofs.tests.jobs.held.Goals as goal
 
 one_place : (n k d : ℕ) → k < 1 → get_or (0 ∷ []) k d ≤ n
 one_place n zero d h = omega arith

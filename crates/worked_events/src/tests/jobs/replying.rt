@@ -1,12 +1,12 @@
 //! What is sent in reply to a message that was delivered.
-#![tactic(auto)]
 
+use super::super::samples::octets;
 use super::{
     BEACON, DEV_KEY, ELEMENT, ONOFF_STATUS, PEER, app_key, control, delivered, message_from, name,
-    octets, plain, reading, replied,
+    plain, reading, replied,
 };
-use crate::{KeyPhase, Phases, held_phases};
 use mesh_base::keys::UpperKey;
+use mesh_jobs::{KeyPhase, Phases, held_phases};
 use mesh_types::answers::Answer;
 use mesh_types::jobs::Job;
 use node_models::{MessageReplies, Reply};

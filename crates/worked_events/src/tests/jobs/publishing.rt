@@ -1,13 +1,11 @@
 //! What is published at a tick.
-#![tactic(auto)]
 
-use super::{
-    BEACON, ELEMENT, Node, ONOFF_STATUS, app_key, control, is_only, message_from, octets, plain,
-};
-use crate::{Span, tick_jobs};
+use super::super::samples::{is_only, octets};
+use super::{BEACON, ELEMENT, Node, ONOFF_STATUS, app_key, control, message_from, plain};
 use element_models::{LEVEL_SERVER, ONOFF_SERVER};
 use layer_states::reassembly::AckList;
 use mesh_base::address::Address;
+use mesh_jobs::{Span, tick_jobs};
 use mesh_types::answers::Answer;
 use mesh_types::jobs::{Job, JobDraft, Jobs};
 use model_states::publication::HeartbeatRow;

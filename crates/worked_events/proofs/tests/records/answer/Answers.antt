@@ -1,7 +1,7 @@
 use Rattle.std.proofs.Common.{subst, sym, arith}
 use Rattle.iv_update.specs.Steps.{IsLater, state_after}
 use Rattle.mesh_base.specs.declared.iv_state.IvStep.{IvStep}
-use Rattle.event_records.proofs.tests.answer.Goals as goal
+use Rattle.worked_events.proofs.tests.records.answer.Goals as goal
 
 pub returns : goal.returns
 returns c =

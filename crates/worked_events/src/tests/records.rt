@@ -1,5 +1,4 @@
 //! Worked rows: what is stored when time passed, when a beacon was heard, and when a message was accepted.
-#![tactic(auto)]
 
 ghost use Rattle.std.specs.Prelude.{◌≤◌, ◌<◌, ◌^◌, IfSome};
 ghost use Rattle.event_records.specs.Steps.{IsStepFrom};
@@ -9,7 +8,7 @@ ghost use Rattle.node_records.specs.Meaning.{IsSaid};
 ghost use Rattle.run_definitions.specs.Uses.{accepted};
 ghost use Rattle.store_definitions.specs.Ranges.{IsInRange};
 
-use crate::{Changes, Records, beacon_records, heard_records, tick_records};
+use event_records::{Changes, Records, beacon_records, heard_records, tick_records};
 use iv_update::{on_beacon, steps_law};
 use mesh_base::address::Address;
 use mesh_base::iv_state::IvState;

@@ -1,9 +1,8 @@
 //! Worked rows: Requests, Polls, lists and Clears of Low Power nodes, and what is stored for them.
-#![tactic(auto)]
 
-ghost use Rattle.std.specs.Prelude.{◌≡◌, [], ◌∷◌};
+ghost use Rattle.std.specs.Prelude.{◌≡◌};
 
-use crate::{NodeFriends, OwnShort, push_friend_jobs};
+use super::samples::{IV, NET_KEY, OTHER_KEY, is_only, material, octets, one_net};
 use mesh_base::address::Address;
 use mesh_base::fields::{Heard, NetFields, NetMaterial};
 use mesh_base::iv_state::IvState;
@@ -14,22 +13,11 @@ use mesh_base::table::Table;
 use mesh_types::jobs::{Job, JobDraft, Jobs};
 use net_keys::NetKeys;
 use network_layer::NetReading;
+use node_friends::{NodeFriends, OwnShort, push_friend_jobs};
 use node_records::Persist;
 use std::alloc::{AllocError, Global};
 use std::test::Fail;
 use upper_transport::read_control;
-
-// The network key and the IV Index of the Mesh Profile's sample data, section 8.2.
-const NET_KEY: [u8; 16] = [
-    0x7d, 0xd7, 0x36, 0x4c, 0xd8, 0x42, 0xad, 0x18, 0xc1, 0x7c, 0x2b, 0x82, 0x0c, 0x84, 0xc3, 0xd6,
-];
-
-const IV: u32 = 0x12345678;
-
-// The key of the standard's sample of k2.
-const OTHER_KEY: [u8; 16] = [
-    0xf7, 0xa2, 0xa4, 0x4f, 0x8e, 0x8a, 0x80, 0x29, 0x06, 0x4f, 0x17, 0x3d, 0xdc, 0x1e, 0x2b, 0x00,
-];
 
 const DEV_KEY: [u8; 16] = [0xdd; 16];
 
@@ -45,15 +33,6 @@ const ALL_FRIENDS: Address = Address(0xfffd);
 const REQUEST: [u8; 11] = [
     0x03, 0x4b, 0x50, 0x05, 0x7e, 0x40, 0x00, 0x00, 0x01, 0x00, 0x00,
 ];
-
-// By the standard's samples of k2.
-fn master() -> NetMaterial {
-    NetMaterial {
-        nid: 0x68,
-        encryption: 0x0953fa93e7caac9638f58820220a398e_u128.to_be_bytes(),
-        privacy: 0x8b84eedec100067d670971dd2aa700cf_u128.to_be_bytes(),
-    }
-}
 
 // The friendship credentials of the first offer to 0201, and of the second one to 0202, by another implementation.
 fn first() -> NetMaterial {
@@ -77,14 +56,6 @@ struct Node {
     p: Persist,
     nets: NetKeys,
     ghost nets_held: { nets ≡ p.nets },
-}
-
-fn one_net(row: NetKeyRow) -> Table<NetKeyRow, 4>
-    ensures { result ≡ row ∷ [] }
-{
-    let mut rows = Table::new();
-    let _ = rows.push(row);
-    rows
 }
 
 // A node of one element whose network key with index 0 is in this phase, with Friend as given.
@@ -115,10 +86,6 @@ fn plain() -> Node {
     node_in(0, None, false, 1)
 }
 
-fn octets<const N: usize>(bytes: &[u8]) -> Octets<N> {
-    Octets::of(bytes).unwrap_or_default()
-}
-
 fn fields(ctl: bool, ttl: u8, src: Address, dst: Address, tpdu: &[u8]) -> NetFields {
     NetFields {
         iv: IV,
@@ -135,7 +102,7 @@ fn fields(ctl: bool, ttl: u8, src: Address, dst: Address, tpdu: &[u8]) -> NetFie
 fn heard(by: Option<(Address, NetMaterial)>, fields: NetFields) -> NetReading {
     let (lpn, material) = match by {
         Some((lpn, material)) => (Some(lpn), material),
-        None => (None, master()),
+        None => (None, material()),
     };
     NetReading {
         fields,
@@ -207,13 +174,6 @@ fn control(
     }
 }
 
-fn is_only(jobs: &Jobs, job: &Job) -> bool {
-    match jobs.as_slice() {
-        [only] => only == job,
-        _ => false,
-    }
-}
-
 // A node with the friendship of 0201, whose first Poll had FSN 0.
 fn befriended(alloc: Global, node: &Node) -> Result<NodeFriends, AllocError> {
     let mut friends = NodeFriends::new();
@@ -243,7 +203,7 @@ fn polls(rt: HostRuntime) -> Result<(), Fail> {
     let mut friends = NodeFriends::new();
     let offered = request(alloc, &mut friends, &node, FIRST, &REQUEST)?;
     let offer = [0x04, 0x64, 0x10, 0x10, 0x7f, 0x00, 0x00];
-    assert!(rt; is_only(&offered, &control(master(), 0, FIRST, &offer, None)));
+    assert!(rt; is_only(&offered, &control(material(), 0, FIRST, &offer, None)));
     assert!(rt; !friends.is_befriended(FIRST), "an offer alone");
     let even = [0x01, 0x00];
     let odd = [0x01, 0x01];
@@ -290,7 +250,7 @@ fn requests(rt: HostRuntime) -> Result<(), Fail> {
     let mut friends = befriended(alloc, &node)?;
     let offered = request(alloc, &mut friends, &node, SECOND, &REQUEST)?;
     let offer = [0x04, 0x64, 0x10, 0x10, 0x7f, 0x00, 0x01];
-    assert!(rt; is_only(&offered, &control(master(), 0, SECOND, &offer, None)));
+    assert!(rt; is_only(&offered, &control(material(), 0, SECOND, &offer, None)));
     let poll = fields(true, 0, SECOND, OWN, &[0x01, 0x01]);
     let polled = answered(
         alloc,
@@ -371,7 +331,7 @@ fn confirms(rt: HostRuntime) -> Result<(), Fail> {
     let r = heard(None, fields(true, 7, peer, OWN, &early));
     assert!(rt; answered(alloc, &mut friends, &node, 0, &r)?.is_empty());
     let r = heard(None, fields(true, 7, peer, OWN, &clear));
-    let confirm = control(master(), 7, peer, &[0x06, 0x02, 0x01, 0x00, 0x01], None);
+    let confirm = control(material(), 7, peer, &[0x06, 0x02, 0x01, 0x00, 0x01], None);
     assert!(rt; is_only(&answered(alloc, &mut friends, &node, 0, &r)?, &confirm));
     assert!(rt; !friends.is_befriended(FIRST));
     assert!(rt; answered(alloc, &mut friends, &node, 0, &r)?.is_empty());

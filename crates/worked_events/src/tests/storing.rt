@@ -1,13 +1,12 @@
 //! Records of an event, whole and with a cut at each call: 144 hours pass while an IV Update to IV Index 6 is in progress.
-#![tactic(auto)]
 
 ghost use Rattle.std.specs.Prelude.{◌≡◌};
 ghost use Rattle.event_records.specs.Putting.{AreMoves, ArePuttable};
 ghost use Rattle.node_records.specs.Tables.{config_in};
 ghost use Rattle.node_store.specs.Provisioning.{IsProvision};
 
-use super::store_records;
 use event_records::{Records, tick_records};
+use event_storing::store_records;
 use flash_model::{Bench, MemFlash};
 use mesh_base::address::Address;
 use mesh_types::answers::Answer;

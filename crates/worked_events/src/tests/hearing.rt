@@ -1,13 +1,12 @@
 //! Worked rows: network PDUs, beacons and ticks with the answer to each. The octets of PDU A, PDU B and of the segment behind them, and those
 //! of the one beacon, are sample data of the Mesh Profile.
-#![tactic(auto)]
 
 ghost use Rattle.std.specs.Prelude.{◌≡◌, [], ◌∷◌};
 ghost use Rattle.mesh_base.specs.IvState.{HasTransmit};
 ghost use Rattle.mesh_reading.specs.Held.{AreHeldKeys};
 ghost use Rattle.node_records.specs.Tables.{config_in};
 
-use crate::{DueAck, Passed, Tables};
+use super::samples::{APP_KEY, IV, NET_KEY, one_app, one_net};
 use mesh_base::address::Address;
 use mesh_base::fields::NetFields;
 use mesh_base::iv_state::{IvState, IvStep};
@@ -16,6 +15,7 @@ use mesh_base::octets::Octets;
 use mesh_base::pair::{Name, Pair};
 use mesh_base::table::Table;
 use mesh_base::upper::UpperFields;
+use mesh_hearing::{DueAck, Passed, Tables};
 use mesh_types::answers::{Answer, KeyName, KeyStep};
 use net_keys::master;
 use node_records::Persist;
@@ -23,16 +23,8 @@ use std::alloc::{AllocError, Global};
 use std::marker::Model;
 use std::test::Fail;
 
-const NK: [u8; 16] = [
-    0x7d, 0xd7, 0x36, 0x4c, 0xd8, 0x42, 0xad, 0x18, 0xc1, 0x7c, 0x2b, 0x82, 0x0c, 0x84, 0xc3, 0xd6,
-];
-
 const DK: [u8; 16] = [
     0x9d, 0x6d, 0xd0, 0xe9, 0x6e, 0xb2, 0x5d, 0xc1, 0x9a, 0x40, 0xed, 0x99, 0x14, 0xf8, 0xf0, 0x3f,
-];
-
-const AK: [u8; 16] = [
-    0x63, 0x96, 0x47, 0x71, 0x73, 0x4f, 0xbd, 0x76, 0xe3, 0xb4, 0x05, 0x19, 0xd1, 0xd9, 0x4a, 0x48,
 ];
 
 // PDU A and PDU B: both segments of a message from 0003 to 1201 under the device key.
@@ -47,8 +39,6 @@ const ADD: &[u8] =
     b"\x00\x56\x34\x12\x63\x96\x47\x71\x73\x4f\xbd\x76\xe3\xb4\x05\x19\xd1\xd9\x4a\x48";
 
 const FIRST: &[u8] = b"\x80\x26\xac\x01\xee\x9d\xdd\xfd\x21\x69\x32\x6d\x23\xf3\xaf\xdf";
-
-const IV: u32 = 0x12345678;
 
 const ME: u16 = 0x1201;
 
@@ -66,33 +56,16 @@ fn name(src: u16, seq: u32) -> Name {
 const NET_ROW: NetKeyRow = NetKeyRow {
     index: 0,
     phase: 0,
-    key: NK,
+    key: NET_KEY,
     next: None,
 };
 
 const APP_ROW: AppKeyRow = AppKeyRow {
     net: 0,
     index: 0x123,
-    key: AK,
+    key: APP_KEY,
     next: None,
 };
-
-// A table of one network key, and one of one application key.
-fn one_net() -> Table<NetKeyRow, 4>
-    ensures { result ≡ NET_ROW ∷ [] }
-{
-    let mut rows = Table::new();
-    rows.push(NET_ROW).unwrap();
-    rows
-}
-
-fn one_app() -> Table<AppKeyRow, 8>
-    ensures { result ≡ APP_ROW ∷ [] }
-{
-    let mut rows = Table::new();
-    rows.push(APP_ROW).unwrap();
-    rows
-}
 
 // What the records of a node say that was just provisioned with one network key, under this IV Index.
 fn node(iv: u32) -> Persist
@@ -110,7 +83,7 @@ fn node(iv: u32) -> Persist
         hours: 0,
         since: 192,
     };
-    p.nets = one_net();
+    p.nets = one_net(NET_ROW);
     p.apps = Table::new();
     p
 }
@@ -133,7 +106,7 @@ fn pdu(pair: Pair, kind: (bool, u8), src: u16, dst: u16, tpdu: &[u8]) -> Octets<
         dst: Address(dst),
         tpdu: octets,
     };
-    network_layer::seal(&master(&NK), &fields)
+    network_layer::seal(&master(&NET_KEY), &fields)
 }
 
 // The replay list with the name of an accepted message.
@@ -212,11 +185,15 @@ impl Life {
         self.tables.hear_beacon(&self.p, octets).answer
     }
 
-    // The answer to octets heard, after which the replay list has what was accepted.
-    fn hear(&mut self, octets: &[u8]) -> Result<Answer, AllocError> {
-        let hearing = self.tables.hear(&self.p, octets)?;
-        remember(&mut self.p, &hearing.answer);
-        Ok(hearing.answer)
+    // The answer to octets heard, after which the replay list has what was accepted; none where memory ran out.
+    fn hear(&mut self, octets: &[u8]) -> Option<Answer> {
+        match self.tables.hear(&self.p, octets) {
+            Ok(hearing) => {
+                remember(&mut self.p, &hearing.answer);
+                Some(hearing.answer)
+            }
+            Err(_) => None,
+        }
     }
 }
 
@@ -265,15 +242,27 @@ fn row_of(answer: &Answer) -> Row {
 }
 
 impl Life {
-    fn row(&mut self, octets: &[u8]) -> Result<Row, AllocError> {
-        let answer = self.hear(octets)?;
-        Ok(row_of(&answer))
+    fn row(&mut self, octets: &[u8]) -> Row {
+        match self.hear(octets) {
+            Some(answer) => row_of(&answer),
+            None => Row::Other,
+        }
     }
 
     // Whether this is the answer to octets heard.
-    fn answers(&mut self, octets: &[u8], answer: &Answer) -> Result<bool, AllocError> {
-        let heard = self.hear(octets)?;
-        Ok(heard == *answer)
+    fn answers(&mut self, octets: &[u8], answer: &Answer) -> bool {
+        match self.hear(octets) {
+            Some(heard) => heard == *answer,
+            None => false,
+        }
+    }
+
+    // Whether a message is delivered.
+    fn completes(&mut self, octets: &[u8], whole: &Option<Answer>) -> bool {
+        match whole {
+            Some(whole) => self.answers(octets, whole),
+            None => false,
+        }
     }
 }
 
@@ -282,18 +271,18 @@ impl Life {
 fn two_segments(rt: HostRuntime) -> Result<(), Fail> {
     let whole = delivered(3, 0x3129ab, KeyName::Dev, ADD);
     let mut life = Life::new(rt.alloc(), node(IV))?;
-    assert!(rt; life.answers(B, &WAITING)?);
-    assert!(rt; Some(life.hear(A)?) == whole);
+    assert!(rt; life.answers(B, &WAITING));
+    assert!(rt; life.completes(A, &whole));
     let mut life = Life::new(rt.alloc(), node(IV))?;
-    assert!(rt; life.answers(A, &WAITING)?);
-    assert!(rt; Some(life.hear(B)?) == whole);
-    assert!(rt; life.answers(A, &Answer::Cached)?);
+    assert!(rt; life.answers(A, &WAITING));
+    assert!(rt; life.completes(B, &whole));
+    assert!(rt; life.answers(A, &Answer::Cached));
     let copy = pdu(pair(0x3129ad), (false, 4), 3, ME, FIRST);
-    assert!(rt; life.answers(copy.as_slice(), &Answer::Again)?);
+    assert!(rt; life.answers(copy.as_slice(), &Answer::Again));
     let kept = pair(0x3129ab);
     life.begin_anew(rt.alloc())?;
-    assert!(rt; life.answers(A, &Answer::Replay { kept })?);
-    assert!(rt; life.answers(B, &Answer::Replay { kept })?);
+    assert!(rt; life.answers(A, &Answer::Replay { kept }));
+    assert!(rt; life.answers(B, &Answer::Replay { kept }));
     Ok(())
 }
 
@@ -320,7 +309,7 @@ fn network_rows(rt: HostRuntime) -> Result<(), Fail> {
     let mut life = Life::new(rt.alloc(), node(5))?;
     for (iv, seq, src, dst, row) in NETWORK_ROWS {
         let octets = pdu(Pair { iv, seq }, (true, 5), src, dst, b"\x7f");
-        let heard = life.row(octets.as_slice())?;
+        let heard = life.row(octets.as_slice());
         assert!(rt; heard == row, "{iv} {seq} {src} {dst}");
     }
     Ok(())
@@ -334,13 +323,13 @@ fn flipped(rt: HostRuntime) -> Result<(), Fail> {
     bits.copy_from_slice(A);
     for place in 0..29 {
         bits[place] ^= 1;
-        let low = life.row(&bits)?;
+        let low = life.row(&bits);
         bits[place] ^= 0x81;
-        let high = life.row(&bits)?;
+        let high = life.row(&bits);
         bits[place] ^= 0x80;
         assert!(rt; low == Row::Unread && high == Row::Unread, "octet {place}");
     }
-    assert!(rt; life.answers(&bits, &WAITING)?);
+    assert!(rt; life.answers(&bits, &WAITING));
     Ok(())
 }
 
@@ -371,7 +360,7 @@ fn subscriber() -> Persist
     ensures transmit { HasTransmit result.iv }
 {
     let mut p = node(IV);
-    p.apps = one_app();
+    p.apps = one_app(APP_ROW);
     let mut labels = Table::new();
     let _ = labels.push((Address(ME), 0x1000, [7; 16]));
     let _ = labels.push((Address(ME), 0x1000, LABEL));
@@ -384,10 +373,10 @@ fn subscriber() -> Persist
 
 impl Life {
     // The key by which an access message is delivered, if it is.
-    fn delivers(&mut self, octets: &[u8]) -> Result<Option<KeyName>, AllocError> {
-        match self.hear(octets)? {
-            Answer::Delivered { key, .. } => Ok(Some(key)),
-            _ => Ok(None),
+    fn delivers(&mut self, octets: &[u8]) -> Option<KeyName> {
+        match self.hear(octets) {
+            Some(Answer::Delivered { key, .. }) => Some(key),
+            _ => None,
         }
     }
 }
@@ -399,17 +388,17 @@ fn keys_and_labels(rt: HostRuntime) -> Result<(), Fail> {
     let app = UpperKey::App {
         index: 0x123,
         aid: 0x26,
-        key: AK,
+        key: APP_KEY,
     };
     let by_app = Some(KeyName::App(0x123));
     for (seq, dst, label) in [(1, ME, None), (2, 0xc001, None), (3, 0x9736, Some(LABEL))] {
         let octets = access(&app, seq, dst, label, 0x66);
-        let key = life.delivers(octets.as_slice())?;
+        let key = life.delivers(octets.as_slice());
         assert!(rt; key == by_app, "to {dst}");
     }
     for (seq, dst, label, first) in [(4, 0x9736, Some([7; 16]), 0x66), (5, ME, None, 0x65)] {
         let octets = access(&app, seq, dst, label, first);
-        let row = life.row(octets.as_slice())?;
+        let row = life.row(octets.as_slice());
         assert!(rt; row == Row::NoKey, "to {dst}");
     }
     Ok(())
@@ -421,10 +410,10 @@ fn device_key(rt: HostRuntime) -> Result<(), Fail> {
     let mut life = Life::new(rt.alloc(), subscriber())?;
     let device = UpperKey::Device(DK);
     let own = access(&device, 6, ME, None, 0);
-    assert!(rt; life.delivers(own.as_slice())? == Some(KeyName::Dev));
+    assert!(rt; life.delivers(own.as_slice()) == Some(KeyName::Dev));
     for (seq, dst, first) in [(7, 0xc001, 0), (8, ME, 0x66)] {
         let octets = access(&device, seq, dst, None, first);
-        let row = life.row(octets.as_slice())?;
+        let row = life.row(octets.as_slice());
         assert!(rt; row == Row::NoKey, "to {dst}");
     }
     Ok(())
@@ -444,13 +433,12 @@ fn ninth(rt: HostRuntime) -> Result<(), Fail> {
     for i in 0..8 {
         let src = 0x101 + i as u16;
         held[i] = name(src, 0);
-        assert!(rt; life.answers(first_part(0, src).as_slice(), &WAITING)?);
+        assert!(rt; life.answers(first_part(0, src).as_slice(), &WAITING));
     }
-    let ninth = life.hear(first_part(0, 0x109).as_slice())?;
-    assert!(rt; ninth == Answer::NoRoom { held });
+    assert!(rt; life.answers(first_part(0, 0x109).as_slice(), &Answer::NoRoom { held }));
     let passed = life.pass(1000);
     assert!(rt; passed.answer == Answer::Ticked { now: 1000 } && passed.acks.is_empty());
-    assert!(rt; life.answers(first_part(1, 0x109).as_slice(), &WAITING)?);
+    assert!(rt; life.answers(first_part(1, 0x109).as_slice(), &WAITING));
     Ok(())
 }
 
@@ -466,14 +454,14 @@ fn between_segments(rt: HostRuntime) -> Result<(), Fail> {
     };
     let whole = delivered(3, 0x3129ab, KeyName::Dev, ADD);
     let mut life = Life::new(rt.alloc(), node(IV))?;
-    assert!(rt; life.answers(A, &WAITING)?);
+    assert!(rt; life.answers(A, &WAITING));
     let passed = life.pass(999);
     assert!(rt; passed.acks.as_slice() == [ack].as_slice() && life.ticks() == 999);
-    assert!(rt; Some(life.hear(B)?) == whole);
+    assert!(rt; life.completes(B, &whole));
     let mut life = Life::new(rt.alloc(), node(IV))?;
-    assert!(rt; life.answers(A, &WAITING)?);
+    assert!(rt; life.answers(A, &WAITING));
     assert!(rt; life.pass(1000).acks.is_empty());
-    assert!(rt; life.answers(B, &WAITING)?);
+    assert!(rt; life.answers(B, &WAITING));
     Ok(())
 }
 
@@ -506,7 +494,7 @@ fn segments(rt: HostRuntime) -> Result<(), Fail> {
     let mut life = Life::new(rt.alloc(), node(IV))?;
     for (seq, src, dst, tpdu, row) in SEGMENT_ROWS {
         let octets = pdu(pair(seq), (false, 4), src, dst, tpdu);
-        let heard = life.row(octets.as_slice())?;
+        let heard = life.row(octets.as_slice());
         assert!(rt; heard == row, "{seq}");
     }
     Ok(())
@@ -514,10 +502,10 @@ fn segments(rt: HostRuntime) -> Result<(), Fail> {
 
 impl Life {
     // The name of the control message that octets are, if they are one.
-    fn controls(&mut self, octets: &[u8]) -> Result<Option<Name>, AllocError> {
-        match self.hear(octets)? {
-            Answer::Control { name, .. } => Ok(Some(name)),
-            _ => Ok(None),
+    fn controls(&mut self, octets: &[u8]) -> Option<Name> {
+        match self.hear(octets) {
+            Some(Answer::Control { name, .. }) => Some(name),
+            _ => None,
         }
     }
 }
@@ -529,16 +517,16 @@ fn full_list(rt: HostRuntime) -> Result<(), Fail> {
     for src in 0x101..0x301 {
         let octets = pdu(pair(1), (true, 0), src, ME, b"\x7f");
         assert!(rt;
-            life.controls(octets.as_slice())? == Some(name(src, 1)),
+            life.controls(octets.as_slice()) == Some(name(src, 1)),
             "{src}"
         );
     }
     let other = pdu(pair(1), (true, 0), 0x301, ME, b"\x7f");
-    assert!(rt; life.answers(other.as_slice(), &Answer::ListFull { held: 512 })?);
+    assert!(rt; life.answers(other.as_slice(), &Answer::ListFull { held: 512 }));
     let again = pdu(pair(1), (true, 0), 0x101, 0xffff, b"\x7e");
-    assert!(rt; life.answers(again.as_slice(), &Answer::Replay { kept: pair(1) })?);
+    assert!(rt; life.answers(again.as_slice(), &Answer::Replay { kept: pair(1) }));
     let next = pdu(pair(2), (true, 0), 0x101, ME, b"\x7f");
-    assert!(rt; life.controls(next.as_slice())? == Some(name(0x101, 2)));
+    assert!(rt; life.controls(next.as_slice()) == Some(name(0x101, 2)));
     Ok(())
 }
 
@@ -573,7 +561,7 @@ fn later_beacons(rt: HostRuntime) -> Result<(), Fail> {
         (2, 6, IvStep::Ignore { rule: 4 }),
         (0, 4, IvStep::Ignore { rule: 1 }),
     ] {
-        let answer = life.beacon(&net_beacon::write(&NK, flags, iv));
+        let answer = life.beacon(&net_beacon::write(&NET_KEY, flags, iv));
         assert!(rt; answer == beacon(KeyStep::Same, step), "{iv}");
     }
     Ok(())
@@ -583,14 +571,14 @@ fn later_beacons(rt: HostRuntime) -> Result<(), Fail> {
 #[test]
 fn after_reset(rt: HostRuntime) -> Result<(), Fail> {
     let mut life = Life::new(rt.alloc(), node(IV))?;
-    assert!(rt; life.answers(A, &WAITING)?);
+    assert!(rt; life.answers(A, &WAITING));
     life.set_reset(true);
-    assert!(rt; life.answers(B, &Answer::Reset)?);
+    assert!(rt; life.answers(B, &Answer::Reset));
     assert!(rt; life.pass(1000).answer == Answer::Reset && life.ticks() == 0);
     assert!(rt; life.beacon(&[]) == Answer::Reset);
     life.set_reset(false);
     life.renew_keys();
     let whole = delivered(3, 0x3129ab, KeyName::Dev, ADD);
-    assert!(rt; Some(life.hear(B)?) == whole);
+    assert!(rt; life.completes(B, &whole));
     Ok(())
 }

@@ -2,7 +2,6 @@
 //!
 //! - `replying`: replies
 //! - `publishing`: publications and heartbeats
-#![tactic(auto)]
 
 mod publishing;
 mod replying;
@@ -10,8 +9,8 @@ mod replying;
 ghost use Rattle.std.specs.Prelude.{◌≡◌, ◌<◌, ◌^◌, [], ◌∷◌};
 ghost use Rattle.segment_sender.specs.Held.{IsHeldWell, IsOutgoing};
 
-use crate::{
-    KeyPhase, Phases, Span, begin_jobs, held_phases, own_jobs, pdu_jobs, push_rounds, tick_jobs,
+use super::samples::{
+    APP_KEY, IV, NET_KEY, OTHER_KEY, is_only, material, octets, one_app, one_net,
 };
 use app_keys::AppKeys;
 use layer_states::reassembly::{AckList, DueAck};
@@ -23,6 +22,9 @@ use mesh_base::keys::{AppKeyRow, NetKeyRow, UpperKey};
 use mesh_base::octets::Octets;
 use mesh_base::pair::{Name, Pair};
 use mesh_base::table::Table;
+use mesh_jobs::{
+    KeyPhase, Phases, Span, begin_jobs, held_phases, own_jobs, pdu_jobs, push_rounds, tick_jobs,
+};
 use mesh_types::answers::{Answer, KeyName};
 use mesh_types::events::{Event, SendKey};
 use mesh_types::jobs::{Job, JobDraft, Jobs};
@@ -32,22 +34,6 @@ use node_models::{Due, MessageReplies};
 use node_records::Persist;
 use std::alloc::{AllocError, Global};
 use std::test::Fail;
-
-// The network key, the IV Index and the application key of the Mesh Profile's sample data, section 8.2.
-const NET_KEY: [u8; 16] = [
-    0x7d, 0xd7, 0x36, 0x4c, 0xd8, 0x42, 0xad, 0x18, 0xc1, 0x7c, 0x2b, 0x82, 0x0c, 0x84, 0xc3, 0xd6,
-];
-
-const IV: u32 = 0x12345678;
-
-const APP_KEY: [u8; 16] = [
-    0x63, 0x96, 0x47, 0x71, 0x73, 0x4f, 0xbd, 0x76, 0xe3, 0xb4, 0x05, 0x19, 0xd1, 0xd9, 0x4a, 0x48,
-];
-
-// The key of the standard's sample of k2.
-const OTHER_KEY: [u8; 16] = [
-    0xf7, 0xa2, 0xa4, 0x4f, 0x8e, 0x8a, 0x80, 0x29, 0x06, 0x4f, 0x17, 0x3d, 0xdc, 0x1e, 0x2b, 0x00,
-];
 
 const DEV_KEY: [u8; 16] = [0xdd; 16];
 
@@ -68,15 +54,6 @@ const NEXT_BEACON: [u8; 22] = [
     0x80, 0xad, 0x07, 0x2a, 0x13, 0x5c,
 ];
 
-// By the standard's samples of k2.
-fn material() -> NetMaterial {
-    NetMaterial {
-        nid: 0x68,
-        encryption: 0x0953fa93e7caac9638f58820220a398e_u128.to_be_bytes(),
-        privacy: 0x8b84eedec100067d670971dd2aa700cf_u128.to_be_bytes(),
-    }
-}
-
 const ELEMENT: Address = Address(0x1201);
 
 const PEER: Address = Address(0x0003);
@@ -89,22 +66,6 @@ struct Node {
     ghost nets_held: { nets ≡ p.nets },
     ghost apps_held: { apps ≡ record { apps = p.apps; nets = p.nets } },
     ghost unicast_held: { p.unicast.0 < 2 ^ 15 },
-}
-
-fn one_net(row: NetKeyRow) -> Table<NetKeyRow, 4>
-    ensures { result ≡ row ∷ [] }
-{
-    let mut rows = Table::new();
-    let _ = rows.push(row);
-    rows
-}
-
-fn one_app(row: AppKeyRow) -> Table<AppKeyRow, 8>
-    ensures { result ≡ row ∷ [] }
-{
-    let mut rows = Table::new();
-    let _ = rows.push(row);
-    rows
 }
 
 // A node of one element whose network key with index 0 is in this phase, with this IV Index, and with the Beacon
@@ -141,10 +102,6 @@ fn node_in(phase: u8, next: Option<[u8; 16]>, current: u32, progress: bool) -> N
 
 fn plain() -> Node {
     node_in(0, None, IV, false)
-}
-
-fn octets<const N: usize>(bytes: &[u8]) -> Octets<N> {
-    Octets::of(bytes).unwrap_or_default()
 }
 
 // A PDU heard under the network key with index 0.
@@ -215,13 +172,6 @@ fn heard(
     answer: &Answer,
 ) -> Result<Jobs, AllocError> {
     replied(alloc, n, before, r, None, &MessageReplies::none(), answer)
-}
-
-fn is_only(jobs: &Jobs, job: &Job) -> bool {
-    match jobs.as_slice() {
-        [only] => only == job,
-        _ => false,
-    }
 }
 
 fn control(ttl: u8, dst: Address, tpdu: &[u8]) -> Job {
