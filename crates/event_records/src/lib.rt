@@ -27,6 +27,3 @@ pub type Changes = Table<StoreRecord, 9>;
 /// The records of an event, at most 10: the name of an accepted message, and behind it what the message asks for. A beacon and a tick store at
 /// most 2.
 pub type Records = Table<StoreRecord, 10>;
-
-#[cfg(test)]
-mod tests;

@@ -12,7 +12,5 @@
 
 mod one;
 mod several;
-#[cfg(test)]
-mod tests;
 
 pub use several::store_records;

@@ -7,7 +7,7 @@ use mesh_types::jobs::Jobs;
 use thiserror::Error;
 
 /// An event was handled.
-#[derive(Debug, Drop)]
+#[derive(Drop)]
 pub struct Answered {
     /// The place of its entry in the history, from 0 on.
     pub at: u32,
@@ -32,7 +32,7 @@ pub enum Stop {
 }
 
 /// What the call that closed a machine had in hand.
-#[derive(Debug, Drop)]
+#[derive(Drop)]
 pub enum Hand {
     /// No call has failed.
     Nothing,

@@ -17,53 +17,51 @@ use Rattle.node_layers.specs.Sending.{acknowledged}
 use Rattle.upper_transport.proofs.ControlRows.{AreOctets, reads_acknowledgment}
 
 -- a message that is no acknowledgment
-abbrev IsSilent : Address → ControlMsg → Type 0
-IsSilent from m = acknowledged from m ≡ []
+record IsSilent (from : Address) (m : ControlMsg) : Type 0 where
+  is : acknowledged from m ≡ []
 
 pick : (from : Address) (b : Bool) (m n : ControlMsg) → IsSilent from m → IsSilent from n → IsSilent from (cond b m n)
 pick from true m n h k = h
 pick from false m n h k = k
 
--- another opcode
-last_opcode : (from : Address) (opcode : ℕ) (rest : List ℕ) → 9 ≤ opcode → IsSilent from (read_back (opcode ∷ rest))
-last_opcode from opcode rest h =
-    let e0 : eqb opcode 0 ≡ false = grind (arith, nat_tests, h) in
-    let e1 : eqb opcode 1 ≡ false = grind (arith, nat_tests, h) in
-    let e2 : eqb opcode 2 ≡ false = grind (arith, nat_tests, h) in
-    let e3 : eqb opcode 3 ≡ false = grind (arith, nat_tests, h) in
-    let e4 : eqb opcode 4 ≡ false = grind (arith, nat_tests, h) in
-    let e5 : eqb opcode 5 ≡ false = grind (arith, nat_tests, h) in
-    let e6 : eqb opcode 6 ≡ false = grind (arith, nat_tests, h) in
-    let e7 : eqb opcode 7 ≡ false = grind (arith, nat_tests, h) in
-    let e8 : eqb opcode 8 ≡ false = grind (arith, nat_tests, h) in
-    rw (e0, e1, e2, e3, e4, e5, e6, e7, e8) refl
+past : (from : Address) (b : Bool) (m n : ControlMsg) → b ≡ false → IsSilent from n → IsSilent from (cond b m n)
+past from true m n e k = absurd cc
+past from false m n e k = k
 
+not_zero : (n : ℕ) → eqb (suc n) 0 ≡ false
+not_zero n = grind (arith, nat_tests)
+
+is_six : (n : ℕ) → eqb n 6 ≡ true → n ≡ 6
+is_six n e = grind (arith, nat_tests)
+
+-- another opcode than that of an acknowledgment
 other_opcode : (from : Address) (opcode : ℕ) (rest : List ℕ) → IsSilent from (read_back (suc opcode ∷ rest))
-other_opcode from zero rest = refl
-other_opcode from (suc zero) rest = refl
-other_opcode from (suc (suc zero)) rest = refl
-other_opcode from (suc (suc (suc zero))) rest = refl
-other_opcode from (suc (suc (suc (suc zero)))) rest = refl
-other_opcode from (suc (suc (suc (suc (suc zero))))) rest = refl
-other_opcode from (suc (suc (suc (suc (suc (suc zero)))))) rest = refl
-other_opcode from (suc (suc (suc (suc (suc (suc (suc zero))))))) rest = refl
-other_opcode from (suc (suc (suc (suc (suc (suc (suc (suc n)))))))) rest = last_opcode from (suc (suc (suc (suc (suc (suc (suc (suc (suc n))))))))) rest (omega arith)
+other_opcode from opcode rest =
+    past from (eqb (suc opcode) 0) _ _ (not_zero opcode)
+    (pick from (eqb (suc opcode) 1) _ _ (record { is = refl })
+    (pick from (eqb (suc opcode) 2) _ _ (record { is = refl })
+    (pick from (eqb (suc opcode) 3) _ _ (record { is = refl })
+    (pick from (eqb (suc opcode) 4) _ _ (record { is = refl })
+    (pick from (eqb (suc opcode) 5) _ _ (record { is = refl })
+    (pick from (eqb (suc opcode) 6) _ _ (record { is = refl })
+    (pick from (eqb (suc opcode) 7) _ _ (record { is = refl })
+    (pick from (eqb (suc opcode) 8) _ _ (record { is = refl }) (record { is = refl })))))))))
 
 silent_row : (from : Address) (opcode : ℕ) (params : List ℕ) → AreOctets params → IsNoControl opcode params → IsSilent from (control_of opcode params)
 silent_row from (suc opcode) params octets none =
-    pick from (has_row (suc opcode) (length params)) (read_back (suc opcode ∷ params_as_read (suc opcode) params)) C.Other (other_opcode from opcode (params_as_read (suc opcode) params)) refl
+    pick from (has_row (suc opcode) (length params)) (read_back (suc opcode ∷ params_as_read (suc opcode) params)) C.Other
+    (other_opcode from opcode (params_as_read (suc opcode) params)) (record { is = refl })
 silent_row from zero params octets none = of_count (eqb (length params) 6) refl
   where
-    pick_false : (b : Bool) → b ≡ false → IsSilent from (cond b (read_back (0 ∷ params_as_read 0 params)) C.Other)
-    pick_false true e = absurd cc
-    pick_false false e = refl
-
     of_count : (b : Bool) → eqb (length params) 6 ≡ b → IsSilent from (control_of 0 params)
     of_count true e =
-        let six : length params ≡ 6 = grind (arith, nat_tests, e) in
         absurd (none _ (reads_acknowledgment params (get_or params 0 0 * 256 + get_or params 1 0)
-        (get_or params 2 0 * 16777216 + (get_or params 3 0 * 65536 + (get_or params 4 0 * 256 + get_or params 5 0))) six octets refl refl))
-    of_count false e = pick_false (eqb (length params) 6) e
+        (get_or params 2 0 * 16777216 + (get_or params 3 0 * 65536 + (get_or params 4 0 * 256 + get_or params 5 0))) (is_six (length params) e) octets refl refl))
+    of_count false e = past_row (eqb (length params) 6) e
+      where
+        past_row : (b : Bool) → b ≡ false → IsSilent from (cond b (read_back (0 ∷ params_as_read 0 params)) C.Other)
+        past_row true e = absurd cc
+        past_row false e = record { is = refl }
 
 -- What octets read as has the calls of what stands in them.
 pub acknowledged_is : (from : Address) (opcode : ℕ) (params : List ℕ) (m : ControlMsg) → AreOctets params → (is_other m ≡ false → ReadsControl opcode params m)
@@ -77,7 +75,7 @@ acknowledged_is from opcode params m octets reads none = of_kind (is_other m) re
 
     of_kind : (b : Bool) → is_other m ≡ b → acknowledged from m ≡ acknowledged from (control_of opcode params)
     of_kind false e = ap (λ x. acknowledged from x) (sym (control_of_reading opcode params m (reads e)))
-    of_kind true e = silent_other m e ∙ sym (silent_row from opcode params octets (none.0 e))
+    of_kind true e = silent_other m e ∙ sym (silent_row from opcode params octets (none.0 e)).is
 
 -- There are messages where the list isn't empty.
 pub any_is : (b : Bool) (rows : List Sending) → (IsTrue b ↔ (rows ≢ [])) → b ≡ is_any rows

@@ -19,8 +19,6 @@ mod lower;
 mod network;
 mod own;
 mod tables;
-#[cfg(test)]
-mod tests;
 mod ticks;
 mod whole;
 

@@ -36,6 +36,3 @@ pub use replies::{is_stored, reply_ttl};
 pub use replying::push_replies;
 pub use segments::push_rounds;
 pub use ticks::{Span, push_acks, push_beacons_due, tick_jobs};
-
-#[cfg(test)]
-mod tests;

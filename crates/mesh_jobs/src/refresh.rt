@@ -17,7 +17,7 @@ use mesh_types::jobs::JobDraft;
 use node_records::Persist;
 
 /// The phase of the Key Refresh of a network key.
-#[derive(Clone, Copy, Debug, Default, PartialEq, Eq)]
+#[derive(Clone, Copy, Default)]
 pub struct KeyPhase {
     /// The index of the key, 12 bits.
     pub index: u16,

@@ -37,7 +37,7 @@ use node_records::Persist;
 const BEACON_TICKS: u64 = 1000;
 
 /// What a tick event went from, and the time that it leaves.
-#[derive(Clone, Copy, Debug, PartialEq, Eq)]
+#[derive(Drop)]
 pub struct Span {
     /// The ticks of this life before the event.
     pub from: u64,

@@ -9,13 +9,11 @@
 //! - `entering`: what a call does apart from the flash
 //! - `opening`: how it is opened
 //!
-//! A caller to begin with: `a_segmented_message` in `src/tests.rt`.
+//! A caller to begin with: `live` in `crates/worked_lives/src/tests/living.rt`.
 #![tactic(auto)]
 
 mod entering;
 mod machine;
 mod opening;
-#[cfg(test)]
-mod tests;
 
 pub use machine::MeshMachine;

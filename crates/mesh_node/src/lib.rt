@@ -12,8 +12,6 @@ mod living;
 mod log;
 mod plan;
 mod steps;
-#[cfg(test)]
-mod tests;
 
 pub use living::life;
 pub use node_phase::{FreeGate, Gate};

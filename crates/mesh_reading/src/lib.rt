@@ -11,8 +11,6 @@ mod keys;
 mod laws;
 mod opening;
 mod reading;
-#[cfg(test)]
-mod tests;
 
 pub use keys::Keys;
 pub use laws::held_keys_law;

@@ -21,7 +21,7 @@ use network_layer::NetReading;
 use upper_transport::{open_kept, unseal_bound};
 
 /// What an access message says of its seal.
-#[derive(Clone, Copy, Debug, PartialEq, Eq)]
+#[derive(Drop)]
 pub struct SealedBy {
     /// Whether an application key sealed it; else the device key.
     pub akf: bool,

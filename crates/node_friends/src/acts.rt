@@ -6,7 +6,7 @@ use mesh_base::control::{Clear, Offer};
 
 /// What a control message of a Low Power node leads to (Mesh Profile 1.0.1, sections 3.6.6.3 and 3.6.6.4). The answer to a Poll may hold a key,
 /// so it can't be printed.
-#[derive(Drop, PartialEq, Eq)]
+#[derive(Drop)]
 pub enum FriendAct {
     /// Nothing is sent.
     Nothing,

@@ -16,8 +16,6 @@ mod friends;
 mod heard;
 mod jobs;
 mod laws;
-#[cfg(test)]
-mod tests;
 
 pub use acts::FriendAct;
 pub use friend_queue::{OwnShort, PollAnswer, PollList, Polled};

@@ -3,6 +3,7 @@
 //!
 //! - `names`: the words that stand in the scripts for keys and octets
 //! - `living`: the lives of a script, one after another over one flash
+//! - `sealed`: PDUs that another implementation sealed
 //! - `bearers`, `gates`: bearers beside one another; `cuts`, `sweep`: power that is cut; `flashes`: flashes whose reads fail
 #![tactic(auto)]
 

@@ -6,4 +6,5 @@ mod flashes;
 mod gates;
 mod living;
 mod names;
+mod sealed;
 mod sweep;
