@@ -6,7 +6,7 @@
 //!
 //! Nothing here is printed: the types have no `Debug`.
 //!
-//! A caller to begin with: `keep_what_they_are_made_of` of crate worked_pdus, in `src/schedules.rt`.
+//! A caller to begin with: `keep_what_they_are_made_of` in `crates/worked_pdus/src/schedules.rt`.
 #![tactic(auto)]
 
 mod network;

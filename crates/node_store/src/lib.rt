@@ -21,7 +21,7 @@
 //! - `mounting`: a store is found again, and migrated
 //! - `laws`: what is true of the tie of a store and its flash, and of what an image holds
 //!
-//! A caller to begin with: `the_octets_of_a_node` in `src/tests/stores.rt` of `worked_stores`.
+//! A caller to begin with: `the_octets_of_a_node` in `crates/worked_stores/src/tests/stores.rt`.
 //!
 //! # Invariants
 //!

@@ -4,7 +4,7 @@
 //! - `decoding`: from a slot to its record
 //! - `ranges`: whether a record's fields are in their ranges
 //!
-//! A caller to begin with: `texts` in `src/tests/texts.rt` of `worked_stores`.
+//! A caller to begin with: `texts` in `crates/worked_stores/src/tests/texts.rt`.
 #![tactic(auto)]
 
 mod decoding;

@@ -12,7 +12,7 @@
 //! Hence what mounting accepts: the bank whose header is sound, of two the one whose generation follows the other's, and of
 //! that bank the slots with gate 00. A slot with any octet other than ff is used, and isn't written again before its erase.
 //!
-//! A caller to begin with: `a_journal_is_made_and_found` in `src/tests/journals.rt` of `worked_flashes`.
+//! A caller to begin with: `a_journal_is_made_and_found` in `crates/worked_flashes/src/tests/journals.rt`.
 //!
 //! # Octets
 //!

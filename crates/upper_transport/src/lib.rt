@@ -8,7 +8,7 @@
 //! - `control_writing`: from a control message to octets
 //! - `laws`: octets have one reading
 //!
-//! A caller to begin with: `meets` and `kept_keys` of crate worked_pdus, in `src/access.rt`.
+//! A caller to begin with: `meets` and `kept_keys` in `crates/worked_pdus/src/access.rt`.
 #![tactic(auto)]
 
 mod control_reading;
