@@ -1,0 +1,3 @@
+//! Words to the command that they are.
+
+mod commands;
