@@ -8,8 +8,6 @@
 mod laws;
 mod opcodes;
 mod pages;
-#[cfg(test)]
-mod tests;
 
 pub use laws::opcode_law;
 pub use model_states::access::Opcode;

@@ -15,8 +15,6 @@ mod models;
 mod servers;
 mod taken;
 mod taking;
-#[cfg(test)]
-mod tests;
 
 pub use laws::models_law;
 pub use message::Message;

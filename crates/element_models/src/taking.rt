@@ -29,16 +29,20 @@ fn is_group(a: Address) -> bool
     0xc000 <= a.0
 }
 
+// Whether a subscription is one of this model to this group.
+fn is_group_of(s: &(Address, u16, Address), element: u32, model: u16, dst: Address) -> bool
+    ensures { result ≡ (s.now.0.0 == element && s.now.1 == model && is_group s.now.2 && s.now.2.0 == dst.0) }
+{
+    u32::from(s.0.0) == element && s.1 == model && is_group(s.2) && s.2.0 == dst.0
+}
+
 // Whether a model subscribes to a group.
 fn has_group(rows: &[(Address, u16, Address)], element: u32, model: u16, dst: Address) -> bool
     ensures { result
         ≡ list_any
         (λ (s : Address × ℕ × Address). s.0.0 == element && s.1 == model && is_group s.2 && s.2.0 == dst.0) rows.now }
 {
-    rows.iter().any(|s| u32::from(s.0.0) == element
-        && s.1 == model
-        && is_group(s.2)
-        && s.2.0 == dst.0)
+    rows.iter().any(|s| is_group_of(s, element, model, dst))
 }
 
 // Whether two labels are the same.
@@ -48,19 +52,33 @@ fn is_same_label(a: &[u8; 16], b: &[u8; 16]) -> bool
     a.as_slice() == b.as_slice()
 }
 
+// Whether a subscription is one of this model to this label.
+fn is_label_of(l: &(Address, u16, [u8; 16]), element: u32, model: u16, label: &[u8; 16]) -> bool
+    ensures { result ≡ (l.now.0.0 == element && l.now.1 == model && bytes_eq l.now.2 label.now) }
+{
+    u32::from(l.0.0) == element && l.1 == model && is_same_label(&l.2, label)
+}
+
 // Whether a model subscribes to a label.
 fn has_label(rows: &[(Address, u16, [u8; 16])], element: u32, model: u16, label: &[u8; 16]) -> bool
     ensures { result
         ≡ list_any (λ (l : Address × ℕ × List ℕ). l.0.0 == element && l.1 == model && bytes_eq l.2 label.now) rows.now }
 {
-    rows.iter().any(|l| u32::from(l.0.0) == element && l.1 == model && is_same_label(&l.2, label))
+    rows.iter().any(|l| is_label_of(l, element, model, label))
+}
+
+// Whether a binding is one of this model to this application key.
+fn is_key_of(b: &(Address, u16, u16), element: u32, model: u16, index: u16) -> bool
+    ensures { result ≡ (b.now.0.0 == element && b.now.1 == model && b.now.2 == index) }
+{
+    u32::from(b.0.0) == element && b.1 == model && b.2 == index
 }
 
 // Whether an application key is bound to a model.
 fn has_key(rows: &[(Address, u16, u16)], element: u32, model: u16, index: u16) -> bool
     ensures { result ≡ list_any (λ (b : Address × ℕ × ℕ). b.0.0 == element && b.1 == model && b.2 == index) rows.now }
 {
-    rows.iter().any(|b| u32::from(b.0.0) == element && b.1 == model && b.2 == index)
+    rows.iter().any(|b| is_key_of(b, element, model, index))
 }
 
 // Whether DST is the address of the element.

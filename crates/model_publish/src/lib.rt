@@ -11,8 +11,6 @@ mod heartbeats;
 mod laws;
 mod publisher;
 mod rows;
-#[cfg(test)]
-mod tests;
 
 pub use laws::rows_law;
 pub use model_states::publication::HeartbeatRow;

@@ -14,8 +14,6 @@ mod due;
 mod laws;
 mod models;
 mod taken;
-#[cfg(test)]
-mod tests;
 
 pub use due::{Due, DueList, DueRow};
 pub use element_models::{Message, Replies, Reply};

@@ -12,8 +12,6 @@ mod level;
 mod messages;
 mod motion;
 mod onoff;
-#[cfg(test)]
-mod tests;
 mod timing;
 
 pub use level::Level;

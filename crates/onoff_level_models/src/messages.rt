@@ -1,12 +1,19 @@
 //! From an access payload to a message of a model (Mesh Model 1.0.1, sections 3.2.1 and 3.2.2). Numbers stand with the low octet first.
 #![tactic(auto)]
 
-ghost use Rattle.std.specs.Prelude.{◌≡◌};
+ghost use Rattle.std.specs.Prelude.{◌≡◌, ◌+◌, ◌*◌};
 ghost use Rattle.model_states.specs.Level.{delta_params, level_get, level_message, level_set, move_params, set_params};
 ghost use Rattle.model_states.specs.OnOff.{onoff_get, onoff_message, onoff_set};
 
 use crate::timing::timing_of;
 use model_states::models::{LevelChange, LevelMessage, LevelSet, OnOffMessage, OnOffSet};
+
+// The opcode of these octets.
+fn opcode_of(high: u8, low: u8) -> u16
+    ensures { result ≡ high * 256 + low }
+{
+    u16::from_be_bytes([high, low])
+}
 
 // The parameters of a Get: none.
 fn onoff_get(params: &[u8]) -> Option<OnOffMessage>
@@ -42,7 +49,7 @@ pub fn onoff_message(payload: &[u8]) -> Option<OnOffMessage>
     ensures { result ≡ onoff_message payload.now }
 {
     match payload {
-        [high, low, params @ ..] => match u16::from_be_bytes([*high, *low]) {
+        [high, low, params @ ..] => match opcode_of(*high, *low) {
             0x8201 => onoff_get(params),
             0x8202 => onoff_set(true, params),
             0x8203 => onoff_set(false, params),
@@ -128,7 +135,7 @@ pub fn level_message(payload: &[u8]) -> Option<LevelMessage>
     ensures { result ≡ level_message payload.now }
 {
     match payload {
-        [high, low, params @ ..] => match u16::from_be_bytes([*high, *low]) {
+        [high, low, params @ ..] => match opcode_of(*high, *low) {
             0x8205 => level_get(params),
             0x8206 => set_params(true, params),
             0x8207 => set_params(false, params),

@@ -48,13 +48,22 @@ fn level_to(start: i16, target: i16, duration: u32, ticks: u64) -> i16
     (i64::from(start) + part) as i16
 }
 
+// A delta so many times.
+fn times(delta: i16, ticks: u64) -> i64
+    requires { ticks ≤ 2 ^ 48 }
+    ensures { result ≡ delta *ℤ pos ticks }
+{
+    i64::from(delta) * ticks as i64
+}
+
 // How far a Move has come; nowhere in no time.
 fn moved_by(delta: i16, ticks: u64, duration: u32) -> i64
     requires { ticks ≤ 2 ^ 48 }
     ensures { result ≡ way_gone delta ticks duration }
 {
-    let moved = i64::from(delta) * ticks as i64;
-    moved.checked_div(i64::from(duration)).unwrap_or(0)
+    times(delta, ticks)
+        .checked_div(i64::from(duration))
+        .unwrap_or(0)
 }
 
 // The level of a Move, which stops at its limit.

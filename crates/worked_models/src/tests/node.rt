@@ -1,5 +1,4 @@
 //! Messages to a node and what it publishes, by the tables of the standard and worked rows.
-#![tactic(auto)]
 
 ghost use Rattle.std.specs.Bool.{OnFalse};
 ghost use Rattle.std.specs.Prelude.{◌≤◌, ◌<◌, ◌^◌, ℕ, slice_index};
@@ -8,11 +7,11 @@ ghost use Rattle.node_records.specs.Meaning.{DoesNotFall, IsSaid};
 ghost use Rattle.record_types.specs.declared.records.StoreRecord.TheVariants as R;
 ghost use Rattle.store_definitions.specs.Ranges.{IsInRange};
 
-use crate::{Due, Message, NodeModels, Taken};
 use mesh_base::address::Address;
 use mesh_base::keys::UpperKey;
 use mesh_base::pair::{Name, Pair};
 use model_states::publication::HeartbeatRow;
+use node_models::{Due, Message, NodeModels, Taken};
 use node_records::Persist;
 use record_types::records::{PublishRow, StoreRecord};
 

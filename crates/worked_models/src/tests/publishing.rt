@@ -1,8 +1,7 @@
 //! Periods of each length, and heartbeats to their end.
-#![tactic(auto)]
 
-use crate::{HeartbeatRow, PublishRow, Publisher};
 use mesh_base::address::Address;
+use model_publish::{HeartbeatRow, PublishRow, Publisher};
 
 fn row(element: u16, model: u16, period: u8) -> PublishRow {
     PublishRow {
@@ -232,21 +231,4 @@ fn heartbeat_replaced(rt: HostRuntime) {
     p.heartbeat_set(300, &off);
     assert!(rt; p.heartbeat_due(1 << 48).is_none());
     assert!(rt; p.heartbeat() == off);
-}
-
-// Two heartbeats of 1 s and a row of 1 s, both set at once: by the first tick a heartbeat, by the end of the second a heartbeat and the row.
-#[test]
-fn worked_ticks(rt: HostRuntime) {
-    let mut p = Publisher::new(&[]);
-    p.heartbeat_set(0, &beat(2, 1));
-    p.set(0, &row(0x1201, 0x1000, 0x41));
-    for (now, beats, rows) in [
-        (1, true, 0),
-        (99, false, 0),
-        (100, true, 1),
-        (600, false, 1),
-    ] {
-        assert!(rt; p.due(now).len() == rows);
-        assert!(rt; p.heartbeat_due(now).is_some() == beats);
-    }
 }

@@ -1,9 +1,8 @@
 //! Messages to the models of a node with two elements, by the tables of the standard.
-#![tactic(auto)]
 
 ghost use Rattle.std.specs.Prelude.{◌≡◌, ◌≤◌};
 
-use crate::{ElementModels, LEVEL_SERVER, Message, ModelsTaken, ONOFF_SERVER};
+use element_models::{ElementModels, LEVEL_SERVER, Message, ModelsTaken, ONOFF_SERVER};
 use mesh_base::address::Address;
 use mesh_base::keys::UpperKey;
 use mesh_base::pair::{Name, Pair};
@@ -158,86 +157,107 @@ fn kept_values(rt: HostRuntime) {
     }
 }
 
+// To the first element, with its key, with others, and to other models and elements.
+const TO_FIRST: &[Step] = &[
+    (
+        0,
+        0x0100,
+        KEY,
+        b"\x82\x02\x01\x01",
+        &[(0, 0x1000, 1)],
+        &[(0, b"\x82\x04\x01")],
+    ),
+    (
+        1,
+        0x0100,
+        KEY,
+        b"\x82\x02\x01\x02",
+        &[],
+        &[(0, b"\x82\x04\x01")],
+    ),
+    (2, 0x0100, OTHER_KEY, b"\x82\x02\x00\x03", &[], &[]),
+    (3, 0x0100, Opened::Device, b"\x82\x02\x00\x03", &[], &[]),
+    (4, 0x0100, KEY, b"\x82\x05", &[], &[]),
+    (5, 0x0102, KEY, b"\x82\x02\x00\x03", &[], &[]),
+];
+
+// To the second element, and to a group of its Level Server and another one.
+const TO_SECOND: &[Step] = &[
+    (5, 0x0101, KEY, b"\x82\x02\x00\x03", &[], &[]),
+    (
+        6,
+        0x0101,
+        KEY,
+        b"\x82\x06\xff\xff\x04",
+        &[(1, 0x1002, 0xffff)],
+        &[(1, b"\x82\x08\xff\xff")],
+    ),
+    (
+        7,
+        0xc001,
+        KEY,
+        b"\x82\x06\x64\x00\x05",
+        &[(1, 0x1002, 0x64)],
+        &[(1, b"\x82\x08\x64\x00")],
+    ),
+    (8, 0xc002, KEY, b"\x82\x06\x00\x00\x06", &[], &[]),
+];
+
+// To another label, with another key, and to the label of the OnOff Server.
+const LABELLED: &[Step] = &[
+    (
+        9,
+        0xb529,
+        Opened::Label(5, [0x5b; 16]),
+        b"\x82\x03\x00\x06",
+        &[],
+        &[],
+    ),
+    (
+        9,
+        0xb529,
+        Opened::Label(6, LABEL),
+        b"\x82\x03\x00\x06",
+        &[],
+        &[],
+    ),
+    (
+        9,
+        0xb529,
+        Opened::Label(5, LABEL),
+        b"\x82\x03\x00\x06",
+        &[(0, 0x1000, 0)],
+        &[],
+    ),
+];
+
 // Only a model that the key is bound to takes a message, at its element's address, its groups and its labels. A record comes where the value
 // to be kept changes.
 #[test]
 fn messages(rt: HostRuntime) {
     let p = node();
     let mut models = ElementModels::open(&p);
-    let to_first: [Step; 6] = [
-        (
-            0,
-            0x0100,
-            KEY,
-            b"\x82\x02\x01\x01",
-            &[(0, 0x1000, 1)],
-            &[(0, b"\x82\x04\x01")],
-        ),
-        (
-            1,
-            0x0100,
-            KEY,
-            b"\x82\x02\x01\x02",
-            &[],
-            &[(0, b"\x82\x04\x01")],
-        ),
-        (2, 0x0100, OTHER_KEY, b"\x82\x02\x00\x03", &[], &[]),
-        (3, 0x0100, Opened::Device, b"\x82\x02\x00\x03", &[], &[]),
-        (4, 0x0100, KEY, b"\x82\x05", &[], &[]),
-        (5, 0x0102, KEY, b"\x82\x02\x00\x03", &[], &[]),
-    ];
-    assert!(rt; differs(&mut models, &p, &to_first) == None);
-    let to_second: [Step; 4] = [
-        (5, 0x0101, KEY, b"\x82\x02\x00\x03", &[], &[]),
-        (
-            6,
-            0x0101,
-            KEY,
-            b"\x82\x06\xff\xff\x04",
-            &[(1, 0x1002, 0xffff)],
-            &[(1, b"\x82\x08\xff\xff")],
-        ),
-        (
-            7,
-            0xc001,
-            KEY,
-            b"\x82\x06\x64\x00\x05",
-            &[(1, 0x1002, 0x64)],
-            &[(1, b"\x82\x08\x64\x00")],
-        ),
-        (8, 0xc002, KEY, b"\x82\x06\x00\x00\x06", &[], &[]),
-    ];
-    assert!(rt; differs(&mut models, &p, &to_second) == None);
-    let labelled: [Step; 3] = [
-        (
-            9,
-            0xb529,
-            Opened::Label(5, [0x5b; 16]),
-            b"\x82\x03\x00\x06",
-            &[],
-            &[],
-        ),
-        (
-            9,
-            0xb529,
-            Opened::Label(6, LABEL),
-            b"\x82\x03\x00\x06",
-            &[],
-            &[],
-        ),
-        (
-            9,
-            0xb529,
-            Opened::Label(5, LABEL),
-            b"\x82\x03\x00\x06",
-            &[(0, 0x1000, 0)],
-            &[],
-        ),
-    ];
-    assert!(rt; differs(&mut models, &p, &labelled) == None);
+    assert!(rt; differs(&mut models, &p, TO_FIRST) == None);
+    assert!(rt; differs(&mut models, &p, TO_SECOND) == None);
+    assert!(rt; differs(&mut models, &p, LABELLED) == None);
     assert!(rt; shows(&models, 0, ONOFF_SERVER, 9, b"\x82\x04\x00"));
     assert!(rt; shows(&models, 1, LEVEL_SERVER, 9, b"\x82\x08\x64\x00"));
 }
+
+// To all nodes, to all friends and to all relays.
+const FIXED: &[Step] = &[
+    (0, 0xffff, KEY, b"\x82\x01", &[], &[(0, b"\x82\x04\x00")]),
+    (
+        0,
+        0xffff,
+        KEY,
+        b"\x82\x05",
+        &[],
+        &[(0, b"\x82\x08\x00\x00")],
+    ),
+    (0, 0xfffd, KEY, b"\x82\x01", &[], &[(0, b"\x82\x04\x00")]),
+    (0, 0xfffe, KEY, b"\x82\x01", &[], &[]),
+];
 
 // The models of the first element alone take what goes to a fixed group, which all relays are only where the node is one.
 #[test]
@@ -246,21 +266,42 @@ fn fixed_groups(rt: HostRuntime) {
     p.relay = 0;
     let _ = p.binds.push((FIRST, LEVEL_SERVER, 5));
     let mut models = ElementModels::open(&p);
-    let steps: [Step; 4] = [
-        (0, 0xffff, KEY, b"\x82\x01", &[], &[(0, b"\x82\x04\x00")]),
-        (
-            0,
-            0xffff,
-            KEY,
-            b"\x82\x05",
-            &[],
-            &[(0, b"\x82\x08\x00\x00")],
-        ),
-        (0, 0xfffd, KEY, b"\x82\x01", &[], &[(0, b"\x82\x04\x00")]),
-        (0, 0xfffe, KEY, b"\x82\x01", &[], &[]),
-    ];
-    assert!(rt; differs(&mut models, &p, &steps) == None);
+    assert!(rt; differs(&mut models, &p, FIXED) == None);
 }
+
+// To a group of both elements.
+const BOTH: &[Step] = &[
+    (
+        0,
+        0xc001,
+        KEY,
+        b"\x82\x05",
+        &[],
+        &[(0, b"\x82\x08\x00\x00"), (1, b"\x82\x08\xfe\xff")],
+    ),
+    (
+        10,
+        0xc001,
+        KEY,
+        b"\x82\x06\x64\x00\x01\x0a\x00",
+        &[(0, 0x1002, 0x64), (1, 0x1002, 0x64)],
+        &[
+            (0, b"\x82\x08\x00\x00\x64\x00\x0a"),
+            (1, b"\x82\x08\xfe\xff\x64\x00\x0a"),
+        ],
+    ),
+    (
+        60,
+        0xc001,
+        KEY,
+        b"\x82\x05",
+        &[],
+        &[
+            (0, b"\x82\x08\x32\x00\x64\x00\x05"),
+            (1, b"\x82\x08\x31\x00\x64\x00\x05"),
+        ],
+    ),
+];
 
 // What goes to a group of both elements is stored and replied in their order. A change that takes its time is kept at once.
 #[test]
@@ -269,37 +310,5 @@ fn both_elements(rt: HostRuntime) {
     let _ = p.binds.push((FIRST, LEVEL_SERVER, 5));
     let _ = p.subs.push((FIRST, LEVEL_SERVER, Address(0xc001)));
     let mut models = ElementModels::open(&p);
-    let steps: [Step; 3] = [
-        (
-            0,
-            0xc001,
-            KEY,
-            b"\x82\x05",
-            &[],
-            &[(0, b"\x82\x08\x00\x00"), (1, b"\x82\x08\xfe\xff")],
-        ),
-        (
-            10,
-            0xc001,
-            KEY,
-            b"\x82\x06\x64\x00\x01\x0a\x00",
-            &[(0, 0x1002, 0x64), (1, 0x1002, 0x64)],
-            &[
-                (0, b"\x82\x08\x00\x00\x64\x00\x0a"),
-                (1, b"\x82\x08\xfe\xff\x64\x00\x0a"),
-            ],
-        ),
-        (
-            60,
-            0xc001,
-            KEY,
-            b"\x82\x05",
-            &[],
-            &[
-                (0, b"\x82\x08\x32\x00\x64\x00\x05"),
-                (1, b"\x82\x08\x31\x00\x64\x00\x05"),
-            ],
-        ),
-    ];
-    assert!(rt; differs(&mut models, &p, &steps) == None);
+    assert!(rt; differs(&mut models, &p, BOTH) == None);
 }
