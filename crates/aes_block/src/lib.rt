@@ -18,4 +18,3 @@ mod tables;
 
 pub use schedule::Schedule;
 pub use sums::add_to;
-

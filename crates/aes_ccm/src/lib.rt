@@ -9,4 +9,3 @@ mod sealing;
 mod stream;
 
 pub use sealing::{BadMic, seal, unseal};
-

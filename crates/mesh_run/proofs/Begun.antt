@@ -30,7 +30,7 @@ of_images : OneList → (rs : List StoreRecord) (chip : Chip) → AreWhole rs �
 of_images once rs chip whole honest tidy read = record {
   node = record {
     honest = honest;
-    each = λ c is. record { tidy = tidy c is; records = rs; read = read c is; whole = λ stands. whole (read c is).held.ranges; };
+    each = λ c is. record { tidy = tidy c is; records = rs; read = read c is; whole = λ stands. whole (read c is).held.ranges };
   };
   exactly = λ c found is recovers. once c found rs recovers (read c is).held;
 }
