@@ -400,18 +400,20 @@ fn nth(kind: u8, n: u16) -> Slot {
     let [_, low] = n.to_be_bytes();
     let [a, b] = n.saturating_add(0x0100).to_be_bytes();
     let [c, d] = n.saturating_add(0x0300).to_be_bytes();
-    let front: &[u8] = match kind {
-        5 => &[1, 0, low],
-        6 => &[1, 0, 0, 0, low],
-        7 => &[1, 0x12, 0x01, 0x10, 0x00, 0, low],
-        8 => &[1, 0x12, 0x01, 0x10, 0x00, 0xc0, low],
-        12 => &[1, 0x12, 0x01, 0x10, 0x00, low],
-        13 => &[0x12, 0x01, 0x10, low, 0xc0, 0, 0, 0, 7, 0x41, 0],
-        _ => &[
-            a, b, 0x12, 0x34, 0x56, 0x78, 0, 0, 1, c, d, 0x12, 0x34, 0x56, 0x78, 0, 0, 1,
-        ],
-    };
-    slot(kind, front)
+    match kind {
+        5 => slot(kind, &[1, 0, low]),
+        6 => slot(kind, &[1, 0, 0, 0, low]),
+        7 => slot(kind, &[1, 0x12, 0x01, 0x10, 0x00, 0, low]),
+        8 => slot(kind, &[1, 0x12, 0x01, 0x10, 0x00, 0xc0, low]),
+        12 => slot(kind, &[1, 0x12, 0x01, 0x10, 0x00, low]),
+        13 => slot(kind, &[0x12, 0x01, 0x10, low, 0xc0, 0, 0, 0, 7, 0x41, 0]),
+        _ => slot(
+            kind,
+            &[
+                a, b, 0x12, 0x34, 0x56, 0x78, 0, 0, 1, c, d, 0x12, 0x34, 0x56, 0x78, 0, 0, 1,
+            ],
+        ),
+    }
 }
 
 const RESET: Slot = Slot {
