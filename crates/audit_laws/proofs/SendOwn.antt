@@ -1,13 +1,12 @@
--- The layers of the node, those without friendships and those below the access layer send from an element alone.
+-- The layers of the node and those below the access layer send from an element alone.
 use Rattle.std.proofs.lemmas.List.Elements.{All-from_recursion, All-nil, recursion_from_All}
 use Rattle.layer_laws.proofs.Built.{built_safe}
-use Rattle.layer_laws.proofs.Configured.{configured_safe}
 use Rattle.layer_laws.proofs.Node.{IsEntry, IsSameNode, entries_of}
-use Rattle.layer_laws.proofs.Own.{control_own, published_own, replies_own, segments_own, sent_publications_own, sent_replies_own}
+use Rattle.layer_laws.proofs.Own.{control_own, published_own, replies_own, segments_own}
 use Rattle.layer_laws.proofs.Parts.{acks_own}
 use Rattle.layer_laws.proofs.Safe.{node_safe}
 use Rattle.node_layers.specs.BuiltLayers.{built_layers}
-use Rattle.node_layers.specs.ConfiguredLayers.{configured_layers, sent_publications, sent_replies}
+use Rattle.node_layers.specs.ConfiguredLayers.{configured_layers}
 use Rattle.node_layers.specs.Friendship.{control_jobs}
 use Rattle.node_layers.specs.NodeLayers.{node_layers, published_at, replies_of}
 use Rattle.node_layers.specs.Reassembly.{acks_at}
@@ -17,7 +16,7 @@ use Rattle.run_definitions.specs.Fit.{IsOwn, IsOwnEvent}
 use Rattle.run_definitions.specs.History.{Told}
 use Rattle.run_safety.proofs.Lists.{every_map}
 use Rattle.store_definitions.specs.Config.{config_of}
-use Rattle.audit_laws.specs.Laws.{BuiltSendOwn, ConfiguredSendOwn, NodeSendOwn}
+use Rattle.audit_laws.specs.Laws.{BuiltSendOwn, NodeSendOwn}
 
 pub built_own : BuiltSendOwn
 unfolding built_layers
@@ -27,17 +26,6 @@ built_own = record {
   control_jobs = λ past c m h. All-nil (IsOwn c);
   replies = λ past c m h. All-nil (IsOwn c);
   published = λ past c ticks h. All-nil (IsOwn c);
-}
-
-pub configured_own : ConfiguredSendOwn
-unfolding configured_layers built_layers
-configured_own = record {
-  acks_due = λ past c ticks h. All-from_recursion (IsOwn c) (acks_at past c ticks) (acks_own configured_layers configured_safe past c ticks h.handled h.elements);
-  segments_due = λ past c ticks h. All-from_recursion (IsOwn c) (segments_at past c ticks) (segments_own past c ticks h.asked h.elements);
-  control_jobs = λ past c m h. All-nil (IsOwn c);
-  replies = λ past c m h. All-from_recursion (IsOwn c) (sent_replies past c m) (sent_replies_own past c m h.some h.elements);
-  published = λ past c ticks h.
-      All-from_recursion (IsOwn c) (sent_publications past c ticks) (sent_publications_own past c ticks (rw h.elements.elements h.some));
 }
 
 pub node_own : NodeSendOwn

@@ -8,7 +8,6 @@ use Rattle.mesh_types.specs.declared.events.Event.{Event}
 use Rattle.mesh_types.specs.declared.events.Event.TheVariants as E
 use Rattle.mesh_types.specs.declared.report.ReportLine.{ReportLine}
 use Rattle.node_layers.specs.BuiltLayers.{built_layers}
-use Rattle.node_layers.specs.ConfiguredLayers.{configured_layers}
 use Rattle.node_layers.specs.NodeLayers.{node_layers}
 use Rattle.report_definitions.specs.Record.{Run}
 use Rattle.report_definitions.specs.Report.{report_text}
@@ -58,9 +57,6 @@ pub record SendOwn (layers : Layers) : Type 0 where
 
 abbrev pub NodeSendOwn : Type 0
 NodeSendOwn = SendOwn node_layers
-
-abbrev pub ConfiguredSendOwn : Type 0
-ConfiguredSendOwn = SendOwn configured_layers
 
 abbrev pub BuiltSendOwn : Type 0
 BuiltSendOwn = SendOwn built_layers

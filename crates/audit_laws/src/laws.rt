@@ -2,20 +2,18 @@
 #![tactic(auto)]
 
 ghost use Rattle.audit_laws.specs.Covered.{AreReportsSound, ReportsAreSound};
-ghost use Rattle.audit_laws.specs.Laws.{AreReportsSafe, AreVerdictsSafe, BuiltSendOwn, ConfiguredSendOwn, NodeSendOwn, ReportsAreSafe, VerdictsAreSafe};
+ghost use Rattle.audit_laws.specs.Laws.{AreReportsSafe, AreVerdictsSafe, BuiltSendOwn, NodeSendOwn, ReportsAreSafe, VerdictsAreSafe};
 ghost use Rattle.audit_laws.specs.Reading.{LivesNameElements, ReportsAreRead};
 ghost use Rattle.node_layers.specs.BuiltLayers.{built_layers};
-ghost use Rattle.node_layers.specs.ConfiguredLayers.{configured_layers};
 ghost use Rattle.node_layers.specs.NodeLayers.{node_layers};
 
 /// The law of the audit. Take any script whose `send` lines name elements of the node, any run of it, over all lives, bearers, refills and
 /// power cuts, its report, with the octets of network PDUs or without, and any lines of keys in front. Of the lines that this text is read as
 /// no two use a nonce twice, and no two accept one message. It holds of all safe layers that send from an element alone, and so of the layers
-/// of the node, of those without friendships, which the machine has so far, and of those below the access layer.
+/// of the node, and of those below the access layer.
 pub fn audit_law()
     ensures safe { ReportsAreSafe }
     ensures node { AreReportsSafe node_layers }
-    ensures configured { AreReportsSafe configured_layers }
     ensures built { AreReportsSafe built_layers }
 {}
 
@@ -23,7 +21,6 @@ pub fn audit_law()
 pub fn verdict_law()
     ensures safe { VerdictsAreSafe }
     ensures node { AreVerdictsSafe node_layers }
-    ensures configured { AreVerdictsSafe configured_layers }
     ensures built { AreVerdictsSafe built_layers }
 {}
 
@@ -32,7 +29,6 @@ pub fn verdict_law()
 pub fn sound_law()
     ensures sound { ReportsAreSound }
     ensures node { AreReportsSound node_layers }
-    ensures configured { AreReportsSound configured_layers }
     ensures built { AreReportsSound built_layers }
 {}
 
@@ -48,10 +44,8 @@ pub fn script_law()
     ensures named { LivesNameElements }
 {}
 
-/// What the layers of the node send comes from an element of the node; so does what those without friendships send, which the machine has so
-/// far, and those below the access layer.
+/// What the layers of the node send comes from an element of the node; so does what those below the access layer send.
 pub fn sources_law()
     ensures node { NodeSendOwn }
-    ensures configured { ConfiguredSendOwn }
     ensures built { BuiltSendOwn }
 {}

@@ -12,7 +12,7 @@ use Rattle.mesh_base.specs.declared.pair.Pair.{Pair}
 use Rattle.mesh_types.specs.declared.answers.Answer.{Answer}
 use Rattle.mesh_types.specs.declared.answers.Answer.TheVariants as A
 use Rattle.mesh_types.specs.declared.events.Event.TheVariants as E
-use Rattle.node_layers.specs.ConfiguredLayers.{configured_layers}
+use Rattle.node_layers.specs.NodeLayers.{node_layers}
 use Rattle.store_definitions.proofs.Pushes.{config_push, kept_push}
 use Rattle.node_records.specs.Meaning.{IsMeaningOf}
 use Rattle.node_records.specs.Tables.{pair_of}
@@ -30,25 +30,25 @@ use Rattle.store_definitions.specs.Entries.{kept_after, kept_of, unexpired}
 -- What a network PDU stores: the name that it accepts, and then the changes that the message asks for.
 
 abbrev pub changes_in : Past → Insight → Answer → List StoreRecord
-changes_in past i (A.Delivered name dst key payload) = asked configured_layers past (message_of i name dst)
+changes_in past i (A.Delivered name dst key payload) = asked node_layers past (message_of i name dst)
 changes_in past i _ = []
 
 abbrev pub named_with : Option Name → List StoreRecord → List StoreRecord
 named_with None changes = []
 named_with (Some n) changes = R.Replay n None ∷ changes
 
-pub stores_named : (past : Past) (octets : List ℕ) (i : Insight) (a : Answer) → stores configured_layers past (E.Net octets) i a ≡ named_with (accepted a) (changes_in past i a)
+pub stores_named : (past : Past) (octets : List ℕ) (i : Insight) (a : Answer) → stores node_layers past (E.Net octets) i a ≡ named_with (accepted a) (changes_in past i a)
 unfolding stores
 stores_named past octets i (A.Delivered name dst key payload) = refl
 stores_named past octets i (A.Control name dst opcode params) = refl
 stores_named past octets i _ = refl
 
-pub changes_are : AreSafe configured_layers → (past : Past) (i : Insight) (a : Answer) → Every IsChange (changes_in past i a)
+pub changes_are : AreSafe node_layers → (past : Past) (i : Insight) (a : Answer) → Every IsChange (changes_in past i a)
 changes_are safe past i (A.Delivered name dst key payload) = pick (message_of i name dst)
   where
-    pick : (o : Option AccessMessage) → Every IsChange (option_map_or (configured_layers.changes past) o [])
+    pick : (o : Option AccessMessage) → Every IsChange (option_map_or (node_layers.changes past) o [])
     pick None = tt
-    pick (Some m) = recursion_from_All IsChange (configured_layers.changes past m) (safe.changes past m)
+    pick (Some m) = recursion_from_All IsChange (node_layers.changes past m) (safe.changes past m)
 changes_are safe past i _ = tt
 
 -- A change leaves the IV state, the mark and the names.

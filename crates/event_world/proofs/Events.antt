@@ -22,7 +22,7 @@ use Rattle.mesh_types.specs.declared.events.Event.{Event}
 use Rattle.mesh_types.specs.declared.events.Event.TheVariants as E
 use Rattle.mesh_world.specs.World.{after_all, World, WorldStep}
 use Rattle.mesh_world.specs.World.WorldStep.{Accept, Deliver}
-use Rattle.node_layers.specs.ConfiguredLayers.{configured_layers}
+use Rattle.node_layers.specs.NodeLayers.{node_layers}
 use Rattle.node_records.proofs.Said.{iv_of}
 use Rattle.node_records.specs.Meaning.{IsMeaningOf}
 use Rattle.node_records.specs.Tables.{config_in, entry_in, pair_of}
@@ -60,30 +60,30 @@ phase_nameless c index S.Phase0 iv = (tt, step_nameless c iv)
 
 -- it says no name, and its answer accepts none
 pub record IsSilent (past : Past) (event : Event) (answer : Answer) (i : Insight) : Type 0 where
-  pub nameless : Every IsNameless (stores configured_layers past event i answer)
+  pub nameless : Every IsNameless (stores node_layers past event i answer)
   pub none : accepted answer ≡ None
 
-bcn_silent : (past : Past) (octets : List ℕ) (i : Insight) → IsSilent past (E.Bcn octets) (answer_of configured_layers past (E.Bcn octets) i) i
+bcn_silent : (past : Past) (octets : List ℕ) (i : Insight) → IsSilent past (E.Bcn octets) (answer_of node_layers past (E.Bcn octets) i) i
 unfolding answer_of stores
 bcn_silent past octets i = pick (config_before past).reset i
   where
-    pick : (reset : Bool) (i : Insight) → IsSilent past (E.Bcn octets) (cond reset A.Reset (beacon_answer configured_layers past i)) i
+    pick : (reset : Bool) (i : Insight) → IsSilent past (E.Bcn octets) (cond reset A.Reset (beacon_answer node_layers past i)) i
     pick true i = record { nameless = tt; none = refl }
     pick false (OfBeacon (Some b)) = record { nameless = phase_nameless (config_before past) b.index _ _; none = refl }
     pick false (OfBeacon None) = record { nameless = tt; none = refl }
     pick false (OfPdu r low opening) = record { nameless = tt; none = refl }
     pick false OfNothing = record { nameless = tt; none = refl }
 
-ticks_nameless : (past : Past) (ticks : ℕ) (i : Insight) (a : Answer) → Every IsNameless (stores configured_layers past (E.Tick ticks) i a)
+ticks_nameless : (past : Past) (ticks : ℕ) (i : Insight) (a : Answer) → Every IsNameless (stores node_layers past (E.Tick ticks) i a)
 unfolding stores
 ticks_nameless past ticks i (A.Ticked now) = pick (eqb (hours_passed past ticks) 0)
   where
-    pick : (b : Bool) → Every IsNameless (cond b [] (R.Hour (hours_step configured_layers past ticks).0.hours (hours_step configured_layers past ticks).0.since ∷ step_records (config_before past) (hours_step configured_layers past ticks).1))
+    pick : (b : Bool) → Every IsNameless (cond b [] (R.Hour (hours_step node_layers past ticks).0.hours (hours_step node_layers past ticks).0.since ∷ step_records (config_before past) (hours_step node_layers past ticks).1))
     pick true = tt
-    pick false = (tt, step_nameless (config_before past) (hours_step configured_layers past ticks).1)
+    pick false = (tt, step_nameless (config_before past) (hours_step node_layers past ticks).1)
 ticks_nameless past ticks i _ = tt
 
-tick_silent : (past : Past) (ticks : ℕ) (i : Insight) → IsSilent past (E.Tick ticks) (answer_of configured_layers past (E.Tick ticks) i) i
+tick_silent : (past : Past) (ticks : ℕ) (i : Insight) → IsSilent past (E.Tick ticks) (answer_of node_layers past (E.Tick ticks) i) i
 unfolding answer_of
 tick_silent past ticks i = record { nameless = ticks_nameless past ticks i _; none = pick (config_before past).reset }
   where
@@ -101,18 +101,18 @@ IsOwn (E.Bcn octets) = ⊥
 IsOwn (E.Tick ticks) = ⊥
 IsOwn _ = ⊤
 
-own_silent : (past : Past) (event : Event) (i : Insight) → IsOwn event → IsSilent past event (answer_of configured_layers past event i) i
+own_silent : (past : Past) (event : Event) (i : Insight) → IsOwn event → IsSilent past event (answer_of node_layers past event i) i
 unfolding answer_of stores
 own_silent past (E.Net octets) i h = absurd h
 own_silent past (E.Bcn octets) i h = absurd h
 own_silent past (E.Tick ticks) i h = absurd h
 own_silent past (E.Send element dst ttl key payload) i h =
-    record { nameless = tt; none = silent_none _ (nothing_silent configured_layers past (E.Send element dst ttl key payload)) }
-own_silent past (E.Raw dst ttl tpdu) i h = record { nameless = tt; none = silent_none _ (nothing_silent configured_layers past (E.Raw dst ttl tpdu)) }
+    record { nameless = tt; none = silent_none _ (nothing_silent node_layers past (E.Send element dst ttl key payload)) }
+own_silent past (E.Raw dst ttl tpdu) i h = record { nameless = tt; none = silent_none _ (nothing_silent node_layers past (E.Raw dst ttl tpdu)) }
 own_silent past (E.Begin pair dst src ttl net akf aid upper) i h =
-    record { nameless = tt; none = silent_none _ (nothing_silent configured_layers past (E.Begin pair dst src ttl net akf aid upper)) }
+    record { nameless = tt; none = silent_none _ (nothing_silent node_layers past (E.Begin pair dst src ttl net akf aid upper)) }
 own_silent past (E.Kept lpn fsn name pdu) i h =
-    record { nameless = tt; none = silent_none _ (nothing_silent configured_layers past (E.Kept lpn fsn name pdu)) }
+    record { nameless = tt; none = silent_none _ (nothing_silent node_layers past (E.Kept lpn fsn name pdu)) }
 
 -- An accepted message: its IV Index is read, and its name is newer than the entry of its source.
 record IsFresh (past : Past) (n : Name) : Type 0 where
@@ -124,21 +124,21 @@ under_current iv heard current same (inl e) = inl (same ∙ e)
 under_current iv heard current same (inr e) = inr (ap (λ n. n + 1) same ∙ e)
 
 fresh_reading : (past : Past) (octets : List ℕ) (reading : Option Reading) (low : Option Lower) (opening : Option Opening) (n : Name)
-    → IsReading configured_layers past octets reading → accepted (pdu_answer configured_layers past (OfPdu reading low opening)) ≡ Some n → IsFresh past n
+    → IsReading node_layers past octets reading → accepted (pdu_answer node_layers past (OfPdu reading low opening)) ≡ Some n → IsFresh past n
 fresh_reading past octets None low opening n h e = absurd cc
 fresh_reading past octets (Some r) low opening n h e =
-    let from : AcceptedFrom past r n = pdu_accepts configured_layers past r low opening n e in
+    let from : AcceptedFrom past r n = pdu_accepts node_layers past r low opening n e in
     record {
       read = under_current n.pair.iv r.fields.iv (config_before past).iv.current from.iv h.1.reads.iv.0;
       newer = from.newer;
     }
 
-fresh : (past : Past) (event : Event) (i : Insight) (n : Name) → Sees configured_layers past event i → accepted (answer_of configured_layers past event i) ≡ Some n → IsFresh past n
+fresh : (past : Past) (event : Event) (i : Insight) (n : Name) → Sees node_layers past event i → accepted (answer_of node_layers past event i) ≡ Some n → IsFresh past n
 unfolding answer_of
 fresh past _ _ n (sees_pdu {octets = octets} {reading = reading} {low = low} {opening = opening} reset r l o) e =
     fresh_reading past octets reading low opening n r (reset_accepts _ _ n e)
-fresh past _ _ n (sees_beacon {b = b} reset k) e = absurd (nothing_accepted _ n (unless_silent past _ (beacon_silent configured_layers past b)) e)
-fresh past _ _ n (sees_nothing {event = event} h) e = absurd (nothing_accepted _ n (nothing_silent configured_layers past event) e)
+fresh past _ _ n (sees_beacon {b = b} reset k) e = absurd (nothing_accepted _ n (unless_silent past _ (beacon_silent node_layers past b)) e)
+fresh past _ _ n (sees_nothing {event = event} h) e = absurd (nothing_accepted _ n (nothing_silent node_layers past event) e)
 
 above : (kept : Option Pair) (p : Pair) → replayed kept p ≡ None → IsAboveKept kept p
 above None p e = tt
@@ -148,7 +148,7 @@ above (Some kept) p e = by_test (is_newer p kept) refl e
     by_test true is e = is
     by_test false is e = absurd cc
 
-module _ (safe : AreSafe configured_layers) (w : World) (past : Past) (p q : Persist) (world : IsWorldOf w p p.mark) (meaning : IsMeaningOf past.records p) (ranges : All IsInRange past.records) where
+module _ (safe : AreSafe node_layers) (w : World) (past : Past) (p q : Persist) (world : IsWorldOf w p p.mark) (meaning : IsMeaningOf past.records p) (ranges : All IsInRange past.records) where
   same : config_in p ≡ config_of past.records
   same = meaning.config
 
@@ -206,20 +206,20 @@ module _ (safe : AreSafe configured_layers) (w : World) (past : Past) (p q : Per
   net_goes changes answer None none are is_fresh after = silent_goes [] answer tt none tt after
   net_goes changes answer (Some n) taken are is_fresh after = name_goes n changes answer taken are (is_fresh n taken) after
 
-  by_silence : (event : Event) (i : Insight) → IsSilent past event (answer_of configured_layers past event i) i
-      → AreMoves (config_in p) (stores configured_layers past event i (answer_of configured_layers past event i))
-      → IsMeaningOf (past.records ++ stores configured_layers past event i (answer_of configured_layers past event i)) q
-      → GoesBy (event_steps (config_in p) (stores configured_layers past event i (answer_of configured_layers past event i)) (answer_of configured_layers past event i)) w q q.mark
+  by_silence : (event : Event) (i : Insight) → IsSilent past event (answer_of node_layers past event i) i
+      → AreMoves (config_in p) (stores node_layers past event i (answer_of node_layers past event i))
+      → IsMeaningOf (past.records ++ stores node_layers past event i (answer_of node_layers past event i)) q
+      → GoesBy (event_steps (config_in p) (stores node_layers past event i (answer_of node_layers past event i)) (answer_of node_layers past event i)) w q q.mark
   by_silence event i h moves after = silent_goes _ _ h.nameless h.none moves after
 
-  goes_now : (event : Event) (i : Insight) → Sees configured_layers past event i
-      → AreMoves (config_in p) (stores configured_layers past event i (answer_of configured_layers past event i))
-      → IsMeaningOf (past.records ++ stores configured_layers past event i (answer_of configured_layers past event i)) q
-      → GoesBy (event_steps (config_in p) (stores configured_layers past event i (answer_of configured_layers past event i)) (answer_of configured_layers past event i)) w q q.mark
+  goes_now : (event : Event) (i : Insight) → Sees node_layers past event i
+      → AreMoves (config_in p) (stores node_layers past event i (answer_of node_layers past event i))
+      → IsMeaningOf (past.records ++ stores node_layers past event i (answer_of node_layers past event i)) q
+      → GoesBy (event_steps (config_in p) (stores node_layers past event i (answer_of node_layers past event i)) (answer_of node_layers past event i)) w q q.mark
   goes_now (E.Net octets) i sees moves after =
-      let answer : Answer = answer_of configured_layers past (E.Net octets) i in
+      let answer : Answer = answer_of node_layers past (E.Net octets) i in
       let changes : List StoreRecord = changes_in past i answer in
-      let is : stores configured_layers past (E.Net octets) i answer ≡ named_with (accepted answer) changes = stores_named past octets i answer in
+      let is : stores node_layers past (E.Net octets) i answer ≡ named_with (accepted answer) changes = stores_named past octets i answer in
       subst (λ items. GoesBy (event_steps (config_in p) items answer) w q q.mark) (sym is)
       (net_goes changes answer (accepted answer) refl (changes_are safe past i answer) (λ n e. fresh past (E.Net octets) i n sees e)
       (subst (λ items. IsMeaningOf (past.records ++ items) q) is after))
@@ -233,10 +233,10 @@ module _ (safe : AreSafe configured_layers) (w : World) (past : Past) (p q : Per
   goes_now (E.Kept lpn fsn name pdu) i sees moves after =
       by_silence (E.Kept lpn fsn name pdu) i (own_silent past (E.Kept lpn fsn name pdu) i tt) moves after
 
-  pub event_goes : (event : Event) (i : Insight) (answer : Answer) → Sees configured_layers past event i → answer ≡ answer_of configured_layers past event i
-      → AreMoves (config_in p) (stores configured_layers past event i answer) → IsMeaningOf (past.records ++ stores configured_layers past event i answer) q
-      → GoesBy (event_steps (config_in p) (stores configured_layers past event i answer) answer) w q q.mark
+  pub event_goes : (event : Event) (i : Insight) (answer : Answer) → Sees node_layers past event i → answer ≡ answer_of node_layers past event i
+      → AreMoves (config_in p) (stores node_layers past event i answer) → IsMeaningOf (past.records ++ stores node_layers past event i answer) q
+      → GoesBy (event_steps (config_in p) (stores node_layers past event i answer) answer) w q q.mark
   event_goes event i answer sees is moves after =
-      subst (λ (a : Answer). GoesBy (event_steps (config_in p) (stores configured_layers past event i a) a) w q q.mark) (sym is)
-      (goes_now event i sees (subst (λ (a : Answer). AreMoves (config_in p) (stores configured_layers past event i a)) is moves)
-      (subst (λ (a : Answer). IsMeaningOf (past.records ++ stores configured_layers past event i a) q) is after))
+      subst (λ (a : Answer). GoesBy (event_steps (config_in p) (stores node_layers past event i a) a) w q q.mark) (sym is)
+      (goes_now event i sees (subst (λ (a : Answer). AreMoves (config_in p) (stores node_layers past event i a)) is moves)
+      (subst (λ (a : Answer). IsMeaningOf (past.records ++ stores node_layers past event i a) q) is after))

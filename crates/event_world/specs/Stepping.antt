@@ -7,7 +7,7 @@ use Rattle.mesh_types.specs.declared.answers.Answer.{Answer}
 use Rattle.mesh_types.specs.declared.events.Event.{Event}
 use Rattle.mesh_world.specs.World.{World, WorldStep}
 use Rattle.mesh_world.specs.World.WorldStep.{Accept, Advance, Deliver, Publish, Reserve}
-use Rattle.node_layers.specs.ConfiguredLayers.{configured_layers}
+use Rattle.node_layers.specs.NodeLayers.{node_layers}
 use Rattle.node_records.specs.Meaning.{IsMeaningOf}
 use Rattle.node_records.specs.Tables.{config_in}
 use Rattle.node_records.specs.declared.persist.Persist.{Persist}
@@ -51,6 +51,6 @@ pub record HasStepped (w : World) (p q : Persist) (event : Event) (answer : Answ
   pub past : Past
   pub meaning : IsMeaningOf past.records p
   pub insight : Insight
-  pub sees : Sees configured_layers past event insight
-  pub answer_is : answer ≡ answer_of configured_layers past event insight
-  pub goes : GoesBy (event_steps (config_in p) (stores configured_layers past event insight answer) answer) w q q.mark
+  pub sees : Sees node_layers past event insight
+  pub answer_is : answer ≡ answer_of node_layers past event insight
+  pub goes : GoesBy (event_steps (config_in p) (stores node_layers past event insight answer) answer) w q q.mark

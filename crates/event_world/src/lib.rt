@@ -12,7 +12,7 @@ ghost use Rattle.event_world.specs.Stepping.{event_steps};
 ghost use Rattle.mesh_types.specs.declared.answers.Answer.{Answer};
 ghost use Rattle.mesh_types.specs.declared.events.Event.{Event};
 ghost use Rattle.mesh_world.specs.World.{World};
-ghost use Rattle.node_layers.specs.ConfiguredLayers.{configured_layers};
+ghost use Rattle.node_layers.specs.NodeLayers.{node_layers};
 ghost use Rattle.node_records.specs.Meaning.{IsMeaningOf};
 ghost use Rattle.node_records.specs.Tables.{config_in};
 ghost use Rattle.node_records.specs.declared.persist.Persist.{Persist};
@@ -23,7 +23,7 @@ ghost use Rattle.run_definitions.specs.Stores.{stores};
 ghost use Rattle.store_definitions.specs.Ranges.{IsInRange};
 ghost use Rattle.store_world.specs.Standing.{GoesBy, IsWorldOf};
 
-use layer_laws::laws::configured_law;
+use layer_laws::laws::node_law;
 
 /// From a world of a store that says the records of a past, and whose mark is published, an event that was read and answered by the
 /// definitions goes by its steps to a world of the store that says these records with those of the event behind them; its mark is published
@@ -31,11 +31,11 @@ use layer_laws::laws::configured_law;
 pub fn event_law()
     ensures steps { (w : World) (past : Past) (p q : Persist) (event : Event) (insight : Insight) (answer : Answer)
         → IsWorldOf w p p.mark → IsMeaningOf past.records p → All IsInRange past.records
-        → Sees configured_layers past event insight → answer ≡ answer_of configured_layers past event insight
-        → AreMoves (config_in p) (stores configured_layers past event insight answer)
-        → IsMeaningOf (past.records ++ stores configured_layers past event insight answer) q
-        → GoesBy (event_steps (config_in p) (stores configured_layers past event insight answer) answer) w q q.mark }
+        → Sees node_layers past event insight → answer ≡ answer_of node_layers past event insight
+        → AreMoves (config_in p) (stores node_layers past event insight answer)
+        → IsMeaningOf (past.records ++ stores node_layers past event insight answer) q
+        → GoesBy (event_steps (config_in p) (stores node_layers past event insight answer) answer) w q q.mark }
 {
     // It does nothing when it runs: the proof uses what it says.
-    configured_law();
+    node_law();
 }

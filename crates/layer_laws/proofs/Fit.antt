@@ -13,16 +13,15 @@ use Rattle.run_definitions.specs.History.{Told}
 use Rattle.run_safety.proofs.Lists.{every_map}
 use Rattle.store_definitions.specs.Config.{config_of}
 use Rattle.layer_laws.specs.Laws.{StoreFitting}
-use Rattle.layer_laws.proofs.Configured.{configured_storable}
-use Rattle.layer_laws.proofs.Changes.{changes_storable, sound_of}
+use Rattle.layer_laws.proofs.Changes.{changes_storable, sound_of, sound_within}
 use Rattle.layer_laws.proofs.Node.{IsEntry, IsSameNode, entries_of}
 use Rattle.layer_laws.proofs.Own.{control_own, published_own, replies_own, segments_own}
 use Rattle.layer_laws.proofs.Parts.{acks_own}
 use Rattle.layer_laws.proofs.Safe.{node_safe}
 
 pub node_storable : StoreFitting node_layers
-unfolding node_layers
-node_storable = configured_storable
+unfolding node_layers configured_layers
+node_storable past m whole limits octets = changes_storable past m (sound_within past.records whole limits) (recursion_from_All (λ x. x < 2 ^ 8) m.payload octets)
 
 pub node_fit : AreFit node_layers
 unfolding node_layers configured_layers built_layers

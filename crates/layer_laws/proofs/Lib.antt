@@ -12,4 +12,3 @@ pub mod Safe
 pub mod Own
 pub mod Fit
 pub mod Built
-pub mod Configured

@@ -27,8 +27,8 @@ use Rattle.mesh_types.specs.declared.answers.Answer.TheVariants as A
 use Rattle.mesh_types.specs.declared.events.Event.{Event}
 use Rattle.mesh_types.specs.declared.events.Event.TheVariants as E
 use Rattle.model_states.specs.Publication.{heartbeat_due, heartbeat_shown, rows_due}
-use Rattle.node_layers.specs.ConfiguredLayers.{reply_job, sent_publication, sent_publications, sent_replies, sent_reply}
-use Rattle.node_layers.specs.Friendship.{act_of, config_after, control_jobs, ended_calls, friends, no_friends, own_short, publication_short, replies_to}
+use Rattle.node_layers.specs.ConfiguredLayers.{reply_job, sent_publication, sent_reply}
+use Rattle.node_layers.specs.Friendship.{act_of, config_after, control_jobs, ended_calls, friends, own_short, publication_short, replies_to}
 use Rattle.node_layers.specs.Models.{element_replies, elements_of, level_answer, model_replies, onoff_answer}
 use Rattle.node_layers.specs.NodeLayers.{published_at, published_jobs, replies_of, reply_jobs}
 use Rattle.node_layers.specs.Publishing.{Publication, heartbeat_job, heartbeat_jobs, is_own_row, is_still_held, publication_job, publication_of, publications_due, published}
@@ -174,10 +174,6 @@ sent_reply_own : (past : Past) (c : Config) (m : AccessMessage) → HasElements 
 sent_reply_own past c m s reply k =
     every_under (IsOwn c) c m.net (reply_job c m reply) (λ material. place_own c reply.0 (same_place (config_before past) c reply.0 (elements_same past c s) k))
 
-pub sent_replies_own : (past : Past) (c : Config) (m : AccessMessage) → 1 ≤ (config_before past).elements → HasElements past c → Every (IsOwn c) (sent_replies past c m)
-sent_replies_own past c m h s =
-    every_flat (IsPlaced (config_before past)) (IsOwn c) (sent_reply c m) (sent_reply_own past c m s) (replies_to past no_friends m) (replies_placed past no_friends m h)
-
 pub replies_own : (past : Past) (c : Config) (m : AccessMessage) → 1 ≤ (config_before past).elements → HasElements past c → Every (IsOwn c) (replies_of past c m)
 replies_own past c m h s =
     let st : FriendsState = fold friends_after (friends past) (ended_calls (config_before past) m) in
@@ -212,12 +208,6 @@ heartbeat_own past c ticks h =
 
 sent_publication_own : (c : Config) (p : Publication) → IsOwnPublication c p → Every (IsOwn c) (sent_publication c p)
 sent_publication_own c p k = every_under (IsOwn c) c p.net (publication_job p) (λ material. k)
-
-pub sent_publications_own : (past : Past) (c : Config) (ticks : ℕ) → 1 ≤ c.elements → Every (IsOwn c) (sent_publications past c ticks)
-sent_publications_own past c ticks h =
-    every_append (IsOwn c) (flat_map (sent_publication c) (publications_due past c ticks)) (heartbeat_jobs past c ticks)
-    (every_flat (IsOwnPublication c) (IsOwn c) (sent_publication c) (sent_publication_own c) (publications_due past c ticks) (due_own past c ticks))
-    (heartbeat_own past c ticks h)
 
 pub published_own : (past : Past) (c : Config) (ticks : ℕ) → 1 ≤ c.elements → Every (IsOwn c) (published_at past c ticks)
 published_own past c ticks h =

@@ -17,8 +17,8 @@ use Rattle.mesh_types.specs.declared.events.Event.{Event}
 use Rattle.mesh_types.specs.declared.events.Event.TheVariants as E
 use Rattle.model_states.specs.Publication.{heartbeat_due}
 use Rattle.node_layers.specs.BuiltLayers.{built_layers}
-use Rattle.node_layers.specs.ConfiguredLayers.{changes_of, configured_layers, reply_job, sent_publication, sent_publications, sent_replies, sent_reply}
-use Rattle.node_layers.specs.Friendship.{control_jobs, ended_calls, friends, no_friends, replies_to}
+use Rattle.node_layers.specs.ConfiguredLayers.{changes_of, configured_layers, reply_job, sent_publication, sent_reply}
+use Rattle.node_layers.specs.Friendship.{control_jobs, ended_calls, friends, replies_to}
 use Rattle.node_layers.specs.NodeLayers.{node_layers, published_at, published_jobs, replies_of, reply_jobs}
 use Rattle.node_layers.specs.Publishing.{Publication, heartbeat_job, heartbeat_jobs, publication_job, publications_due, published}
 use Rattle.node_layers.specs.Reassembly.{acks_at, due_job, due_jobs}
@@ -135,14 +135,6 @@ acks_safe past c ticks = every_flat_any (IsFitJob past) (due_jobs c) (λ a. ever
 
 pub segments_safe : (past : Past) (c : Config) (ticks : ℕ) → Every (IsFitJob past) (segments_at past c ticks)
 segments_safe past c ticks = every_flat_any (IsFitJob past) (round_jobs c (later past ticks)) (round_safe past c (later past ticks)) (messages past)
-
-pub sent_replies_safe : (past : Past) (c : Config) (m : AccessMessage) → Every (IsFitJob past) (sent_replies past c m)
-sent_replies_safe past c m = every_flat_any (IsFitJob past) (sent_reply c m) (sent_reply_safe past c m) (replies_to past no_friends m)
-
-pub sent_publications_safe : (past : Past) (c : Config) (ticks : ℕ) → Every (IsFitJob past) (sent_publications past c ticks)
-sent_publications_safe past c ticks =
-    every_append (IsFitJob past) (flat_map (sent_publication c) (publications_due past c ticks)) (heartbeat_jobs past c ticks)
-    (every_flat_any (IsFitJob past) (sent_publication c) (sent_publication_safe past c) (publications_due past c ticks)) (heartbeat_safe past c ticks)
 
 replies_safe : (past : Past) (c : Config) (m : AccessMessage) → Every (IsFitJob past) (replies_of past c m)
 replies_safe past c m =

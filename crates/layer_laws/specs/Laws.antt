@@ -1,8 +1,6 @@
--- What the layers of the node have, all of them, those without friendships, and those below the access layer: safety, and that what they
--- store and send is fit.
+-- What the layers of the node have, all of them and those below the access layer: safety, and that what they store and send is fit.
 use Rattle.std.specs.Prelude.{◌<◌, ◌≤◌, ◌^◌, [], ◌∷◌, ◌++◌, length, None, All}
 use Rattle.node_layers.specs.BuiltLayers.{built_layers}
-use Rattle.node_layers.specs.ConfiguredLayers.{configured_layers}
 use Rattle.node_layers.specs.NodeLayers.{node_layers}
 use Rattle.record_types.specs.declared.records.StoreRecord.TheVariants as R
 use Rattle.report_definitions.specs.Record.{Run}
@@ -21,12 +19,6 @@ BuiltIsSafe = AreSafe built_layers
 
 abbrev pub BuiltIsFit : Type 0
 BuiltIsFit = AreFit built_layers
-
-abbrev pub ConfiguredIsSafe : Type 0
-ConfiguredIsSafe = AreSafe configured_layers
-
-abbrev pub ConfiguredIsFit : Type 0
-ConfiguredIsFit = AreFit configured_layers
 
 abbrev pub NodeIsSafe : Type 0
 NodeIsSafe = AreSafe node_layers

@@ -1,9 +1,8 @@
 //! What the layers of a node have: safety, and that what they store and send is fit.
 #![tactic(auto)]
 
-ghost use Rattle.layer_laws.specs.Laws.{BuiltIsFit, BuiltIsSafe, ConfiguredIsFit, ConfiguredIsSafe, NodeIsFit, NodeIsSafe, RunsDeliverOnce, RunsReuseNothing, StoreFitting};
+ghost use Rattle.layer_laws.specs.Laws.{BuiltIsFit, BuiltIsSafe, NodeIsFit, NodeIsSafe, RunsDeliverOnce, RunsReuseNothing, StoreFitting};
 ghost use Rattle.node_layers.specs.BuiltLayers.{built_layers};
-ghost use Rattle.node_layers.specs.ConfiguredLayers.{configured_layers};
 ghost use Rattle.node_layers.specs.NodeLayers.{node_layers};
 
 /// The law of the layers below the access layer: they are safe, so no run of a node with them reuses a nonce or delivers a message twice;
@@ -13,17 +12,6 @@ pub fn built_law()
     ensures fit { BuiltIsFit }
     ensures no_reuse { RunsReuseNothing built_layers }
     ensures at_most_once { RunsDeliverOnce built_layers }
-{}
-
-/// The law of the layers of a node without friendships, with its configuration, its models and what it publishes: they are safe, so no run of
-/// it reuses a nonce or delivers a message twice; what they store for a message is in range, within the limits of the store, and keeps the
-/// node whole, also where its records are known by what they say alone (`storable`); and what they send comes from an element.
-pub fn configured_law()
-    ensures safe { ConfiguredIsSafe }
-    ensures fit { ConfiguredIsFit }
-    ensures storable { StoreFitting configured_layers }
-    ensures no_reuse { RunsReuseNothing configured_layers }
-    ensures at_most_once { RunsDeliverOnce configured_layers }
 {}
 
 /// The law of all layers of the node: they are safe, so no run of it reuses a nonce or delivers a message twice; what they store for a message

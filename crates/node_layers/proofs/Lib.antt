@@ -1,3 +1,3 @@
 pub mod Segments
-pub mod Hearing
 pub mod Steps
+pub mod FriendKeys

@@ -90,18 +90,10 @@ pub built_whole : HasWhole built_layers
 unfolding built_layers
 built_whole past r n low octets e = octets_are (held past) (now_of past.told) (part_heard (config_before past) r n low) octets e
 
-pub configured_answers : AnswersSegments configured_layers
-unfolding configured_layers
-configured_answers = built_answers
-
-pub configured_whole : HasWhole configured_layers
-unfolding configured_layers
-configured_whole = built_whole
-
 pub node_answers : AnswersSegments node_layers
-unfolding node_layers
-node_answers = configured_answers
+unfolding node_layers configured_layers
+node_answers = built_answers
 
 pub node_whole : HasWhole node_layers
-unfolding node_layers
-node_whole = configured_whole
+unfolding node_layers configured_layers
+node_whole = built_whole

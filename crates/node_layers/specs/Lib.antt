@@ -8,5 +8,4 @@ pub mod BuiltLayers
 pub mod ConfiguredLayers
 pub mod NodeLayers
 pub mod Segments
-pub mod Hearing
 pub mod Steps

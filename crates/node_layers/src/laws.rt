@@ -2,8 +2,6 @@
 #![tactic(auto)]
 
 ghost use Rattle.node_layers.specs.BuiltLayers.{built_layers};
-ghost use Rattle.node_layers.specs.ConfiguredLayers.{configured_layers};
-ghost use Rattle.node_layers.specs.Hearing.{AnswerAlike, ReadAlike};
 ghost use Rattle.node_layers.specs.NodeLayers.{node_layers};
 ghost use Rattle.node_layers.specs.Segments.{AnswersSegments, HasWhole};
 ghost use Rattle.node_layers.specs.Steps.{CacheGoesOn, FriendsGoOn, LevelGoesOn, OnOffGoesOn, OwnGoOn, PartsGoOn, PublishedGoesOn, SegmentedGoesOn, SegmentedIsAny, TimeGoesOn};
@@ -12,18 +10,8 @@ ghost use Rattle.node_layers.specs.Steps.{CacheGoesOn, FriendsGoOn, LevelGoesOn,
 pub fn segment_law()
     ensures built_answers { AnswersSegments built_layers }
     ensures built_whole { HasWhole built_layers }
-    ensures configured_answers { AnswersSegments configured_layers }
-    ensures configured_whole { HasWhole configured_layers }
     ensures node_answers { AnswersSegments node_layers }
     ensures node_whole { HasWhole node_layers }
-{}
-
-/// The layers without friendships hear as those below them do: after the same past and records an event is answered alike over both, and what
-/// octets are read as over those below they are read as over these. What is stored, replied and published for an event is not asked for its
-/// own answer.
-pub fn hearing_law()
-    ensures answers { AnswerAlike configured_layers built_layers }
-    ensures reads { ReadAlike built_layers configured_layers }
 {}
 
 /// An entry more is one step of each state: of the time, the messages in reassembly, the own segmented messages, the friendships, the models

@@ -7,10 +7,10 @@
 //! - `NodeLayers`: the constant, `node_layers`
 //! - `BuiltLayers`: reassembly and own segmented messages alone, `built_layers`
 //! - `ConfiguredLayers`: these with the configuration, the models and what is published, `configured_layers`: all but friendships
-//! - `Segments`, `Hearing`, `Steps`: what the laws of `laws` say: the answer to a segment by the state of reassembly, which layers hear alike, and
-//!   that an entry more is one step of each state
+//! - `Segments`, `Steps`: what the laws of `laws` say: the answer to a segment by the state of reassembly, and that an entry more is one step
+//!   of each state
 //!
-//! That all three have the properties `AreSafe` of `run_safety` and `AreFit` of `run_definitions` is proved in `layer_laws`.
+//! That `node_layers` and `built_layers` have the properties `AreSafe` of `run_safety` and `AreFit` of `run_definitions` is proved in `layer_laws`.
 #![tactic(auto)]
 
 pub mod laws;

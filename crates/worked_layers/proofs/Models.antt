@@ -25,17 +25,3 @@ level_moves net_key dev_key app_key pdu aid = record { binds = refl; begins = re
 pub heart_beats : HeartBeats node_layers
 unfolding node_layers configured_layers built_layers answer_of jobs_of stores changed config_answer first_answers middle_answers last_answers onoff_message level_message remaining_time row_index least_log
 heart_beats net_key dev_key app_key pdu aid = record { sets = refl; first = refl; waits = refl; second = refl; ends = refl }
-
--- The same without friendships.
-
-pub onoff_switches_alone : OnOffSwitches configured_layers
-unfolding configured_layers built_layers answer_of jobs_of stores changed config_answer first_answers middle_answers last_answers onoff_message level_message remaining_time
-onoff_switches_alone net_key dev_key app_key pdu aid = record { binds = refl; stores = refl; turns_on = refl; keeps = refl; opens = refl }
-
-pub level_moves_alone : LevelMoves configured_layers
-unfolding configured_layers built_layers answer_of jobs_of stores changed config_answer first_answers middle_answers last_answers onoff_message level_message remaining_time
-level_moves_alone net_key dev_key app_key pdu aid = record { binds = refl; begins = refl; moves = refl }
-
-pub heart_beats_alone : HeartBeats configured_layers
-unfolding configured_layers built_layers answer_of jobs_of stores changed config_answer first_answers middle_answers last_answers onoff_message level_message remaining_time row_index least_log
-heart_beats_alone net_key dev_key app_key pdu aid = record { sets = refl; first = refl; waits = refl; second = refl; ends = refl }

@@ -1,7 +1,6 @@
 //! Worked cases, as contracts of functions that do nothing.
 #![tactic(auto)]
 
-ghost use Rattle.node_layers.specs.ConfiguredLayers.{configured_layers};
 ghost use Rattle.node_layers.specs.NodeLayers.{node_layers};
 ghost use Rattle.worked_layers.specs.Friendship.{FriendshipStands, MessagesAreStored};
 ghost use Rattle.worked_layers.specs.IvIndex.{PdusAreReadUnder, UpdateEnds};
@@ -29,14 +28,11 @@ pub fn friendship_rows()
 {}
 
 /// A binding, then OnOff is set and kept for the next life; Level moves half of its way in half of its time; and a heartbeat is sent twice, a
-/// second apart. All this is so of the whole node, and of one without friendships.
+/// second apart.
 pub fn model_rows()
     ensures onoff { OnOffSwitches node_layers }
     ensures level { LevelMoves node_layers }
     ensures heartbeat { HeartBeats node_layers }
-    ensures configured_onoff { OnOffSwitches configured_layers }
-    ensures configured_level { LevelMoves configured_layers }
-    ensures configured_heartbeat { HeartBeats configured_layers }
 {}
 
 /// A PDU to another node goes on with one TTL less, from TTL 2 on; of nine messages in segments the ninth finds no room until the others are

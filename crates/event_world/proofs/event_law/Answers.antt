@@ -4,5 +4,5 @@ use Rattle.event_world.proofs.event_law.Goals as goal
 pub returns : goal.returns
 returns c = record {
   steps = λ w past p q event insight answer world meaning ranges sees is moves after.
-      event_goes c.configured_law.ensures.safe w past p q world meaning ranges event insight answer sees is moves after;
+      event_goes c.node_law.ensures.safe w past p q world meaning ranges event insight answer sees is moves after;
 }

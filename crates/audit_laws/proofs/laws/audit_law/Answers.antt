@@ -1,10 +1,8 @@
 use Rattle.layer_laws.proofs.Built.{built_safe}
-use Rattle.layer_laws.proofs.Configured.{configured_safe}
 use Rattle.layer_laws.proofs.Safe.{node_safe}
 use Rattle.node_layers.specs.BuiltLayers.{built_layers}
-use Rattle.node_layers.specs.ConfiguredLayers.{configured_layers}
 use Rattle.node_layers.specs.NodeLayers.{node_layers}
-use Rattle.audit_laws.proofs.SendOwn.{built_own, configured_own, node_own}
+use Rattle.audit_laws.proofs.SendOwn.{built_own, node_own}
 use Rattle.audit_laws.proofs.Sound.{reports_safe}
 use Rattle.audit_laws.proofs.laws.audit_law.Goals as goal
 
@@ -12,6 +10,5 @@ pub returns : goal.returns
 returns c = record {
   safe = reports_safe;
   node = λ s r asks run. reports_safe node_layers node_safe node_own s r asks run;
-  configured = λ s r asks run. reports_safe configured_layers configured_safe configured_own s r asks run;
   built = λ s r asks run. reports_safe built_layers built_safe built_own s r asks run;
 }

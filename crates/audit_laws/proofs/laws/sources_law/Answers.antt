@@ -1,5 +1,5 @@
-use Rattle.audit_laws.proofs.SendOwn.{built_own, configured_own, node_own}
+use Rattle.audit_laws.proofs.SendOwn.{built_own, node_own}
 use Rattle.audit_laws.proofs.laws.sources_law.Goals as goal
 
 pub returns : goal.returns
-returns c = record { node = node_own; configured = configured_own; built = built_own }
+returns c = record { node = node_own; built = built_own }

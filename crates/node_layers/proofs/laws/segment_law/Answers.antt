@@ -6,8 +6,6 @@ returns c =
     record {
       built_answers = proof.built_answers;
       built_whole = proof.built_whole;
-      configured_answers = proof.configured_answers;
-      configured_whole = proof.configured_whole;
       node_answers = proof.node_answers;
       node_whole = proof.node_whole;
     }

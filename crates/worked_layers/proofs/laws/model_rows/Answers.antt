@@ -7,7 +7,4 @@ returns c =
       onoff = proof.onoff_switches;
       level = proof.level_moves;
       heartbeat = proof.heart_beats;
-      configured_onoff = proof.onoff_switches_alone;
-      configured_level = proof.level_moves_alone;
-      configured_heartbeat = proof.heart_beats_alone;
     }
