@@ -1,12 +1,10 @@
 -- What a control message says of own messages: only an acknowledgment that reads has to do with them.
-use Rattle.std.proofs.Common.{◌≡◌, ℕ, ◌+◌, ◌*◌, ◌≤◌, zero, suc, Bool, true, false, cond, eqb, IsTrue, ◌≢◌, List, [], ◌∷◌, length, get_or, refl, ap, sym, arith, ◌↔◌, ◌∙◌}
-use Rattle.std.specs.Prelude.{slice_index, fold}
+use Rattle.std.proofs.Common.{◌≡◌, ℕ, ◌+◌, ◌*◌, zero, suc, Bool, true, false, cond, eqb, IsTrue, ◌≢◌, List, [], ◌∷◌, length, get_or, refl, ap, sym, arith, ◌↔◌, ◌∙◌}
 use Rattle.std.proofs.lemmas.Bool.{false≢true}
 use Rattle.std.proofs.lemmas.Bool.Decides.{nat_tests}
 use Rattle.layer_definitions.proofs.ControlLaws.{control_of_reading}
 use Rattle.layer_definitions.specs.Control.{IsNoControl, ReadsControl, is_other, params_as_read}
 use Rattle.layer_definitions.specs.ControlReading.{control_of, has_row, read_back}
-use Rattle.layer_states.specs.Sending.{SendCall}
 use Rattle.layer_states.specs.declared.sending.Sending.{Sending}
 use Rattle.mesh_base.specs.declared.address.Address.{Address}
 use Rattle.mesh_base.specs.declared.control.Acknowledgment.{Acknowledgment}

@@ -1,5 +1,5 @@
 -- An entry more is one step of the tables.
-use Rattle.std.proofs.Common.{◌≡◌, List, [], ◌∷◌, ◌++◌, refl, ap, sym, ◌∙◌, append-nil, Option, Some, None}
+use Rattle.std.proofs.Common.{◌≡◌, List, [], ◌++◌, refl, ap, sym, ◌∙◌, append-nil, Option, Some, None}
 use Rattle.std.specs.Prelude.{fold}
 use Rattle.std.specs.Option.{option_to_list}
 use Rattle.layer_states.specs.Cache.{last_of}

@@ -1,5 +1,5 @@
 -- What the tables go by in each group of answers.
-use Rattle.std.proofs.Common.{◌≡◌, ℕ, Bool, true, false, List, [], ◌∷◌, refl}
+use Rattle.std.proofs.Common.{◌≡◌, ℕ, true, false, [], ◌∷◌, refl}
 use Rattle.std.proofs.lemmas.Bool.{false≢true}
 use Rattle.layer_states.specs.Reassembly.{release, take_part}
 use Rattle.layer_states.specs.declared.reassembly.PartHeard.{PartHeard}

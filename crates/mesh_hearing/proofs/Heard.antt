@@ -12,7 +12,7 @@ use Rattle.mesh_base.specs.declared.fields.NetFields.{NetFields}
 use Rattle.mesh_base.specs.declared.lower.Lower.{Lower}
 use Rattle.mesh_base.specs.declared.pair.Name.{Name}
 use Rattle.mesh_hearing.proofs.Entries.{goes_on}
-use Rattle.mesh_hearing.proofs.Groups.{early_now, early_own, early_ticks, late_cached, late_now, late_own, late_ticks}
+use Rattle.mesh_hearing.proofs.Groups.{early_ticks, late_cached, late_ticks}
 use Rattle.mesh_hearing.specs.Below.{IsNamedAs, IsReadAs, IsTransportAs, cache_after_row}
 use Rattle.mesh_hearing.specs.Heard.{IsHeard, insight_of}
 use Rattle.mesh_hearing.specs.Kinds.{is_early, is_late}
@@ -25,7 +25,8 @@ use Rattle.mesh_types.specs.declared.answers.Answer.{Answer}
 use Rattle.mesh_types.specs.declared.answers.Answer.TheVariants as A
 use Rattle.mesh_types.specs.declared.events.Event.TheVariants as E
 use Rattle.network_layer.specs.declared.reading.NetReading.{NetReading}
-use Rattle.node_layers.specs.BuiltLayers.{built_layers}
+use Rattle.node_layers.specs.Friendship.{friend_keys}
+use Rattle.node_layers.specs.NodeLayers.{node_layers}
 use Rattle.node_layers.specs.Reassembly.{message_calls, tick_calls}
 use Rattle.node_layers.specs.Sending.{own_calls}
 use Rattle.node_layers.specs.Steps.{segmented_name}
@@ -33,54 +34,57 @@ use Rattle.node_records.specs.Meaning.{IsMeaningOf}
 use Rattle.node_records.specs.Tables.{config_in}
 use Rattle.node_records.specs.declared.persist.Persist.{Persist}
 use Rattle.run_definitions.specs.Answers.{answer_of, cached_name, config_before, is_before_cache, message_name, name_of, network_answer, pdu_answer, transport_answer}
-use Rattle.run_definitions.specs.History.{Insight, OfNothing, OfPdu, Opening, Past, Reading, Told, ticks_after}
+use Rattle.run_definitions.specs.History.{Insight, OfNothing, OfPdu, Past, Reading, Told, ticks_after}
 use Rattle.run_definitions.specs.Readings.{IsLowerPdu, IsReading, Sees, sees_nothing, sees_pdu}
 use Rattle.store_definitions.specs.Config.{Config, config_of}
 
 -- What octets read as.
 
-keys_are : (past : Past) (p : Persist) (keys : HeldKeys) → IsMeaningOf past.records p → keys ≡ held_in (config_in p)
-    → heard_keys keys.nets ≡ heard_keys (config_before past).nets ++ []
-keys_are past p keys m k =
-    ap (λ (h : HeldKeys). heard_keys h.nets) k ∙ ap (λ (c : Config). heard_keys c.nets) m.config ∙ sym (append-nil (heard_keys (config_before past).nets))
+keys_are : (past : Past) (p : Persist) (keys : HeldKeys) (more : List Heard) → IsMeaningOf past.records p → keys ≡ held_in (config_in p) → more ≡ friend_keys past
+    → heard_keys keys.nets ++ more ≡ heard_keys (config_before past).nets ++ friend_keys past
+keys_are past p keys more m k f =
+    ap (λ (h : HeldKeys). heard_keys h.nets ++ more) k ∙ ap (λ (c : Config). heard_keys c.nets ++ more) m.config
+    ∙ ap (λ ks. heard_keys (config_before past).nets ++ ks) f
 
-pub reads : (past : Past) (p : Persist) (keys : HeldKeys) (octets : List ℕ) (r : NetReading) → IsMeaningOf past.records p → keys ≡ held_in (config_in p)
-    → (place : ℕ) × Reads (heard_keys keys.nets) p.iv.current octets r.fields place r.by → IsReading built_layers past octets (Some (reading_of r))
-unfolding built_layers
-reads past p keys octets r m k (place, read) =
+pub reads : (past : Past) (p : Persist) (keys : HeldKeys) (more : List Heard) (octets : List ℕ) (r : NetReading) → IsMeaningOf past.records p → keys ≡ held_in (config_in p)
+    → more ≡ friend_keys past
+    → (place : ℕ) × Reads (heard_keys keys.nets ++ more) p.iv.current octets r.fields place r.by → IsReading node_layers past octets (Some (reading_of r))
+unfolding node_layers
+reads past p keys more octets r m k f (place, read) =
     let current : p.iv.current ≡ (config_before past).iv.current = ap (λ (c : Config). c.iv.current) m.config in (
       place,
-      subst (λ ks. Reads ks (config_before past).iv.current octets r.fields place r.by) (keys_are past p keys m k)
-          (subst (λ iv. Reads (heard_keys keys.nets) iv octets r.fields place r.by) current read),
+      subst (λ ks. Reads ks (config_before past).iv.current octets r.fields place r.by) (keys_are past p keys more m k f)
+          (subst (λ iv. Reads (heard_keys keys.nets ++ more) iv octets r.fields place r.by) current read),
     )
 
 unread_under : (keys : List Heard) (current : ℕ) (octets : List ℕ) → IsUnread keys current octets
     → (f : NetFields) (place : ℕ) (by : Heard) → Reads keys current octets f place by → ⊥
 unread_under keys current octets none f place by r = none place by f r.key r.reads
 
-pub reads_none : (past : Past) (p : Persist) (keys : HeldKeys) (octets : List ℕ) → IsMeaningOf past.records p → keys ≡ held_in (config_in p)
-    → IsUnread (heard_keys keys.nets) p.iv.current octets → IsReading built_layers past octets None
-unfolding built_layers
-reads_none past p keys octets m k none =
+pub reads_none : (past : Past) (p : Persist) (keys : HeldKeys) (more : List Heard) (octets : List ℕ) → IsMeaningOf past.records p → keys ≡ held_in (config_in p)
+    → more ≡ friend_keys past
+    → IsUnread (heard_keys keys.nets ++ more) p.iv.current octets → IsReading node_layers past octets None
+unfolding node_layers
+reads_none past p keys more octets m k f none =
     let current : p.iv.current ≡ (config_before past).iv.current = ap (λ (c : Config). c.iv.current) m.config in
-    unread_under (heard_keys (config_before past).nets ++ []) (config_before past).iv.current octets
-    (subst (λ ks. IsUnread ks (config_before past).iv.current octets) (keys_are past p keys m k)
-    (subst (λ iv. IsUnread (heard_keys keys.nets) iv octets) current none))
+    unread_under (heard_keys (config_before past).nets ++ friend_keys past) (config_before past).iv.current octets
+    (subst (λ ks. IsUnread ks (config_before past).iv.current octets) (keys_are past p keys more m k f)
+    (subst (λ iv. IsUnread (heard_keys keys.nets ++ more) iv octets) current none))
 
 -- The answer, where there was no Node Reset.
 
 before_reset : (past : Past) (p : Persist) → IsMeaningOf past.records p → p.reset ≡ false → (config_before past).reset ≡ false
 before_reset past p m e = ap (λ (c : Config). c.reset) (sym m.config) ∙ e
 
-answered : (past : Past) (octets : List ℕ) (i : Insight) (a : Answer) → (config_before past).reset ≡ false → a ≡ pdu_answer built_layers past i
-    → a ≡ answer_of built_layers past (E.Net octets) i
+answered : (past : Past) (octets : List ℕ) (i : Insight) (a : Answer) → (config_before past).reset ≡ false → a ≡ pdu_answer node_layers past i
+    → a ≡ answer_of node_layers past (E.Net octets) i
 unfolding answer_of
-answered past octets i a e h = h ∙ ap (λ b. cond b A.Reset (pdu_answer built_layers past i)) (sym e)
+answered past octets i a e h = h ∙ ap (λ b. cond b A.Reset (pdu_answer node_layers past i)) (sym e)
 
 no_reset : (past : Past) → (config_before past).reset ≡ false → IsFalse (config_before past).reset
 no_reset past e = e
 
-pub heard_unread : (past : Past) (p : Persist) (octets : List ℕ) → IsMeaningOf past.records p → p.reset ≡ false → IsReading built_layers past octets None
+pub heard_unread : (past : Past) (p : Persist) (octets : List ℕ) → IsMeaningOf past.records p → p.reset ≡ false → IsReading node_layers past octets None
     → IsReadAs past octets (record { reset = false; reading = None; low = None; opened = None; answer = A.Unread })
 heard_unread past p octets m e none =
     let reset = before_reset past p m e in
@@ -90,7 +94,7 @@ heard_unread past p octets m e none =
     }
 
 pub heard_early : (past : Past) (p : Persist) (octets : List ℕ) (r : NetReading) (a : Answer) → IsMeaningOf past.records p → p.reset ≡ false
-    → IsReading built_layers past octets (Some (reading_of r)) → Some a ≡ network_answer past (reading_of r)
+    → IsReading node_layers past octets (Some (reading_of r)) → Some a ≡ network_answer past (reading_of r)
     → IsReadAs past octets (record { reset = false; reading = Some r; low = None; opened = None; answer = a })
 heard_early past p octets r a m e reading row =
     let reset = before_reset past p m e in
@@ -98,7 +102,7 @@ heard_early past p octets r a m e reading row =
       sees = sees_pdu {octets = octets} {reading = Some (reading_of r)} {low = None} {opening = None} (no_reset past reset) reading
           (subst (λ o. MatchOption o (IsLowerPdu r.fields None) (λ answer. let none : Option Lower = None in none ≡ None)) row refl) refl;
       answer = answered past octets (OfPdu (Some (reading_of r)) None None) a reset
-          (ap (λ o. unwrap_or o (transport_answer built_layers past (reading_of r) None None)) row);
+          (ap (λ o. unwrap_or o (transport_answer node_layers past (reading_of r) None None)) row);
     }
 
 insight_is : (r : NetReading) (h : Hearing) → h.reset ≡ false → h.reading ≡ Some r
@@ -108,18 +112,18 @@ insight_is r h e g =
     ∙ ap (λ o. OfPdu (option_map reading_of o) h.low (option_map opening_of h.opened)) g
 
 pub heard_late : (past : Past) (p : Persist) (octets : List ℕ) (r : NetReading) (h : Hearing) → IsMeaningOf past.records p → p.reset ≡ false
-    → IsReading built_layers past octets (Some (reading_of r)) → None ≡ network_answer past (reading_of r)
+    → IsReading node_layers past octets (Some (reading_of r)) → None ≡ network_answer past (reading_of r)
     → h.reset ≡ false → h.reading ≡ Some r → IsTransportAs past (reading_of r) h → IsReadAs past octets h
 heard_late past p octets r h m e reading row unreset is t =
     let reset = before_reset past p m e in
     let i = insight_is r h unreset is in
     record {
-      sees = subst (λ x. Sees built_layers past (E.Net octets) x) (sym i)
+      sees = subst (λ x. Sees node_layers past (E.Net octets) x) (sym i)
           (sees_pdu {octets = octets} {reading = Some (reading_of r)} {low = h.low} {opening = option_map opening_of h.opened} (no_reset past reset) reading
           (subst (λ o. MatchOption o (IsLowerPdu r.fields h.low) (λ answer. h.low ≡ None)) row t.lower) t.opens);
       answer = answered past octets (OfPdu (Some (reading_of r)) h.low (option_map opening_of h.opened)) h.answer reset
-          (t.answer ∙ ap (λ o. unwrap_or o (transport_answer built_layers past (reading_of r) h.low (option_map opening_of h.opened))) row)
-          ∙ ap (λ x. answer_of built_layers past (E.Net octets) x) (sym i);
+          (t.answer ∙ ap (λ o. unwrap_or o (transport_answer node_layers past (reading_of r) h.low (option_map opening_of h.opened))) row)
+          ∙ ap (λ x. answer_of node_layers past (E.Net octets) x) (sym i);
     }
 
 -- The lower transport layer.
@@ -169,9 +173,9 @@ tables_more told t u e i a c h ei ea ec cache parts again own now =
     let more = subst (λ x. AreTablesOf (tables_after t x e.entry.event i a) (told ++ e ∷ [])) ec by_answer in
     record { cache = cache ∙ more.cache; parts = parts ∙ more.parts; again = again ∙ more.again; own = own ∙ more.own; ticks = now ∙ more.ticks }
 
-reset_answer : (past : Past) (octets : List ℕ) → (config_before past).reset ≡ true → A.Reset ≡ answer_of built_layers past (E.Net octets) OfNothing
+reset_answer : (past : Past) (octets : List ℕ) → (config_before past).reset ≡ true → A.Reset ≡ answer_of node_layers past (E.Net octets) OfNothing
 unfolding answer_of
-reset_answer past octets e = ap (λ b. cond b A.Reset (pdu_answer built_layers past OfNothing)) (sym e)
+reset_answer past octets e = ap (λ b. cond b A.Reset (pdu_answer node_layers past OfNothing)) (sym e)
 
 pub heard_reset : (past : Past) (p : Persist) (octets : List ℕ) (t : TablesView) → IsMeaningOf past.records p → p.reset ≡ true → AreTablesOf t past.told
     → IsHeard past octets (record { reset = true; reading = None; low = None; opened = None; answer = A.Reset }) t

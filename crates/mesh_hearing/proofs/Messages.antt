@@ -1,12 +1,11 @@
 -- A whole message: from its opening and its place to its answer.
-use Rattle.std.proofs.Common.{◌≡◌, ◌⊎◌, ℕ, Bool, true, false, cond, not, ◌&&◌, List, [], ◌∷◌, ◌++◌, refl, ap, sym, subst, ◌∙◌, Option, Some, None, inl, inr}
-use Rattle.std.specs.Prelude.{is_none, is_some, IsSomeAnd}
+use Rattle.std.proofs.Common.{◌≡◌, ℕ, Bool, true, false, cond, not, ◌&&◌, List, refl, ap, sym, subst, ◌∙◌, Option, Some, None, inl, inr}
+use Rattle.std.specs.Prelude.{is_none, is_some}
 use Rattle.std.specs.Option.{option_map}
-use Rattle.mesh_base.specs.declared.lower.Lower.{Lower}
 use Rattle.mesh_base.specs.declared.lower.Lower.TheVariants.{Access, Control, AccessPart, ControlPart}
 use Rattle.mesh_base.specs.declared.pair.Name.{Name}
 use Rattle.mesh_base.specs.declared.pair.Pair.{Pair}
-use Rattle.mesh_hearing.specs.Below.{IsAccessAs, IsWholeAs, whole_octets}
+use Rattle.mesh_hearing.specs.Below.{IsAccessAs, IsWholeAs}
 use Rattle.mesh_hearing.specs.declared.whole.Judged.{Judged}
 use Rattle.mesh_reading.specs.Held.{opening_of}
 use Rattle.mesh_reading.specs.declared.opening.Opened.{Opened}
@@ -15,19 +14,19 @@ use Rattle.mesh_types.specs.declared.answers.Answer.{Answer}
 use Rattle.mesh_types.specs.declared.answers.Answer.TheVariants as A
 use Rattle.mesh_types.specs.declared.answers.KeyName.{KeyName}
 use Rattle.node_layers.specs.BuiltLayers.{built_layers}
+use Rattle.node_layers.specs.ConfiguredLayers.{configured_layers}
+use Rattle.node_layers.specs.NodeLayers.{node_layers}
 use Rattle.node_layers.specs.Reassembly.{octets_after}
 use Rattle.node_records.specs.Full.{IsHeldByOthers}
 use Rattle.node_records.specs.Meaning.{IsMeaningOf}
 use Rattle.node_records.specs.Tables.{config_in, entry_in}
 use Rattle.node_records.specs.declared.persist.Persist.{Persist}
-use Rattle.record_types.specs.declared.records.StoreRecord.{StoreRecord}
 use Rattle.record_types.specs.declared.records.StoreRecord.TheVariants as R
-use Rattle.run_definitions.specs.Answers.{config_before, opened_answer, placed_answer, whole_answer}
-use Rattle.run_definitions.specs.History.{Opening, Past, Reading}
-use Rattle.run_definitions.specs.Readings.{IsOpened, IsOpenedFor, fields_heard, keys_tried}
-use Rattle.store_definitions.specs.Config.{Config, config_of}
+use Rattle.run_definitions.specs.Answers.{config_before, placed_answer}
+use Rattle.run_definitions.specs.History.{Past, Reading}
+use Rattle.run_definitions.specs.Readings.{IsOpenedFor, fields_heard, keys_tried}
 use Rattle.store_definitions.specs.Entries.{entry_of, has_room, others_held}
-use Rattle.store_definitions.specs.Following.{HasNoPlace, PassesLimit}
+use Rattle.store_definitions.specs.Following.{PassesLimit}
 
 -- Places in the replay list.
 
@@ -106,7 +105,7 @@ whole_access past r n akf aid upper octets j e h = record {
 pub whole_access_part : (past : Past) (r : Reading) (n : Name) (akf : Bool) (aid : ℕ) (szmic : Bool) (seq_zero seg_o seg_n : ℕ) (piece octets : List ℕ) (j : Judged)
     → octets ≡ octets_after past n (AccessPart akf aid szmic seq_zero seg_o seg_n piece)
     → IsAccessAs past r n akf aid szmic octets j → IsWholeAs past r (AccessPart akf aid szmic seq_zero seg_o seg_n piece) n j
-unfolding built_layers
+unfolding node_layers configured_layers built_layers
 whole_access_part past r n akf aid szmic seq_zero seg_o seg_n piece octets j e h = record {
   opens = subst (λ os. IsOpenedFor (config_before past) (keys_tried (config_before past) r akf aid) (fields_heard r n szmic) os (option_map opening_of j.opened)) e h.opens;
   answer = h.answer;
@@ -124,7 +123,7 @@ pub whole_control_part : (past : Past) (r : Reading) (n : Name) (opcode seq_zero
     → octets ≡ octets_after past n (ControlPart opcode seq_zero seg_o seg_n piece)
     → a ≡ placed_answer past n (A.Control n r.fields.dst opcode octets)
     → IsWholeAs past r (ControlPart opcode seq_zero seg_o seg_n piece) n (record { opened = None; answer = a })
-unfolding built_layers
+unfolding node_layers configured_layers built_layers
 whole_control_part past r n opcode seq_zero seg_o seg_n piece octets a e h = record {
   opens = refl;
   answer = h ∙ ap (λ os. placed_answer past n (A.Control n r.fields.dst opcode os)) e;

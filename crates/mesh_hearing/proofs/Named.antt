@@ -1,8 +1,8 @@
 -- A message that has a name: from the rows of names to its answer.
-use Rattle.std.proofs.Common.{◌≡◌, ℕ, ◌≤◌, Bool, true, false, cond, not, ◌&&◌, ◌||◌, List, [], ◌∷◌, ◌++◌, refl, ap, sym, subst, ◌∙◌, Option, Some, None}
+use Rattle.std.proofs.Common.{◌≡◌, ℕ, Bool, true, false, cond, ◌&&◌, List, [], ◌∷◌, refl, ap, sym, subst, ◌∙◌, Option, Some, None}
 use Rattle.std.specs.Prelude.{Err, MatchOption, MatchResult, Ok, Result, fold, unwrap_or}
-use Rattle.std.specs.List.{filter_map, list_any}
-use Rattle.std.specs.Option.{option_map, option_or, option_to_list}
+use Rattle.std.specs.List.{list_any}
+use Rattle.std.specs.Option.{option_map, option_or}
 use Rattle.layer_definitions.specs.Lower.{is_control}
 use Rattle.layer_states.specs.Names.{is_name}
 use Rattle.layer_states.specs.Reassembly.{PartCall, after, form_of, release, take_part, is_segment}
@@ -22,16 +22,18 @@ use Rattle.mesh_hearing.specs.declared.hearing.Hearing.{Hearing}
 use Rattle.mesh_reading.specs.Held.{opening_of, reading_of}
 use Rattle.mesh_types.specs.declared.answers.Answer.{Answer}
 use Rattle.mesh_types.specs.declared.answers.Answer.TheVariants as A
-use Rattle.node_layers.proofs.Segments.{built_answers, built_whole}
+use Rattle.node_layers.proofs.Segments.{node_answers, node_whole}
 use Rattle.node_layers.proofs.Steps.{segmented_is_any}
 use Rattle.node_layers.specs.Segments.{segment_taken, taken_answer}
 use Rattle.node_layers.specs.Steps.{segmented_name, segmented_names}
 use Rattle.node_layers.specs.BuiltLayers.{built_layers}
+use Rattle.node_layers.specs.ConfiguredLayers.{configured_layers}
+use Rattle.node_layers.specs.NodeLayers.{node_layers}
 use Rattle.node_layers.specs.Reassembly.{messages, named_calls, octets_after, part_heard}
 use Rattle.node_records.specs.Tables.{config_in}
 use Rattle.node_records.specs.declared.persist.Persist.{Persist}
-use Rattle.run_definitions.specs.Answers.{config_before, is_accepted_segmented, is_again, is_entry, lower_answer, replayed, segment_answer, whole_answer}
-use Rattle.run_definitions.specs.History.{Insight, OfBeacon, OfNothing, OfPdu, Opening, Past, Reading, Told, now_of}
+use Rattle.run_definitions.specs.Answers.{config_before, is_again, is_entry, lower_answer, replayed, segment_answer, whole_answer}
+use Rattle.run_definitions.specs.History.{OfNothing, OfPdu, Opening, Past, Reading}
 use Rattle.run_definitions.specs.Readings.{IsOpened}
 use Rattle.run_definitions.specs.Uses.{accepted}
 use Rattle.store_definitions.specs.Config.{Config}
@@ -95,7 +97,7 @@ alone past r (AccessPart akf aid szmic seq_zero seg_o seg_n piece) n e = absurd 
 alone past r (ControlPart opcode seq_zero seg_o seg_n piece) n e = absurd cc
 
 of_segment : (past : Past) (r : Reading) (low : Lower) (n : Name) → is_segment low ≡ true → part_answer past r low n ≡ taken_answer (segment_taken past r n low)
-of_segment past r low n e = ap (λ b. cond b (segment_answer built_layers past r low n) None) e ∙ built_answers past r n low
+of_segment past r low n e = ap (λ b. cond b (segment_answer node_layers past r low n) None) e ∙ node_answers past r n low
 
 whole_of_segment : (past : Past) (low : Lower) (n : Name) (octets : List ℕ) → is_segment low ≡ true → octets ≡ octets_after past n low
     → octets ≡ whole_octets past n low
@@ -115,8 +117,8 @@ taken_is past p parts again now r low n h =
 
 pub taken_whole : (past : Past) (r : Reading) (low : Lower) (n : Name) (octets : List ℕ) → is_segment low ≡ true
     → segment_taken past r n low ≡ T.Whole octets → (part_answer past r low n ≡ None) × (octets ≡ whole_octets past n low)
-unfolding built_layers
-taken_whole past r low n octets s e = (of_segment past r low n s ∙ ap taken_answer e, whole_of_segment past low n octets s (sym (built_whole past r n low octets e)))
+unfolding node_layers configured_layers built_layers
+taken_whole past r low n octets s e = (of_segment past r low n s ∙ ap taken_answer e, whole_of_segment past low n octets s (sym (node_whole past r n low octets e)))
 
 pub taken_answered : (past : Past) (r : Reading) (low : Lower) (n : Name) (a : Answer) → is_segment low ≡ true
     → taken_answer (segment_taken past r n low) ≡ Some a → part_answer past r low n ≡ Some a
@@ -137,15 +139,15 @@ split false true x y = refl
 split false false x y = refl
 
 lower_is : (past : Past) (r : Reading) (low : Lower) (n : Name)
-    → lower_answer built_layers past r low n ≡ option_or (known_answer past low n) (part_answer past r low n)
+    → lower_answer node_layers past r low n ≡ option_or (known_answer past low n) (part_answer past r low n)
 lower_is past r low n =
-    split (is_again past n) (is_segment low) (replayed (entry_of past.records n.src.0) n.pair) (segment_answer built_layers past r low n)
+    split (is_again past n) (is_segment low) (replayed (entry_of past.records n.src.0) n.pair) (segment_answer node_layers past r low n)
 
-unopened : (past : Past) (r : Reading) (low : Lower) (n : Name) (a : Answer) → lower_answer built_layers past r low n ≡ Some a
+unopened : (past : Past) (r : Reading) (low : Lower) (n : Name) (a : Answer) → lower_answer node_layers past r low n ≡ Some a
     → IsNamedAs past r low (Some n) (record { opened = None; answer = a })
 unopened past r low n a e = record {
-  opens = subst (λ o. MatchOption o (IsOpened built_layers past r n low None) (λ answer. let none : Option Opening = None in none ≡ None)) (sym e) refl;
-  answer = ap (λ o. unwrap_or o (whole_answer built_layers past r low n None)) (sym e);
+  opens = subst (λ o. MatchOption o (IsOpened node_layers past r n low None) (λ answer. let none : Option Opening = None in none ≡ None)) (sym e) refl;
+  answer = ap (λ o. unwrap_or o (whole_answer node_layers past r low n None)) (sym e);
 }
 
 pub named_known : (past : Past) (r : Reading) (low : Lower) (n : Name) (a : Answer) → Some a ≡ known_answer past low n
@@ -160,11 +162,11 @@ named_part past r low n a e f =
 pub named_whole : (past : Past) (r : Reading) (low : Lower) (n : Name) (j : Judged) → None ≡ known_answer past low n → part_answer past r low n ≡ None
     → IsWholeAs past r low n j → IsNamedAs past r low (Some n) j
 named_whole past r low n j e f w =
-    let none : lower_answer built_layers past r low n ≡ None =
+    let none : lower_answer node_layers past r low n ≡ None =
     lower_is past r low n ∙ ap (λ o. option_or o (part_answer past r low n)) (sym e) ∙ f in
     record {
-      opens = subst (λ o. MatchOption o (IsOpened built_layers past r n low (option_map opening_of j.opened)) (λ answer. option_map opening_of j.opened ≡ None)) (sym none) w.opens;
-      answer = w.answer ∙ ap (λ o. unwrap_or o (whole_answer built_layers past r low n (option_map opening_of j.opened))) (sym none);
+      opens = subst (λ o. MatchOption o (IsOpened node_layers past r n low (option_map opening_of j.opened)) (λ answer. option_map opening_of j.opened ≡ None)) (sym none) w.opens;
+      answer = w.answer ∙ ap (λ o. unwrap_or o (whole_answer node_layers past r low n (option_map opening_of j.opened))) (sym none);
     }
 
 -- the name of a message that was accepted from segments

@@ -1,7 +1,7 @@
 -- Beacons, and time that passed.
-use Rattle.std.proofs.Common.{◌≡◌, ℕ, ◌+◌, ◌^◌, Bool, true, false, cond, not, min, filter, List, [], ◌∷◌, ◌++◌, refl, ap, sym, subst, ◌∙◌, Option, Some, None}
-use Rattle.std.specs.Prelude.{IsFalse, fold}
-use Rattle.layer_definitions.specs.Beacon.{BeaconSource, ReadsBeacon, ReadsBeaconUnder}
+use Rattle.std.proofs.Common.{◌≡◌, ℕ, ◌+◌, ◌^◌, Bool, true, false, cond, not, min, filter, List, [], ◌∷◌, ◌++◌, refl, ap, sym, subst, ◌∙◌, Some, None}
+use Rattle.std.specs.Prelude.{fold}
+use Rattle.layer_definitions.specs.Beacon.{BeaconSource, ReadsBeacon}
 use Rattle.layer_definitions.specs.KeyRefresh.{beacon_keys, net_index}
 use Rattle.layer_definitions.specs.Order.{IsByIndex, by_index}
 use Rattle.layer_states.specs.Reassembly.{acks_due, after, tick}
@@ -20,14 +20,16 @@ use Rattle.mesh_types.specs.declared.events.Event.{Event}
 use Rattle.mesh_types.specs.declared.events.Event.TheVariants as E
 use Rattle.net_beacon.specs.Reading.{IsUnread}
 use Rattle.node_layers.specs.BuiltLayers.{built_layers}
+use Rattle.node_layers.specs.ConfiguredLayers.{configured_layers}
+use Rattle.node_layers.specs.NodeLayers.{node_layers}
 use Rattle.node_layers.specs.Reassembly.{messages}
 use Rattle.node_layers.specs.Sending as own
 use Rattle.node_records.specs.Meaning.{IsMeaningOf}
 use Rattle.node_records.specs.Tables.{config_in}
 use Rattle.node_records.specs.declared.persist.Persist.{Persist}
 use Rattle.run_definitions.specs.Answers.{answer_of, beacon_answer, config_before, later}
-use Rattle.run_definitions.specs.History.{Insight, OfBeacon, OfNothing, Past, Told, now_of}
-use Rattle.run_definitions.specs.Readings.{IsBeacon, Sees, sees_beacon, sees_nothing}
+use Rattle.run_definitions.specs.History.{Insight, OfBeacon, OfNothing, Past, Told}
+use Rattle.run_definitions.specs.Readings.{sees_beacon, sees_nothing}
 use Rattle.segment_sender.specs.Held.{has_round}
 use Rattle.store_definitions.specs.Config.{Config, config_of}
 
@@ -42,14 +44,14 @@ keys_are : (past : Past) (p : Persist) → IsMeaningOf past.records p
 keys_are past p m same order =
     ap beacon_keys (ap (λ rows. by_index net_index rows) (ap (λ (c : Config). c.nets) m.config) ∙ same (config_of past.records).nets order)
 
-beacon_unless : (past : Past) (octets : List ℕ) (i : Insight) (a : Answer) → (config_before past).reset ≡ false → a ≡ beacon_answer built_layers past i
-    → a ≡ answer_of built_layers past (E.Bcn octets) i
+beacon_unless : (past : Past) (octets : List ℕ) (i : Insight) (a : Answer) → (config_before past).reset ≡ false → a ≡ beacon_answer node_layers past i
+    → a ≡ answer_of node_layers past (E.Bcn octets) i
 unfolding answer_of
-beacon_unless past octets i a e h = h ∙ ap (λ b. cond b A.Reset (beacon_answer built_layers past i)) (sym e)
+beacon_unless past octets i a e h = h ∙ ap (λ b. cond b A.Reset (beacon_answer node_layers past i)) (sym e)
 
 beacon_is : (past : Past) (p : Persist) (t : TablesView) (b : Beacon) (a : Answer) → IsMeaningOf past.records p → AreTablesOf t past.told
-    → a ≡ beacon_row (config_in p) (is_any t.own) b → a ≡ beacon_answer built_layers past (OfBeacon (Some b))
-unfolding built_layers
+    → a ≡ beacon_row (config_in p) (is_any t.own) b → a ≡ beacon_answer node_layers past (OfBeacon (Some b))
+unfolding node_layers configured_layers built_layers
 beacon_is past p t b a m h e = e ∙ ap (λ c. beacon_row c (is_any t.own) b) m.config ∙ ap (λ rows. beacon_row (config_before past) (is_any rows) b) h.own
 
 pub beacon_heard : (past : Past) (p : Persist) (t : TablesView) (octets : List ℕ) (b : Beacon) (a : Answer) → IsMeaningOf past.records p → AreTablesOf t past.told
@@ -80,9 +82,9 @@ beacon_unread past p octets m e same order none =
       answer = beacon_unless past octets (OfBeacon None) A.Unread reset refl;
     }
 
-reset_answer : (past : Past) (octets : List ℕ) (i : Insight) → (config_before past).reset ≡ true → A.Reset ≡ answer_of built_layers past (E.Bcn octets) i
+reset_answer : (past : Past) (octets : List ℕ) (i : Insight) → (config_before past).reset ≡ true → A.Reset ≡ answer_of node_layers past (E.Bcn octets) i
 unfolding answer_of
-reset_answer past octets i e = ap (λ b. cond b A.Reset (beacon_answer built_layers past i)) (sym e)
+reset_answer past octets i e = ap (λ b. cond b A.Reset (beacon_answer node_layers past i)) (sym e)
 
 pub beacon_reset : (past : Past) (p : Persist) (octets : List ℕ) → IsMeaningOf past.records p → p.reset ≡ true
     → IsBeaconHeard past octets (record { reset = true; beacon = None; answer = A.Reset })
@@ -113,7 +115,7 @@ beacon_more told t u e c busy b a h ei ea is cache parts again own ticks =
 -- Time.
 
 tick_answer : (past : Past) (ticks : ℕ) (b : Bool) → (config_before past).reset ≡ b
-    → cond b A.Reset (A.Ticked (later past ticks)) ≡ answer_of built_layers past (E.Tick ticks) OfNothing
+    → cond b A.Reset (A.Ticked (later past ticks)) ≡ answer_of node_layers past (E.Tick ticks) OfNothing
 unfolding answer_of
 tick_answer past ticks b e = ap (λ x. cond x A.Reset (A.Ticked (later past ticks))) (sym e)
 

@@ -23,14 +23,14 @@ use Rattle.mesh_hearing.specs.Heard.{insight_of}
 use Rattle.mesh_types.specs.declared.events.Event.TheVariants as E
 use Rattle.mesh_types.specs.declared.answers.Answer.{Answer}
 use Rattle.mesh_types.specs.declared.answers.Answer.TheVariants as A
-use Rattle.node_layers.specs.BuiltLayers.{built_layers}
+use Rattle.node_layers.specs.NodeLayers.{node_layers}
 use Rattle.node_layers.specs.Reassembly.{messages, octets_after, part_heard}
 use Rattle.node_layers.specs.Sending.{acknowledged, stepped_calls}
 use Rattle.node_layers.specs.Steps.{segmented_names}
 use Rattle.node_records.specs.Meaning.{IsMeaningOf}
 use Rattle.node_records.specs.declared.persist.Persist.{Persist}
 use Rattle.layer_states.specs.Names.{is_unicast}
-use Rattle.run_definitions.specs.Answers.{answer_of, config_before, is_again, is_before_cache, is_group, key_step, message_name, name_of, named_answer, opened_answer, replayed, segment_answer, transport_answer, whole_answer}
+use Rattle.run_definitions.specs.Answers.{answer_of, config_before, is_again, is_before_cache, is_group, key_step, name_of, named_answer, opened_answer, replayed, segment_answer, transport_answer, whole_answer}
 use Rattle.run_definitions.specs.History.{Past, Reading, now_of}
 use Rattle.run_definitions.specs.Readings.{IsLowerPdu, IsOpened, IsOpenedFor, IsOpening, IsOpeningOf, Sees, fields_heard, keys_tried}
 use Rattle.store_definitions.specs.Config.{Config, is_element}
@@ -75,7 +75,7 @@ known_answer past low n =
 
 -- the rows of segments behind these
 abbrev pub part_answer : Past → Reading → Lower → Name → Option Answer
-part_answer past r low n = if is_segment low then segment_answer built_layers past r low n else None
+part_answer past r low n = if is_segment low then segment_answer node_layers past r low n else None
 
 -- the calls on the table of messages in progress that a segment makes, and with the one of a message that is done
 abbrev pub taken_calls : ℕ → Config → Reading → Lower → Name → List PartCall
@@ -115,24 +115,24 @@ pub record IsAccessAs (past : Past) (r : Reading) (n : Name) (akf : Bool) (aid :
 
 -- to a whole message
 pub record IsWholeAs (past : Past) (r : Reading) (low : Lower) (n : Name) (j : Judged) : Type 0 where
-  pub opens : IsOpened built_layers past r n low (option_map opening_of j.opened)
-  pub answer : j.answer ≡ whole_answer built_layers past r low n (option_map opening_of j.opened)
+  pub opens : IsOpened node_layers past r n low (option_map opening_of j.opened)
+  pub answer : j.answer ≡ whole_answer node_layers past r low n (option_map opening_of j.opened)
 
 -- to a message, which has a name or none
 pub record IsNamedAs (past : Past) (r : Reading) (low : Lower) (n : Option Name) (j : Judged) : Type 0 where
-  pub opens : IsOpeningOf built_layers past r low n (option_map opening_of j.opened)
-  pub answer : j.answer ≡ named_answer built_layers past r low n (option_map opening_of j.opened)
+  pub opens : IsOpeningOf node_layers past r low n (option_map opening_of j.opened)
+  pub answer : j.answer ≡ named_answer node_layers past r low n (option_map opening_of j.opened)
 
 -- from the network layer on
 pub record IsReadAs (past : Past) (octets : List ℕ) (h : Hearing) : Type 0 where
-  pub sees : Sees built_layers past (E.Net octets) (insight_of h)
-  pub answer : h.answer ≡ answer_of built_layers past (E.Net octets) (insight_of h)
+  pub sees : Sees node_layers past (E.Net octets) (insight_of h)
+  pub answer : h.answer ≡ answer_of node_layers past (E.Net octets) (insight_of h)
 
 -- from the lower transport layer on
 pub record IsTransportAs (past : Past) (r : Reading) (h : Hearing) : Type 0 where
   pub lower : IsLowerPdu r.fields h.low
-  pub opens : IsOpening built_layers past (Some r) h.low (option_map opening_of h.opened)
-  pub answer : h.answer ≡ transport_answer built_layers past r h.low (option_map opening_of h.opened)
+  pub opens : IsOpening node_layers past (Some r) h.low (option_map opening_of h.opened)
+  pub answer : h.answer ≡ transport_answer node_layers past r h.low (option_map opening_of h.opened)
 
 -- Beacons.
 

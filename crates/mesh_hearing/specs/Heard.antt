@@ -8,7 +8,7 @@ use Rattle.mesh_hearing.specs.declared.hearing.Hearing.{Hearing}
 use Rattle.mesh_hearing.specs.declared.ticks.Passed.{Passed}
 use Rattle.mesh_reading.specs.Held.{opening_of, reading_of}
 use Rattle.mesh_types.specs.declared.events.Event.TheVariants as E
-use Rattle.node_layers.specs.BuiltLayers.{built_layers}
+use Rattle.node_layers.specs.NodeLayers.{node_layers}
 use Rattle.node_layers.specs.Reassembly.{messages}
 use Rattle.node_layers.specs.Sending as own
 use Rattle.run_definitions.specs.Answers.{answer_of, config_before, later}
@@ -23,8 +23,8 @@ insight_of h =
 
 -- After a past, octets heard as a network PDU were read and answered so, and the tables stand for the entries with this one.
 pub record IsHeard (past : Past) (octets : List ℕ) (h : Hearing) (t : TablesView) : Type 0 where
-  pub sees : Sees built_layers past (E.Net octets) (insight_of h)
-  pub answer : h.answer ≡ answer_of built_layers past (E.Net octets) (insight_of h)
+  pub sees : Sees node_layers past (E.Net octets) (insight_of h)
+  pub answer : h.answer ≡ answer_of node_layers past (E.Net octets) (insight_of h)
   pub tables : (e : Told) → e.insight ≡ insight_of h → e.entry.answer ≡ h.answer → e.records ≡ past.records
       → AreTablesOf t (past.told ++ e ∷ [])
 
@@ -34,14 +34,14 @@ beacon_insight h = if h.reset then OfNothing else OfBeacon h.beacon
 
 -- After a past, octets heard as a beacon were read and answered so.
 pub record IsBeaconHeard (past : Past) (octets : List ℕ) (h : BeaconHearing) : Type 0 where
-  pub sees : Sees built_layers past (E.Bcn octets) (beacon_insight h)
-  pub answer : h.answer ≡ answer_of built_layers past (E.Bcn octets) (beacon_insight h)
+  pub sees : Sees node_layers past (E.Bcn octets) (beacon_insight h)
+  pub answer : h.answer ≡ answer_of node_layers past (E.Bcn octets) (beacon_insight h)
 
 -- After a past, time passed and was answered so: the acknowledgments due are those of the messages in progress, the messages that send a
 -- round are those that are held, and after a Node Reset there are none. The tables stand for the entries with this one.
 pub record IsPassed (past : Past) (ticks : ℕ) (passed : Passed) (t : TablesView) : Type 0 where
-  pub sees : Sees built_layers past (E.Tick ticks) OfNothing
-  pub answer : passed.answer ≡ answer_of built_layers past (E.Tick ticks) OfNothing
+  pub sees : Sees node_layers past (E.Tick ticks) OfNothing
+  pub answer : passed.answer ≡ answer_of node_layers past (E.Tick ticks) OfNothing
   pub acks : passed.acks ≡ (if (config_before past).reset then [] else acks_due (later past ticks) (messages past))
   pub rounds : passed.rounds.items
       ≡ (if (config_before past).reset then [] else filter (has_round (later past ticks)) (own.messages past))

@@ -9,6 +9,7 @@ ghost use Rattle.mesh_hearing.specs.Heard.{insight_of, IsHeard};
 ghost use Rattle.mesh_hearing.specs.Kinds.{is_late};
 ghost use Rattle.mesh_hearing.specs.Tables.{again_after, cache_after, AreTablesOf, IsFit};
 ghost use Rattle.mesh_reading.specs.Held.{held_in, reading_of};
+ghost use Rattle.node_layers.specs.Friendship.{friend_keys};
 ghost use Rattle.node_layers.specs.Reassembly.{message_calls, tick_calls};
 ghost use Rattle.node_layers.specs.Sending.{own_calls};
 ghost use Rattle.node_layers.specs.Steps.{cached_names};
@@ -24,6 +25,7 @@ use crate::network::network_row;
 use crate::own::acknowledge;
 use crate::tables::Tables;
 use lower_transport::Lower;
+use mesh_base::fields::Heard;
 use mesh_base::pair::Name;
 use mesh_reading::{Keys, NetReading, Opened};
 use mesh_types::answers::Answer;
@@ -125,12 +127,13 @@ fn hear_octets(
     parts: &mut Parts,
     again: &[Name],
     now: u64,
+    more: &[Heard],
     octets: &[u8],
 ) -> Result<Hearing, AllocError>
     requires fit { keys.now ≡ held_in (config_in p.now) }
     requires time { now ≤ 2 ^ 48 }
     ensures heard { (past : Past) → IsFalse p.now.reset → cache.old ≡ last_of 128 (cached_names past.told)
-        → StandsBelow past p.now parts.old again.now now
+        → StandsBelow past p.now parts.old again.now now → more.now ≡ friend_keys past
         → IfOk result (IsReadAs past octets.now) }
     ensures reset { IfOk result (λ h. h.reset ≡ false) }
     ensures cache { IfOk result
@@ -142,7 +145,7 @@ fn hear_octets(
     ensures time { IfOk result (λ h. ticks_after now h.answer ≡ now) }
     ensures unchanged { OnErr result ((cache.new ≡ cache.old) × (parts.new ≡ parts.old)) }
 {
-    let reading = match keys.read(p.iv.current, octets) {
+    let reading = match keys.read(more, p.iv.current, octets) {
         Some(reading) => reading,
         None => return Ok(early(None, Answer::Unread)),
     };
@@ -153,11 +156,18 @@ fn hear_octets(
 }
 
 impl Tables {
-    /// What a node with a store of this value answers to octets heard as a network PDU, and what its tables become. The error is for want
-    /// of memory, and then nothing changes.
-    pub fn hear(&mut self, p: &Persist, octets: &[u8]) -> Result<Hearing, AllocError>
+    /// What a node with a store of this value answers to octets heard as a network PDU, and what its tables become. They are read under the
+    /// network keys and behind them under `more`, the credentials of the friendships and offers before the event. The error is for want of
+    /// memory, and then nothing changes.
+    pub fn hear(
+        &mut self,
+        p: &Persist,
+        more: &[Heard],
+        octets: &[u8],
+    ) -> Result<Hearing, AllocError>
         requires { IsFit self.old p.now }
         ensures heard { (past : Past) → IsMeaningOf past.records p.now → AreTablesOf self.old past.told
+            → more.now ≡ friend_keys past
             → IfOk result (λ h. IsHeard past octets.now h self.new) }
         ensures fit { IsFit self.new p.now }
         ensures unchanged { OnErr result (self.new ≡ self.old) }
@@ -173,6 +183,7 @@ impl Tables {
             &mut self.parts,
             self.again.as_slice(),
             self.ticks,
+            more,
             octets,
         )?;
         push_reserved(&mut self.again, accepted_part(&hearing));

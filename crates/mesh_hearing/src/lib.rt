@@ -1,5 +1,6 @@
 //! What a node answers to octets heard and to time, and what its tables in memory become. It has no flash: what an answer stores and sends is
-//! for the layers above.
+//! for the layers above. Nor has it friendships: the credentials of these, under which network PDUs are read behind the network keys, are given
+//! to [`Tables::hear`] with the octets.
 //!
 //! - `tables`: the tables, and the keys derived from the store
 //! - `hearing`: a network PDU heard, from its octets to the answer

@@ -1,5 +1,5 @@
 -- A key, and a label, taken from their places open what those at the places open.
-use Rattle.std.proofs.Common.{◌≡◌, ℕ, List, get_or, refl, sym, subst, Option, Some, None}
+use Rattle.std.proofs.Common.{◌≡◌, ℕ, List, get_or, refl, sym, subst, Some, None}
 use Rattle.std.specs.Prelude.{slice_get}
 use Rattle.std.proofs.lemmas.Option.{slice_get-get_or, slice_get_within}
 use Rattle.layer_definitions.specs.Labels.{OpensLabel}

@@ -1,9 +1,6 @@
 -- What a node holds to read and to open with, and what was read and opened.
-use Rattle.std.specs.Prelude.{ℕ, List}
 use Rattle.layer_definitions.specs.KeyRefresh.{net_index, app_index, AreBound}
 use Rattle.layer_definitions.specs.Order.{IsByIndex}
-use Rattle.mesh_base.specs.declared.keys.AppKeyRow.{AppKeyRow}
-use Rattle.mesh_base.specs.declared.keys.NetKeyRow.{NetKeyRow}
 use Rattle.mesh_reading.specs.declared.opening.Opened.{Opened}
 use Rattle.network_layer.specs.declared.reading.NetReading.{NetReading}
 use Rattle.run_definitions.specs.History.{Opening, Reading}

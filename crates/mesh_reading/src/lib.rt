@@ -1,8 +1,9 @@
 //! What a node reads and opens with the keys that it holds: [`Keys`] are derived from the node's records when these change, with their key
-//! schedules, and never for a PDU.
+//! schedules, and never for a PDU. Network PDUs are read under the credentials of friendships too, which no record says: they are given with
+//! the octets.
 //!
 //! - `keys`: the keys that a node holds
-//! - `reading`: what octets read as
+//! - `reading`: what octets read as, under the network keys and behind them the credentials of friendships
 //! - `opening`: what an upper transport access PDU opens to
 //! - `laws`: why a node's records have keys that may be held
 #![tactic(auto)]

@@ -1,24 +1,29 @@
 //! What octets read as (Mesh Profile 1.0.1, sections 3.4.4 and 3.8.7).
 #![tactic(auto)]
 
-ghost use Rattle.std.specs.Prelude.{◌≡◌, ℕ, IfSome, IsNone};
+ghost use Rattle.std.specs.Prelude.{◌≡◌, ◌++◌, ℕ, IfSome, IsNone};
 ghost use Rattle.layer_definitions.specs.KeyRefresh.{heard_keys};
 ghost use Rattle.layer_definitions.specs.Network.{IsUnread, Reads};
 
 use crate::keys::Keys;
-use network_layer::{NetReading, read_kept};
+use mesh_base::fields::Heard;
+use network_layer::{NetReading, read, read_kept};
 
 impl Keys {
-    /// What octets read as under the network keys, the old key of each before the new, where `current` is the known IV Index. None exactly
-    /// where they read as nothing under any of them.
-    pub fn read(&self, current: u32, octets: &[u8]) -> Option<NetReading>
+    /// What octets read as under the network keys, the old key of each before the new, and behind them under `more`, the credentials of
+    /// friendships, where `current` is the known IV Index. None exactly where they read as nothing under any of them. The schedules of
+    /// network keys are kept; those of one of `more` are made where the octets have its NID.
+    pub fn read(&self, more: &[Heard], current: u32, octets: &[u8]) -> Option<NetReading>
         ensures some { IfSome result
-            (λ r. (place : ℕ) × Reads (heard_keys self.now.nets) current octets.now r.fields place r.by) }
-        ensures none { IsNone result → IsUnread (heard_keys self.now.nets) current octets.now }
+            (λ r. (place : ℕ) × Reads (heard_keys self.now.nets ++ more.now) current octets.now r.fields place r.by) }
+        ensures none { IsNone result → IsUnread (heard_keys self.now.nets ++ more.now) current octets.now }
     {
         match read_kept(self.nets.heard(), current, octets) {
             Ok(reading) => Some(reading),
-            Err(_) => None,
+            Err(_) => match read(more, current, octets) {
+                Ok(reading) => Some(reading),
+                Err(_) => None,
+            },
         }
     }
 }

@@ -1,4 +1,4 @@
-use Rattle.std.proofs.Common.{◌≡◌, Some, sym, subst, ◌∙◌}
+use Rattle.std.proofs.Common.{Some, sym, subst, ◌∙◌}
 use Rattle.mesh_hearing.proofs.Named.{named_part, named_whole}
 use Rattle.mesh_hearing.specs.Below.{IsNamedAs}
 use Rattle.mesh_reading.specs.Held.{reading_of}

@@ -10,12 +10,12 @@ use Rattle.store_definitions.specs.Config.{config_of}
 use Rattle.mesh_hearing.proofs.tables.Tables.hear.Goals as goal
 
 pub returns-then-p-clause-heard : goal.returns-then-p-clause-heard
-returns-then-p-clause-heard c = λ past m h.
+returns-then-p-clause-heard c = λ past m h k.
     subst (λ x. IsHeard past c.args.octets.now x c.args.self.now) (sym c.unheard.ensures)
     (heard_reset past c.args.p.now c.args.octets.now c.args.self.now m c.if-p.true h)
 
 pub returns-clause-heard : goal.returns-clause-heard
-returns-clause-heard c = λ past m h.
+returns-clause-heard c = λ past m h k.
     let i = c.self.inside in
     let old : TablesView = record { keys = i.keys; cache = i.cache; parts = i.parts; again = i.again.items; own = i.own; ticks = i.ticks } in
     let tables : AreTablesOf old past.told = subst (λ v. AreTablesOf v past.told) (sym c.self.view_is) h in
@@ -25,7 +25,7 @@ returns-clause-heard c = λ past m h.
       again = c.as_slice.ensures.value ∙ c.reserve.ensures.items ∙ tables.again;
       now = tables.ticks;
     } in
-    let x = c.in_ok-hearing.ensures.heard past c.if-p.false tables.cache below in
+    let x = c.in_ok-hearing.ensures.heard past c.if-p.false tables.cache below k in
     let heard = c.in_ok-hearing.hearing in
     record {
       sees = x.sees;

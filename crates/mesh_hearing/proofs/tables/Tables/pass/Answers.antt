@@ -1,4 +1,4 @@
-use Rattle.std.proofs.Common.{arith, ap, filter, refl, sym, ◌∙◌}
+use Rattle.std.proofs.Common.{arith, ap, filter, refl, ◌∙◌}
 use Rattle.layer_states.specs.Reassembly.{acks_due, after, tick}
 use Rattle.layer_states.specs.Sending as sending
 use Rattle.mesh_hearing.proofs.Passing.{passed, passed_reset}
