@@ -9,9 +9,9 @@ ghost use Rattle.mesh_base.specs.declared.fields.Heard.{Heard};
 
 use crate::request::{offer_of, offer_slot};
 use crate::slots::{
-    Slots, drop_cleared, drop_of, expire, has_befriended, has_cleared, has_friend, has_noted,
-    heard_all, keep_all, list_add_all, list_remove_all, poll_all, poll_list, poll_result, put_all,
-    put_own_all, request_fault,
+    Slots, credentials, drop_cleared, drop_of, expire, has_befriended, has_cleared, has_friend,
+    has_noted, heard_all, keep_all, list_add_all, list_remove_all, poll_all, poll_list,
+    poll_result, put_all, put_own_all, request_fault,
 };
 use arrayvec::ArrayVec;
 use layer_states::friends::{FriendFault, OwnShort, PollList, Polled};
@@ -181,6 +181,14 @@ impl Friends {
         ensures state { self.new ≡ after self.old (friends.tick now) }
     {
         expire(&mut self.slots, now);
+    }
+
+    /// The credentials of all friendships and offers, in the order of the offers.
+    pub fn credentials(&self) -> HeardList
+        ensures value { result ≡ friend_keys self.now.slots }
+        ensures length { length result ≤ 2 }
+    {
+        credentials(self.slots.as_slice())
     }
 
     /// The friendship credentials with this NID, in the order of the offers.

@@ -230,6 +230,27 @@ pub(crate) fn has_cleared(slots: &[Friendship], lpn: Address, counter: u16) -> b
     slots.iter().any(|s| is_cleared(lpn, counter, s))
 }
 
+// Puts the friendship credentials behind the others.
+fn push_credentials(list: &mut HeardList, s: &Friendship)
+    requires { length list.old < 10 }
+    ensures { list.new ≡ list.old ++ friend_keys (s.now ∷ []) }
+{
+    let _ = list.push(heard_of(s));
+}
+
+/// The friendship credentials, whatever their NID.
+pub(crate) fn credentials(slots: &[Friendship]) -> HeardList
+    requires { length slots.now ≤ 2 }
+    ensures value { result ≡ friend_keys slots.now }
+    ensures length { length result ≤ 2 }
+{
+    let mut list = HeardList::new();
+    for s in slots {
+        push_credentials(&mut list, s);
+    }
+    list
+}
+
 // Puts the friendship credentials behind the others, if they have this NID.
 fn push_heard(list: &mut HeardList, nid: u8, s: &Friendship)
     requires { length list.old < 10 }
@@ -237,7 +258,7 @@ fn push_heard(list: &mut HeardList, nid: u8, s: &Friendship)
     ensures length { length list.new ≤ length list.old + 1 }
 {
     if s.material.nid == nid {
-        let _ = list.push(heard_of(s));
+        push_credentials(list, s);
     }
 }
 

@@ -1,3 +1,4 @@
-mod Queues
-mod ActJobs
-mod Steps
+pub mod Queues
+mod Stored
+pub mod ActJobs
+pub mod Steps

@@ -109,7 +109,7 @@ map_append : {X Y : Type 0} (f : X → Y) (xs ys : List X) → map f (xs ++ ys) 
 map_append f [] ys = refl
 map_append f (x ∷ xs) ys = ap (λ l. f x ∷ l) (map_append f xs ys)
 
-stored_more : (xs ys : List OwnShort) → stored (xs ++ ys) ≡ stored xs ++ stored ys
+pub stored_more : (xs ys : List OwnShort) → stored (xs ++ ys) ≡ stored xs ++ stored ys
 stored_more xs ys =
     let short : OwnShort → Bool = λ m. is_short m.payload in
     ap (λ l. map put_own l) (filter-append short xs ys) ∙ map_append put_own (filter short xs) (filter short ys)

@@ -6,7 +6,7 @@ ghost use Rattle.layer_states.specs.Friends.{after};
 ghost use Rattle.mesh_base.specs.declared.control.ControlMsg.TheVariants as C;
 ghost use Rattle.mesh_reading.specs.Held.{reading_of};
 ghost use Rattle.node_friends.specs.Acts.{IsActOf};
-ghost use Rattle.node_friends.specs.Queues.{IsSealable};
+ghost use Rattle.node_friends.specs.Queues.{IsSendableAct, IsSendableAnswer};
 ghost use Rattle.node_friends.specs.Steps.{after_control};
 ghost use Rattle.node_friends.specs.declared.acts.FriendAct.TheVariants as A;
 ghost use Rattle.node_layers.specs.Friendship.{answered_calls, control_calls, stored_octets};
@@ -39,7 +39,8 @@ fn name_of(f: &NetFields) -> Name
 
 // A list message is confirmed where it is of a friendship that is held.
 fn confirmed(held: bool, transaction: u8) -> FriendAct
-    ensures { result ≡ (if held then A.Confirmed transaction else A.Nothing) }
+    ensures value { result ≡ (if held then A.Confirmed transaction else A.Nothing) }
+    ensures sendable { IsSendableAct result }
 {
     if held {
         FriendAct::Confirmed { transaction }
@@ -54,6 +55,7 @@ impl NodeFriends {
         requires { now ≤ 2 ^ 48 }
         ensures state { self.new ≡ after_control self.old now (config_in p.now) (reading_of r.now) (C.Request q.now) }
         ensures act { IsActOf (config_in p.now) self.old now (reading_of r.now) (C.Request q.now) result }
+        ensures sendable { IsSendableAct result }
     {
         if !is_request(p, r) {
             return FriendAct::Nothing;
@@ -70,7 +72,7 @@ impl NodeFriends {
     // Notes the octets of a stored PDU that answers a Poll: it is sealed under the credentials by which the Poll was heard.
     fn note(&mut self, r: &NetReading, fsn: bool, answer: &PollAnswer)
         requires nid { r.now.by.material.nid < 2 ^ 7 }
-        requires sealable { IsSealable answer.now }
+        requires sendable { IsSendableAnswer answer.now }
         ensures state { self.new
             ≡ fold after self.old (stored_octets r.now.by.material fsn r.now.fields.src answer.now) }
     {
@@ -86,6 +88,7 @@ impl NodeFriends {
         requires nid { r.now.by.material.nid < 2 ^ 7 }
         ensures state { (c : Config) → self.new ≡ after_control self.old now c (reading_of r.now) (C.Poll fsn) }
         ensures act { (c : Config) → IsActOf c self.old now (reading_of r.now) (C.Poll fsn) result }
+        ensures sendable { IsSendableAct result }
     {
         if !is_by_friend(r) {
             return FriendAct::Nothing;
@@ -102,6 +105,7 @@ impl NodeFriends {
         requires { now ≤ 2 ^ 48 }
         ensures state { (c : Config) → self.new ≡ after_control self.old now c (reading_of r.now) (C.ListAdd l.now) }
         ensures act { (c : Config) → IsActOf c self.old now (reading_of r.now) (C.ListAdd l.now) result }
+        ensures sendable { IsSendableAct result }
     {
         if !is_by_friend(r) {
             return FriendAct::Nothing;
@@ -118,6 +122,7 @@ impl NodeFriends {
         requires { now ≤ 2 ^ 48 }
         ensures state { (c : Config) → self.new ≡ after_control self.old now c (reading_of r.now) (C.ListRemove l.now) }
         ensures act { (c : Config) → IsActOf c self.old now (reading_of r.now) (C.ListRemove l.now) result }
+        ensures sendable { IsSendableAct result }
     {
         if !is_by_friend(r) {
             return FriendAct::Nothing;
@@ -134,6 +139,7 @@ impl NodeFriends {
         ensures state { (c : Config) (now : ℕ)
             → self.new ≡ after_control self.old now c (reading_of r.now) (C.Clear l.now) }
         ensures act { (c : Config) (now : ℕ) → IsActOf c self.old now (reading_of r.now) (C.Clear l.now) result }
+        ensures sendable { IsSendableAct result }
     {
         if !is_by_master(r) {
             return FriendAct::Nothing;
@@ -145,7 +151,7 @@ impl NodeFriends {
     }
 
     /// A control message that was accepted at this time, and what it leads to. `p` is what the records before the event say, and `r` how the
-    /// message was heard: a NID has 7 bits, as that of each key held.
+    /// message was heard: a NID has 7 bits, as that of each key held. The answer to a Poll can be sent, since whatever waits can.
     ///
     /// A PDU that answers a Poll is sealed here, since the octets of an answer are noted at its Poll.
     pub fn control(&mut self, p: &Persist, now: u64, r: &NetReading, m: &ControlMsg) -> FriendAct
@@ -156,6 +162,7 @@ impl NodeFriends {
             (control_calls now (config_in p.now) (reading_of r.now) m.now
             ++ answered_calls self.old now (reading_of r.now) m.now) }
         ensures act { IsActOf (config_in p.now) self.old now (reading_of r.now) m.now result }
+        ensures sendable { IsSendableAct result }
     {
         match m {
             ControlMsg::Request(q) => self.request(p, now, r, q),

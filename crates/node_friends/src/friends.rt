@@ -1,7 +1,7 @@
 //! The friendships of a node.
 #![tactic(auto)]
 
-ghost use Rattle.std.specs.Prelude.{◌≡◌, ℕ, ◌≤◌, ◌<◌, ◌^◌, ◌==◌, false, [], ◌∷◌, fold, filter, length};
+ghost use Rattle.std.specs.Prelude.{◌≡◌, ℕ, ◌≤◌, ◌<◌, ◌^◌, ◌==◌, false, [], ◌∷◌, fold, length, All};
 ghost use Rattle.std.specs.List.{list_any};
 ghost use Rattle.layer_definitions.specs.Network.{HasPdu};
 ghost use Rattle.layer_states.specs.Friends.{after, end_all, is_befriended as is_befriended_in, is_friend as is_friend_in, is_noted, poll_timeouts, tick as tick_in};
@@ -10,6 +10,7 @@ ghost use Rattle.mesh_base.specs.declared.address.Address.{Address as At};
 ghost use Rattle.mesh_base.specs.declared.fields.Heard.{Heard};
 ghost use Rattle.mesh_reading.specs.Held.{reading_of};
 ghost use Rattle.mesh_types.specs.declared.events.Event.TheVariants as E;
+ghost use Rattle.node_friends.specs.Queues.{IsSendable};
 ghost use Rattle.node_friends.specs.Steps.{AreFriendsOf};
 ghost use Rattle.node_layers.specs.Friendship.{friend_keys, heard_calls, is_befriended as is_befriended_after, is_to_be_kept, kept_calls, no_friends, stored};
 ghost use Rattle.run_definitions.specs.History.{Past};
@@ -36,13 +37,13 @@ pub struct NodeFriends {
 
 impl Model for NodeFriends {
     ghost use Rattle.layer_states.specs.Friends.{FriendsState};
-    ghost use Rattle.node_friends.specs.Queues.{HoldPdus};
+    ghost use Rattle.node_friends.specs.Queues.{HoldSendable};
 
     ghost Value = { FriendsState };
 
     ghost view = { λ n. n.friends };
 
-    ghost invariant = { λ n. HoldPdus n.friends.slots };
+    ghost invariant = { λ n. HoldSendable n.friends.slots };
 }
 
 // Whether a Low Power node is one of those that are asked for their PollTimeout.
@@ -69,15 +70,21 @@ impl NodeFriends {
     pub fn heard(&mut self, r: &NetReading)
         requires pdu { HasPdu r.now.fields }
         ensures state { self.new ≡ fold after self.old (heard_calls (reading_of r.now)) }
+        ensures befriended { (a : At) → is_befriended_in self.new.slots a ≡ is_befriended_in self.old.slots a }
+        ensures polls { poll_timeouts self.new.slots ≡ poll_timeouts self.old.slots }
     {
         if is_by_master(r) {
             self.friends.put(&r.fields);
         }
     }
 
-    /// A message of this node that goes unsegmented: it is stored for each friendship that its DST belongs to.
+    /// A message of this node that goes unsegmented: it is stored for each friendship that its DST belongs to. TTL is below 128, an AID below
+    /// 64, and there is a payload.
     pub fn send(&mut self, m: &OwnShort)
+        requires sendable { IsSendable m.now }
         ensures state { self.new ≡ fold after self.old (stored (m.now ∷ [])) }
+        ensures befriended { (a : At) → is_befriended_in self.new.slots a ≡ is_befriended_in self.old.slots a }
+        ensures polls { poll_timeouts self.new.slots ≡ poll_timeouts self.old.slots }
     {
         // The proof uses that it has at most 11 octets.
         let _payload = m.payload.as_slice();
@@ -117,14 +124,15 @@ impl NodeFriends {
         self.friends.belongs(a)
     }
 
-    /// The friendship credentials with this NID under which a PDU may be heard, in the order of the offers.
-    pub fn heard_keys(&self, nid: u8) -> HeardList
-        ensures value { result ≡ filter (λ (h : Heard). h.material.nid == nid) (F.friend_keys self.now.slots) }
-        ensures past { (past : Past) → AreFriendsOf self.now past.told
-            → result ≡ filter (λ (h : Heard). h.material.nid == nid) (friend_keys past) }
+    /// The credentials under which a PDU of a Low Power node may be heard: of all friendships and offers, in the order of the offers. They are
+    /// tried behind the network keys. A NID has 7 bits.
+    pub fn keys(&self) -> HeardList
+        ensures value { result ≡ F.friend_keys self.now.slots }
+        ensures past { (past : Past) → AreFriendsOf self.now past.told → result ≡ friend_keys past }
+        ensures nid { All (λ (h : Heard). h.material.nid < 2 ^ 7) result }
         ensures length { length result ≤ 2 }
     {
-        self.friends.heard(nid)
+        self.friends.credentials()
     }
 
     /// The address and the PollTimeout, in units of 100 ms, of each friendship that stands.
