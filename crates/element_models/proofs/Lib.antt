@@ -1,3 +1,4 @@
 mod Lists
 mod Standing
 mod Lives
+pub mod Filled

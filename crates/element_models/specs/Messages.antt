@@ -1,5 +1,5 @@
 -- What the code has of an access message and of a reply, as the definitions of a life have it.
-use Rattle.std.specs.Prelude.{ℕ, List}
+use Rattle.std.specs.Prelude.{ℕ, ◌≤◌, List, length}
 use Rattle.element_models.specs.declared.message.Message.{Message}
 use Rattle.element_models.specs.declared.taken.Reply.{Reply}
 use Rattle.run_definitions.specs.Layers.{AccessMessage}
@@ -19,3 +19,7 @@ message_in m =
 -- the place of the element, and the payload
 abbrev pub reply_in : Reply → ℕ × List ℕ
 reply_in r = (r.element, r.payload)
+
+-- a reply has an octet
+abbrev pub HasOctet : ℕ × List ℕ → Type 0
+HasOctet reply = 1 ≤ length reply.1

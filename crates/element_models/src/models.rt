@@ -3,7 +3,7 @@
 
 ghost use Rattle.std.specs.Prelude.{◌≡◌, ◌<◌, ◌≤◌, ◌-◌, ◌^◌, ◌++◌, List, Some, [], length, map, All};
 ghost use Rattle.std.specs.List.{range_with_len};
-ghost use Rattle.element_models.specs.Messages.{message_in, reply_in};
+ghost use Rattle.element_models.specs.Messages.{HasOctet, message_in, reply_in};
 ghost use Rattle.element_models.specs.Models.{AreModelsOf};
 ghost use Rattle.element_models.specs.Stepping.{all_replied, all_step, all_stored, servers_first};
 ghost use Rattle.node_layers.specs.Models.{delivered_by, model_records, model_replies};
@@ -86,7 +86,7 @@ impl ElementModels {
 
     /// A message that was delivered is taken at this moment of the life, in ticks of 10 ms, at most 2^48, over a store of this value: what
     /// that stores and what is replied. They then stand for its entry too, whatever records stand behind it, as long as the node has as many
-    /// elements. The records are in range.
+    /// elements. The records are in range, and each reply has an octet.
     pub fn take(&mut self, p: &Persist, now: u64, m: &Message<'_>) -> ModelsTaken
         requires { now ≤ 2 ^ 48 }
         ensures count { length self.new ≡ length self.old }
@@ -102,6 +102,7 @@ impl ElementModels {
             → (config_of records).elements ≡ (config_before past).elements
             → AreModelsOf self.new (with_entry past.told t records) }
         ensures ranges { All IsInRange result.records }
+        ensures octets { All HasOctet (map reply_in result.replies) }
     {
         take_all(self.servers.as_mut_slice(), p, now, m)
     }
@@ -116,12 +117,13 @@ impl ElementModels {
     }
 
     /// The Status that a publication of a model shows at a moment, in ticks of 10 ms, at most 2^48. The element is one by its place; a model
-    /// that isn't the Generic OnOff Server is the Generic Level Server.
+    /// that isn't the Generic OnOff Server is the Generic Level Server. It has an octet.
     pub fn status(&self, element: u8, model: u16, now: u64) -> Octets<11>
         requires element { element < length self.now }
         requires time { now ≤ 2 ^ 48 }
         ensures value { (past : Past) (c : Config) (row : PublishRow) → AreModelsOf self.now past
             → row.element.0 - c.unicast.0 ≡ element → row.model ≡ model → result ≡ status_of past c row now }
+        ensures octet { 1 ≤ length result }
     {
         let servers = &self.servers.as_slice()[element as usize];
         if model == ONOFF_SERVER {

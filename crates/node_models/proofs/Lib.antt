@@ -3,3 +3,4 @@ mod Own
 mod Published
 mod Rows
 mod Statuses
+mod Asked

@@ -39,7 +39,7 @@ pick true x y h k = h
 pick false x y h k = k
 
 -- those behind the subscriptions
-abbrev rest_answers : Config → List (Address × ℕ) → HeartbeatRow → ℕ → List ℕ → Option ConfigAct
+abbrev pub rest_answers : Config → List (Address × ℕ) → HeartbeatRow → ℕ → List ℕ → Option ConfigAct
 rest_answers c polls beat second params =
     if second == 0x23 then octet_get 0x25 c.transmit params
     else if second == 0x24 then octet_set is_octet 5 0x25 c.transmit params

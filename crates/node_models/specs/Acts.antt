@@ -1,5 +1,5 @@
 -- What a message to the Configuration Server does to what is published.
-use Rattle.std.specs.Prelude.{◌≡◌, List, [], Option, Some, None}
+use Rattle.std.specs.Prelude.{◌≡◌, ◌<◌, ◌^◌, ⊤, IfSome, List, [], Option, Some, None}
 use Rattle.std.specs.Option.{option_map_or, option_to_list}
 use Rattle.config_definitions.specs.declared.acts.ConfigAct.{ConfigAct}
 use Rattle.model_publish.specs.Own.{IsOwnRow}
@@ -7,6 +7,7 @@ use Rattle.node_layers.specs.Publishing.{stored_row}
 use Rattle.node_records.specs.declared.persist.Persist.{Persist}
 use Rattle.record_types.specs.declared.records.PublishRow.{PublishRow}
 use Rattle.record_types.specs.declared.records.StoreRecord.{StoreRecord}
+use Rattle.record_types.specs.declared.records.StoreRecord.TheVariants as R
 
 -- the row of a publication that is stored
 abbrev pub row_in : Option ConfigAct → Option PublishRow
@@ -20,3 +21,11 @@ change_in act = option_map_or (λ (a : ConfigAct). option_to_list a.change) act 
 -- A row that is stored is of one of the node's own models.
 abbrev pub StoresOwn : Persist → Option ConfigAct → Type 0
 StoresOwn p act = (row : PublishRow) → row_in act ≡ Some row → IsOwnRow p.unicast.0 p.elements row
+
+-- A Default TTL that is asked for has 7 bits (4.2.7).
+abbrev pub IsShortTtl : StoreRecord → Type 0
+IsShortTtl (R.Feature which value) = which ≡ 2 → value < 2 ^ 7
+IsShortTtl item = ⊤
+
+abbrev pub AsksShort : Option ConfigAct → Type 0
+AsksShort act = IfSome act (λ (a : ConfigAct). IfSome a.change IsShortTtl)

@@ -2,10 +2,12 @@
 use Rattle.std.specs.Prelude.{◌≡◌, ℕ, ◌≤◌, Bool, false, true, List, length, None}
 use Rattle.element_models.specs.Models.{AreModelsOf, over}
 use Rattle.element_models.specs.declared.servers.Servers.{Servers}
+use Rattle.layer_states.specs.Friends.{FriendsState}
 use Rattle.mesh_types.specs.declared.answers.Answer.{Answer}
 use Rattle.mesh_types.specs.declared.answers.Answer.TheVariants as A
 use Rattle.model_publish.specs.Own.{AreRowsOf}
 use Rattle.model_states.specs.Publication.{Published}
+use Rattle.node_layers.specs.Friendship.{act_of, config_after}
 use Rattle.node_layers.specs.Models.{delivered_by}
 use Rattle.node_layers.specs.Publishing.{published}
 use Rattle.node_layers.specs.Steps.{with_entry}
@@ -13,6 +15,7 @@ use Rattle.node_records.specs.declared.persist.Persist.{Persist}
 use Rattle.record_types.specs.declared.records.StoreRecord.{StoreRecord}
 use Rattle.run_definitions.specs.Answers.{config_before}
 use Rattle.run_definitions.specs.History.{Past, Told}
+use Rattle.run_definitions.specs.Layers.{AccessMessage}
 use Rattle.store_definitions.specs.Config.{config_of}
 use Rattle.store_definitions.specs.Numbers.{filled}
 
@@ -61,3 +64,9 @@ StandRefilled =
 abbrev pub StayWithin : Type 0
 StayWithin =
     (m : ModelsView) (p q : Persist) → q.unicast ≡ p.unicast → q.elements ≡ p.elements → AreWithin m p → AreWithin m q
+
+-- What the Configuration Server is asked for leaves the address of the node.
+abbrev pub KeepsAddress : Type 0
+KeepsAddress =
+    (past : Past) (st : FriendsState) (m : AccessMessage)
+    → (config_after (config_before past) (act_of past st m)).unicast ≡ (config_before past).unicast

@@ -1,22 +1,31 @@
-//! What a message asks the Configuration Server for, and what is published by that.
+//! What a message asks the Configuration Server for, what the records then say, and what is published by that.
 #![tactic(auto)]
 
-ghost use Rattle.std.specs.Prelude.{◌≡◌, ◌≤◌, [], Some};
+ghost use Rattle.std.specs.Prelude.{◌≡◌, ◌≤◌, ◌<◌, ◌^◌, IfSome, Some, length};
 ghost use Rattle.std.specs.Option.{option_map_or};
 ghost use Rattle.element_models.specs.Messages.{message_in};
 ghost use Rattle.model_publish.specs.Own.{AreRowsOf, IsOwnRow};
 ghost use Rattle.model_states.specs.Publication.{heartbeat_set, row_set};
-ghost use Rattle.node_layers.specs.Configuration.{config_act, is_for_server};
+ghost use Rattle.node_layers.specs.Configuration.{config_act, ends_friendships, is_for_server};
+ghost use Rattle.node_layers.specs.Friendship.{config_after};
 ghost use Rattle.node_layers.specs.Publishing.{published_by_act, stored_row};
-ghost use Rattle.node_models.specs.Acts.{StoresOwn};
+ghost use Rattle.node_models.specs.Acts.{AsksShort, IsShortTtl, StoresOwn};
 ghost use Rattle.node_records.specs.Tables.{config_in};
 ghost use Rattle.record_types.specs.declared.records.PublishRow.{PublishRow};
+ghost use Rattle.store_definitions.specs.Config.{changed};
 
 use config_definitions::acts::ConfigAct;
 use element_models::Message;
+use mesh_base::address::Address;
 use mesh_base::keys::UpperKey;
 use model_publish::{HeartbeatRow, Publisher, rows_law};
 use node_records::{Persist, StoreRecord};
+
+/// The feature that is the Default TTL, by its number in records.
+const DEFAULT_TTL: u8 = 2;
+
+/// Friend Set with 00.
+const NO_FRIEND: &[u8] = &[0x80, 0x10, 0x00];
 
 // Whether the Configuration Server takes a message: it is sealed with the device key, and goes to the first element.
 fn is_for_server(p: &Persist, m: &Message<'_>) -> bool
@@ -29,16 +38,60 @@ fn is_for_server(p: &Persist, m: &Message<'_>) -> bool
 }
 
 /// What a message asks the Configuration Server for; None where it isn't one for it, or is no configuration message. `beat` is the heartbeat as
-/// a Status shows it. There are no friendships.
-pub(crate) fn config_act(p: &Persist, beat: &HeartbeatRow, m: &Message<'_>) -> Option<ConfigAct>
+/// a Status shows it, and `polls` are the Low Power nodes of friendships with their PollTimeouts.
+pub(crate) fn config_act(
+    p: &Persist,
+    polls: &[(Address, u32)],
+    beat: &HeartbeatRow,
+    m: &Message<'_>,
+) -> Option<ConfigAct>
     requires few { p.now.elements ≤ 4 }
-    ensures value { result ≡ config_act (config_in p.now) [] beat.now (message_in m.now) }
+    ensures value { result ≡ config_act (config_in p.now) polls.now beat.now (message_in m.now) }
     ensures own { StoresOwn p.now result }
+    ensures ttl { AsksShort result }
+    ensures octet { IfSome result (λ act. 1 ≤ length act.reply) }
 {
     if !is_for_server(p, m) {
         return None;
     }
-    config_server::take(p, m.net, &[], beat, m.payload).ok()
+    config_server::take(p, m.net, polls, beat, m.payload).ok()
+}
+
+// The Default TTL behind a record.
+#[tactic(auto, unfolding(store_definitions::specs::Config::changed))]
+fn ttl_after(p: &Persist, item: &StoreRecord) -> u8
+    requires short { IsShortTtl item.now }
+    ensures value { result ≡ (changed (config_in p.now) item.now).ttl }
+    ensures short { p.now.ttl < 2 ^ 7 → result < 2 ^ 7 }
+{
+    match item {
+        StoreRecord::Feature { which, value } if *which == DEFAULT_TTL => *value as u8,
+        _ => p.ttl,
+    }
+}
+
+/// The Default TTL that the records say behind what a message asks for.
+pub(crate) fn ttl_behind(p: &Persist, act: &Option<ConfigAct>) -> u8
+    requires short { AsksShort act.now }
+    ensures value { result ≡ (config_after (config_in p.now) act.now).ttl }
+    ensures short { p.now.ttl < 2 ^ 7 → result < 2 ^ 7 }
+{
+    match act {
+        Some(
+            ConfigAct {
+                change: Some(item),
+                ..
+            },
+        ) => ttl_after(p, item),
+        _ => p.ttl,
+    }
+}
+
+/// Whether a message ends the friendships: Friend Set with 00.
+pub(crate) fn ends_friendships(p: &Persist, m: &Message<'_>) -> bool
+    ensures { result ≡ ends_friendships (config_in p.now) (message_in m.now) }
+{
+    is_for_server(p, m) && m.payload == NO_FRIEND
 }
 
 // A row that is stored is published by from this moment on.

@@ -4,7 +4,7 @@
 ghost use Rattle.std.specs.Prelude.{◌≡◌, ◌≤◌, ◌<◌, ◌^◌, ◌++◌, [], ◌∷◌, None, All, length, map};
 ghost use Rattle.element_models.specs.Models.{AreModelsOf};
 ghost use Rattle.model_publish.specs.Own.{IsOwnRow};
-ghost use Rattle.node_models.specs.Due.{due_row};
+ghost use Rattle.node_models.specs.Due.{ShowsOctet, due_row};
 ghost use Rattle.run_definitions.specs.History.{Past};
 ghost use Rattle.store_definitions.specs.Config.{Config};
 
@@ -95,6 +95,7 @@ fn with_status(servers: &ElementModels, unicast: Address, now: u64, row: &Publis
     requires own { IsOwnRow unicast.0 (length servers.now) row.now }
     ensures value { (past : Past) (c : Config) → AreModelsOf servers.now past → c.unicast ≡ unicast
         → result ≡ due_row past c now row.now }
+    ensures octet { ShowsOctet result }
 {
     let element = (row.element.0 - unicast.0) as u8;
     DueRow {
@@ -103,7 +104,7 @@ fn with_status(servers: &ElementModels, unicast: Address, now: u64, row: &Publis
     }
 }
 
-/// Rows of the node's own models, at most 8, with their Statuses at this moment, in ticks of 10 ms, at most 2^48.
+/// Rows of the node's own models, at most 8, with their Statuses at this moment, in ticks of 10 ms, at most 2^48. Each has an octet.
 pub(crate) fn with_statuses(
     servers: &ElementModels,
     unicast: Address,
@@ -116,6 +117,7 @@ pub(crate) fn with_statuses(
     requires own { All (IsOwnRow unicast.0 (length servers.now)) rows.now }
     ensures value { (past : Past) (c : Config) → AreModelsOf servers.now past → c.unicast ≡ unicast
         → result ≡ map (due_row past c now) rows.now }
+    ensures octets { All ShowsOctet result }
 {
     let mut list = DueList::new();
     for row in rows {

@@ -1,16 +1,18 @@
 //! The models of a node, and its calls.
 #![tactic(auto)]
 
-ghost use Rattle.std.specs.Prelude.{◌≡◌, ℕ, ◌≤◌, ◌^◌, List, Some, [], All, length, filter};
-ghost use Rattle.element_models.specs.Messages.{message_in};
+ghost use Rattle.std.specs.Prelude.{◌≡◌, ℕ, ◌≤◌, ◌<◌, ◌^◌, List, Some, [], All, length, filter};
+ghost use Rattle.element_models.specs.Messages.{HasOctet, message_in};
+ghost use Rattle.layer_states.specs.Friends.{FriendsState, poll_timeouts};
 ghost use Rattle.mesh_types.specs.declared.answers.Answer.TheVariants as A;
 ghost use Rattle.model_publish.specs.Own.{IsOwnRow};
 ghost use Rattle.node_layers.specs.ConfiguredLayers.{changes_of};
-ghost use Rattle.node_layers.specs.Friendship.{no_friends, replies_to};
+ghost use Rattle.node_layers.specs.Configuration.{ends_friendships};
+ghost use Rattle.node_layers.specs.Friendship.{act_of, config_after, replies_to};
 ghost use Rattle.node_layers.specs.Models.{delivered_by};
 ghost use Rattle.node_layers.specs.Publishing.{is_own_row};
 ghost use Rattle.node_layers.specs.Steps.{with_entry};
-ghost use Rattle.node_models.specs.Due.{IsDue};
+ghost use Rattle.node_models.specs.Due.{IsDue, ShowsOctet};
 ghost use Rattle.node_models.specs.Models.{AreNodeModelsOf, AreWithin};
 ghost use Rattle.node_models.specs.Replies.{replies_in};
 ghost use Rattle.node_records.specs.Meaning.{IsMeaningOf, IsSaid};
@@ -20,10 +22,11 @@ ghost use Rattle.run_definitions.specs.Answers.{config_before};
 ghost use Rattle.run_definitions.specs.History.{Past, Told, now_of};
 ghost use Rattle.store_definitions.specs.Config.{Config, config_of};
 
-use crate::configuration::{config_act, publish};
+use crate::configuration::{config_act, ends_friendships, publish, ttl_behind};
 use crate::due::{Due, with_statuses};
 use crate::taken::Taken;
 use element_models::{ElementModels, LEVEL_SERVER, Message, ONOFF_SERVER, models_law};
+use mesh_base::address::Address;
 use model_publish::{PublishList, PublishRow, Publisher, rows_law};
 use node_layers::laws::step_law;
 use node_records::Persist;
@@ -86,15 +89,30 @@ impl NodeModels {
     }
 
     /// A message that was delivered is taken at this moment of the life, in ticks of 10 ms, at most 2^48, over a store of this value: what
-    /// that stores, and what is replied. They then stand for its entry too, whatever records stand behind it, as long as the node has as many
-    /// elements. A message without a reply is answered by none.
-    pub fn take(&mut self, p: &Persist, now: u64, m: &Message<'_>) -> Taken
+    /// that stores, what is replied, the Default TTL behind it, and whether it ends the friendships. `polls` are the Low Power nodes of the
+    /// friendships with their PollTimeouts, in units of 100 ms. The models then stand for its entry too, whatever records stand behind it, as
+    /// long as the node has as many elements. A message without a reply is answered by none, and each reply has an octet.
+    pub fn take(
+        &mut self,
+        p: &Persist,
+        now: u64,
+        polls: &[(Address, u32)],
+        m: &Message<'_>,
+    ) -> Taken
         requires within { AreWithin self.old p.now }
         requires time { now ≤ 2 ^ 48 }
         ensures changes { (past : Past) → IsMeaningOf past.records p.now → AreNodeModelsOf self.old past
             → now ≡ now_of past.told → result.changes ≡ changes_of past (message_in m.now) }
-        ensures replies { (past : Past) → IsMeaningOf past.records p.now → AreNodeModelsOf self.old past
-            → now ≡ now_of past.told → replies_in result.replies ≡ replies_to past no_friends (message_in m.now) }
+        ensures replies { (past : Past) (st : FriendsState) → IsMeaningOf past.records p.now
+            → AreNodeModelsOf self.old past → now ≡ now_of past.told → polls.now ≡ poll_timeouts st.slots
+            → replies_in result.replies ≡ replies_to past st (message_in m.now) }
+        ensures ttl { (past : Past) (st : FriendsState) → IsMeaningOf past.records p.now
+            → AreNodeModelsOf self.old past → polls.now ≡ poll_timeouts st.slots
+            → result.ttl ≡ (config_after (config_before past) (act_of past st (message_in m.now))).ttl }
+        ensures short { p.now.ttl < 2 ^ 7 → result.ttl < 2 ^ 7 }
+        ensures ends { (past : Past) → IsMeaningOf past.records p.now
+            → result.ends ≡ ends_friendships (config_before past) (message_in m.now) }
+        ensures octets { All HasOctet (replies_in result.replies) }
         ensures models { (past : Past) (t : Told) (records : List StoreRecord)
             → IsMeaningOf past.records p.now → AreNodeModelsOf self.old past → now ≡ now_of past.told
             → t.records ≡ past.records → delivered_by t ≡ Some (message_in m.now)
@@ -103,18 +121,21 @@ impl NodeModels {
         ensures within { AreWithin self.new p.now }
     {
         step_law();
-        let act = config_act(p, &self.publisher.heartbeat(), m);
+        let act = config_act(p, polls, &self.publisher.heartbeat(), m);
         publish(&mut self.publisher, p, now, &act);
-        Taken::of(act, self.servers.take(p, now, m))
+        let ttl = ttl_behind(p, &act);
+        let ends = ends_friendships(p, m);
+        Taken::of(act, ttl, ends, self.servers.take(p, now, m))
     }
 
     /// What is published at this moment of the life, in ticks of 10 ms, at most 2^48, over a store of this value. They then stand for an entry
-    /// that tells of this moment too.
+    /// that tells of this moment too. Each Status has an octet.
     pub fn pass(&mut self, p: &Persist, now: u64) -> Due
         requires within { AreWithin self.old p.now }
         requires time { now ≤ 2 ^ 48 }
         ensures due { (past : Past) (c : Config) → IsMeaningOf past.records p.now → AreNodeModelsOf self.old past
             → c.unicast ≡ (config_before past).unicast → IsDue past c now result }
+        ensures octets { All ShowsOctet result.rows }
         ensures models { (past : Past) (t : Told) (records : List StoreRecord)
             → AreNodeModelsOf self.old past → t.records ≡ past.records → t.entry.answer ≡ A.Ticked now
             → (config_of records).elements ≡ (config_before past).elements

@@ -28,6 +28,10 @@ pub struct Taken {
     pub changes: Table<StoreRecord, 9>,
     /// The replies.
     pub replies: MessageReplies,
+    /// The Default TTL that the records say behind the message, with which replies go.
+    pub ttl: u8,
+    /// Whether the message ends the friendships.
+    pub ends: bool,
 }
 
 impl MessageReplies {
@@ -55,11 +59,14 @@ fn changes_of(change: Option<StoreRecord>, records: &Table<StoreRecord, 8>) -> T
 }
 
 impl Taken {
-    /// What the Configuration Server is asked for, and behind that what the models store and reply.
-    pub(crate) fn of(act: Option<ConfigAct>, models: ModelsTaken) -> Taken
+    /// What the Configuration Server is asked for, and behind that what the models store and reply. `ttl` is the Default TTL behind the
+    /// message, and `ends` says whether it ends the friendships.
+    pub(crate) fn of(act: Option<ConfigAct>, ttl: u8, ends: bool, models: ModelsTaken) -> Taken
         ensures changes { result.changes ≡ change_in act ++ models.records }
         ensures configuration { result.replies.configuration ≡ option_map (λ (a : ConfigAct). a.reply) act }
         ensures models { result.replies.models ≡ models.replies }
+        ensures ttl { result.ttl ≡ ttl }
+        ensures ends { result.ends ≡ ends }
     {
         match act {
             Some(act) => Taken {
@@ -68,6 +75,8 @@ impl Taken {
                     configuration: Some(act.reply),
                     models: models.replies,
                 },
+                ttl,
+                ends,
             },
             None => Taken {
                 changes: changes_of(None, &models.records),
@@ -75,6 +84,8 @@ impl Taken {
                     configuration: None,
                     models: models.replies,
                 },
+                ttl,
+                ends,
             },
         }
     }

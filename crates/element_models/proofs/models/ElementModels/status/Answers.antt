@@ -1,12 +1,14 @@
-use Rattle.std.proofs.Common.{◌≡◌, ◌∙◌, List, ap, arith, get_or, true, false}
+use Rattle.std.proofs.Common.{◌≡◌, ◌∙◌, ℕ, ◌≤◌, List, length, ap, arith, get_or, subst, sym, true, false}
 use Rattle.std.specs.Prelude.{◌==◌}
 use Rattle.std.proofs.lemmas.Bool.Decides.{nat_tests}
+use Rattle.element_models.proofs.Filled.{level_filled, onoff_filled}
 use Rattle.element_models.proofs.Lives.{at_place, level_shown, onoff_shown}
 use Rattle.element_models.specs.declared.servers.Servers.{Servers}
 use Rattle.element_models.proofs.models.ElementModels.status.Goals as goal
 
 pub returns-then-model-eq-ONOFF_SERVER : goal.returns-then-model-eq-ONOFF_SERVER
 returns-then-model-eq-ONOFF_SERVER c = record {
+  octet = subst (λ (octets : List ℕ). 1 ≤ length octets) (sym c.status.ensures.value) (onoff_filled c.index-as_slice-element.result.onoff c.args.now);
   value = λ past d row are at is.
       let here = c.index-as_slice-element.result in
       let read : here ≡ get_or c.args.self.now c.args.element here =
@@ -18,6 +20,9 @@ returns-then-model-eq-ONOFF_SERVER c = record {
 
 pub returns-else-model-eq-ONOFF_SERVER : goal.returns-else-model-eq-ONOFF_SERVER
 returns-else-model-eq-ONOFF_SERVER c = record {
+  octet =
+      subst (λ (octets : List ℕ). 1 ≤ length octets) (sym c.status-else-model-eq-ONOFF_SERVER.ensures.value)
+      (level_filled c.index-as_slice-element.result.level c.args.now);
   value = λ past d row are at is.
       let here = c.index-as_slice-element.result in
       let read : here ≡ get_or c.args.self.now c.args.element here =

@@ -1,8 +1,10 @@
-use Rattle.std.proofs.Common.{◌≡◌, List, ap, length, subst, sym, ◌∙◌}
+use Rattle.std.proofs.Common.{◌≡◌, ℕ, List, ap, length, subst, sym, ◌∙◌}
+use Rattle.std.specs.Prelude.{All}
 use Rattle.std.specs.List.{refill}
+use Rattle.element_models.proofs.Filled.{all_filled}
 use Rattle.element_models.proofs.Lists.{length-map_from, refill_same}
 use Rattle.element_models.proofs.Lives.{models_more, records_are, replies_are}
-use Rattle.element_models.specs.Messages.{message_in}
+use Rattle.element_models.specs.Messages.{HasOctet, message_in}
 use Rattle.element_models.specs.Models.{AreModelsOf}
 use Rattle.element_models.specs.Stepping.{all_replied, all_step, all_stored, servers_step}
 use Rattle.element_models.specs.declared.servers.Servers.{Servers}
@@ -45,3 +47,8 @@ returns-clause-count c =
     ∙ ap (λ (ss : List Servers). all_step (config_in c.args.p.now) c.args.now m ss) (c.as_mut_slice.ensures.value ∙ c.self.view_is) in
     ap (λ (ss : List Servers). length ss) left
     ∙ length-map_from (servers_step (config_in c.args.p.now) c.args.now m) 0 c.args.self.now
+
+pub returns-clause-octets : goal.returns-clause-octets
+returns-clause-octets c =
+    subst (λ (replies : List (ℕ × List ℕ)). All HasOctet replies) (sym c.take_all.ensures.replies)
+    (all_filled (config_in c.args.p.now) c.args.now (message_in c.args.m.now) c.as_mut_slice.result.now)

@@ -19,8 +19,8 @@ returns-clause-changes c = λ past means are time.
     let stands = subst (λ (v : ModelsView). AreNodeModelsOf v past) (sym c.self.view_is) are in
     c.of.ensures.changes
     ∙ ap (λ (act : Option ConfigAct). change_in act ++ c.take.result.records) c.config_act-act.ensures.value
-    ∙ ap (λ d. change_in (config_act d [] c.heartbeat.result m) ++ c.take.result.records) means.config
-    ∙ ap (λ items. items ++ c.take.result.records) (same_changes (config_of past.records) [] [] c.heartbeat.result no_heartbeat m)
+    ∙ ap (λ d. change_in (config_act d c.args.polls.now c.heartbeat.result m) ++ c.take.result.records) means.config
+    ∙ ap (λ items. items ++ c.take.result.records) (same_changes (config_of past.records) c.args.polls.now [] c.heartbeat.result no_heartbeat m)
     ∙ ap (λ items. change_in (config_act (config_of past.records) [] no_heartbeat m) ++ items)
     (c.take.ensures.records past means stands.servers time)
 
@@ -34,8 +34,8 @@ returns-clause-models c = λ past t records means are time same delivers element
       published =
           c.publish.ensures.state
           ∙ ap (λ (act : Option ConfigAct). option_map_or (published_by_act before c.args.now) act before) c.config_act-act.ensures.value
-          ∙ ap (λ d. option_map_or (published_by_act before c.args.now) (config_act d [] c.heartbeat.result m) before) means.config
-          ∙ same_published before c.args.now (config_of past.records) [] [] c.heartbeat.result no_heartbeat m
+          ∙ ap (λ d. option_map_or (published_by_act before c.args.now) (config_act d c.args.polls.now c.heartbeat.result m) before) means.config
+          ∙ same_published before c.args.now (config_of past.records) c.args.polls.now [] c.heartbeat.result no_heartbeat m
           ∙ ap (λ n. published_by_message before n (config_of past.records) m) time
           ∙ ap (λ p. published_by_message p (now_of past.told) (config_of past.records) m) stands.published
           ∙ by_message c.step_law.ensures.publications past t records same m delivers;
