@@ -13,7 +13,8 @@ use Rattle.mesh_types.specs.declared.answers.Answer.TheVariants as A
 use Rattle.mesh_types.specs.declared.events.Event.TheVariants as E
 use Rattle.mesh_types.specs.declared.jobs.Job.{Job}
 use Rattle.node_layers.specs.BuiltLayers.{built_layers}
-use Rattle.node_layers.specs.ConfiguredLayers.{configured_layers, sent_publications}
+use Rattle.node_layers.specs.ConfiguredLayers.{configured_layers}
+use Rattle.node_layers.specs.NodeLayers.{node_layers, published_at}
 use Rattle.node_layers.specs.Reassembly.{acks_at}
 use Rattle.node_layers.specs.Sending.{round_jobs, segments_at}
 use Rattle.run_definitions.specs.History.{Insight, Past}
@@ -66,9 +67,9 @@ rounds_are c now (s ∷ rows) = round_of_one (has_round now s) (round_jobs c now
 
 -- the jobs of a tick
 pub jobs_are : (past : Past) (c : Config) (ticks now : ℕ) (insight : Insight)
-    → acks_at past c ticks ++ segments_at past c ticks ++ beacons_due past c ticks ++ sent_publications past c ticks
-    ≡ jobs_of configured_layers past c (E.Tick ticks) insight (A.Ticked now)
-unfolding built_layers configured_layers jobs_of
+    → acks_at past c ticks ++ segments_at past c ticks ++ beacons_due past c ticks ++ published_at past c ticks
+    ≡ jobs_of node_layers past c (E.Tick ticks) insight (A.Ticked now)
+unfolding built_layers configured_layers node_layers jobs_of
 jobs_are past c ticks now insight = refl
 
 -- Jobs put behind others.

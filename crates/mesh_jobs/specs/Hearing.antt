@@ -2,12 +2,9 @@
 use Rattle.std.specs.Prelude.{Option}
 use Rattle.std.specs.Option.{option_map}
 use Rattle.mesh_base.specs.declared.lower.Lower.{Lower}
+use Rattle.mesh_reading.specs.Held.{reading_of}
 use Rattle.network_layer.specs.declared.reading.NetReading.{NetReading}
-use Rattle.run_definitions.specs.History.{Insight, OfPdu, Opening, Reading}
-
--- a reading: its fields, and the material that it reads under
-abbrev pub reading_of : NetReading → Reading
-reading_of r = record { fields = r.fields; by = r.by }
+use Rattle.run_definitions.specs.History.{Insight, OfPdu, Opening}
 
 -- what a PDU was read as
 abbrev pub insight_of : Option NetReading → Option Lower → Option Opening → Insight

@@ -4,4 +4,5 @@ pub mod Ticks
 pub mod Own
 pub mod Segments
 pub mod Replying
+pub mod Acting
 pub mod Publishing

@@ -25,9 +25,9 @@ pub(crate) fn is_element(p: &Persist, a: Address) -> bool
 }
 
 /// The address of an element by its place, from 0 on.
-pub(crate) fn element_address(p: &Persist, place: u8) -> Address
-    requires { p.now.unicast.0 + place < 2 ^ 16 }
-    ensures { result ≡ element_in (config_in p.now) place }
+pub fn element_address(p: &Persist, place: u8) -> Address
+    requires element { p.now.unicast.0 + place < 2 ^ 16 }
+    ensures value { result ≡ element_in (config_in p.now) place }
 {
     Address(p.unicast.0 + u16::from(place))
 }

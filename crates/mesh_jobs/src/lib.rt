@@ -4,8 +4,8 @@
 //! Nothing here wants memory: jobs are made in a draft that has room for all of them, and the rest of its memory is
 //! handed back.
 //!
-//! - `pdus`: a network PDU heard: it goes on, it is acknowledged, what it delivered is replied to, and beacons follow a
-//!   Key Refresh
+//! - `pdus`: a network PDU heard: it goes on, it is acknowledged, what it delivered is replied to, what a control message led to is
+//!   answered, and beacons follow a Key Refresh
 //! - `ticks`: time that passed: acknowledgments, segments and beacons that are due, and what is published
 //! - `messages`: the node's own messages
 //! - `segments`: the segments of an own message
@@ -28,9 +28,10 @@ mod segments;
 mod ticks;
 
 pub use beacons::push_beacons;
-pub use messages::{begin_jobs, own_jobs};
-pub use pdus::{pdu_jobs, push_ack, push_relay};
-pub use publishing::push_publications;
+pub use elements::element_address;
+pub use messages::{begin_jobs, own_jobs, send_keys};
+pub use pdus::{is_before_cache, pdu_jobs, push_ack, push_relay};
+pub use publishing::{is_still_held, publish_ttl, push_publications};
 pub use refresh::{KeyPhase, Phases, held_phases, push_refresh};
 pub use replies::{is_stored, reply_ttl};
 pub use replying::push_replies;

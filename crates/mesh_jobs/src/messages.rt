@@ -1,10 +1,10 @@
 //! The node's own messages.
 #![tactic(auto)]
 
-ghost use Rattle.std.specs.Prelude.{◌≡◌, ℕ, ◌+◌, ◌<◌, ◌≤◌, ◌^◌, List, [], length};
+ghost use Rattle.std.specs.Prelude.{◌≡◌, ℕ, ◌+◌, ◌<◌, ◌≤◌, ◌^◌, List, [], IfSome, length};
 ghost use Rattle.std.specs.Option.{option_map_or, option_to_list};
-ghost use Rattle.app_keys.specs.AppRows.{AppRows};
-ghost use Rattle.mesh_base.specs.declared.keys.UpperKey.{UpperKey};
+ghost use Rattle.app_keys.specs.AppRows.{AppRows, HasAidWidth};
+ghost use Rattle.mesh_base.specs.declared.keys.UpperKey.{UpperKey as Key};
 ghost use Rattle.mesh_jobs.specs.Own.{IsBefriended, IsSingle};
 ghost use Rattle.mesh_types.specs.declared.answers.Answer.TheVariants as A;
 ghost use Rattle.mesh_types.specs.declared.events.Event.TheVariants as E;
@@ -56,10 +56,12 @@ fn raw_job(p: &Persist, nets: &NetKeys, dst: Address, ttl: u8, tpdu: &Octets<16>
     })
 }
 
-// The network key index and the key of an own access message.
-fn send_keys(p: &Persist, apps: &AppKeys, key: &SendKey) -> Option<(u16, UpperKey)>
+/// The network key index and the key of an own access message: a device key goes under the first network key, and an application key under
+/// that to which it is bound. None where they aren't held. An AID has 6 bits.
+pub fn send_keys(p: &Persist, apps: &AppKeys, key: &SendKey) -> Option<(u16, UpperKey)>
     requires apps { apps.now ≡ record { apps = p.now.apps; nets = p.now.nets } }
-    ensures { result ≡ send_keys_in (config_in p.now) key.now }
+    ensures value { result ≡ send_keys_in (config_in p.now) key.now }
+    ensures aid { IfSome result (λ (keys : ℕ × Key). HasAidWidth keys.1) }
 {
     match key {
         SendKey::Own => Some((first_net(p)?, UpperKey::Device(p.dev_key))),

@@ -2,17 +2,23 @@
 #![tactic(auto)]
 
 ghost use Rattle.std.specs.Prelude.{◌≡◌, ℕ, ◌+◌, ◌-◌, ◌<◌, ◌≤◌, ◌^◌, ◌==◌, ◌&&◌, not, nat_le, [], ◌++◌, List, Option, Some, IfSome, length};
-ghost use Rattle.std.specs.Option.{option_map, option_copied, option_to_list};
+ghost use Rattle.std.specs.List.{flat_map};
+ghost use Rattle.std.specs.Option.{option_map, option_map_or, option_copied, option_to_list};
 ghost use Rattle.layer_definitions.specs.KeyRefresh.{transmit_material};
 ghost use Rattle.layer_definitions.specs.Lower.{Fits};
 ghost use Rattle.mesh_base.specs.declared.fields.NetMaterial.{NetMaterial};
+ghost use Rattle.mesh_base.specs.declared.keys.UpperKey.{UpperKey as Key};
 ghost use Rattle.mesh_base.specs.declared.lower.Lower.{Lower as LowerPdu};
-ghost use Rattle.mesh_jobs.specs.Hearing.{insight_of, reading_of};
+ghost use Rattle.mesh_jobs.specs.Acting.{IsActIn};
+ghost use Rattle.mesh_jobs.specs.Hearing.{insight_of};
 ghost use Rattle.mesh_jobs.specs.Phases.{phases_of};
-ghost use Rattle.mesh_jobs.specs.Replying.{AreRepliesTo};
+ghost use Rattle.mesh_jobs.specs.Replying.{AreRepliesTo, heard_as};
+ghost use Rattle.mesh_reading.specs.Held.{reading_of};
 ghost use Rattle.mesh_types.specs.declared.events.Event.TheVariants as E;
 ghost use Rattle.mesh_types.specs.declared.jobs.Job.TheVariants as J;
-ghost use Rattle.node_layers.specs.ConfiguredLayers.{configured_layers};
+ghost use Rattle.node_layers.specs.ConfiguredLayers.{sent_reply};
+ghost use Rattle.node_layers.specs.NodeLayers.{node_layers};
+ghost use Rattle.node_models.specs.Replies.{replies_in};
 ghost use Rattle.node_records.specs.Tables.{config_in};
 ghost use Rattle.run_definitions.specs.Answers.{config_before, is_before_cache as is_before_cache_in};
 ghost use Rattle.run_definitions.specs.History.{Opening, Past};
@@ -25,6 +31,7 @@ use crate::making::push_made;
 use crate::refresh::{Phases, push_refresh};
 use crate::replies::reply_ttl;
 use crate::replying::push_replies;
+use mesh_base::address::Address;
 use mesh_base::fields::NetFields;
 use mesh_base::keys::UpperKey;
 use mesh_base::lower::Lower;
@@ -32,6 +39,7 @@ use mesh_types::answers::Answer;
 use mesh_types::jobs::{Job, JobDraft, Jobs};
 use net_keys::NetKeys;
 use network_layer::NetReading;
+use node_friends::{FriendAct, push_friend_jobs};
 use node_models::MessageReplies;
 use node_records::Persist;
 
@@ -169,9 +177,9 @@ pub fn push_ack(
     push_made(jobs, ack_job(p, nets, r, seq_zero, block));
 }
 
-// Whether an answer comes before the message cache.
-fn is_before_cache(answer: &Answer) -> bool
-    ensures { result ≡ is_before_cache_in answer.now }
+/// Whether an answer comes before the message cache: then a PDU asks for nothing, and nothing of it is stored.
+pub fn is_before_cache(answer: &Answer) -> bool
+    ensures value { result ≡ is_before_cache_in answer.now }
 {
     match answer {
         Answer::Unread => true,
@@ -204,15 +212,41 @@ fn push_heard_ack(
     }
 }
 
-// Puts the replies to the message that an answer delivered behind the others.
-#[tactic(auto, unfolding(node_layers::specs::ConfiguredLayers::configured_layers))]
+// Puts the replies to a message from `to` that was delivered behind the others, where a key opened it.
 fn push_delivered(
     jobs: &mut JobDraft,
     p: &Persist,
     nets: &NetKeys,
     r: &NetReading,
     key: Option<&UpperKey>,
+    to: Address,
     replies: &MessageReplies,
+)
+    requires room { length jobs.old + 9 ≤ 160 }
+    requires nets { nets.now ≡ p.now.nets }
+    requires unicast { p.now.unicast.0 < 2 ^ 15 }
+    ensures value { jobs.new ≡ jobs.old
+        ++ option_map_or
+        (λ (k : Key). flat_map (sent_reply (config_in p.now) (heard_as r.now k to)) (replies_in replies.now))
+        (option_copied key.entry) [] }
+    ensures few { length jobs.new ≤ length jobs.old + 9 }
+{
+    if let Some(key) = key {
+        push_replies(jobs, p, nets, r, key, to, replies);
+    }
+}
+
+// Puts what the message that an answer accepted asks for behind the others: what a control message led to, or the replies to an access
+// message.
+#[tactic(auto, unfolding(node_layers::specs::ConfiguredLayers::configured_layers, node_layers::specs::NodeLayers::node_layers))]
+fn push_message_jobs(
+    jobs: &mut JobDraft,
+    p: &Persist,
+    nets: &NetKeys,
+    r: &NetReading,
+    key: Option<&UpperKey>,
+    replies: &MessageReplies,
+    act: &FriendAct,
     answer: &Answer,
 )
     requires room { length jobs.old + 9 ≤ 160 }
@@ -221,26 +255,27 @@ fn push_delivered(
     ensures value { (past : Past) (low : Option LowerPdu) (opening : Option Opening)
         → option_copied key.entry ≡ option_map (λ (o : Opening). o.key) opening
         → AreRepliesTo past (insight_of (Some r.now) low opening) answer.now replies.now
+        → IsActIn past (config_in p.now) (insight_of (Some r.now) low opening) answer.now act.now
         → jobs.new ≡ jobs.old
-        ++ message_jobs configured_layers past (config_in p.now) (reading_of r.now)
-        (insight_of (Some r.now) low opening) answer.now }
+        ++ message_jobs node_layers past (config_in p.now) (reading_of r.now) (insight_of (Some r.now) low opening)
+        answer.now }
     ensures few { length jobs.new ≤ length jobs.old + 9 }
 {
-    let Answer::Delivered { name, .. } = answer else {
-        return;
-    };
-    let Some(key) = key else {
-        return;
-    };
-    push_replies(jobs, p, nets, r, key, name.src, replies);
+    match answer {
+        Answer::Control { .. } => push_friend_jobs(jobs, p, nets, r, act),
+        Answer::Delivered { name, .. } => {
+            push_delivered(jobs, p, nets, r, key, name.src, replies);
+        }
+        _ => {}
+    }
 }
 
-/// The jobs of a network PDU heard: it goes on, it is acknowledged, a delivered message is replied to, and where a Key
-/// Refresh phase isn't what it was the node's beacons follow. `reading` and `low` are what its octets read as, and
-/// `low` is within its widths; `key` is the key that opened it, and `replies` are those to the message that it
-/// delivered. `p` is what the records after the event say, `nets` are its keys, and `before` the phases before the
-/// event. The jobs are made in `draft`, which has none.
-#[tactic(auto, unfolding(node_layers::specs::ConfiguredLayers::configured_layers, run_definitions::specs::Jobs::jobs_of))]
+/// The jobs of a network PDU heard: it goes on, it is acknowledged, a delivered message is replied to or a control message of a Low Power node
+/// is answered, and where a Key Refresh phase isn't what it was the node's beacons follow. `reading` and `low` are what its octets read as, and
+/// `low` is within its widths; `key` is the key that opened it, `replies` are those that are sent to the message that it delivered, without
+/// those that are stored, and `act` is what its control message led to. `p` is what the records after the event say, `nets` are its keys, and
+/// `before` the phases before the event. The jobs are made in `draft`, which has none.
+#[tactic(auto, unfolding(node_layers::specs::ConfiguredLayers::configured_layers, node_layers::specs::NodeLayers::node_layers, run_definitions::specs::Jobs::jobs_of))]
 pub fn pdu_jobs(
     mut draft: JobDraft,
     p: &Persist,
@@ -250,6 +285,7 @@ pub fn pdu_jobs(
     low: Option<&Lower>,
     key: Option<&UpperKey>,
     replies: &MessageReplies,
+    act: &FriendAct,
     answer: &Answer,
 ) -> Jobs
     requires empty { draft ≡ [] }
@@ -261,7 +297,9 @@ pub fn pdu_jobs(
         → option_copied key.entry ≡ option_map (λ (o : Opening). o.key) opening
         → AreRepliesTo past (insight_of (option_copied reading.entry) (option_copied low.entry) opening)
         answer.now replies.now
-        → result ≡ jobs_of configured_layers past (config_in p.now) (E.Net octets)
+        → IsActIn past (config_in p.now) (insight_of (option_copied reading.entry) (option_copied low.entry) opening)
+        answer.now act.now
+        → result ≡ jobs_of node_layers past (config_in p.now) (E.Net octets)
         (insight_of (option_copied reading.entry) (option_copied low.entry) opening) answer.now }
     ensures few { length result ≤ 15 }
 {
@@ -273,7 +311,7 @@ pub fn pdu_jobs(
     }
     push_relay(&mut draft, p, nets, r);
     push_heard_ack(&mut draft, p, nets, r, low, answer);
-    push_delivered(&mut draft, p, nets, r, key, replies, answer);
+    push_message_jobs(&mut draft, p, nets, r, key, replies, act, answer);
     push_refresh(&mut draft, p, before);
     draft.finish()
 }

@@ -6,11 +6,10 @@ ghost use Rattle.std.specs.List.{flat_map, list_any};
 ghost use Rattle.std.specs.Option.{option_map_or, option_to_list};
 ghost use Rattle.app_keys.specs.AppRows.{AppRows};
 ghost use Rattle.cipher_definitions.specs.Octets.{two_octets};
-ghost use Rattle.mesh_jobs.specs.Publishing.{sent_row};
+ghost use Rattle.mesh_jobs.specs.Publishing.{IsDueSent, sent_row};
 ghost use Rattle.model_states.specs.declared.publication.HeartbeatRow.{HeartbeatRow};
-ghost use Rattle.node_layers.specs.ConfiguredLayers.{sent_publications};
+ghost use Rattle.node_layers.specs.NodeLayers.{published_at};
 ghost use Rattle.node_layers.specs.Publishing.{features_of, heartbeat_job as heartbeat_job_in, is_row as is_row_in, is_still_held as is_still_held_in};
-ghost use Rattle.node_models.specs.Due.{IsDue};
 ghost use Rattle.node_records.specs.Tables.{config_in};
 ghost use Rattle.run_definitions.specs.Answers.{later};
 ghost use Rattle.run_definitions.specs.History.{Past};
@@ -57,16 +56,16 @@ fn is_among(rows: &[PublishRow], row: &PublishRow) -> bool
     rows.iter().any(|held| is_row(row, held))
 }
 
-// Whether the store holds a row of this node as it is.
-fn is_still_held(p: &Persist, row: &PublishRow) -> bool
-    ensures { result ≡ is_still_held_in (config_in p.now) row.now }
+/// Whether the store still holds a row of this node as it is. One that it doesn't hold isn't published.
+pub fn is_still_held(p: &Persist, row: &PublishRow) -> bool
+    ensures value { result ≡ is_still_held_in (config_in p.now) row.now }
 {
     is_own_row(p, row) && is_among(p.publications.as_slice(), row)
 }
 
-// TTL of what a row publishes.
-fn publish_ttl(p: &Persist, row: &PublishRow) -> u8
-    ensures { result ≡ (if row.now.ttl == 0xff then p.now.ttl else row.now.ttl) }
+/// TTL of what a row publishes: that of the row, or the Default TTL where the row's is ff.
+pub fn publish_ttl(p: &Persist, row: &PublishRow) -> u8
+    ensures value { result ≡ (if row.now.ttl == 0xff then p.now.ttl else row.now.ttl) }
 {
     if row.ttl == DEFAULT_TTL {
         p.ttl
@@ -164,7 +163,7 @@ fn push_heartbeat(jobs: &mut JobDraft, p: &Persist, nets: &NetKeys, due: Option<
 
 /// Puts what is published at a moment behind the others: of each row that is due its Status, if the store still holds
 /// that row and its application key is held, with the Default TTL where the row's is ff; and then the heartbeat, if it
-/// is due, from the first element.
+/// is due, from the first element. `due` has no rows to an address of a friendship: what they publish is stored.
 pub fn push_publications(
     jobs: &mut JobDraft,
     p: &Persist,
@@ -175,8 +174,8 @@ pub fn push_publications(
     requires room { length jobs.old + 9 ≤ 160 }
     requires nets { nets.now ≡ p.now.nets }
     requires apps { apps.now ≡ record { apps = p.now.apps; nets = p.now.nets } }
-    ensures value { (past : Past) (ticks : ℕ) → IsDue past (config_in p.now) (later past ticks) due.now
-        → jobs.new ≡ jobs.old ++ sent_publications past (config_in p.now) ticks }
+    ensures value { (past : Past) (ticks : ℕ) → IsDueSent past (config_in p.now) (later past ticks) due.now
+        → jobs.new ≡ jobs.old ++ published_at past (config_in p.now) ticks }
     ensures few { length jobs.new ≤ length jobs.old + 9 }
 {
     push_rows(jobs, p, nets, apps, due.rows.as_slice());

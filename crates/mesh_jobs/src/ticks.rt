@@ -6,12 +6,12 @@ ghost use Rattle.std.specs.List.{flat_map};
 ghost use Rattle.std.specs.Option.{option_to_list};
 ghost use Rattle.app_keys.specs.AppRows.{AppRows};
 ghost use Rattle.layer_states.specs.Reassembly.{acks_due};
+ghost use Rattle.mesh_jobs.specs.Publishing.{IsDueSent};
 ghost use Rattle.mesh_jobs.specs.Ticks.{IsSpan, is_beacon_due as is_beacon_due_in};
 ghost use Rattle.mesh_types.specs.declared.events.Event.TheVariants as E;
-ghost use Rattle.node_layers.specs.ConfiguredLayers.{configured_layers};
+ghost use Rattle.node_layers.specs.NodeLayers.{node_layers};
 ghost use Rattle.node_layers.specs.Reassembly.{due_jobs, messages};
 ghost use Rattle.node_layers.specs.Sending as own;
-ghost use Rattle.node_models.specs.Due.{IsDue};
 ghost use Rattle.node_records.specs.Tables.{config_in};
 ghost use Rattle.run_definitions.specs.Answers.{later};
 ghost use Rattle.run_definitions.specs.History.{Insight, Past};
@@ -104,9 +104,9 @@ pub fn push_beacons_due(jobs: &mut JobDraft, p: &Persist, span: &Span)
 
 /// The jobs of a tick event: the acknowledgments that are due, the rounds of own messages, the node's beacons, if they
 /// are due, and then what is published. `rounds` are the messages that send one, as they are before the time is
-/// counted, and `due` is what is due of the models and of the heartbeat. `p` is what the records after the event say,
+/// counted, and `due` is what is due of the models, without what is stored, and of the heartbeat. `p` is what the records after the event say,
 /// and `nets` and `apps` are its keys. The jobs are made in `draft`, which has none.
-#[tactic(auto, unfolding(node_layers::specs::ConfiguredLayers::configured_layers, run_definitions::specs::Jobs::jobs_of))]
+#[tactic(auto, unfolding(node_layers::specs::ConfiguredLayers::configured_layers, node_layers::specs::NodeLayers::node_layers, run_definitions::specs::Jobs::jobs_of))]
 pub fn tick_jobs(
     mut draft: JobDraft,
     p: &Persist,
@@ -127,8 +127,8 @@ pub fn tick_jobs(
     ensures value { (past : Past) (ticks : ℕ) (insight : Insight) → IsSpan past ticks span.now
         → acks.now ≡ acks_due (later past ticks) (messages past)
         → rounds.now ≡ filter (has_round (later past ticks)) (own.messages past)
-        → IsDue past (config_in p.now) (later past ticks) due.now
-        → result ≡ jobs_of configured_layers past (config_in p.now) (E.Tick ticks) insight answer.now }
+        → IsDueSent past (config_in p.now) (later past ticks) due.now
+        → result ≡ jobs_of node_layers past (config_in p.now) (E.Tick ticks) insight answer.now }
     ensures few { length result ≤ 149 }
 {
     let Answer::Ticked { .. } = answer else {

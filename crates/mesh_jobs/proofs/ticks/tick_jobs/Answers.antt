@@ -7,7 +7,7 @@ use Rattle.mesh_jobs.proofs.Rounds.{jobs_are, rounds_are}
 use Rattle.mesh_types.specs.declared.answers.Answer.{Answer}
 use Rattle.mesh_types.specs.declared.events.Event.TheVariants as E
 use Rattle.mesh_types.specs.declared.jobs.Job.{Job}
-use Rattle.node_layers.specs.ConfiguredLayers.{configured_layers, sent_publications}
+use Rattle.node_layers.specs.NodeLayers.{node_layers, published_at}
 use Rattle.node_layers.specs.Reassembly.{due_jobs, messages}
 use Rattle.node_layers.specs.Sending.{round_jobs}
 use Rattle.node_layers.specs.Sending as own
@@ -27,7 +27,7 @@ returns-clause-value c past ticks insight span acks rounds due =
     ∙ rounds_are n to sent in
     c.finish-2.ensures.value
     ∙ c.push_publications.ensures.value past ticks due
-    ∙ ap (λ (js : List Job). js ++ sent_publications past n ticks)
+    ∙ ap (λ (js : List Job). js ++ published_at past n ticks)
     (c.push_beacons_due.ensures.value past ticks span
     ∙ ap (λ (js : List Job). js ++ beacons_due past n ticks)
     (c.push_rounds.ensures.value
@@ -37,4 +37,4 @@ returns-clause-value c past ticks insight span acks rounds due =
     ∙ ap (λ (list : List DueAck). flat_map (due_jobs n) list) acks)
     ∙ ap (λ (js : List Job). flat_map (due_jobs n) (acks_due to (messages past)) ++ js) rows))
     ∙ jobs_are past n ticks c.in-Ticked.now insight
-    ∙ ap (λ (a : Answer). jobs_of configured_layers past n (E.Tick ticks) insight a) (sym c.in-Ticked.is)
+    ∙ ap (λ (a : Answer). jobs_of node_layers past n (E.Tick ticks) insight a) (sym c.in-Ticked.is)
