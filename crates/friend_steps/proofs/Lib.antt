@@ -1,0 +1,7 @@
+pub mod Delivered
+pub mod Readings
+pub mod Ttls
+mod Sent
+mod Heard
+mod Published
+mod Others

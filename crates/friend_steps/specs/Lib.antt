@@ -1,0 +1,5 @@
+pub mod Hearing
+pub mod Replying
+pub mod Sending
+pub mod Publishing
+pub mod Others
