@@ -12,7 +12,7 @@ use Rattle.mesh_base.specs.declared.pair.Pair.{Pair}
 use Rattle.mesh_types.specs.declared.answers.Answer.{Answer}
 use Rattle.mesh_types.specs.declared.answers.Answer.TheVariants as A
 use Rattle.mesh_types.specs.declared.events.Event.TheVariants as E
-use Rattle.node_layers.specs.ConfiguredLayers.{configured_layers}
+use Rattle.node_layers.specs.NodeLayers.{node_layers}
 use Rattle.node_records.proofs.Room.{full_passes}
 use Rattle.node_records.specs.Full.{IsFull}
 use Rattle.node_records.specs.Meaning.{IsMeaningOf}
@@ -63,22 +63,22 @@ network_refuses past r =
     (refuses_pick (not (is_mine (config_before past) r.fields.dst)) (Some A.NotMine) None (refused refl) no_answer)))
 
 transport_taken : (past : Past) (r : Reading) (low : Option Lower) (opening : Option Opening) (n : Name) → r.fields.seq < 2 ^ 24
-    → accepted (transport_answer configured_layers past r low opening) ≡ Some n → IsTaken past n
+    → accepted (transport_answer node_layers past r low opening) ≡ Some n → IsTaken past n
 transport_taken past r None opening n h e = absurd cc
 transport_taken past r (Some low) opening n h e =
-    let (named, passes) = named_accepts configured_layers past r low (message_name r.fields low) opening n e in
+    let (named, passes) = named_accepts node_layers past r low (message_name r.fields low) opening n e in
     record { seq = name_seq r.fields low n named h; place = passes.place }
 
 unless : (b : Bool) (a : Answer) (n : Name) → accepted (cond b A.Reset a) ≡ Some n → accepted a ≡ Some n
 unless true a n e = absurd cc
 unless false a n e = e
 
-pub heard_taken : (past : Past) (octets : List ℕ) (i : Insight) (n : Name) → Sees configured_layers past (E.Net octets) i
-    → accepted (answer_of configured_layers past (E.Net octets) i) ≡ Some n → IsTaken past n
+pub heard_taken : (past : Past) (octets : List ℕ) (i : Insight) (n : Name) → Sees node_layers past (E.Net octets) i
+    → accepted (answer_of node_layers past (E.Net octets) i) ≡ Some n → IsTaken past n
 unfolding answer_of
 heard_taken past octets (OfPdu (Some r) low opening) n (sees_pdu reset reads lower opens) e =
-    let inner = unless (config_before past).reset (pdu_answer configured_layers past (OfPdu (Some r) low opening)) n e in
-    let (none, taken) = past_refusal (network_answer past r) (transport_answer configured_layers past r low opening) n (network_refuses past r) inner in
+    let inner = unless (config_before past).reset (pdu_answer node_layers past (OfPdu (Some r) low opening)) n e in
+    let (none, taken) = past_refusal (network_answer past r) (transport_answer node_layers past r low opening) n (network_refuses past r) inner in
     transport_taken past r low opening n reads.1.reads.has_pdu.seq taken
 heard_taken past octets (OfPdu None low opening) n h e = absurd (none_taken (unless (config_before past).reset A.Unread n e))
   where
@@ -107,7 +107,7 @@ not_full past p n m place full = no_limit ((full_passes past.records p (R.Replay
 
 -- The records of an answer.
 
-pub seq_of_answer : (past : Past) (octets : List ℕ) (i : Insight) (a : Answer) → Sees configured_layers past (E.Net octets) i → a ≡ answer_of configured_layers past (E.Net octets) i
+pub seq_of_answer : (past : Past) (octets : List ℕ) (i : Insight) (a : Answer) → Sees node_layers past (E.Net octets) i → a ≡ answer_of node_layers past (E.Net octets) i
     → IfSome (accepted a) (λ (n : Name). n.pair.seq < 2 ^ 24)
 seq_of_answer past octets i a sees is = pick (accepted a) refl
   where
@@ -117,7 +117,7 @@ seq_of_answer past octets i a sees is = pick (accepted a) refl
 
 -- there is a place for the name of an accepted message
 pub place_of_answer : (past : Past) (p : Persist) (octets : List ℕ) (i : Insight) (a : Answer) → IsMeaningOf past.records p
-    → Sees configured_layers past (E.Net octets) i → a ≡ answer_of configured_layers past (E.Net octets) i
+    → Sees node_layers past (E.Net octets) i → a ≡ answer_of node_layers past (E.Net octets) i
     → IfSome (accepted a) (λ (n : Name). IsFull p (R.Replay n None) → ⊥)
 place_of_answer past p octets i a m sees is = pick (accepted a) refl
   where

@@ -1,9 +1,10 @@
 -- What is stored for a beacon: its index has 12 bits, and its step is one of the table.
-use Rattle.std.proofs.Common.{◌≡◌, ℕ, ◌≤◌, zero, suc, Bool, true, false, cond, List, [], ◌∷◌, ◌++◌, ap, sym, subst, Option, Some, None}
+use Rattle.std.proofs.Common.{◌≡◌, ℕ, ◌≤◌, Bool, true, false, cond, List, [], ◌∷◌, ◌++◌, ap, sym, subst, Option, Some, None}
 use Rattle.std.specs.Prelude.{All, is_some}
-use Rattle.std.specs.List.{AllByRecursion as Every, slice_get}
+use Rattle.std.specs.List.{AllByRecursion as Every}
 use Rattle.event_plans.proofs.Narrow.{IsIndexed, narrow_of}
 use Rattle.event_records.specs.Steps.{IsStepFrom}
+use Rattle.friend_steps.proofs.Readings.{every_at}
 use Rattle.iv_update.specs.Steps.{IsLater, state_after}
 use Rattle.layer_definitions.specs.Beacon.{BeaconSource}
 use Rattle.layer_definitions.specs.IvIndex.{iv_next}
@@ -15,7 +16,7 @@ use Rattle.mesh_base.specs.declared.keys.NetKeyRow.{NetKeyRow}
 use Rattle.mesh_types.specs.declared.answers.Answer.{Answer}
 use Rattle.mesh_types.specs.declared.answers.Answer.TheVariants as A
 use Rattle.mesh_types.specs.declared.events.Event.TheVariants as E
-use Rattle.node_layers.specs.ConfiguredLayers.{configured_layers}
+use Rattle.node_layers.specs.NodeLayers.{node_layers}
 use Rattle.node_records.specs.Meaning.{IsMeaningOf}
 use Rattle.node_records.specs.declared.persist.Persist.{Persist}
 use Rattle.run_definitions.specs.Answers.{answer_of, beacon_answer, config_before, is_busy}
@@ -27,12 +28,6 @@ use Rattle.store_definitions.specs.Ranges.{IsInRange}
 every_append : {X : Type 0} (P : X → Type 0) (xs ys : List X) → Every P xs → Every P ys → Every P (xs ++ ys)
 every_append P [] ys h k = k
 every_append P (x ∷ xs) ys h k = (h.0, every_append P xs ys h.1 k)
-
--- an item that a list has at a place
-every_at : {X : Type 0} (P : X → Type 0) (xs : List X) (k : ℕ) (x : X) → slice_get xs k ≡ Some x → Every P xs → P x
-every_at P [] k x e h = absurd cc
-every_at P (y ∷ ys) zero x e h = subst P (cc) h.0
-every_at P (y ∷ ys) (suc k) x e h = every_at P ys k x e h.1
 
 abbrev IsSmall : BeaconSource → Type 0
 IsSmall s = s.index ≤ 0xfff
@@ -53,22 +48,22 @@ unless_step : (s : IvState) (b : Bool) (a : Answer) → IsStepFrom s a → IsSte
 unless_step s true a h = tt
 unless_step s false a h = h
 
-heard_step : (past : Past) (octets : List ℕ) (i : Insight) → BeaconSteps → All IsInRange past.records → HasTransmit (config_before past).iv → Sees configured_layers past (E.Bcn octets) i
-    → IsStepFrom (config_before past).iv (answer_of configured_layers past (E.Bcn octets) i)
+heard_step : (past : Past) (octets : List ℕ) (i : Insight) → BeaconSteps → All IsInRange past.records → HasTransmit (config_before past).iv → Sees node_layers past (E.Bcn octets) i
+    → IsStepFrom (config_before past).iv (answer_of node_layers past (E.Bcn octets) i)
 unfolding answer_of
 heard_step past octets (OfBeacon (Some b)) laws ranges transmit (sees_beacon reset reads) =
     let c = config_before past in
     let small : b.index ≤ 0xfff = subst (λ (x : Beacon). x.index ≤ 0xfff) (sym reads.beacon)
     (every_at IsSmall (beacon_keys c.nets) reads.place reads.by reads.by_is (sources_small c.nets (narrow_of past.records ranges).nets)) in
-    unless_step c.iv c.reset (beacon_answer configured_layers past (OfBeacon (Some b)))
-    (small, laws c.iv (is_some (net_row c.nets 0)) b.index b.iv b.update (is_busy configured_layers past) transmit)
+    unless_step c.iv c.reset (beacon_answer node_layers past (OfBeacon (Some b)))
+    (small, laws c.iv (is_some (net_row c.nets 0)) b.index b.iv b.update (is_busy node_layers past) transmit)
 heard_step past octets (OfBeacon None) laws ranges transmit h = unless_step (config_before past).iv (config_before past).reset A.Unread tt
 heard_step past octets (OfPdu r low opening) laws ranges transmit h = unless_step (config_before past).iv (config_before past).reset A.Unread tt
 heard_step past octets OfNothing laws ranges transmit h = unless_step (config_before past).iv (config_before past).reset A.Unread tt
 
 pub beacon_step : (past : Past) (p : Persist) (octets : List ℕ) (i : Insight) (a : Answer) → BeaconSteps → IsMeaningOf past.records p → All IsInRange past.records → HasTransmit p.iv
-    → Sees configured_layers past (E.Bcn octets) i → a ≡ answer_of configured_layers past (E.Bcn octets) i → IsStepFrom p.iv a
+    → Sees node_layers past (E.Bcn octets) i → a ≡ answer_of node_layers past (E.Bcn octets) i → IsStepFrom p.iv a
 beacon_step past p octets i a laws m ranges transmit sees is =
     let iv : (config_before past).iv ≡ p.iv = ap (λ (c : Config). c.iv) (sym m.config) in
     subst (λ x. IsStepFrom p.iv x) (sym is)
-    (subst (λ s. IsStepFrom s (answer_of configured_layers past (E.Bcn octets) i)) iv (heard_step past octets i laws ranges (subst HasTransmit (sym iv) transmit) sees))
+    (subst (λ s. IsStepFrom s (answer_of node_layers past (E.Bcn octets) i)) iv (heard_step past octets i laws ranges (subst HasTransmit (sym iv) transmit) sees))

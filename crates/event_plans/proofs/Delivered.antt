@@ -5,26 +5,27 @@ use Rattle.std.specs.Bool.{⊤}
 use Rattle.std.specs.Prelude.{All}
 use Rattle.std.specs.List.{list_any}
 use Rattle.std.specs.Option.{is_none, option_map_or, option_or, unwrap_or}
-use Rattle.event_plans.specs.Delivered.{delivered_from}
 use Rattle.event_records.specs.Asked.{AreAskedFor}
+use Rattle.friend_steps.proofs.Delivered.{delivered_is}
+use Rattle.friend_steps.specs.Hearing.{AreTaken, AreTakenBy, delivered_from}
+use Rattle.friend_steps.specs.Others.{changes_friends, has_reading}
 use Rattle.layer_states.specs.Names.{is_name, is_unicast}
 use Rattle.layer_states.specs.Reassembly.{is_segment}
 use Rattle.layer_laws.specs.Laws.{IsWithinLimits, StoreFitting}
 use Rattle.mesh_base.specs.Pairs.{is_newer}
+use Rattle.mesh_base.specs.declared.beacon.Beacon.{Beacon}
 use Rattle.mesh_base.specs.declared.lower.Lower.{Lower}
 use Rattle.mesh_base.specs.declared.lower.Lower.TheVariants.{Access, Control, AccessPart, ControlPart}
 use Rattle.mesh_base.specs.declared.pair.Name.{Name}
 use Rattle.mesh_base.specs.declared.pair.Pair.{Pair}
-use Rattle.mesh_jobs.specs.Replying.{AreRepliesTo}
 use Rattle.mesh_types.specs.declared.answers.Answer.{Answer}
 use Rattle.mesh_types.specs.declared.answers.Answer.TheVariants as A
+use Rattle.mesh_types.specs.declared.events.Event.{Event}
 use Rattle.mesh_types.specs.declared.events.Event.TheVariants as E
 use Rattle.node_layers.specs.ConfiguredLayers.{changes_of, configured_layers}
-use Rattle.node_layers.specs.Friendship.{no_friends, replies_to}
-use Rattle.node_layers.specs.Models.{delivered_by}
+use Rattle.node_layers.specs.NodeLayers.{node_layers}
 use Rattle.node_layers.specs.Steps.{with_entry}
 use Rattle.node_models.specs.Models.{AreNodeModelsOf, GoOn, ModelsView, is_ticked}
-use Rattle.node_models.specs.Replies.{replies_in}
 use Rattle.node_models.specs.declared.taken.MessageReplies.{MessageReplies}
 use Rattle.record_types.specs.declared.records.StoreRecord.{StoreRecord}
 use Rattle.record_types.specs.declared.records.StoreRecord.TheVariants as R
@@ -37,16 +38,6 @@ use Rattle.run_safety.specs.Safety.{AreSafe, IsChange}
 use Rattle.store_definitions.specs.Config.{changed, config_of, is_element, no_config}
 use Rattle.store_definitions.specs.Entries.{entry_of, has_room}
 use Rattle.store_definitions.specs.Node.{IsWhole}
-
--- The message of an entry is that of its answer.
-
-by_answer : (t : Told) (a : Answer) → delivered_by (record t { entry = record t.entry { answer = a } }) ≡ delivered_from t.insight a
-by_answer t (A.Delivered name dst key payload) = refl
-by_answer t _ = refl
-
-pub delivered_is : (t : Told) (i : Insight) (a : Answer) → t.insight ≡ i → t.entry.answer ≡ a → delivered_by t ≡ delivered_from i a
-delivered_is t i a insight answer =
-    by_answer t t.entry.answer ∙ ap (λ x. delivered_from x t.entry.answer) insight ∙ ap (λ x. delivered_from i x) answer
 
 -- An answer that neither delivers a message nor tells of time.
 abbrev pub IsApart : Answer → Type 0
@@ -75,12 +66,22 @@ unless_apart : (b : Bool) (a : Answer) → IsApart a → IsApart (cond b A.Reset
 unless_apart true a h = tt
 unless_apart false a h = h
 
-pub beacon_apart : (past : Past) (octets : List ℕ) (i : Insight) → IsApart (answer_of configured_layers past (E.Bcn octets) i)
+pub beacon_apart : (past : Past) (octets : List ℕ) (i : Insight) → IsApart (answer_of node_layers past (E.Bcn octets) i)
 unfolding answer_of
 beacon_apart past octets (OfBeacon (Some b)) = unless_apart (config_before past).reset _ tt
 beacon_apart past octets (OfBeacon None) = unless_apart (config_before past).reset _ tt
 beacon_apart past octets (OfPdu r low opening) = unless_apart (config_before past).reset _ tt
 beacon_apart past octets OfNothing = unless_apart (config_before past).reset _ tt
+
+-- So a beacon leaves the friendships.
+
+pub beacon_leaves : (octets : List ℕ) (a : Answer) → IsApart a → changes_friends (E.Bcn octets) a ≡ false
+beacon_leaves octets (A.Ticked now) h = absurd h
+beacon_leaves octets _ h = refl
+
+pub beacon_reads : (reset : Bool) (b : Option Beacon) → has_reading (cond reset OfNothing (OfBeacon b)) ≡ false
+beacon_reads true b = refl
+beacon_reads false b = refl
 
 -- The answer to time tells of it, or there was a Node Reset.
 
@@ -94,6 +95,17 @@ ticked_is false now a told is e = is
 pub untold_apart : (b : Bool) (now : ℕ) (a : Answer) → a ≡ cond b A.Reset (A.Ticked now) → ((n : ℕ) → a ≡ A.Ticked n → ⊥) → IsApart a
 untold_apart true now a is untold = subst IsApart (sym is) tt
 untold_apart false now a is untold = absurd (untold now is)
+
+-- Without its telling of it, it leaves the friendships.
+pub untold_leaves : (b : Bool) (now : ℕ) (event : Event) (a : Answer) → a ≡ cond b A.Reset (A.Ticked now) → ((n : ℕ) → a ≡ A.Ticked n → ⊥)
+    → changes_friends event a ≡ false
+untold_leaves true now event a is untold = ap (λ x. changes_friends event x) is ∙ reset_leaves event
+  where
+    reset_leaves : (event : Event) → changes_friends event A.Reset ≡ false
+    reset_leaves (E.Send element dst ttl key payload) = refl
+    reset_leaves (E.Kept lpn fsn name pdu) = refl
+    reset_leaves _ = refl
+untold_leaves false now event a is untold = absurd (untold now is)
 
 -- The answer to a network PDU tells of no time.
 
@@ -165,45 +177,43 @@ pdu_untimed layers past (OfPdu None low o) = refl
 pdu_untimed layers past (OfBeacon b) = refl
 pdu_untimed layers past OfNothing = refl
 
-pub heard_untimed : (past : Past) (octets : List ℕ) (i : Insight) → is_ticked (answer_of configured_layers past (E.Net octets) i) ≡ false
+pub heard_untimed : (past : Past) (octets : List ℕ) (i : Insight) → is_ticked (answer_of node_layers past (E.Net octets) i) ≡ false
 unfolding answer_of
-heard_untimed past octets i = cond_untimed (config_before past).reset A.Reset _ refl (pdu_untimed configured_layers past i)
+heard_untimed past octets i = cond_untimed (config_before past).reset A.Reset _ refl (pdu_untimed node_layers past i)
 
--- What a message asks for, and its replies.
+-- What a message asks for, and what the models made of it.
 
 pub some_asked : (past : Past) (i : Insight) (a : Answer) (m : AccessMessage) (changes : List StoreRecord) → delivered_from i a ≡ Some m
-    → changes ≡ changes_of past m → AreAskedFor configured_layers past i a changes
-unfolding configured_layers
+    → changes ≡ changes_of past m → AreAskedFor node_layers past i a changes
+unfolding node_layers configured_layers
 some_asked past i (A.Delivered name dst key payload) m changes d e = e ∙ ap (λ (o : Option AccessMessage). option_map_or (changes_of past) o []) (sym d)
 some_asked past i _ m changes d e = tt
 
 pub none_asked : (past : Past) (i : Insight) (a : Answer) (changes : List StoreRecord) → delivered_from i a ≡ None
-    → changes ≡ [] → AreAskedFor configured_layers past i a changes
-unfolding configured_layers
+    → changes ≡ [] → AreAskedFor node_layers past i a changes
+unfolding node_layers configured_layers
 none_asked past i (A.Delivered name dst key payload) changes d e = e ∙ ap (λ (o : Option AccessMessage). option_map_or (changes_of past) o []) (sym d)
 none_asked past i _ changes d e = tt
 
-pub some_replied : (past : Past) (i : Insight) (a : Answer) (m : AccessMessage) (r : MessageReplies) → delivered_from i a ≡ Some m
-    → replies_in r ≡ replies_to past no_friends m → AreRepliesTo past i a r
-some_replied past i (A.Delivered name dst key payload) m r d e = λ x is. e ∙ ap (λ (y : AccessMessage). replies_to past no_friends y) (some_is (sym d ∙ is))
-some_replied past i _ m r d e = tt
+pub some_taken : (past : Past) (i : Insight) (a : Answer) (m : AccessMessage) (ttl : ℕ) (ends : Bool) (r : MessageReplies) → delivered_from i a ≡ Some m
+    → AreTaken past m ttl ends r → AreTakenBy past i a ttl ends r
+some_taken past i a m ttl ends r d taken x is = subst (λ (y : AccessMessage). AreTaken past y ttl ends r) (some_is (sym d ∙ is)) taken
 
-pub none_replied : (past : Past) (i : Insight) (a : Answer) (r : MessageReplies) → delivered_from i a ≡ None → AreRepliesTo past i a r
-none_replied past i (A.Delivered name dst key payload) r d = λ x is. absurd (no_message d is)
+pub none_taken : (past : Past) (i : Insight) (a : Answer) (ttl : ℕ) (ends : Bool) (r : MessageReplies) → delivered_from i a ≡ None → AreTakenBy past i a ttl ends r
+none_taken past i a ttl ends r d x is = absurd (no_message d is)
   where
     no_message : {o : Option AccessMessage} {x : AccessMessage} → o ≡ None → o ≡ Some x → ⊥
     no_message e f = cc
-none_replied past i _ r d = tt
 
 -- What a message stores may be put, and moves nothing.
 
-pub all_changes : AreSafe configured_layers → (past : Past) (m : AccessMessage) → All IsChange (changes_of past m)
-unfolding configured_layers
+pub all_changes : AreSafe node_layers → (past : Past) (m : AccessMessage) → All IsChange (changes_of past m)
+unfolding node_layers configured_layers
 all_changes h past m = h.changes past m
 
-pub all_storable : StoreFitting configured_layers → (past : Past) (m : AccessMessage) → IsWhole (config_before past) → IsWithinLimits (config_before past)
+pub all_storable : StoreFitting node_layers → (past : Past) (m : AccessMessage) → IsWhole (config_before past) → IsWithinLimits (config_before past)
     → All (λ octet. octet < 2 ^ 8) m.payload → AreStorable (past.records ++ R.Replay m.name None ∷ []) (changes_of past m)
-unfolding configured_layers
+unfolding node_layers configured_layers
 all_storable h past m whole within octets = h past m whole within octets
 
 -- a name leaves what the records say besides

@@ -1,37 +1,46 @@
--- Events that bring no octets and no time leave the tables, but for a segmented message that begins.
+-- Events that bring no octets and no time leave the tables, but for a segmented message that begins; and the friendships, but for what is
+-- stored and kept.
 use Rattle.std.proofs.Common.{◌≡◌, ℕ, Bool, true, false, cond, eqb, List, [], ◌∷◌, ◌++◌, refl, ap, sym, subst, ◌∙◌, Some}
 use Rattle.std.specs.Bool.{⊤}
 use Rattle.std.specs.Prelude.{fold, is_some, ◌||◌}
 use Rattle.std.specs.List.{list_any}
 use Rattle.event_plans.proofs.Delivered.{IsApart, models_stay}
+use Rattle.event_plans.proofs.Friends.{friends_stay}
 use Rattle.event_plans.specs.Memory.{AreNodeTablesOf, NodeTablesView}
-use Rattle.event_plans.specs.Own.{begin_calls, begin_row, keyed_row, raw_row, send_row}
+use Rattle.event_plans.specs.Own.{asked_row, begin_calls, begin_row, keyed_row}
 use Rattle.event_plans.specs.Plans.{IsBasisOf, IsPlanned, IsStanding}
+use Rattle.event_plans.specs.declared.plan.Basis.TheVariants as B
 use Rattle.event_plans.specs.declared.plan.Plan.{Plan}
+use Rattle.friend_steps.specs.Others.{LeaveFriends, changes_friends}
+use Rattle.friend_steps.specs.Sending.{IsSend}
 use Rattle.layer_definitions.specs.KeyRefresh.{app_row}
+use Rattle.layer_states.specs.Friends.{FriendsState}
 use Rattle.layer_states.specs.Sending.{after}
 use Rattle.layer_states.specs.declared.sending.Outgoing.{Outgoing}
 use Rattle.layer_states.specs.declared.sending.Sending.{Sending}
 use Rattle.mesh_base.specs.declared.address.Address.{Address}
 use Rattle.mesh_base.specs.declared.keys.AppKeyRow.{AppKeyRow}
 use Rattle.mesh_base.specs.declared.pair.Name.{Name}
-use Rattle.node_records.specs.Meaning.{IsMeaningOf}
-use Rattle.node_records.specs.Tables.{config_in}
-use Rattle.node_records.specs.declared.persist.Persist.{Persist}
-use Rattle.event_plans.specs.declared.plan.Basis.TheVariants as B
 use Rattle.mesh_base.specs.declared.pair.Pair.{Pair}
 use Rattle.mesh_hearing.specs.Tables.{AreTablesOf, GoOn, TablesView, tables_after}
+use Rattle.mesh_jobs.specs.Own.{IsBefriended}
 use Rattle.mesh_types.specs.declared.answers.Answer.{Answer}
 use Rattle.mesh_types.specs.declared.answers.Answer.TheVariants as A
 use Rattle.mesh_types.specs.declared.events.Event.{Event}
 use Rattle.mesh_types.specs.declared.events.Event.TheVariants as E
 use Rattle.mesh_types.specs.declared.events.SendKey.{SendKey}
 use Rattle.mesh_types.specs.declared.events.SendKey.TheVariants as K
+use Rattle.node_friends.specs.Steps.{AreFriendsOf}
 use Rattle.node_layers.specs.BuiltLayers.{built_layers}
 use Rattle.node_layers.specs.ConfiguredLayers.{configured_layers}
+use Rattle.node_layers.specs.Friendship.{is_befriended, is_to_be_kept}
+use Rattle.node_layers.specs.NodeLayers.{node_layers}
 use Rattle.node_layers.specs.Reassembly.{tick_calls}
 use Rattle.node_layers.specs.Sending.{own_calls}
 use Rattle.node_models.specs.Models as models
+use Rattle.node_records.specs.Meaning.{IsMeaningOf}
+use Rattle.node_records.specs.Tables.{config_in}
+use Rattle.node_records.specs.declared.persist.Persist.{Persist}
 use Rattle.run_definitions.specs.Answers.{answer_of, config_before, send_answer}
 use Rattle.run_definitions.specs.History.{OfNothing, Past, Told, ticks_after}
 use Rattle.run_definitions.specs.Readings.{has_octets, sees_nothing}
@@ -51,6 +60,10 @@ idle_apart : (a : Answer) → IsIdle a → IsApart a
 idle_apart (A.Ticked now) h = absurd h
 idle_apart (A.Delivered name dst key payload) h = absurd h
 idle_apart _ h = tt
+
+pub idle_untimed : (a : Answer) → IsIdle a → models.is_ticked a ≡ false
+idle_untimed (A.Ticked now) h = absurd h
+idle_untimed _ h = refl
 
 no_calls : (a : Answer) → IsIdle a → tick_calls a ≡ []
 no_calls (A.Ticked now) h = absurd h
@@ -90,26 +103,36 @@ pub record Laws : Type 0 where
   pub tables : GoOn
   pub models : models.GoOn
 
-own_planned : Laws → (past : Past) (event : Event) (a : Answer) (t : NodeTablesView) → AreNodeTablesOf t past → has_octets past event ≡ false
-    → a ≡ answer_of configured_layers past event OfNothing → [] ≡ stores configured_layers past event OfNothing a → IsIdle a → IsBasisOf past event a B.Own
-    → IsPlanned past event (record { answer = a; records = []; basis = B.Own }) t
-own_planned laws past event a t h octets is stored idle basis = record {
+-- the friendships with such an entry
+abbrev pub AreWith : FriendsState → Past → Event → Answer → Type 0
+AreWith st past event a =
+    (e : Told) → e.entry.event ≡ event → e.insight ≡ OfNothing → e.entry.answer ≡ a → e.records ≡ past.records
+    → AreFriendsOf st (past.told ++ e ∷ [])
+
+abbrev pub own_plan : Answer → Bool → Plan
+own_plan a befriended = record { answer = a; records = []; basis = B.Own befriended }
+
+own_planned : Laws → (past : Past) (event : Event) (a : Answer) (befriended : Bool) (t : NodeTablesView) (st : FriendsState) → AreNodeTablesOf t past
+    → has_octets past event ≡ false → a ≡ answer_of node_layers past event OfNothing → [] ≡ stores node_layers past event OfNothing a → IsIdle a
+    → AreWith st past event a → IsBasisOf past event a (B.Own befriended)
+    → IsPlanned past event (own_plan a befriended) (record t { friends = st })
+own_planned laws past event a befriended t st h octets is stored idle friends basis = record {
   sees = sees_nothing octets;
   answer = is;
   records = stored;
   tables = λ e records x insight answer same elements. record {
     hearing = tables_stay laws.tables t.hearing past.told event a idle h.hearing e x insight answer;
     models = models_stay laws.models t.models past e records a (idle_apart a idle) h.models answer same elements;
+    friends = friends e x insight answer same;
   };
   basis = basis;
 }
 
+-- What the node is asked to send.
+
 unless_idle : (b : Bool) (a : Answer) → IsIdle a → IsIdle (cond b A.Reset a)
 unless_idle true a h = tt
 unless_idle false a h = h
-
-pub raw_idle : (c : Config) → IsIdle (raw_row c)
-raw_idle c = unless_idle c.reset A.Planned tt
 
 keyed_idle : (c : Config) (key : SendKey) → IsIdle (keyed_row c key)
 keyed_idle c K.Own = tt
@@ -120,8 +143,9 @@ keyed_idle c (K.App index) = pick _
     pick true = tt
     pick false = tt
 
-pub send_idle : (c : Config) (key : SendKey) → IsIdle (send_row c key)
-send_idle c key = unless_idle c.reset (keyed_row c key) (keyed_idle c key)
+pub asked_idle : (c : Config) (event : Event) → IsIdle (asked_row c event)
+asked_idle c (E.Send element dst ttl key payload) = unless_idle c.reset (keyed_row c key) (keyed_idle c key)
+asked_idle c _ = unless_idle c.reset A.Planned tt
 
 some_any : (index : ℕ) (rows : List AppKeyRow) → is_some (app_row rows index) ≡ list_any (λ (r : AppKeyRow). eqb r.index index) rows
 some_any index [] = refl
@@ -137,104 +161,150 @@ keyed_is past (K.Other key) = refl
 keyed_is past (K.App index) = ap (λ b. cond b A.Planned (A.NoAppKey index)) (sym (some_any index (config_before past).apps))
 
 send_is : (past : Past) (p : Persist) (element : ℕ) (dst : Address) (ttl : ℕ) (key : SendKey) (payload : List ℕ) → IsMeaningOf past.records p
-    → send_row (config_in p) key ≡ answer_of configured_layers past (E.Send element dst ttl key payload) OfNothing
+    → asked_row (config_in p) (E.Send element dst ttl key payload) ≡ answer_of node_layers past (E.Send element dst ttl key payload) OfNothing
 unfolding answer_of
-send_is past p element dst ttl key payload m = ap (λ c. send_row c key) m.config ∙ ap (λ a. cond (config_before past).reset A.Reset a) (keyed_is past key)
+send_is past p element dst ttl key payload m =
+    ap (λ c. asked_row c (E.Send element dst ttl key payload)) m.config ∙ ap (λ a. cond (config_before past).reset A.Reset a) (keyed_is past key)
 
 raw_is : (past : Past) (p : Persist) (dst : Address) (ttl : ℕ) (tpdu : List ℕ) → IsMeaningOf past.records p
-    → raw_row (config_in p) ≡ answer_of configured_layers past (E.Raw dst ttl tpdu) OfNothing
+    → asked_row (config_in p) (E.Raw dst ttl tpdu) ≡ answer_of node_layers past (E.Raw dst ttl tpdu) OfNothing
 unfolding answer_of
-raw_is past p dst ttl tpdu m = ap (λ c. raw_row c) m.config
+raw_is past p dst ttl tpdu m = ap (λ c. asked_row c (E.Raw dst ttl tpdu)) m.config
 
-begin_is : (past : Past) (p : Persist) (t : NodeTablesView) (pair : Pair) (dst src : Address) (ttl net : ℕ) (akf : Bool) (aid : ℕ) (upper : List ℕ) → IsStanding past p t
-    → begin_row (config_in p) t.hearing.own pair ≡ answer_of configured_layers past (E.Begin pair dst src ttl net akf aid upper) OfNothing
-unfolding answer_of configured_layers built_layers
-begin_is past p t pair dst src ttl net akf aid upper h =
-    ap (λ c. begin_row c t.hearing.own pair) h.meaning.config ∙ ap (λ rows. begin_row (config_before past) rows pair) h.tables.hearing.own
-
-kept_is : (past : Past) (lpn : Address) (fsn : Bool) (name : Name) (pdu : List ℕ) → A.Dropped ≡ answer_of configured_layers past (E.Kept lpn fsn name pdu) OfNothing
-unfolding answer_of configured_layers built_layers
-kept_is past lpn fsn name pdu = refl
-
-abbrev pub own_plan : Answer → Plan
-own_plan a = record { answer = a; records = []; basis = B.Own }
-
-send_stores : (past : Past) (element : ℕ) (dst : Address) (ttl : ℕ) (key : SendKey) (payload : List ℕ) (a : Answer) → [] ≡ stores configured_layers past (E.Send element dst ttl key payload) OfNothing a
+send_stores : (past : Past) (element : ℕ) (dst : Address) (ttl : ℕ) (key : SendKey) (payload : List ℕ) (a : Answer) → [] ≡ stores node_layers past (E.Send element dst ttl key payload) OfNothing a
 unfolding stores
 send_stores past element dst ttl key payload a = refl
 
-raw_stores : (past : Past) (dst : Address) (ttl : ℕ) (tpdu : List ℕ) (a : Answer) → [] ≡ stores configured_layers past (E.Raw dst ttl tpdu) OfNothing a
+raw_stores : (past : Past) (dst : Address) (ttl : ℕ) (tpdu : List ℕ) (a : Answer) → [] ≡ stores node_layers past (E.Raw dst ttl tpdu) OfNothing a
 unfolding stores
 raw_stores past dst ttl tpdu a = refl
 
-begin_stores : (past : Past) (pair : Pair) (dst src : Address) (ttl net : ℕ) (akf : Bool) (aid : ℕ) (upper : List ℕ) (a : Answer) → [] ≡ stores configured_layers past (E.Begin pair dst src ttl net akf aid upper) OfNothing a
-unfolding stores
-begin_stores past pair dst src ttl net akf aid upper a = refl
+befriended_is : (past : Past) (element : ℕ) (dst : Address) (ttl : ℕ) (key : SendKey) (payload : List ℕ) (befriended : Bool)
+    → IsBefriended node_layers past (E.Send element dst ttl key payload) befriended → befriended ≡ is_befriended past dst
+unfolding node_layers
+befriended_is past element dst ttl key payload befriended h = h
 
-kept_stores : (past : Past) (lpn : Address) (fsn : Bool) (name : Name) (pdu : List ℕ) (a : Answer) → [] ≡ stores configured_layers past (E.Kept lpn fsn name pdu) OfNothing a
-unfolding stores
-kept_stores past lpn fsn name pdu a = refl
+pub send_planned : Laws → (past : Past) (p : Persist) (t : NodeTablesView) (event : Event) (befriended : Bool) (st : FriendsState) → IsSend (config_in p) event
+    → IsStanding past p t → IsBefriended node_layers past event befriended → AreWith st past event (asked_row (config_in p) event)
+    → IsPlanned past event (own_plan (asked_row (config_in p) event) befriended) (record t { friends = st })
+send_planned laws past p t (E.Send element dst ttl key payload) befriended st asked h is friends =
+    let event : Event = E.Send element dst ttl key payload in
+    let a = asked_row (config_in p) event in
+    own_planned laws past event a befriended t st h.tables refl (send_is past p element dst ttl key payload h.meaning) (send_stores past element dst ttl key payload a)
+    (asked_idle (config_in p) event) friends (befriended_is past element dst ttl key payload befriended is)
+send_planned laws past p t _ befriended st asked h is friends = absurd asked
 
-pub send_planned : Laws → (past : Past) (p : Persist) (t : NodeTablesView) (element : ℕ) (dst : Address) (ttl : ℕ) (key : SendKey) (payload : List ℕ) → IsStanding past p t
-    → IsPlanned past (E.Send element dst ttl key payload) (own_plan (send_row (config_in p) key)) t
-send_planned laws past p t element dst ttl key payload h =
-    let a = send_row (config_in p) key in
-    own_planned laws past (E.Send element dst ttl key payload) a t h.tables refl (send_is past p element dst ttl key payload h.meaning) (send_stores past element dst ttl key payload a) (send_idle (config_in p) key) tt
+raw_leaves : (c : Config) (dst : Address) (ttl : ℕ) (tpdu : List ℕ) → changes_friends (E.Raw dst ttl tpdu) (asked_row c (E.Raw dst ttl tpdu)) ≡ false
+raw_leaves c dst ttl tpdu = pick c.reset
+  where
+    pick : (b : Bool) → changes_friends (E.Raw dst ttl tpdu) (cond b A.Reset A.Planned) ≡ false
+    pick true = refl
+    pick false = refl
 
-pub raw_planned : Laws → (past : Past) (p : Persist) (t : NodeTablesView) (dst : Address) (ttl : ℕ) (tpdu : List ℕ) → IsStanding past p t
-    → IsPlanned past (E.Raw dst ttl tpdu) (own_plan (raw_row (config_in p))) t
-raw_planned laws past p t dst ttl tpdu h =
-    let a = raw_row (config_in p) in
-    own_planned laws past (E.Raw dst ttl tpdu) a t h.tables refl (raw_is past p dst ttl tpdu h.meaning) (raw_stores past dst ttl tpdu a) (raw_idle (config_in p)) tt
+pub raw_planned : Laws → LeaveFriends → (past : Past) (p : Persist) (t : NodeTablesView) (dst : Address) (ttl : ℕ) (tpdu : List ℕ) → IsStanding past p t
+    → IsPlanned past (E.Raw dst ttl tpdu) (own_plan (asked_row (config_in p) (E.Raw dst ttl tpdu)) false) t
+raw_planned laws others past p t dst ttl tpdu h =
+    let event : Event = E.Raw dst ttl tpdu in
+    let a = asked_row (config_in p) event in
+    own_planned laws past event a false t t.friends h.tables refl (raw_is past p dst ttl tpdu h.meaning) (raw_stores past dst ttl tpdu a) (asked_idle (config_in p) event)
+    (λ e is insight answer same. friends_stay others t.friends past.told event a OfNothing refl (raw_leaves (config_in p) dst ttl tpdu) h.tables.friends e is insight answer) tt
 
--- an answer to a message that begins
+-- A segmented message that begins.
+
+-- an answer to one
 abbrev IsOfBegin : Answer → Type 0
 IsOfBegin (A.Moved iv) = ⊤
 IsOfBegin (A.SendFull held) = ⊤
+IsOfBegin A.Befriended = ⊤
 IsOfBegin A.Begun = ⊤
 IsOfBegin _ = ⊥
 
-of_begin : (c : Config) (rows : List Sending) (pair : Pair) → IsOfBegin (begin_row c rows pair)
-of_begin c rows pair = pick _ _ _ _
+of_begin : (c : Config) (befriended : Bool) (rows : List Sending) (pair : Pair) → IsOfBegin (begin_row c befriended rows pair)
+of_begin c befriended rows pair = pick _ befriended _ _ _
   where
-    pick : (b d : Bool) (iv held : ℕ) → IsOfBegin (cond b (A.Moved iv) (cond d (A.SendFull held) A.Begun))
-    pick true d iv held = tt
-    pick false true iv held = tt
-    pick false false iv held = tt
+    pick : (b f d : Bool) (iv held : ℕ) → IsOfBegin (cond b (A.Moved iv) (cond f A.Befriended (cond d (A.SendFull held) A.Begun)))
+    pick true f d iv held = tt
+    pick false true d iv held = tt
+    pick false false true iv held = tt
+    pick false false false iv held = tt
 
 begin_apart : (a : Answer) → IsOfBegin a → IsApart a
 begin_apart (A.Moved iv) h = tt
 begin_apart (A.SendFull held) h = tt
+begin_apart A.Befriended h = tt
 begin_apart A.Begun h = tt
 begin_apart _ h = absurd h
+
+begin_leaves : (pair : Pair) (dst src : Address) (ttl net : ℕ) (akf : Bool) (aid : ℕ) (upper : List ℕ) (a : Answer) → IsOfBegin a
+    → changes_friends (E.Begin pair dst src ttl net akf aid upper) a ≡ false
+begin_leaves pair dst src ttl net akf aid upper (A.Moved iv) h = refl
+begin_leaves pair dst src ttl net akf aid upper (A.SendFull held) h = refl
+begin_leaves pair dst src ttl net akf aid upper A.Befriended h = refl
+begin_leaves pair dst src ttl net akf aid upper A.Begun h = refl
+begin_leaves pair dst src ttl net akf aid upper _ h = absurd h
 
 begun_tables : (t : TablesView) (c : Config) (m : Outgoing) (a : Answer) → IsOfBegin a
     → tables_after t c (E.Begin m.name.pair m.dst m.name.src m.ttl m.net m.akf m.aid m.upper) OfNothing a ≡ record t { own = fold after t.own (begin_calls t.ticks m a) }
 begun_tables t c m (A.Moved iv) h = refl
 begun_tables t c m (A.SendFull held) h = refl
+begun_tables t c m A.Befriended h = refl
 begun_tables t c m A.Begun h = refl
 begun_tables t c m _ h = absurd h
 
-pub begin_planned : Laws → (past : Past) (p : Persist) (t : NodeTablesView) (m : Outgoing) → IsStanding past p t
-    → IsPlanned past (E.Begin m.name.pair m.dst m.name.src m.ttl m.net m.akf m.aid m.upper) (own_plan (begin_row (config_in p) t.hearing.own m.name.pair))
-    (record t { hearing = record t.hearing { own = fold after t.hearing.own (begin_calls t.hearing.ticks m (begin_row (config_in p) t.hearing.own m.name.pair)) } })
-begin_planned laws past p t m h =
-    let a = begin_row (config_in p) t.hearing.own m.name.pair in
+begin_is : (past : Past) (p : Persist) (t : NodeTablesView) (befriended : Bool) (pair : Pair) (dst src : Address) (ttl net : ℕ) (akf : Bool) (aid : ℕ) (upper : List ℕ)
+    → IsStanding past p t → befriended ≡ is_befriended past dst
+    → begin_row (config_in p) befriended t.hearing.own pair ≡ answer_of node_layers past (E.Begin pair dst src ttl net akf aid upper) OfNothing
+unfolding answer_of node_layers configured_layers built_layers
+begin_is past p t befriended pair dst src ttl net akf aid upper h is =
+    ap (λ c. begin_row c befriended t.hearing.own pair) h.meaning.config
+    ∙ ap (λ b. begin_row (config_before past) b t.hearing.own pair) is
+    ∙ ap (λ rows. begin_row (config_before past) (is_befriended past dst) rows pair) h.tables.hearing.own
+
+begin_stores : (past : Past) (pair : Pair) (dst src : Address) (ttl net : ℕ) (akf : Bool) (aid : ℕ) (upper : List ℕ) (a : Answer) → [] ≡ stores node_layers past (E.Begin pair dst src ttl net akf aid upper) OfNothing a
+unfolding stores
+begin_stores past pair dst src ttl net akf aid upper a = refl
+
+pub begin_planned : Laws → LeaveFriends → (past : Past) (p : Persist) (t : NodeTablesView) (befriended : Bool) (m : Outgoing) → IsStanding past p t → befriended ≡ is_befriended past m.dst
+    → IsPlanned past (E.Begin m.name.pair m.dst m.name.src m.ttl m.net m.akf m.aid m.upper) (own_plan (begin_row (config_in p) befriended t.hearing.own m.name.pair) false)
+    (record t { hearing = record t.hearing { own = fold after t.hearing.own (begin_calls t.hearing.ticks m (begin_row (config_in p) befriended t.hearing.own m.name.pair)) } })
+begin_planned laws others past p t befriended m h is =
+    let a = begin_row (config_in p) befriended t.hearing.own m.name.pair in
+    let begun : IsOfBegin a = of_begin (config_in p) befriended t.hearing.own m.name.pair in
     let event : Event = E.Begin m.name.pair m.dst m.name.src m.ttl m.net m.akf m.aid m.upper in
     record {
       sees = sees_nothing {event = event} refl;
-      answer = begin_is past p t m.name.pair m.dst m.name.src m.ttl m.net m.akf m.aid m.upper h;
+      answer = begin_is past p t befriended m.name.pair m.dst m.name.src m.ttl m.net m.akf m.aid m.upper h is;
       records = begin_stores past m.name.pair m.dst m.name.src m.ttl m.net m.akf m.aid m.upper a;
       tables = λ e records is insight answer same elements. record {
         hearing =
-            subst (λ (x : TablesView). AreTablesOf x (past.told ++ e ∷ [])) (begun_tables t.hearing (config_of e.records) m a (of_begin (config_in p) t.hearing.own m.name.pair))
+            subst (λ (x : TablesView). AreTablesOf x (past.told ++ e ∷ [])) (begun_tables t.hearing (config_of e.records) m a begun)
             (tables_with laws.tables t.hearing past.told event a h.tables.hearing e is insight answer);
-        models = models_stay laws.models t.models past e records a (begin_apart a (of_begin (config_in p) t.hearing.own m.name.pair)) h.tables.models answer same elements;
+        models = models_stay laws.models t.models past e records a (begin_apart a begun) h.tables.models answer same elements;
+        friends =
+            friends_stay others t.friends past.told event a OfNothing refl (begin_leaves m.name.pair m.dst m.name.src m.ttl m.net m.akf m.aid m.upper a begun)
+            h.tables.friends e is insight answer;
       };
       basis = tt;
     }
 
-pub kept_planned : Laws → (past : Past) (t : NodeTablesView) (lpn : Address) (fsn : Bool) (name : Name) (pdu : List ℕ) → AreNodeTablesOf t past
-    → IsPlanned past (E.Kept lpn fsn name pdu) (own_plan A.Dropped) t
-kept_planned laws past t lpn fsn name pdu h =
-    own_planned laws past (E.Kept lpn fsn name pdu) A.Dropped t h refl (kept_is past lpn fsn name pdu) (kept_stores past lpn fsn name pdu A.Dropped) tt tt
+-- Octets that answered a Poll.
+
+kept_idle : (b : Bool) → IsIdle (cond b A.Kept A.Dropped)
+kept_idle true = tt
+kept_idle false = tt
+
+kept_is : (past : Past) (lpn : Address) (fsn : Bool) (name : Name) (pdu : List ℕ)
+    → cond (is_to_be_kept past lpn fsn) A.Kept A.Dropped ≡ answer_of node_layers past (E.Kept lpn fsn name pdu) OfNothing
+unfolding answer_of node_layers
+kept_is past lpn fsn name pdu = refl
+
+kept_stores : (past : Past) (lpn : Address) (fsn : Bool) (name : Name) (pdu : List ℕ) (a : Answer) → [] ≡ stores node_layers past (E.Kept lpn fsn name pdu) OfNothing a
+unfolding stores
+kept_stores past lpn fsn name pdu a = refl
+
+pub kept_planned : Laws → (past : Past) (t : NodeTablesView) (lpn : Address) (fsn : Bool) (name : Name) (pdu : List ℕ) (a : Answer) (st : FriendsState) → AreNodeTablesOf t past
+    → a ≡ cond (is_to_be_kept past lpn fsn) A.Kept A.Dropped → AreWith st past (E.Kept lpn fsn name pdu) a
+    → IsPlanned past (E.Kept lpn fsn name pdu) (own_plan a false) (record t { friends = st })
+kept_planned laws past t lpn fsn name pdu a st h is friends =
+    own_planned laws past (E.Kept lpn fsn name pdu) a false t st h refl (is ∙ kept_is past lpn fsn name pdu) (kept_stores past lpn fsn name pdu a)
+    (subst IsIdle (sym is) (kept_idle (is_to_be_kept past lpn fsn))) friends tt

@@ -1,18 +1,22 @@
 -- What a node keeps in memory in a life: what it stands for, and when it is fit for a store.
+use Rattle.layer_states.specs.Friends.{FriendsState}
 use Rattle.mesh_hearing.specs.Tables.{AreTablesOf, IsFit, TablesView}
+use Rattle.node_friends.specs.Steps.{AreFriendsOf}
 use Rattle.node_models.specs.Models.{AreNodeModelsOf, AreWithin, ModelsView}
 use Rattle.node_records.specs.declared.persist.Persist.{Persist}
 use Rattle.run_definitions.specs.History.{Past}
 
--- the tables of what was heard and what is sent, and the models
+-- the tables of what was heard and what is sent, the models, and the friendships and offers
 pub record NodeTablesView : Type 0 where
   pub hearing : TablesView
   pub models : ModelsView
+  pub friends : FriendsState
 
 -- They are those of a life with this past.
 pub record AreNodeTablesOf (t : NodeTablesView) (past : Past) : Type 0 where
   pub hearing : AreTablesOf t.hearing past.told
   pub models : AreNodeModelsOf t.models past
+  pub friends : AreFriendsOf t.friends past.told
 
 -- The keys are those that the store's value says, and the models are within its bounds.
 pub record IsFitFor (t : NodeTablesView) (p : Persist) : Type 0 where

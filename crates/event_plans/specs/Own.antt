@@ -1,5 +1,5 @@
 -- The answers to what the node is asked to send, by what the records say.
-use Rattle.std.specs.Prelude.{◌==◌, not, if◌then◌else◌, ℕ, List, [], ◌∷◌, length}
+use Rattle.std.specs.Prelude.{◌==◌, not, if◌then◌else◌, ℕ, Bool, List, [], ◌∷◌, length}
 use Rattle.std.specs.List.{list_any}
 use Rattle.layer_states.specs.Sending.{SendCall, begin, is_full}
 use Rattle.layer_states.specs.declared.sending.Outgoing.{Outgoing}
@@ -9,6 +9,8 @@ use Rattle.mesh_base.specs.declared.keys.AppKeyRow.{AppKeyRow}
 use Rattle.mesh_base.specs.declared.pair.Pair.{Pair}
 use Rattle.mesh_types.specs.declared.answers.Answer.{Answer}
 use Rattle.mesh_types.specs.declared.answers.Answer.TheVariants as A
+use Rattle.mesh_types.specs.declared.events.Event.{Event}
+use Rattle.mesh_types.specs.declared.events.Event.TheVariants as E
 use Rattle.mesh_types.specs.declared.events.SendKey.{SendKey}
 use Rattle.mesh_types.specs.declared.events.SendKey.TheVariants as K
 use Rattle.store_definitions.specs.Config.{Config}
@@ -27,10 +29,16 @@ keyed_row c (K.App index) =
 abbrev pub send_row : Config → SendKey → Answer
 send_row c key = if c.reset then A.Reset else keyed_row c key
 
--- a segmented message that begins while these are held, where no friendship is in the way
-abbrev pub begin_row : Config → List Sending → Pair → Answer
-begin_row c rows pair =
+-- an access message or a control PDU
+abbrev pub asked_row : Config → Event → Answer
+asked_row c (E.Send element dst ttl key payload) = send_row c key
+asked_row c _ = raw_row c
+
+-- a segmented message that begins while these are held, by whether its DST is an address of a friendship
+abbrev pub begin_row : Config → Bool → List Sending → Pair → Answer
+begin_row c befriended rows pair =
     if not (pair.iv == transmit_of c.iv) then A.Moved (transmit_of c.iv)
+    else if befriended then A.Befriended
     else if is_full rows then A.SendFull (length rows) else A.Begun
 
 -- what its answer does to the messages that are held

@@ -1,13 +1,15 @@
 -- What the node can send.
-use Rattle.std.specs.Prelude.{◌+◌, ◌<◌, ◌^◌, ⊤}
+use Rattle.std.specs.Prelude.{◌+◌, ◌<◌, ◌≤◌, ◌^◌, ⊤, length}
 use Rattle.mesh_types.specs.declared.events.Event.{Event}
 use Rattle.mesh_types.specs.declared.events.Event.TheVariants as E
 use Rattle.segment_sender.specs.Held.{IsOutgoing}
 use Rattle.store_definitions.specs.Config.{Config}
 
--- A message goes from an address of 16 bits. A segmented message that begins is one that may be sent in segments.
+-- A message goes from an address of 16 bits, with a TTL of 7 bits, and has an octet. A segmented message that begins is one
+-- that may be sent in segments.
 abbrev pub IsSendable : Config → Event → Type 0
-IsSendable c (E.Send element dst ttl key payload) = c.unicast.0 + element < 2 ^ 16
+IsSendable c (E.Send element dst ttl key payload) =
+    (c.unicast.0 + element < 2 ^ 16) × (ttl < 2 ^ 7) × (1 ≤ length payload)
 IsSendable c (E.Begin pair dst src ttl net akf aid upper) =
     IsOutgoing
     (record {

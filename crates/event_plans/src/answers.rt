@@ -5,7 +5,7 @@ ghost use Rattle.std.specs.Prelude.{◌≡◌, ◌==◌, fold};
 ghost use Rattle.std.specs.List.{list_any};
 ghost use Rattle.mesh_base.specs.declared.keys.AppKeyRow.{AppKeyRow};
 ghost use Rattle.mesh_base.specs.IvState.{HasTransmit};
-ghost use Rattle.event_plans.specs.Own.{begin_calls, begin_row, raw_row, send_row};
+ghost use Rattle.event_plans.specs.Own.{asked_row, begin_calls, begin_row, raw_row, send_row};
 ghost use Rattle.layer_states.specs.Sending.{after};
 ghost use Rattle.node_records.specs.Tables.{config_in};
 ghost use Rattle.segment_sender.specs.Held.{IsOutgoing};
@@ -14,7 +14,7 @@ use layer_states::sending::Outgoing;
 use mesh_base::keys::AppKeyRow;
 use mesh_hearing::Tables;
 use mesh_types::answers::Answer;
-use mesh_types::events::SendKey;
+use mesh_types::events::{Event, SendKey};
 use node_records::Persist;
 
 // Whether an application key of this index is held.
@@ -24,8 +24,8 @@ fn has_app(rows: &[AppKeyRow], index: u16) -> bool
     rows.iter().any(|row| row.index == index)
 }
 
-/// The answer to a control PDU that the node is asked to send.
-pub(crate) fn raw_answer(p: &Persist) -> Answer
+// The answer to a control PDU that the node is asked to send.
+fn raw_answer(p: &Persist) -> Answer
     ensures value { result ≡ raw_row (config_in p.now) }
 {
     if p.reset {
@@ -34,8 +34,8 @@ pub(crate) fn raw_answer(p: &Persist) -> Answer
     Answer::Planned
 }
 
-/// The answer to a message that the node is asked to send.
-pub(crate) fn send_answer(p: &Persist, key: &SendKey) -> Answer
+// The answer to an access message that the node is asked to send.
+fn send_answer(p: &Persist, key: &SendKey) -> Answer
     ensures value { result ≡ send_row (config_in p.now) key.now }
 {
     if p.reset {
@@ -53,17 +53,36 @@ pub(crate) fn send_answer(p: &Persist, key: &SendKey) -> Answer
     }
 }
 
-/// The answer to an own segmented message that begins, where no friendship has a say in it, and what the tables become.
-pub(crate) fn begin_answer(tables: &mut Tables, p: &Persist, m: &Outgoing) -> Answer
+/// The answer to what the node is asked to send: an access message or a control PDU.
+pub(crate) fn asked_answer(p: &Persist, event: &Event) -> Answer
+    ensures value { result ≡ asked_row (config_in p.now) event.now }
+{
+    match event {
+        Event::Send { key, .. } => send_answer(p, key),
+        _ => raw_answer(p),
+    }
+}
+
+/// The answer to an own segmented message that begins, by whether it goes to an address of a friendship, and what the
+/// tables become.
+pub(crate) fn begin_answer(
+    tables: &mut Tables,
+    p: &Persist,
+    befriended: bool,
+    m: &Outgoing,
+) -> Answer
     requires transmit { HasTransmit p.now.iv }
     requires outgoing { IsOutgoing m.now }
-    ensures value { result ≡ begin_row (config_in p.now) tables.old.own m.now.name.pair }
+    ensures value { result ≡ begin_row (config_in p.now) befriended tables.old.own m.now.name.pair }
     ensures tables { tables.new
         ≡ record tables.old { own = fold after tables.old.own (begin_calls tables.old.ticks m.now result) } }
 {
     let transmit = p.iv.transmit();
     if m.name.pair.iv != transmit {
         return Answer::Moved { iv: transmit };
+    }
+    if befriended {
+        return Answer::Befriended;
     }
     match tables.begin(m) {
         Ok(()) => Answer::Begun,

@@ -4,11 +4,11 @@
 ghost use Rattle.std.specs.Prelude.{◌≡◌, ◌<◌, ◌^◌, []};
 ghost use Rattle.std.specs.Option.{option_copied, option_map};
 ghost use Rattle.event_plans.specs.Memory.{NodeTablesView};
-ghost use Rattle.event_plans.specs.Plans.{IsPlanned, IsSomePlan, insight_in};
+ghost use Rattle.event_plans.specs.Plans.{IsPlanned, IsSomePlan, LeavesConfig, befriended_in, insight_in};
 ghost use Rattle.event_plans.specs.Sending.{IsSendable};
 ghost use Rattle.mesh_types.specs.declared.events.Event.TheVariants as E;
 ghost use Rattle.mesh_reading.specs.Held.{held_in, opening_of};
-ghost use Rattle.node_layers.specs.ConfiguredLayers.{configured_layers};
+ghost use Rattle.node_layers.specs.NodeLayers.{node_layers};
 ghost use Rattle.node_records.specs.Tables.{config_in};
 ghost use Rattle.run_definitions.specs.Answers.{config_before};
 ghost use Rattle.run_definitions.specs.History.{Opening, Past};
@@ -36,6 +36,16 @@ fn opening_key(opened: &Option<Opened>) -> Option<&UpperKey>
     }
 }
 
+// Whether a message that the node was asked to send goes to an address of a friendship.
+fn is_befriended(basis: &Basis) -> bool
+    ensures { result ≡ befriended_in basis.now }
+{
+    match basis {
+        Basis::Own { befriended } => *befriended,
+        _ => false,
+    }
+}
+
 // Of a network PDU heard.
 fn heard_jobs(draft: JobDraft, p: &Persist, keys: &Keys, octets: &Octets<40>, plan: &Plan) -> Jobs
     requires empty { draft ≡ [] }
@@ -43,7 +53,8 @@ fn heard_jobs(draft: JobDraft, p: &Persist, keys: &Keys, octets: &Octets<40>, pl
     requires planned { IsSomePlan (E.Net octets.now) plan.now }
     requires unicast { p.now.unicast.0 < 2 ^ 15 }
     ensures value { (past : Past) (t : NodeTablesView) → IsPlanned past (E.Net octets.now) plan.now t
-        → result ≡ jobs_of configured_layers past (config_in p.now) (E.Net octets.now)
+        → LeavesConfig plan.now.answer (config_before past) (config_in p.now)
+        → result ≡ jobs_of node_layers past (config_in p.now) (E.Net octets.now)
         (insight_in plan.now.basis) plan.now.answer }
 {
     let _ = octets;
@@ -55,6 +66,7 @@ fn heard_jobs(draft: JobDraft, p: &Persist, keys: &Keys, octets: &Octets<40>, pl
             opened,
             phases,
             replies,
+            act,
         } => {
             if *reset {
                 return draft.finish();
@@ -68,12 +80,13 @@ fn heard_jobs(draft: JobDraft, p: &Persist, keys: &Keys, octets: &Octets<40>, pl
                 low.as_ref(),
                 opening_key(opened),
                 replies,
+                act,
                 &plan.answer,
             )
         }
         Basis::Beacon { .. } => draft.finish(),
         Basis::Time { .. } => draft.finish(),
-        Basis::Own => draft.finish(),
+        Basis::Own { .. } => draft.finish(),
     }
 }
 
@@ -85,7 +98,7 @@ fn passed_jobs(draft: JobDraft, p: &Persist, keys: &Keys, ticks: u32, plan: &Pla
     requires unicast { p.now.unicast.0 < 2 ^ 15 }
     ensures value { (past : Past) (t : NodeTablesView) → IsPlanned past (E.Tick ticks) plan.now t
         → (config_in p.now).unicast ≡ (config_before past).unicast
-        → result ≡ jobs_of configured_layers past (config_in p.now) (E.Tick ticks)
+        → result ≡ jobs_of node_layers past (config_in p.now) (E.Tick ticks)
         (insight_in plan.now.basis) plan.now.answer }
 {
     let Answer::Ticked { .. } = &plan.answer else {
@@ -113,13 +126,13 @@ fn passed_jobs(draft: JobDraft, p: &Persist, keys: &Keys, ticks: u32, plan: &Pla
         }
         Basis::Pdu { .. } => draft.finish(),
         Basis::Beacon { .. } => draft.finish(),
-        Basis::Own => draft.finish(),
+        Basis::Own { .. } => draft.finish(),
     }
 }
 
 /// The jobs of an event that was planned so. `p` is what the records after the event say, and `keys` are its keys; the
-/// address of the node is that of before, as no event tells a node anew what it is. The jobs are made in `draft`, which
-/// has none.
+/// address of the node is that of before, as no event tells a node anew what it is; a control message leaves all that they
+/// say. The jobs are made in `draft`, which has none.
 pub fn plan_jobs(draft: JobDraft, p: &Persist, keys: &Keys, event: &Event, plan: &Plan) -> Jobs
     requires empty { draft ≡ [] }
     requires keys { keys.now ≡ held_in (config_in p.now) }
@@ -128,7 +141,8 @@ pub fn plan_jobs(draft: JobDraft, p: &Persist, keys: &Keys, event: &Event, plan:
     requires unicast { p.now.unicast.0 < 2 ^ 15 }
     ensures value { (past : Past) (t : NodeTablesView) → IsPlanned past event.now plan.now t
         → (config_in p.now).unicast ≡ (config_before past).unicast
-        → result ≡ jobs_of configured_layers past (config_in p.now) event.now
+        → LeavesConfig plan.now.answer (config_before past) (config_in p.now)
+        → result ≡ jobs_of node_layers past (config_in p.now) event.now
         (insight_in plan.now.basis) plan.now.answer }
 {
     match event {
@@ -164,7 +178,7 @@ pub fn plan_jobs(draft: JobDraft, p: &Persist, keys: &Keys, event: &Event, plan:
             keys.nets(),
             keys.apps(),
             event,
-            false,
+            is_befriended(&plan.basis),
             &plan.answer,
         ),
     }

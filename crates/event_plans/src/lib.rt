@@ -1,6 +1,6 @@
 //! One event apart from its flash: its answer, what it stores, and then its jobs. What an event does to what a node keeps
-//! in memory, its tables and its models, is done here; its records come as values, and its jobs are asked for when these
-//! are stored.
+//! in memory, its tables, its models and its friendships, is done here; its records come as values, and its jobs are asked
+//! for when these are stored.
 //!
 //! - `tables`: what a node keeps in memory in a life
 //! - `models`: what the models make of an answer

@@ -7,6 +7,7 @@ use mesh_base::lower::Lower;
 use mesh_hearing::{AckList, NetReading, Opened, Rounds};
 use mesh_jobs::{Phases, Span};
 use mesh_types::answers::Answer;
+use node_friends::FriendAct;
 use node_models::{Due, MessageReplies};
 
 /// What the octets of an event were read as, and what its jobs need of the time before its records.
@@ -24,8 +25,10 @@ pub enum Basis {
         opened: Option<Opened>,
         /// The Key Refresh phases before the records.
         phases: Phases,
-        /// The replies to the message that it delivered.
+        /// The replies to the message that it delivered, but for those that are stored.
         replies: MessageReplies,
+        /// What a control message led to.
+        act: FriendAct,
     },
     /// A beacon was heard.
     Beacon {
@@ -40,13 +43,16 @@ pub enum Basis {
         acks: AckList,
         /// The own segmented messages that send a round, as they were before.
         rounds: Rounds,
-        /// What is published then.
+        /// What is published then, but for what is stored.
         due: Due,
         /// The time before and after, and the IV state before.
         span: Span,
     },
     /// No octets were heard, and no time passed.
-    Own,
+    Own {
+        /// Whether a message that the node was asked to send goes to an address of a friendship.
+        befriended: bool,
+    },
 }
 
 /// The answer to an event, and its records.

@@ -7,25 +7,29 @@ ghost use Rattle.event_plans.specs.Plans.{IsPlanned, IsSomePast, IsStanding};
 ghost use Rattle.event_plans.specs.Sending.{IsSendable};
 ghost use Rattle.event_plans.specs.declared.plan.Basis.TheVariants as B;
 ghost use Rattle.event_records.specs.Putting.{AreMoves, ArePuttable};
+ghost use Rattle.friend_steps.specs.Sending.{IsSend};
 ghost use Rattle.mesh_types.specs.declared.events.Event.TheVariants as E;
 ghost use Rattle.node_records.specs.Meaning.{IsSaid};
 ghost use Rattle.node_records.specs.Tables.{config_in};
+ghost use Rattle.node_records.specs.declared.persist.Persist.{Persist as PersistValue};
 ghost use Rattle.run_definitions.specs.History.{Past};
 ghost use Rattle.segment_sender.specs.Held.{IsOutgoing};
 
-use crate::answers::{begin_answer, raw_answer, send_answer};
+use crate::answers::{asked_answer, begin_answer};
 use crate::models::{publish_due, take_heard};
 use crate::plan::{Basis, Plan};
 use crate::tables::NodeTables;
 use event_records::{Records, beacon_records, heard_records, tick_records};
+use friend_steps::{friend_steps_law, hear_friends, keep_octets, store_send};
 use iv_update::steps_law;
 use layer_states::sending::Outgoing;
+use mesh_base::address::Address;
+use mesh_base::octets::Octets;
 use mesh_base::pair::Name;
 use mesh_hearing::tables_law;
 use mesh_jobs::{Span, held_phases};
 use mesh_types::answers::Answer;
 use mesh_types::events::Event;
-use node_layers::laws::hearing_law;
 use node_models::node_models_law;
 use node_records::Persist;
 use node_records::laws::value_law;
@@ -45,13 +49,22 @@ fn plan_pdu(tables: &mut NodeTables, p: &Persist, octets: &[u8]) -> Result<Plan,
     ensures fit { IsFitFor tables.new p.now }
     ensures unchanged { OnErr result (tables.new ≡ tables.old) }
 {
-    // It does nothing when it runs: the proof uses what it says.
-    hearing_law();
     let phases = held_phases(p);
     let now = tables.hearing.ticks();
-    let heard = tables.hearing.hear(p, octets)?;
-    let taken = take_heard(&mut tables.models, p, now, &heard);
+    let polls = tables.friends.polls();
+    let keys = tables.friends.keys();
+    let heard = tables.hearing.hear(p, keys.as_slice(), octets)?;
+    let taken = take_heard(&mut tables.models, p, now, polls.as_slice(), &heard);
     let records = heard_records(&heard.answer, &taken.changes);
+    let left = hear_friends(
+        &mut tables.friends,
+        p,
+        now,
+        &heard,
+        taken.ttl,
+        taken.ends,
+        taken.replies,
+    );
     Ok(Plan {
         answer: heard.answer,
         records,
@@ -61,7 +74,8 @@ fn plan_pdu(tables: &mut NodeTables, p: &Persist, octets: &[u8]) -> Result<Plan,
             low: heard.low,
             opened: heard.opened,
             phases,
-            replies: taken.replies,
+            replies: left.replies,
+            act: left.act,
         },
     })
 }
@@ -80,8 +94,8 @@ fn plan_beacon(tables: &mut NodeTables, p: &Persist, octets: &[u8]) -> Plan
     value_law();
     steps_law();
     // They do nothing when they run: the proof uses what they say.
-    hearing_law();
     node_models_law();
+    friend_steps_law();
     let heard = tables.hearing.hear_beacon(p, octets);
     let records = beacon_records(p, &heard.answer);
     Plan {
@@ -113,13 +127,18 @@ fn plan_tick(tables: &mut NodeTables, p: &Persist, ticks: u32) -> Plan
     ensures moves { AreMoves (config_in p.now) result.records }
     ensures fit { IsFitFor tables.new p.now }
 {
-    // It does nothing when it runs: the proof uses what it says.
-    hearing_law();
     let from = tables.hearing.ticks();
     let to = later(from, ticks);
     let busy = tables.hearing.is_busy();
     let passed = tables.hearing.pass(p, ticks);
-    let due = publish_due(&mut tables.models, p, to, &passed.answer);
+    let due = publish_due(
+        &mut tables.models,
+        &mut tables.friends,
+        p,
+        tables.hearing.keys().apps(),
+        to,
+        &passed.answer,
+    );
     let records = tick_records(p, from, to, busy, &passed.answer);
     Plan {
         answer: passed.answer,
@@ -134,14 +153,31 @@ fn plan_tick(tables: &mut NodeTables, p: &Persist, ticks: u32) -> Plan
 }
 
 // Of an event that stores nothing.
-fn own_plan(answer: Answer) -> Plan
-    ensures { result ≡ record { answer = answer; records = []; basis = B.Own } }
+fn own_plan(answer: Answer, befriended: bool) -> Plan
+    ensures { result ≡ record { answer = answer; records = []; basis = B.Own befriended } }
 {
     Plan {
         answer,
         records: Records::new(),
-        basis: Basis::Own,
+        basis: Basis::Own { befriended },
     }
+}
+
+// Of a message that the node is asked to send.
+fn plan_send(tables: &mut NodeTables, p: &Persist, event: &Event) -> Plan
+    requires fit { IsFitFor tables.old p.now }
+    requires send { IsSend (config_in p.now) event.now }
+    ensures planned { (past : Past) → IsStanding past p.now tables.old → IsPlanned past event.now result tables.new }
+    ensures records { result.records ≡ [] }
+    ensures fit { IsFitFor tables.new p.now }
+{
+    // They do nothing when they run: the proof uses what they say.
+    tables_law();
+    node_models_law();
+    let answer = asked_answer(p, event);
+    let apps = tables.hearing.keys().apps();
+    let befriended = store_send(&mut tables.friends, p, apps, event, &answer);
+    own_plan(answer, befriended)
 }
 
 // Of an own segmented message that begins.
@@ -160,7 +196,29 @@ fn plan_begin(tables: &mut NodeTables, p: &Persist, m: &Outgoing) -> Plan
     // They do nothing when they run: the proof uses what they say.
     tables_law();
     node_models_law();
-    own_plan(begin_answer(&mut tables.hearing, p, m))
+    friend_steps_law();
+    let befriended = tables.friends.is_befriended(m.dst);
+    own_plan(begin_answer(&mut tables.hearing, p, befriended, m), false)
+}
+
+// Of octets that answered a Poll.
+fn plan_kept(
+    tables: &mut NodeTables,
+    lpn: Address,
+    fsn: bool,
+    name: &Name,
+    pdu: &Octets<29>,
+) -> Plan
+    ensures planned { (past : Past) (p : PersistValue) → IsStanding past p tables.old
+        → IsPlanned past (E.Kept lpn fsn name.now pdu.now) result tables.new }
+    ensures records { result.records ≡ [] }
+    ensures fit { (p : PersistValue) → IsFitFor tables.old p → IsFitFor tables.new p }
+{
+    // They do nothing when they run: the proof uses what they say.
+    tables_law();
+    node_models_law();
+    let answer = keep_octets(&mut tables.friends, lpn, fsn, name, pdu);
+    own_plan(answer, false)
 }
 
 /// The plan of an event, where the records before it say `p`, and what is kept in memory with this event. An error says
@@ -184,12 +242,13 @@ pub fn plan_event(tables: &mut NodeTables, p: &Persist, event: &Event) -> Result
     // They do nothing when they run: the proof uses what they say.
     tables_law();
     node_models_law();
+    friend_steps_law();
     match event {
         Event::Net(octets) => plan_pdu(tables, p, octets.as_slice()),
         Event::Bcn(octets) => Ok(plan_beacon(tables, p, octets.as_slice())),
         Event::Tick(ticks) => Ok(plan_tick(tables, p, *ticks)),
-        Event::Send { key, .. } => Ok(own_plan(send_answer(p, key))),
-        Event::Raw { .. } => Ok(own_plan(raw_answer(p))),
+        Event::Send { .. } => Ok(plan_send(tables, p, event)),
+        Event::Raw { .. } => Ok(own_plan(asked_answer(p, event), false)),
         Event::Begin {
             pair,
             dst,
@@ -214,6 +273,11 @@ pub fn plan_event(tables: &mut NodeTables, p: &Persist, event: &Event) -> Result
             };
             Ok(plan_begin(tables, p, &message))
         }
-        Event::Kept { .. } => Ok(own_plan(Answer::Dropped)),
+        Event::Kept {
+            lpn,
+            fsn,
+            name,
+            pdu,
+        } => Ok(plan_kept(tables, *lpn, *fsn, name, pdu)),
     }
 }

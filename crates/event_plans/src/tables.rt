@@ -9,16 +9,19 @@ ghost use Rattle.node_records.specs.Tables.{config_in};
 ghost use Rattle.run_definitions.specs.History.{Past};
 
 use mesh_hearing::{Keys, Tables};
+use node_friends::NodeFriends;
 use node_models::NodeModels;
 use node_records::Persist;
 use std::alloc::{AllocError, Global};
 use std::marker::Model;
 
-/// What a node keeps in memory in a life: its keys and the tables of what was heard and what is sent, and its models.
+/// What a node keeps in memory in a life: its keys and the tables of what was heard and what is sent, its models, and its
+/// friendships.
 #[derive(Drop)]
 pub struct NodeTables {
     pub(crate) hearing: Tables,
     pub(crate) models: NodeModels,
+    pub(crate) friends: NodeFriends,
 }
 
 impl Model for NodeTables {
@@ -26,7 +29,7 @@ impl Model for NodeTables {
 
     ghost Value = { NodeTablesView };
 
-    ghost view = { λ t. record { hearing = t.hearing; models = t.models } };
+    ghost view = { λ t. record { hearing = t.hearing; models = t.models; friends = t.friends } };
 }
 
 impl NodeTables {
@@ -42,6 +45,7 @@ impl NodeTables {
         Ok(NodeTables {
             hearing,
             models: NodeModels::open(p),
+            friends: NodeFriends::new(),
         })
     }
 

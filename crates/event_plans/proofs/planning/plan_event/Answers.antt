@@ -1,5 +1,6 @@
-use Rattle.std.proofs.Common.{List, ℕ, ap, subst, sym, ◌∙◌}
-use Rattle.event_plans.proofs.Own.{kept_planned, own_plan, raw_planned, send_planned}
+use Rattle.std.proofs.Common.{List, ℕ, ap, false, subst, sym, ◌∙◌}
+use Rattle.event_plans.proofs.Own.{own_plan, raw_planned}
+use Rattle.event_plans.specs.Own.{asked_row}
 use Rattle.event_plans.specs.Plans.{IsPlanned}
 use Rattle.event_plans.specs.Sending.{IsSendable}
 use Rattle.event_plans.specs.declared.plan.Plan.{Plan}
@@ -10,19 +11,14 @@ use Rattle.node_records.specs.Tables.{config_in}
 use Rattle.segment_sender.specs.Held.{IsOutgoing}
 use Rattle.event_plans.proofs.planning.plan_event.Goals as goal
 
-pub returns-in-Send-clause-planned : goal.returns-in-Send-clause-planned
-returns-in-Send-clause-planned c past h =
-    let t = c.args.tables.now in
-    subst (λ (e : Event). IsPlanned past e c.own_plan.result t) (sym c.in-Send.is)
-    (subst (λ (plan : Plan). IsPlanned past (E.Send c.in-Send.element c.in-Send.dst c.in-Send.ttl c.in-Send.key c.in-Send.payload) plan t) (sym (c.own_plan.ensures ∙ ap (λ (a : Answer). own_plan a) c.send_answer.ensures.value))
-    (send_planned (record { tables = c.tables_law.ensures.more; models = c.node_models_law.ensures.more }) past c.args.p.now t c.in-Send.element c.in-Send.dst c.in-Send.ttl c.in-Send.key c.in-Send.payload h))
-
 pub returns-in-Raw-clause-planned : goal.returns-in-Raw-clause-planned
 returns-in-Raw-clause-planned c past h =
     let t = c.args.tables.now in
-    subst (λ (e : Event). IsPlanned past e c.own_plan-in-Raw.result t) (sym c.in-Raw.is)
-    (subst (λ (plan : Plan). IsPlanned past (E.Raw c.in-Raw.dst c.in-Raw.ttl c.in-Raw.tpdu) plan t) (sym (c.own_plan-in-Raw.ensures ∙ ap (λ (a : Answer). own_plan a) c.raw_answer.ensures.value))
-    (raw_planned (record { tables = c.tables_law.ensures.more; models = c.node_models_law.ensures.more }) past c.args.p.now t c.in-Raw.dst c.in-Raw.ttl c.in-Raw.tpdu h))
+    let r = c.in-Raw in
+    subst (λ (e : Event). IsPlanned past e c.own_plan.result t) (sym r.is)
+    (subst (λ (plan : Plan). IsPlanned past (E.Raw r.dst r.ttl r.tpdu) plan t)
+    (sym (c.own_plan.ensures ∙ ap (λ (a : Answer). own_plan a false) (c.asked_answer.ensures.value ∙ ap (λ (e : Event). asked_row (config_in c.args.p.now) e) r.is)))
+    (raw_planned (record { tables = c.tables_law.ensures.more; models = c.node_models_law.ensures.more }) c.friend_steps_law.ensures.others past c.args.p.now t r.dst r.ttl r.tpdu h))
 
 pub plan_begin-requires-clause-outgoing : goal.plan_begin-requires-clause-outgoing
 plan_begin-requires-clause-outgoing c =
@@ -40,7 +36,4 @@ returns-in-Begin-clause-planned c past h =
 
 pub returns-in-Kept-clause-planned : goal.returns-in-Kept-clause-planned
 returns-in-Kept-clause-planned c past h =
-    let t = c.args.tables.now in
-    subst (λ (e : Event). IsPlanned past e c.own_plan-in-Kept.result t) (sym c.in-Kept.is)
-    (subst (λ (plan : Plan). IsPlanned past (E.Kept c.in-Kept.lpn c.in-Kept.fsn c.in-Kept.name c.in-Kept.pdu) plan t) (sym c.own_plan-in-Kept.ensures)
-    (kept_planned (record { tables = c.tables_law.ensures.more; models = c.node_models_law.ensures.more }) past t c.in-Kept.lpn c.in-Kept.fsn c.in-Kept.name c.in-Kept.pdu h.tables))
+    subst (λ (e : Event). IsPlanned past e c.plan_kept.result c.plan_kept.new.tables) (sym c.in-Kept.is) (c.plan_kept.ensures.planned past c.args.p.now h)

@@ -1,15 +1,14 @@
-use Rattle.std.proofs.Common.{[], cond, filter, ap, subst, sym, ◌≡◌, ◌∙◌, ◌+◌, ◌^◌, min}
+use Rattle.std.proofs.Common.{[], cond, filter, ap, subst, sym, ◌≡◌, ◌≤◌, ◌∙◌, ◌+◌, ◌^◌, arith, min}
 use Rattle.event_plans.proofs.Asked.{busy_is, time_told}
 use Rattle.event_plans.specs.Memory.{AreNodeTablesOf, NodeTablesView}
 use Rattle.layer_states.specs.Reassembly.{acks_due}
+use Rattle.mesh_jobs.specs.Publishing.{IsDueSent}
 use Rattle.mesh_types.specs.declared.answers.Answer.TheVariants as A
-use Rattle.mesh_types.specs.declared.events.Event.TheVariants as E
-use Rattle.node_layers.specs.ConfiguredLayers.{configured_layers}
+use Rattle.node_layers.specs.NodeLayers.{node_layers}
 use Rattle.node_layers.specs.Reassembly.{messages}
 use Rattle.node_layers.specs.Sending as own
-use Rattle.node_models.specs.Due.{IsDue}
 use Rattle.run_definitions.specs.Answers.{config_before, later}
-use Rattle.run_definitions.specs.History.{OfNothing}
+use Rattle.run_definitions.specs.History.{OfNothing, now_of}
 use Rattle.segment_sender.specs.Held.{has_round}
 use Rattle.store_definitions.specs.Config.{Config}
 use Rattle.event_plans.proofs.planning.plan_tick.Goals as goal
@@ -20,17 +19,18 @@ returns-clause-planned c past h =
     let x = c.pass-passed.ensures.passed past h.meaning tables.hearing in
     let from = c.ticks-from.ensures.value ∙ tables.hearing.ticks in
     let to = c.later-to.ensures.value ∙ ap (λ n. min (2 ^ 48) (n + c.args.ticks)) from in
-    let is = x.answer ∙ sym (c.hearing_law.ensures.answers past (E.Tick c.args.ticks) OfNothing) in
     let told : c.pass-passed.result.answer ≡ cond (config_before past).reset A.Reset (A.Ticked c.later-to.result) =
-    is ∙ time_told past c.args.ticks OfNothing ∙ ap (λ n. cond (config_before past).reset A.Reset (A.Ticked n)) (sym to) in
+    x.answer ∙ time_told past c.args.ticks OfNothing ∙ ap (λ n. cond (config_before past).reset A.Reset (A.Ticked n)) (sym to) in
+    let rises : now_of past.told ≤ c.later-to.result = omega arith in
     record {
-      sees = c.hearing_law.ensures.reads past (E.Tick c.args.ticks) OfNothing x.sees;
-      answer = is;
-      records = c.tick_records-records.ensures.value configured_layers past c.args.ticks OfNothing h.meaning.config from to
+      sees = x.sees;
+      answer = x.answer;
+      records = c.tick_records-records.ensures.value node_layers past c.args.ticks OfNothing h.meaning.config from to
           (c.is_busy-busy.ensures.value ∙ busy_is past c.tables.inside.hearing tables.hearing);
       tables = λ e records event insight answer same elements. record {
         hearing = x.tables e insight answer;
         models = c.publish_due-due.ensures.models past e records tables.models told answer same elements;
+        friends = c.publish_due-due.ensures.friends past e h.meaning tables.models tables.friends rises told insight answer same;
       };
       basis = (
         record { from = from; to = to; iv = ap (λ (c : Config). c.iv) h.meaning.config },
@@ -38,8 +38,8 @@ returns-clause-planned c past h =
           acks_are = λ reset. x.acks ∙ ap (λ b. cond b [] (acks_due (later past c.args.ticks) (messages past))) reset;
           rounds = λ reset. x.rounds ∙ ap (λ b. cond b [] (filter (has_round (later past c.args.ticks)) (own.messages past))) reset;
           published = λ reset d unicast.
-              subst (λ n. IsDue past d n c.publish_due-due.result) to
-              (c.publish_due-due.ensures.due past d h.meaning tables.models
+              subst (λ n. IsDueSent past d n c.publish_due-due.result) to
+              (c.publish_due-due.ensures.due past d h.meaning tables.models tables.friends
               (told ∙ ap (λ b. cond b A.Reset (A.Ticked c.later-to.result)) reset) unicast);
           held = c.pass-passed.ensures.held;
           few = c.pass-passed.ensures.few;
