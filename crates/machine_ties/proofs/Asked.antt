@@ -1,5 +1,5 @@
 -- The jobs of an event are within their ranges.
-use Rattle.std.proofs.Common.{◌≡◌, ℕ, suc, ◌-◌, ◌*◌, ◌<◌, ◌≤◌, ◌^◌, Bool, false, List, [], ◌++◌, length, take, drop, filter, refl, subst, arith, Option, Some, None}
+use Rattle.std.proofs.Common.{◌≡◌, ℕ, suc, ◌-◌, ◌*◌, ◌<◌, ◌≤◌, ◌^◌, Bool, false, List, [], ◌++◌, length, take, drop, filter, refl, subst, sym, arith, Option, Some, None}
 use Rattle.std.specs.Bool.{⊤}
 use Rattle.std.specs.Prelude.{All}
 use Rattle.std.specs.List.{AllByRecursion as Every, range_with_len}
@@ -15,6 +15,7 @@ use Rattle.layer_states.specs.declared.sending.Outgoing.{Outgoing}
 use Rattle.layer_states.specs.declared.sending.Sending.{Sending}
 use Rattle.machine_contract.specs.Ranges.{IsEvent, IsJob, IsQuiet, IsUpperKey}
 use Rattle.machine_ties.proofs.Acks.{IsShort, IsShortTold, acks_short, reply_short}
+use Rattle.machine_ties.proofs.Acts.{HasAct, act_in, reading_nid}
 use Rattle.machine_ties.proofs.Lists.{Inside, every_append, every_flat, every_flat_any, every_made, every_pick}
 use Rattle.machine_ties.proofs.Published.{published_in}
 use Rattle.machine_ties.proofs.Replied.{key_width, replied_in}
@@ -35,8 +36,10 @@ use Rattle.mesh_types.specs.declared.events.SendKey.TheVariants as K
 use Rattle.mesh_types.specs.declared.jobs.Job.{Job}
 use Rattle.mesh_types.specs.declared.jobs.Job.TheVariants as J
 use Rattle.node_layers.specs.BuiltLayers.{built_layers}
-use Rattle.node_layers.specs.ConfiguredLayers.{configured_layers, sent_publications}
+use Rattle.node_layers.specs.ConfiguredLayers.{configured_layers}
+use Rattle.node_layers.specs.NodeLayers.{node_layers, published_at}
 use Rattle.mesh_jobs.proofs.Rounds.{rounds_are}
+use Rattle.node_layers.proofs.FriendKeys.{HasNid}
 use Rattle.node_layers.specs.Reassembly.{acks_at, due_job, due_jobs, messages}
 use Rattle.node_layers.specs.Sending.{round_jobs, segment_job, segments_at}
 use Rattle.node_layers.specs.Sending as own
@@ -89,37 +92,39 @@ module _ (event : Event) where
   due_beacons_in past c ticks = every_pick (IsJob event) _ _ [] (beacons_in c) tt
 
   message_in : (past : Past) (c : Config) (r : Reading) (low : Option Lower) (opening : Option Opening) (a : Answer)
-      → IsShort c.ttl → Inside (λ (o : Opening). IsUpperKey o.key) opening
-      → Every (IsJob event) (message_jobs configured_layers past c r (OfPdu (Some r) low opening) a)
-  unfolding configured_layers built_layers
-  message_in past c r low opening (A.Control name dst opcode params) h k = tt
-  message_in past c r low None (A.Delivered name dst key payload) h k = tt
-  message_in past c r low (Some o) (A.Delivered name dst key payload) h k =
+      → IsShort c.ttl → Inside (λ (o : Opening). IsUpperKey o.key) opening → HasNid r.by
+      → HasAct past c (OfPdu (Some r) low opening) a
+      → Every (IsJob event) (message_jobs node_layers past c r (OfPdu (Some r) low opening) a)
+  unfolding node_layers configured_layers built_layers
+  message_in past c r low opening (A.Control name dst opcode params) h k nid act =
+      subst (Every (IsJob event)) (sym act.jobs) (act_in event c r act.act h nid act.sendable)
+  message_in past c r low None (A.Delivered name dst key payload) h k nid act = tt
+  message_in past c r low (Some o) (A.Delivered name dst key payload) h k nid act =
       replied_in event past c
       (record { name = name; dst = dst; net = r.by.index; ttl = r.fields.ttl; key = o.key; label = o.label; payload = o.payload }) h k
-  message_in past c r low opening _ h k = tt
+  message_in past c r low opening _ h k nid act = tt
 
   opening_width : (past : Past) (r : Reading) (low : Option Lower) (opening : Option Opening)
-      → IsOpening configured_layers past (Some r) low opening
+      → IsOpening node_layers past (Some r) low opening
       → Inside (λ (o : Opening). IsUpperKey o.key) opening
   opening_width past r low None s = tt
   opening_width past r low (Some o) s = key_width past r low o s
 
   pdu_in : (past : Past) (c : Config) (octets : List ℕ) (i : Insight) (a : Answer)
-      → Sees configured_layers past (E.Net octets) i → IsShort c.ttl
-      → Every (IsJob event) (pdu_jobs configured_layers past c i a)
-  pdu_in past c octets (OfPdu (Some r) low opening) a (sees_pdu reset reads lower opens) h =
+      → Sees node_layers past (E.Net octets) i → IsShort c.ttl → HasAct past c i a
+      → Every (IsJob event) (pdu_jobs node_layers past c i a)
+  pdu_in past c octets (OfPdu (Some r) low opening) a (sees_pdu reset reads lower opens) h act =
       let refresh : List Job = refresh_jobs (config_before past) c in
-      let messages : List Job = message_jobs configured_layers past c r (OfPdu (Some r) low opening) a in
+      let messages : List Job = message_jobs node_layers past c r (OfPdu (Some r) low opening) a in
       every_pick (IsJob event) (is_before_cache a) [] (relay_jobs c r ++ ack_jobs c r low a ++ messages ++ refresh) tt
       (every_append (IsJob event) (relay_jobs c r ++ ack_jobs c r low a ++ messages) refresh
       (every_append (IsJob event) (relay_jobs c r ++ ack_jobs c r low a) messages
       (every_append (IsJob event) (relay_jobs c r) (ack_jobs c r low a) (relay_in c r reads.1.reads.has_pdu) (acks_in c r low a h))
-      (message_in past c r low opening a h (opening_width past r low opening opens)))
+      (message_in past c r low opening a h (opening_width past r low opening opens) (reading_nid past octets r reads) act))
       (refresh_in (config_before past) c))
-  pdu_in past c octets (OfPdu None low opening) a s h = tt
-  pdu_in past c octets (OfBeacon b) a s h = tt
-  pdu_in past c octets OfNothing a s h = tt
+  pdu_in past c octets (OfPdu None low opening) a s h act = tt
+  pdu_in past c octets (OfBeacon b) a s h act = tt
+  pdu_in past c octets OfNothing a s h act = tt
 
   -- Of a tick.
 
@@ -158,10 +163,10 @@ module _ (event : Event) where
   tick_in : (past : Past) (c : Config) (ticks : ℕ) (i : Insight) (now : ℕ) → IsShort c.ttl
       → Every IsPublishRow c.publications → Every IsShortTold past.told
       → Every IsHeldWell (filter (has_round (later past ticks)) (own.messages past))
-      → Every (IsJob event) (jobs_of configured_layers past c (E.Tick ticks) i (A.Ticked now))
-  unfolding configured_layers built_layers jobs_of
+      → Every (IsJob event) (jobs_of node_layers past c (E.Tick ticks) i (A.Ticked now))
+  unfolding node_layers configured_layers built_layers jobs_of
   tick_in past c ticks i now short rows h rounds =
-      every_append (IsJob event) (acks_at past c ticks ++ segments_at past c ticks ++ beacons_due past c ticks) (sent_publications past c ticks)
+      every_append (IsJob event) (acks_at past c ticks ++ segments_at past c ticks ++ beacons_due past c ticks) (published_at past c ticks)
       (every_append (IsJob event) (acks_at past c ticks ++ segments_at past c ticks) (beacons_due past c ticks)
       (every_append (IsJob event) (acks_at past c ticks) (segments_at past c ticks)
       (every_flat (λ (d : DueAck). IsShort d.ack_ttl) (IsJob event) (due_jobs c) (due_in c) (acks_due (later past ticks) (messages past)) (acks_short past (later past ticks) h))
@@ -206,9 +211,9 @@ keys_width c (K.App index) = app_width c index
 
 send_in : (past : Past) (c : Config) (element : ℕ) (dst : Address) (ttl : ℕ) (key : SendKey) (payload : List ℕ)
     → ttl < 2 ^ 7 → 1 ≤ length payload → length payload ≤ 380
-    → Every (IsJob (E.Send element dst ttl key payload)) (send_jobs configured_layers past c element dst ttl key payload)
-unfolding configured_layers built_layers
-send_in past c element dst ttl key payload short least most = pick (send_keys c key) (keys_width c key)
+    → Every (IsJob (E.Send element dst ttl key payload)) (send_jobs node_layers past c element dst ttl key payload)
+send_in past c element dst ttl key payload short least most =
+    every_pick (IsJob (E.Send element dst ttl key payload)) _ [] _ tt (pick (send_keys c key) (keys_width c key))
   where
     pick : (o : Option (ℕ × UpperKey)) → Inside HasUpperKey o
         → Every (IsJob (E.Send element dst ttl key payload)) (option_map_or (sent_job c element dst ttl) o [])
@@ -220,29 +225,34 @@ abbrev pub HasRounds : Past → Event → Answer → Type 0
 HasRounds past (E.Tick ticks) (A.Ticked now) = Every IsHeldWell (filter (has_round (later past ticks)) (own.messages past))
 HasRounds past event answer = ⊤
 
+-- what a network PDU asks for is what its control message led to
+abbrev pub HasActs : Past → Config → Event → Insight → Answer → Type 0
+HasActs past c (E.Net octets) i a = HasAct past c i a
+HasActs past c _ i a = ⊤
+
 every_job : (past : Past) (c : Config) (event : Event) (i : Insight) (a : Answer) (elements : ℕ)
-    → Sees configured_layers past event i → IsEvent elements event → IsShort c.ttl
-    → Every IsPublishRow c.publications → Every IsShortTold past.told → HasRounds past event a
-    → Every (IsJob event) (jobs_of configured_layers past c event i a)
+    → Sees node_layers past event i → IsEvent elements event → IsShort c.ttl
+    → Every IsPublishRow c.publications → Every IsShortTold past.told → HasRounds past event a → HasActs past c event i a
+    → Every (IsJob event) (jobs_of node_layers past c event i a)
 unfolding jobs_of
-every_job past c (E.Net octets) i a elements s e h rows k r = pdu_in (E.Net octets) past c octets i a s h
-every_job past c (E.Bcn octets) i a elements s e h rows k r = tt
-every_job past c (E.Send element dst ttl key payload) i A.Planned elements s e h rows k r = send_in past c element dst ttl key payload e.3 e.5 e.6
-every_job past c (E.Send element dst ttl key payload) i _ elements s e h rows k r = tt
-every_job past c (E.Raw dst ttl tpdu) i A.Planned elements s e h rows k r = raw_in (E.Raw dst ttl tpdu) c dst ttl tpdu e.1 e.2 e.3
-every_job past c (E.Raw dst ttl tpdu) i _ elements s e h rows k r = tt
-every_job past c (E.Tick ticks) i (A.Ticked now) elements s e h rows k r = tick_in (E.Tick ticks) past c ticks i now h rows k r
-every_job past c (E.Tick ticks) i _ elements s e h rows k r = tt
-every_job past c (E.Begin pair dst src ttl net akf id upper) i A.Begun elements s e h rows k r = begin_in (E.Begin pair dst src ttl net akf id upper) c pair dst src ttl net akf id upper e.0 e.1
-every_job past c (E.Begin pair dst src ttl net akf id upper) i _ elements s e h rows k r = tt
-every_job past c (E.Kept lpn fsn name pdu) i a elements s e h rows k r = tt
+every_job past c (E.Net octets) i a elements s e h rows k r act = pdu_in (E.Net octets) past c octets i a s h act
+every_job past c (E.Bcn octets) i a elements s e h rows k r act = tt
+every_job past c (E.Send element dst ttl key payload) i A.Planned elements s e h rows k r act = send_in past c element dst ttl key payload e.3 e.5 e.6
+every_job past c (E.Send element dst ttl key payload) i _ elements s e h rows k r act = tt
+every_job past c (E.Raw dst ttl tpdu) i A.Planned elements s e h rows k r act = raw_in (E.Raw dst ttl tpdu) c dst ttl tpdu e.1 e.2 e.3
+every_job past c (E.Raw dst ttl tpdu) i _ elements s e h rows k r act = tt
+every_job past c (E.Tick ticks) i (A.Ticked now) elements s e h rows k r act = tick_in (E.Tick ticks) past c ticks i now h rows k r
+every_job past c (E.Tick ticks) i _ elements s e h rows k r act = tt
+every_job past c (E.Begin pair dst src ttl net akf id upper) i A.Begun elements s e h rows k r act = begin_in (E.Begin pair dst src ttl net akf id upper) c pair dst src ttl net akf id upper e.0 e.1
+every_job past c (E.Begin pair dst src ttl net akf id upper) i _ elements s e h rows k r act = tt
+every_job past c (E.Kept lpn fsn name pdu) i a elements s e h rows k r act = tt
 
 pub jobs_ranged : (past : Past) (c : Config) (event : Event) (i : Insight) (a : Answer) (elements : ℕ)
-    → Sees configured_layers past event i → IsEvent elements event → IsShort c.ttl
-    → Every IsPublishRow c.publications → Every IsShortTold past.told → HasRounds past event a
-    → All (IsJob event) (jobs_of configured_layers past c event i a)
-jobs_ranged past c event i a elements s e h rows k r =
-    All-from_recursion (IsJob event) _ (every_job past c event i a elements s e h rows k r)
+    → Sees node_layers past event i → IsEvent elements event → IsShort c.ttl
+    → Every IsPublishRow c.publications → Every IsShortTold past.told → HasRounds past event a → HasActs past c event i a
+    → All (IsJob event) (jobs_of node_layers past c event i a)
+jobs_ranged past c event i a elements s e h rows k r act =
+    All-from_recursion (IsJob event) _ (every_job past c event i a elements s e h rows k r act)
 
 -- After the lines of a segmented message nothing is handled.
 
@@ -252,7 +262,7 @@ begun_quiet c pair dst src ttl net akf id upper =
     every_flat_any IsQuiet _ (λ seg_o. every_under IsQuiet c net (first_round_job pair dst src ttl akf id upper seg_o) (λ m nid outcome. refl)) (range_with_len 0 _)
 
 every_quiet : (past : Past) (c : Config) (event : Event) (i : Insight) (a : Answer) → is_outside event ≡ false
-    → Every IsQuiet (jobs_of configured_layers past c event i a)
+    → Every IsQuiet (jobs_of node_layers past c event i a)
 unfolding jobs_of
 every_quiet past c (E.Begin pair dst src ttl net akf id upper) i A.Begun e = begun_quiet c pair dst src ttl net akf id upper
 every_quiet past c (E.Begin pair dst src ttl net akf id upper) i _ e = tt
@@ -264,5 +274,5 @@ every_quiet past c (E.Raw dst ttl tpdu) i a e = absurd cc
 every_quiet past c (E.Tick ticks) i a e = absurd cc
 
 pub jobs_quiet : (past : Past) (c : Config) (event : Event) (i : Insight) (a : Answer) → is_outside event ≡ false
-    → All IsQuiet (jobs_of configured_layers past c event i a)
+    → All IsQuiet (jobs_of node_layers past c event i a)
 jobs_quiet past c event i a e = All-from_recursion IsQuiet _ (every_quiet past c event i a e)

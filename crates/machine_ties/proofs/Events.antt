@@ -1,11 +1,11 @@
 -- What an event that was planned leaves, whether its records were stored or not.
-use Rattle.std.proofs.Common.{◌≡◌, ℕ, ◌+◌, ◌≤◌, ◌<◌, ◌^◌, Bool, true, false, cond, List, ◌++◌, length, refl, ap, sym, subst, ◌∙◌, arith}
+use Rattle.std.proofs.Common.{◌≡◌, ℕ, ◌+◌, ◌≤◌, ◌<◌, ◌^◌, Bool, true, false, cond, List, ◌++◌, length, refl, ap, sym, subst, ◌∙◌, append-nil, arith, None}
 use Rattle.std.specs.Prelude.{All}
 use Rattle.std.specs.List.{AllByRecursion as Every}
 use Rattle.std.proofs.lemmas.List.Elements.{recursion_from_All}
 use Rattle.event_plans.proofs.Narrow.{narrow_of}
 use Rattle.event_plans.specs.Memory.{AreNodeTablesOf, IsFitFor, NodeTablesView}
-use Rattle.event_plans.specs.Plans.{IsBasisOf, IsPlanned, insight_in}
+use Rattle.event_plans.specs.Plans.{IsBasisOf, IsPlanned, LeavesConfig, insight_in}
 use Rattle.event_plans.specs.Sending.{IsSendable}
 use Rattle.event_plans.specs.declared.plan.Basis.{Basis}
 use Rattle.event_plans.specs.declared.plan.Basis.TheVariants as B
@@ -17,7 +17,8 @@ use Rattle.machine_contract.specs.Ranges.{IsEvent, IsJob, IsQuiet}
 use Rattle.machine_contract.specs.Standing.{past_now}
 use Rattle.machine_contract.specs.declared.answers.Hand.TheVariants as H
 use Rattle.machine_ties.proofs.Acks.{IsShortTold}
-use Rattle.machine_ties.proofs.Asked.{HasRounds, jobs_quiet, jobs_ranged}
+use Rattle.machine_ties.proofs.Acts.{has_act}
+use Rattle.machine_ties.proofs.Asked.{HasActs, HasRounds, jobs_quiet, jobs_ranged}
 use Rattle.machine_ties.proofs.Fronts.{IsSameNode, all_ranges, all_whole, kept_node_of, puttable_kept}
 use Rattle.machine_ties.proofs.Lists.{every_map}
 use Rattle.machine_ties.proofs.Standings.{before_more, entered_stands, stopped_stands, told_by}
@@ -31,7 +32,7 @@ use Rattle.mesh_types.specs.declared.events.Event.{Event}
 use Rattle.mesh_types.specs.declared.events.Event.TheVariants as E
 use Rattle.mesh_types.specs.declared.history.Entry.{Entry}
 use Rattle.mesh_types.specs.declared.jobs.Job.{Job}
-use Rattle.node_layers.specs.ConfiguredLayers.{configured_layers}
+use Rattle.node_layers.specs.NodeLayers.{node_layers}
 use Rattle.node_layers.specs.Steps.{with_entry}
 use Rattle.node_records.specs.Meaning.{IsMeaningOf}
 use Rattle.node_records.specs.Tables.{config_in}
@@ -39,6 +40,7 @@ use Rattle.node_records.specs.declared.persist.Persist.{Persist}
 use Rattle.node_snapshot.proofs.Built.{IsPublishRow, built_of}
 use Rattle.node_store.specs.Tie.{IsStoreOf}
 use Rattle.record_types.specs.declared.records.StoreRecord.{StoreRecord}
+use Rattle.record_types.specs.declared.records.StoreRecord.TheVariants as R
 use Rattle.run_definitions.specs.Answers.{answer_of, config_before, later}
 use Rattle.run_definitions.specs.Handling.{Handles}
 use Rattle.run_definitions.specs.History.{Insight, OfNothing, Past, Told}
@@ -49,7 +51,8 @@ use Rattle.run_definitions.specs.Stores.{stores}
 use Rattle.segment_sender.specs.Held.{IsHeldWell}
 use Rattle.seq_reserve.specs.Reserving.{IsPublished}
 use Rattle.seq_reserve.specs.declared.reserve.Reserve.{Reserve}
-use Rattle.store_definitions.specs.Config.{Config, config_of}
+use Rattle.store_definitions.proofs.Pushes.{config_push}
+use Rattle.store_definitions.specs.Config.{Config, changed, config_of}
 use Rattle.store_definitions.specs.Node.{IsWhole}
 use Rattle.store_definitions.specs.Ranges.{IsInRange}
 
@@ -59,8 +62,8 @@ pub plan_kept : AreKeeping → (past : Past) (m : NodeMachine) (event : Event) (
 plan_kept laws past m event plan t h planned may bounded =
     let p = m.reserve.store.persist in
     let i = insight_in plan.basis in
-    let stored : stores configured_layers past event i (answer_of configured_layers past event i) ≡ plan.records =
-    ap (λ a. stores configured_layers past event i a) (sym planned.answer) ∙ sym planned.records in
+    let stored : stores node_layers past event i (answer_of node_layers past event i) ≡ plan.records =
+    ap (λ a. stores node_layers past event i a) (sym planned.answer) ∙ sym planned.records in
     let limits : IsWithinLimits (config_of past.records) = subst IsWithinLimits h.standing.meaning.config bounded.limits in
     let keep : KeepWhole (config_of past.records) plan.records =
     subst (λ l. KeepWhole (config_of past.records) l) stored (stores_keep laws past event i h.standing.whole limits bounded.octets) in
@@ -71,28 +74,28 @@ plan_kept laws past m event plan t h planned may bounded =
 pub record IsEntryOf (past : Past) (event : Event) (plan : Plan) (p : Persist) (entry : Entry) : Type 0 where
   pub is_of : entry.event ≡ event
   pub has : entry.answer ≡ plan.answer
-  pub jobs : entry.jobs ≡ jobs_of configured_layers past (config_in p) event (insight_in plan.basis) plan.answer
+  pub jobs : entry.jobs ≡ jobs_of node_layers past (config_in p) event (insight_in plan.basis) plan.answer
 
 plan_handles : (past : Past) (event : Event) (plan : Plan) (t : NodeTablesView) (p : Persist) (entry : Entry) → IsPlanned past event plan t → IsEntryOf past event plan p entry
-    → IsMeaningOf (past.records ++ plan.records) p → Handles configured_layers past (told_by past entry (insight_in plan.basis))
+    → IsMeaningOf (past.records ++ plan.records) p → Handles node_layers past (told_by past entry (insight_in plan.basis))
 plan_handles past event plan t p entry planned e meaning =
     let i = insight_in plan.basis in
-    let after : config_in p ≡ config_of (past.records ++ stores configured_layers past entry.event i entry.answer) =
+    let after : config_in p ≡ config_of (past.records ++ stores node_layers past entry.event i entry.answer) =
     meaning.config ∙ ap (λ l. config_of (past.records ++ l))
-    (planned.records ∙ ap (λ x. stores configured_layers past x i plan.answer) (sym e.is_of) ∙ ap (λ a. stores configured_layers past entry.event i a) (sym e.has)) in
+    (planned.records ∙ ap (λ x. stores node_layers past x i plan.answer) (sym e.is_of) ∙ ap (λ a. stores node_layers past entry.event i a) (sym e.has)) in
     record {
-      sees = subst (λ x. Sees configured_layers past x i) (sym e.is_of) planned.sees;
-      answer = e.has ∙ planned.answer ∙ ap (λ x. answer_of configured_layers past x i) (sym e.is_of);
-      jobs = e.jobs ∙ ap (λ c. jobs_of configured_layers past c event i plan.answer) after
-          ∙ ap (λ x. jobs_of configured_layers past (config_of (past.records ++ stores configured_layers past entry.event i entry.answer)) x i plan.answer) (sym e.is_of)
-          ∙ ap (λ a. jobs_of configured_layers past (config_of (past.records ++ stores configured_layers past entry.event i entry.answer)) entry.event i a) (sym e.has);
+      sees = subst (λ x. Sees node_layers past x i) (sym e.is_of) planned.sees;
+      answer = e.has ∙ planned.answer ∙ ap (λ x. answer_of node_layers past x i) (sym e.is_of);
+      jobs = e.jobs ∙ ap (λ c. jobs_of node_layers past c event i plan.answer) after
+          ∙ ap (λ x. jobs_of node_layers past (config_of (past.records ++ stores node_layers past entry.event i entry.answer)) x i plan.answer) (sym e.is_of)
+          ∙ ap (λ a. jobs_of node_layers past (config_of (past.records ++ stores node_layers past entry.event i entry.answer)) entry.event i a) (sym e.has);
     }
 
 plan_stores : (past : Past) (event : Event) (plan : Plan) (t : NodeTablesView) (p : Persist) (entry : Entry) → IsPlanned past event plan t → IsEntryOf past event plan p entry
-    → plan.records ≡ stores configured_layers past entry.event (insight_in plan.basis) entry.answer
+    → plan.records ≡ stores node_layers past entry.event (insight_in plan.basis) entry.answer
 plan_stores past event plan t p entry planned e =
-    planned.records ∙ ap (λ x. stores configured_layers past x (insight_in plan.basis) plan.answer) (sym e.is_of)
-    ∙ ap (λ a. stores configured_layers past entry.event (insight_in plan.basis) a) (sym e.has)
+    planned.records ∙ ap (λ x. stores node_layers past x (insight_in plan.basis) plan.answer) (sym e.is_of)
+    ∙ ap (λ a. stores node_layers past entry.event (insight_in plan.basis) a) (sym e.has)
 
 -- what the store says after an event, and the elements of the node
 pub record IsAfter (elements : ℕ) (p : Persist) : Type 0 where
@@ -107,7 +110,7 @@ ready_after m ready =
     record { whole = whole; same = ready.elements; unicast = whole.last }
 
 pub event_sendable : (elements : ℕ) (event : Event) (p : Persist) → IsAfter elements p → IsEvent elements event → IsSendable (config_in p) event
-event_sendable elements (E.Send element dst ttl key payload) p after h = omega (arith, h.0, after.same, after.unicast)
+event_sendable elements (E.Send element dst ttl key payload) p after h = (omega (arith, h.0, after.same, after.unicast), h.3, h.5)
 event_sendable elements (E.Begin pair dst src ttl net akf aid upper) p after h =
     record { least = h.4; seq = h.0; ttl = h.1; aid = h.2; device = h.3 }
 event_sendable elements (E.Net octets) p after h = tt
@@ -117,7 +120,7 @@ event_sendable elements (E.Tick ticks) p after h = tt
 event_sendable elements (E.Kept lpn fsn name pdu) p after h = tt
 
 -- where time was told, there was no Node Reset
-told_running : (past : Past) (ticks now : ℕ) (i : Insight) → A.Ticked now ≡ answer_of configured_layers past (E.Tick ticks) i → (config_before past).reset ≡ false
+told_running : (past : Past) (ticks now : ℕ) (i : Insight) → A.Ticked now ≡ answer_of node_layers past (E.Tick ticks) i → (config_before past).reset ≡ false
 unfolding answer_of
 told_running past ticks now i e = pick (config_before past).reset refl e
   where
@@ -126,31 +129,54 @@ told_running past ticks now i e = pick (config_before past).reset refl e
     pick false is e = is
 
 -- what sends a round is what the plan says
-rounds_held : (past : Past) (event : Event) (basis : Basis) (a : Answer) → IsBasisOf past event a basis → a ≡ answer_of configured_layers past event (insight_in basis)
+rounds_held : (past : Past) (event : Event) (basis : Basis) (a : Answer) → IsBasisOf past event a basis → a ≡ answer_of node_layers past event (insight_in basis)
     → HasRounds past event a
 rounds_held past (E.Tick ticks) (B.Time acks rounds due span) (A.Ticked now) b is =
     let running = told_running past ticks now OfNothing is in
     recursion_from_All IsHeldWell _ (subst (All IsHeldWell) (b.1.rounds running) b.1.held)
-rounds_held past (E.Tick ticks) (B.Pdu reset reading low opened phases replies) a b is = absurd b
+rounds_held past (E.Tick ticks) (B.Pdu reset reading low opened phases replies act) a b is = absurd b
 rounds_held past (E.Tick ticks) (B.Beacon reset beacon) a b is = absurd b
-rounds_held past (E.Tick ticks) B.Own a b is = absurd b
+rounds_held past (E.Tick ticks) (B.Own befriended) a b is = absurd b
 rounds_held past _ basis a b is = tt
+
+-- a control message leaves what the records say
+control_leaves : (past : Past) (event : Event) (i : Insight) (a : Answer) (p : Persist) → IsMeaningOf (past.records ++ stores node_layers past event i a) p
+    → LeavesConfig a (config_before past) (config_in p)
+unfolding stores changed
+control_leaves past (E.Net octets) i (A.Control name dst opcode params) p m = sym (m.config ∙ config_push past.records (R.Replay name None))
+control_leaves past _ i (A.Control name dst opcode params) p m = sym (m.config ∙ ap config_of (append-nil past.records))
+control_leaves past event i _ p m = tt
+
+pub plan_leaves : (past : Past) (event : Event) (plan : Plan) (t : NodeTablesView) (p : Persist) → IsPlanned past event plan t
+    → IsMeaningOf (past.records ++ plan.records) p → LeavesConfig plan.answer (config_before past) (config_in p)
+plan_leaves past event plan t p planned meaning =
+    control_leaves past event (insight_in plan.basis) plan.answer p (subst (λ l. IsMeaningOf (past.records ++ l) p) planned.records meaning)
+
+-- what a network PDU asks for is what the plan says that its control message led to
+act_held : (past : Past) (event : Event) (basis : Basis) (a : Answer) (c : Config) → IsBasisOf past event a basis → LeavesConfig a (config_before past) c
+    → HasActs past c event (insight_in basis) a
+act_held past (E.Net octets) (B.Pdu reset reading low opened phases replies act) a c b leaves =
+    has_act past c (insight_in (B.Pdu reset reading low opened phases replies act)) a act b.2 b.3 leaves
+act_held past (E.Net octets) (B.Beacon reset beacon) a c b leaves = absurd b
+act_held past (E.Net octets) (B.Time acks rounds due span) a c b leaves = absurd b
+act_held past (E.Net octets) (B.Own befriended) a c b leaves = absurd b
+act_held past _ basis a c b leaves = tt
 
 module _ (laws : AreKeeping) (m : NodeMachine) (event : Event) (plan : Plan) (planned_tables : NodeTablesView) where
   -- where all records were stored
   pub event_stands : (old new : Chip) (over : List StoreRecord) (s : Stands old over m) → m.closed ≡ false
       → (r : Reserve) (tables : NodeTablesView) (entry : Entry)
-      → IsPlanned (past_now configured_layers over s.life.told m.fills) event plan planned_tables
+      → IsPlanned (past_now node_layers over s.life.told m.fills) event plan planned_tables
       → ArePuttable m.reserve.store.persist plan.records → IsBounded m.reserve.store.persist (insight_in plan.basis)
       → ((past : Past) → AreNodeTablesOf planned_tables past → AreNodeTablesOf tables past)
-      → IsEntryOf (past_now configured_layers over s.life.told m.fills) event plan r.store.persist entry → entry.fills ≡ m.fills
+      → IsEntryOf (past_now node_layers over s.life.told m.fills) event plan r.store.persist entry → entry.fills ≡ m.fills
       → length m.entries + 1 < 2 ^ 32
-      → IsStoreOf new r.store ((past_now configured_layers over s.life.told m.fills).records ++ plan.records)
-      → IsMeaningOf ((past_now configured_layers over s.life.told m.fills).records ++ plan.records) r.store.persist
+      → IsStoreOf new r.store ((past_now node_layers over s.life.told m.fills).records ++ plan.records)
+      → IsMeaningOf ((past_now node_layers over s.life.told m.fills).records ++ plan.records) r.store.persist
       → IsPublished r.store r.keeper → Keeps old new
       → Stands new over (entered m r tables entry)
   event_stands old new over s runs r tables entry planned may bounded renewed e fills few store meaning published keeps =
-      let past : Past = past_now configured_layers over s.life.told m.fills in
+      let past : Past = past_now node_layers over s.life.told m.fills in
       let h : IsBefore past m = (s.usable runs).before in
       let kept : AreKept (config_of past.records) plan.records = plan_kept laws past m event plan planned_tables h planned may bounded in
       entered_stands laws old new over m s runs r tables entry (insight_in plan.basis) plan.records fills
@@ -164,17 +190,17 @@ module _ (laws : AreKeeping) (m : NodeMachine) (event : Event) (plan : Plan) (pl
   -- where the flash failed
   pub event_stops : (old new : Chip) (over : List StoreRecord) (s : Stands old over m) → m.closed ≡ false
       → (r : Reserve) (tables : NodeTablesView)
-      → IsPlanned (past_now configured_layers over s.life.told m.fills) event plan planned_tables
+      → IsPlanned (past_now node_layers over s.life.told m.fills) event plan planned_tables
       → ArePuttable m.reserve.store.persist plan.records → IsBounded m.reserve.store.persist (insight_in plan.basis)
-      → IsCutIn new (past_now configured_layers over s.life.told m.fills).records plan.records r.keeper.mark
+      → IsCutIn new (past_now node_layers over s.life.told m.fills).records plan.records r.keeper.mark
       → old.faults < new.faults → Keeps old new
       → Stands new over (stopped m r tables (H.OfEvent event))
   event_stops old new over s runs r tables planned may bounded cut rose keeps =
-      let past : Past = past_now configured_layers over s.life.told m.fills in
+      let past : Past = past_now node_layers over s.life.told m.fills in
       let h : IsBefore past m = (s.usable runs).before in
       let kept : AreKept (config_of past.records) plan.records = plan_kept laws past m event plan planned_tables h planned may bounded in
       stopped_stands laws old new over m s runs r tables event (insight_in plan.basis) plan.records planned.sees
-      (planned.records ∙ ap (λ a. stores configured_layers past event (insight_in plan.basis) a) planned.answer)
+      (planned.records ∙ ap (λ a. stores node_layers past event (insight_in plan.basis) a) planned.answer)
       kept cut
       (omega (arith, s.began, rose, ap (λ (x : Setting). x.faults) keeps.setting))
 
@@ -209,7 +235,7 @@ module _ (laws : AreKeeping) (m : NodeMachine) (event : Event) (plan : Plan) (pl
       → IsPlanned ready.past event plan planned_tables
       → ArePuttable m.reserve.store.persist plan.records → IsBounded m.reserve.store.persist (insight_in plan.basis)
       → IsMeaningOf (ready.past.records ++ plan.records) p
-      → jobs ≡ jobs_of configured_layers ready.past (config_in p) event (insight_in plan.basis) plan.answer
+      → jobs ≡ jobs_of node_layers ready.past (config_in p) event (insight_in plan.basis) plan.answer
       → IsEvent elements event → All (IsJob event) jobs
   event_jobs ready p jobs elements planned may bounded meaning is e =
       let past : Past = ready.past in
@@ -220,10 +246,11 @@ module _ (laws : AreKeeping) (m : NodeMachine) (event : Event) (plan : Plan) (pl
       (subst (λ (c : Config). c.ttl < 2 ^ 7) (sym meaning.config) (narrow_of (past.records ++ plan.records) ranges).ttl)
       (subst (λ (c : Config). Every IsPublishRow c.publications) (sym meaning.config) (built_of (past.records ++ plan.records) ranges).publications)
       (every_map (λ (t : Told). All IsInRange t.records) IsShortTold short_told past.told (recursion_from_All (λ (t : Told). All IsInRange t.records) past.told ready.before.told))
-      (rounds_held past event plan.basis plan.answer planned.basis planned.answer))
+      (rounds_held past event plan.basis plan.answer planned.basis planned.answer)
+      (act_held past event plan.basis plan.answer (config_in p) planned.basis (plan_leaves past event plan planned_tables p planned meaning)))
 
   pub event_quiet : (ready : IsReady m) (p : Persist) (jobs : List Job)
-      → jobs ≡ jobs_of configured_layers ready.past (config_in p) event (insight_in plan.basis) plan.answer
+      → jobs ≡ jobs_of node_layers ready.past (config_in p) event (insight_in plan.basis) plan.answer
       → is_outside event ≡ false → All IsQuiet jobs
   event_quiet ready p jobs is e =
       subst (λ l. All IsQuiet l) (sym is) (jobs_quiet ready.past (config_in p) event (insight_in plan.basis) plan.answer e)

@@ -6,6 +6,7 @@ pub mod Acks
 pub mod Widths
 pub mod Replied
 pub mod Published
+pub mod Acts
 pub mod Asked
 pub mod Stored
 pub mod Standings

@@ -7,12 +7,14 @@ use Rattle.std.specs.Option.{option_map, option_map_or}
 use Rattle.std.proofs.lemmas.Bool.Decides.{nat_tests}
 use Rattle.config_definitions.specs.declared.acts.ConfigAct.{ConfigAct}
 use Rattle.config_server.proofs.Replies.{IsShortBeat, SetsShortBeat}
+use Rattle.element_models.proofs.Filled.{IsFilled, level_filled, onoff_filled}
 use Rattle.layer_definitions.specs.KeyRefresh.{transmit_app}
 use Rattle.layer_laws.proofs.Lists.{and_true}
+use Rattle.layer_states.specs.Friends.{FriendsState, after, tick}
 use Rattle.machine_contract.specs.Ranges.{IsJob, IsUpperKey}
 use Rattle.machine_ties.proofs.Acks.{IsShort}
-use Rattle.machine_ties.proofs.Lists.{Inside, every_append, every_chosen, every_flat}
-use Rattle.machine_ties.proofs.Replied.{IsFilled, acts, level_filled, onoff_filled}
+use Rattle.machine_ties.proofs.Lists.{Inside, every_append, every_chosen, every_flat, every_pick}
+use Rattle.machine_ties.proofs.Replied.{acts}
 use Rattle.machine_ties.proofs.Widths.{HasUpperKey, app_width, every_under}
 use Rattle.mesh_base.specs.declared.keys.UpperKey.{UpperKey}
 use Rattle.mesh_types.specs.declared.answers.Answer.{Answer}
@@ -24,8 +26,10 @@ use Rattle.model_states.specs.Publication.{Published, after_heartbeat, after_row
 use Rattle.model_states.specs.declared.publication.Heartbeat.{Heartbeat}
 use Rattle.model_states.specs.declared.publication.HeartbeatRow.{HeartbeatRow}
 use Rattle.node_layers.specs.Configuration.{config_act}
-use Rattle.node_layers.specs.ConfiguredLayers.{sent_publication, sent_publications}
+use Rattle.node_layers.specs.ConfiguredLayers.{sent_publication}
+use Rattle.node_layers.specs.Friendship.{friends}
 use Rattle.node_layers.specs.Models.{delivered_by, level_state, onoff_server, onoff_state}
+use Rattle.node_layers.specs.NodeLayers.{published_at, published_jobs}
 use Rattle.node_layers.specs.Publishing.{Publication, heartbeat_job, heartbeat_jobs, is_own_row, is_row, is_still_held, publication_job, publication_of, publications_due, published, published_after, published_by_act, published_by_message, published_by_tick, published_with, status_of, stored_row}
 use Rattle.node_snapshot.proofs.Built.{IsPublishRow}
 use Rattle.record_types.specs.declared.records.PublishRow.{PublishRow}
@@ -200,10 +204,12 @@ heartbeat_in event past c ticks =
 -- So each is a job within its ranges.
 
 pub published_in : (event : Event) (past : Past) (c : Config) (ticks : ℕ) → IsShort c.ttl
-    → Every IsPublishRow c.publications → Every (IsJob event) (sent_publications past c ticks)
+    → Every IsPublishRow c.publications → Every (IsJob event) (published_at past c ticks)
 published_in event past c ticks short rows =
-    every_append (IsJob event) (flat_map (sent_publication c) (publications_due past c ticks)) (heartbeat_jobs past c ticks)
-    (every_flat IsSendable (IsJob event) (sent_publication c)
-    (λ p h. every_under (IsJob event) c p.net (publication_job p) (λ m nid. (nid, h.ttl, h.key, h.octet)))
+    let st : FriendsState = after (friends past) (tick (later past ticks)) in
+    every_append (IsJob event) (flat_map (published_jobs c st) (publications_due past c ticks)) (heartbeat_jobs past c ticks)
+    (every_flat IsSendable (IsJob event) (published_jobs c st)
+    (λ p h. every_pick (IsJob event) _ [] (sent_publication c p) tt
+    (every_under (IsJob event) c p.net (publication_job p) (λ m nid. (nid, h.ttl, h.key, h.octet))))
     (publications_due past c ticks) (sendable past c ticks short rows))
     (heartbeat_in event past c ticks)

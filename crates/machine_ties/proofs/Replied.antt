@@ -1,6 +1,6 @@
 -- The replies to an access message are within their ranges.
-use Rattle.std.proofs.Common.{◌≡◌, ℕ, zero, suc, ◌≤◌, Bool, true, false, cond, List, [], ◌∷◌, ◌++◌, length, map, filter, eqb, subst, arith, Option, Some, None}
-use Rattle.std.specs.Prelude.{MatchBool, MatchOption}
+use Rattle.std.proofs.Common.{◌≡◌, ℕ, zero, suc, Bool, true, false, cond, List, [], ◌∷◌, ◌++◌, map, filter, eqb, subst, Option, Some, None}
+use Rattle.std.specs.Prelude.{IfSome, MatchBool, MatchOption, fold}
 use Rattle.std.specs.List.{AllByRecursion as Every, slice_get}
 use Rattle.std.specs.Option.{option_to_list}
 use Rattle.cipher_definitions.specs.Kdf.{aid}
@@ -8,14 +8,16 @@ use Rattle.config_definitions.specs.Answers.{config_answer}
 use Rattle.config_definitions.specs.declared.acts.ConfigAct.{ConfigAct}
 use Rattle.config_server.proofs.Answered.{replies}
 use Rattle.config_server.proofs.Replies.{HasOctet, Replies, pick, silent}
+use Rattle.element_models.proofs.Filled.{IsFilled, level_replies, onoff_replies, taken}
+use Rattle.layer_definitions.proofs.KeyLaws.{aid_width}
 use Rattle.layer_definitions.specs.KeyRefresh.{app_key, keys_of}
 use Rattle.layer_definitions.specs.Labels.{is_virtual}
-use Rattle.layer_laws.proofs.Lists.{option_cases}
+use Rattle.layer_states.specs.Friends.{FriendsState, after}
 use Rattle.layer_states.specs.Names.{is_unicast}
 use Rattle.machine_contract.specs.Ranges.{IsJob, IsUpperKey}
 use Rattle.machine_ties.proofs.Acks.{IsShort, reply_short}
-use Rattle.machine_ties.proofs.Lists.{Inside, every_append, every_flat, every_flat_any, every_made, every_mapped}
-use Rattle.machine_ties.proofs.Widths.{aid_width, every_under}
+use Rattle.machine_ties.proofs.Lists.{every_append, every_flat, every_flat_any, every_made, every_mapped, every_pick}
+use Rattle.machine_ties.proofs.Widths.{every_under}
 use Rattle.mesh_base.specs.declared.address.Address.{Address}
 use Rattle.mesh_base.specs.declared.keys.AppKeyRow.{AppKeyRow}
 use Rattle.mesh_base.specs.declared.keys.UpperKey.{UpperKey}
@@ -26,15 +28,12 @@ use Rattle.mesh_base.specs.declared.pair.Name.{Name}
 use Rattle.mesh_base.specs.declared.upper.UpperFields.{UpperFields}
 use Rattle.mesh_types.specs.declared.answers.Answer.{Answer}
 use Rattle.mesh_types.specs.declared.events.Event.{Event}
-use Rattle.model_states.specs.Level.{level_asks, level_message, level_reply, level_status, level_taken}
-use Rattle.model_states.specs.OnOff.{onoff_asks, onoff_message, onoff_reply, onoff_status, onoff_taken}
-use Rattle.model_states.specs.declared.models.LevelState.{LevelState}
-use Rattle.model_states.specs.declared.models.OnOffState.{OnOffState}
 use Rattle.model_states.specs.declared.publication.HeartbeatRow.{HeartbeatRow}
 use Rattle.node_layers.specs.Configuration.{config_act, is_for_server}
-use Rattle.node_layers.specs.ConfiguredLayers.{configured_layers, reply_job, sent_replies, sent_reply}
-use Rattle.node_layers.specs.Friendship.{act_of, no_friends, replies_to}
+use Rattle.node_layers.specs.ConfiguredLayers.{reply_job, sent_reply}
+use Rattle.node_layers.specs.Friendship.{act_of, ended_calls, friends, replies_to}
 use Rattle.node_layers.specs.Models.{element_replies, elements_of, level_answer, level_server, level_state, model_replies, onoff_answer, onoff_server, onoff_state, takes}
+use Rattle.node_layers.specs.NodeLayers.{node_layers, replies_of, reply_jobs}
 use Rattle.run_definitions.specs.Answers.{config_before, lower_answer, message_name}
 use Rattle.run_definitions.specs.History.{Opening, Past, Reading, now_of}
 use Rattle.run_definitions.specs.Layers.{AccessMessage}
@@ -43,7 +42,7 @@ use Rattle.store_definitions.specs.Config.{Config}
 
 -- The key that a message opened under: its AID is that of the key.
 
-every_at : {X : Type 0} (P : X → Type 0) (xs : List X) (i : ℕ) (x : X)
+pub every_at : {X : Type 0} (P : X → Type 0) (xs : List X) (i : ℕ) (x : X)
     → slice_get xs i ≡ Some x → Every P xs → P x
 every_at P [] i x e h = absurd cc
 every_at P (y ∷ ys) zero x e h = subst P (cc) h.0
@@ -72,37 +71,34 @@ opened_for c keys f upper o h = pick_by (is_virtual f.dst)
     pick_by false s = every_at IsUpperKey keys s.0 o.key s.1 h
 
 opened_width : (past : Past) (r : Reading) (n : Name) (low : Lower) (o : Opening)
-    → IsOpened configured_layers past r n low (Some o) → IsUpperKey o.key
+    → IsOpened node_layers past r n low (Some o) → IsUpperKey o.key
 opened_width past r n (Access akf id upper) o s =
     let c : Config = config_before past in
     opened_for c (keys_tried c r akf id) (fields_heard r n false) upper o (tried_width c r akf id) s
 opened_width past r n (AccessPart akf id szmic seq_zero seg_o seg_n piece) o s =
     let c : Config = config_before past in
-    let upper : List ℕ = configured_layers.whole past n (AccessPart akf id szmic seq_zero seg_o seg_n piece) in
+    let upper : List ℕ = node_layers.whole past n (AccessPart akf id szmic seq_zero seg_o seg_n piece) in
     opened_for c (keys_tried c r akf id) (fields_heard r n szmic) upper o (tried_width c r akf id) s
 opened_width past r n (Control opcode params) o s = absurd cc
 opened_width past r n (ControlPart opcode seq_zero seg_o seg_n piece) o s = absurd cc
 
 named_width : (past : Past) (r : Reading) (low : Lower) (n : Option Name) (o : Opening)
-    → IsOpeningOf configured_layers past r low n (Some o) → IsUpperKey o.key
+    → IsOpeningOf node_layers past r low n (Some o) → IsUpperKey o.key
 named_width past r low None o s = absurd cc
-named_width past r low (Some n) o s = pick_by (lower_answer configured_layers past r low n) s
+named_width past r low (Some n) o s = pick_by (lower_answer node_layers past r low n) s
   where
     pick_by : (answer : Option Answer)
-        → MatchOption answer (IsOpened configured_layers past r n low (Some o)) (λ answer. Some o ≡ None)
+        → MatchOption answer (IsOpened node_layers past r n low (Some o)) (λ answer. Some o ≡ None)
         → IsUpperKey o.key
     pick_by None s = opened_width past r n low o s
     pick_by (Some answer) s = absurd cc
 
 pub key_width : (past : Past) (r : Reading) (low : Option Lower) (o : Opening)
-    → IsOpening configured_layers past (Some r) low (Some o) → IsUpperKey o.key
+    → IsOpening node_layers past (Some r) low (Some o) → IsUpperKey o.key
 key_width past r None o s = absurd cc
 key_width past r (Some low) o s = named_width past r low (message_name r.fields low) o s
 
 -- Each reply has an octet.
-
-abbrev pub IsFilled : List ℕ → Type 0
-IsFilled payload = 1 ≤ length payload
 
 abbrev pub IsReply : ℕ × List ℕ → Type 0
 IsReply reply = IsFilled reply.1
@@ -118,32 +114,9 @@ act_replies : (o : Option ConfigAct) → HasOctet o
 act_replies None h = tt
 act_replies (Some act) h = (h, tt)
 
-asked : (b : Bool) (payload : List ℕ) → IsFilled payload → Inside IsFilled (cond b (Some payload) None)
-asked true payload h = h
-asked false payload h = tt
-
-pub onoff_filled : (s : OnOffState) (now : ℕ) → IsFilled (onoff_status s now)
-onoff_filled s now = omega arith
-
-pub level_filled : (s : LevelState) (now : ℕ) → IsFilled (level_status s now)
-level_filled s now = omega arith
-
-onoff_replies : (s : OnOffState) (now : ℕ) (src dst : Address) (payload : List ℕ)
-    → Inside IsFilled (onoff_reply s now src dst payload)
-onoff_replies s now src dst payload =
-    option_cases _ (onoff_message payload) (λ e. rw e tt)
-    (λ m e. let t : OnOffState = onoff_taken s now src dst m in rw e (asked (onoff_asks m) (onoff_status t now) (onoff_filled t now)))
-
-level_replies : (s : LevelState) (now : ℕ) (src dst : Address) (payload : List ℕ)
-    → Inside IsFilled (level_reply s now src dst payload)
-level_replies s now src dst payload =
-    option_cases _ (level_message payload) (λ e. rw e tt)
-    (λ m e. let t : LevelState = level_taken s now src dst m in rw e (asked (level_asks m) (level_status t now) (level_filled t now)))
-
-taken : (b : Bool) (o : Option (List ℕ)) → Inside IsFilled o → Every IsFilled (option_to_list (cond b o None))
-taken true None h = tt
-taken true (Some payload) h = (h, tt)
-taken false o h = tt
+listed : (o : Option (List ℕ)) → IfSome o IsFilled → Every IsFilled (option_to_list o)
+listed None h = tt
+listed (Some payload) h = (h, tt)
 
 element_filled : (past : Past) (c : Config) (m : AccessMessage) (element : ℕ)
     → Every IsReply (element_replies past c m element)
@@ -151,15 +124,17 @@ element_filled past c m element =
     every_mapped IsFilled IsReply (λ (payload : List ℕ). (element, payload)) (λ payload h. h)
     (option_to_list (onoff_answer past c element m) ++ option_to_list (level_answer past c element m))
     (every_append IsFilled (option_to_list (onoff_answer past c element m)) (option_to_list (level_answer past c element m))
+    (listed (onoff_answer past c element m)
     (taken (takes c element onoff_server m) _
-    (onoff_replies (onoff_state past element) (now_of past.told) m.name.src m.dst m.payload))
+    (onoff_replies (onoff_state past element) (now_of past.told) m.name.src m.dst m.payload)))
+    (listed (level_answer past c element m)
     (taken (takes c element level_server m) _
-    (level_replies (level_state past element) (now_of past.told) m.name.src m.dst m.payload)))
+    (level_replies (level_state past element) (now_of past.told) m.name.src m.dst m.payload))))
 
-replies_filled : (past : Past) (m : AccessMessage) → Every IsReply (replies_to past no_friends m)
-replies_filled past m =
+replies_filled : (past : Past) (st : FriendsState) (m : AccessMessage) → Every IsReply (replies_to past st m)
+replies_filled past st m =
     let c : Config = config_before past in
-    let act : Option ConfigAct = act_of past no_friends m in
+    let act : Option ConfigAct = act_of past st m in
     every_append IsReply (map (λ (act : ConfigAct). (0, act.reply)) (option_to_list act)) (model_replies past m)
     (act_replies act (acts c _ _ m).octet)
     (every_flat_any IsReply (element_replies past c m) (element_filled past c m) (elements_of c))
@@ -167,9 +142,11 @@ replies_filled past m =
 -- So each is a job within its ranges.
 
 pub replied_in : (event : Event) (past : Past) (c : Config) (m : AccessMessage) → IsShort c.ttl → IsUpperKey m.key
-    → Every (IsJob event) (sent_replies past c m)
+    → Every (IsJob event) (replies_of past c m)
 replied_in event past c m h key =
-    every_flat IsReply (IsJob event) (sent_reply c m)
-    (λ reply octet. every_under (IsJob event) c m.net (reply_job c m reply)
-    (λ material nid. (nid, reply_short c m.ttl h, key, octet)))
-    (replies_to past no_friends m) (replies_filled past m)
+    let st : FriendsState = fold after (friends past) (ended_calls (config_before past) m) in
+    every_flat IsReply (IsJob event) (reply_jobs c st m)
+    (λ reply octet. every_pick (IsJob event) _ [] (sent_reply c m reply) tt
+    (every_under (IsJob event) c m.net (reply_job c m reply)
+    (λ material nid. (nid, reply_short c m.ttl h, key, octet))))
+    (replies_to past (friends past) m) (replies_filled past (friends past) m)

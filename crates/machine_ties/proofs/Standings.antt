@@ -18,7 +18,7 @@ use Rattle.machine_ties.specs.Ties.{IsBefore, IsCutIn, IsOver, Stands, entered, 
 use Rattle.machine_ties.specs.Views.{NodeMachine}
 use Rattle.mesh_types.specs.declared.events.Event.{Event}
 use Rattle.mesh_types.specs.declared.history.Entry.{Entry}
-use Rattle.node_layers.specs.ConfiguredLayers.{configured_layers}
+use Rattle.node_layers.specs.NodeLayers.{node_layers}
 use Rattle.node_layers.specs.Steps.{with_entry}
 use Rattle.node_records.specs.Meaning.{IsMeaningOf}
 use Rattle.node_store.specs.Tie.{IsStoreOf}
@@ -59,26 +59,26 @@ pub refilled_standing : AreKeeping → (past : Past) (m : NodeMachine) (r : Rese
     → IsStanding (over_records past (past.records ++ fill_of (config_of past.records) ∷ [])) r.store.persist m.tables
 refilled_standing laws past m r kept meaning h = record {
   meaning = meaning;
-  tables = record { hearing = h.standing.tables.hearing; models = laws.refilled m.tables.models past 1 h.standing.tables.models };
+  tables = record { hearing = h.standing.tables.hearing; models = laws.refilled m.tables.models past 1 h.standing.tables.models; friends = h.standing.tables.friends };
   ranges = all_ranges past.records (fill_of (config_of past.records) ∷ []) kept h.standing.ranges;
   whole = all_whole laws.whole past.records (fill_of (config_of past.records) ∷ []) kept h.standing.whole;
 }
 
 -- A machine with an entry more.
 
-entered_left : (over : List StoreRecord) (told : List Told) (n : ℕ) (t : Told) → t.records ≡ filled n (records_left configured_layers over [] told)
-    → records_left configured_layers over [] (told ++ t ∷ []) ≡ filled n (records_left configured_layers over [] told) ++ stores configured_layers (past_now configured_layers over told n) t.entry.event t.insight t.entry.answer
+entered_left : (over : List StoreRecord) (told : List Told) (n : ℕ) (t : Told) → t.records ≡ filled n (records_left node_layers over [] told)
+    → records_left node_layers over [] (told ++ t ∷ []) ≡ filled n (records_left node_layers over [] told) ++ stores node_layers (past_now node_layers over told n) t.entry.event t.insight t.entry.answer
 entered_left over told n t e =
-    left_more configured_layers over [] told t
-    ∙ ap (λ l. l ++ stores configured_layers (record { told = told; records = l }) t.entry.event t.insight t.entry.answer) e
+    left_more node_layers over [] told t
+    ∙ ap (λ l. l ++ stores node_layers (record { told = told; records = l }) t.entry.event t.insight t.entry.answer) e
 
 module _ (laws : AreKeeping) (old new : Chip) (over : List StoreRecord) (m : NodeMachine) (s : Stands old over m) (runs : m.closed ≡ false) where
   abbrev past : Past
-  past = past_now configured_layers over s.life.told m.fills
+  past = past_now node_layers over s.life.told m.fills
 
   pub entered_stands : (r : Reserve) (tables : NodeTablesView) (entry : Entry) (insight : Insight) (records : List StoreRecord)
-      → entry.fills ≡ m.fills → Handles configured_layers past (told_by past entry insight)
-      → records ≡ stores configured_layers past entry.event insight entry.answer → AreKept (config_of past.records) records
+      → entry.fills ≡ m.fills → Handles node_layers past (told_by past entry insight)
+      → records ≡ stores node_layers past entry.event insight entry.answer → AreKept (config_of past.records) records
       → AreNodeTablesOf tables (with_entry past.told (told_by past entry insight) (past.records ++ records)) → length m.entries + 1 < 2 ^ 32
       → IsStoreOf new r.store (past.records ++ records) → r.keeper.mark ≡ r.store.persist.mark → Keeps old new
       → IsMeaningOf (past.records ++ records) r.store.persist
@@ -87,19 +87,19 @@ module _ (laws : AreKeeping) (old new : Chip) (over : List StoreRecord) (m : Nod
   entered_stands r tables entry insight records fills handles is kept tied few store mark keeps meaning began =
       let t : Told = told_by past entry insight in
       let all : List StoreRecord = past.records ++ records in
-      let left_is : records_left configured_layers over [] (past.told ++ t ∷ []) ≡ all =
+      let left_is : records_left node_layers over [] (past.told ++ t ∷ []) ≡ all =
       entered_left over past.told m.fills t refl ∙ ap (λ l. past.records ++ l) (sym is) in
       let before : IsBefore (with_entry past.told t all) (entered m r tables entry) = before_more laws.whole past m r tables entry insight records (s.usable runs).before kept meaning tied in
       record {
         life = record {
           told = past.told ++ t ∷ [];
           entries = map-append (λ (x : Told). x.entry) past.told (t ∷ []) ∙ ap (λ l. l ++ entry ∷ []) s.life.entries;
-          handled = handled_more configured_layers over [] past.told t s.life.handled (ap (λ n. filled n (records_left configured_layers over [] past.told)) (sym fills)) handles;
+          handled = handled_more node_layers over [] past.told t s.life.handled (ap (λ n. filled n (records_left node_layers over [] past.told)) (sym fills)) handles;
           few = omega (arith, few, length-append m.entries (entry ∷ []));
           elements = s.life.elements;
           node = store_node new r.store all store before.standing.whole;
           left = λ image next held found. (
-            subst (λ h. IsLeftBy configured_layers (past_now configured_layers over (past.told ++ t ∷ []) 0) h next) (sym (s.life.idle runs))
+            subst (λ h. IsLeftBy node_layers (past_now node_layers over (past.told ++ t ∷ []) 0) h next) (sym (s.life.idle runs))
                 (subst (λ l. IsLeft l [] next) (sym left_is) (store_left new r.store all store before.standing.ranges image next held found)),
             store_mark new r.store all r.keeper.mark store mark image next held found,
           );
@@ -112,8 +112,8 @@ module _ (laws : AreKeeping) (old new : Chip) (over : List StoreRecord) (m : Nod
 
   -- A machine that a failed event closed.
   pub stopped_stands : (r : Reserve) (tables : NodeTablesView) (event : Event) (insight : Insight) (records : List StoreRecord)
-      → Sees configured_layers past event insight
-      → records ≡ stores configured_layers past event insight (answer_of configured_layers past event insight) → AreKept (config_of past.records) records
+      → Sees node_layers past event insight
+      → records ≡ stores node_layers past event insight (answer_of node_layers past event insight) → AreKept (config_of past.records) records
       → IsCutIn new past.records records r.keeper.mark → new.setting.faults < new.faults
       → Stands new over (stopped m r tables (H.OfEvent event))
   stopped_stands r tables event insight records sees is kept cut rose = record {
@@ -178,8 +178,8 @@ module _ (laws : AreKeeping) (old new : Chip) (over : List StoreRecord) (m : Nod
   refilled_stands r kept store mark meaning began =
       let item : List StoreRecord = fill_of (config_of past.records) ∷ [] in
       let all : List StoreRecord = past.records ++ item in
-      let left_is : filled (m.fills + 1) (records_left configured_layers over [] past.told) ≡ all =
-      ap (λ n. filled n (records_left configured_layers over [] past.told)) (add-one m.fills) ∙ filled_more m.fills (records_left configured_layers over [] past.told) in
+      let left_is : filled (m.fills + 1) (records_left node_layers over [] past.told) ≡ all =
+      ap (λ n. filled n (records_left node_layers over [] past.told)) (add-one m.fills) ∙ filled_more m.fills (records_left node_layers over [] past.told) in
       let h : IsBefore past m = (s.usable runs).before in
       let before : IsBefore (record { told = past.told; records = all }) (refilled m r) = record {
         standing = refilled_standing laws past m r kept meaning h;
@@ -194,7 +194,7 @@ module _ (laws : AreKeeping) (old new : Chip) (over : List StoreRecord) (m : Nod
           elements = s.life.elements;
           node = store_node new r.store all store before.standing.whole;
           left = λ image next held found. (
-            subst (λ h. IsLeftBy configured_layers (past_now configured_layers over past.told (m.fills + 1)) h next) (sym (s.life.idle runs))
+            subst (λ h. IsLeftBy node_layers (past_now node_layers over past.told (m.fills + 1)) h next) (sym (s.life.idle runs))
                 (subst (λ l. IsLeft l [] next) (sym left_is) (store_left new r.store all store before.standing.ranges image next held found)),
             store_mark new r.store all r.keeper.mark store mark image next held found,
           );

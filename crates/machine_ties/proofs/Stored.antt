@@ -20,7 +20,7 @@ use Rattle.mesh_types.specs.declared.answers.KeyStep.{KeyStep}
 use Rattle.mesh_types.specs.declared.answers.KeyStep.TheVariants as S
 use Rattle.mesh_types.specs.declared.events.Event.{Event}
 use Rattle.mesh_types.specs.declared.events.Event.TheVariants as E
-use Rattle.node_layers.specs.ConfiguredLayers.{configured_layers}
+use Rattle.node_layers.specs.NodeLayers.{node_layers}
 use Rattle.store_definitions.proofs.Pushes.{config_push}
 use Rattle.node_records.proofs.Rising.{RisesFrom, keyed_of}
 use Rattle.record_types.specs.declared.records.StoreRecord.{StoreRecord}
@@ -48,12 +48,12 @@ changes_keep c before (item ∷ changes) e k s = (
   changes_keep (changed c item) (before ++ item ∷ []) changes (config_push before item ∙ ap (λ (d : Config). changed d item) e) k.1 s.3,
 )
 
-asked_are : AreSafe configured_layers → (past : Past) (o : Option AccessMessage) → Every IsChange (asked configured_layers past o)
+asked_are : AreSafe node_layers → (past : Past) (o : Option AccessMessage) → Every IsChange (asked node_layers past o)
 asked_are safe past None = tt
-asked_are safe past (Some m) = recursion_from_All IsChange (configured_layers.changes past m) (safe.changes past m)
+asked_are safe past (Some m) = recursion_from_All IsChange (node_layers.changes past m) (safe.changes past m)
 
-asked_storable : StoreFitting configured_layers → (past : Past) (i : Insight) (name : Name) (dst : Address) → IsWhole (config_before past) → IsWithinLimits (config_before past) → HasOctets i
-    → AreStorable (past.records ++ R.Replay name None ∷ []) (asked configured_layers past (message_of i name dst))
+asked_storable : StoreFitting node_layers → (past : Past) (i : Insight) (name : Name) (dst : Address) → IsWhole (config_before past) → IsWithinLimits (config_before past) → HasOctets i
+    → AreStorable (past.records ++ R.Replay name None ∷ []) (asked node_layers past (message_of i name dst))
 asked_storable fits past (OfPdu (Some r) low (Some o)) name dst whole limits octets =
     fits past (record { name = name; dst = dst; net = r.by.index; ttl = r.fields.ttl; key = o.key; label = o.label; payload = o.payload }) whole limits octets
 asked_storable fits past (OfPdu (Some r) low None) name dst whole limits octets = tt
@@ -62,12 +62,12 @@ asked_storable fits past (OfBeacon b) name dst whole limits octets = tt
 asked_storable fits past OfNothing name dst whole limits octets = tt
 
 net_keep : AreKeeping → (past : Past) (octets : List ℕ) (i : Insight) (a : Answer) → IsWhole (config_of past.records) → IsWithinLimits (config_of past.records) → HasOctets i
-    → KeepWhole (config_of past.records) (stores configured_layers past (E.Net octets) i a)
+    → KeepWhole (config_of past.records) (stores node_layers past (E.Net octets) i a)
 unfolding changed stores
 net_keep laws past octets i (A.Delivered name dst key payload) whole limits h = (
   tt,
   tt,
-  changes_keep (config_of past.records) (past.records ++ R.Replay name None ∷ []) (asked configured_layers past (message_of i name dst)) (config_push past.records (R.Replay name None))
+  changes_keep (config_of past.records) (past.records ++ R.Replay name None ∷ []) (asked node_layers past (message_of i name dst)) (config_push past.records (R.Replay name None))
       (asked_are laws.safe past (message_of i name dst)) (asked_storable laws.storable past i name dst whole limits h),
 )
 net_keep laws past octets i (A.Control name dst opcode params) whole limits h = (tt, tt, tt)
@@ -141,24 +141,24 @@ phases_keep c d index S.Phase0 iv h = (((λ e. absurd (omega (arith, e))), (λ e
 -- Events.
 
 bcn_keep : (past : Past) (octets : List ℕ) (i : Insight) → IsWhole (config_of past.records)
-    → KeepWhole (config_of past.records) (stores configured_layers past (E.Bcn octets) i (answer_of configured_layers past (E.Bcn octets) i))
+    → KeepWhole (config_of past.records) (stores node_layers past (E.Bcn octets) i (answer_of node_layers past (E.Bcn octets) i))
 unfolding answer_of stores
 bcn_keep past octets i whole = pick (config_before past).reset i
   where
-    pick : (reset : Bool) (i : Insight) → KeepWhole (config_of past.records) (stores configured_layers past (E.Bcn octets) i (cond reset A.Reset (beacon_answer configured_layers past i)))
+    pick : (reset : Bool) (i : Insight) → KeepWhole (config_of past.records) (stores node_layers past (E.Bcn octets) i (cond reset A.Reset (beacon_answer node_layers past i)))
     pick true i = tt
     pick false (OfBeacon (Some b)) = phases_keep (config_of past.records) (config_of past.records) b.index (key_step (net_row (config_of past.records).nets b.index) b) _ (phase_next past.records b whole)
     pick false (OfBeacon None) = tt
     pick false (OfPdu r low opening) = tt
     pick false OfNothing = tt
 
-tick_keep : (past : Past) (ticks : ℕ) (i : Insight) (a : Answer) → KeepWhole (config_of past.records) (stores configured_layers past (E.Tick ticks) i a)
+tick_keep : (past : Past) (ticks : ℕ) (i : Insight) (a : Answer) → KeepWhole (config_of past.records) (stores node_layers past (E.Tick ticks) i a)
 unfolding stores
 tick_keep past ticks i (A.Ticked now) = pick (eqb (hours_passed past ticks) 0)
   where
-    pick : (b : Bool) → KeepWhole (config_of past.records) (cond b [] (R.Hour (hours_step configured_layers past ticks).0.hours (hours_step configured_layers past ticks).0.since ∷ step_records (config_before past) (hours_step configured_layers past ticks).1))
+    pick : (b : Bool) → KeepWhole (config_of past.records) (cond b [] (R.Hour (hours_step node_layers past ticks).0.hours (hours_step node_layers past ticks).0.since ∷ step_records (config_before past) (hours_step node_layers past ticks).1))
     pick true = tt
-    pick false = (tt, tt, steps_keep _ (config_before past) (hours_step configured_layers past ticks).1)
+    pick false = (tt, tt, steps_keep _ (config_before past) (hours_step node_layers past ticks).1)
 tick_keep past ticks i _ = tt
 
 -- an event that brings no octets and no time
@@ -168,7 +168,7 @@ IsOwn (E.Bcn octets) = ⊥
 IsOwn (E.Tick ticks) = ⊥
 IsOwn _ = ⊤
 
-other_keep : (past : Past) (event : Event) (i : Insight) → IsOwn event → KeepWhole (config_of past.records) (stores configured_layers past event i (answer_of configured_layers past event i))
+other_keep : (past : Past) (event : Event) (i : Insight) → IsOwn event → KeepWhole (config_of past.records) (stores node_layers past event i (answer_of node_layers past event i))
 unfolding stores
 other_keep past (E.Net octets) i h = absurd h
 other_keep past (E.Bcn octets) i h = absurd h
@@ -179,10 +179,10 @@ other_keep past (E.Begin pair dst src ttl net akf aid upper) i h = tt
 other_keep past (E.Kept lpn fsn name pdu) i h = tt
 
 pub stores_keep : AreKeeping → (past : Past) (event : Event) (i : Insight) → IsWhole (config_of past.records) → IsWithinLimits (config_of past.records) → HasOctets i
-    → KeepWhole (config_of past.records) (stores configured_layers past event i (answer_of configured_layers past event i))
-stores_keep laws past (E.Net octets) i whole limits h = net_keep laws past octets i (answer_of configured_layers past (E.Net octets) i) whole limits h
+    → KeepWhole (config_of past.records) (stores node_layers past event i (answer_of node_layers past event i))
+stores_keep laws past (E.Net octets) i whole limits h = net_keep laws past octets i (answer_of node_layers past (E.Net octets) i) whole limits h
 stores_keep laws past (E.Bcn octets) i whole limits h = bcn_keep past octets i whole
-stores_keep laws past (E.Tick ticks) i whole limits h = tick_keep past ticks i (answer_of configured_layers past (E.Tick ticks) i)
+stores_keep laws past (E.Tick ticks) i whole limits h = tick_keep past ticks i (answer_of node_layers past (E.Tick ticks) i)
 stores_keep laws past (E.Send element dst ttl key payload) i whole limits h = other_keep past (E.Send element dst ttl key payload) i tt
 stores_keep laws past (E.Raw dst ttl tpdu) i whole limits h = other_keep past (E.Raw dst ttl tpdu) i tt
 stores_keep laws past (E.Begin pair dst src ttl net akf aid upper) i whole limits h = other_keep past (E.Begin pair dst src ttl net akf aid upper) i tt

@@ -1,9 +1,9 @@
--- Widths of what is derived from keys.
-use Rattle.std.proofs.Common.{ℕ, zero, suc, ◌%◌, ◌/◌, ◌<◌, ◌≤◌, ◌^◌, List, [], ◌∷◌, length, take, arith, Option, Some, None}
+-- Widths of what is sent under a key, and of its key.
+use Rattle.std.proofs.Common.{ℕ, zero, suc, ◌<◌, ◌≤◌, ◌^◌, List, [], ◌∷◌, length, take, arith, Option, Some, None}
 use Rattle.std.specs.Prelude.{option_and_then}
 use Rattle.std.specs.List.{AllByRecursion as Every}
 use Rattle.std.specs.Option.{option_map, option_to_list}
-use Rattle.cipher_definitions.specs.Kdf.{aid, k2, k2_number, k4, master_credentials}
+use Rattle.layer_definitions.proofs.KeyLaws.{aid_width, nid_width}
 use Rattle.layer_definitions.specs.KeyRefresh.{app_key, app_row, master_material, net_row, transmit_app, transmit_key, transmit_value}
 use Rattle.machine_contract.specs.Ranges.{IsUpperKey}
 use Rattle.machine_ties.proofs.Lists.{Inside}
@@ -14,20 +14,6 @@ use Rattle.mesh_base.specs.declared.keys.UpperKey.{UpperKey}
 use Rattle.mesh_types.specs.declared.jobs.Job.{Job}
 use Rattle.run_definitions.specs.Jobs.{under}
 use Rattle.store_definitions.specs.Config.{Config}
-
-low_seven : (x : ℕ) → x % 2 ^ 263 / 2 ^ 256 < 2 ^ 7
-low_seven x = omega arith
-
-low_six : (x : ℕ) → x % 2 ^ 6 < 2 ^ 6
-low_six x = omega arith
-
-pub nid_width : (key : List ℕ) → (master_material key).nid < 2 ^ 7
-unfolding master_material master_credentials k2 k2_number
-nid_width key = low_seven _
-
-pub aid_width : (key : List ℕ) → aid key < 2 ^ 6
-unfolding aid k4
-aid_width key = low_six _
 
 pub every_under : (P : Job → Type 0) (c : Config) (net : ℕ) (job : NetMaterial → Job)
     → ((m : NetMaterial) → m.nid < 2 ^ 7 → P (job m)) → Every P (under c net job)

@@ -1,7 +1,7 @@
 -- Records that may be put behind those of a node that can be run, and leave one.
 use Rattle.std.specs.Prelude.{◌<◌, ◌^◌, ⊤, List, [], ◌∷◌, All, Some}
 use Rattle.layer_laws.specs.Laws.{IsWithinLimits, StoreFitting}
-use Rattle.node_layers.specs.ConfiguredLayers.{configured_layers}
+use Rattle.node_layers.specs.NodeLayers.{node_layers}
 use Rattle.node_models.specs.Models.{StandRefilled}
 use Rattle.node_records.specs.Tables.{config_in}
 use Rattle.node_records.specs.declared.persist.Persist.{Persist}
@@ -36,8 +36,8 @@ KeptLaw = (c : Config) (item : StoreRecord) → IsInRange item → KeepsWhole c 
 -- the models behind refills.
 pub record AreKeeping : Type 0 where
   pub whole : KeptLaw
-  pub safe : AreSafe configured_layers
-  pub storable : StoreFitting configured_layers
+  pub safe : AreSafe node_layers
+  pub storable : StoreFitting node_layers
   pub refilled : StandRefilled
 
 -- the octets of a payload that was opened are below 2^8

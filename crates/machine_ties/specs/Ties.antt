@@ -8,7 +8,7 @@ use Rattle.machine_contract.specs.declared.answers.Hand.TheVariants as H
 use Rattle.machine_contract.specs.Standing.{IsLifeSoFar, past_now}
 use Rattle.machine_ties.specs.Views.{NodeMachine, shown}
 use Rattle.mesh_types.specs.declared.history.Entry.{Entry}
-use Rattle.node_layers.specs.ConfiguredLayers.{configured_layers}
+use Rattle.node_layers.specs.NodeLayers.{node_layers}
 use Rattle.node_records.specs.Meaning.{IsMeaningOf}
 use Rattle.node_records.specs.declared.persist.Persist.{Persist}
 use Rattle.node_store.specs.Tie.{IsFront, IsNode, IsStoreOf}
@@ -47,8 +47,8 @@ pub record IsOver (chip : Chip) (past : Past) (m : NodeMachine) : Type 0 where
 
 -- A machine stands over a flash and the records that its life opened over.
 pub record Stands (chip : Chip) (over : List StoreRecord) (m : NodeMachine) : Type 0 where
-  pub life : IsLifeSoFar configured_layers IsNode chip over (shown m)
-  pub usable : m.closed ≡ false → IsOver chip (past_now configured_layers over life.told m.fills) m
+  pub life : IsLifeSoFar node_layers IsNode chip over (shown m)
+  pub usable : m.closed ≡ false → IsOver chip (past_now node_layers over life.told m.fills) m
   pub began : chip.setting.faults ≤ chip.faults
 
 -- The machine after an event: with this entry, and no refill behind it.

@@ -3,7 +3,7 @@
 
 ghost use Rattle.machine_ties.specs.Kept.{AreKeeping};
 
-use layer_laws::laws::configured_law;
+use layer_laws::laws::node_law as layers_law;
 use node_models::node_models_law;
 use store_definitions::node::node_law;
 
@@ -14,6 +14,6 @@ pub fn ties_law()
 {
     // They do nothing when they run: the proof uses what they say.
     node_law();
-    configured_law();
+    layers_law();
     node_models_law();
 }

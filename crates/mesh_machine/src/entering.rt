@@ -4,14 +4,14 @@
 ghost use Rattle.std.specs.Prelude.{◌≡◌, ◌+◌, ◌-◌, ◌<◌, ◌^◌, List, [], ◌∷◌, ◌++◌, length, IfOk, OnOk, OnErr, vec_len, vec_capacity};
 ghost use Rattle.std.specs.List.{list_any};
 ghost use Rattle.event_plans.specs.Memory.{AreNodeTablesOf, IsFitFor, NodeTablesView};
-ghost use Rattle.event_plans.specs.Plans.{IsPlanned, IsSomePast, IsSomePlan, IsStanding, insight_in};
+ghost use Rattle.event_plans.specs.Plans.{IsPlanned, IsSomePast, IsSomePlan, IsStanding, LeavesConfig, insight_in};
 ghost use Rattle.event_plans.specs.Sending.{IsSendable};
 ghost use Rattle.event_records.specs.Putting.{AreMoves, ArePuttable};
 ghost use Rattle.machine_ties.specs.Kept.{IsBounded};
 ghost use Rattle.mesh_hearing.specs.Tables.{IsFit};
 ghost use Rattle.mesh_machine.specs.Keys.{HadKeys, changes_keys as changes_keys_in};
 ghost use Rattle.mesh_reading.specs.Held.{AreHeldKeys};
-ghost use Rattle.node_layers.specs.ConfiguredLayers.{configured_layers};
+ghost use Rattle.node_layers.specs.NodeLayers.{node_layers};
 ghost use Rattle.node_records.specs.Meaning.{IsSaid};
 ghost use Rattle.node_records.specs.Tables.{config_in};
 ghost use Rattle.run_definitions.specs.Answers.{config_before};
@@ -122,7 +122,8 @@ pub(crate) fn renew(tables: &mut NodeTables, p: &Persist, records: &[StoreRecord
     }
 }
 
-/// Makes the jobs of a plan, and appends its entry, for both of which there is memory. `p` is what the records say with those of the plan.
+/// Makes the jobs of a plan, and appends its entry, for both of which there is memory. `p` is what the records say with those of the plan; a
+/// control message leaves that as it was.
 pub(crate) fn enter(
     history: &mut Vec<Entry>,
     tables: &NodeTables,
@@ -154,8 +155,9 @@ pub(crate) fn enter(
     ensures answer { result.answer ≡ prepared.plan.answer }
     ensures jobs { (past : Past) (t : NodeTablesView) → IsPlanned past event.now prepared.plan t
         → (config_in p.now).unicast ≡ (config_before past).unicast
+        → LeavesConfig prepared.plan.answer (config_before past) (config_in p.now)
         → result.jobs
-        ≡ jobs_of configured_layers past (config_in p.now) event.now
+        ≡ jobs_of node_layers past (config_in p.now) event.now
         (insight_in prepared.plan.basis) prepared.plan.answer }
 {
     let Prepared {

@@ -6,7 +6,7 @@ ghost use Rattle.event_plans.specs.Memory.{AreNodeTablesOf};
 ghost use Rattle.machine_ties.specs.Opening.{start_fault_of};
 ghost use Rattle.machine_ties.specs.Ties.{IsNodeStore, Stands, opened};
 ghost use Rattle.machine_ties.specs.Views.{shown};
-ghost use Rattle.node_layers.specs.ConfiguredLayers.{configured_layers};
+ghost use Rattle.node_layers.specs.NodeLayers.{node_layers};
 ghost use Rattle.node_records.specs.Meaning.{IsMeaningOf};
 ghost use Rattle.node_store.specs.Tie.{IsNode};
 ghost use Rattle.record_types.specs.declared.records.StoreRecord.{StoreRecord};
@@ -77,7 +77,7 @@ fn open(alloc: Global, store: Store) -> Result<Started<MeshMachine>, AllocError>
 }
 
 impl Machine for MeshMachine {
-    ghost layers = { configured_layers };
+    ghost layers = { node_layers };
 
     ghost image = { IsNode };
 

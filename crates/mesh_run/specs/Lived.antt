@@ -5,7 +5,7 @@ use Rattle.flash_model.specs.Chip.{Chip}
 use Rattle.mesh_node.specs.Lives.{Lives}
 use Rattle.mesh_node.specs.Plan.{life_of}
 use Rattle.mesh_node.specs.declared.plan.LifeLog.{LifeLog}
-use Rattle.node_layers.specs.ConfiguredLayers.{configured_layers}
+use Rattle.node_layers.specs.NodeLayers.{node_layers}
 use Rattle.node_store.specs.Tie.{IsNode}
 use Rattle.report_definitions.specs.Record.{Life}
 use Rattle.run_definitions.specs.Order.{Step}
@@ -16,7 +16,7 @@ use Rattle.mesh_run.specs.declared.lives.Stopped.TheVariants as P
 pub record Lived (plan : List Step) (old : Chip) (life : Life) (new : Chip) : Type 0 where
   pub log : LifeLog
   pub is : life_of log ≡ life
-  pub lives : Lives configured_layers IsNode plan old log new
+  pub lives : Lives node_layers IsNode plan old log new
   pub explained : IsExplained new
 
 -- the sink failed

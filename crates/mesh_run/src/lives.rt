@@ -5,7 +5,7 @@ ghost use Rattle.std.specs.Prelude.{◌≡◌, ◌≤◌, ◌<◌, [], length, s
 ghost use Rattle.life_plans.specs.Plans.{script_of};
 ghost use Rattle.machine_contract.specs.Opening.{EachRecovered, IsNodeFlash};
 ghost use Rattle.mesh_base.specs.Outside.{Rose};
-ghost use Rattle.node_layers.specs.ConfiguredLayers.{configured_layers};
+ghost use Rattle.node_layers.specs.NodeLayers.{node_layers};
 ghost use Rattle.node_store.specs.Tie.{IsNode};
 ghost use Rattle.report_writer.specs.Lives.{FitsLines, life_of};
 ghost use Rattle.report_writer.specs.Writing.{view_of};
@@ -20,7 +20,7 @@ ghost use Rattle.mesh_run.specs.Provisioned.{IsProvisioned};
 ghost use Rattle.mesh_run.specs.Ran.{Ran, RanFirst, RanFront};
 
 use flash_model::Bench;
-use layer_laws::laws::configured_law;
+use layer_laws::laws::node_law;
 use life_plans::{plan_of, script_law};
 use mesh_base::outside::Sink;
 use mesh_machine::MeshMachine;
@@ -99,13 +99,13 @@ pub(crate) fn live_all<R: Threads + Wait + Sync, B: Bench, K: Sink, G: Gate>(
     requires read { IsScriptOf Grammars.Node script.now }
     requires provisioned { IsProvisioned (B.chip flash) (provisioned (script_of script.now).node) }
     ensures all { IfOk result
-        (λ f. Ran configured_layers (script_of script.now) hex (B.chip flash) (view_of K.held K.pieces sink.old)
+        (λ f. Ran node_layers (script_of script.now) hex (B.chip flash) (view_of K.held K.pieces sink.old)
         (B.chip f) (view_of K.held K.pieces sink.new)) }
     ensures front { OnErr result
-        (RanFront configured_layers (script_of script.now) hex (view_of K.held K.pieces sink.old)
+        (RanFront node_layers (script_of script.now) hex (view_of K.held K.pieces sink.old)
         (view_of K.held K.pieces sink.new)) }
     ensures whole { IsMemory result
-        → RanFirst configured_layers (script_of script.now) hex (view_of K.held K.pieces sink.old)
+        → RanFirst node_layers (script_of script.now) hex (view_of K.held K.pieces sink.old)
         (view_of K.held K.pieces sink.new) }
     ensures cause { IsFault result → Rose (K.faults sink.old) (K.faults sink.new) }
     ensures no_fault { ¬ IsFault result → K.faults sink.new ≡ K.faults sink.old }
@@ -113,7 +113,7 @@ pub(crate) fn live_all<R: Threads + Wait + Sync, B: Bench, K: Sink, G: Gate>(
     ensures frame { IfSome (flash_left result) (λ f. IsSameFlash (B.chip flash) (B.chip f)) }
 {
     // They do nothing when they run: the proof uses what they say.
-    configured_law();
+    node_law();
     lives_law();
     let mut flash = flash;
     for i in 0..script.lives.as_slice().len() {

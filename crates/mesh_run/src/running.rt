@@ -5,7 +5,7 @@ ghost use Rattle.std.specs.Prelude.{◌≡◌, ◌≢◌, ◌⊎◌, ◌<◌, �
 ghost use Rattle.std.specs.Io.KnownBytes.{IsAtEnd};
 ghost use Rattle.life_plans.specs.Plans.{script_of};
 ghost use Rattle.mesh_base.specs.Outside.{Rose};
-ghost use Rattle.node_layers.specs.ConfiguredLayers.{configured_layers};
+ghost use Rattle.node_layers.specs.NodeLayers.{node_layers};
 ghost use Rattle.report_writer.specs.Writing.{view_of};
 ghost use Rattle.script_definitions.specs.Reading.{reading};
 ghost use Rattle.script_definitions.specs.Reading.Reading.{Fails};
@@ -88,27 +88,27 @@ pub fn run<R: Threads + Wait + Sync, S: Source, K: Sink, B: Bench, G: Gate>(
         → IfSome (S.left source.old)
         (λ text. IsScriptAnd (reading Grammars.Node text)
         (λ s. IsSomeAnd result.flash
-        (λ f. Ran configured_layers (script_of s) flags.hex (B.chip flash) (view_of K.held K.pieces sink.old) (B.chip f)
+        (λ f. Ran node_layers (script_of s) flags.hex (B.chip flash) (view_of K.held K.pieces sink.old) (B.chip f)
         (view_of K.held K.pieces sink.new)))) }
     ensures front { (flags : Flags) → command_of (map (λ w. w.now) words.now) ≡ Some (C.Run flags)
         → result.status ≡ Status.WriteFault
         → IfSome (S.left source.old)
         (λ text. IsScriptAnd (reading Grammars.Node text)
-        (λ s. RanFront configured_layers (script_of s) flags.hex (view_of K.held K.pieces sink.old)
+        (λ s. RanFront node_layers (script_of s) flags.hex (view_of K.held K.pieces sink.old)
         (view_of K.held K.pieces sink.new))) }
     ensures memory { (flags : Flags) → command_of (map (λ w. w.now) words.now) ≡ Some (C.Run flags)
         → result.status ≡ Status.Memory
         → (sink.new ≡ sink.old)
         ⊎ IfSome (S.left source.old)
         (λ text. IsScriptAnd (reading Grammars.Node text)
-        (λ s. RanFront configured_layers (script_of s) flags.hex (view_of K.held K.pieces sink.old)
+        (λ s. RanFront node_layers (script_of s) flags.hex (view_of K.held K.pieces sink.old)
         (view_of K.held K.pieces sink.new))) }
     ensures whole { (flags : Flags) → command_of (map (λ w. w.now) words.now) ≡ Some (C.Run flags)
         → result.status ≡ Status.Memory
         → (sink.new ≡ sink.old)
         ⊎ IfSome (S.left source.old)
         (λ text. IsScriptAnd (reading Grammars.Node text)
-        (λ s. RanFirst configured_layers (script_of s) flags.hex (view_of K.held K.pieces sink.old)
+        (λ s. RanFirst node_layers (script_of s) flags.hex (view_of K.held K.pieces sink.old)
         (view_of K.held K.pieces sink.new))) }
     ensures nothing_written { IsBeforeLives result.status → sink.new ≡ sink.old }
 

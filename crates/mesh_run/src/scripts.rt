@@ -4,7 +4,7 @@
 ghost use Rattle.std.specs.Prelude.{◌≡◌, ◌≢◌, ◌⊎◌, ◌<◌, ◌≤◌, ℕ, false, None, Some, IfSome, IsSomeAnd, IsTrue, length};
 ghost use Rattle.life_plans.specs.Plans.{script_of};
 ghost use Rattle.mesh_base.specs.Outside.{Rose};
-ghost use Rattle.node_layers.specs.ConfiguredLayers.{configured_layers};
+ghost use Rattle.node_layers.specs.NodeLayers.{node_layers};
 ghost use Rattle.report_writer.specs.Writing.{view_of};
 ghost use Rattle.script_definitions.specs.Ranges.{IsScriptOf};
 ghost use Rattle.script_definitions.specs.Reading.{reading};
@@ -55,13 +55,13 @@ fn run_script<R: Threads + Wait + Sync, B: Bench, K: Sink, G: Gate>(
     // What is written is the report of a record of a run of the script, or a front of it.
     ensures done { result.status ≡ Status.Done
         → IsSomeAnd result.flash
-        (λ f. Ran configured_layers (script_of script.now) flags.hex (B.chip flash) (view_of K.held K.pieces sink.old)
+        (λ f. Ran node_layers (script_of script.now) flags.hex (B.chip flash) (view_of K.held K.pieces sink.old)
         (B.chip f) (view_of K.held K.pieces sink.new)) }
     ensures front { (result.status ≡ Status.WriteFault) ⊎ (result.status ≡ Status.Memory)
-        → RanFront configured_layers (script_of script.now) flags.hex (view_of K.held K.pieces sink.old)
+        → RanFront node_layers (script_of script.now) flags.hex (view_of K.held K.pieces sink.old)
         (view_of K.held K.pieces sink.new) }
     ensures whole { result.status ≡ Status.Memory
-        → RanFirst configured_layers (script_of script.now) flags.hex (view_of K.held K.pieces sink.old)
+        → RanFirst node_layers (script_of script.now) flags.hex (view_of K.held K.pieces sink.old)
         (view_of K.held K.pieces sink.new) }
     ensures nothing_written { IsBeforeLives result.status → sink.new ≡ sink.old }
 
@@ -124,21 +124,21 @@ pub(crate) fn run_text<R: Threads + Wait + Sync, B: Bench, K: Sink, G: Gate>(
     ensures done { result.status ≡ Status.Done
         → IsScriptAnd (reading Grammars.Node text.now)
         (λ s. IsSomeAnd result.flash
-        (λ f. Ran configured_layers (script_of s) flags.hex (B.chip flash) (view_of K.held K.pieces sink.old) (B.chip f)
+        (λ f. Ran node_layers (script_of s) flags.hex (B.chip flash) (view_of K.held K.pieces sink.old) (B.chip f)
         (view_of K.held K.pieces sink.new))) }
     ensures front { result.status ≡ Status.WriteFault
         → IsScriptAnd (reading Grammars.Node text.now)
-        (λ s. RanFront configured_layers (script_of s) flags.hex (view_of K.held K.pieces sink.old)
+        (λ s. RanFront node_layers (script_of s) flags.hex (view_of K.held K.pieces sink.old)
         (view_of K.held K.pieces sink.new)) }
     ensures memory { result.status ≡ Status.Memory
         → (sink.new ≡ sink.old)
         ⊎ IsScriptAnd (reading Grammars.Node text.now)
-        (λ s. RanFront configured_layers (script_of s) flags.hex (view_of K.held K.pieces sink.old)
+        (λ s. RanFront node_layers (script_of s) flags.hex (view_of K.held K.pieces sink.old)
         (view_of K.held K.pieces sink.new)) }
     ensures whole { result.status ≡ Status.Memory
         → (sink.new ≡ sink.old)
         ⊎ IsScriptAnd (reading Grammars.Node text.now)
-        (λ s. RanFirst configured_layers (script_of s) flags.hex (view_of K.held K.pieces sink.old)
+        (λ s. RanFirst node_layers (script_of s) flags.hex (view_of K.held K.pieces sink.old)
         (view_of K.held K.pieces sink.new)) }
     ensures nothing_written { IsBeforeLives result.status → sink.new ≡ sink.old }
 

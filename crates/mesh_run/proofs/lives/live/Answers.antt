@@ -1,7 +1,7 @@
 use Rattle.std.proofs.Common.{[], sym, subst}
 use Rattle.std.specs.Prelude.{All}
 use Rattle.mesh_node.specs.Lives.{Lives}
-use Rattle.node_layers.specs.ConfiguredLayers.{configured_layers}
+use Rattle.node_layers.specs.NodeLayers.{node_layers}
 use Rattle.node_store.specs.Tie.{IsNode}
 use Rattle.script_definitions.specs.Ranges.{IsLife}
 use Rattle.script_definitions.specs.declared.kind.Grammar.TheVariants as Grammars
@@ -32,6 +32,6 @@ returns-clause-lived g c =
     record {
       log = c.in_ok-log.log;
       is = sym c.ended_life.ensures.value;
-      lives = subst (λ steps. Lives configured_layers IsNode steps (chip c.args.flash) c.in_ok-log.log (chip c.in_ok-log.flash)) plan c.in_ok-log.ensures.life;
+      lives = subst (λ steps. Lives node_layers IsNode steps (chip c.args.flash) c.in_ok-log.log (chip c.in_ok-log.flash)) plan c.in_ok-log.ensures.life;
       explained = (g.met.B.Bench g.world.𝓛 g.world.𝓜 g.world.𝓡 ((λ s x. x), (λ x. x), (λ x. x), λ x. x)).explained c.in_ok-log.flash;
     }

@@ -2,7 +2,7 @@ use Rattle.std.proofs.Common.{◌∙◌, Err, ap, refl, subst, sym}
 use Rattle.report_writer.specs.Lives.{life_of}
 use Rattle.report_writer.specs.Writing.{view_of}
 use Rattle.life_plans.specs.Plans.{script_of}
-use Rattle.node_layers.specs.ConfiguredLayers.{configured_layers}
+use Rattle.node_layers.specs.NodeLayers.{node_layers}
 use Rattle.mesh_run.specs.Ran.{RanFirst}
 use Rattle.mesh_run.proofs.Living.{is_past, is_within}
 use Rattle.mesh_run.proofs.Progress.{all_lived, first_same, front_more, front_same, progress_elements, progress_more, progress_none}
@@ -18,7 +18,7 @@ pub live-requires-clause-elements : goal.live-requires-clause-elements
 live-requires-clause-elements g c κs within =
     let chip = g.B.Flash.chip in
     let view = view_of g.K.Sink.held g.K.Sink.pieces in
-    progress_elements c.configured_law.ensures.safe c.lives_law.ensures.keeps (script_of c.args.script.now) c.args.hex (chip c.args.flash) (chip c.loop-i.flash)
+    progress_elements c.node_law.ensures.safe c.lives_law.ensures.keeps (script_of c.args.script.now) c.args.hex (chip c.args.flash) (chip c.loop-i.flash)
     (view c.args.sink.now) (view c.loop-i.sink) c.loop-i.i c.loop-i.invariant.progress
 
 pub returns-in-Err-clause-front : goal.returns-in-Err-clause-front
@@ -67,7 +67,7 @@ returns-in-Err-Memory-clause-whole g c = λ yes.
     let law = g.met.B.Flash g.world.𝓛 g.world.𝓜 g.world.𝓡 ((λ s x. x), (λ x. x), (λ x. x), λ x. x) in
     let within = is_within c.args.script.now.lives c.as_slice-i-end.result.now c.loop-i.i c.as_slice-i-end.ensures.value c.loop-i-test.true in
     let progress = c.loop-i.invariant.progress in
-    subst (RanFirst configured_layers (script_of c.args.script.now) c.args.hex (view c.args.sink.now)) (sym (ap view (c.in-Err-Memory.ensures.memory (ap (λ e. Err e) c.in-Err-Memory.field-0-is))))
+    subst (RanFirst node_layers (script_of c.args.script.now) c.args.hex (view c.args.sink.now)) (sym (ap view (c.in-Err-Memory.ensures.memory (ap (λ e. Err e) c.in-Err-Memory.field-0-is))))
     (first_same (script_of c.args.script.now) c.args.hex (chip c.args.flash) (chip c.loop-i.flash) (view c.args.sink.now) (view c.loop-i.sink) c.loop-i.i
     (law.reads_image c.loop-i.flash progress.node.honest) within progress)
 
@@ -89,5 +89,5 @@ returns-clause-all g c =
     let law = g.met.B.Flash g.world.𝓛 g.world.𝓜 g.world.𝓡 ((λ s x. x), (λ x. x), (λ x. x), λ x. x) in
     let progress = c.loop-i.invariant.progress in
     let past = is_past c.args.script.now.lives c.as_slice-i-end.result.now c.loop-i.i c.as_slice-i-end.ensures.value c.loop-i-test.false in
-    all_lived c.configured_law.ensures.no_reuse c.configured_law.ensures.at_most_once (script_of c.args.script.now) c.args.hex (chip c.args.flash) (chip c.loop-i.flash)
+    all_lived c.node_law.ensures.no_reuse c.node_law.ensures.at_most_once (script_of c.args.script.now) c.args.hex (chip c.args.flash) (chip c.loop-i.flash)
     (view c.args.sink.now) (view c.loop-i.sink) c.loop-i.i past (law.reads_image c.loop-i.flash progress.node.honest) progress

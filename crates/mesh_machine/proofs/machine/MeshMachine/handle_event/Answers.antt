@@ -8,7 +8,7 @@ use Rattle.machine_contract.specs.Ranges.{IsEvent}
 use Rattle.machine_contract.specs.Standing.{past_now}
 use Rattle.machine_contract.specs.declared.answers.Hand.TheVariants as H
 use Rattle.machine_ties.proofs.Fronts.{IsSameNode}
-use Rattle.machine_ties.proofs.Events.{IsAfter, IsEntryOf, event_after, event_jobs, event_node_over, event_quiet, event_ready, event_sendable, event_stands, event_stops, ready_after}
+use Rattle.machine_ties.proofs.Events.{IsAfter, IsEntryOf, event_after, event_jobs, event_node_over, event_quiet, event_ready, event_sendable, event_stands, event_stops, plan_leaves, ready_after}
 use Rattle.machine_ties.specs.Kept.{IsBounded}
 use Rattle.machine_ties.specs.Ties.{IsCutIn, IsOver, IsReady, Stands, entered, stopped}
 use Rattle.machine_ties.specs.Views.{NodeMachine}
@@ -18,7 +18,7 @@ use Rattle.mesh_reading.specs.Held.{AreHeldKeys}
 use Rattle.mesh_types.specs.declared.answers.Answer.{Answer}
 use Rattle.mesh_types.specs.declared.events.Event.{Event}
 use Rattle.mesh_types.specs.declared.history.Entry.{Entry}
-use Rattle.node_layers.specs.ConfiguredLayers.{configured_layers}
+use Rattle.node_layers.specs.NodeLayers.{node_layers}
 use Rattle.node_models.specs.Models.{AreWithin, ModelsView}
 use Rattle.node_records.specs.Meaning.{IsMeaningOf}
 use Rattle.node_records.specs.Tables.{config_in}
@@ -53,7 +53,7 @@ returns-in-Err-store_records-clause-kept g c over stands =
     let i = c.self.inside in
     let m : NodeMachine = record { reserve = i.reserve; tables = i.tables; entries = i.history.items; fills = i.fills; closed = i.closed; hand = i.hand; elements = i.elements } in
     let s : Stands (g.F.Flash.chip c.args.flash.now) over m = subst (λ (v : NodeMachine). Stands (g.F.Flash.chip c.args.flash.now) over v) (sym c.self.view_is) stands in
-    let past : Past = past_now configured_layers over s.life.told i.fills in
+    let past : Past = past_now node_layers over s.life.told i.fills in
     let h : IsOver (g.F.Flash.chip c.args.flash.now) past m = s.usable c.if-self.false in
     let may : ArePuttable i.reserve.store.persist c.in-Ok.prepared.plan.records = subst (λ (p : Persist). ArePuttable p c.in-Ok.prepared.plan.records) c.persist.ensures.value c.in-Ok.ensures.may in
     let bounded : IsBounded i.reserve.store.persist (insight_in c.in-Ok.prepared.plan.basis) =
@@ -184,7 +184,9 @@ returns-clause-jobs g c =
     let node : IsSameNode (config_before ready.past) (config_in c.persist-p.result.now) =
     event_node_over c.ties_law.ensures.laws m c.args.event.now c.in-Ok.prepared.plan c.prepare.new.tables ready.past c.persist-p.result.now ready.before planned may bounded meaning_p in
     event_jobs c.ties_law.ensures.laws m c.args.event.now c.in-Ok.prepared.plan c.prepare.new.tables ready c.persist-p.result.now a.jobs c.args.self.now.elements planned may bounded meaning_p
-    (c.enter-answered.ensures.jobs ready.past c.prepare.new.tables planned node.unicast) c.requires.event
+    (c.enter-answered.ensures.jobs ready.past c.prepare.new.tables planned node.unicast
+    (plan_leaves ready.past c.args.event.now c.in-Ok.prepared.plan c.prepare.new.tables c.persist-p.result.now planned meaning_p))
+    c.requires.event
 
 pub returns-clause-quiet : goal.returns-clause-quiet
 returns-clause-quiet g c outside =
@@ -198,12 +200,15 @@ returns-clause-quiet g c outside =
     c.in-Ok.ensures.planned ready.past (subst (λ (p : Persist). IsStanding ready.past p i.tables) (sym c.persist.ensures.value) ready.before.standing) in
     let q : Persist = c.store_records.new.reserve.store.persist in
     let meaning : IsMeaningOf (ready.past.records ++ c.in-Ok.prepared.plan.records) q = c.in-Ok-store_records.ensures.meaning ready.past.records ready.before.standing.meaning in
+    let meaning_p : IsMeaningOf (ready.past.records ++ c.in-Ok.prepared.plan.records) c.persist-p.result.now =
+    subst (λ (p : Persist). IsMeaningOf (ready.past.records ++ c.in-Ok.prepared.plan.records) p) (sym c.persist-p.ensures.value) meaning in
     let node : IsSameNode (config_before ready.past) (config_in c.persist-p.result.now) =
-    event_node_over c.ties_law.ensures.laws m c.args.event.now c.in-Ok.prepared.plan c.prepare.new.tables ready.past c.persist-p.result.now ready.before planned may bounded
-    (subst (λ (p : Persist). IsMeaningOf (ready.past.records ++ c.in-Ok.prepared.plan.records) p) (sym c.persist-p.ensures.value) meaning) in
+    event_node_over c.ties_law.ensures.laws m c.args.event.now c.in-Ok.prepared.plan c.prepare.new.tables ready.past c.persist-p.result.now ready.before planned may bounded meaning_p in
     let a = c.enter-answered.result in
     event_quiet c.ties_law.ensures.laws m c.args.event.now c.in-Ok.prepared.plan c.prepare.new.tables ready c.persist-p.result.now a.jobs
-    (c.enter-answered.ensures.jobs ready.past c.prepare.new.tables planned node.unicast) outside
+    (c.enter-answered.ensures.jobs ready.past c.prepare.new.tables planned node.unicast
+    (plan_leaves ready.past c.args.event.now c.in-Ok.prepared.plan c.prepare.new.tables c.persist-p.result.now planned meaning_p))
+    outside
 
 pub returns-clause-steps : goal.returns-clause-steps
 returns-clause-steps g c w world =
@@ -219,8 +224,8 @@ returns-clause-steps g c w world =
     let insight : Insight = insight_in c.in-Ok.prepared.plan.basis in
     let a = c.enter-answered.result in
     let is : a.answer ≡ c.in-Ok.prepared.plan.answer = c.enter-answered.ensures.answer in
-    let records : c.in-Ok.prepared.plan.records ≡ stores configured_layers ready.past c.args.event.now insight a.answer =
-    planned.records ∙ ap (λ (x : Answer). stores configured_layers ready.past c.args.event.now insight x) (sym is) in
+    let records : c.in-Ok.prepared.plan.records ≡ stores node_layers ready.past c.args.event.now insight a.answer =
+    planned.records ∙ ap (λ (x : Answer). stores node_layers ready.past c.args.event.now insight x) (sym is) in
     let before : IsWorldOf w p p.mark = subst (λ (v : NodeMachine). IsWorldOf w v.reserve.store.persist v.reserve.store.persist.mark) (sym c.self.view_is) world in
     let stepped : HasStepped w p q c.args.event.now a.answer = record {
       past = ready.past;
@@ -239,7 +244,7 @@ returns-clause-kept g c over stands =
     let i = c.self.inside in
     let m : NodeMachine = record { reserve = i.reserve; tables = i.tables; entries = i.history.items; fills = i.fills; closed = i.closed; hand = i.hand; elements = i.elements } in
     let s : Stands (g.F.Flash.chip c.args.flash.now) over m = subst (λ (v : NodeMachine). Stands (g.F.Flash.chip c.args.flash.now) over v) (sym c.self.view_is) stands in
-    let past : Past = past_now configured_layers over s.life.told i.fills in
+    let past : Past = past_now node_layers over s.life.told i.fills in
     let h : IsOver (g.F.Flash.chip c.args.flash.now) past m = s.usable c.if-self.false in
     let may : ArePuttable i.reserve.store.persist c.in-Ok.prepared.plan.records = subst (λ (p : Persist). ArePuttable p c.in-Ok.prepared.plan.records) c.persist.ensures.value c.in-Ok.ensures.may in
     let bounded : IsBounded i.reserve.store.persist (insight_in c.in-Ok.prepared.plan.basis) =
@@ -252,14 +257,16 @@ returns-clause-kept g c over stands =
     let r = c.store_records.new.reserve in
     let new = g.F.Flash.chip c.store_records.new.flash in
     let meaning : IsMeaningOf (past.records ++ c.in-Ok.prepared.plan.records) r.store.persist = c.in-Ok-store_records.ensures.meaning past.records h.before.standing.meaning in
+    let meaning_p : IsMeaningOf (past.records ++ c.in-Ok.prepared.plan.records) c.persist-p.result.now =
+    subst (λ (p : Persist). IsMeaningOf (past.records ++ c.in-Ok.prepared.plan.records) p) (sym c.persist-p.ensures.value) meaning in
     let node : IsSameNode (config_before past) (config_in c.persist-p.result.now) =
-    event_node_over c.ties_law.ensures.laws m c.args.event.now c.in-Ok.prepared.plan c.prepare.new.tables past c.persist-p.result.now h.before planned may bounded
-    (subst (λ (p : Persist). IsMeaningOf (past.records ++ c.in-Ok.prepared.plan.records) p) (sym c.persist-p.ensures.value) meaning) in
+    event_node_over c.ties_law.ensures.laws m c.args.event.now c.in-Ok.prepared.plan c.prepare.new.tables past c.persist-p.result.now h.before planned may bounded meaning_p in
     let is_entry : IsEntryOf past c.args.event.now c.in-Ok.prepared.plan r.store.persist entry = record {
       is_of = refl;
       has = c.enter-answered.ensures.answer;
-      jobs = subst (λ (p : Persist). a.jobs ≡ jobs_of configured_layers past (config_in p) c.args.event.now (insight_in c.in-Ok.prepared.plan.basis) c.in-Ok.prepared.plan.answer) c.persist-p.ensures.value
-          (c.enter-answered.ensures.jobs past c.prepare.new.tables planned node.unicast);
+      jobs = subst (λ (p : Persist). a.jobs ≡ jobs_of node_layers past (config_in p) c.args.event.now (insight_in c.in-Ok.prepared.plan.basis) c.in-Ok.prepared.plan.answer) c.persist-p.ensures.value
+          (c.enter-answered.ensures.jobs past c.prepare.new.tables planned node.unicast
+          (plan_leaves past c.args.event.now c.in-Ok.prepared.plan c.prepare.new.tables c.persist-p.result.now planned meaning_p));
     } in
     let base : Stands new over (entered m r c.renew.new.tables entry) =
     event_stands c.ties_law.ensures.laws m c.args.event.now c.in-Ok.prepared.plan c.prepare.new.tables (g.F.Flash.chip c.args.flash.now) new over s c.if-self.false r c.renew.new.tables entry planned may bounded

@@ -8,7 +8,7 @@ use Rattle.machine_ties.specs.Views.{NodeMachine}
 use Rattle.mesh_machine.proofs.Same.{fill_elements, fill_keys}
 use Rattle.mesh_machine.proofs.Within.{within_refilled}
 use Rattle.mesh_reading.specs.Held.{held_in}
-use Rattle.node_layers.specs.ConfiguredLayers.{configured_layers}
+use Rattle.node_layers.specs.NodeLayers.{node_layers}
 use Rattle.node_records.specs.Meaning.{IsMeaningOf}
 use Rattle.node_records.specs.Tables.{config_in}
 use Rattle.node_records.specs.declared.persist.Persist.{Persist}
@@ -50,7 +50,7 @@ returns-in-Ok-clause-kept g c over stands =
     let old = g.F.Flash.chip c.args.flash.now in
     let new = g.F.Flash.chip c.refill.new.flash in
     let s : Stands old over m = subst (λ (v : NodeMachine). Stands old over v) (sym c.self.view_is) stands in
-    let past : Past = past_now configured_layers over s.life.told i.fills in
+    let past : Past = past_now node_layers over s.life.told i.fills in
     let h : IsOver old past m = s.usable c.if-self.false in
     refill_stands c.ties_law.ensures.laws m old new over s c.if-self.false c.refill.new.self ready.published seq (c.in-Ok.ensures.kept past.records h.store seen)
     (c.in-Ok.ensures.meaning past.records h.before.standing.meaning seen) c.refill.ensures.published c.refill.ensures.frame
@@ -66,7 +66,7 @@ returns-in-Err-clause-kept g c over stands =
     let old = g.F.Flash.chip c.args.flash.now in
     let new = g.F.Flash.chip c.refill.new.flash in
     let s : Stands old over m = subst (λ (v : NodeMachine). Stands old over v) (sym c.self.view_is) stands in
-    let past : Past = past_now configured_layers over s.life.told i.fills in
+    let past : Past = past_now node_layers over s.life.told i.fills in
     let h : IsOver old past m = s.usable c.if-self.false in
     let leaves = c.refill.ensures.any_moment past.records h.store in
     let cut : IsCutIn new past.records (fill_of (config_of past.records) ∷ []) c.refill.new.self.keeper.mark =
