@@ -8,7 +8,7 @@ use Rattle.mesh_node.specs.Lives.{IsPlanned, Lives}
 use Rattle.mesh_node.specs.Plan.{IsStep, life_of}
 use Rattle.mesh_node.specs.declared.plan.LifeLog.{LifeLog}
 use Rattle.mesh_node.specs.declared.plan.LifePlan.{LifePlan}
-use Rattle.node_layers.specs.ConfiguredLayers.{configured_layers}
+use Rattle.node_layers.specs.NodeLayers.{node_layers}
 use Rattle.node_store.proofs.Provisions.{provisioned_whole}
 use Rattle.node_store.specs.Mounted.{IsRead}
 use Rattle.node_store.specs.Provisioning.{IsProvision, provisioning}
@@ -47,12 +47,12 @@ ready_first once p chip store h exact =
       elements = λ c found is recovers. ap (λ records. (config_of records).elements) (once c found (provisioned (provisioning p)) recovers (read c is).held) ∙ elements_of p;
     }
 
-pub ready_next : LivesKeep → AreSafe configured_layers → (elements : ℕ) (plan : List Step) (old new : Chip) (log : LifeLog) → IsReady elements old
-    → Lives configured_layers IsNode plan old log new → IsReady elements new
+pub ready_next : LivesKeep → AreSafe node_layers → (elements : ℕ) (plan : List Step) (old new : Chip) (log : LifeLog) → IsReady elements old
+    → Lives node_layers IsNode plan old log new → IsReady elements new
 ready_next keeps safe elements plan old new log was h = record {
   node = h.node;
   elements = λ image next is read.
-      (keeps configured_layers safe plan h.over (life_of log) next (h.life image next is read)).elements
+      (keeps node_layers safe plan h.over (life_of log) next (h.life image next is read)).elements
       ∙ was.elements h.image h.over h.is_image h.recovered;
 }
 

@@ -1,6 +1,7 @@
 //! Worked rows: Requests, Polls, lists and Clears of Low Power nodes, and what is stored for them.
 
 ghost use Rattle.std.specs.Prelude.{◌≡◌};
+ghost use Rattle.node_friends.specs.Queues.{IsSendable};
 
 use super::samples::{IV, NET_KEY, OTHER_KEY, is_only, material, octets, one_net};
 use mesh_base::address::Address;
@@ -182,14 +183,18 @@ fn befriended(alloc: Global, node: &Node) -> Result<NodeFriends, AllocError> {
     Ok(friends)
 }
 
-fn own(payload: &[u8]) -> OwnShort {
+fn own(octet: u8) -> OwnShort
+    ensures { IsSendable result }
+{
+    let mut payload = Octets::new();
+    payload.extend(&[octet]);
     OwnShort {
         net: 0,
         key: UpperKey::Device(DEV_KEY),
         ttl: 7,
         src: OWN,
         dst: FIRST,
-        payload: octets(payload),
+        payload,
     }
 }
 
@@ -226,7 +231,7 @@ fn polls(rt: HostRuntime) -> Result<(), Fail> {
     assert!(rt; is_only(&from_first(alloc, &mut friends, &node, &even)?, &repeat));
     let update = control(first(), 0, FIRST, &UPDATE, Some((FIRST, true)));
     assert!(rt; is_only(&from_first(alloc, &mut friends, &node, &odd)?, &update));
-    friends.send(&own(&[0x7f]));
+    friends.send(&own(0x7f));
     let message = Job::Message {
         net: 0,
         material: first(),
@@ -405,8 +410,13 @@ fn stores(rt: HostRuntime) -> Result<(), Fail> {
             &update
         )
     );
-    assert!(rt; friends.heard_keys(0x6c).as_slice().len() == 1);
-    assert!(rt; friends.heard_keys(0x68).is_empty());
+    let heard = Heard {
+        index: 0,
+        lpn: Some(FIRST),
+        fresh: false,
+        material: first(),
+    };
+    assert!(rt; friends.keys().as_slice() == [heard].as_slice());
     let over = u64::from(10 * 0x057e40_u32);
     friends.tick(over - 1);
     assert!(rt; friends.is_befriended(FIRST));

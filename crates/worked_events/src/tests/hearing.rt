@@ -187,7 +187,7 @@ impl Life {
 
     // The answer to octets heard, after which the replay list has what was accepted; none where memory ran out.
     fn hear(&mut self, octets: &[u8]) -> Option<Answer> {
-        match self.tables.hear(&self.p, octets) {
+        match self.tables.hear(&self.p, &[], octets) {
             Ok(hearing) => {
                 remember(&mut self.p, &hearing.answer);
                 Some(hearing.answer)

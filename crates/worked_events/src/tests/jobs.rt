@@ -30,6 +30,7 @@ use mesh_types::events::{Event, SendKey};
 use mesh_types::jobs::{Job, JobDraft, Jobs};
 use net_keys::NetKeys;
 use network_layer::NetReading;
+use node_friends::FriendAct;
 use node_models::{Due, MessageReplies};
 use node_records::Persist;
 use std::alloc::{AllocError, Global};
@@ -147,6 +148,7 @@ fn replied(
             Some(&low),
             key,
             replies,
+            &FriendAct::Nothing,
             answer,
         ),
         Err(_) => pdu_jobs(
@@ -158,6 +160,7 @@ fn replied(
             None,
             key,
             replies,
+            &FriendAct::Nothing,
             answer,
         ),
     };
@@ -241,6 +244,7 @@ fn relays(rt: HostRuntime) -> Result<(), Fail> {
         None,
         None,
         &MessageReplies::none(),
+        &FriendAct::Nothing,
         &Answer::Unread,
     );
     assert!(rt; none.is_empty());

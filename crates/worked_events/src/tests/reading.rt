@@ -3,8 +3,9 @@
 ghost use Rattle.mesh_reading.specs.Held.{AreHeldKeys};
 ghost use Rattle.node_records.specs.Tables.{config_in};
 
-use super::samples::{APP_KEY, NET_KEY, one_app, one_net};
+use super::samples::{APP_KEY, NET_KEY, OTHER_KEY, material, one_app, one_net};
 use mesh_base::address::Address;
+use mesh_base::fields::{Heard, NetMaterial};
 use mesh_base::keys::{AppKeyRow, NetKeyRow, UpperKey};
 use mesh_base::pair::{Name, Pair};
 use mesh_base::table::Table;
@@ -20,13 +21,6 @@ const LABEL: [u8; 16] = [
 const PDU: &[u8] =
     b"\x68\xcd\x65\xf3\x1d\xf7\xf9\x8a\x23\xa6\xbf\x0b\x1d\xfb\xa9\xd2\xf2\xcc\x38\xdb\xd2\x33";
 
-const NET_ROW: NetKeyRow = NetKeyRow {
-    index: 9,
-    phase: 0,
-    key: NET_KEY,
-    next: None,
-};
-
 const APP_ROW: AppKeyRow = AppKeyRow {
     net: 9,
     index: 0x123,
@@ -34,12 +28,17 @@ const APP_ROW: AppKeyRow = AppKeyRow {
     next: None,
 };
 
-// What the records of a node say that has these keys and this label.
-fn node() -> Persist
+// What the records of a node say that has this network key, the application key and the label.
+fn node(key: [u8; 16]) -> Persist
     ensures { AreHeldKeys (config_in result) }
 {
     let mut p = Persist::new();
-    p.nets = one_net(NET_ROW);
+    p.nets = one_net(NetKeyRow {
+        index: 9,
+        phase: 0,
+        key,
+        next: None,
+    });
     p.apps = one_app(APP_ROW);
     let mut labels = Table::new();
     let _ = labels.push((Address(0x1201), 0x1000, [1; 16]));
@@ -51,11 +50,11 @@ fn node() -> Persist
 #[test]
 fn to_a_label(rt: HostRuntime) {
     held_keys_law();
-    let keys = Keys::derive(&node());
+    let keys = Keys::derive(&node(NET_KEY));
     assert!(rt; keys.is_labelled(Address(0xb529)) && !keys.is_labelled(Address(0x9736)));
     assert!(rt; keys.nets().transmit(9).is_some() && keys.apps().transmit(0x123).is_some());
-    assert!(rt; keys.read(0x12345676, PDU).is_none());
-    let Some(reading) = keys.read(0x12345679, PDU) else {
+    assert!(rt; keys.read(&[], 0x12345676, PDU).is_none());
+    let Some(reading) = keys.read(&[], 0x12345679, PDU) else {
         assert!(rt; false);
         return
     };
@@ -88,4 +87,41 @@ fn to_a_label(rt: HostRuntime) {
     assert!(rt; keys.open(&reading, &name, &sealed, upper).is_none());
     sealed.akf = false;
     assert!(rt; keys.open(&reading, &name, &sealed, upper).is_none());
+}
+
+// The credentials of a friendship with 0003, by which that message may have come too, and others of the same NID.
+fn friendships() -> [Heard; 2] {
+    let mine = Heard {
+        index: 9,
+        lpn: Some(Address(3)),
+        fresh: false,
+        material: material(),
+    };
+    let mut other = mine;
+    other.material = NetMaterial {
+        nid: 0x68,
+        encryption: [0; 16],
+        privacy: [0; 16],
+    };
+    [other, mine]
+}
+
+// Whether these keys read it, and by this network key or friendship.
+fn is_heard(keys: &Keys, more: &[Heard], lpn: Option<Address>) -> bool {
+    match keys.read(more, 0x12345678, PDU) {
+        Some(reading) => reading.by.lpn == lpn && reading.fields.src.0 == 3,
+        None => false,
+    }
+}
+
+#[test]
+fn by_a_friendship(rt: HostRuntime) {
+    held_keys_law();
+    let [other, mine] = friendships();
+    let keys = Keys::derive(&node(OTHER_KEY));
+    assert!(rt; keys.read(&[other], 0x12345678, PDU).is_none());
+    assert!(rt; is_heard(&keys, &[other, mine], mine.lpn));
+    // the network keys come first
+    let keys = Keys::derive(&node(NET_KEY));
+    assert!(rt; is_heard(&keys, &[mine], None));
 }

@@ -9,7 +9,7 @@ ghost use Rattle.worked_lives.specs.Ready.{IsReady};
 
 use super::names::spelled;
 use flash_model::{Bench, MemFlash};
-use layer_laws::laws::configured_law;
+use layer_laws::laws::node_law;
 use life_plans::{plan_of, provision_of, script_law};
 use mesh_base::memory::MemSink;
 use mesh_machine::MeshMachine;
@@ -95,7 +95,7 @@ fn live<R: Abort + AllocGlobal + Threads + Wait + Sync, B: Bench, G: Gate>(
 {
     // They do nothing when they run: the proof uses what they say.
     script_law();
-    configured_law();
+    node_law();
     lives_law();
     let plan = plan_of(rt.alloc(), script.lives.as_slice()[i].as_slice())?;
     let (log, flash) = life::<MeshMachine, B, G, R>(rt, rt.alloc(), flash, &plan, gate)?;

@@ -141,8 +141,15 @@ fn node() -> Persist
     p
 }
 
-// A message to the first element at this moment, with the device key or with application key 123.
-fn take(models: &mut NodeModels, p: &Persist, now: u64, device: bool, payload: &[u8]) -> Taken
+// A message to the first element at this moment, with the device key or with application key 123, in a node with these friendships.
+fn take_among(
+    models: &mut NodeModels,
+    p: &Persist,
+    now: u64,
+    polls: &[(Address, u32)],
+    device: bool,
+    payload: &[u8],
+) -> Taken
     requires within { AreWithin models.old p.now }
     requires time { now ≤ 2 ^ 48 }
     ensures { AreWithin models.new p.now }
@@ -171,7 +178,16 @@ fn take(models: &mut NodeModels, p: &Persist, now: u64, device: bool, payload: &
         label: None,
         payload,
     };
-    models.take(p, now, &message)
+    models.take(p, now, polls, &message)
+}
+
+// The same in a node without friendships.
+fn take(models: &mut NodeModels, p: &Persist, now: u64, device: bool, payload: &[u8]) -> Taken
+    requires within { AreWithin models.old p.now }
+    requires time { now ≤ 2 ^ 48 }
+    ensures { AreWithin models.new p.now }
+{
+    take_among(models, p, now, &[], device, payload)
 }
 
 // What a message to the models stores and what is replied to it.
@@ -331,4 +347,29 @@ fn kept_rows(rt: HostRuntime) {
     let mut models = NodeModels::open(&p);
     assert!(rt; is_nothing(&models.pass(&p, 99)));
     assert!(rt; is_published(&models.pass(&p, 100), &row(FIRST), b"\x82\x04\x00"));
+}
+
+// The PollTimeout of a friendship is told, and 0 of a stranger. A Default TTL Set is seen by its own reply, and a Friend Set with 00 ends the
+// friendships.
+#[test]
+fn friendships(rt: HostRuntime) {
+    let p = node();
+    let mut models = NodeModels::open(&p);
+    let polls = [(Address(0x2345), 100_000)];
+    let poll = take_among(&mut models, &p, 0, &polls, true, b"\x80\x2d\x45\x23");
+    assert!(rt; is_configured(&poll, &[], b"\x80\x2e\x45\x23\xa0\x86\x01"));
+    assert!(rt; poll.ttl == 7 && !poll.ends);
+    let stranger = take_among(&mut models, &p, 0, &polls, true, b"\x80\x2d\x46\x23");
+    assert!(rt; is_configured(&stranger, &[], b"\x80\x2e\x46\x23\x00\x00\x00"));
+    let farther = take_among(&mut models, &p, 0, &polls, true, b"\x80\x0d\x15");
+    let ttl = [StoreRecord::Feature {
+        which: 2,
+        value: 0x15,
+    }];
+    assert!(rt; is_configured(&farther, &ttl, b"\x80\x0e\x15"));
+    assert!(rt; farther.ttl == 0x15 && !farther.ends);
+    let alone = take_among(&mut models, &p, 0, &polls, true, b"\x80\x10\x00");
+    let friend = [StoreRecord::Feature { which: 3, value: 0 }];
+    assert!(rt; is_configured(&alone, &friend, b"\x80\x11\x00"));
+    assert!(rt; alone.ttl == 7 && alone.ends);
 }

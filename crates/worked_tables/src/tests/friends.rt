@@ -366,5 +366,6 @@ fn credentials(rt: HostRuntime) -> Result<(), FromHexError> {
     };
     assert!(rt; friends.heard(0x5e).as_slice() == [sample].as_slice());
     assert!(rt; friends.heard(0x5d).is_empty());
+    assert!(rt; friends.credentials().as_slice() == [sample].as_slice());
     Ok(())
 }

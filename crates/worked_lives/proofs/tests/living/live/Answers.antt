@@ -22,5 +22,5 @@ life-requires-clause-plan g c κs within =
 
 pub returns-clause-ready : goal.returns-clause-ready
 returns-clause-ready g c =
-    ready_next c.lives_law.ensures.keeps c.configured_law.ensures.safe c.args.script.now.provision.elements _ (g.B.Flash.chip c.args.flash) (g.B.Flash.chip c.in_ok-log.flash)
+    ready_next c.lives_law.ensures.keeps c.node_law.ensures.safe c.args.script.now.provision.elements _ (g.B.Flash.chip c.args.flash) (g.B.Flash.chip c.in_ok-log.flash)
     c.in_ok-log.log c.requires.ready c.in_ok-log.ensures.life
