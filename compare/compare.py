@@ -2,7 +2,8 @@
 """Compares the program's reports of random scripts with those of the node in oracle/.
 
 Ends with 1 at the first script of which they differ; that script, its seed and the first line that
-differs are printed then. Each report is audited by the program as well, which must find it sound.
+differs are printed then. Each report is audited by the program as well, which must find it sound,
+or, where more credentials are used than an audit takes, find nothing used or accepted twice.
 """
 import argparse
 import subprocess
@@ -10,9 +11,10 @@ import sys
 from collections import Counter
 from itertools import zip_longest
 
-from scripts import KINDS, NET_KEYS, kind_of, make
+from kinds import KINDS, Made, kind_of, make
 
 TIMEOUT = 600
+KEYS_OF_AUDIT = 16
 
 
 def run_program(program: str, command: list[str], text: str) -> tuple[str, str]:
@@ -31,15 +33,16 @@ def first_difference(due: str, found: str) -> str:
     return 'the ends of lines'
 
 
-def difference(program: str, script: str, due: str) -> str | None:
+def difference(program: str, made: Made) -> str | None:
     """What is wrong with the program's report, None where nothing is."""
-    found, fault = run_program(program, ['run', '--hex'], script)
-    if found != due:
-        return f'{first_difference(due, found)}\n{fault}'.strip()
-    keys = ''.join(f'key {key.hex()}\n' for key in NET_KEYS)
+    found, fault = run_program(program, ['run', '--hex'], made.text)
+    if found != made.report:
+        return f'{first_difference(made.report, found)}\n{fault}'.strip()
+    keys = ''.join(f'key {net}\n' for net in made.nets[:KEYS_OF_AUDIT])
     verdict, audit_fault = run_program(program, ['audit'], keys + found)
     fault = fault or audit_fault
-    if fault or not verdict.startswith('sound '):
+    words = 'sound' if len(made.nets) <= KEYS_OF_AUDIT else ('sound', 'bad')
+    if fault or not verdict.startswith(words):
         return f'the report is equal, but the audit says {verdict.strip()} {fault}'.strip()
     return None
 
@@ -68,12 +71,12 @@ def main() -> None:
     counts: Counter[str] = Counter()
     for seed in range(asked.seed, asked.seed + asked.scripts):
         kind = asked.kind or kind_of(seed)
-        script, due = make(seed, kind)
-        wrong = difference(asked.program, script, due)
+        made = make(seed, kind)
+        wrong = difference(asked.program, made)
         if wrong:
-            print(script, end='')
+            print(made.text, end='')
             sys.exit(f'compare: --kind {kind} --seed {seed}: {wrong}')
-        counts += reached(due)
+        counts += reached(made.report)
         counts[f'script {kind}'] += 1
     for name, count in sorted(counts.items()):
         print(f'{count:8} {name}')

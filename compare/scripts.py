@@ -1,4 +1,4 @@
-"""Random scripts of three kinds, drawn line by line.
+"""Random scripts, drawn line by line.
 
 The node of oracle/ goes along, so that most messages are under keys that it holds, most settings
 are of tables that it has, and the lines of a life that power cuts end there. A seed and a kind
@@ -582,20 +582,3 @@ class OddScript(Script):
     def _to_own(self, src: int, seq: int) -> None:
         """To an element, or to the address behind the last."""
         self._peer(1, 5, seq, src, UNICAST + self.random.randrange(4), '7f')
-
-
-KINDS: dict[str, tuple[int, type[Script]]] = {
-    'usual': (3, Script), 'full': (1, FullScript), 'odd': (3, OddScript)}
-"""The kinds by name, with their weights."""
-
-
-def kind_of(seed: int) -> str:
-    """The kind that a seed draws where none is asked for."""
-    weights = [weight for weight, _ in KINDS.values()]
-    return Random(f'kind {seed}').choices(list(KINDS), weights)[0]
-
-
-def make(seed: int, kind: str) -> tuple[str, str]:
-    """A script and the report that the node of oracle/ makes of it."""
-    script = KINDS[kind][1](seed)
-    return script.text, script.run.report()

@@ -1,12 +1,18 @@
-"""The node of oracle/ against the standards' samples and against the reports of examples/."""
+"""The node of oracle/ against the standards' samples, and against examples/ and worked/."""
+import importlib.util
+import re
 import unittest
 from pathlib import Path
+from types import ModuleType
 
 from oracle import ciphers, pdus
+from oracle.friends import Request
 from oracle.pdus import NetworkPdu, Segment, UpperFields
 from oracle.report import report_of
 
-EXAMPLES = Path(__file__).resolve().parent.parent / 'examples'
+REPOSITORY = Path(__file__).resolve().parent.parent
+EXAMPLES = REPOSITORY / 'examples'
+WORKED = REPOSITORY / 'worked'
 
 # Mesh Profile 8.2 and 8.3.22.
 NET_KEY = bytes.fromhex('7dd7364cd842ad18c17c2b820c84c3d6')
@@ -135,6 +141,145 @@ class Pdus(unittest.TestCase):
         """Mesh Profile 8.4.3."""
         self.assertEqual(pdus.beacon(NET_KEY, 0, IV).hex(),
                          '01003ecaff672f673370123456788ea261582f364f6f')
+
+
+    def test_friendship(self) -> None:
+        """Mesh Profile 8.3.1 to 8.3.5: a Request and an Offer under master credentials, a Poll and
+        an Update under those of the friendship, whose FriendCounter is 072f."""
+        friendship = ciphers.k2(NET_KEY, octets('01120123450000072f'))
+        self.assertEqual(friendship, (0x5e, octets('be635105434859f484fc798e043ce40e'),
+                                      octets('5d396d4b54d3cbafe943e051fe9a4eb8')))
+        master = ciphers.k2(NET_KEY)
+        for material, pdu, sealed in (
+                (master, NetworkPdu(1, 0, 0x014820, 0x2345, 0x1201, octets('04320308ba072f')),
+                 '68d4c826296d7979d7dbc0c9b4d43eebec129d20a620d01e'),
+                (friendship, NetworkPdu(1, 0, 2, 0x1201, 0x2345, octets('0100')),
+                 '5e84eba092380fb0e5d0ad970d579a4e88051c'),
+                (friendship, NetworkPdu(1, 0, 0x014834, 0x2345, 0x1201, octets('02001234567800')),
+                 '5eafd6f53c43db5c39da1792b1fee9ec74b786c56d3a9dee')):
+            self.assertEqual(pdus.seal_network(material, IV, pdu).hex(), sealed)
+            self.assertEqual(pdus.open_network(material, IV, octets(sealed)), pdu)
+
+
+START = f'provision 1201 1 12345678 00 000 {NET_KEY.hex()} {DEVICE_KEY.hex()}\nlife\n'
+PAYLOAD = '7f' * 12
+
+
+def heard(lpn: int, seq: int, *words: str, counters: str = '', dst: str = '1201', ttl: int = 0,
+          ctl: int = 1) -> str:
+    """A line of a PDU of a Low Power node; under its friendship credentials with counters."""
+    net = NET_KEY.hex() + (f'/{lpn:04x}/1201/{counters}' if counters else '')
+    fields = f'{IV:08x} {ctl} {ttl:02x} {seq:06x} {lpn:04x} {dst}'
+    return ' '.join(('b0 peer', net, fields, *words))
+
+
+class Friendships(unittest.TestCase):
+    """A Low Power node asks for a friendship and polls; expected are the answers and what is sent,
+    as FORMATS tells them."""
+    REQUEST = heard(0x0201, 1, '034b50057e400000010000', dst='fffd')
+    BEGUN = (REQUEST, heard(0x0201, 2, '0100', counters='0000/0000'),
+             heard(0x0201, 3, '0100', counters='0000/0000'),
+             heard(0x0201, 4, '0101', counters='0000/0000'))
+    ANSWERS = ['net control 0201 fffd 12345678 000001 03 4b50057e400000010000',
+               'net control 0201 1201 12345678 000002 01 00', 'kept kept',
+               'net control 0201 1201 12345678 000003 01 00',
+               'net control 0201 1201 12345678 000004 01 01', 'kept kept']
+    SENT = ['ctl 12345678 000000 00 1201 0201 046410107f0000',
+            'ctl 12345678 000001 00 1201 0201 02001234567800',
+            'rep 1201 12345678 000001',
+            'ctl 12345678 000002 00 1201 0201 02001234567800']
+
+    def check(self, lines: tuple[str, ...], answers: list[str], sent: list[str]) -> None:
+        """The report of these lines in a life, but for the places in it."""
+        script = START + ''.join(f'{line}\n' for line in lines)
+        report = report_of(script, shows_octets=False)
+        self.assertEqual(re.findall(r'(?m)^e \d+ b0 \d+ (.*)$', report), answers)
+        self.assertEqual(re.findall(r'(?m)^s b0 \d+\.\d+ (.*)$', report), sent)
+
+    def test_begun(self) -> None:
+        """An Offer, an Update, the same octets once more, and a new Update."""
+        self.check(self.BEGUN, self.ANSWERS, self.SENT)
+        lines = report_of(START + '\n'.join(self.BEGUN)).splitlines()
+        sealed = [line.split()[-1] for line in lines if line.startswith('s ')]
+        self.assertEqual((sealed[1], len({*sealed})), (sealed[2], 3))
+
+    def test_own(self) -> None:
+        """A short message is handed over at a Poll, and a long one isn't begun."""
+        lines = (*self.BEGUN, 'b0 send 0 0201 07 dev 7f',
+                 heard(0x0201, 5, '0100', counters='0000/0000'),
+                 f'b0 send 0 0201 07 dev {PAYLOAD}')
+        answers = ['send planned', 'net control 0201 1201 12345678 000005 01 00', 'kept kept',
+                   'send planned', 'begin befriended']
+        sent = ['msg 12345678 000003 07 1201 0201 dev 7f',
+                f'long 12345678 000004 07 1201 0201 dev {PAYLOAD}']
+        self.check(lines, [*self.ANSWERS, *answers], [*self.SENT, *sent])
+
+    def test_relayed(self) -> None:
+        """What a Low Power node sends to others goes on under the master credentials."""
+        pdu = heard(0x0201, 6, '7f', counters='0000/0000', dst='0009', ttl=2)
+        self.check((*self.BEGUN, pdu), [*self.ANSWERS, 'net notmine'],
+                   [*self.SENT, 'relay 12345678 000006 1 01 0201 0009 7f'])
+        last = report_of(START + '\n'.join((*self.BEGUN, pdu))).splitlines()[-2]
+        sealed = NetworkPdu(1, 1, 6, 0x0201, 0x0009, b'\x7f')
+        self.assertEqual(pdus.open_network(ciphers.k2(NET_KEY), IV, octets(last.split()[-1])),
+                         sealed)
+
+    def test_two(self) -> None:
+        """A third has no place; a Request out of its ranges changes nothing."""
+        two = (self.REQUEST, heard(0x0202, 1, '034b50057e400000010000', dst='fffd'),
+               heard(0x0201, 2, '0100', counters='0000/0000'),
+               heard(0x0202, 2, '0100', counters='0000/0001'),
+               heard(0x0203, 1, '034b50057e400000010000', dst='fffd'),
+               heard(0x0201, 3, '034b500000090000010000', dst='fffd'),
+               heard(0x0201, 4, '0101', counters='0000/0000'))
+        answers = [f'net control {lpn} fffd 12345678 {seq} 03 {params}' for lpn, seq, params in (
+            ('0201', '000001', '4b50057e400000010000'), ('0202', '000001', '4b50057e400000010000'),
+            ('0203', '000001', '4b50057e400000010000'), ('0201', '000003', '4b500000090000010000'))]
+        polls = ['net control 0201 1201 12345678 000002 01 00', 'kept kept',
+                 'net control 0202 1201 12345678 000002 01 00', 'kept kept']
+        last = ['net control 0201 1201 12345678 000004 01 01', 'kept kept']
+        update = '1201 {} 02001234567800'.format
+        self.check(two, [*answers[:2], *polls, *answers[2:], *last], [
+            'ctl 12345678 000000 00 1201 0201 046410107f0000',
+            'ctl 12345678 000001 00 1201 0202 046410107f0001',
+            f'ctl 12345678 000002 00 {update("0201")}', f'ctl 12345678 000003 00 {update("0202")}',
+            f'ctl 12345678 000004 00 {update("0201")}'])
+
+    def test_ranges(self) -> None:
+        """The edges of each field of a Request (3.6.5.3)."""
+        fits = Request(3, 0x50, 0x057e40, 0, 1, 0)
+        inside = ({'criteria': 0x79}, {'criteria': 4}, {'receive_delay': 0x0a},
+                  {'receive_delay': 0xff}, {'poll_timeout': 0x0a}, {'poll_timeout': 0x34bbff},
+                  {'previous': 0x7fff}, {'elements': 0x7e00})
+        outside = ({'criteria': 0x78}, {'criteria': 5}, {'receive_delay': 9}, {'poll_timeout': 9},
+                   {'poll_timeout': 0x34bc00}, {'previous': 0x8000}, {'elements': 0},
+                   {'elements': 0x7e01})
+        for change in inside:
+            self.assertTrue(fits._replace(**change).fits(0x0200), change)
+        for change in outside:
+            self.assertFalse(fits._replace(**change).fits(0x0200), change)
+
+
+def rows_of_worked() -> ModuleType:
+    """worked/rows.py, which reads the worked scripts."""
+    spec = importlib.util.spec_from_file_location('rows', WORKED / 'rows.py')
+    rows = importlib.util.module_from_spec(spec)
+    spec.loader.exec_module(rows)
+    return rows
+
+
+class Worked(unittest.TestCase):
+    def test_rows(self) -> None:
+        """The worked scripts that have one bearer and a bank of the new format."""
+        rows, compared = rows_of_worked(), 0
+        for path in sorted(WORKED.glob('*.rows')):
+            for row in rows.of_file(path):
+                if re.search(r'\nb[1-7] ', row.script) or '--old' in row.words:
+                    continue
+                with self.subTest(row.title):
+                    self.assertEqual(report_of(row.script, '--hex' in row.words), row.report)
+                compared += 1
+        self.assertGreaterEqual(compared, 50)
 
 
 class Examples(unittest.TestCase):

@@ -5,8 +5,8 @@ import unittest
 from pathlib import Path
 
 from compare import difference, first_difference
+from kinds import KINDS, Made, kind_of, make
 from oracle.report import report_of
-from scripts import KINDS, kind_of, make
 
 EVENT = re.compile(r'b0 (net|bcn|peer|talk|beacon|send|raw|tick)( [0-9a-f:v/]+| app:\w+| u)+')
 LINES_OF_LIFE = 4096
@@ -26,7 +26,7 @@ class Scripts(unittest.TestCase):
         """Every script is of the form, within its bounds, and has the report of a run anew."""
         for kind in KINDS:
             with self.subTest(kind):
-                script, report = make(7, kind)
+                script, report, _ = make(7, kind)
                 self.assertEqual(report_of(script), report)
                 first, *lives = re.split(r'(?m)^life\n', script)
                 self.assertTrue(first.startswith('provision '))
@@ -54,8 +54,9 @@ class Differences(unittest.TestCase):
 
     def test_difference(self) -> None:
         with tempfile.TemporaryDirectory() as folder:
-            self.assertIsNone(difference(program_that_prints(folder, 'end\n'), '', 'end\n'))
-            wrong = difference(program_that_prints(folder, 'cut 3\n'), '', 'end\n')
+            due = Made('', 'end\n', [])
+            self.assertIsNone(difference(program_that_prints(folder, 'end\n'), due))
+            wrong = difference(program_that_prints(folder, 'cut 3\n'), due)
             self.assertIn('program cut 3', wrong)
 
 

@@ -311,6 +311,103 @@ def at_every_call_of_a_switch():
             yield Row(f'a lamp that is switched on: arm {calls} {mask}', f'START-456\narm {calls} {mask}\n{lamp}', report)
 
 
+ASKS = '4b50057e400000010000'
+POLLED_BY = 'NK/0201/1201/0000/0000 12345678 1 00'
+
+
+def sample_of_a_friendship():
+    """A Friend whose address is that of the Mesh Profile's sample data makes so many offers to one node that the next one, which another
+    node asks for, has the sample's FriendCounter. That node's Request and Poll are PDUs of the sample data."""
+    before = 0x072f
+    peers = ''.join(f'b0 peer NK 12345678 1 00 {k:06x} 0301 fffd 03{ASKS}\n' for k in range(1, before + 1))
+    request, poll = '68eca487516765b5e5bfdacbaf6cb7fb6bff871f035444ce83a670df', '5e84eba092380fb0e5d0ad970d579a4e88051c'
+    script = f'provision 2345 1 12345678 00 000 NK DK\nlife\n{peers}b0 net {request}\nb0 net {poll}\n'
+    entries = ''.join(f'e {k} b0 {k} net control 0301 fffd 12345678 {k:06x} 03 {ASKS}\n' for k in range(1, before + 1))
+    entries += (
+        f'e 1840 b0 1840 net control 1201 fffd 12345678 000001 03 {ASKS}\n'
+        'e 1841 b0 1841 net control 1201 2345 12345678 000002 01 00\n'
+        'e 1842 b0 1842 kept kept\n'
+    )
+    lines = ''.join(f's b0 {k + 1}.1 ctl 12345678 {k:06x} 00 2345 0301 046410107f{k:04x}\n' for k in range(before))
+    lines += (
+        's b0 1840.1 ctl 12345678 00072f 00 2345 1201 046410107f072f\n'
+        's b0 1841.1 ctl 12345678 000730 00 2345 1201 02001234567800\n'
+    )
+    title = 'a friendship of the sample data, behind 1,839 offers'
+    yield Row(title, script, f'{LIFE}{entries}{lines}end\n')
+
+
+def polls(first_seq, place, fsn, told):
+    """Polls, each with the other FSN, from a SEQ and a place in the life on; behind each what its answer is told as, and whether a kept
+    entry follows it."""
+    script, entries, lines = '', '', ''
+    for seq, (line, is_kept) in enumerate(told, first_seq):
+        script += f'b0 peer {POLLED_BY} {seq:06x} 0201 1201 01{fsn:02x}\n'
+        entries += f'e {place} b0 {place} net control 0201 1201 12345678 {seq:06x} 01 {fsn:02x}\n'
+        lines += f's b0 {place}.1 {line}\n'
+        if is_kept:
+            place += 1
+            entries += f'e {place} b0 {place} kept kept\n'
+        place, fsn = place + 1, 1 - fsn
+    return script, entries, lines
+
+
+def for_low_power(numbers, place):
+    """PDUs for a Low Power node, with these SEQs, from a place in the life on, and their entries; a node that relays nothing stores them."""
+    script = ''.join(f'b0 peer NK 12345678 1 02 {k:06x} 0009 0201 7f{k:02x}\n' for k in numbers)
+    entries = ''.join(f'e {at} b0 {at} net notmine\n' for at, _ in enumerate(numbers, place))
+    return script, entries
+
+
+def handed_over(number):
+    return f'relay 12345678 {number:06x} 1 01 0009 0201 7f{number:02x}', False
+
+
+BEFRIENDED = f'b0 talk NK dev:DK 12345678 04 000001 000001 0003 1201 u 80270000\nb0 peer NK 12345678 1 00 000001 0201 fffd 03{ASKS}\n'
+BEFRIENDED_ENTRIES = (
+    'e 1 b0 1 net delivered 0003 1201 12345678 000001 dev 80270000\n'
+    f'e 2 b0 2 net control 0201 fffd 12345678 000001 03 {ASKS}\n'
+)
+BEFRIENDED_LINES = (
+    's b0 1.1 msg 12345678 000000 07 1201 0003 dev 80280000\n'
+    's b0 2.1 ctl 12345678 000001 00 1201 0201 046410107f0000\n'
+)
+
+
+def updated(seq):
+    return f'ctl 12345678 {seq:06x} 00 1201 0201 02001234567800', True
+
+
+def seventeen_for_a_friend():
+    first = polls(2, 3, 0, [updated(2)])
+    more = for_low_power(range(1, 18), 5)
+    rest = polls(3, 22, 1, [*map(handed_over, range(2, 18)), updated(3)])
+    script, entries, lines = (a + b + c for a, b, c in zip(first, (*more, ''), rest))
+    title = 'seventeen PDUs for a Low Power node: the first one leaves its queue for the last'
+    yield Row(
+        title,
+        f'START-000\n{BEFRIENDED}{script}',
+        f'{LIFE}{BEFRIENDED_ENTRIES}{entries}{BEFRIENDED_LINES}{lines}end\n',
+    )
+
+
+def seventeenth_behind_an_answer():
+    """The seventeenth comes when the first one was handed over, and takes its place: so the next Poll has the second one."""
+    first = polls(2, 3, 0, [updated(2)])
+    more = for_low_power(range(1, 17), 5)
+    handed = polls(3, 21, 1, [handed_over(1)])
+    last = for_low_power([17], 22)
+    again = polls(4, 23, 1, [('rep 0009 12345678 000001', False), *map(handed_over, range(2, 18)), updated(3)])
+    parts = zip(first, (*more, ''), handed, (*last, ''), again)
+    script, entries, lines = (''.join(part) for part in parts)
+    title = 'a seventeenth PDU for a Low Power node, behind the answer that handed over the first'
+    yield Row(
+        title,
+        f'START-000\n{BEFRIENDED}{script}',
+        f'{LIFE}{BEFRIENDED_ENTRIES}{entries}{BEFRIENDED_LINES}{lines}end\n',
+    )
+
+
 def one_after_the_other():
     entries = 'e 1 b0 1 raw planned\ne 2 b1 1 raw planned\n'
     first = 's b0 1.1 ctl 12345678 000000 00 1201 fffd 034b50057e400000010000\n'
@@ -334,6 +431,9 @@ MADE = [
     at_an_iv_update,
     at_every_call_of_a_message,
     at_every_call_of_a_switch,
+    sample_of_a_friendship,
+    seventeen_for_a_friend,
+    seventeenth_behind_an_answer,
     one_after_the_other,
 ]
 

@@ -84,6 +84,46 @@ def many_bearers():
         yield f'{bearers} bearers', f'START-000\n{life * lives}', drawn_once(lives * bearers * each, [*parts, '\nend\n'])
 
 
+def answered_polls(report):
+    """The first answer to a Poll of 0201, or to octets that are to be kept, that isn't what the entries before it ask for. A Poll with the
+    FSN of the one before is answered by the octets that were kept, and by nothing where they aren't yet; octets are kept for the last Poll."""
+    lines = dict(re.findall(r'(?m)^s b\d (\d+)\.1 (.*)$', report))
+    fsn, kept, updates = None, None, {}
+    for place, bearer, kind, answer in re.findall(r'(?m)^e (\d+) b(\d) \d+ (\w+) (.*)$', report):
+        line, polled = lines.get(place), re.match(r'control 0201 1201 \w+ \w+ 01 0(\d)', answer)
+        due = line
+        if kind == 'kept':
+            is_due = updates[bearer][0] == fsn and kept is None
+            line, due = answer, 'kept' if is_due else 'dropped'
+            kept = updates[bearer][1] if is_due else kept
+        elif answer.startswith('replay'):
+            due = None
+        elif polled and polled[1] == fsn:
+            due = f'rep 1201 {kept}' if kept else None
+        elif polled:
+            fsn, kept, sent = polled[1], None, re.match(r'ctl (\w{8} \w{6}) ', line or '')
+            updates[bearer] = fsn, sent and sent[1]
+            due = f'ctl {sent and sent[1]} 00 1201 0201 02001234567800'
+        if line != due:
+            return f'entry {place} has {line}, and not {due}'
+    return doubled(report)
+
+
+def polled_at_once():
+    """A Low Power node polls through two bearers, or three: at once, so that a Poll may come before the answer to the one before it is kept, or
+    comes too late and is replayed. Each bearer has the lowest SEQ in its turn."""
+    asks = 'START-000\nb0 peer NK 12345678 1 00 000001 0201 fffd 034b50057e400000010000\nsync\n'
+    poll = 'b{} peer NK/0201/1201/0000/0000 12345678 1 00 {:06x} 0201 1201 010{}\n'
+    for title, fsns in [('with one FSN', ['00', '11']), ('with both FSNs', ['01', '01']), ('and a third one', ['010', '101'])]:
+        count, script = len(fsns[0]), ''
+        for turn in range(200):
+            for place, fsn in enumerate(fsns[turn % 2]):
+                script += poll.format((turn + place) % count, 2 + count * turn + place, fsn)
+            script += 'sync\n'
+        yield f'Polls through two bearers {title}', f'{asks}{script}', answered_polls
+
+
 def all_cases():
     yield from cut_anywhere()
     yield from many_bearers()
+    yield from polled_at_once()

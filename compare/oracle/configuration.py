@@ -24,10 +24,12 @@ Change = Callable[[], None]
 
 
 class Answer(NamedTuple):
-    """The reply, the change that one record stores, and a Heartbeat Publication that is set."""
+    """The reply, the change that one record stores, a Heartbeat Publication that is set, and
+    whether friendships and offers end."""
     reply: bytes
     change: Change | None = None
     heartbeat: Heartbeat | None = None
+    ends_friendships: bool = False
 
 
 class Step(NamedTuple):
@@ -37,11 +39,13 @@ class Step(NamedTuple):
 
 
 class Asked(NamedTuple):
-    """What a message is asked of; `now` is its tick, `net` the network key heard under."""
+    """What a message is asked of; `now` is its tick, `net` the network key heard under, and
+    `poll_timeouts` has the PollTimeout of each friendship by its Low Power node."""
     records: Records
     heartbeat: Heartbeat | None
     net: int
     now: int
+    poll_timeouts: dict[int, int]
 
 
 def answer(asked: Asked, payload: bytes) -> Answer | None:
@@ -227,6 +231,12 @@ def _setter(reply: str, is_value: Callable[[int], bool],
     return set_states
 
 
+def _friend_set(asked: Asked, params: bytes) -> Answer | None:
+    """Friend Set with 00 ends friendships, also where Friend is off already (4.4.1.2.6)."""
+    answer = _setter('8011', _is_switch, 'friend')(asked, params)
+    return answer and answer._replace(ends_friendships=params == b'\0')
+
+
 def _is_switch(value: int) -> bool:
     return value <= 1
 
@@ -244,8 +254,9 @@ def _gatt_proxy(_: Asked, params: bytes) -> Answer | None:
     return Answer(b'\x80\x14\2') if not params or _is_switch(params[0]) else None
 
 
-def _poll_timeout_get(_: Asked, params: bytes) -> Answer:
-    return Answer(b'\x80\x2e' + params + bytes(3))
+def _poll_timeout_get(asked: Asked, params: bytes) -> Answer:
+    timeout = asked.poll_timeouts.get(_u16(params), 0)
+    return Answer(b'\x80\x2e' + params + little(timeout, 3))
 
 
 def _node_reset(asked: Asked, _: bytes) -> Answer:
@@ -435,7 +446,7 @@ MESSAGES: dict[str, tuple[Callable[[Asked, bytes], Answer | None], tuple[int, ..
     '800c': (_getter('800e', 'ttl'), (0,)),
     '800d': (_setter('800e', _is_ttl, 'ttl'), (1,)),
     '800f': (_getter('8011', 'friend'), (0,)),
-    '8010': (_setter('8011', _is_switch, 'friend'), (1,)),
+    '8010': (_friend_set, (1,)),
     '8012': (_gatt_proxy, (0,)),
     '8013': (_gatt_proxy, (1,)),
     '8015': (_phase_get, (2,)),

@@ -2,17 +2,18 @@
 
 Mesh Profile 3.4.5 and 3.4.6 (network layer), 3.5 and 3.6 (transport), 3.8.8 (replay list), 3.9
 (beacons), 3.10 (Key Refresh, IV Update); the order of answers, records and jobs is that of
-docs/FORMATS.md, "The report", "What is stored" and "What is sent". One bearer, no friendships.
+docs/FORMATS.md, "The report", "What is stored" and "What is sent". One bearer.
 """
 from collections.abc import Callable
 from typing import NamedTuple
 
-from . import configuration, iv_index, pdus
-from .ciphers import k2
+from . import configuration, friend_messages, iv_index, pdus
+from .ciphers import Material, k2
 from .flash import Flash
+from .friends import UNSEGMENTED_PAYLOAD, Friends, KeptPdu, OwnMessage, StoredPdu
 from .iv_index import IvState
 from .models import ModelServers
-from .pdus import LowerPdu, NetworkPdu, UpperFields
+from .pdus import Key, LowerPdu, NetworkPdu, UpperFields
 from .publications import Heartbeat, Publisher
 from .records import PublicationRow, Records, is_unicast, is_virtual
 from .segments import MessageName, Own, Reassembly, Sending, all_pieces
@@ -20,29 +21,22 @@ from .segments import MessageName, Own, Reassembly, Sending, all_pieces
 CACHE = 128
 HOUR = 360_000
 BEACON_INTERVAL = 1000
-UNSEGMENTED_PAYLOAD = 11
 FURTHEST_SEGMENT = 0x1fff
 ACKNOWLEDGMENT, HEARTBEAT = 0x00, 0x0a
 
-Job = tuple[int, Callable[[str], None]]
-"""The index of a network key, and what is sent, given the place that its line tells."""
-
-
-class Key(NamedTuple):
-    """A key of an access message with its name, `dev` or `app:` and an index."""
-    name: str
-    value: bytes
-
-    @property
-    def is_app(self) -> bool:
-        return self.name != 'dev'
+Job = tuple[int | None, Callable[[str], None]]
+"""The index of the network key whose master credentials it goes under, None under those of a
+friendship; and what is sent, given the place that its line tells."""
 
 
 class Heard(NamedTuple):
-    """A network PDU with the network key index and the IV Index that it was heard under."""
+    """A network PDU with the network key index and the IV Index that it was heard under; under
+    friendship credentials with these, and with the address of the Low Power node."""
     net: int
     iv_index: int
     pdu: NetworkPdu
+    lpn: int | None = None
+    friendship: Material | None = None
 
 
 class Opened(NamedTuple):
@@ -54,10 +48,11 @@ class Opened(NamedTuple):
 
 
 class Outcome(NamedTuple):
-    """Of a PDU: its answer, a BlockAck, the replies by place of the element, and whether the phase
-    of a network key changed."""
+    """Of a PDU: its answer, a BlockAck, what a control message asks for, the replies by place of
+    the element, and whether the phase of a network key changed."""
     answer: str
     block: int | None = None
+    asked: tuple[Job, ...] = ()
     replies: tuple[tuple[int, bytes], ...] = ()
     key: Key | None = None
     moves_phase: bool = False
@@ -89,6 +84,7 @@ class Life:
         self.servers = ModelServers(records)
         self.publisher = Publisher(records.publications)
         self.heartbeat: Heartbeat | None = None
+        self.friends = Friends(records.unicast)
         self.entries: list[tuple[str, str]] = []
         self.lines: list[Line] = []
 
@@ -101,7 +97,7 @@ class Life:
     def _do(self, kind: str, answer: str, jobs: list[Job]) -> None:
         """Enters an event, and does its jobs, of which those under a key not held aren't made."""
         entry = self._enter(kind, answer)
-        held = [send for net, send in jobs if net in self.records.nets]
+        held = [send for net, send in jobs if net is None or net in self.records.nets]
         for number, send in enumerate(held, 1):
             send(f'{entry}.{number}')
 
@@ -127,46 +123,73 @@ class Life:
 
     # What is sent.
 
-    def _sealed(self, net: int, iv: int, pdu: NetworkPdu) -> str:
-        """The octets under the master credentials of a network key (3.4.6.3)."""
-        return pdus.seal_network(k2(self.records.nets[net].sending), iv, pdu).hex()
+    def _master(self, net: int) -> Material:
+        """The master credentials that are sent under (3.4.6.3)."""
+        return k2(self.records.nets[net].sending)
+
+    def _send_pdu(self, place: str, shown: str, material: Material, iv: int,
+                  pdu: NetworkPdu) -> bytes:
+        octets = pdus.seal_network(material, iv, pdu)
+        self.lines.append(Line(place, shown, octets.hex()))
+        return octets
+
+    def _pass_on(self, place: str, material: Material, iv: int, pdu: NetworkPdu) -> None:
+        """A PDU of another node."""
+        shown = (f'relay {iv:08x} {pdu.seq:06x} {pdu.ctl} {pdu.ttl:02x} {pdu.src:04x}'
+                 f' {pdu.dst:04x} {pdu.transport.hex()}')
+        self._send_pdu(place, shown, material, iv, pdu)
 
     def _relay(self, place: str, heard: Heard) -> None:
         pdu = heard.pdu._replace(ttl=heard.pdu.ttl - 1)
-        text = (f'relay {heard.iv_index:08x} {pdu.seq:06x} {pdu.ctl} {pdu.ttl:02x} {pdu.src:04x}'
-                f' {pdu.dst:04x} {pdu.transport.hex()}')
-        self.lines.append(Line(place, text, self._sealed(heard.net, heard.iv_index, pdu)))
+        self._pass_on(place, self._master(heard.net), heard.iv_index, pdu)
 
-    def _control(self, place: str, net: int, ttl: int, src: int, dst: int, text: bytes) -> None:
+    def _control(self, place: str, material: Material, ttl: int, src: int, dst: int,
+                 text: bytes) -> KeptPdu:
         iv, seq = self._draw()
         shown = f'ctl {iv:08x} {seq:06x} {ttl:02x} {src:04x} {dst:04x} {text.hex()}'
-        octets = self._sealed(net, iv, NetworkPdu(1, ttl, seq, src, dst, text))
-        self.lines.append(Line(place, shown, octets))
+        pdu = NetworkPdu(1, ttl, seq, src, dst, text)
+        return KeptPdu(src, iv, seq, self._send_pdu(place, shown, material, iv, pdu))
 
     def _control_job(self, net: int, ttl: int, src: int, dst: int, text: bytes) -> Job:
-        return net, lambda place: self._control(place, net, ttl, src, dst, text)
+        return net, lambda place: self._control(place, self._master(net), ttl, src, dst, text)
 
-    def _message(self, place: str, net: int, ttl: int, src: int, dst: int, key: Key,
-                 payload: bytes) -> None:
-        """An access message; a long one begins to go in segments, which is an event of its own."""
+    def _sealed(self, message: OwnMessage) -> tuple[tuple[int, int], str, bytes]:
+        """The pair that it draws, what its line shows, and its upper transport PDU."""
+        _, key, ttl, src, dst, payload = message
         iv, seq = self._draw()
+        upper = pdus.seal_upper(key.value, UpperFields(key.is_app, seq, src, dst, iv), payload)
         shown = f'{iv:08x} {seq:06x} {ttl:02x} {src:04x} {dst:04x} {key.name} {payload.hex()}'
-        fields = UpperFields(key.is_app, seq, src, dst, iv)
-        upper = pdus.seal_upper(key.value, fields, payload)
-        first = pdus.first_octet(key.is_app, key.value)
-        if len(payload) <= UNSEGMENTED_PAYLOAD:
-            pdu = NetworkPdu(0, ttl, seq, src, dst, bytes([first]) + upper)
-            self.lines.append(Line(place, f'msg {shown}', self._sealed(net, iv, pdu)))
-        else:
-            self.lines.append(Line(place, f'long {shown}'))
-            self._begin(Own((iv, seq), src, dst, ttl, net, first, upper, self.now))
+        return (iv, seq), shown, upper
 
-    def _message_job(self, net: int, ttl: int, src: int, dst: int, key: Key,
-                     payload: bytes) -> Job:
-        return net, lambda place: self._message(place, net, ttl, src, dst, key, payload)
+    def _short_message(self, place: str, material: Material, message: OwnMessage) -> KeptPdu:
+        """An access message in one PDU."""
+        (iv, seq), shown, upper = self._sealed(message)
+        text = bytes([message.key.first_octet]) + upper
+        pdu = NetworkPdu(0, message.ttl, seq, message.src, message.dst, text)
+        octets = self._send_pdu(place, f'msg {shown}', material, iv, pdu)
+        return KeptPdu(message.src, iv, seq, octets)
+
+    def _long_message(self, place: str, message: OwnMessage) -> None:
+        """An access message that begins to go in segments, which is an event of its own."""
+        pair, shown, upper = self._sealed(message)
+        self.lines.append(Line(place, f'long {shown}'))
+        self._begin(Own(pair, message.src, message.dst, message.ttl, message.net,
+                        message.key.first_octet, upper, self.now))
+
+    def _message_jobs(self, message: OwnMessage) -> list[Job]:
+        """None where it is stored for a Low Power node instead of being sent."""
+        if self.friends.put_own(message):
+            return []
+        net = message.net
+        if len(message.payload) > UNSEGMENTED_PAYLOAD:
+            return [(net, lambda place: self._long_message(place, message))]
+        return [(net, lambda place: self._short_message(place, self._master(net), message))]
 
     def _begin(self, message: Own) -> None:
-        """The segments go at once. `moved` takes another bearer, `befriended` a friendship."""
+        """The segments go at once. `moved` takes another bearer."""
+        if self.friends.befriends(message.dst):
+            self._enter('begin', 'befriended')
+            return
         if self.sending.is_full:
             self._enter('begin', f'sendfull {len(self.sending.messages)}')
             return
@@ -185,8 +208,8 @@ class Life:
         shown = (f'seg {iv:08x} {seq:06x} {ttl:02x} {src:04x} {dst:04x} {seg_o} {message.seg_n}'
                  f' {auth:06x}')
         text = pdus.segment_text(message.first, auth, seg_o, message.upper)
-        octets = self._sealed(message.net, iv, NetworkPdu(0, ttl, seq, src, dst, text))
-        self.lines.append(Line(place, shown, octets))
+        pdu = NetworkPdu(0, ttl, seq, src, dst, text)
+        self._send_pdu(place, shown, self._master(message.net), iv, pdu)
 
     def _segment_job(self, message: Own, seg_o: int) -> Job:
         return message.net, lambda place: self._segment(place, message, seg_o, self._draw())
@@ -208,11 +231,14 @@ class Life:
         if refusal:
             self._enter('net', refusal)
             return
+        if heard.lpn is None:
+            self.friends.put(heard.iv_index, heard.pdu)
         outcome = self._outcome(heard)
         self._do('net', outcome.answer, self._jobs_of(heard, outcome))
 
     def _read(self, octets: bytes) -> Heard | None:
-        """The first reading, by network key index, the old key before the new."""
+        """The first reading, by network key index, the old key before the new, and then by
+        friendship in the order of the offers."""
         iv = self.records.iv.current
         iv -= (iv ^ octets[0] >> 7) & 1
         if iv < 0:
@@ -222,6 +248,10 @@ class Life:
                 pdu = pdus.open_network(k2(key), iv, octets)
                 if pdu:
                     return Heard(net, iv, pdu)
+        for slot in self.friends.slots:
+            pdu = pdus.open_network(slot.material, iv, octets)
+            if pdu:
+                return Heard(slot.net, iv, pdu, slot.lpn, slot.material)
         return None
 
     def _passed_over(self, heard: Heard | None) -> str | None:
@@ -280,7 +310,8 @@ class Life:
             return self._delivered(heard, opened, shown)._replace(block=block)
         if lower.opcode == ACKNOWLEDGMENT:
             self.sending.acknowledge(src, text)
-        return Outcome(f"control {shown} {lower.opcode:02x} {text.hex() or '-'}", block)
+        asked = self._friend_jobs(heard, lower.opcode, text)
+        return Outcome(f"control {shown} {lower.opcode:02x} {text.hex() or '-'}", block, asked)
 
     def _keys_tried(self, heard: Heard, lower: LowerPdu) -> list[tuple[int | None, Key]]:
         if not lower.akf:
@@ -319,11 +350,14 @@ class Life:
         return self._configured(heard.net, opened.payload, outcome)
 
     def _configured(self, net: int, payload: bytes, outcome: Outcome) -> Outcome:
-        asked = configuration.Asked(self.records, self.heartbeat, net, self.now)
+        asked = configuration.Asked(self.records, self.heartbeat, net, self.now,
+                                    self.friends.poll_timeouts())
         answer = configuration.answer(asked, payload)
         if answer is None:
             return outcome
         before = {index: row.phase for index, row in self.records.nets.items()}
+        if answer.ends_friendships:
+            self.friends.end()
         if answer.change:
             self.flash.put(answer.change)
             self.publisher.note(self.records.publications, self.now)
@@ -331,6 +365,44 @@ class Life:
         moves_phase = any(before.get(index, row.phase) != row.phase
                           for index, row in self.records.nets.items())
         return outcome._replace(replies=((0, answer.reply),), moves_phase=moves_phase)
+
+    def _friend_jobs(self, heard: Heard, opcode: int, params: bytes) -> tuple[Job, ...]:
+        """What a control message of a friendship asks to be sent."""
+        asked = friend_messages.Asked(self.friends, self.records, self.now, heard.net, heard.lpn,
+                                      heard.pdu)
+        return tuple(self._friend_job(heard.friendship, send)
+                     for send in friend_messages.take(asked, opcode, params))
+
+    def _friend_job(self, material: Material | None,
+                    send: friend_messages.Control | friend_messages.Answer) -> Job:
+        """Octets of a stored PDU are noted at once, those of other answers behind their line."""
+        own = self.records.unicast
+        if isinstance(send, friend_messages.Control):
+            if send.net is not None:
+                return self._control_job(send.net, send.ttl, own, send.dst, send.text)
+            return None, lambda place: self._control(place, material, send.ttl, own, send.dst,
+                                                     send.text)
+        message, lpn, fsn = send
+        if isinstance(message, KeptPdu):
+            return None, lambda place: self._repeat(place, message)
+        if isinstance(message, StoredPdu):
+            iv, pdu = message
+            octets = pdus.seal_network(material, iv, pdu)
+            self.friends.keep(lpn, fsn, KeptPdu(pdu.src, iv, pdu.seq, octets))
+            return None, lambda place: self._pass_on(place, material, iv, pdu)
+
+        def answer(place: str) -> None:
+            if isinstance(message, OwnMessage):
+                kept = self._short_message(place, material, message)
+            else:
+                kept = self._control(place, material, message.ttl, own, message.dst, message.text)
+            self._enter('kept', 'kept' if self.friends.keep(lpn, fsn, kept) else 'dropped')
+        return None, answer
+
+    def _repeat(self, place: str, kept: KeptPdu) -> None:
+        """The octets that answered the same Poll before."""
+        src, iv, seq, octets = kept
+        self.lines.append(Line(place, f'rep {src:04x} {iv:08x} {seq:06x}', octets.hex()))
 
     def _ttl(self, pdu: NetworkPdu) -> int:
         """Of an acknowledgment or a reply."""
@@ -345,9 +417,11 @@ class Life:
             seq_zero = pdus.read_lower(pdu).segment.seq_zero
             text = pdus.acknowledgment(seq_zero, outcome.block)
             jobs.append(self._control_job(net, self._ttl(pdu), pdu.dst, pdu.src, text))
+        jobs += outcome.asked
         for place, reply in outcome.replies:
             src = records.unicast + place
-            jobs.append(self._message_job(net, self._ttl(pdu), src, pdu.src, outcome.key, reply))
+            message = OwnMessage(net, outcome.key, self._ttl(pdu), src, pdu.src, reply)
+            jobs += self._message_jobs(message)
         return jobs + (self._beacon_jobs() if outcome.moves_phase else [])
 
     # A beacon is heard.
@@ -398,6 +472,7 @@ class Life:
         before, now = self.now, self.now + ticks
         moves_iv = self._hours(now // HOUR - before // HOUR)
         self.now = now
+        self.friends.tick(now)
         jobs = [self._control_job(message.net, message.ack_ttl, message.dst, message.name[0],
                                   pdus.acknowledgment(message.seq_zero, message.block))
                 for message in self.reassembly.acks_due(now)]
@@ -405,8 +480,8 @@ class Life:
                  for seg_o in message.pieces_due()]
         if moves_iv or now // BEACON_INTERVAL > before // BEACON_INTERVAL:
             jobs += self._beacon_jobs()
-        jobs += [self._publication_job(name[0], row, self.servers.status(now, name))
-                 for name, row in self.publisher.due(now)]
+        for name, row in self.publisher.due(now):
+            jobs += self._publication_jobs(name[0], row, self.servers.status(now, name))
         if self.heartbeat and self.heartbeat.is_due(now):
             jobs.append(self._heartbeat_job(self.heartbeat))
         self._do('tick', f'ticked {now}', jobs)
@@ -422,11 +497,11 @@ class Life:
             self._move_iv(iv)
         return iv is not None
 
-    def _publication_job(self, element: int, row: PublicationRow, status: bytes) -> Job:
+    def _publication_jobs(self, element: int, row: PublicationRow, status: bytes) -> list[Job]:
         ttl = self.records.ttl if row.ttl == configuration.DEFAULT_TTL else row.ttl
         key = app_key(row.app, self.records.app_sending(row.app))
         net = self.records.apps[row.app].net
-        return self._message_job(net, ttl, element, row.address, key, status)
+        return self._message_jobs(OwnMessage(net, key, ttl, element, row.address, status))
 
     def _heartbeat_job(self, beats: Heartbeat) -> Job:
         """A heartbeat (3.6.5.10) with the features in use, Relay and Friend."""
@@ -449,8 +524,8 @@ class Life:
         else:
             net = self.records.apps[app].net
             sealed_by = app_key(app, self.records.app_sending(app))
-        src = self.records.unicast + place
-        self._do('send', 'planned', [self._message_job(net, ttl, src, dst, sealed_by, payload)])
+        message = OwnMessage(net, sealed_by, ttl, self.records.unicast + place, dst, payload)
+        self._do('send', 'planned', self._message_jobs(message))
 
     def send_control(self, dst: int, ttl: int, text: bytes) -> None:
         job = self._control_job(min(self.records.nets), ttl, self.records.unicast, dst, text)

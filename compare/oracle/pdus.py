@@ -30,6 +30,21 @@ class Segment(NamedTuple):
     seq_auth: int
 
 
+class Key(NamedTuple):
+    """A key of an access message with its name, `dev` or `app:` and an index."""
+    name: str
+    value: bytes
+
+    @property
+    def is_app(self) -> bool:
+        return self.name != 'dev'
+
+    @property
+    def first_octet(self) -> int:
+        """AKF and AID of a message under it."""
+        return first_octet(self.is_app, self.value)
+
+
 @dataclass(frozen=True)
 class LowerPdu:
     """`opcode` is 0 of an access message, the other fields 0 of a control message."""
