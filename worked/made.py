@@ -415,6 +415,88 @@ def one_after_the_other():
     yield Row('one bearer after the other', 'START-000\nb0 RAW\nsync\nb1 RAW\n', f'{LIFE}{entries}{first}{second}end\n')
 
 
+# Both models of four elements by element and model: the two octets that tell each of them in a message, the element, and its Status.
+EIGHT_MODELS = [
+    (f'{1 + k // 2:02x}12', ['0010', '0210'][k % 2], f'120{1 + k // 2}', ['820400', '82080000'][k % 2]) for k in range(8)
+]
+
+
+def publications_set():
+    """Each is bound to the key, and then set to publish, in the order opposite to that of the models, with periods of 10 to 80 ticks."""
+    script, entries, lines, place, heard, own = '', '', '', 3, 0x3129AD, 2
+    for element, model, _, _ in EIGHT_MODELS:
+        script += f'b0 talk NK dev:DK 12345678 04 {heard:06x} {heard:06x} 0003 1201 u 803d{element}2301{model}\n'
+        entries += f'e {place} b0 {place} net delivered 0003 1201 12345678 {heard:06x} dev 803d{element}2301{model}\n'
+        lines += f's b0 {place}.1 msg 12345678 {own:06x} 07 1201 0003 dev 803e00{element}2301{model}\n'
+        place, heard, own = place + 1, heard + 1, own + 1
+    for period, (element, model, _, _) in enumerate(reversed(EIGHT_MODELS), 1):
+        fields = f'{element}00c0230100{period:02x}00{model}'
+        script += f'b0 talk NK dev:DK 12345678 04 {heard:06x} {heard:06x} 0003 1201 0 03{fields}\n'
+        script += f'b0 talk NK dev:DK 12345678 04 {heard:06x} {heard + 1:06x} 0003 1201 1 03{fields}\n'
+        entries += f'e {place} b0 {place} net waiting 1\n'
+        entries += f'e {place + 1} b0 {place + 1} net delivered 0003 1201 12345678 {heard:06x} dev 03{fields}\n'
+        lines += f's b0 {place + 1}.1 ctl 12345678 {own:06x} 07 1201 0003 00{heard % 8192 * 4:04x}00000003\n'
+        auth, place, heard = own + 1, place + 2, heard + 2
+        lines += f's b0 {place - 1}.2 long 12345678 {auth:06x} 07 1201 0003 dev 801900{fields}\n'
+        lines += f's b0 {place}.1 seg 12345678 {auth:06x} 07 1201 0003 0 1 {auth:06x}\n'
+        lines += f's b0 {place}.2 seg 12345678 {auth + 1:06x} 07 1201 0003 1 1 {auth:06x}\n'
+        script += f'b0 peer NK 12345678 1 04 {heard:06x} 0003 1201 00{auth * 4:04x}00000003\n'
+        entries += f'e {place} b0 {place} begin begun\n'
+        entries += f'e {place + 1} b0 {place + 1} net control 0003 1201 12345678 {heard:06x} 00 {auth * 4:04x}00000003\n'
+        place, heard, own = place + 2, heard + 1, auth + 2
+    return script, entries, lines, place, own
+
+
+def published_at(place, own, told):
+    """Ticks, each with the moment behind it and with how many of the last models publish then."""
+    script, entries, lines = '', '', ''
+    for ticks, now, count in told:
+        script += f'b0 tick {ticks}\n'
+        entries += f'e {place} b0 {place} tick ticked {now}\n'
+        for job, (_, _, element, status) in enumerate(EIGHT_MODELS[8 - count :], 1):
+            lines += f's b0 {place}.{job} msg 12345678 {own:06x} 00 {element} c000 app:123 {status}\n'
+            own += 1
+        place += 1
+    return script, entries, lines
+
+
+def eight_publications():
+    script, entries, lines, place, own = publications_set()
+    ticks, ticked, sent = published_at(place, own, [(9, 9, 0), (1, 10, 1), (25, 35, 3), (1, 36, 0), (44, 80, 8)])
+    later = published_at(1, 256, [(9, 9, 0), (71, 80, 8)])
+    start = 'provision 1201 4 12345678 00 456 NK DK\nlife\nb0 net PDU-A\nb0 net PDU-B\n'
+    first = f'KEY-ADDED-HEARD\n{entries}{ticked}KEY-ADDED-SENT\n{lines}{sent}end\n'
+    second = f'life 2 12345678 n 12345678 000100\n{later[1]}{later[2]}end\n'
+    title = 'both models of four elements publish by element and model, in whatever order they were set'
+    yield Row(title, f'{start}{script}{ticks}life\n{later[0]}', first + second)
+
+
+def many_heartbeats():
+    """Count Log 0c: 2,048 heartbeats, a second apart. Behind so many of them the Count Log that is told: 1,025 left, 1,024, one and none."""
+    told = {1023: '0c', 1024: '0b', 2047: '01', 2048: '00'}
+    script, entries, lines, place, heard, own = '', '', '', 1, 1, 0
+
+    def asked(message, reply):
+        nonlocal script, entries, lines, place, heard, own
+        script += f'b0 talk NK dev:DK 12345678 04 {heard:06x} {heard:06x} 0003 1201 u {message}\n'
+        entries += f'e {place} b0 {place} net delivered 0003 1201 12345678 {heard:06x} dev {message}\n'
+        lines += f's b0 {place}.1 msg 12345678 {own:06x} 07 1201 0003 dev {reply}\n'
+        place, heard, own = place + 1, heard + 1, own + 1
+
+    asked('8039fdff0c010000000000', '0600fdff0c010000000000')
+    for k, now in enumerate([1, *range(100, 204800, 100), 204800, 1000000], 1):
+        before = 0 if k == 1 else 1 if k == 2 else 100 * (k - 2)
+        script += f'b0 tick {now - before}\n'
+        entries += f'e {place} b0 {place} tick ticked {now}\n'
+        if k <= 2048:
+            lines += f's b0 {place}.1 ctl 12345678 {own:06x} 00 1201 fffd 0a000005\n'
+            own += 1
+        place += 1
+        if k in told:
+            asked('8038', f'0600fdff{told[k]}010000000000')
+    yield Row('a heartbeat with Count Log 0c goes 2,048 times', f'START-000\n{script}', f'{LIFE}{entries}{lines}end\n')
+
+
 MADE = [
     long_message,
     nine_messages,
@@ -435,6 +517,8 @@ MADE = [
     seventeen_for_a_friend,
     seventeenth_behind_an_answer,
     one_after_the_other,
+    eight_publications,
+    many_heartbeats,
 ]
 
 

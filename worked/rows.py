@@ -6,8 +6,18 @@ of the command, where they aren't `run`. An empty line ends a row; other lines b
 import pathlib
 
 # Each word with what stands in its place. A word that begins another comes after it. The two network PDUs are sample data of the Mesh
-# Profile: both segments of a message from 0003 to 1201 under the device key, whose payload is ADD.
+# Profile: both segments of a message from 0003 to 1201 under the device key, whose payload is ADD. A LAMP and a DIMMER have this key bound
+# to the OnOff Server and to the Level Server; behind them what such a node tells that it heard and sent.
 NAMES = [
+    ('LAMP-HEARD', 'KEY-ADDED-HEARD\ne 3 b0 3 net delivered 0003 1201 12345678 3129ad dev 803d011223010010'),
+    ('LAMP-SENT', 'KEY-ADDED-SENT\ns b0 3.1 msg 12345678 000002 07 1201 0003 dev 803e00011223010010'),
+    ('LAMP', 'KEY-ADDED\nb0 talk NK dev:DK 12345678 04 3129ad 3129ad 0003 1201 u 803d011223010010'),
+    ('DIMMER-HEARD', 'KEY-ADDED-HEARD\ne 3 b0 3 net delivered 0003 1201 12345678 3129ad dev 803d011223010210'),
+    ('DIMMER-SENT', 'KEY-ADDED-SENT\ns b0 3.1 msg 12345678 000002 07 1201 0003 dev 803e00011223010210'),
+    ('DIMMER', 'KEY-ADDED\nb0 talk NK dev:DK 12345678 04 3129ad 3129ad 0003 1201 u 803d011223010210'),
+    ('KEY-ADDED-HEARD', 'life 1 12345678 n 12345678 000000\ne 1 b0 1 net waiting 1\ne 2 b0 2 net delivered 0003 1201 12345678 3129ab dev ADD'),
+    ('KEY-ADDED-SENT', 's b0 2.1 ctl 12345678 000000 07 1201 0003 0026ac00000003\ns b0 2.2 msg 12345678 000001 07 1201 0003 dev 800300563412'),
+    ('KEY-ADDED', 'START-456\nb0 net PDU-A\nb0 net PDU-B'),
     ('START-000', 'provision 1201 1 12345678 00 000 NK DK\nlife'),
     ('START-456', 'provision 1201 1 12345678 00 456 NK DK\nlife'),
     ('RAW', 'raw fffd 00 034b50057e400000010000'),
