@@ -53,9 +53,9 @@ def from_many(iv):
 
 def full_lists():
     peers, entries = from_many('12345678')
-    script = f'START-000\n{peers}b0 peer NK 12345678 1 00 000002 0101 1201 7f\n'
-    rest = 'e 514 b0 514 net control 0101 1201 12345678 000002 7f -\n'
-    yield Row('a replay list has room for 512 sources', script, f'{LIFE}{entries}{rest}end\n')
+    script = f'START-000\n{peers}b0 peer NK 12345678 1 00 000001 0101 ffff 7e\nb0 peer NK 12345678 1 00 000002 0101 1201 7f\n'
+    rest = 'e 514 b0 514 net replay 12345678 000001\ne 515 b0 515 net control 0101 1201 12345678 000002 7f -\n'
+    yield Row('a replay list has room for 512 sources, and goes on for these', script, f'{LIFE}{entries}{rest}end\n')
     peers, entries = from_many('00000005')
     start = 'provision 1201 1 00000005 00 000 NK DK\nlife\n'
     script = f'{start}{peers}b0 beacon NK 00 0000002f\nb0 peer NK 0000002f 1 00 000002 0301 1201 7f\n'
