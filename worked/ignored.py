@@ -47,6 +47,7 @@ LENGTHS = {
 
 # A value, the message around it, and the reply in each range of the values that it may have.
 COMPOSITION = '0200ffff010001000002050000000300000000100210'
+TTL_SHOWN, COUNT_SHOWN = '801907011200000000{}00000000', '0600fdff{}010000000000'
 VALUES = [
     ('a page', '8008{}', [(0x00, 0xFF, COMPOSITION)]),
     ('Beacon', '800a{}', [(0x00, 0x01, '800b{}')]),
@@ -57,10 +58,10 @@ VALUES = [
     ('Relay', '8027{}00', [(0x00, 0x01, '8028{}00')]),
     ('Relay Retransmit', '802700{}', [(0x00, 0xFF, '802800{}')]),
     ('a transition of a Key Refresh', '80160000{}', [(0x02, 0x02, '80170f000000'), (0x03, 0x03, '801700000000')]),
-    ('a Publish TTL', '03011200000000{}00000000', [(first, last, '801907011200000000{}00000000') for first, last in [(0x00, 0x7F), (0xFF, 0xFF)]]),
+    ('a Publish TTL', '03011200000000{}00000000', [(0x00, 0x7F, TTL_SHOWN), (0xFF, 0xFF, TTL_SHOWN)]),
     ('a Publish Period', '0301120000000000{}000000', [(0x00, 0xFF, '80190701120000000000{}000000')]),
     ('a Publish Retransmit', '030112000000000000{}0000', [(0x00, 0xFF, '8019070112000000000000{}0000')]),
-    ('the Count Log of a heartbeat', '8039fdff{}010000000000', [(first, last, '0600fdff{}010000000000') for first, last in [(0x00, 0x11), (0xFF, 0xFF)]]),
+    ('the Count Log of a heartbeat', '8039fdff{}010000000000', [(0x00, 0x11, COUNT_SHOWN), (0xFF, 0xFF, COUNT_SHOWN)]),
     ('the Period Log of a heartbeat', '8039fdff02{}0000000000', [(0x00, 0x11, '0600fdff02{}0000000000')]),
     ('the TTL of a heartbeat', '8039fdff0201{}00000000', [(0x00, 0x7F, '0600fdff0201{}00000000')]),
 ]
