@@ -8,7 +8,7 @@
 //! Tables are read at places that depend on the key and on the text, so time, through the processor's cache, tells of both: this isn't
 //! AES in constant time.
 //!
-//! A caller to begin with: `encrypts_as_the_standards_say` in `crates/worked_ciphers/src/blocks.rt`.
+//! A caller to begin with: `aes` and `chained` in `crates/worked_vectors/src/ciphers.rt`.
 #![tactic(auto)]
 
 mod schedule;

@@ -1,7 +1,7 @@
 //! AES-CCM (RFC 3610) in place, with a nonce of 13 octets, a MIC of 4 or 8 octets, and additional data: L = 2 and M = 4 or 8 in the
 //! RFC's terms. Nothing is allocated. That the time of a call does not hang on its data is not claimed.
 //!
-//! A caller to begin with: `round_trip` and `is_refused` in `crates/worked_ciphers/src/sealing.rt`.
+//! A caller to begin with: `sealed` and `open` in `crates/worked_vectors/src/ciphers.rt`.
 #![tactic(auto)]
 
 mod chaining;

@@ -4,7 +4,7 @@
 //! - `keys`: the keys by index, and what is opened and sent under them
 //! - `held`: the values with their AIDs and schedules, in the order in which they are tried
 //!
-//! A caller to begin with: `phases` in `crates/worked_pdus/src/application_keys.rt`.
+//! A caller to begin with: `derive` in `crates/mesh_reading/src/keys.rt`.
 #![tactic(auto)]
 
 mod held;

@@ -6,7 +6,7 @@
 //!
 //! Nothing here is printed: the types have no `Debug`.
 //!
-//! A caller to begin with: `keep_what_they_are_made_of` in `crates/worked_pdus/src/schedules.rt`.
+//! A caller to begin with: `keep` in `crates/net_keys/src/held.rt`, and `keep` in `crates/app_keys/src/held.rt`.
 #![tactic(auto)]
 
 mod network;

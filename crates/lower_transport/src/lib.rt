@@ -6,7 +6,7 @@
 //! - `sequence`: SeqAuth
 //! - `laws`: a text has one reading
 //!
-//! A caller to begin with: `is_read` and `standard_samples` in `crates/worked_pdus/src/lower.rt`.
+//! A caller to begin with: `lower` in `crates/worked_vectors/src/pdus.rt`.
 #![tactic(auto)]
 
 mod laws;

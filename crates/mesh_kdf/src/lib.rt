@@ -6,7 +6,7 @@
 //! - `derivations`: s1 to k4, and virtual addresses
 //! - `credentials`: what k2 derives
 //!
-//! A caller to begin with: `identifiers` and `credentials` in `crates/worked_ciphers/src/derivations.rt`.
+//! A caller to begin with: `k2` and `k3` in `crates/worked_vectors/src/ciphers.rt`.
 #![tactic(auto)]
 
 mod credentials;

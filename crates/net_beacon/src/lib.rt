@@ -3,7 +3,7 @@
 //! - `writing`: the octets of a beacon
 //! - `reading`: which key has a beacon with these octets, and what it says
 //!
-//! A caller to begin with: `standard_sample` in `crates/worked_pdus/src/beacons.rt`.
+//! A caller to begin with: `beacon` and `read` in `crates/worked_vectors/src/keys.rt`.
 #![tactic(auto)]
 
 mod reading;

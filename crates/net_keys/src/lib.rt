@@ -6,7 +6,7 @@
 //! - `credentials`: the material of master and friendship credentials
 //! - `laws`: why the keys that have a PDU's NID suffice to read it
 //!
-//! A caller to begin with: `phases` in `crates/worked_pdus/src/network_keys.rt`.
+//! A caller to begin with: `candidates` and `transmit` in `crates/worked_vectors/src/keys.rt`.
 #![tactic(auto)]
 
 mod credentials;

@@ -5,7 +5,7 @@
 //! - `fields`: the fixed fields
 //! - `obfuscation`: the header, obfuscated and clear
 //!
-//! A caller to begin with: `seals_and_reads_as_the_standard_says` and `reads_by_kept_schedules` in `crates/worked_pdus/src/network.rt`.
+//! A caller to begin with: `network` and `heard` in `crates/worked_vectors/src/pdus.rt`.
 #![tactic(auto)]
 
 mod fields;

@@ -8,7 +8,7 @@
 //! - `control_writing`: from a control message to octets
 //! - `laws`: octets have one reading
 //!
-//! A caller to begin with: `meets` and `kept_keys` in `crates/worked_pdus/src/access.rt`.
+//! A caller to begin with: `access`, `opened` and `control` in `crates/worked_vectors/src/messages.rt`.
 #![tactic(auto)]
 
 mod control_reading;
