@@ -9,7 +9,7 @@
 //! - `entering`: what a call does apart from the flash
 //! - `opening`: how it is opened
 //!
-//! A caller to begin with: `live` in `crates/worked_lives/src/tests/living.rt`.
+//! A caller to begin with: `live` in `crates/mesh_run/src/lives.rt`, which has `life` of `mesh_node` run it.
 #![tactic(auto)]
 
 mod entering;

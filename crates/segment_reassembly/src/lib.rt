@@ -8,7 +8,7 @@
 //! - `pieces`: the pieces of a message
 //! - `segment`: what a segment says
 //!
-//! A caller to begin with: `copies` and `timers` in `worked_tables`.
+//! A caller to begin with: `take_low` and `hear_named` in `crates/mesh_hearing/src/lower.rt`.
 #![tactic(auto)]
 
 mod message;

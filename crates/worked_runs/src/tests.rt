@@ -1,4 +1,5 @@
-//! Runs over flashes that fail, and with gates.
+//! Runs over flashes that fail, and at a gate.
 
+mod ends;
 mod flashes;
 mod gates;
