@@ -5,8 +5,8 @@ A row is a line `@ TITLE`, the lines of a script, a line `=>`, and the lines of 
 of the command, where they aren't `run`. An empty line ends a row; other lines between two rows are comments.
 
 A group of texts is a line `@ TITLE`, `% WORDS` or not, `^ HEAD` or not, and then a line `ANSWER: TEXT` for each: behind HEAD and TEXT the
-program writes the answer and no more, or a report, where the answer is `ok`. In texts \\n, \\r, \\t and \\xNN stand for octets, and `{N PIECE}`
-for a piece so many times. A block of lines `WORD = LINE` has words of that file.
+program writes the answer and no more, or a report of all lives, where the answer is `ok`. In texts \\n, \\r, \\t and \\xNN stand for octets,
+and `{N PIECE}` for a piece so many times. A block of lines `WORD = LINE` has words of that file.
 """
 import pathlib
 import re
@@ -68,7 +68,7 @@ STATUSES = {'usage': 2, 'script': 3, 'toolong': 7, 'report': 11}
 
 
 class Text:
-    """A text, the words that the program is run with, and the line that it writes; `ok` is a report."""
+    """A text, the words that the program is run with, and the line that it writes; `ok` is a report of all lives."""
 
     def __init__(self, title, words, octets, answer):
         self.title, self.words, self.octets, self.answer = title, words, octets, answer
