@@ -14,6 +14,52 @@ def long_message():
     yield Row('a message of 380 octets in 32 segments, and its acknowledgment', f'START-000\n{script}', f'{LIFE}{entries}{last}{sent}end\n')
 
 
+def far_segment():
+    """A message of 380 octets to a group, whose last segment has the greatest SEQ that it may have. It is heard as octets that another
+    implementation sealed, and as an outside node says it. The node relays nothing."""
+    script = (
+        'b0 talk NK dev:DK 12345678 00 000001 000001 0004 1201 0 ADD\nb0 talk NK dev:DK 12345678 00 000001 000002 0004 1201 1 ADD\n'
+        'b0 talk NK dev:DK 12345678 00 000003 000003 0004 1201 u 801b011200c00010\n'
+        'b0 talk NK dev:DK 12345678 00 000004 000004 0004 1201 u 80270000\n'
+    )
+    entries = (
+        'e 1 b0 1 net waiting 1\ne 2 b0 2 net delivered 0004 1201 12345678 000001 dev ADD\n'
+        'e 3 b0 3 net delivered 0004 1201 12345678 000003 dev 801b011200c00010\n'
+        'e 4 b0 4 net delivered 0004 1201 12345678 000004 dev 80270000\n'
+    )
+    sent = (
+        's b0 2.1 ctl 12345678 000000 00 1201 0004 00000400000003\ns b0 2.2 msg 12345678 000001 00 1201 0004 dev 800300563412\n'
+        's b0 3.1 msg 12345678 000002 00 1201 0004 dev 801f00011200c00010\ns b0 4.1 msg 12345678 000003 00 1201 0004 dev 80280000\n'
+    )
+    talk = 'b0 talk NK app:AK 12345678 04 3129ab'
+    script += ''.join(f'{talk} {0x3129ab + piece:06x} 0003 c000 {piece} {PAYLOAD}\n' for piece in range(31))
+    entries += ''.join(f'e {piece + 5} b0 {piece + 5} net waiting {31 - piece}\n' for piece in range(31))
+    entries += f'e 36 b0 36 net delivered 0003 c000 12345678 3129ab app:123 {PAYLOAD}\n'
+    octets = 'b0 net 68c72b4c2fd12defe5323db05eb0a1cf279b7126bbe65a79c792b75c96\n'
+    title = 'the last of 32 segments has a SEQ 8,191 above that of its message, as'
+    for told, last in [('octets', octets), ('a line', f'{talk} 3149aa 0003 c000 31 {PAYLOAD}\n')]:
+        yield Row(f'{title} {told}', f'START-456\n{script}{last}', f'{LIFE}{entries}{sent}end\n')
+
+
+def otherwise_spelled():
+    """A script with comments, empty lines, CR LF, upper-case digits, more than one space, and no LF at its end; two of its four lives have no
+    lines."""
+    script = (
+        '# a node\r\n\r\nprovision  7FFE 2   12345678 03 Abc 7DD7364CD842AD18C17C2B820C84C3D6 9D6DD0E96EB25DC19A40ED9914F8F03F\r\nlife\r\n'
+        'b0 talk 7DD7364CD842AD18C17C2B820C84C3D6 dev:9D6DD0E96EB25DC19A40ED9914F8F03F 12345678 00 00000A 00000A 000C 7FFE u 8042\r\n'
+        '#\r\n\r\nb0 peer NK 12345678 1   00 00000B 000C 7FFF 7F\nsync\r\nb0 peer NK 12345678 1 00 00000c 000c 7ffd 7f\r\n'
+        'b0 raw FFFD 7F 0A01\nlife\r\n\r\nlife\n# nothing\nlife\n\n\nb7    tick  1'
+    )
+    entries = (
+        'e 1 b0 1 net delivered 000c 7ffe 12345678 00000a dev 8042\ne 2 b0 2 net control 000c 7fff 12345678 00000b 7f -\n'
+        'e 3 b0 3 net notmine\ne 4 b0 4 raw planned\n'
+    )
+    sent = 's b0 1.1 msg 12345677 000000 00 7ffe 000c dev 8043bc0a\ns b0 4.1 ctl 12345677 000001 7f 7ffe fffd 0a01\n'
+    later = ''.join(f'life {life} 12345678 p 12345677 000100\n{entry}end\n' for life, entry in [(2, ''), (3, ''), (4, 'e 1 b7 1 tick ticked 1\n')])
+    title = 'a script with comments, empty lines and lives, CR LF, spaces, and digits of either case'
+    yield Row(title, script, f'life 1 12345678 p 12345677 000000\n{entries}{sent}end\n{later}')
+
+
 def nine_messages():
     peers = ''.join(f'b0 peer NK 12345678 0 04 000000 010{k} 1201 {FIRST_SEGMENT}\n' for k in range(1, 10))
     script = f'{peers}b0 tick 1000\nb0 peer NK 12345678 0 04 000001 0109 1201 {FIRST_SEGMENT}\n'
@@ -317,21 +363,28 @@ POLLED_BY = 'NK/0201/1201/0000/0000 12345678 1 00'
 
 def sample_of_a_friendship():
     """A Friend whose address is that of the Mesh Profile's sample data makes so many offers to one node that the next one, which another
-    node asks for, has the sample's FriendCounter. That node's Request and Poll are PDUs of the sample data."""
+    node asks for, has the sample's FriendCounter. That node's Request and first Poll are PDUs of the sample data, and an outside node seals
+    the next Poll with the credentials of the sample; with the two counters exchanged it isn't read."""
     before = 0x072f
     peers = ''.join(f'b0 peer NK 12345678 1 00 {k:06x} 0301 fffd 03{ASKS}\n' for k in range(1, before + 1))
     request, poll = '68eca487516765b5e5bfdacbaf6cb7fb6bff871f035444ce83a670df', '5e84eba092380fb0e5d0ad970d579a4e88051c'
     script = f'provision 2345 1 12345678 00 000 NK DK\nlife\n{peers}b0 net {request}\nb0 net {poll}\n'
+    script += 'b0 peer NK/1201/2345/0000/072F 12345678 1 00 000003 1201 2345 0101\n'
+    script += 'b0 peer NK/1201/2345/072F/0000 12345678 1 00 000004 1201 2345 0100\n'
     entries = ''.join(f'e {k} b0 {k} net control 0301 fffd 12345678 {k:06x} 03 {ASKS}\n' for k in range(1, before + 1))
     entries += (
         f'e 1840 b0 1840 net control 1201 fffd 12345678 000001 03 {ASKS}\n'
         'e 1841 b0 1841 net control 1201 2345 12345678 000002 01 00\n'
         'e 1842 b0 1842 kept kept\n'
+        'e 1843 b0 1843 net control 1201 2345 12345678 000003 01 01\n'
+        'e 1844 b0 1844 kept kept\n'
+        'e 1845 b0 1845 net unread\n'
     )
     lines = ''.join(f's b0 {k + 1}.1 ctl 12345678 {k:06x} 00 2345 0301 046410107f{k:04x}\n' for k in range(before))
     lines += (
         's b0 1840.1 ctl 12345678 00072f 00 2345 1201 046410107f072f\n'
         's b0 1841.1 ctl 12345678 000730 00 2345 1201 02001234567800\n'
+        's b0 1843.1 ctl 12345678 000731 00 2345 1201 02001234567800\n'
     )
     title = 'a friendship of the sample data, behind 1,839 offers'
     yield Row(title, script, f'{LIFE}{entries}{lines}end\n')
@@ -499,6 +552,8 @@ def many_heartbeats():
 
 MADE = [
     long_message,
+    far_segment,
+    otherwise_spelled,
     nine_messages,
     from_many_in_segments,
     own_come_back,

@@ -1,34 +1,44 @@
-"""Scripts whose report isn't one text alone, with a search through it; and texts that aren't run, with how the program ends.
+"""Scripts whose report isn't one text alone, with a search through it; and words that are no command.
 
 Bearers are served in any order. Whatever it is: no line shows a pair or a message that an earlier one shows, and where nothing is cut, each
 number is drawn once and none is left out.
 """
 import re
 
+from rows import Text, spelled
+
 TWO_PDUS = 'START-000\nb0 RAW\nb0 RAW\n'
-# a PDU that is sample data of the Mesh Profile, with its octets but for the last
-LINE = 's b0 2.1 ctl 12345678 000001 00 1201 fffd 034b50057e400000010000 68eca487516765b5e5bfdacbaf6cb7fb6bff871f035444ce83a670'
-HEARD = 'e 1 b0 1 net control 0101 1201 12345678 000001 7f -\n'
 
-NO_COMMANDS = ['', 'walk', 'run -- --hex', 'run --help', 'run --version', 'run more', 'run --hex --hex', 'run --HEX']
-
-# The words, the text, what the program writes, its exit status, and its message.
-ENDS = [
-    *[(words.split(), TWO_PDUS, '', 2, 'usage\n') for words in NO_COMMANDS],
-    (['run'], '', '', 3, 'script 1 2\n'),
-    (['run'], 'START-000\nb0 net 6\n', '', 3, 'script 3 5\n'),
-    (['run'], 'life\n', '', 3, 'script 1 2\n'),
-    (['run'], 'START-000\nb9 net 68\n', '', 3, 'script 3 3\n'),
-    (['run'], 'START-000\nb0 net\n', '', 3, 'script 3 4\n'),
-    (['run'], 'START-000\narm 0 f0\nb0 RAW\narm 1 f0\n', '', 3, 'script 5 6\n'),
-    (['run'], f'START-000\nb0 send 0 0003 07 dev {"7f" * 381}\n', '', 3, 'script 3 5\n'),
-    (['audit'], f'key NK\n{LINE}df\n', 'sound 2\n', 0, ''),
-    (['audit'], f'key NK\n{LINE}df\n{LINE}df\n', 'sound 3\n', 0, ''),
-    (['audit'], f'key NK\n{LINE}df\n{LINE}e0\n', 'reuse 2 3\n', 0, ''),
-    (['audit'], HEARD + HEARD, 'twice 1 2\n', 0, ''),
-    (['audit'], '', 'sound 0\n', 0, ''),
-    (['audit'], 'x', '', 11, 'report 1\n'),
+# Words that are no command.
+NO_COMMANDS = [
+    [],
+    [''],
+    ['walk'],
+    ['help'],
+    ['--help'],
+    ['--version'],
+    ['--', 'run'],
+    ['--hex', 'run'],
+    ['run', '--'],
+    ['run', '--', '--hex'],
+    ['run', '--help'],
+    ['run', '--version'],
+    ['run', 'more'],
+    ['run', 'hex'],
+    ['run', 'audit'],
+    ['run', '-hex'],
+    ['run', '--he'],
+    ['run', '--HEX'],
+    ['run', '--hex=true'],
+    ['run', '--hex', '--hex'],
+    ['audit', '--hex'],
 ]
+
+
+def no_commands():
+    """Words that are no command, over a script."""
+    for words in NO_COMMANDS:
+        yield Text(f'no command: {words}', words, spelled(TWO_PDUS).encode(), 'usage')
 
 
 def doubled(report):
@@ -123,7 +133,43 @@ def polled_at_once():
         yield f'Polls through two bearers {title}', f'{asks}{script}', answered_polls
 
 
+def has_lines(lines):
+    """Whether a report has these lines."""
+
+    def search(report):
+        missing = [line for line in lines if f'{line}\n' not in report]
+        return f'no {missing[0]!r}' if missing else None
+
+    return search
+
+
+def samples_sent():
+    """The node sends messages #16 and #18 of the Mesh Profile's sample data, once it has drawn six numbers: two of them for the
+    acknowledgment and the Status of an AppKey Add. The node's device key may be named as that of another node."""
+    drawn = 'START-456\nb0 net PDU-A\nb0 net PDU-B\n' + 'b0 RAW\n' * 4
+    lines = [
+        's b0 7.1 msg 12345678 000006 0b 1201 0003 dev 800300563412 68e80e5da5af0e6b9be7f5a642f2f98680e61c3a8b47f228',
+        's b0 8.1 msg 12345678 000007 03 1201 ffff app:123 0400000000 6848cba437860e5673728a627fb938535508e21a6baf57',
+    ]
+    for key in ['dev', 'dev:DK']:
+        script = f'{drawn}b0 send 0 0003 0b {key} 800300563412\nb0 send 0 ffff 03 app:123 0400000000\n'
+        yield f'messages of the sample data are sent under {key}', script, has_lines(lines), ['run', '--hex']
+
+
+def ticked(report):
+    """What is wrong with a life of 4,096 phases, each of 9 ticks."""
+    due = ''.join(f'e {place} b5 {place} tick ticked {9 * place}\n' for place in range(1, 4097))
+    return None if report == f'life 1 12345678 n 12345678 000000\n{due}end\n' else 'another report'
+
+
+def most_phases():
+    """As many phases as a life has lines of bearers at most."""
+    yield '4,096 phases', 'START-000\n' + 'b5 tick 9\nsync\n' * 4096, ticked
+
+
 def all_cases():
     yield from cut_anywhere()
     yield from many_bearers()
     yield from polled_at_once()
+    yield from samples_sent()
+    yield from most_phases()

@@ -8,8 +8,6 @@
 mod draft;
 pub mod planning;
 pub mod scripts;
-#[cfg(test)]
-mod tests;
 
 pub use crate::planning::plan_of;
 pub use crate::scripts::{provision_of, script_law};

@@ -11,8 +11,6 @@ pub mod events;
 mod kept;
 pub mod outside;
 mod talking;
-#[cfg(test)]
-mod tests;
 
 pub use crate::events::Happening;
 pub use crate::outside::{OutsideNode, beacon_octets};

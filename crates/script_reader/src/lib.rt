@@ -8,7 +8,7 @@
 //! - `forms`, `digits`: what one word stands for
 //! - `words`: a text cut into lines, and a line into words
 //!
-//! A caller to begin with: `read` in `src/tests.rt`, and `node` in `src/tests/lines.rt`, which looks at what it gives.
+//! A caller to begin with: `run_text` in `crates/mesh_run/src/scripts.rt`; `worked/refused.texts` has texts on both sides of each rule.
 #![tactic(auto)]
 
 mod counted;
@@ -19,8 +19,6 @@ pub mod forms;
 mod node_lines;
 mod outside_lines;
 pub mod reading;
-#[cfg(test)]
-mod tests;
 mod words;
 
 pub use crate::reading::{LONGEST_SCRIPT, ScriptStop, read_low_power_script, read_script};

@@ -1,6 +1,4 @@
-//! Tests of what is read before a script is run. There is no code here but tests.
-//!
-//! - `commands`: words after the program's name, to the command that they are
+//! Scripts of a Low Power node, which the program doesn't run. There is no code here but tests; other scripts are shown by `worked/`.
 #![tactic(auto)]
 
 #[cfg(test)]

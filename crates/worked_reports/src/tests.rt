@@ -1,5 +1,0 @@
-//! Reports: written, read and audited.
-
-mod audits;
-mod reading;
-mod writing;
