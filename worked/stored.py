@@ -341,8 +341,7 @@ MASKS = ['00', 'ff', 'f0', '55']
 def at_every_call_of_a_compaction():
     """A message whose record is put into a full bank: 18 calls for four records that are written anew, and two for its own. In the next life
     the one behind it is cut too, at another call. From the header's gate on the new bank counts, and has room."""
-    cuts = [(call, mask) for call in range(20) for mask in (MASKS if call >= 17 else ['ff', '55'][call % 2 :][:1])]
-    for call, mask in cuts:
+    for call, mask in [(call, mask) for call in range(20) for mask in MASKS]:
         again = 19 - call
         counts = call > 17 or (call, mask) == (17, 'ff')
         left = 2 if counts else 20
