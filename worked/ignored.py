@@ -156,7 +156,7 @@ def by_value():
         yield from conversations(f'each value of {name}', told)
 
 
-def all_ignored():
+def all_made():
     yield from by_length()
     yield from by_opcode()
     yield from by_value()

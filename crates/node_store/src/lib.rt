@@ -21,7 +21,7 @@
 //! - `mounting`: a store is found again, and migrated
 //! - `laws`: what is true of the tie of a store and its flash, and of what an image holds
 //!
-//! A caller to begin with: `the_octets_of_a_node` in `crates/worked_stores/src/tests/stores.rt`.
+//! A caller to begin with: `accepted` in `crates/worked_stores/src/tests/stores.rt`.
 //!
 //! # Invariants
 //!
@@ -50,32 +50,34 @@
 //!
 //! # What a cut leaves, case by case
 //!
-//! For each what is on the flash then, what `mount` answers after power came, the clause, and the tests that show it (in `worked_stores`).
+//! For each what is on the flash then, what `mount` answers after power came, the clause, and the scripts or the tests that show it (these in
+//! `worked_stores`).
 //!
 //! 1. While a node is provisioned, in the first seven of eight calls: slots of bank 0, and no header that is sound. `NoNode`. The eighth is
-//!    the header's gate: `NoNode`, or the node (`any_moment` of `provision`, `IsMade`; `a_cut_while_a_node_is_provisioned`). Where an octet
-//!    isn't ff by then, the flash has to be erased before it is provisioned again (`erased` of `provision`; `no_node`).
+//!    the header's gate: `NoNode`, or the node (`any_moment` of `provision`, `IsMade`). Where an octet isn't ff by then, the flash has to be
+//!    erased before it is provisioned again (`erased` of `provision`).
 //! 2. In the first call of a put, the 31 octets of a slot: its gate is ff, so it holds nothing. It is used where an octet isn't ff, and the
-//!    next record goes behind it. The records of before (`any_moment` of `put`, `IsPut`; `a_torn_put`, `a_cut_while_a_record_is_put`).
+//!    next record goes behind it. The records of before (`any_moment` of `put`, `IsPut`; `worked/made.py`, a cut at each call of a message).
 //! 3. In the second call, its gate: other than 00, as in case 2; or 00, and these records with the new one, though `put` answered `Flash`
-//!    (the same clause; `a_cut_while_a_record_is_put`).
+//!    (the same clause and scripts).
 //! 4. Among several records: those of before with the first few of the new ones behind them (`any_moment` of `put_all`, `IsFront`;
-//!    `a_cut_while_two_records_are_put`).
+//!    the same scripts).
 //! 5. In an erase of a compaction: of the bank that doesn't count each bit is the old one or 1, and its header doesn't come to count by that
-//!    (`IsTidy`). The records of before, from the other bank (`any_moment` of `put`, `IsPut`; `a_cut_while_a_put_compacts`).
+//!    (`IsTidy`). The records of before, from the other bank (`any_moment` of `put`, `IsPut`; `worked/stored.py`, a cut at each call of a
+//!    compaction).
 //! 6. In a slot of a compaction: that bank's header is blank. As case 5.
 //! 7. In the header of a compaction: its gate isn't 00, as case 5; or it is, and the new bank counts, whose records say the same (`Holds`).
-//!    The new record isn't there in either. Behind it cases 2 and 3, in the new bank (the same clause and test).
+//!    The new record isn't there in either. Behind it cases 2 and 3, in the new bank (the same clause and scripts).
 //! 8. In a migration, which a mount makes of a bank of format 01: as cases 5 to 7. The records of before, in the one format or in the other,
-//!    and the same mark (`any_moment`, `same_mark` of `mount`, `IsHeld`; `a_cut_while_a_mount_migrates`). The next mount begins anew, but for
-//!    one behind the whole header, which writes nothing (`stays`).
+//!    and the same mark (`any_moment`, `same_mark` of `mount`, `IsHeld`; `worked/stored.py`, a cut at each call of a migration). The next
+//!    mount begins anew, but for one behind the whole header, which writes nothing (`stays`).
 //! 9. A second cut, of what is done anew behind a first: what a cut leaves is tidy and holds records, so all of this is said of it again
-//!    (`kept` of `mount`; `a_second_cut_while_a_mount_migrates`, `a_cut_while_a_put_compacts`).
+//!    (`kept` of `mount`; the scripts of cases 5 and 8, each of which is cut twice).
 //! 10. Between two calls, the last of which was Ok: its records, the new one last (`durable`; `the_octets_of_a_node`).
 //!
 //! What no cut leaves is damage, `Damaged` with the first slot that is so (`cause`, `exact` of `mount`; `IsDamaged`): a gated slot that is no
-//! record of the bank's format, that makes a table grow past its size, or that lowers the known IV Index (`what_is_damaged`,
-//! `what_passes_a_limit`, `two_names_in_a_bank_of_format_one`).
+//! record of the bank's format, that makes a table grow past its size, or that lowers the known IV Index (`what_is_mounted`,
+//! `what_is_a_record`, `the_size_of_each_table`).
 #![tactic(auto)]
 
 pub mod laws;

@@ -4,7 +4,7 @@
 //! - `decoding`: from a slot to its record
 //! - `ranges`: whether a record's fields are in their ranges
 //!
-//! A caller to begin with: `texts` in `crates/worked_stores/src/tests/texts.rt`.
+//! A caller to begin with: `take` in `crates/worked_stores/src/tests/records.rt`.
 #![tactic(auto)]
 
 mod decoding;

@@ -1,10 +1,7 @@
-//! Worked cases of what a node stores, over flashes in memory. There is no code here but tests.
+//! Worked cases of what a node stores: octets of records and of a flash. There is no code here but tests.
 //!
-//! - `building`: records as the tests write them
-//! - `texts`: each record's octets; `records`: what each record changes, and the size of each table; `snapshots`: the records that say a value
-//!   anew
-//! - `stores`: a node that is provisioned, its octets, what a cut leaves, and what mounting refuses
-//! - `reserves`: sequence numbers as they are reserved; `messages`: messages that are accepted once
+//! - `records`: the octets of records with what they say, those beside that are no record, and the size of each table
+//! - `stores`: the octets of a node that accepts a message and draws a number, and what mounting refuses
 #![tactic(auto)]
 
 #[cfg(test)]

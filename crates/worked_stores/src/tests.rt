@@ -1,9 +1,4 @@
-//! The store of a node, from the octets of one record up, and what is kept in it.
+//! The store of a node, from the octets of one record up.
 
-mod building;
-mod messages;
 mod records;
-mod reserves;
-mod snapshots;
 mod stores;
-mod texts;
