@@ -1,8 +1,7 @@
 //! How a run of a script ends.
 
-ghost use Rattle.std.specs.Prelude.{IsTrue};
-
-use flash_model::Bench;
+use flash_model::{Flash, MemFlash};
+use flaw_flash::FlawFlash;
 use mesh_base::memory::{MemSink, SureSource};
 use mesh_node::Gate;
 use mesh_run::{Status, run};
@@ -50,20 +49,26 @@ fn lived(report: &[u8]) -> End {
     }
 }
 
-/// How a run of the script over this flash and at this gate ends.
-pub(super) fn end_of<R: AllocGlobal + Threads + Wait + Sync, B: Bench, G: Gate>(
+/// How a run of the script at this gate ends, over a flash whose octet at 5 is this one, and whose read with this number fails; the first read
+/// has the number 1.
+pub(super) fn end_of<R: AllocGlobal + Threads + Wait + Sync, G: Gate>(
     rt: &R,
     script: &str,
-    flash: B,
+    octet: u8,
+    read: u32,
     gate: &G,
-) -> End
-    requires honest { IsTrue (B.chip flash).honest }
-{
+) -> End {
     let alloc = rt.alloc();
     let mut source = SureSource::new(script.as_bytes());
-    let mut sink = match MemSink::new(alloc, &[]) {
-        Ok(sink) => sink,
-        Err(_) => return End::Other,
+    let Ok(mut sink) = MemSink::new(alloc, &[]) else {
+        return End::Other;
+    };
+    let Ok(mut flash) = MemFlash::new(alloc) else {
+        return End::Other;
+    };
+    let _ = flash.program(5, &[octet]);
+    let Ok(flash) = FlawFlash::new(alloc, flash, &[read]) else {
+        return End::Other;
     };
     let ended = run(rt, alloc, &["run"], &mut source, &mut sink, flash, gate);
     told(ended.status, sink.octets())

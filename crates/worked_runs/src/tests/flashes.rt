@@ -1,8 +1,6 @@
 //! Flashes that aren't erased, and flashes whose reads fail.
 
 use super::ends::{End, end_of};
-use flash_model::{Flash, MemFlash};
-use flaw_flash::FlawFlash;
 use mesh_node::FreeGate;
 use std::sync::Wait;
 use std::thread::Threads;
@@ -15,34 +13,10 @@ b0 raw fffd 00 034b50057e400000010000
 b0 raw fffd 00 034b50057e400000010000
 ";
 
-/// Whether a run over a flash ends as it may whose octet at 5 isn't ff.
-fn refuses_octets<R: AllocGlobal + Threads + Wait + Sync>(rt: &R) -> bool {
-    let mut flash = match MemFlash::new(rt.alloc()) {
-        Ok(flash) => flash,
-        Err(_) => return false,
-    };
-    let is_written = flash.program(5, &[0x7f]).is_ok();
-    let end = end_of(rt, SCRIPT, flash, &FreeGate);
-    is_written && matches!(end, End::NotErased)
-}
-
-/// How a run over a flash ends whose read with this number fails.
-fn without<R: AllocGlobal + Threads + Wait + Sync>(rt: &R, number: u32) -> End {
-    let alloc = rt.alloc();
-    let flash = match MemFlash::new(alloc) {
-        Ok(flash) => flash,
-        Err(_) => return End::Other,
-    };
-    match FlawFlash::new(alloc, flash, &[number]) {
-        Ok(flash) => end_of(rt, SCRIPT, flash, &FreeGate),
-        Err(_) => End::Other,
-    }
-}
-
 /// The number of the first read that isn't made, or 0 where one before it fails and this isn't told.
 fn first_not_made<R: AllocGlobal + Threads + Wait + Sync>(rt: &R) -> u32 {
     for number in 1..10_000u32 {
-        match without(rt, number) {
+        match end_of(rt, SCRIPT, 0xff, number, &FreeGate) {
             End::Faulty | End::Cut => {}
             End::Whole => return number,
             _ => return 0,
@@ -53,7 +27,8 @@ fn first_not_made<R: AllocGlobal + Threads + Wait + Sync>(rt: &R) -> u32 {
 
 #[test]
 fn a_flash_that_is_not_erased(rt: HostRuntime) {
-    assert!(rt; refuses_octets(&rt));
+    let end = end_of(&rt, SCRIPT, 0x7f, 0, &FreeGate);
+    assert!(rt; matches!(end, End::NotErased));
 }
 
 #[test]

@@ -1,12 +1,9 @@
 //! That bearers really run beside one another: a gate at which each waits for the other.
 
 use super::ends::{End, end_of};
-use flash_model::MemFlash;
 use mesh_node::Gate;
-use std::sync::Wait;
 use std::sync::atomic::{AtomicBool, Ordering};
 use std::thread;
-use std::thread::Threads;
 
 /// How often a gate looks before it gives up.
 const TURNS: u32 = 200_000_000;
@@ -66,14 +63,6 @@ impl Gate for Meeting {
     }
 }
 
-/// Whether a run comes to its end at this gate.
-fn passes<R: AllocGlobal + Threads + Wait + Sync>(rt: &R, gate: &Meeting) -> bool {
-    match MemFlash::new(rt.alloc()) {
-        Ok(flash) => matches!(end_of(rt, FOUR_PDUS, flash, gate), End::Whole),
-        Err(_) => false,
-    }
-}
-
 #[test]
 fn two_bearers_run_beside_one_another(rt: HostRuntime) {
     let gate = Meeting {
@@ -82,7 +71,8 @@ fn two_bearers_run_beside_one_another(rt: HostRuntime) {
         first_went_on: AtomicBool::new(false),
         second_went_on: AtomicBool::new(false),
     };
-    assert!(rt; passes(&rt, &gate));
+    let end = end_of(&rt, FOUR_PDUS, 0xff, 0, &gate);
+    assert!(rt; matches!(end, End::Whole));
     assert!(rt; gate.first_went_on.load(Ordering::SeqCst));
     assert!(rt; gate.second_went_on.load(Ordering::SeqCst));
 }
