@@ -238,6 +238,53 @@ def more_than_a_bank():
         yield Row(f'cut at a compaction: arm {order}', f'START-000\narm {order}\n{lines}life\n{NEXT_TWO}', f'{LIFE}{before}{end}\n{second}')
 
 
+def behind_a_torn_slot():
+    """A message whose replay record is torn, and comes again in the next life: its record stands behind the torn one then, and counts in the
+    third life. A slot takes two calls, of which the second one writes its gate."""
+    message = 'b0 peer NK 12345678 1 00 000001 0101 1201 7f\n'
+    taken = 'e 1 b0 1 net control 0101 1201 12345678 000001 7f -\n'
+    replayed = 'e 1 b0 1 net replay 12345678 000001\n'
+    for calls in range(2):
+        for mask in ['00', 'ff', 'f0', '0f', '55', 'aa']:
+            second = replayed if calls == 1 and mask == 'ff' else taken
+            report = (
+                f'{LIFE}cut {calls + 1}\nlife 2 12345678 n 12345678 000000\n{second}end\n'
+                f'life 3 12345678 n 12345678 000000\n{replayed}end\n'
+            )
+            script = f'START-000\narm {calls} {mask}\n{message}life\n{message}life\n{message}'
+            yield Row(f'a message behind a torn slot: arm {calls} {mask}', script, report)
+
+
+def at_every_call_of_a_compaction():
+    """A bank is full, and a message comes, for which the bank is compacted: 8 erase calls, two for each of four records, and two for the
+    header. One of them is torn, and in the next life, where the message comes again, one of the compaction that is made then. Whichever bank
+    counts, the third life finds what was stored, and takes the message."""
+    lines, _ = messages(1021)
+    _, before = messages(1020)
+    told = SECOND_TAKEN.split('\n')[0]
+    for calls in range(18):
+        for mask in [['00', 'f0', '55', 'ff'][calls % 4]] if calls < 17 else ['00', 'f0', '55', 'ff']:
+            orders = f'arm {2040 + calls} {mask}', f'arm {17 - calls} {mask}'
+            script = f'START-000\n{orders[0]}\n{lines}life\n{orders[1]}\n{NEXT_TWO}life\n{NEXT_TWO}'
+            report = (
+                f'{LIFE}{before}cut {2041 + calls}\nlife 2 12345678 n 12345678 000000\n{told}\ncut {18 - calls}\n'
+                f'life 3 12345678 n 12345678 000000\n{SECOND_TAKEN}'
+            )
+            yield Row(f'cut in two compactions: {orders[0]}, {orders[1]}', script, report)
+
+
+def more_than_two_banks():
+    """Bank 1 has four records behind the compaction, and room for 1,019 messages. The next one compacts it into bank 0, behind 4,096 calls."""
+    lines, _ = messages(2040)
+    _, before = messages(2039)
+    asked = NEXT_TWO.replace('0003fc', '0007f7').replace('0003fd', '0007f8')
+    taken = SECOND_TAKEN.replace('0003fc', '0007f7').replace('0003fd', '0007f8')
+    for order, end in [('4099 00', 'cut 4100'), ('4113 0f', 'cut 4114'), ('4113 ff', 'cut 4114')]:
+        script = f'START-000\narm {order}\n{lines}life\n{asked}'
+        report = f'{LIFE}{before}{end}\nlife 2 12345678 n 12345678 000000\n{taken}'
+        yield Row(f'cut at the compaction of bank 1: arm {order}', script, report)
+
+
 def numbers_where_a_bank_is_full():
     lines, entries = messages(1020)
     planned = 'e 1021 b0 1021 raw planned\n'
@@ -561,7 +608,10 @@ MADE = [
     five_messages,
     to_a_group,
     conversations,
+    behind_a_torn_slot,
     more_than_a_bank,
+    at_every_call_of_a_compaction,
+    more_than_two_banks,
     numbers_where_a_bank_is_full,
     reset_where_a_bank_is_full,
     at_a_migration,

@@ -15,7 +15,7 @@
 //!
 //! Not promised: that a draw succeeds in the end, that bearers draw in turn, that two threads run.
 //!
-//! A caller to begin with: `draws_up_to_the_mark` and `spent_until_the_next_iv_index` in `crates/worked_flashes/src/tests/words.rt`.
+//! A caller to begin with: `another`, `work` and `drawn` in `crates/worked_flashes/src/tests/bearers.rt`.
 #![tactic(auto)]
 
 mod closed;

@@ -12,7 +12,7 @@
 //! Hence what mounting accepts: the bank whose header is sound, of two the one whose generation follows the other's, and of
 //! that bank the slots with gate 00. A slot with any octet other than ff is used, and isn't written again before its erase.
 //!
-//! A caller to begin with: `a_journal_is_made_and_found` in `crates/worked_flashes/src/tests/journals.rt`.
+//! A caller to begin with: `make`, `append`, `kind_at` and `few` in `crates/worked_flashes/src/tests/journals.rt`.
 //!
 //! # Octets
 //!
@@ -52,7 +52,7 @@
 //!
 //! | Call | Writes |
 //! |---|---|
-//! | 1 to 8 | erases the sectors 8 c to 8 c + 7, in ascending order (test `sectors_are_erased_in_ascending_order`) |
+//! | 1 to 8 | erases the sectors 8 c to 8 c + 7, in ascending order (test `a_journal_of_few_slots_and_of_many`) |
 //! | 9 to 8 + 2 k | the two calls of each item, in order, in the slots 1 to k of bank c |
 //! | 9 + 2 k | octets 0 to 30 of the header of c, with format 02 and the next generation, modulo 2^32 |
 //! | 10 + 2 k | the gate of that header: 00. From here on bank c counts (`durable`) |

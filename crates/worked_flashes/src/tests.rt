@@ -1,7 +1,5 @@
 //! What stands below the store of a node: the medium, the journal on it, and what threads share.
 
-mod flashes;
+mod bearers;
 mod flaws;
 mod journals;
-mod turns;
-mod words;
