@@ -8,7 +8,7 @@
 //! - `armed`, `octets`, `past`: which of its calls is torn, writes under a mask, and what it has been through
 //! - `rewriting`: two calls in a row, over any flash
 //!
-//! A caller to begin with: `octet` and `reads` in `crates/worked_flashes/src/tests/flaws.rt`.
+//! A caller to begin with: `octet` and `reads` in `crates/worked_parts/src/tests/flaws.rt`.
 //!
 //! # What an adapter must give
 //!

@@ -1,3 +1,4 @@
+pub mod Plan
 pub mod Phases
 pub mod Stopped
 pub mod Pairs

@@ -11,11 +11,11 @@ use Rattle.life_plans.proofs.Bearers.{lists_of}
 use Rattle.life_plans.specs.Plans.{IsPlanFor, plan_of_lines, step_of}
 use Rattle.machine_contract.specs.Ranges.{IsEvent}
 use Rattle.machine_contract.specs.Ranges as Asked
-use Rattle.mesh_node.specs.Plan.{AreUnarmed, HasOneArm, IsStep, steps_of}
-use Rattle.mesh_node.specs.Plan as Node
-use Rattle.mesh_node.specs.declared.plan.LifePlan.{LifePlan}
-use Rattle.mesh_node.specs.declared.plan.PlanStep.{PlanStep}
-use Rattle.mesh_node.specs.declared.plan.PlanStep.TheVariants as P
+use Rattle.life_laws.specs.Plan.{AreUnarmed, HasOneArm, IsStep, steps_of}
+use Rattle.life_laws.specs.Plan as Node
+use Rattle.life_laws.specs.declared.plan.LifePlan.{LifePlan}
+use Rattle.life_laws.specs.declared.plan.PlanStep.{PlanStep}
+use Rattle.life_laws.specs.declared.plan.PlanStep.TheVariants as P
 use Rattle.mesh_types.specs.declared.events.Event.{Event}
 use Rattle.mesh_types.specs.declared.events.SendKey.{SendKey}
 use Rattle.mesh_types.specs.declared.events.SendKey.TheVariants as K

@@ -1,7 +1,7 @@
 -- What a script has a node do, as a run has it: the plan of each life, and what the node is provisioned with.
 use Rattle.std.specs.Prelude.{ℕ, List, map, All}
-use Rattle.mesh_node.specs.Plan.{HasOneArm, IsStep}
-use Rattle.mesh_node.specs.declared.plan.LifePlan.{LifePlan}
+use Rattle.life_laws.specs.Plan.{HasOneArm, IsStep}
+use Rattle.life_laws.specs.declared.plan.LifePlan.{LifePlan}
 use Rattle.node_store.specs.Provisioning.{provisioning}
 use Rattle.node_store.specs.declared.provision.Provision.{Provision}
 use Rattle.run_definitions.specs.Order.{Step, arm, phase}

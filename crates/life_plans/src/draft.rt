@@ -3,12 +3,12 @@
 
 ghost use Rattle.std.specs.Prelude.{◌≡◌, ◌<◌, [], ◌∷◌, ◌++◌, length, map, replicate, IfOk, IfSome, OnOk};
 ghost use Rattle.life_plans.specs.Drafts.{begun, ended, with_event, with_happening, with_line};
-ghost use Rattle.mesh_node.specs.Plan.{steps_of};
+ghost use Rattle.life_laws.specs.Plan.{steps_of};
 ghost use Rattle.run_definitions.specs.Order.{arm};
 ghost use Rattle.script_events.specs.Happenings.{IsRead, said};
 ghost use Rattle.std.specs.Option.{option_map};
 
-use mesh_node::{LifePlan, PlanStep};
+use life_laws::plan::{LifePlan, PlanStep};
 use mesh_types::events::Event;
 use script_definitions::line::{ArmLine, ScriptLine};
 use script_events::{Happening, OutsideNode};
@@ -31,7 +31,7 @@ impl Model for Draft {
     ghost use Rattle.std.specs.Prelude.{◌≡◌, length, map, IfSome};
     ghost use Rattle.std.specs.Option.{option_map};
     ghost use Rattle.life_plans.specs.Drafts.{Drafted};
-    ghost use Rattle.mesh_node.specs.Plan.{steps_of};
+    ghost use Rattle.life_laws.specs.Plan.{steps_of};
 
     ghost Value = { Drafted };
 

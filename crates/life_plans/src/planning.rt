@@ -3,13 +3,13 @@
 
 ghost use Rattle.std.specs.Prelude.{◌≡◌, ℕ, All, IfOk};
 ghost use Rattle.life_plans.specs.Plans.{IsPlanFor, plan_of_lines};
-ghost use Rattle.mesh_node.specs.Plan.{steps_of};
+ghost use Rattle.life_laws.specs.Plan.{steps_of};
 ghost use Rattle.script_definitions.specs.Ranges.{IsLife};
 ghost use Rattle.script_definitions.specs.declared.kind.Grammar.TheVariants as G;
 ghost use Rattle.script_events.specs.Happenings.{IsRead};
 
 use crate::draft::Draft;
-use mesh_node::LifePlan;
+use life_laws::plan::LifePlan;
 use script_definitions::line::ScriptLine;
 use script_events::OutsideNode;
 use std::alloc::{AllocError, Global};

@@ -7,7 +7,7 @@
 //! - `facts`, `seen`: what a line is compared by, and what the lines before it used and accepted
 //! - `seals`: whether the octets of a line are those of the PDU that it tells
 //!
-//! A caller to begin with: `audit_text` in `crates/mesh_run/src/audits.rt`; `worked/audits.texts` has texts with their verdicts.
+//! A caller to begin with: `audit_text` in `crates/run_steps/src/audits.rt`; `worked/audits.texts` has texts with their verdicts.
 #![tactic(auto)]
 
 pub mod auditing;

@@ -6,9 +6,9 @@ use Rattle.std.proofs.lemmas.List.Elements.{All-tail}
 use Rattle.flash_model.specs.Chip.{Arm, Chip, IsFresh, KeepsCount, Setting, Stays}
 use Rattle.machine_contract.specs.Opening.{IsNodeFlash}
 use Rattle.run_definitions.specs.Order.{Step, arm, phases_of}
-use Rattle.mesh_node.specs.declared.plan.PlanStep.{PlanStep}
-use Rattle.mesh_node.specs.declared.plan.PlanStep.TheVariants as P
-use Rattle.mesh_node.specs.Plan.{HasOneArm, behind_arm, steps_of}
+use Rattle.life_laws.specs.declared.plan.PlanStep.{PlanStep}
+use Rattle.life_laws.specs.declared.plan.PlanStep.TheVariants as P
+use Rattle.life_laws.specs.Plan.{HasOneArm, behind_arm, steps_of}
 use Rattle.mesh_node.specs.Steps.{IsArmedFirst, IsFirstGiven, IsOfPlan, IsSameOrOf, MayFollow, first_order}
 
 -- the steps behind it

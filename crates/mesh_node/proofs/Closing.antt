@@ -21,12 +21,12 @@ use Rattle.locked_node.specs.Node.{NodeView}
 use Rattle.locked_node.specs.Stands.{IsLater, IsNode}
 use Rattle.life_laws.specs.Pairs.{PairsSo}
 use Rattle.life_laws.proofs.OneLife.{idle_life}
-use Rattle.mesh_node.specs.declared.plan.LifeLog.{LifeLog}
+use Rattle.life_laws.specs.declared.plan.LifeLog.{LifeLog}
 use Rattle.mesh_node.specs.Drawn.{TellsDrawn}
 use Rattle.mesh_node.specs.Going.{IsOver}
 use Rattle.mesh_node.specs.Lives.{Lives, cut_calls}
-use Rattle.mesh_node.specs.declared.plan.PlanStep.{PlanStep}
-use Rattle.mesh_node.specs.Plan.{HasOneArm, life_of, steps_of}
+use Rattle.life_laws.specs.declared.plan.PlanStep.{PlanStep}
+use Rattle.life_laws.specs.Plan.{HasOneArm, life_of, steps_of}
 use Rattle.mesh_node.specs.Ran.{Ran}
 use Rattle.mesh_node.specs.Steps.{HasGiven, IsGiven, IsOfPlan}
 use Rattle.mesh_node.proofs.Drawn.{words_of}

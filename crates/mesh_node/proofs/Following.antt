@@ -18,10 +18,10 @@ use Rattle.life_laws.specs.Pairs.{PairsSo}
 use Rattle.life_laws.specs.Phases.{AreDone}
 use Rattle.life_laws.proofs.Ordering.{none_done, ordered}
 use Rattle.life_laws.proofs.Pairing.{empty_all, no_pairs}
-use Rattle.mesh_node.specs.declared.plan.PlanStep.{PlanStep}
-use Rattle.mesh_node.specs.declared.plan.PlanStep.TheVariants as P
+use Rattle.life_laws.specs.declared.plan.PlanStep.{PlanStep}
+use Rattle.life_laws.specs.declared.plan.PlanStep.TheVariants as P
 use Rattle.mesh_node.specs.Going.{IsGoing, IsOver}
-use Rattle.mesh_node.specs.Plan.{step_of, steps_of}
+use Rattle.life_laws.specs.Plan.{step_of, steps_of}
 use Rattle.mesh_node.specs.Steps.{IsArmedBy, IsOfPlan, IsSameNode, IsSameOrOf, MayArm, MayFollow}
 
 -- no step is done yet

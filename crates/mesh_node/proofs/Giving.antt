@@ -5,9 +5,9 @@ use Rattle.flash_model.specs.Arming.{IsReached}
 use Rattle.flash_model.specs.Chip.{Arm, Chip}
 use Rattle.mesh_types.specs.declared.events.Event.{Event}
 use Rattle.run_definitions.specs.Order.{arm, phase}
-use Rattle.mesh_node.specs.declared.plan.PlanStep.{PlanStep}
-use Rattle.mesh_node.specs.declared.plan.PlanStep.TheVariants as P
-use Rattle.mesh_node.specs.Plan.{AreUnarmed, HasOneArm, behind_arm, step_of, steps_of}
+use Rattle.life_laws.specs.declared.plan.PlanStep.{PlanStep}
+use Rattle.life_laws.specs.declared.plan.PlanStep.TheVariants as P
+use Rattle.life_laws.specs.Plan.{AreUnarmed, HasOneArm, behind_arm, step_of, steps_of}
 use Rattle.mesh_node.specs.Steps.{HasGiven, IsArmedBy, IsFirstGiven, IsGiven, IsOfPlan}
 use Rattle.mesh_node.proofs.Arming.{among_more}
 

@@ -1,4 +1,3 @@
-pub mod Plan
 pub mod Going
 pub mod Steps
 pub mod Drawn

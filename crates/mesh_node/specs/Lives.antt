@@ -14,10 +14,10 @@ use Rattle.run_definitions.specs.RunOf.{LifeOf}
 use Rattle.store_definitions.specs.Config.{config_of}
 use Rattle.store_definitions.specs.Recovered.{IsRecovered}
 use Rattle.std.specs.Prelude.{All, Some}
-use Rattle.mesh_node.specs.declared.plan.LifeLog.{LifeLog}
-use Rattle.mesh_node.specs.declared.plan.LifePlan.{LifePlan}
+use Rattle.life_laws.specs.declared.plan.LifeLog.{LifeLog}
+use Rattle.life_laws.specs.declared.plan.LifePlan.{LifePlan}
 use Rattle.mesh_node.specs.Drawn.{TellsDrawn}
-use Rattle.mesh_node.specs.Plan.{HasOneArm, IsStep, life_of}
+use Rattle.life_laws.specs.Plan.{HasOneArm, IsStep, life_of}
 use Rattle.mesh_node.specs.Steps.{IsGiven, IsOfPlan}
 
 -- A plan for a node that any image of the flash recovers: at most 8 bearers, at most one order to tear a call, and events that the node may have.

@@ -8,10 +8,10 @@ use Rattle.run_definitions.specs.Order.{Step, is_cut}
 use Rattle.run_definitions.specs.RunOf.{LifeOf}
 use Rattle.store_definitions.specs.Recovered.{IsRecovered}
 use Rattle.locked_node.specs.Stands.{IsLater}
-use Rattle.mesh_node.specs.declared.plan.LifeLog.{LifeLog}
+use Rattle.life_laws.specs.declared.plan.LifeLog.{LifeLog}
 use Rattle.mesh_node.specs.Lives.{IsPrintable, cut_calls}
 use Rattle.mesh_node.specs.Drawn.{TellsDrawn}
-use Rattle.mesh_node.specs.Plan.{life_of}
+use Rattle.life_laws.specs.Plan.{life_of}
 use Rattle.mesh_node.specs.Steps.{HasGiven, IsOfPlan}
 
 pub record Ran (layers : Layers) (IsNodeImage : List ℕ → Type 0) (plan : List Step) (start : Chip) (log : LifeLog)

@@ -4,10 +4,10 @@ use Rattle.std.specs.List.{Contains}
 use Rattle.flash_model.specs.Chip.{Arm, Chip}
 use Rattle.machine_contract.specs.Standing.{IsSameFlash}
 use Rattle.run_definitions.specs.Order.{Step, arm}
-use Rattle.mesh_node.specs.Plan.{AreUnarmed, HasOneArm}
+use Rattle.life_laws.specs.Plan.{AreUnarmed, HasOneArm}
 use Rattle.locked_node.specs.Node.{NodeView}
-use Rattle.mesh_node.specs.declared.plan.PlanStep.{PlanStep}
-use Rattle.mesh_node.specs.declared.plan.PlanStep.TheVariants as P
+use Rattle.life_laws.specs.declared.plan.PlanStep.{PlanStep}
+use Rattle.life_laws.specs.declared.plan.PlanStep.TheVariants as P
 
 -- the same machine, over a flash that the life found as it did
 pub record IsSameNode {F : Type 0} (old new : NodeView F) : Type 0 where

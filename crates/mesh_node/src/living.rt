@@ -10,13 +10,13 @@ ghost use Rattle.store_definitions.specs.Recovered.{IsRecovered};
 ghost use Rattle.machine_contract.specs.Started.{IsStarted};
 ghost use Rattle.machine_contract.specs.Opening.{IsNodeFlash};
 ghost use Rattle.mesh_node.specs.Lives.{IsPlanned, Lives, cut_calls};
-ghost use Rattle.mesh_node.specs.Plan.{IsStep, behind_arm, steps_of};
+ghost use Rattle.life_laws.specs.Plan.{IsStep, behind_arm, steps_of};
 ghost use Rattle.mesh_node.specs.Ran.{Ran};
 ghost use Rattle.mesh_node.specs.Steps.{IsFirstGiven, IsOfPlan, MayFollow};
 
-use crate::plan::{LifeLog, LifePlan, PlanStep};
 use crate::steps::{arm_first, do_steps};
 use flash_model::Bench;
+use life_laws::plan::{LifeLog, LifePlan, PlanStep};
 use locked_node::{Known, Node};
 use machine_contract::{History, Machine, StartFault, Started};
 use mesh_types::report::{End, Opened};

@@ -7,12 +7,12 @@ ghost use Rattle.run_definitions.specs.Order.{phases_of};
 ghost use Rattle.locked_node.specs.Node.{origin_of};
 ghost use Rattle.node_bearer.specs.Did.{AreEvents};
 ghost use Rattle.mesh_node.specs.Going.{IsGoing, IsOver};
-ghost use Rattle.mesh_node.specs.Plan.{IsStep, behind_arm, step_of, steps_of};
+ghost use Rattle.life_laws.specs.Plan.{IsStep, behind_arm, step_of, steps_of};
 ghost use Rattle.mesh_node.specs.Steps.{HasGiven, IsArmedBy, IsArmedFirst, IsSameNode, IsSameOrOf, MayArm, MayFollow};
 
 use crate::log::{has_stopped, no_counts, no_lines, take_lines};
-use crate::plan::PlanStep;
 use flash_model::Bench;
+use life_laws::plan::PlanStep;
 use locked_node::Node;
 use machine_contract::Machine;
 use mesh_types::events::Event;

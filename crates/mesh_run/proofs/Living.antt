@@ -6,8 +6,8 @@ use Rattle.flash_model.specs.Chip.{Chip}
 use Rattle.life_plans.specs.Plans.{IsPlanFor, plan_of_lines}
 use Rattle.machine_contract.specs.Opening.{EachRecovered}
 use Rattle.mesh_node.specs.Lives.{IsPlanned}
-use Rattle.mesh_node.specs.Plan.{IsStep}
-use Rattle.mesh_node.specs.declared.plan.LifePlan.{LifePlan}
+use Rattle.life_laws.specs.Plan.{IsStep}
+use Rattle.life_laws.specs.declared.plan.LifePlan.{LifePlan}
 use Rattle.run_definitions.specs.Order.{Step}
 use Rattle.script_definitions.specs.declared.line.ScriptLine.{ScriptLine}
 use Rattle.store_definitions.specs.Config.{config_of}

@@ -25,7 +25,7 @@ use Rattle.store_definitions.specs.Config.{changed, config_of}
 use Rattle.store_definitions.specs.Provisioning.{provisioned}
 use Rattle.mesh_run.specs.Causes.{IsSameFlash}
 use Rattle.mesh_run.specs.Lived.{Lived}
-use Rattle.mesh_run.specs.Provisioned.{IsProvisioned}
+use Rattle.run_steps.specs.Provisioned.{IsProvisioned}
 use Rattle.mesh_run.specs.Ran.{IsArmed, AreArmed, Ran, RanFirst, RanFront, cuts}
 use Rattle.mesh_run.proofs.Growing.{armed_more, cuts_more, first_more, kept_elements, lines_more, lives_more}
 

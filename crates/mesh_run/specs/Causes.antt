@@ -6,8 +6,8 @@ use Rattle.script_definitions.specs.Reading.Reading.{Fails, IsScript}
 use Rattle.script_definitions.specs.declared.kind.Grammar.TheVariants as G
 use Rattle.script_definitions.specs.declared.script.Script.{Script}
 use Rattle.slot_journal.specs.Format.{IsErased, IsFirstWritten}
-use Rattle.mesh_run.specs.declared.status.Status.{Status}
-use Rattle.mesh_run.specs.declared.status.Status.TheVariants as S
+use Rattle.run_steps.specs.declared.status.Status.{Status}
+use Rattle.run_steps.specs.declared.status.Status.TheVariants as S
 
 -- a text is a script, and this holds of it
 abbrev pub IsScriptAnd : Reading → (Script → Type 0) → Type 0

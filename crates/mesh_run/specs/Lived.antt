@@ -3,8 +3,8 @@ use Rattle.std.specs.Prelude.{◌≡◌, List, Option, Some, Result, Ok, Err, �
 use Rattle.flash_model.specs.Arming.{IsExplained}
 use Rattle.flash_model.specs.Chip.{Chip}
 use Rattle.mesh_node.specs.Lives.{Lives}
-use Rattle.mesh_node.specs.Plan.{life_of}
-use Rattle.mesh_node.specs.declared.plan.LifeLog.{LifeLog}
+use Rattle.life_laws.specs.Plan.{life_of}
+use Rattle.life_laws.specs.declared.plan.LifeLog.{LifeLog}
 use Rattle.node_layers.specs.NodeLayers.{node_layers}
 use Rattle.node_store.specs.Tie.{IsNode}
 use Rattle.report_definitions.specs.Record.{Life}

@@ -14,9 +14,9 @@ ghost use Rattle.script_definitions.specs.declared.kind.Grammar.TheVariants as G
 ghost use Rattle.store_definitions.specs.Config.{config_of};
 ghost use Rattle.store_definitions.specs.Provisioning.{provisioned};
 ghost use Rattle.mesh_run.specs.Causes.{IsSameFlash};
-ghost use Rattle.mesh_node.specs.Plan as Plan;
+ghost use Rattle.life_laws.specs.Plan as Plan;
 ghost use Rattle.mesh_run.specs.Lived.{IsFault, IsMemory, Lived, flash_left};
-ghost use Rattle.mesh_run.specs.Provisioned.{IsProvisioned};
+ghost use Rattle.run_steps.specs.Provisioned.{IsProvisioned};
 ghost use Rattle.mesh_run.specs.Ran.{Ran, RanFirst, RanFront};
 
 use flash_model::Bench;

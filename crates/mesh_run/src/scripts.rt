@@ -14,13 +14,12 @@ ghost use Rattle.mesh_run.specs.Causes.{IfScript, IsBeforeFlash, IsBeforeLives, 
 ghost use Rattle.mesh_run.specs.Ran.{Ran, RanFirst, RanFront};
 
 use crate::lives::{Stopped, live_all};
-use crate::provisioning::provision;
-use crate::status::{Ended, Status};
 use command_words::RunFlags;
 use flash_model::Bench;
 use life_plans::{provision_of, script_law};
 use mesh_base::outside::Sink;
 use mesh_node::Gate;
+use run_steps::{Ended, Status, provision};
 use script_definitions::script::Script;
 use script_reader::{ScriptStop, read_script};
 use slot_journal::FormatFault;

@@ -21,7 +21,7 @@
 //! - `mounting`: a store is found again, and migrated
 //! - `laws`: what is true of the tie of a store and its flash, and of what an image holds
 //!
-//! A caller to begin with: `accepted` in `crates/worked_stores/src/tests/stores.rt`.
+//! A caller to begin with: `accepted` in `crates/worked_parts/src/tests/stores.rt`.
 //!
 //! # Invariants
 //!
@@ -51,7 +51,7 @@
 //! # What a cut leaves, case by case
 //!
 //! For each what is on the flash then, what `mount` answers after power came, the clause, and the scripts or the tests that show it (these in
-//! `worked_stores`).
+//! `worked_parts`).
 //!
 //! 1. While a node is provisioned, in the first seven of eight calls: slots of bank 0, and no header that is sound. `NoNode`. The eighth is
 //!    the header's gate: `NoNode`, or the node (`any_moment` of `provision`, `IsMade`). Where an octet isn't ff by then, the flash has to be

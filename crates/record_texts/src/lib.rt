@@ -4,7 +4,7 @@
 //! - `decoding`: from a slot to its record
 //! - `ranges`: whether a record's fields are in their ranges
 //!
-//! A caller to begin with: `take` in `crates/worked_stores/src/tests/records.rt`.
+//! A caller to begin with: `take` in `crates/worked_parts/src/tests/records.rt`.
 #![tactic(auto)]
 
 mod decoding;

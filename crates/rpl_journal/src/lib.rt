@@ -9,7 +9,7 @@
 //! - `checking`: [`check`], which writes nothing
 //! - `accepting`: [`accept`]
 //!
-//! A caller to begin with: `accepted` in `crates/worked_stores/src/tests/stores.rt`.
+//! A caller to begin with: `accepted` in `crates/worked_parts/src/tests/stores.rt`.
 #![tactic(auto)]
 
 mod accepting;

@@ -12,7 +12,7 @@
 //! - `putting`: a Numbers record is put
 //! - `keep_fault`: why numbers weren't stored
 //!
-//! A caller to begin with: `reserved` in `crates/worked_stores/src/tests/stores.rt`.
+//! A caller to begin with: `reserved` in `crates/worked_parts/src/tests/stores.rt`.
 //!
 //! # Invariants
 //!

@@ -15,7 +15,7 @@
 //!
 //! Not promised: that a draw succeeds in the end, that bearers draw in turn, that two threads run.
 //!
-//! A caller to begin with: `another`, `work` and `drawn` in `crates/worked_flashes/src/tests/bearers.rt`.
+//! A caller to begin with: `another`, `work` and `drawn` in `crates/worked_parts/src/tests/bearers.rt`.
 #![tactic(auto)]
 
 mod closed;

@@ -12,7 +12,7 @@
 //! Hence what mounting accepts: the bank whose header is sound, of two the one whose generation follows the other's, and of
 //! that bank the slots with gate 00. A slot with any octet other than ff is used, and isn't written again before its erase.
 //!
-//! A caller to begin with: `make`, `append`, `kind_at` and `few` in `crates/worked_flashes/src/tests/journals.rt`.
+//! A caller to begin with: `make`, `append`, `kind_at` and `few` in `crates/worked_parts/src/tests/journals.rt`.
 //!
 //! # Octets
 //!

@@ -17,7 +17,7 @@
 //! Not promised: that a turn comes, that threads take turns fairly, or that a thread runs. A pass that is dropped while it
 //! is inside leaves the lock shut for ever.
 //!
-//! A caller to begin with: `another`, `write` and `written` in `crates/worked_flashes/src/tests/bearers.rt`.
+//! A caller to begin with: `another`, `write` and `written` in `crates/worked_parts/src/tests/bearers.rt`.
 #![tactic(auto)]
 
 pub mod gather;

@@ -4,9 +4,9 @@ use Rattle.std.proofs.lemmas.Result.{IfOk-weaker}
 use Rattle.life_plans.proofs.Drafting.{IsDraftOf, finishes, turn}
 use Rattle.life_plans.proofs.Planned.{planned_if_ok}
 use Rattle.life_plans.specs.Drafts.{Drafted, ended}
-use Rattle.mesh_node.specs.Plan.{steps_of}
+use Rattle.life_laws.specs.Plan.{steps_of}
 use Rattle.life_plans.specs.Plans.{plan_of_lines}
-use Rattle.mesh_node.specs.declared.plan.LifePlan.{LifePlan}
+use Rattle.life_laws.specs.declared.plan.LifePlan.{LifePlan}
 use Rattle.script_definitions.specs.declared.line.ScriptLine.{ScriptLine}
 use Rattle.script_events.specs.Happenings.{IsRead}
 use Rattle.std.specs.Prelude.{IfOk, Result}

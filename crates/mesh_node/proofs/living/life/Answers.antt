@@ -5,7 +5,7 @@ use Rattle.machine_contract.specs.Refused.{IsStartCause}
 use Rattle.mesh_types.specs.declared.report.End.TheVariants as Ends
 use Rattle.store_definitions.specs.Config.{config_of}
 use Rattle.store_definitions.specs.Recovered.{IsRecovered}
-use Rattle.mesh_node.specs.Plan.{steps_of}
+use Rattle.life_laws.specs.Plan.{steps_of}
 use Rattle.mesh_node.specs.Ran.{Ran}
 use Rattle.mesh_node.specs.Steps.{IsArmedFirst}
 use Rattle.mesh_node.proofs.Arming.{powered}

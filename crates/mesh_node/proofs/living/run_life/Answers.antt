@@ -3,11 +3,11 @@ use Rattle.std.specs.Prelude.{All, IfSome}
 use Rattle.flash_model.specs.Chip.{Setting}
 use Rattle.mesh_types.specs.declared.report.Opened.TheVariants as W
 use Rattle.store_definitions.specs.Config.{config_of}
-use Rattle.mesh_node.specs.declared.plan.LifeLog.{LifeLog}
+use Rattle.life_laws.specs.declared.plan.LifeLog.{LifeLog}
 use Rattle.run_definitions.specs.Order.{phases_of}
 use Rattle.mesh_node.specs.Going.{IsOver}
 use Rattle.mesh_node.specs.Lives.{cut_calls}
-use Rattle.mesh_node.specs.Plan.{IsStep, steps_of}
+use Rattle.life_laws.specs.Plan.{IsStep, steps_of}
 use Rattle.mesh_node.specs.Ran.{Ran}
 use Rattle.mesh_node.specs.Steps.{HasGiven, IsSameOrOf, MayFollow}
 use Rattle.mesh_node.proofs.Arming.{behind_all, behind_phases, order_whole}

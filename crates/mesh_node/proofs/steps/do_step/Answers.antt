@@ -5,7 +5,7 @@ use Rattle.mesh_types.specs.declared.events.Event.{Event}
 use Rattle.node_bearer.specs.Did.{AreEvents}
 use Rattle.run_definitions.specs.Order.{phases_of}
 use Rattle.mesh_node.specs.Going.{IsGoing, IsOver}
-use Rattle.mesh_node.specs.Plan.{IsStep, step_of}
+use Rattle.life_laws.specs.Plan.{IsStep, step_of}
 use Rattle.mesh_node.specs.Steps.{IsArmedBy}
 use Rattle.mesh_node.proofs.Stepping.{going_with, other_flash, same_arm, same_node}
 use Rattle.mesh_node.proofs.steps.do_step.Goals as goal

@@ -4,7 +4,7 @@ use Rattle.std.proofs.lemmas.List.{length-map, length-replicate, take_all}
 use Rattle.std.proofs.lemmas.List.Elements.{All-get_or}
 use Rattle.run_definitions.specs.Order.{phases_of}
 use Rattle.mesh_node.specs.Going.{IsGoing, IsOver}
-use Rattle.mesh_node.specs.Plan.{IsStep, steps_of}
+use Rattle.life_laws.specs.Plan.{IsStep, steps_of}
 use Rattle.mesh_node.specs.Steps.{HasGiven, MayFollow}
 use Rattle.mesh_node.proofs.Following.{among_steps, dropped, going_first, may_arm, may_more, order_more, over_whole, phases_around, phases_taken, same_more, taken}
 use Rattle.mesh_node.proofs.Giving.{given_more, given_none, held_more}

@@ -2,7 +2,7 @@
 use Rattle.std.proofs.Common.{◌≡◌, ◌≢◌, None, length, map, take, drop}
 use Rattle.run_definitions.specs.Order.{phases_of}
 use Rattle.mesh_node.specs.Going.{IsGoing}
-use Rattle.mesh_node.specs.Plan.{steps_of}
+use Rattle.life_laws.specs.Plan.{steps_of}
 use Rattle.mesh_node.specs.Steps.{HasGiven, IsSameNode, IsSameOrOf, MayFollow}
 use Rattle.mesh_node.proofs.steps.do_steps.Given as goal
 

@@ -1,7 +1,7 @@
 use Rattle.std.proofs.Common.{◌∙◌, ap, subst, sym}
 use Rattle.std.specs.Io.KnownBytes.{Consumes}
 use Rattle.report_writer.specs.Writing.{view_of}
-use Rattle.mesh_run.specs.Audited.{Audited, AuditedFront}
+use Rattle.run_steps.specs.Audited.{Audited, AuditedFront}
 use Rattle.mesh_run.proofs.Ends.{of_all}
 use Rattle.mesh_run.proofs.running.run.Goals as goal
 

@@ -1,0 +1,4 @@
+pub mod Status
+pub mod Reads
+pub mod Audited
+pub mod Provisioned

@@ -1,0 +1,58 @@
+//! What a node is provisioned with, onto an erased flash.
+#![tactic(auto)]
+
+ghost use Rattle.std.specs.Prelude.{◌≡◌, IsTrue, IfErr, OnOk};
+ghost use Rattle.flash_model.specs.Chip.{IsFresh, Keeps, Stays};
+ghost use Rattle.node_store.specs.Provisioning.{IsProvision, provisioning};
+ghost use Rattle.slot_journal.specs.Causes.{IsFormatCause, IsNotErased};
+ghost use Rattle.slot_journal.specs.Format.{IsErased};
+ghost use Rattle.store_definitions.specs.Provisioning.{provisioned};
+ghost use Rattle.run_steps.specs.Provisioned.{IsProvisioned};
+
+use flash_model::Flash;
+use node_store::{Provision, Store};
+use slot_journal::FormatFault;
+use store_definitions::recovery::one_list_is_recovered;
+
+/// Provisions a node in the format of today.
+fn provision_now<F: Flash>(flash: &mut F, p: &Provision) -> Result<(), FormatFault>
+    requires { IsProvision p.now }
+    ensures cause { IfErr result (IsFormatCause (F.chip flash.old) (F.chip flash.new)) }
+    ensures erased { IsTrue (F.chip flash.old).honest → OnOk result (IsErased (F.chip flash.old).now) }
+    ensures unchanged { IsTrue (F.chip flash.old).honest → ¬ IsErased (F.chip flash.old).now
+        → Stays (F.chip flash.old) (F.chip flash.new) }
+    ensures provisioned { IsFresh (F.chip flash.old)
+        → OnOk result (IsProvisioned (F.chip flash.new) (provisioned (provisioning p.now))) }
+    ensures no_fault { OnOk result ((F.chip flash.new).faults ≡ (F.chip flash.old).faults) }
+    ensures sure { IsTrue (F.chip flash.old).sure → IfErr result IsNotErased }
+    ensures frame { Keeps (F.chip flash.old) (F.chip flash.new) }
+{
+    // It does nothing when it runs: the proof uses what it says.
+    one_list_is_recovered();
+    match Store::provision(flash, p) {
+        Ok(_) => Ok(()),
+        Err(fault) => Err(fault),
+    }
+}
+
+/// Provisions a node on a flash that went through a power cycle: with `old` in format 01, which the first life migrates.
+pub fn provision<F: Flash>(flash: &mut F, old: bool, p: &Provision) -> Result<(), FormatFault>
+    requires { IsProvision p.now }
+    ensures cause { IfErr result (IsFormatCause (F.chip flash.old) (F.chip flash.new)) }
+    ensures erased { IsTrue (F.chip flash.old).honest → OnOk result (IsErased (F.chip flash.old).now) }
+    ensures unchanged { IsTrue (F.chip flash.old).honest → ¬ IsErased (F.chip flash.old).now
+        → Stays (F.chip flash.old) (F.chip flash.new) }
+    ensures provisioned { IsFresh (F.chip flash.old)
+        → OnOk result (IsProvisioned (F.chip flash.new) (provisioned (provisioning p.now))) }
+    ensures no_fault { OnOk result ((F.chip flash.new).faults ≡ (F.chip flash.old).faults) }
+    ensures sure { IsTrue (F.chip flash.old).sure → IfErr result IsNotErased }
+    ensures frame { Keeps (F.chip flash.old) (F.chip flash.new) }
+{
+    // It does nothing when it runs: the proof uses what it says.
+    one_list_is_recovered();
+    if old {
+        Store::provision_old(flash, p)
+    } else {
+        provision_now(flash, p)
+    }
+}

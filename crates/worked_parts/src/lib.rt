@@ -1,0 +1,14 @@
+//! Worked cases of parts of a node that no script shows. There is no code here but tests.
+//!
+//! - `streams`: sources and sinks, in memory and over readers and writers of std
+//! - `flaws`: flashes in memory whose reads fail where they are told to
+//! - `journals`: a journal, its header, and what a cut leaves of it
+//! - `bearers`: threads that draw numbers and take a lock in turn
+//! - `records`: the octets of records with what they say, those beside that are no record, and the size of each table
+//! - `stores`: the octets of a node that accepts a message and draws a number, and what mounting refuses
+//! - `low_power`: scripts of a Low Power node, which the program doesn't run
+//! - `proofs/Headers.antt`: which of two banks counts, evaluated at octets of headers
+#![tactic(auto)]
+
+#[cfg(test)]
+mod tests;
