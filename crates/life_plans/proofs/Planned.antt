@@ -12,7 +12,7 @@ use Rattle.life_plans.specs.Plans.{IsPlanFor, plan_of_lines, step_of}
 use Rattle.machine_contract.specs.Ranges.{IsEvent}
 use Rattle.machine_contract.specs.Ranges as Asked
 use Rattle.life_laws.specs.Plan.{AreUnarmed, HasOneArm, IsStep, steps_of}
-use Rattle.life_laws.specs.Plan as Node
+use Rattle.life_laws.specs.Plan as Plan
 use Rattle.life_laws.specs.declared.plan.LifePlan.{LifePlan}
 use Rattle.life_laws.specs.declared.plan.PlanStep.{PlanStep}
 use Rattle.life_laws.specs.declared.plan.PlanStep.TheVariants as P
@@ -178,7 +178,7 @@ one_arm_of [] h = tt
 one_arm_of (P.Arm calls mask ∷ steps) h = unarmed_of steps h
 one_arm_of (P.Phase lists ∷ steps) h = one_arm_of steps h
 
-step_fits_of : (elements : ℕ) (step : PlanStep) → Fits elements (Node.step_of step) → IsStep 8 elements step
+step_fits_of : (elements : ℕ) (step : PlanStep) → Fits elements (Plan.step_of step) → IsStep 8 elements step
 step_fits_of elements (P.Arm calls mask) h = tt
 step_fits_of elements (P.Phase lists) h = (
   sym (length-map lists.items (λ v. v.items)) ∙ h.0,
@@ -188,7 +188,7 @@ step_fits_of elements (P.Phase lists) h = (
 steps_fit_of : (elements : ℕ) (steps : List PlanStep) → All (Fits elements) (steps_of steps) → All (IsStep 8 elements) steps
 steps_fit_of elements steps h k d l =
     step_fits_of elements (get_or steps k d)
-    (subst (Fits elements) (get_or-map Node.step_of steps k d (Node.step_of d) l) (h k (Node.step_of d) (omega (arith, length-map steps Node.step_of))))
+    (subst (Fits elements) (get_or-map Plan.step_of steps k d (Plan.step_of d) l) (h k (Plan.step_of d) (omega (arith, length-map steps Plan.step_of))))
 
 pub planned : (elements : ℕ) (lines : List ScriptLine) (plan : LifePlan) → IsLife G.Node elements lines → steps_of plan.steps.items ≡ plan_of_lines lines
     → plan.bearers ≡ 8 → IsPlanFor elements plan

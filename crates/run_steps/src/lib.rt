@@ -5,7 +5,7 @@
 //! - `audits`: the audit of a log
 //! - `status`: how a run ends
 //!
-//! A caller to begin with: `run` in `crates/mesh_run/src/running.rt`.
+//! Callers to begin with: `run` in `crates/mesh_run/src/running.rt`, and `run_script` in `crates/mesh_run/src/scripts.rt`.
 #![tactic(auto)]
 
 mod audits;

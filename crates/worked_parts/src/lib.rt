@@ -1,4 +1,4 @@
-//! Worked cases of parts of a node that no script shows. There is no code here but tests.
+//! Worked cases of single crates that the program doesn't show. There is no code here but tests.
 //!
 //! - `streams`: sources and sinks, in memory and over readers and writers of std
 //! - `flaws`: flashes in memory whose reads fail where they are told to

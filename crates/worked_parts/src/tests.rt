@@ -1,4 +1,4 @@
-//! Parts of a node, each by itself.
+//! Sources and sinks, a flash and what stands on it, what threads share, and scripts that the program doesn't run, each by itself.
 
 mod bearers;
 mod flaws;
