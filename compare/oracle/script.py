@@ -12,7 +12,7 @@ KINDS = {'net': 'net', 'peer': 'net', 'talk': 'net', 'bcn': 'bcn', 'beacon': 'bc
 """The kind that the report tells of an event, by its word."""
 
 
-def _material(word: str) -> Material:
+def material(word: str) -> Material:
     """KEY, or KEY/LPN/FRIEND/LPNCOUNTER/FRIENDCOUNTER of a friendship."""
     key, *friendship = word.split('/')
     p = b'\1' + bytes.fromhex(''.join(friendship)) if friendship else b'\0'
@@ -23,7 +23,7 @@ def _peer_octets(words: list[str]) -> bytes:
     net, iv, ctl, ttl, seq, src, dst, transport = words
     pdu = NetworkPdu(int(ctl), int(ttl, 16), int(seq, 16), int(src, 16), int(dst, 16),
                      bytes.fromhex(transport))
-    return pdus.seal_network(_material(net), int(iv, 16), pdu)
+    return pdus.seal_network(material(net), int(iv, 16), pdu)
 
 
 def _talk_octets(words: list[str]) -> bytes:
@@ -40,7 +40,7 @@ def _talk_octets(words: list[str]) -> bytes:
     else:
         transport = pdus.segment_text(first, fields.seq, int(seg_o), upper)
     pdu = NetworkPdu(0, int(ttl, 16), int(seq, 16), fields.src, dst, transport)
-    return pdus.seal_network(_material(net), fields.iv_index, pdu)
+    return pdus.seal_network(material(net), fields.iv_index, pdu)
 
 
 def _beacon_octets(words: list[str]) -> bytes:

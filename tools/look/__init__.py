@@ -1,6 +1,8 @@
 """What the tools beside this folder are made of.
 
-ends, forms -> script, report -> runs -> hearing, keys, numbers -> advertising, pcapng, wireshark, capturing
-(a capture); marks, cards, cells, page (a picture); meanings, explaining (an explanation): a module
-imports those before it alone. The octets of what outside nodes send are made by compare/oracle.
+ends, forms, opcodes -> script, report -> runs -> numbers, second_node, hearing, keys, and over
+these
+advertising, pcapng, wireshark, capturing: a capture; cases, checking: its check by tshark;
+svg, marks, cards, cells, page: a picture; meanings, explaining: an explanation.
+A module imports those before it in its line and those of the first line alone.
 """

@@ -1,20 +1,16 @@
 """Scripts with reports that show octets, without the program: by the second node of compare/.
 
-That node has one bearer, so the lines of others are handed to it as lines of that one. Which PDUs go
-out doesn't change by it where a script has a sync between what its bearers do.
+That node has one bearer, so the lines of others are handed to it as lines of that one. Which PDUs
+go out doesn't change by it where a script has a sync between what its bearers do.
 """
 import re
 from collections.abc import Iterator
-from pathlib import Path
 from typing import NamedTuple
 
-from .hearing import COMPARE
 from .report import WITH_OCTETS
+from .second_node import REPOSITORY, make, report_of
 
-from kinds import make  # noqa: E402  (the folder is found by look.hearing)
-from oracle.report import report_of  # noqa: E402
-
-EXAMPLES = COMPARE.parent / 'examples'
+EXAMPLES = REPOSITORY / 'examples'
 
 
 class Case(NamedTuple):
@@ -45,7 +41,7 @@ def with_octets(script: str, report: str) -> str:
 
 def examples() -> Iterator[Case]:
     """Each script of examples/ with the report that stands beside it."""
-    for path in sorted(Path(EXAMPLES).glob('*.mesh')):
+    for path in sorted(EXAMPLES.glob('*.mesh')):
         script = path.read_text()
         yield Case(path.name, script, with_octets(script, path.with_suffix('.report').read_text()))
 

@@ -1,8 +1,8 @@
 """Compares what tshark reads from a capture with what script and report tell of each PDU.
 
 Three things tshark 4.0 doesn't read, and so nothing of them is due: a network PDU under the
-credentials of a friendship, for which its tables have no place; one of fewer than 18 octets; and the
-payload under a device key to an address that isn't unicast.
+credentials of a friendship, for which its tables have no place; one of fewer than 18 octets; and
+the payload under a device key to an address that isn't unicast.
 """
 import shutil
 import subprocess
@@ -18,10 +18,8 @@ from .keys import Keys, keys_of
 from .report import Job, report_of
 from .runs import LifeRun, Step, run_of_file
 from .script import script_of
+from .second_node import beacon_keys, k2, open_network, virtual_address
 from .wireshark import options, tables
-
-from oracle.ciphers import beacon_keys, k2, virtual_address  # noqa: E402  (see look.hearing)
-from oracle.pdus import open_network  # noqa: E402
 
 FIELDS = {'interface': 'frame.interface_name', 'direction': 'frame.packet_flags_direction',
           'time': 'frame.time_epoch', 'IVI': 'btmesh.ivi', 'CTL': 'btmesh.ctl',

@@ -74,8 +74,10 @@ def one_of(name: str, *words: str) -> Form:
 
 
 def is_unicast(address: int) -> bool:
+    """Whether an address is that of an element."""
     return 0 < address < 0x8000
 
 
 def is_virtual(address: int) -> bool:
+    """Whether an address is made of a label."""
     return 0x8000 <= address < 0xc000

@@ -1,13 +1,6 @@
 """The octets of what a bearer hears by a line of a script, sealed by the ciphers of compare/."""
-import sys
-from pathlib import Path
-
-COMPARE = Path(__file__).resolve().parents[2] / 'compare'
-sys.path.insert(0, str(COMPARE))
-
-from oracle.script import heard_octets  # noqa: E402  (its folder is found above)
-
-from .script import Event  # noqa: E402
+from .script import Event
+from .second_node import heard_octets
 
 BEACONS = ('bcn', 'beacon')
 HEARD = ('net', 'peer', 'talk', *BEACONS)

@@ -1,6 +1,5 @@
 """The keys, labels and IV Indexes that a run shows: those provisioned, those that its script names,
 and those that configuration messages handed to the node while it ran."""
-
 from .report import Entry
 from .runs import LifeRun
 from .script import Event, Script

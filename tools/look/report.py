@@ -10,7 +10,7 @@ from typing import NamedTuple
 
 from .ends import NO_REPORT, Fault
 from .forms import (LONGEST_CONTROL, LONGEST_PAYLOAD, LONGEST_TRANSPORT, UNSEGMENTED_PAYLOAD,
-                    Digits, Form, decimal, matching, narrowed, one_of)
+                    Digits, Form, decimal, matching, one_of)
 
 BYTE, WORD, DOUBLE_WORD = 2**8 - 1, 2**32 - 1, 2**64 - 1
 LONGEST_PDU, BEACON = 29, 22
@@ -159,7 +159,7 @@ def _opening(number: int, words: list[str]) -> Opening:
 
 def _life(number: int, words: list[str]) -> Life:
     if len(words) < 3 or not decimal('N', WORD).fits(words[1]):
-        raise NotReport(number, 'life N CURRENT STATE TRANSMIT NEXT, or life N wasreset, life N cut')
+        raise NotReport(number, 'life N CURRENT STATE TRANSMIT NEXT, life N wasreset or life N cut')
     if words[2] in ('wasreset', 'cut') and len(words) == 3:
         return Life(number, int(words[1]), None, words[2])
     return Life(number, int(words[1]), _opening(number, words[2:]), None)

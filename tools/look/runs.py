@@ -1,9 +1,9 @@
 """A report beside its script: each entry with the line that made it, its jobs, and its time.
 
 The entries of a bearer are those of its lines, in order, and those of the node's own between them.
-A cut life may have fewer entries than lines. Time is told by `ticked` alone: an entry's time is that
-of the last ticks before it, and a life begins at the time at which the one before it ended, since a
-report doesn't say how long power was off.
+A cut life may have fewer entries than lines. Time is told by `ticked` alone: an entry's time is
+that of the last ticks before it, and a life begins at the time at which the one before it ended,
+since a report doesn't say how long power was off.
 """
 from typing import NamedTuple
 

@@ -195,6 +195,7 @@ def lines_of(text: str) -> list[str]:
 
 
 def counts(line: str) -> bool:
+    """Whether a line is one of the script and no comment."""
     return line != '' and not line.startswith('#')
 
 
@@ -211,7 +212,18 @@ def form_of(words: list[str]) -> tuple[LineForm, int] | Failing:
     return EVENTS[words[1]], 2
 
 
-def _check_words(number: int, line: str, provision: Provision | None) -> list[str]:
+def _check_octets(number: int, line: str) -> None:
+    """That a line keeps rule 1."""
+    if len(line) > LONGEST_LINE:
+        raise Refused(number, 1, f'at most {LONGEST_LINE} octets, and not {len(line)}')
+    if line.isascii() and line.isprintable():
+        return
+    odd = re.search('[^ -~]', line)
+    raise Refused(number, 1, f'octets 20 to 7e, and not {ord(odd[0]):02x} at octet '
+                  f'{odd.start() + 1}', line[:odd.start()].count(' ') + 1)
+
+
+def check_words(number: int, line: str, provision: Provision | None) -> list[str]:
     """The words of a line that keeps the rules 3 to 5."""
     words = re.split(' +', line)
     found = form_of(words)
@@ -249,7 +261,7 @@ class _Reading:
         """A line that counts, its octets looked at."""
         if self.provision is None and line.split(' ')[0] != 'provision':
             raise Refused(number, 2, 'provision', 1)
-        words = _check_words(number, line, self.provision)
+        words = check_words(number, line, self.provision)
         if words[0] == 'provision':
             if self.provision:
                 raise Refused(number, 6, 'no second provision', 1)
@@ -284,12 +296,7 @@ def read_script(text: str) -> Script:
         raise TooLong(text[:0])
     reading, lines = _Reading(), lines_of(text)
     for number, line in enumerate(lines, 1):
-        if len(line) > LONGEST_LINE:
-            raise Refused(number, 1, f'at most {LONGEST_LINE} octets, and not {len(line)}')
-        odd = re.search('[^ -~]', line)
-        if odd:
-            raise Refused(number, 1, f'octets 20 to 7e, and not {ord(odd[0]):02x} at octet '
-                          f'{odd.start() + 1}', line[:odd.start()].count(' ') + 1)
+        _check_octets(number, line)
         if counts(line):
             reading.take(number, line)
     if reading.provision is None:

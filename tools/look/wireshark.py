@@ -1,9 +1,9 @@
 """The tables in which Wireshark's mesh dissector looks for keys, as files and as a command line.
 
 The tables are of Wireshark 4.0: `btmesh_nw_keys` (network key, application key, IV Index),
-`btmesh_dev_keys` (device key, address), `btmesh_label_uuids` (label). A row of the first one needs an
-application key also where none is known; zeros stand there then. Credentials of friendships have no
-place in them.
+`btmesh_dev_keys` (device key, address), `btmesh_label_uuids` (label). A row of the first one needs
+an application key also where none is known; zeros stand there then. Credentials of friendships have
+no place in them.
 """
 from collections.abc import Iterator
 
