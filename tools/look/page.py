@@ -13,6 +13,7 @@ from .svg import GLYPH, Drawing
 
 MARGIN, HEAD, NOTE, BETWEEN = 14, 24, 20, 12
 LEGEND_LINE = 18
+WIDTH, CELLS_FROM = 960, 150
 ENDINGS = {'end': 'the life ended', 'wasreset': 'not run: the node was reset',
            'cut': 'not run: the flash failed as it opened', None: 'the report ends here'}
 

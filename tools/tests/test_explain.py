@@ -121,9 +121,9 @@ class Said(unittest.TestCase):
 
     def test_command(self) -> None:
         """What --help lists, and what is read from standard input."""
-        shown = subprocess.run([EXPLAIN, '--help'], capture_output=True, text=True, check=True).stdout
+        done = subprocess.run([EXPLAIN, '--help'], capture_output=True, text=True, check=True)
         for word in (*meanings.ANSWERS, *meanings.RESULTS, *meanings.SAID.values(), *script.EVENTS):
-            self.assertIn(word, shown)
+            self.assertIn(word, done.stdout)
         done = subprocess.run([EXPLAIN], input='replay 12345678 3129ab\n', capture_output=True,
                               text=True, check=True)
         self.assertIn('SEQ      3129ab', done.stdout)

@@ -48,7 +48,8 @@ class Reports(unittest.TestCase):
     def test_of_another_script(self) -> None:
         head = f'provision 1201 1 12345678 00 000 {"0" * 32} {"0" * 32}\nlife\n'
         report = 'life 1 12345678 n 12345678 000000\ne 1 b0 1 raw planned\nend\n'
-        for script, line in ((head + 'b0 tick 1\n', 2), (head, 2), (head + 'b1 raw 0001 00 7f\n', 2),
+        for script, line in ((head + 'b0 tick 1\n', 2), (head, 2),
+                             (head + 'b1 raw 0001 00 7f\n', 2),
                              (head + 'b0 raw 0001 00 7f\nb0 tick 1\n', 1)):
             with self.assertRaises(NotOfScript) as told:
                 run_of(read_report(report), read_script(script))

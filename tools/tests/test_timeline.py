@@ -6,10 +6,11 @@ from look.cards import MOST_JOBS
 from look.cases import EXAMPLES, examples
 from look.marks import GROUP_OF, seconds
 from look.numbers import Range, passed_over, refills
-from look.page import page, picture
+from look.page import CELLS_FROM, WIDTH, page, picture
 from look.report import ANSWERS, Life, read_report
 from look.runs import run_of
 from look.script import read_script
+from look.second_node import REPOSITORY
 
 SVG = '{http://www.w3.org/2000/svg}'
 
@@ -95,6 +96,14 @@ class Pictures(unittest.TestCase):
         report = f'life 1 00000005 n 00000005 000000\ne 1 b0 1 tick ticked 1\n{jobs}end\n'
         text = picture(run_of(read_report(report)), 'x', 960, 150)
         self.assertIn('and 3 more', text)
+
+    def test_shown(self) -> None:
+        """The pictures of docs/ are drawn by `timeline REPORT PICTURE --script SCRIPT`."""
+        for path in (REPOSITORY / 'docs' / 'pictures').glob('*.svg'):
+            script = read_script((EXAMPLES / f'{path.stem}.mesh').read_text())
+            due = picture(run_of(lives_of(path.stem), script), f'{path.stem}.mesh', WIDTH,
+                          CELLS_FROM)
+            self.assertEqual(path.read_text(), due)
 
     def test_page(self) -> None:
         """A table of what each life has."""
