@@ -23,14 +23,14 @@ use Rattle.mesh_types.specs.declared.report.ReportLine.TheVariants as L
 use Rattle.record_types.specs.declared.records.StoreRecord.{StoreRecord}
 use Rattle.report_definitions.specs.Record.{Life, LifeOver, shown}
 use Rattle.report_definitions.specs.Report.{life_lines, lives_lines, report_text}
-use Rattle.run_definitions.specs.Answers.{pair_of}
-use Rattle.run_definitions.specs.Layers.{Layers}
+use Rattle.event_definitions.specs.Answers.{pair_of}
+use Rattle.event_definitions.specs.Layers.{Layers}
 use Rattle.run_definitions.specs.Lines.{Shows, shows_bcn, shows_ctl, shows_first, shows_late, shows_long, shows_msg, shows_relay, shows_rep, shows_seg, shows_sent, shows_sent_long, shows_spent}
 use Rattle.run_definitions.specs.Order.{Step}
 use Rattle.run_definitions.specs.RunOf.{LivesOf}
 use Rattle.run_definitions.specs.Seals.{message_fields, own_fields}
-use Rattle.run_definitions.proofs.Accepting.{some_is}
-use Rattle.run_safety.proofs.Lists.{every_append, every_map}
+use Rattle.event_definitions.proofs.Accepting.{some_is}
+use Rattle.event_definitions.proofs.Each.{every_append, every_map}
 use Rattle.script_definitions.specs.declared.line.ScriptNet.{ScriptNet}
 use Rattle.audit_laws.specs.Covered.{HasKey, IsCovered, ReportsAreSound}
 use Rattle.audit_laws.specs.Laws.{TellsNothingTwice}

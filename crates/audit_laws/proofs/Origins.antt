@@ -15,11 +15,12 @@ use Rattle.mesh_types.specs.declared.jobs.Job.TheVariants as J
 use Rattle.mesh_types.specs.declared.lines.Outcome.{Outcome}
 use Rattle.mesh_types.specs.declared.lines.Outcome.TheVariants as O
 use Rattle.report_definitions.specs.Record.{Life, list_at}
-use Rattle.run_definitions.specs.Fit.{IsOwn}
+use Rattle.event_definitions.specs.Fit.{IsOwn}
 use Rattle.run_definitions.specs.Lines.{Shows, shows_bcn, shows_ctl, shows_first, shows_late, shows_long, shows_msg, shows_relay, shows_rep, shows_seg, shows_sent, shows_sent_long, shows_spent, after_line, kept_events}
 use Rattle.run_definitions.specs.Order.{Does, IsOrdered, Part, PartsOf, Placed, Step, Task, Walks, broken, ends, follow, follows, handle, handles, is_outside, job_tasks, of_bearer, phases_of, placed_from, stops, whole, write, write_tasks, writes}
 use Rattle.run_definitions.specs.RunOf.{IsIdle, is_on}
-use Rattle.run_safety.proofs.Lists.{Apart, every_append, every_back, every_front, every_map}
+use Rattle.run_safety.proofs.Lists.{Apart}
+use Rattle.event_definitions.proofs.Each.{every_append, every_back, every_front, every_map}
 use Rattle.run_safety.proofs.Walking.{Found}
 use Rattle.store_definitions.specs.Config.{Config, is_element}
 use Rattle.audit_laws.specs.Laws.{NamesElement}

@@ -12,16 +12,16 @@ use Rattle.mesh_types.specs.declared.history.Entry.{Entry}
 use Rattle.mesh_types.specs.declared.jobs.Job.{Job}
 use Rattle.mesh_types.specs.declared.jobs.Job.TheVariants as J
 use Rattle.record_types.specs.declared.records.StoreRecord.{StoreRecord}
-use Rattle.run_definitions.proofs.Handling.{handled_more, left_more}
-use Rattle.run_definitions.specs.Fit.{IsOwn, IsOwnEvent}
-use Rattle.run_definitions.specs.Handling.{AreHandled, Handles, IsPast, past_of, records_left}
-use Rattle.run_definitions.specs.History.{Past, Told}
-use Rattle.run_definitions.specs.Jobs.{jobs_of}
-use Rattle.run_definitions.specs.Layers.{Layers}
+use Rattle.event_definitions.proofs.Handling.{handled_more, left_more}
+use Rattle.event_definitions.specs.Fit.{IsOwn, IsOwnEvent}
+use Rattle.event_definitions.specs.Handling.{AreHandled, Handles, IsPast, past_of, records_left}
+use Rattle.event_definitions.specs.History.{Past, Told}
+use Rattle.event_definitions.specs.Jobs.{jobs_of}
+use Rattle.event_definitions.specs.Layers.{Layers}
 use Rattle.run_definitions.specs.Order.{placed_from}
-use Rattle.run_definitions.specs.Stores.{records_after}
-use Rattle.run_safety.proofs.Lists.{every_append, every_map}
-use Rattle.run_safety.specs.Safety.{AreSafe}
+use Rattle.event_definitions.specs.Stores.{records_after}
+use Rattle.event_definitions.proofs.Each.{every_append, every_map}
+use Rattle.event_definitions.specs.Safe.{AreSafe}
 use Rattle.store_definitions.specs.Config.{Config, config_of, is_element}
 use Rattle.store_definitions.specs.Numbers.{filled}
 use Rattle.audit_laws.specs.Laws.{IsOwnPast, SendOwn}

@@ -21,13 +21,13 @@ use Rattle.mesh_types.specs.declared.events.Event.TheVariants as E
 use Rattle.mesh_types.specs.declared.events.SendKey.{SendKey}
 use Rattle.mesh_types.specs.declared.jobs.Job.{Job}
 use Rattle.mesh_types.specs.declared.jobs.Job.TheVariants as J
-use Rattle.run_definitions.specs.Answers.{config_before, later}
-use Rattle.run_definitions.specs.Fit.{IsOwn, IsOwnEvent}
-use Rattle.run_definitions.specs.History.{Insight, OfBeacon, OfNothing, OfPdu, Opening, Past, Reading, now_of}
-use Rattle.run_definitions.specs.Jobs.{ack_asked, ack_job, ack_jobs, beacon_jobs, beacons_due, begin_jobs, block_asked, element_address, first_net, first_round_job, is_moved, is_refreshed, jobs_of, message_jobs, pdu_jobs, raw_jobs, refresh_jobs, relay_jobs, reply_ttl, segment_numbers, send_jobs, send_keys, sent_job, tick_jobs, under}
-use Rattle.run_definitions.specs.Layers.{Layers}
-use Rattle.run_definitions.specs.Stores.{message_of}
-use Rattle.run_safety.proofs.Lists.{every_append}
+use Rattle.event_definitions.specs.Answers.{config_before, later}
+use Rattle.event_definitions.specs.Fit.{IsOwn, IsOwnEvent}
+use Rattle.event_definitions.specs.History.{Insight, OfBeacon, OfNothing, OfPdu, Opening, Past, Reading, now_of}
+use Rattle.event_definitions.specs.Jobs.{ack_asked, ack_job, ack_jobs, beacon_jobs, beacons_due, begin_jobs, block_asked, element_address, first_net, first_round_job, is_moved, is_refreshed, jobs_of, message_jobs, pdu_jobs, raw_jobs, refresh_jobs, relay_jobs, reply_ttl, segment_numbers, send_jobs, send_keys, sent_job, tick_jobs, under}
+use Rattle.event_definitions.specs.Layers.{Layers}
+use Rattle.event_definitions.specs.Stores.{message_of}
+use Rattle.event_definitions.proofs.Each.{every_append}
 use Rattle.store_definitions.specs.Config.{Config, is_element}
 use Rattle.audit_laws.specs.Laws.{IsOwnPast, SendOwn}
 

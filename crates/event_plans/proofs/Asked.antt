@@ -28,10 +28,10 @@ use Rattle.node_layers.specs.BuiltLayers.{built_layers}
 use Rattle.node_layers.specs.ConfiguredLayers.{configured_layers}
 use Rattle.node_layers.specs.NodeLayers.{node_layers}
 use Rattle.node_models.specs.declared.taken.MessageReplies.{MessageReplies}
-use Rattle.run_definitions.specs.Answers.{answer_of, config_before, is_busy, later, network_answer}
-use Rattle.run_definitions.specs.History.{Insight, OfNothing, OfPdu, Opening, Past, Reading}
-use Rattle.run_definitions.specs.Jobs.{jobs_of}
-use Rattle.run_definitions.specs.Readings.{IsLowerPdu, Sees, sees_pdu}
+use Rattle.event_definitions.specs.Answers.{answer_of, config_before, is_busy, later, network_answer}
+use Rattle.event_definitions.specs.History.{Insight, OfNothing, OfPdu, Opening, Past, Reading}
+use Rattle.event_definitions.specs.Jobs.{jobs_of}
+use Rattle.event_definitions.specs.Readings.{IsLowerPdu, Sees, sees_pdu}
 use Rattle.store_definitions.specs.Config.{Config}
 
 lower_fits : (o : Option Answer) (r : Reading) (low : Lower) → MatchOption o (IsLowerPdu r.fields (Some low)) (λ answer. Some low ≡ None) → Fits low

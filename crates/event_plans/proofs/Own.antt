@@ -41,10 +41,10 @@ use Rattle.node_models.specs.Models as models
 use Rattle.node_records.specs.Meaning.{IsMeaningOf}
 use Rattle.node_records.specs.Tables.{config_in}
 use Rattle.node_records.specs.declared.persist.Persist.{Persist}
-use Rattle.run_definitions.specs.Answers.{answer_of, config_before, send_answer}
-use Rattle.run_definitions.specs.History.{OfNothing, Past, Told, ticks_after}
-use Rattle.run_definitions.specs.Readings.{has_octets, sees_nothing}
-use Rattle.run_definitions.specs.Stores.{stores}
+use Rattle.event_definitions.specs.Answers.{answer_of, config_before, send_answer}
+use Rattle.event_definitions.specs.History.{OfNothing, Past, Told, ticks_after}
+use Rattle.event_definitions.specs.Readings.{has_octets, sees_nothing}
+use Rattle.event_definitions.specs.Stores.{stores}
 use Rattle.store_definitions.specs.Config.{Config, config_of}
 
 -- an answer that says no time, delivers nothing, and says nothing of own segmented messages

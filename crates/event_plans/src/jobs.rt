@@ -10,9 +10,9 @@ ghost use Rattle.mesh_types.specs.declared.events.Event.TheVariants as E;
 ghost use Rattle.mesh_reading.specs.Held.{held_in, opening_of};
 ghost use Rattle.node_layers.specs.NodeLayers.{node_layers};
 ghost use Rattle.node_records.specs.Tables.{config_in};
-ghost use Rattle.run_definitions.specs.Answers.{config_before};
-ghost use Rattle.run_definitions.specs.History.{Opening, Past};
-ghost use Rattle.run_definitions.specs.Jobs.{jobs_of};
+ghost use Rattle.event_definitions.specs.Answers.{config_before};
+ghost use Rattle.event_definitions.specs.History.{Opening, Past};
+ghost use Rattle.event_definitions.specs.Jobs.{jobs_of};
 
 use crate::plan::{Basis, Plan};
 use layer_states::sending::Outgoing;

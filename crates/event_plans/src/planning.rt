@@ -12,7 +12,7 @@ ghost use Rattle.mesh_types.specs.declared.events.Event.TheVariants as E;
 ghost use Rattle.node_records.specs.Meaning.{IsSaid};
 ghost use Rattle.node_records.specs.Tables.{config_in};
 ghost use Rattle.node_records.specs.declared.persist.Persist.{Persist as PersistValue};
-ghost use Rattle.run_definitions.specs.History.{Past};
+ghost use Rattle.event_definitions.specs.History.{Past};
 ghost use Rattle.segment_sender.specs.Held.{IsOutgoing};
 
 use crate::answers::{asked_answer, begin_answer};

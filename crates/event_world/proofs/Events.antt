@@ -29,14 +29,13 @@ use Rattle.node_records.specs.Tables.{config_in, entry_in, pair_of}
 use Rattle.node_records.specs.declared.persist.Persist.{Persist}
 use Rattle.record_types.specs.declared.records.StoreRecord.{StoreRecord}
 use Rattle.record_types.specs.declared.records.StoreRecord.TheVariants as R
-use Rattle.run_definitions.proofs.Accepting.{AcceptedFrom}
-use Rattle.run_definitions.specs.Answers.{answer_of, beacon_answer, config_before, later, pdu_answer, replayed}
-use Rattle.run_definitions.specs.History.{Insight, OfBeacon, OfNothing, OfPdu, Opening, Past, Reading}
-use Rattle.run_definitions.specs.Readings.{Sees, sees_pdu, sees_beacon, sees_nothing, IsReading}
-use Rattle.run_definitions.specs.Stores.{hours_passed, hours_step, phase_records, step_records, stores}
-use Rattle.run_definitions.specs.Uses.{accepted}
-use Rattle.run_safety.specs.Safety.{AreSafe, IsChange}
-use Rattle.run_safety.proofs.Accepting.{Silent, silent, beacon_silent, nothing_accepted, nothing_silent, pdu_accepts, reset_accepts, unless_silent}
+use Rattle.event_definitions.proofs.Accepting.{AcceptedFrom}
+use Rattle.event_definitions.specs.Answers.{accepted, answer_of, beacon_answer, config_before, later, pdu_answer, replayed}
+use Rattle.event_definitions.specs.History.{Insight, OfBeacon, OfNothing, OfPdu, Opening, Past, Reading}
+use Rattle.event_definitions.specs.Readings.{Sees, sees_pdu, sees_beacon, sees_nothing, IsReading}
+use Rattle.event_definitions.specs.Stores.{hours_passed, hours_step, phase_records, step_records, stores}
+use Rattle.event_definitions.specs.Safe.{AreSafe, IsChange}
+use Rattle.event_definitions.proofs.Events.{Silent, silent, beacon_silent, nothing_accepted, nothing_silent, pdu_accepts, reset_accepts, unless_silent}
 use Rattle.store_definitions.specs.Config.{Config, changed, config_of}
 use Rattle.store_definitions.specs.Entries.{entry_of, unexpired}
 use Rattle.store_definitions.specs.Ranges.{IsInRange}

@@ -14,12 +14,12 @@ use Rattle.mesh_types.specs.declared.events.Event.{Event}
 use Rattle.mesh_types.specs.declared.events.Event.TheVariants as E
 use Rattle.record_types.specs.declared.records.StoreRecord.{StoreRecord}
 use Rattle.record_types.specs.declared.records.StoreRecord.TheVariants as R
-use Rattle.run_definitions.specs.Handling.{AreHandled, Handles, IsPast, past_of, records_left}
-use Rattle.run_definitions.specs.History.{Insight, Past, Told}
-use Rattle.run_definitions.specs.Layers.{AccessMessage, Layers}
-use Rattle.run_definitions.specs.Stores.{asked, hours_step, message_of, phase_records, records_after, step_records, stores, tick_records}
-use Rattle.run_safety.proofs.Lists.{every_append, every_map}
-use Rattle.run_safety.specs.Safety.{AreSafe, IsChange}
+use Rattle.event_definitions.specs.Handling.{AreHandled, Handles, IsPast, past_of, records_left}
+use Rattle.event_definitions.specs.History.{Insight, Past, Told}
+use Rattle.event_definitions.specs.Layers.{AccessMessage, Layers}
+use Rattle.event_definitions.specs.Stores.{asked, hours_step, message_of, phase_records, records_after, step_records, stores, tick_records}
+use Rattle.event_definitions.proofs.Each.{every_append, every_map}
+use Rattle.event_definitions.specs.Safe.{AreSafe, IsChange}
 use Rattle.store_definitions.specs.Config.{Config, changed, config_of, is_element, no_config}
 use Rattle.store_definitions.specs.Numbers.{fill_of, filled}
 use Rattle.layer_laws.proofs.Lists.{every_pick}

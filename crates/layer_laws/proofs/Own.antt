@@ -35,14 +35,14 @@ use Rattle.node_layers.specs.Publishing.{Publication, heartbeat_job, heartbeat_j
 use Rattle.node_layers.specs.Sending.{acknowledged, begun_calls, calls_at, calls_from, messages, round_jobs, segment_job, segments_at, stepped_calls}
 use Rattle.record_types.specs.declared.records.PublishRow.{PublishRow}
 use Rattle.record_types.specs.declared.records.StoreRecord.{StoreRecord}
-use Rattle.run_definitions.specs.Answers.{config_before, later, name_of}
-use Rattle.run_definitions.specs.Fit.{HasElements, HasOwnEvents, IsOwn, IsOwnEvent}
-use Rattle.run_definitions.specs.Handling.{past_of}
-use Rattle.run_definitions.specs.History.{Insight, OfBeacon, OfNothing, OfPdu, Past, Told, ticks_after}
-use Rattle.run_definitions.specs.Jobs.{element_address, under}
-use Rattle.run_definitions.specs.Layers.{AccessMessage, ControlMessage}
-use Rattle.run_safety.proofs.Lists.{every_append}
-use Rattle.run_safety.specs.Safety.{IsChange}
+use Rattle.event_definitions.specs.Answers.{config_before, later, name_of}
+use Rattle.event_definitions.specs.Fit.{HasElements, HasOwnEvents, IsOwn, IsOwnEvent}
+use Rattle.event_definitions.specs.Handling.{past_of}
+use Rattle.event_definitions.specs.History.{Insight, OfBeacon, OfNothing, OfPdu, Past, Told, ticks_after}
+use Rattle.event_definitions.specs.Jobs.{element_address, under}
+use Rattle.event_definitions.specs.Layers.{AccessMessage, ControlMessage}
+use Rattle.event_definitions.proofs.Each.{every_append}
+use Rattle.event_definitions.specs.Safe.{IsChange}
 use Rattle.store_definitions.specs.Config.{Config, changed, config_of, is_element}
 use Rattle.layer_laws.proofs.Acts.{Acted, acted_weaker}
 use Rattle.layer_laws.proofs.Changes.{act_acted, every_place}

@@ -22,15 +22,15 @@ use Rattle.mesh_types.specs.declared.events.Event.{Event}
 use Rattle.mesh_types.specs.declared.jobs.Job.{Job}
 use Rattle.node_layers.specs.Reassembly.{acks_at, calls_at, calls_from, due_job, due_jobs, message_calls, messages, named_calls, part_calls, part_heard, tick_calls, whole_calls}
 use Rattle.layer_states.specs.Names.{is_unicast}
-use Rattle.run_definitions.specs.Answers.{config_before, is_group, is_mine, later, message_name, network_answer}
-use Rattle.run_definitions.specs.Fit.{HasElements, IsOwn}
-use Rattle.run_definitions.specs.Handling.{IsPast, past_of}
-use Rattle.run_definitions.specs.History.{Insight, OfBeacon, OfNothing, OfPdu, Opening, Past, Reading, Told, ticks_after}
-use Rattle.run_definitions.specs.Jobs.{under}
-use Rattle.run_definitions.specs.Layers.{Layers}
-use Rattle.run_definitions.specs.Readings.{IsLower, IsLowerPdu, Sees, sees_beacon, sees_nothing, sees_pdu}
-use Rattle.run_safety.proofs.Lists.{every_append, every_map}
-use Rattle.run_safety.specs.Safety.{AreSafe}
+use Rattle.event_definitions.specs.Answers.{config_before, is_group, is_mine, later, message_name, network_answer}
+use Rattle.event_definitions.specs.Fit.{HasElements, IsOwn}
+use Rattle.event_definitions.specs.Handling.{IsPast, past_of}
+use Rattle.event_definitions.specs.History.{Insight, OfBeacon, OfNothing, OfPdu, Opening, Past, Reading, Told, ticks_after}
+use Rattle.event_definitions.specs.Jobs.{under}
+use Rattle.event_definitions.specs.Layers.{Layers}
+use Rattle.event_definitions.specs.Readings.{IsLower, IsLowerPdu, Sees, sees_beacon, sees_nothing, sees_pdu}
+use Rattle.event_definitions.proofs.Each.{every_append, every_map}
+use Rattle.event_definitions.specs.Safe.{AreSafe}
 use Rattle.store_definitions.specs.Config.{Config, config_of, is_element}
 use Rattle.layer_laws.proofs.Lists.{Inside, by_test, every_chosen, every_filter, every_flat, every_get, every_mapped, every_pick, every_set, left_false, none_any, or_left, through_fold}
 use Rattle.layer_laws.proofs.Node.{IsEntry, IsSameNode, entries_of, same_element}

@@ -4,13 +4,13 @@ use Rattle.node_layers.specs.BuiltLayers.{built_layers}
 use Rattle.node_layers.specs.NodeLayers.{node_layers}
 use Rattle.record_types.specs.declared.records.StoreRecord.TheVariants as R
 use Rattle.report_definitions.specs.Record.{Run}
-use Rattle.run_definitions.specs.Answers.{config_before}
-use Rattle.run_definitions.specs.Fit.{AreFit, AreStorable}
-use Rattle.run_definitions.specs.History.{Past}
-use Rattle.run_definitions.specs.Layers.{AccessMessage, Layers}
+use Rattle.event_definitions.specs.Answers.{config_before}
+use Rattle.event_definitions.specs.Fit.{AreFit, AreStorable}
+use Rattle.event_definitions.specs.History.{Past}
+use Rattle.event_definitions.specs.Layers.{AccessMessage, Layers}
 use Rattle.run_definitions.specs.RunOf.{RunOf, Script}
 use Rattle.run_definitions.specs.Uses.{AtMostOnce, NoReuse, delivered, uses}
-use Rattle.run_safety.specs.Safety.{AreSafe}
+use Rattle.event_definitions.specs.Safe.{AreSafe}
 use Rattle.store_definitions.specs.Config.{Config}
 use Rattle.store_definitions.specs.Node.{IsWhole}
 

@@ -14,13 +14,13 @@ use Rattle.mesh_base.specs.declared.pair.Pair.{Pair}
 use Rattle.mesh_types.specs.declared.history.Entry.{Entry}
 use Rattle.node_phase.proofs.Mine.{kept_no, kept_yes}
 use Rattle.store_definitions.specs.Numbers.{fill_of, filled}
-use Rattle.run_definitions.specs.Answers.{answer_of}
-use Rattle.run_definitions.specs.Handling.{AreHandled}
-use Rattle.run_definitions.specs.History.{Insight, Past, Told}
-use Rattle.run_definitions.specs.Layers.{Layers}
+use Rattle.event_definitions.specs.Answers.{answer_of}
+use Rattle.event_definitions.specs.Handling.{AreHandled}
+use Rattle.event_definitions.specs.History.{Insight, Past, Told}
+use Rattle.event_definitions.specs.Layers.{Layers}
 use Rattle.run_definitions.specs.Order.{Step, is_cut, is_outside, phases_of}
 use Rattle.run_definitions.specs.RunOf.{IsDrawn, IsNumbered, IsSpentRight, Leaves, LifeOf, Opens, draws, is_on, no_record, of_event, of_refill, opens, past_at_end, plan_events}
-use Rattle.run_definitions.specs.Stores.{stores}
+use Rattle.event_definitions.specs.Stores.{stores}
 use Rattle.store_definitions.specs.Config.{config_of}
 use Rattle.machine_contract.specs.declared.answers.Hand.{Hand}
 use Rattle.machine_contract.specs.declared.answers.Hand.TheVariants as H

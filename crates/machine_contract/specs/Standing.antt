@@ -3,12 +3,12 @@ use Rattle.std.specs.Prelude.{◌≡◌, ◌⊎◌, ℕ, ◌<◌, ◌≤◌, ◌
 use Rattle.flash_model.specs.Chip.{Chip}
 use Rattle.mesh_types.specs.declared.events.Event.{Event}
 use Rattle.record_types.specs.declared.records.StoreRecord.{StoreRecord}
-use Rattle.run_definitions.specs.Answers.{answer_of}
-use Rattle.run_definitions.specs.Handling.{AreHandled, records_left}
-use Rattle.run_definitions.specs.History.{Insight, Past, Told}
-use Rattle.run_definitions.specs.Layers.{Layers}
-use Rattle.run_definitions.specs.Readings.{Sees}
-use Rattle.run_definitions.specs.Stores.{stores}
+use Rattle.event_definitions.specs.Answers.{answer_of}
+use Rattle.event_definitions.specs.Handling.{AreHandled, records_left}
+use Rattle.event_definitions.specs.History.{Insight, Past, Told}
+use Rattle.event_definitions.specs.Layers.{Layers}
+use Rattle.event_definitions.specs.Readings.{Sees}
+use Rattle.event_definitions.specs.Stores.{stores}
 use Rattle.store_definitions.specs.Config.{config_of}
 use Rattle.store_definitions.specs.Numbers.{fill_of, filled}
 use Rattle.machine_contract.specs.declared.answers.Hand.{Hand}

@@ -4,7 +4,7 @@
 ghost use Rattle.std.specs.Prelude.{◌≡◌, ℕ, ◌+◌, ◌<◌, ◌≤◌, ◌^◌, List, [], ◌∷◌, ◌++◌, length, All, true, false, Ok, Err, IsErr, IfOk, OnOk, IfErr};
 ghost use Rattle.flash_model.specs.Chip.{Chip, IsFresh, Keeps};
 ghost use Rattle.record_types.specs.declared.records.StoreRecord.{StoreRecord};
-ghost use Rattle.run_definitions.specs.Layers.{Layers};
+ghost use Rattle.event_definitions.specs.Layers.{Layers};
 ghost use Rattle.run_definitions.specs.Order.{is_outside};
 ghost use Rattle.seq_word.specs.Word.{seq_of};
 ghost use Rattle.machine_contract.specs.Opening.{IsNodeFlash};

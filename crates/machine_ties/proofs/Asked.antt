@@ -44,11 +44,11 @@ use Rattle.node_layers.specs.Reassembly.{acks_at, due_job, due_jobs, messages}
 use Rattle.node_layers.specs.Sending.{round_jobs, segment_job, segments_at}
 use Rattle.node_layers.specs.Sending as own
 use Rattle.node_snapshot.proofs.Built.{IsPublishRow}
-use Rattle.run_definitions.specs.Answers.{config_before, is_before_cache, later}
-use Rattle.run_definitions.specs.History.{Insight, OfBeacon, OfNothing, OfPdu, Opening, Past, Reading}
-use Rattle.run_definitions.specs.Jobs.{ack_asked, ack_job, ack_jobs, beacon_jobs, beacons_due, begin_jobs, block_asked, element_address, first_net, first_round_job, jobs_of, message_jobs, pdu_jobs, raw_jobs, refresh_jobs, relay_jobs, segment_numbers, send_jobs, send_keys, sent_job, under}
+use Rattle.event_definitions.specs.Answers.{config_before, is_before_cache, later}
+use Rattle.event_definitions.specs.History.{Insight, OfBeacon, OfNothing, OfPdu, Opening, Past, Reading}
+use Rattle.event_definitions.specs.Jobs.{ack_asked, ack_job, ack_jobs, beacon_jobs, beacons_due, begin_jobs, block_asked, element_address, first_net, first_round_job, jobs_of, message_jobs, pdu_jobs, raw_jobs, refresh_jobs, relay_jobs, segment_numbers, send_jobs, send_keys, sent_job, under}
 use Rattle.run_definitions.specs.Order.{is_outside}
-use Rattle.run_definitions.specs.Readings.{IsOpening, Sees, sees_pdu}
+use Rattle.event_definitions.specs.Readings.{IsOpening, Sees, sees_pdu}
 use Rattle.segment_sender.specs.Held.{IsHeldWell, IsOutgoing, has_round}
 use Rattle.store_definitions.specs.Config.{Config}
 

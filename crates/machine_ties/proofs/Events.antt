@@ -41,13 +41,13 @@ use Rattle.node_snapshot.proofs.Built.{IsPublishRow, built_of}
 use Rattle.node_store.specs.Tie.{IsStoreOf}
 use Rattle.record_types.specs.declared.records.StoreRecord.{StoreRecord}
 use Rattle.record_types.specs.declared.records.StoreRecord.TheVariants as R
-use Rattle.run_definitions.specs.Answers.{answer_of, config_before, later}
-use Rattle.run_definitions.specs.Handling.{Handles}
-use Rattle.run_definitions.specs.History.{Insight, OfNothing, Past, Told}
-use Rattle.run_definitions.specs.Jobs.{jobs_of}
+use Rattle.event_definitions.specs.Answers.{answer_of, config_before, later}
+use Rattle.event_definitions.specs.Handling.{Handles}
+use Rattle.event_definitions.specs.History.{Insight, OfNothing, Past, Told}
+use Rattle.event_definitions.specs.Jobs.{jobs_of}
 use Rattle.run_definitions.specs.Order.{is_outside}
-use Rattle.run_definitions.specs.Readings.{Sees}
-use Rattle.run_definitions.specs.Stores.{stores}
+use Rattle.event_definitions.specs.Readings.{Sees}
+use Rattle.event_definitions.specs.Stores.{stores}
 use Rattle.segment_sender.specs.Held.{IsHeldWell}
 use Rattle.seq_reserve.specs.Reserving.{IsPublished}
 use Rattle.seq_reserve.specs.declared.reserve.Reserve.{Reserve}

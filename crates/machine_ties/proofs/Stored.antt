@@ -25,12 +25,12 @@ use Rattle.store_definitions.proofs.Pushes.{config_push}
 use Rattle.node_records.proofs.Rising.{RisesFrom, keyed_of}
 use Rattle.record_types.specs.declared.records.StoreRecord.{StoreRecord}
 use Rattle.record_types.specs.declared.records.StoreRecord.TheVariants as R
-use Rattle.run_definitions.specs.Answers.{answer_of, beacon_answer, config_before, key_step}
-use Rattle.run_definitions.specs.Fit.{AreStorable}
-use Rattle.run_definitions.specs.History.{Insight, OfBeacon, OfNothing, OfPdu, Past}
-use Rattle.run_definitions.specs.Layers.{AccessMessage}
-use Rattle.run_definitions.specs.Stores.{asked, hours_passed, hours_step, message_of, phase_records, step_records, stores}
-use Rattle.run_safety.specs.Safety.{AreSafe, IsChange}
+use Rattle.event_definitions.specs.Answers.{answer_of, beacon_answer, config_before, key_step}
+use Rattle.event_definitions.specs.Fit.{AreStorable}
+use Rattle.event_definitions.specs.History.{Insight, OfBeacon, OfNothing, OfPdu, Past}
+use Rattle.event_definitions.specs.Layers.{AccessMessage}
+use Rattle.event_definitions.specs.Stores.{asked, hours_passed, hours_step, message_of, phase_records, step_records, stores}
+use Rattle.event_definitions.specs.Safe.{AreSafe, IsChange}
 use Rattle.store_definitions.specs.Config.{Config, changed, config_of}
 use Rattle.store_definitions.specs.Node.{HasNext, IsPhased, IsWhole, KeepsWhole}
 

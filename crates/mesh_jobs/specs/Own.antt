@@ -2,8 +2,8 @@
 use Rattle.std.specs.Prelude.{◌≡◌, ◌+◌, ◌<◌, ◌^◌, ⊤, Bool}
 use Rattle.mesh_types.specs.declared.events.Event.{Event}
 use Rattle.mesh_types.specs.declared.events.Event.TheVariants as E
-use Rattle.run_definitions.specs.History.{Past}
-use Rattle.run_definitions.specs.Layers.{Layers}
+use Rattle.event_definitions.specs.History.{Past}
+use Rattle.event_definitions.specs.Layers.{Layers}
 use Rattle.store_definitions.specs.Config.{Config}
 
 -- An event that asks for at most one job: nothing was heard as a network PDU, no time passed, and no segments begin. A message is sent by an

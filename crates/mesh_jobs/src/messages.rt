@@ -9,9 +9,9 @@ ghost use Rattle.mesh_jobs.specs.Own.{IsBefriended, IsSingle};
 ghost use Rattle.mesh_types.specs.declared.answers.Answer.TheVariants as A;
 ghost use Rattle.mesh_types.specs.declared.events.Event.TheVariants as E;
 ghost use Rattle.node_records.specs.Tables.{config_in};
-ghost use Rattle.run_definitions.specs.History.{Insight, Past};
-ghost use Rattle.run_definitions.specs.Jobs.{first_net as first_net_in, jobs_of, raw_jobs, send_keys as send_keys_in, sent_job as sent_job_in};
-ghost use Rattle.run_definitions.specs.Layers.{Layers};
+ghost use Rattle.event_definitions.specs.History.{Insight, Past};
+ghost use Rattle.event_definitions.specs.Jobs.{first_net as first_net_in, jobs_of, raw_jobs, send_keys as send_keys_in, sent_job as sent_job_in};
+ghost use Rattle.event_definitions.specs.Layers.{Layers};
 ghost use Rattle.segment_sender.specs.Held.{IsOutgoing};
 
 use crate::elements::element_address;
@@ -116,7 +116,7 @@ fn send_job(
 }
 
 // The job of an event that asks for one at most.
-#[tactic(auto, unfolding(run_definitions::specs::Jobs::jobs_of))]
+#[tactic(auto, unfolding(event_definitions::specs::Jobs::jobs_of))]
 fn own_job(
     p: &Persist,
     nets: &NetKeys,
@@ -151,7 +151,7 @@ fn own_job(
 /// The jobs of an event that asks for one at most: a message or a control PDU that the node is asked to send, where it was answered `planned`;
 /// a beacon heard and octets that were kept ask for none. `befriended` says whether the message goes to an address of a friendship that
 /// stands. `p` is what the records after the event say, and `nets` and `apps` are its keys. The jobs are made in `draft`, which has none.
-#[tactic(auto, unfolding(run_definitions::specs::Jobs::jobs_of))]
+#[tactic(auto, unfolding(event_definitions::specs::Jobs::jobs_of))]
 pub fn own_jobs(
     mut draft: JobDraft,
     p: &Persist,
@@ -177,7 +177,7 @@ pub fn own_jobs(
 
 /// The jobs of an own message that begins, where it was answered `begun`: all of its segments. `p` is what the records after the event say,
 /// and `nets` are its keys. The jobs are made in `draft`, which has none.
-#[tactic(auto, unfolding(run_definitions::specs::Jobs::jobs_of))]
+#[tactic(auto, unfolding(event_definitions::specs::Jobs::jobs_of))]
 pub fn begin_jobs(
     mut draft: JobDraft,
     p: &Persist,

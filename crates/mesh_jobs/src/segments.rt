@@ -10,7 +10,7 @@ ghost use Rattle.mesh_jobs.specs.Segments.{segments_under};
 ghost use Rattle.mesh_types.specs.declared.jobs.Job.TheVariants as J;
 ghost use Rattle.node_layers.specs.Sending.{round_jobs};
 ghost use Rattle.node_records.specs.Tables.{config_in};
-ghost use Rattle.run_definitions.specs.Jobs.{begin_jobs};
+ghost use Rattle.event_definitions.specs.Jobs.{begin_jobs};
 ghost use Rattle.segment_sender.specs.Held.{IsHeldWell, IsOutgoing};
 
 use layer_states::sending::{Outgoing, Sending};

@@ -18,9 +18,9 @@ use Rattle.mesh_types.specs.declared.events.Event.{Event}
 use Rattle.mesh_types.specs.declared.events.Event.TheVariants as E
 use Rattle.mesh_types.specs.declared.jobs.Job.{Job}
 use Rattle.mesh_types.specs.declared.jobs.Job.TheVariants as J
-use Rattle.run_definitions.specs.Answers.{later}
-use Rattle.run_definitions.specs.History.{Past, Told, ticks_after}
-use Rattle.run_definitions.specs.Jobs.{under}
+use Rattle.event_definitions.specs.Answers.{later}
+use Rattle.event_definitions.specs.History.{Past, Told, ticks_after}
+use Rattle.event_definitions.specs.Jobs.{under}
 use Rattle.store_definitions.specs.Config.{Config}
 
 -- a message that begins: its upper PDU was sealed under the pair of its SeqAuth

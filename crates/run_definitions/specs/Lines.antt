@@ -15,7 +15,7 @@ use Rattle.mesh_types.specs.declared.jobs.Job.{Job}
 use Rattle.mesh_types.specs.declared.jobs.Job.TheVariants as J
 use Rattle.mesh_types.specs.declared.lines.Outcome.{Outcome}
 use Rattle.mesh_types.specs.declared.lines.Outcome.TheVariants as O
-use Rattle.run_definitions.specs.Answers.{pair_of}
+use Rattle.event_definitions.specs.Answers.{pair_of}
 use Rattle.run_definitions.specs.Seals.{own_fields, own_upper, message_fields, is_app_key, aid_of_key}
 
 -- whether a job is the first segment of a message, which goes under the pair of SeqAuth and draws none

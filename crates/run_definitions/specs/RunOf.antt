@@ -11,21 +11,21 @@ use Rattle.mesh_types.specs.declared.report.End.{End}
 use Rattle.mesh_types.specs.declared.report.End.TheVariants as F
 use Rattle.mesh_types.specs.declared.report.Opened.{Opened}
 use Rattle.mesh_types.specs.declared.report.Opened.TheVariants as W
-use Rattle.run_definitions.specs.Answers.{answer_of}
+use Rattle.event_definitions.specs.Answers.{answer_of}
 use Rattle.store_definitions.specs.Alike.{IsAlike}
 use Rattle.store_definitions.specs.Config.{Config, config_of}
 use Rattle.store_definitions.specs.Numbers.{filled, fill_of}
 use Rattle.store_definitions.specs.Provisioning.{Provisioning, provisioned}
-use Rattle.run_definitions.specs.Handling.{AreHandled, records_left}
-use Rattle.run_definitions.specs.History.{Insight, Past, Told}
-use Rattle.run_definitions.specs.Layers.{Layers}
+use Rattle.event_definitions.specs.Handling.{AreHandled, records_left}
+use Rattle.event_definitions.specs.History.{Insight, Past, Told}
+use Rattle.event_definitions.specs.Layers.{Layers}
 use Rattle.run_definitions.specs.Lines.{drawn_of}
 use Rattle.run_definitions.specs.Order.{Step, IsOrdered, is_cut, is_outside, phases_of}
 use Rattle.mesh_base.specs.Pairs.{word_of}
 use Rattle.store_definitions.specs.Ranges.{IsInRange}
-use Rattle.run_definitions.specs.Readings.{Sees}
+use Rattle.event_definitions.specs.Readings.{Sees}
 use Rattle.report_definitions.specs.Record.{Life, LifeOver, Run, Shown, first_over, list_at, shown, shown_by}
-use Rattle.run_definitions.specs.Stores.{stores}
+use Rattle.event_definitions.specs.Stores.{stores}
 
 -- The opening of a life over records that say `c`: the flash may fail; else the life is `wasreset` where there was a Node Reset, and
 -- where there was none it opens with the IV state and the mark.

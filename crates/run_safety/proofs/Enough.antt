@@ -5,8 +5,8 @@ use Rattle.std.proofs.lemmas.List.Elements.{All-from_recursion, recursion_from_A
 use Rattle.record_types.specs.declared.records.StoreRecord.{StoreRecord}
 use Rattle.record_types.specs.declared.records.StoreRecord.TheVariants as R
 use Rattle.store_definitions.specs.Config.{Config, config_of}
-use Rattle.run_definitions.specs.History.{Past}
-use Rattle.run_definitions.specs.Layers.{Layers}
+use Rattle.event_definitions.specs.History.{Past}
+use Rattle.event_definitions.specs.Layers.{Layers}
 use Rattle.run_definitions.specs.Order.{Step}
 use Rattle.store_definitions.specs.Ranges.{IsInRange}
 use Rattle.report_definitions.specs.Record.{Life, LifeOver, first_over}
@@ -14,7 +14,8 @@ use Rattle.run_definitions.specs.RunOf.{LifeOf, LivesOf, Outlasts, no_record, of
 use Rattle.store_definitions.specs.Alike.{IsAlike}
 use Rattle.run_safety.specs.Rules.{HasFitNumbers, IsRunByEnough, KeepsNode, LifeBy, LivesBy, MayOutlast, enough_rules, nothing_more, one_filled, some_stored}
 use Rattle.run_safety.specs.Safety.{DeliversOnce, DrawsApart, LivesKeep, ReusesNoNonce, all_draws}
-use Rattle.run_safety.proofs.Lists.{every_map, pairs_from_apart}
+use Rattle.run_safety.proofs.Lists.{pairs_from_apart}
+use Rattle.event_definitions.proofs.Each.{every_map}
 use Rattle.run_safety.proofs.Lives.{life_later}
 use Rattle.run_safety.proofs.Lives as lives
 use Rattle.run_safety.proofs.Reuse as reuse

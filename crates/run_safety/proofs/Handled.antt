@@ -17,13 +17,13 @@ use Rattle.mesh_types.specs.declared.events.Event.{Event}
 use Rattle.mesh_types.specs.declared.events.Event.TheVariants as E
 use Rattle.record_types.specs.declared.records.StoreRecord.{StoreRecord}
 use Rattle.record_types.specs.declared.records.StoreRecord.TheVariants as R
-use Rattle.run_definitions.specs.Answers.{answer_of, beacon_answer, config_before, is_busy}
+use Rattle.event_definitions.specs.Answers.{answer_of, beacon_answer, config_before, is_busy}
 use Rattle.store_definitions.specs.Config.{Config, changed, config_of, no_config}
-use Rattle.run_definitions.specs.History.{Insight, OfBeacon, OfNothing, OfPdu, Past}
-use Rattle.run_definitions.specs.Layers.{AccessMessage, Layers}
+use Rattle.event_definitions.specs.History.{Insight, OfBeacon, OfNothing, OfPdu, Past}
+use Rattle.event_definitions.specs.Layers.{AccessMessage, Layers}
 use Rattle.run_safety.specs.Rules.{HasFitNumbers}
-use Rattle.run_safety.specs.Safety.{AreSafe, IsChange}
-use Rattle.run_definitions.specs.Stores.{asked, hours_passed, hours_step, message_of, phase_records, step_records, stores, tick_records}
+use Rattle.event_definitions.specs.Safe.{AreSafe, IsChange}
+use Rattle.event_definitions.specs.Stores.{asked, hours_passed, hours_step, message_of, phase_records, step_records, stores, tick_records}
 use Rattle.store_definitions.specs.Numbers.{fill_of, filled, moved}
 use Rattle.run_safety.proofs.Rising.{Rise, same, more, Rises, rise_after}
 use Rattle.store_definitions.proofs.Pushes.{config_push}

@@ -8,14 +8,15 @@ use Rattle.mesh_types.specs.declared.history.Entry.{Entry}
 use Rattle.mesh_types.specs.declared.history.Sent.{Sent}
 use Rattle.record_types.specs.declared.records.StoreRecord.{StoreRecord}
 use Rattle.store_definitions.specs.Config.{Config, config_of}
-use Rattle.run_definitions.specs.History.{Told}
-use Rattle.run_definitions.specs.Layers.{Layers}
+use Rattle.event_definitions.specs.History.{Told}
+use Rattle.event_definitions.specs.Layers.{Layers}
 use Rattle.run_definitions.specs.Order.{Does, IsOrdered, Part, PartsOf, Placed, Step, Task, broken, ends, handle, of_bearer, placed_from, whole}
 use Rattle.report_definitions.specs.Record.{Life, Shown, list_at, shown, shown_of}
 use Rattle.run_definitions.specs.RunOf.{is_on}
 use Rattle.run_safety.specs.Rules.{LifeBy, enough_rules}
-use Rattle.run_safety.specs.Safety.{AreSafe}
-use Rattle.run_safety.proofs.Lists.{every_append, every_back, every_front, sub_append}
+use Rattle.event_definitions.specs.Safe.{AreSafe}
+use Rattle.run_safety.proofs.Lists.{sub_append}
+use Rattle.event_definitions.proofs.Each.{every_append, every_back, every_front}
 use Rattle.run_safety.proofs.Lives.{left_in_range}
 use Rattle.run_safety.proofs.Rising.{Later}
 use Rattle.run_safety.proofs.Sending.{JobsFit, entries_fit}

@@ -8,18 +8,20 @@ use Rattle.mesh_types.specs.declared.history.Entry.{Entry}
 use Rattle.record_types.specs.declared.records.StoreRecord.{StoreRecord}
 use Rattle.store_definitions.specs.Config.{config_of}
 use Rattle.store_definitions.specs.Entries.{entry_of, kept_of}
-use Rattle.run_definitions.specs.Handling.{records_left}
-use Rattle.run_definitions.specs.History.{Past, Told}
-use Rattle.run_definitions.specs.Layers.{Layers}
+use Rattle.event_definitions.specs.Handling.{records_left}
+use Rattle.event_definitions.specs.History.{Past, Told}
+use Rattle.event_definitions.specs.Layers.{Layers}
 use Rattle.run_definitions.specs.Order.{Step}
 use Rattle.report_definitions.specs.Record.{Life, LifeOver, first_over}
 use Rattle.run_definitions.specs.RunOf.{past_at_end}
 use Rattle.run_safety.specs.Rules.{DeliversOnceByEnough, HasFitNumbers, LifeBy, LivesBy, MayOutlast, enough_rules, nothing_more, one_filled, some_stored}
-use Rattle.run_safety.specs.Safety.{AreSafe}
+use Rattle.event_definitions.specs.Safe.{AreSafe}
 use Rattle.store_definitions.specs.Numbers.{filled}
-use Rattle.run_definitions.specs.Uses.{accepted, delivered, life_delivered}
+use Rattle.run_definitions.specs.Uses.{delivered, life_delivered}
+use Rattle.event_definitions.specs.Answers.{accepted}
 use Rattle.run_safety.proofs.Handled.{Marked, RiseAll, marked, rise_all, rise_filled, rise_take, rises_fill, stores_rise}
-use Rattle.run_safety.proofs.Lists.{every_front, every_map, pairs_from_apart}
+use Rattle.run_safety.proofs.Lists.{pairs_from_apart}
+use Rattle.event_definitions.proofs.Each.{every_front, every_map}
 use Rattle.run_safety.proofs.Names.{AllBlocked, Differ, InRange, Once, blocked_all, filled_is, handled_rise, names, once_handled}
 use Rattle.run_safety.proofs.Rising.{Blocked, IsBlocked, Later, Rise, blocked_entry, entry_blocked, later_after, later_kept, rise_after, rise_later}
 

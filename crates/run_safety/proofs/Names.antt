@@ -9,23 +9,23 @@ use Rattle.mesh_types.specs.declared.answers.Answer.{Answer}
 use Rattle.mesh_types.specs.declared.answers.Answer.TheVariants as A
 use Rattle.mesh_types.specs.declared.events.Event.{Event}
 use Rattle.mesh_types.specs.declared.events.Event.TheVariants as E
-use Rattle.run_definitions.specs.Answers.{answer_of, replayed}
+use Rattle.event_definitions.specs.Answers.{accepted, answer_of, replayed}
 use Rattle.store_definitions.specs.Config.{config_of}
 use Rattle.store_definitions.specs.Entries.{kept_of}
-use Rattle.run_definitions.specs.Handling.{AreHandled, Handles, past_of, records_left}
-use Rattle.run_definitions.specs.History.{Insight, OfPdu, Past, Told}
-use Rattle.run_definitions.specs.Layers.{Layers}
+use Rattle.event_definitions.specs.Handling.{AreHandled, Handles, past_of, records_left}
+use Rattle.event_definitions.specs.History.{Insight, OfPdu, Past, Told}
+use Rattle.event_definitions.specs.Layers.{Layers}
 use Rattle.mesh_base.specs.Pairs.{is_expired, is_newer}
-use Rattle.run_definitions.specs.Readings.{Sees, sees_pdu, sees_beacon, sees_nothing}
+use Rattle.event_definitions.specs.Readings.{Sees, sees_pdu, sees_beacon, sees_nothing}
 use Rattle.run_safety.specs.Rules.{HasFitNumbers}
-use Rattle.run_safety.specs.Safety.{AreSafe}
-use Rattle.run_definitions.specs.Stores.{asked, message_of, records_after, stores}
+use Rattle.event_definitions.specs.Safe.{AreSafe}
+use Rattle.event_definitions.specs.Stores.{asked, message_of, records_after, stores}
 use Rattle.store_definitions.specs.Numbers.{filled, fill_of}
-use Rattle.run_definitions.specs.Uses.{accepted}
-use Rattle.run_safety.proofs.Accepting.{Fresh, beacon_silent, fresh, nothing_accepted, nothing_silent, unless_silent}
-use Rattle.run_definitions.proofs.Accepting.{some_is}
+use Rattle.event_definitions.proofs.Events.{Fresh, beacon_silent, fresh, nothing_accepted, nothing_silent, unless_silent}
+use Rattle.event_definitions.proofs.Accepting.{some_is}
 use Rattle.run_safety.proofs.Handled.{RiseAll, marked, rise_all, rise_filled, stores_rise}
-use Rattle.run_safety.proofs.Lists.{Apart, apart_push, every_append, every_front, every_map}
+use Rattle.run_safety.proofs.Lists.{Apart, apart_push}
+use Rattle.event_definitions.proofs.Each.{every_append, every_front, every_map}
 use Rattle.store_definitions.proofs.Pushes.{config_push}
 use Rattle.run_safety.proofs.Rising.{Blocked, by_expiry, by_kept, IsBlocked, Rise, same, blocked_by_replay, blocked_entry, blocked_rise, rise_after}
 

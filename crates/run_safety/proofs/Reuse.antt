@@ -8,17 +8,19 @@ use Rattle.mesh_base.specs.declared.iv_state.IvState.{IvState}
 use Rattle.mesh_base.specs.declared.pair.Pair.{Pair}
 use Rattle.record_types.specs.declared.records.StoreRecord.{StoreRecord}
 use Rattle.store_definitions.specs.Config.{Config, config_of}
-use Rattle.run_definitions.specs.Layers.{Layers}
+use Rattle.event_definitions.specs.Layers.{Layers}
 use Rattle.run_definitions.specs.Order.{Step}
 use Rattle.mesh_base.specs.Pairs.{word_of}
 use Rattle.report_definitions.specs.Record.{Life, LifeOver, first_over, shown}
 use Rattle.run_definitions.specs.RunOf.{draws}
 use Rattle.run_safety.specs.Rules.{LifeBy, LivesBy, ReusesNoNonceByEnough, enough_rules}
-use Rattle.run_safety.specs.Safety.{AreSafe, all_draws}
+use Rattle.run_safety.specs.Safety.{all_draws}
+use Rattle.event_definitions.specs.Safe.{AreSafe}
 use Rattle.run_definitions.specs.Uses.{Use, life_seals, node_of, uses}
 use Rattle.run_safety.proofs.Handled.{Marked, marked}
 use Rattle.run_safety.proofs.LifeLines.{life_lines}
-use Rattle.run_safety.proofs.Lists.{Apart, Sub, apart_append, apart_from_pairs, apart_map, apart_sub, every_append, every_map, every_sub, no_part, pairs_from_apart, sub_append}
+use Rattle.run_safety.proofs.Lists.{Apart, Sub, apart_append, apart_from_pairs, apart_map, apart_sub, every_sub, no_part, pairs_from_apart, sub_append}
+use Rattle.event_definitions.proofs.Each.{every_append, every_map}
 use Rattle.run_safety.proofs.Lives.{end_in_range, life_later}
 use Rattle.run_safety.proofs.Nonces.{NoClash, Tagged, Wide, lines_tagged, no_clash, no_use, tagged_append}
 use Rattle.run_safety.proofs.Rising.{Later, later_after, later_same}

@@ -24,18 +24,18 @@ use Rattle.mesh_types.specs.declared.jobs.Job.{Job}
 use Rattle.mesh_types.specs.declared.jobs.Job.TheVariants as J
 use Rattle.record_types.specs.declared.records.StoreRecord.{StoreRecord}
 use Rattle.layer_states.specs.Names.{is_unicast}
-use Rattle.run_definitions.specs.Answers.{answer_of, config_before, is_before_cache, later, network_answer, pdu_answer, transport_answer, unless_reset}
+use Rattle.event_definitions.specs.Answers.{answer_of, config_before, is_before_cache, later, network_answer, pdu_answer, transport_answer, unless_reset}
 use Rattle.store_definitions.specs.Config.{Config, config_of, is_element}
-use Rattle.run_definitions.specs.Handling.{AreHandled, Handles, past_of, records_left}
-use Rattle.run_definitions.specs.History.{Insight, OfBeacon, OfNothing, OfPdu, Opening, Past, Reading, Told, now_of}
-use Rattle.run_definitions.specs.Jobs.{ack_asked, ack_job, ack_jobs, beacon_jobs, beacons_due, begin_jobs, block_asked, element_address, first_net, first_round_job, is_moved, is_refreshed, reply_ttl, jobs_of, message_jobs, pdu_jobs, raw_jobs, refresh_jobs, relay_jobs, segment_numbers, send_jobs, send_keys, sent_job, tick_jobs, under}
-use Rattle.run_definitions.specs.Layers.{Layers}
-use Rattle.run_definitions.specs.Readings.{IsReading, Sees, sees_pdu, sees_beacon, sees_nothing}
-use Rattle.run_safety.specs.Safety.{AreSafe, IsFitJob}
-use Rattle.run_definitions.specs.Stores.{message_of, records_after}
-use Rattle.run_definitions.proofs.Accepting.{some_is}
+use Rattle.event_definitions.specs.Handling.{AreHandled, Handles, past_of, records_left}
+use Rattle.event_definitions.specs.History.{Insight, OfBeacon, OfNothing, OfPdu, Opening, Past, Reading, Told, now_of}
+use Rattle.event_definitions.specs.Jobs.{ack_asked, ack_job, ack_jobs, beacon_jobs, beacons_due, begin_jobs, block_asked, element_address, first_net, first_round_job, is_moved, is_refreshed, reply_ttl, jobs_of, message_jobs, pdu_jobs, raw_jobs, refresh_jobs, relay_jobs, segment_numbers, send_jobs, send_keys, sent_job, tick_jobs, under}
+use Rattle.event_definitions.specs.Layers.{Layers}
+use Rattle.event_definitions.specs.Readings.{IsReading, Sees, sees_pdu, sees_beacon, sees_nothing}
+use Rattle.event_definitions.specs.Safe.{AreSafe, IsFitJob}
+use Rattle.event_definitions.specs.Stores.{message_of, records_after}
+use Rattle.event_definitions.proofs.Accepting.{some_is}
 use Rattle.run_safety.proofs.Handled.{rise_filled}
-use Rattle.run_safety.proofs.Lists.{every_append, every_map}
+use Rattle.event_definitions.proofs.Each.{every_append, every_map}
 use Rattle.run_safety.proofs.Names.{InRange, entry_rises, first_in_range}
 use Rattle.run_safety.proofs.Rising.{Later, Rise, later_after, rise_later}
 

@@ -19,8 +19,9 @@ use Rattle.run_definitions.specs.Lines.{Shows, shows_bcn, shows_ctl, shows_first
 use Rattle.run_definitions.specs.Order.{Placed, Task, Walks, follow, follows, handle, handles, is_outside, job_tasks, stops, write, write_tasks, writes}
 use Rattle.report_definitions.specs.Record.{Shown, shown_of}
 use Rattle.run_definitions.specs.RunOf.{draws}
-use Rattle.run_definitions.proofs.Accepting.{some_is}
-use Rattle.run_safety.proofs.Lists.{Sub, kept_part, passed_part, every_append, sub_nothing}
+use Rattle.event_definitions.proofs.Accepting.{some_is}
+use Rattle.run_safety.proofs.Lists.{Sub, kept_part, passed_part, sub_nothing}
+use Rattle.event_definitions.proofs.Each.{every_append}
 use Rattle.run_safety.proofs.Sending.{BeginFits, Fine, FirstOf, first_of, Foreign, JobsFit}
 
 -- Tags: a pair, and whether the upper transport layer seals with it, or the network layer.

@@ -1,4 +1,2 @@
 pub mod Safety
-pub mod WrittenRun
 pub mod Rules
-pub mod Needed

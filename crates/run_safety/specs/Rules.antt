@@ -6,12 +6,12 @@ use Rattle.record_types.specs.declared.records.StoreRecord.{StoreRecord}
 use Rattle.record_types.specs.declared.records.StoreRecord.TheVariants as R
 use Rattle.mesh_types.specs.declared.report.End.{End}
 use Rattle.mesh_types.specs.declared.report.Opened.{Opened}
-use Rattle.run_definitions.specs.Answers.{answer_of}
+use Rattle.event_definitions.specs.Answers.{answer_of}
 use Rattle.store_definitions.specs.Config.{Config, config_of}
 use Rattle.store_definitions.specs.Entries.{entry_of}
-use Rattle.run_definitions.specs.Handling.{AreHandled}
-use Rattle.run_definitions.specs.History.{Insight, Past, Told}
-use Rattle.run_definitions.specs.Layers.{Layers}
+use Rattle.event_definitions.specs.Handling.{AreHandled}
+use Rattle.event_definitions.specs.History.{Insight, Past, Told}
+use Rattle.event_definitions.specs.Layers.{Layers}
 use Rattle.run_definitions.specs.Order.{IsOrdered, Step}
 use Rattle.mesh_base.specs.Pairs.{word_of}
 use Rattle.store_definitions.specs.Ranges.{IsInRange}
@@ -19,10 +19,10 @@ use Rattle.report_definitions.specs.Record.{Life, LifeOver, Run, first_over, lis
 use Rattle.run_definitions.specs.RunOf.{IsDrawn, IsIdle, IsNumbered, IsSpentRight, Opens, Outlasts, RunOf, Script, draws, is_on, past_at_end}
 use Rattle.store_definitions.specs.Provisioning.{Provisioning, provisioned}
 use Rattle.store_definitions.specs.Alike.{IsAlike}
-use Rattle.run_definitions.specs.Stores.{stores}
+use Rattle.event_definitions.specs.Stores.{stores}
 use Rattle.store_definitions.specs.Numbers.{fill_of}
 use Rattle.run_definitions.specs.Uses.{AtMostOnce, NoReuse, delivered, uses}
-use Rattle.run_safety.specs.Safety.{AreSafe}
+use Rattle.event_definitions.specs.Safe.{AreSafe}
 
 -- The rules: what a run begins with, how a life opens, that a life that isn't run does nothing, that its entries are
 -- told, how they are handled and numbered, in which order bearers work, what outlasts a cut, which records there are,
@@ -93,10 +93,6 @@ LivesBy rules layers _ _ last = ⊥
 pub record RunBy (rules : Rules) (layers : Layers) (s : Script) (r : Run) : Type 0 where
   pub first : rules.does_begin s.node (first_over r.lives r.last)
   pub lives : LivesBy rules layers s.lives r.lives r.last
-
--- By all rules it is a run.
-abbrev pub IsRunByAll : Type 0
-IsRunByAll = (layers : Layers) (s : Script) (r : Run) → RunBy all_rules layers s r → RunOf layers s r
 
 -- The rules that are enough.
 

@@ -14,7 +14,7 @@ use Rattle.mesh_types.specs.declared.events.SendKey.TheVariants as K
 use Rattle.mesh_types.specs.declared.jobs.Job.{Job}
 use Rattle.mesh_types.specs.declared.jobs.Job.TheVariants as J
 use Rattle.record_types.specs.declared.records.StoreRecord.TheVariants as R
-use Rattle.run_definitions.specs.History.{Insight, OfBeacon, OfNothing, OfPdu, Past}
+use Rattle.event_definitions.specs.History.{Insight, OfBeacon, OfNothing, OfPdu, Past}
 use Rattle.worked_layers.specs.Walk.{address, handled, heard, iv, name, start, then_at}
 
 module _ (net_key dev_key pdu : List ℕ) where

@@ -6,7 +6,7 @@ use Rattle.layer_definitions.specs.KeyRefresh.{transmit_material}
 use Rattle.layer_definitions.specs.Lower.{last_segment}
 use Rattle.mesh_base.specs.declared.fields.NetMaterial.{NetMaterial}
 use Rattle.mesh_types.specs.declared.jobs.Job.{Job}
-use Rattle.run_definitions.specs.Jobs.{first_round_job}
+use Rattle.event_definitions.specs.Jobs.{first_round_job}
 use Rattle.mesh_jobs.proofs.Rounds.{none_put, one_put, under_none, under_some}
 use Rattle.mesh_jobs.proofs.segments.push_first_round.Goals as goal
 

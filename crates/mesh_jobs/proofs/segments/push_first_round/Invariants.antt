@@ -1,7 +1,7 @@
 -- The segments so far stand behind the jobs that were there.
 use Rattle.std.proofs.Common.{◌≡◌, ◌+◌, ◌++◌, length, map}
 use Rattle.std.specs.List.{range_with_len}
-use Rattle.run_definitions.specs.Jobs.{first_round_job}
+use Rattle.event_definitions.specs.Jobs.{first_round_job}
 use Rattle.mesh_jobs.proofs.segments.push_first_round.Given as goal
 
 abbrev pub invariant-loop-seg_o : goal.invariant-loop-seg_o

@@ -3,7 +3,7 @@ use Rattle.std.specs.Prelude.{◌&&◌, not}
 use Rattle.layer_definitions.specs.KeyRefresh.{transmit_material}
 use Rattle.layer_states.specs.Sending.{is_due, is_last, round_of}
 use Rattle.node_layers.specs.Sending.{segment_job}
-use Rattle.run_definitions.specs.Jobs.{under}
+use Rattle.event_definitions.specs.Jobs.{under}
 use Rattle.node_records.specs.Tables.{config_in}
 use Rattle.mesh_jobs.specs.Segments.{segments_under}
 use Rattle.mesh_jobs.proofs.Rounds.{none_put, of_due, places_due, under_none, under_some}
