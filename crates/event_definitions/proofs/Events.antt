@@ -1,6 +1,6 @@
 -- What the table of answers says of an accepted message: its IV Index is read, its name is newer than the entry of
 -- its source, and its source is no element of this node.
-use Rattle.std.proofs.Common.{◌≡◌, ℕ, Bool, true, false, cond, not, ◌||◌, eqb, leb, List, refl, Option, Some, None}
+use Rattle.std.proofs.Common.{◌≡◌, Bool, true, false, cond, not, ◌||◌, eqb, leb, refl, Option, Some, None}
 use Rattle.std.specs.Option.{is_some}
 use Rattle.layer_definitions.specs.KeyRefresh.{app_row}
 use Rattle.mesh_base.specs.IvState.{transmit_of}
@@ -16,14 +16,11 @@ use Rattle.mesh_types.specs.declared.events.Event.TheVariants as E
 use Rattle.mesh_types.specs.declared.events.SendKey.{SendKey}
 use Rattle.mesh_types.specs.declared.events.SendKey.TheVariants as K
 use Rattle.layer_states.specs.Names.{is_unicast}
-use Rattle.event_definitions.specs.Answers.{accepted, answer_of, beacon_answer, begin_answer, config_before, is_cached, is_mine, later, network_answer, pdu_answer, replayed, send_answer, unless_reset}
+use Rattle.event_definitions.specs.Answers.{accepted, answer_of, beacon_answer, begin_answer, config_before, is_cached, is_mine, later, network_answer, pdu_answer, send_answer, unless_reset}
 use Rattle.store_definitions.specs.Config.{is_element}
-use Rattle.store_definitions.specs.Entries.{entry_of}
-use Rattle.event_definitions.specs.History.{Insight, OfBeacon, OfNothing, OfPdu, Opening, Past, Reading}
+use Rattle.event_definitions.specs.History.{OfBeacon, OfNothing, OfPdu, Opening, Past, Reading}
 use Rattle.event_definitions.specs.Layers.{Layers}
-use Rattle.mesh_base.specs.Pairs.{is_expired}
-use Rattle.event_definitions.specs.Readings.{Sees, sees_pdu, sees_beacon, sees_nothing, IsReading}
-use Rattle.event_definitions.proofs.Accepting.{AcceptedFrom, Refuses, no_answer, refused, refuses_pick, past_refusal, transport_accepts, not_expired}
+use Rattle.event_definitions.proofs.Accepting.{AcceptedFrom, Refuses, no_answer, refused, refuses_pick, past_refusal, transport_accepts}
 
 network_refuses : (past : Past) (r : Reading) → Refuses (network_answer past r)
 network_refuses past r =
@@ -81,27 +78,3 @@ nothing_silent layers past (E.Raw dst ttl tpdu) = unless_silent past A.Planned (
 nothing_silent layers past (E.Tick ticks) = unless_silent past (A.Ticked (later past ticks)) (silent refl)
 nothing_silent layers past (E.Begin pair dst src ttl net akf aid upper) = begin_silent layers past pair dst
 nothing_silent layers past (E.Kept lpn fsn name octets) = silent_pick (layers.is_noted past lpn fsn) _ _ (silent refl) (silent refl)
-
-pub record Fresh (past : Past) (n : Name) : Type 0 where
-  pub read : is_expired (config_before past).iv.current n.pair ≡ false
-  pub newer : replayed (entry_of past.records n.src.0) n.pair ≡ None
-
-fresh_reading : (layers : Layers) (past : Past) (octets : List ℕ) (r : Reading) (n : Name) → IsReading layers past octets (Some r) → AcceptedFrom past r n → Fresh past n
-fresh_reading layers past octets r n h k = record {
-  read = not_expired (config_before past).iv.current r.fields.iv n.pair k.iv h.1.reads.iv.0;
-  newer = k.newer;
-}
-
-fresh_pdu : (layers : Layers) (past : Past) (octets : List ℕ) (reading : Option Reading) (low : Option Lower) (opening : Option Opening) (n : Name)
-    → IsReading layers past octets reading → accepted (pdu_answer layers past (OfPdu reading low opening)) ≡ Some n → Fresh past n
-fresh_pdu layers past octets None low opening n h e = absurd cc
-fresh_pdu layers past octets (Some r) low opening n h e = fresh_reading layers past octets r n h (pdu_accepts layers past r low opening n e)
-
-pub fresh : (layers : Layers) (past : Past) (event : Event) (insight : Insight) (n : Name)
-    → Sees layers past event insight → accepted (answer_of layers past event insight) ≡ Some n → Fresh past n
-unfolding answer_of
-fresh layers past _ _ n (sees_pdu {octets = octets} {reading = reading} {low = low} {opening = opening} reset r l o) e =
-    fresh_pdu layers past octets reading low opening n r (reset_accepts _ _ n e)
-fresh layers past _ _ n (sees_beacon {b = b} reset k) e =
-    absurd (nothing_accepted _ n (unless_silent past _ (beacon_silent layers past b)) e)
-fresh layers past _ _ n (sees_nothing {event = event} h) e = absurd (nothing_accepted _ n (nothing_silent layers past event) e)

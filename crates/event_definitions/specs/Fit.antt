@@ -11,6 +11,7 @@ use Rattle.event_definitions.specs.Answers.{config_before}
 use Rattle.event_definitions.specs.Handling.{IsPast}
 use Rattle.event_definitions.specs.History.{Past}
 use Rattle.event_definitions.specs.Layers.{AccessMessage, ControlMessage, Layers}
+use Rattle.event_definitions.specs.Role.{node_role}
 use Rattle.store_definitions.specs.Config.{Config, config_of, is_element}
 use Rattle.store_definitions.specs.Following.{AreInOrder, Follows}
 use Rattle.store_definitions.specs.Node.{IsWhole, KeepsWhole}
@@ -46,22 +47,22 @@ HasOwnEvents past = All (λ t. IsOwnEvent (config_before past) t.entry.event) pa
 
 pub record AreFit (layers : Layers) : Type 0 where
   -- after the record of a message in a node that is whole, whose records may each follow those before it
-  pub changes : (past : Past) (m : AccessMessage) → IsPast layers past → IsWhole (config_before past)
+  pub changes : (past : Past) (m : AccessMessage) → IsPast (node_role layers) past → IsWhole (config_before past)
       → AreInOrder [] past.records
       → All (λ octet. octet < 2 ^ 8) m.payload
       → AreStorable (past.records ++ R.Replay m.name None ∷ []) (layers.changes past m)
-  pub acks_due : (past : Past) (c : Config) (ticks : ℕ) → IsPast layers past → HasElements past c
+  pub acks_due : (past : Past) (c : Config) (ticks : ℕ) → IsPast (node_role layers) past → HasElements past c
       → All (IsOwn c) (layers.acks_due past c ticks)
-  pub segments_due : (past : Past) (c : Config) (ticks : ℕ) → IsPast layers past → HasOwnEvents past
+  pub segments_due : (past : Past) (c : Config) (ticks : ℕ) → IsPast (node_role layers) past → HasOwnEvents past
       → HasElements past c
       → All (IsOwn c) (layers.segments_due past c ticks)
   -- in a node that is whole
-  pub control_jobs : (past : Past) (c : Config) (m : ControlMessage) → IsPast layers past → IsWhole (config_before past)
+  pub control_jobs : (past : Past) (c : Config) (m : ControlMessage) → IsPast (node_role layers) past → IsWhole (config_before past)
       → HasOwnEvents past
       → HasElements past c → All (IsOwn c) (layers.control_jobs past c m)
-  pub replies : (past : Past) (c : Config) (m : AccessMessage) → IsPast layers past → IsWhole (config_before past)
+  pub replies : (past : Past) (c : Config) (m : AccessMessage) → IsPast (node_role layers) past → IsWhole (config_before past)
       → HasElements past c
       → All (IsOwn c) (layers.replies past c m)
-  pub published : (past : Past) (c : Config) (ticks : ℕ) → IsPast layers past → IsWhole (config_before past)
+  pub published : (past : Past) (c : Config) (ticks : ℕ) → IsPast (node_role layers) past → IsWhole (config_before past)
       → HasElements past c
       → All (IsOwn c) (layers.published past c ticks)

@@ -4,6 +4,7 @@ pub mod Answers
 pub mod Readings
 pub mod Stores
 pub mod Jobs
+pub mod Role
 pub mod Handling
 pub mod Fit
 pub mod Safe

@@ -18,7 +18,7 @@ use Rattle.record_types.specs.declared.records.StoreRecord.TheVariants as R
 use Rattle.event_definitions.specs.Answers.{config_before, is_busy, later}
 use Rattle.store_definitions.specs.Config.{Config}
 use Rattle.store_definitions.specs.Numbers.{moved}
-use Rattle.event_definitions.specs.History.{Insight, OfPdu, Past, Told, now_of}
+use Rattle.event_definitions.specs.History.{Insight, OfPdu, Past, now_of}
 use Rattle.event_definitions.specs.Layers.{Layers, AccessMessage}
 
 abbrev pub step_records : Config → IvStep → List StoreRecord
@@ -79,7 +79,3 @@ stores layers past (E.Bcn octets) insight (A.Beacon index key iv) =
     phase_records index key ++ step_records (config_before past) iv
 stores layers past (E.Tick ticks) insight (A.Ticked now) = tick_records layers past ticks
 stores layers past _ insight _ = []
-
--- the records after an entry
-abbrev pub records_after : Layers → Past → Told → List StoreRecord
-records_after layers past t = past.records ++ stores layers past t.entry.event t.insight t.entry.answer

@@ -1,7 +1,7 @@
 -- What each rule is needed for.
 use Rattle.std.proofs.Common.{List, [], ◌∷◌}
 use Rattle.record_types.specs.declared.records.StoreRecord.{StoreRecord}
-use Rattle.event_definitions.specs.Layers.{Layers}
+use Rattle.event_definitions.specs.Role.{Role, node_role}
 use Rattle.needed_rules.specs.Needed.{AreNeeded, IsRunByAll}
 use Rattle.run_safety.specs.Rules.{LifeBy, LivesBy, all_rules}
 use Rattle.run_definitions.specs.Order.{Step}
@@ -25,8 +25,8 @@ use Rattle.needed_rules.proofs.NeededIvState.{iv_state_needed}
 use Rattle.needed_rules.proofs.NeededIdentity.{elements_needed, unicast_needed}
 use Rattle.needed_rules.proofs.NeededParts.{history_needed, lines_needed}
 
-life_by_all : (layers : Layers) (plan : List Step) (over : List StoreRecord) (l : Life) (next : List StoreRecord) → LifeBy all_rules layers plan over l next → LifeOf layers plan over l next
-life_by_all layers plan over l next h = record {
+life_by_all : (role : Role) (plan : List Step) (over : List StoreRecord) (l : Life) (next : List StoreRecord) → LifeBy all_rules role plan over l next → LifeOf role plan over l next
+life_by_all role plan over l next h = record {
   opening = h.opening;
   idle = h.idle;
   told = h.told;
@@ -39,15 +39,15 @@ life_by_all layers plan over l next h = record {
   spent = h.spent;
 }
 
-lives_by_all : (layers : Layers) (plans : List (List Step)) (lives : List LifeOver) (last : List StoreRecord) → LivesBy all_rules layers plans lives last → LivesOf layers plans lives last
-lives_by_all layers [] [] last h = tt
-lives_by_all layers [] (x ∷ xs) last h = absurd h
-lives_by_all layers (plan ∷ plans) [] last h = absurd h
-lives_by_all layers (plan ∷ plans) (x ∷ xs) last h =
-    (life_by_all layers plan x.over x.life (first_over xs last) h.0, lives_by_all layers plans xs last h.1)
+lives_by_all : (role : Role) (plans : List (List Step)) (lives : List LifeOver) (last : List StoreRecord) → LivesBy all_rules role plans lives last → LivesOf role plans lives last
+lives_by_all role [] [] last h = tt
+lives_by_all role [] (x ∷ xs) last h = absurd h
+lives_by_all role (plan ∷ plans) [] last h = absurd h
+lives_by_all role (plan ∷ plans) (x ∷ xs) last h =
+    (life_by_all role plan x.over x.life (first_over xs last) h.0, lives_by_all role plans xs last h.1)
 
 pub run_by_all : IsRunByAll
-run_by_all layers s r h = record { first = h.first; lives = lives_by_all layers s.lives r.lives r.last h.lives }
+run_by_all layers s r h = record { first = h.first; lives = lives_by_all (node_role layers) s.lives r.lives r.last h.lives }
 
 pub are_needed : AreNeeded
 are_needed = record {

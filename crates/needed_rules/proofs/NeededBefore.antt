@@ -25,6 +25,7 @@ use Rattle.run_definitions.specs.Order.{Does, IsOrdered, Part, Step, ends, handl
 use Rattle.store_definitions.specs.Ranges.{IsInRange}
 use Rattle.event_definitions.specs.Readings.{sees_nothing}
 use Rattle.report_definitions.specs.Record.{Life, Run, Shown, list_at, shown, shown_by}
+use Rattle.event_definitions.specs.Role.{node_role}
 use Rattle.run_definitions.specs.RunOf.{IsNumbered, IsSpentRight, Script, draws, no_record, past_at_end}
 use Rattle.event_definitions.specs.Stores.{stores}
 use Rattle.run_definitions.specs.Uses.{seals_of, uses}
@@ -118,7 +119,7 @@ told = told_of 1 0x7f ∷ told_of 2 0x7e ∷ []
 abbrev any_before : Rules
 any_before = record all_rules { are_handled = AreHandledAfterAny }
 
-handled : AreHandledAfterAny passing_layers first_list [] told
+handled : AreHandledAfterAny (node_role passing_layers) first_list [] told
 unfolding changed answer_of stores jobs_of transmit_of
 handled = (
   refl,
@@ -142,7 +143,7 @@ numbered : (k : ℕ) → IsNumbered life k
 numbered zero = refl
 numbered (suc k) = rw (others_none k entries (refl, (refl, tt))) refl
 
-leaves : LeavesBy any_before passing_layers plan life (past_at_end passing_layers first_list life told) first_list
+leaves : LeavesBy any_before (node_role passing_layers) plan life (past_at_end (node_role passing_layers) first_list life told) first_list
 unfolding changed stores
 leaves = record { more = []; outlasts = no_record; ranges = all_of IsInRange first_list ranges; alike = record { config = refl; entries = λ src. refl } }
 
@@ -150,7 +151,7 @@ draws_none : (k : ℕ) → draws (shown_by life k) ≡ []
 draws_none zero = refl
 draws_none (suc k) = refl
 
-life_by : LifeBy any_before passing_layers plan first_list life first_list
+life_by : LifeBy any_before (node_role passing_layers) plan first_list life first_list
 life_by = record {
   opening = first_opens (pair 0) 0x7f;
   idle = λ e. absurd (true≢false e);

@@ -28,6 +28,7 @@ use Rattle.mesh_base.specs.Pairs.{word_of}
 use Rattle.store_definitions.specs.Ranges.{IsInRange}
 use Rattle.event_definitions.specs.Readings.{sees_nothing}
 use Rattle.report_definitions.specs.Record.{Life, Run, Shown, list_at, shown, shown_by}
+use Rattle.event_definitions.specs.Role.{node_role}
 use Rattle.run_definitions.specs.RunOf.{IsNumbered, IsSpentRight, Opens, Script, draws, no_record, opens, past_at_end}
 use Rattle.store_definitions.specs.Provisioning.{Provisioning, provisioned}
 use Rattle.event_definitions.specs.Stores.{stores}
@@ -94,19 +95,19 @@ last_told = record { entry = raw_entry 0 3 0 0x7e; insight = OfNothing; records 
 abbrev told : List Told
 told = first_told ∷ tick_told ∷ last_told ∷ []
 
-first_handled : Handles quiet_layers (past_of [] first_told) first_told
+first_handled : Handles (node_role quiet_layers) (past_of [] first_told) first_told
 unfolding changed answer_of stores jobs_of transmit_of
 first_handled = record { sees = sees_nothing refl; answer = refl; jobs = refl }
 
-tick_handled : Handles quiet_layers (past_of (first_told ∷ []) tick_told) tick_told
+tick_handled : Handles (node_role quiet_layers) (past_of (first_told ∷ []) tick_told) tick_told
 unfolding changed answer_of stores jobs_of transmit_of iv_due
 tick_handled = record { sees = sees_nothing refl; answer = refl; jobs = refl }
 
-last_handled : Handles quiet_layers (past_of (first_told ∷ tick_told ∷ []) last_told) last_told
+last_handled : Handles (node_role quiet_layers) (past_of (first_told ∷ tick_told ∷ []) last_told) last_told
 unfolding changed answer_of stores jobs_of transmit_of
 last_handled = record { sees = sees_nothing refl; answer = refl; jobs = refl }
 
-handled : AreHandled quiet_layers over [] told
+handled : AreHandled (node_role quiet_layers) over [] told
 unfolding changed stores transmit_of iv_due
 handled = (refl, first_handled, (refl, tick_handled, (refl, last_handled, tt)))
 
@@ -148,7 +149,7 @@ ranges = (
   ),
 )
 
-leaves : LeavesBy (drawn_only DrawsWithoutBound) quiet_layers plan life (past_at_end quiet_layers over life told) next
+leaves : LeavesBy (drawn_only DrawsWithoutBound) (node_role quiet_layers) plan life (past_at_end (node_role quiet_layers) over life told) next
 unfolding changed stores transmit_of iv_due
 leaves = record { more = []; outlasts = no_record; ranges = all_of IsInRange next ranges; alike = record { config = refl; entries = λ src. refl } }
 
@@ -172,7 +173,7 @@ opening : Opens (config_of over) life.opened life.end
 unfolding changed transmit_of
 opening = opens refl
 
-life_by : LifeBy (drawn_only DrawsWithoutBound) quiet_layers plan over life next
+life_by : LifeBy (drawn_only DrawsWithoutBound) (node_role quiet_layers) plan over life next
 life_by = record {
   opening = opening;
   idle = λ e. absurd (true≢false e);

@@ -30,6 +30,7 @@ use Rattle.mesh_base.specs.Pairs.{word_of}
 use Rattle.store_definitions.specs.Ranges.{IsInRange}
 use Rattle.event_definitions.specs.Readings.{sees_nothing}
 use Rattle.report_definitions.specs.Record.{Life, Run, Shown, list_at, shown, shown_by}
+use Rattle.event_definitions.specs.Role.{node_role}
 use Rattle.run_definitions.specs.RunOf.{IsNumbered, IsSpentRight, Opens, Script, draws, no_record, opens, past_at_end}
 use Rattle.store_definitions.specs.Provisioning.{provisioned}
 use Rattle.run_definitions.specs.Seals.{own_fields}
@@ -165,12 +166,12 @@ second_range = (
 abbrev pub first_told : ℕ → Told
 first_told octet = record { entry = raw_entry 0 1 0 octet; insight = OfNothing; records = first_list }
 
-pub first_handled : (octet : ℕ) → AreHandled quiet_layers first_list [] (first_told octet ∷ [])
+pub first_handled : (octet : ℕ) → AreHandled (node_role quiet_layers) first_list [] (first_told octet ∷ [])
 unfolding changed answer_of stores jobs_of transmit_of
 first_handled octet = (refl, record { sees = sees_nothing refl; answer = refl; jobs = refl }, tt)
 
 first_leaves : (is_drawn : List StoreRecord → List StoreRecord → Life → Type 0) (p : Pair) (octet : ℕ)
-    → LeavesBy (drawn_only is_drawn) quiet_layers (plan octet) (life (mark + 0) p octet) (past_at_end quiet_layers first_list (life (mark + 0) p octet) (first_told octet ∷ [])) second_list
+    → LeavesBy (drawn_only is_drawn) (node_role quiet_layers) (plan octet) (life (mark + 0) p octet) (past_at_end (node_role quiet_layers) first_list (life (mark + 0) p octet) (first_told octet ∷ [])) second_list
 unfolding changed stores transmit_of
 first_leaves is_drawn p octet = record { more = []; outlasts = no_record; ranges = all_of IsInRange second_list first_range; alike = record { config = refl; entries = λ src. refl } }
 
@@ -179,7 +180,7 @@ unfolding changed transmit_of
 first_opens p octet = opens refl
 
 first_life : (is_drawn : List StoreRecord → List StoreRecord → Life → Type 0) (p : Pair) (octet : ℕ) → is_drawn first_list second_list (life (mark + 0) p octet)
-    → LifeBy (drawn_only is_drawn) quiet_layers (plan octet) first_list (life (mark + 0) p octet) second_list
+    → LifeBy (drawn_only is_drawn) (node_role quiet_layers) (plan octet) first_list (life (mark + 0) p octet) second_list
 first_life is_drawn p octet h = record {
   opening = first_opens p octet;
   idle = λ e. absurd (true≢false e);
@@ -196,12 +197,12 @@ first_life is_drawn p octet h = record {
 abbrev second_told : ℕ → Told
 second_told octet = record { entry = raw_entry 0 1 0 octet; insight = OfNothing; records = second_list }
 
-second_handled : (octet : ℕ) → AreHandled quiet_layers second_list [] (second_told octet ∷ [])
+second_handled : (octet : ℕ) → AreHandled (node_role quiet_layers) second_list [] (second_told octet ∷ [])
 unfolding changed answer_of stores jobs_of transmit_of
 second_handled octet = (refl, record { sees = sees_nothing refl; answer = refl; jobs = refl }, tt)
 
 second_leaves : (is_drawn : List StoreRecord → List StoreRecord → Life → Type 0) (p : Pair) (octet : ℕ)
-    → LeavesBy (drawn_only is_drawn) quiet_layers (plan octet) (life (mark + 256) p octet) (past_at_end quiet_layers second_list (life (mark + 256) p octet) (second_told octet ∷ [])) third_list
+    → LeavesBy (drawn_only is_drawn) (node_role quiet_layers) (plan octet) (life (mark + 256) p octet) (past_at_end (node_role quiet_layers) second_list (life (mark + 256) p octet) (second_told octet ∷ [])) third_list
 unfolding changed stores transmit_of
 second_leaves is_drawn p octet = record { more = []; outlasts = no_record; ranges = all_of IsInRange third_list second_range; alike = record { config = refl; entries = λ src. refl } }
 
@@ -210,7 +211,7 @@ unfolding changed transmit_of
 second_opens p octet = opens refl
 
 second_life : (is_drawn : List StoreRecord → List StoreRecord → Life → Type 0) (p : Pair) (octet : ℕ) → is_drawn second_list third_list (life (mark + 256) p octet)
-    → LifeBy (drawn_only is_drawn) quiet_layers (plan octet) second_list (life (mark + 256) p octet) third_list
+    → LifeBy (drawn_only is_drawn) (node_role quiet_layers) (plan octet) second_list (life (mark + 256) p octet) third_list
 second_life is_drawn p octet h = record {
   opening = second_opens p octet;
   idle = λ e. absurd (true≢false e);
@@ -235,7 +236,7 @@ run p = record {
 }
 
 by_both : (is_drawn : List StoreRecord → List StoreRecord → Life → Type 0) (p : Pair)
-    → is_drawn first_list second_list (life mark p 0x7f) → is_drawn second_list third_list (life (mark + 256) p 0x7e) → RunBy (drawn_only is_drawn) quiet_layers script (run p)
+    → is_drawn first_list second_list (life mark p 0x7f) → is_drawn second_list third_list (life (mark + 256) p 0x7e) → RunBy (drawn_only is_drawn) (node_role quiet_layers) script (run p)
 by_both is_drawn p h k = record { first = refl; lives = (first_life is_drawn p 0x7f h, (second_life is_drawn p 0x7e k, tt)) }
 
 clash : (p : Pair) → Clash (uses (run p))

@@ -28,6 +28,7 @@ use Rattle.run_definitions.specs.Order.{Does, IsOrdered, Part, Step, ends, handl
 use Rattle.store_definitions.specs.Ranges.{IsInRange}
 use Rattle.event_definitions.specs.Readings.{IsReading, sees_pdu}
 use Rattle.report_definitions.specs.Record.{Life, Run, Shown, list_at, shown, shown_by}
+use Rattle.event_definitions.specs.Role.{node_role}
 use Rattle.run_definitions.specs.RunOf.{IsNumbered, IsSpentRight, Opens, Script, draws, no_record, opens, past_at_end}
 use Rattle.store_definitions.specs.Provisioning.{Provisioning, provisioned}
 use Rattle.event_definitions.specs.Stores.{stores}
@@ -125,7 +126,7 @@ reads octet h false = (
   },
 )
 
-handled : (octet : ℕ) → octet < 2 ^ 8 → (other : Bool) → AreHandled quiet_layers (over other) [] (told octet other ∷ [])
+handled : (octet : ℕ) → octet < 2 ^ 8 → (other : Bool) → AreHandled (node_role quiet_layers) (over other) [] (told octet other ∷ [])
 unfolding changed answer_of stores jobs_of
 handled octet h true = (refl, record { sees = sees_pdu refl (reads octet h true) refl refl; answer = refl; jobs = refl }, tt)
 handled octet h false = (refl, record { sees = sees_pdu refl (reads octet h false) refl refl; answer = refl; jobs = refl }, tt)
@@ -175,7 +176,7 @@ empty = record { opened = W.On opened_state mark; entries = []; refills = 0; sen
 empty_ordered : IsOrdered [] empty
 empty_ordered = record { parts = []; entries = refl; sends = λ k. refl; phases = ends }
 
-first_by : (without : Config → Config) (other : Bool) → without (config_of (over other)) ≡ without (config_of first) → LifeBy (rules without) quiet_layers [] first empty (over other)
+first_by : (without : Config → Config) (other : Bool) → without (config_of (over other)) ≡ without (config_of first) → LifeBy (rules without) (node_role quiet_layers) [] first empty (over other)
 first_by without other e = record {
   opening = first_opening;
   idle = λ e. absurd (true≢false e);
@@ -192,11 +193,11 @@ first_by without other e = record {
 -- The lives that let a PDU go on.
 
 leaves : (without : Config → Config) (octet : ℕ) (other : Bool)
-    → LeavesBy (rules without) quiet_layers (plan octet) (life octet) (past_at_end quiet_layers (over other) (life octet) (told octet other ∷ [])) (over other)
+    → LeavesBy (rules without) (node_role quiet_layers) (plan octet) (life octet) (past_at_end (node_role quiet_layers) (over other) (life octet) (told octet other ∷ [])) (over other)
 unfolding stores
 leaves without octet other = record { more = []; outlasts = no_record; ranges = all_of IsInRange (over other) (range other); alike = record { config = refl; entries = λ src. refl } }
 
-life_by : (without : Config → Config) (octet : ℕ) → octet < 2 ^ 8 → (other : Bool) → LifeBy (rules without) quiet_layers (plan octet) (over other) (life octet) (over other)
+life_by : (without : Config → Config) (octet : ℕ) → octet < 2 ^ 8 → (other : Bool) → LifeBy (rules without) (node_role quiet_layers) (plan octet) (over other) (life octet) (over other)
 life_by without octet h other = record {
   opening = opening other;
   idle = λ e. absurd (true≢false e);
@@ -223,7 +224,7 @@ run other = record {
   last = over other;
 }
 
-by_identity : (without : Config → Config) (other : Bool) → without (config_of (over other)) ≡ without (config_of first) → RunBy (rules without) quiet_layers script (run other)
+by_identity : (without : Config → Config) (other : Bool) → without (config_of (over other)) ≡ without (config_of first) → RunBy (rules without) (node_role quiet_layers) script (run other)
 by_identity without other e = record { first = refl; lives = (first_by without other e, (life_by without 0x7f (lit< tt) other, (life_by without 0x7e (lit< tt) other, tt))) }
 
 other_octets : (xs ys : List ℕ) → xs ≡ 0 ∷ 9 ∷ 0x7f ∷ [] → ys ≡ 0 ∷ 9 ∷ 0x7e ∷ [] → xs ≡ ys → ⊥

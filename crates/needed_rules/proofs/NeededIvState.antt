@@ -28,6 +28,7 @@ use Rattle.run_definitions.specs.Order.{Does, IsOrdered, Part, Step, ends, handl
 use Rattle.store_definitions.specs.Ranges.{IsInRange}
 use Rattle.event_definitions.specs.Readings.{IsBeacon, IsReading, sees_beacon, sees_nothing, sees_pdu}
 use Rattle.report_definitions.specs.Record.{Life, Run, Shown, list_at, shown, shown_by}
+use Rattle.event_definitions.specs.Role.{node_role}
 use Rattle.run_definitions.specs.RunOf.{IsNumbered, IsSpentRight, Script, draws, no_record, past_at_end}
 use Rattle.event_definitions.specs.Stores.{stores}
 use Rattle.needed_rules.specs.Needed.{IsAlikeBut, Repeats, without_iv_state}
@@ -109,11 +110,11 @@ message_reads = (
   },
 )
 
-message_handled : Handles quiet_layers (past_of [] message_told) message_told
+message_handled : Handles (node_role quiet_layers) (past_of [] message_told) message_told
 unfolding changed answer_of stores jobs_of
 message_handled = record { sees = sees_pdu refl message_reads control_lower refl; answer = refl; jobs = refl }
 
-tick_handled : Handles quiet_layers (past_of (message_told ∷ []) tick_told) tick_told
+tick_handled : Handles (node_role quiet_layers) (past_of (message_told ∷ []) tick_told) tick_told
 unfolding changed answer_of stores jobs_of iv_due transmit_of
 tick_handled = record { sees = sees_nothing refl; answer = refl; jobs = refl }
 
@@ -132,11 +133,11 @@ beacon_reads = record {
   first = λ k earlier f iv lt is reads. absurd (omega arith);
 }
 
-beacon_handled : Handles quiet_layers (past_of before_beacon beacon_told) beacon_told
+beacon_handled : Handles (node_role quiet_layers) (past_of before_beacon beacon_told) beacon_told
 unfolding changed answer_of stores jobs_of iv_next transmit_of
 beacon_handled = record { sees = sees_beacon refl beacon_reads; answer = refl; jobs = refl }
 
-handled : AreHandled quiet_layers first_list [] told
+handled : AreHandled (node_role quiet_layers) first_list [] told
 unfolding changed stores transmit_of iv_due
 handled = (refl, message_handled, (refl, tick_handled, (refl, beacon_handled, tt)))
 
@@ -188,14 +189,14 @@ same_entries src = expired_entry (eqb 0x0101 src)
 abbrev any_state : Rules
 any_state = record all_rules { is_alike = IsAlikeBut without_iv_state }
 
-leaves : LeavesBy any_state quiet_layers plan life (past_at_end quiet_layers first_list life told) first_list
+leaves : LeavesBy any_state (node_role quiet_layers) plan life (past_at_end (node_role quiet_layers) first_list life told) first_list
 unfolding changed stores transmit_of iv_due
 leaves = record { more = []; outlasts = no_record; ranges = all_of IsInRange at_end ranges; alike = record { config = refl; entries = same_entries } }
 
 shows_nothing : (k : ℕ) → draws (shown_by life k) ≡ []
 shows_nothing k = rw (no_sends k) refl
 
-life_by : LifeBy any_state quiet_layers plan first_list life first_list
+life_by : LifeBy any_state (node_role quiet_layers) plan first_list life first_list
 life_by = record {
   opening = first_opens (pair 0) 0x7f;
   idle = λ e. absurd (true≢false e);

@@ -19,6 +19,7 @@ use Rattle.run_definitions.specs.Order.{Does, IsOrdered, Part, ends, handles, pl
 use Rattle.store_definitions.specs.Ranges.{IsInRange}
 use Rattle.event_definitions.specs.Readings.{sees_nothing}
 use Rattle.report_definitions.specs.Record.{Life, Run, Shown, list_at, shown, shown_by}
+use Rattle.event_definitions.specs.Role.{node_role}
 use Rattle.run_definitions.specs.RunOf.{IsNumbered, IsSpentRight, Script, draws, no_record, past_at_end}
 use Rattle.run_definitions.specs.Seals.{own_fields}
 use Rattle.event_definitions.specs.Stores.{stores}
@@ -66,7 +67,7 @@ told =
 abbrev any_jobs : Rules
 any_jobs = record all_rules { are_handled = AreHandledSo HandlesButJobs }
 
-handled : AreHandledSo HandlesButJobs quiet_layers first_list [] told
+handled : AreHandledSo HandlesButJobs (node_role quiet_layers) first_list [] told
 unfolding changed answer_of
 handled = (refl, record { sees = sees_nothing refl; answer = refl }, tt)
 
@@ -86,7 +87,7 @@ does (suc k) = rw (others_placed k 0 entries (refl, tt)) stops
 pub ordered : IsOrdered (plan 0x7f) life
 ordered = record { parts = part ∷ []; entries = refl; sends = λ k. sym (append-nil (list_at (lines ∷ []) k)); phases = whole does ends }
 
-leaves : LeavesBy any_jobs quiet_layers (plan 0x7f) life (past_at_end quiet_layers first_list life told) first_list
+leaves : LeavesBy any_jobs (node_role quiet_layers) (plan 0x7f) life (past_at_end (node_role quiet_layers) first_list life told) first_list
 unfolding changed stores
 leaves = record { more = []; outlasts = no_record; ranges = all_of IsInRange first_list ranges; alike = record { config = refl; entries = λ src. refl } }
 
@@ -94,7 +95,7 @@ pub draws_none : (k : ℕ) → draws (shown_by life k) ≡ []
 draws_none zero = refl
 draws_none (suc k) = refl
 
-life_by : LifeBy any_jobs quiet_layers (plan 0x7f) first_list life first_list
+life_by : LifeBy any_jobs (node_role quiet_layers) (plan 0x7f) first_list life first_list
 life_by = record {
   opening = first_opens (pair 0) 0x7f;
   idle = λ e. absurd (true≢false e);

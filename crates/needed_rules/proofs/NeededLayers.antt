@@ -22,6 +22,7 @@ use Rattle.run_definitions.specs.Order.{Does, IsOrdered, Part, Step, ends, handl
 use Rattle.store_definitions.specs.Ranges.{IsInRange}
 use Rattle.event_definitions.specs.Readings.{sees_nothing}
 use Rattle.report_definitions.specs.Record.{Life, Run, Shown, list_at, shown, shown_by}
+use Rattle.event_definitions.specs.Role.{node_role}
 use Rattle.run_definitions.specs.RunOf.{IsNumbered, IsSpentRight, Script, draws, no_record, past_at_end}
 use Rattle.event_definitions.specs.Stores.{stores}
 use Rattle.run_definitions.specs.Uses.{seals_of, uses}
@@ -66,7 +67,7 @@ plan = phase events ∷ []
 abbrev told : List Told
 told = record { entry = entry; insight = OfNothing; records = first_list } ∷ []
 
-handled : AreHandled unsafe_layers first_list [] told
+handled : AreHandled (node_role unsafe_layers) first_list [] told
 unfolding changed answer_of stores jobs_of transmit_of
 handled = (refl, record { sees = sees_nothing refl; answer = refl; jobs = refl }, tt)
 
@@ -84,7 +85,7 @@ numbered : (k : ℕ) → IsNumbered life k
 numbered zero = refl
 numbered (suc k) = rw (others_none k (entry ∷ []) (refl, tt)) refl
 
-leaves : Leaves unsafe_layers plan life (past_at_end unsafe_layers first_list life told) first_list
+leaves : Leaves (node_role unsafe_layers) plan life (past_at_end (node_role unsafe_layers) first_list life told) first_list
 unfolding changed stores
 leaves = record { more = []; outlasts = no_record; ranges = all_of IsInRange first_list ranges; alike = record { config = refl; entries = λ src. refl } }
 
@@ -92,7 +93,7 @@ draws_none : (k : ℕ) → draws (shown_by life k) ≡ []
 draws_none zero = refl
 draws_none (suc k) = refl
 
-life_of : LifeOf unsafe_layers plan first_list life first_list
+life_of : LifeOf (node_role unsafe_layers) plan first_list life first_list
 life_of = record {
   opening = first_opens (pair 0) 0x7f;
   idle = λ e. absurd (true≢false e);

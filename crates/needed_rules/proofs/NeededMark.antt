@@ -10,11 +10,12 @@ use Rattle.mesh_types.specs.declared.report.End.TheVariants as F
 use Rattle.mesh_types.specs.declared.report.Opened.TheVariants as W
 use Rattle.store_definitions.specs.Config.{changed, config_of}
 use Rattle.event_definitions.specs.History.{Past}
-use Rattle.event_definitions.specs.Layers.{Layers, quiet_layers}
+use Rattle.event_definitions.specs.Layers.{quiet_layers}
 use Rattle.run_definitions.specs.Order.{IsOrdered, Step, ends}
 use Rattle.mesh_base.specs.Pairs.{word_of}
 use Rattle.store_definitions.specs.Ranges.{IsInRange}
 use Rattle.report_definitions.specs.Record.{Life, Run, Shown, shown}
+use Rattle.event_definitions.specs.Role.{Role, node_role}
 use Rattle.run_definitions.specs.RunOf.{IsDrawn, IsSpentRight, Script, no_record, past_at_end}
 use Rattle.event_definitions.specs.Stores.{stores}
 use Rattle.run_definitions.specs.Uses.{seals_of, uses}
@@ -30,15 +31,15 @@ abbrev empty_life : Life
 empty_life = record { opened = W.On opened_state (mark + 256); entries = []; refills = 0; sends = []; end = F.Ended }
 
 -- the rules that are changed: what outlasts a cut, and what the next life opens over
-abbrev rules : (Layers → List Step → Life → Past → List StoreRecord → Type 0) → (List StoreRecord → List StoreRecord → Type 0) → Rules
+abbrev rules : (Role → List Step → Life → Past → List StoreRecord → Type 0) → (List StoreRecord → List StoreRecord → Type 0) → Rules
 rules does_outlast is_alike = record all_rules { does_outlast = does_outlast; is_alike = is_alike }
 
 empty_ordered : IsOrdered [] empty_life
 empty_ordered = record { parts = []; entries = refl; sends = λ k. refl; phases = ends }
 
-empty_by : (does_outlast : Layers → List Step → Life → Past → List StoreRecord → Type 0) (is_alike : List StoreRecord → List StoreRecord → Type 0)
-    → LeavesBy (rules does_outlast is_alike) quiet_layers [] empty_life (past_at_end quiet_layers second_list empty_life []) first_list
-    → LifeBy (rules does_outlast is_alike) quiet_layers [] second_list empty_life first_list
+empty_by : (does_outlast : Role → List Step → Life → Past → List StoreRecord → Type 0) (is_alike : List StoreRecord → List StoreRecord → Type 0)
+    → LeavesBy (rules does_outlast is_alike) (node_role quiet_layers) [] empty_life (past_at_end (node_role quiet_layers) second_list empty_life []) first_list
+    → LifeBy (rules does_outlast is_alike) (node_role quiet_layers) [] second_list empty_life first_list
 empty_by does_outlast is_alike leaves = record {
   opening = second_opens (pair 0) 0x7f;
   idle = λ e. absurd (true≢false e);
@@ -64,9 +65,9 @@ drawn octet = record {
   rise = rises (mark + 0) (pair 0) octet;
 }
 
-life_by : (does_outlast : Layers → List Step → Life → Past → List StoreRecord → Type 0) (is_alike : List StoreRecord → List StoreRecord → Type 0) (octet : ℕ)
-    → LeavesBy (rules does_outlast is_alike) quiet_layers (plan octet) (life (mark + 0) (pair 0) octet) (past_at_end quiet_layers first_list (life (mark + 0) (pair 0) octet) (first_told octet ∷ [])) second_list
-    → LifeBy (rules does_outlast is_alike) quiet_layers (plan octet) first_list (life (mark + 0) (pair 0) octet) second_list
+life_by : (does_outlast : Role → List Step → Life → Past → List StoreRecord → Type 0) (is_alike : List StoreRecord → List StoreRecord → Type 0) (octet : ℕ)
+    → LeavesBy (rules does_outlast is_alike) (node_role quiet_layers) (plan octet) (life (mark + 0) (pair 0) octet) (past_at_end (node_role quiet_layers) first_list (life (mark + 0) (pair 0) octet) (first_told octet ∷ [])) second_list
+    → LifeBy (rules does_outlast is_alike) (node_role quiet_layers) (plan octet) first_list (life (mark + 0) (pair 0) octet) second_list
 life_by does_outlast is_alike octet leaves = record {
   opening = first_opens (pair 0) octet;
   idle = λ e. absurd (true≢false e);
@@ -100,11 +101,11 @@ clash h = other_text _ _ refl refl (h 0 1 some_use (lit< tt) (lit< tt) refl refl
 -- where the mark isn't in what is left
 
 mark_leaves : (octet : ℕ)
-    → LeavesBy (rules all_rules.does_outlast (IsAlikeBut without_mark)) quiet_layers (plan octet) (life (mark + 0) (pair 0) octet) (past_at_end quiet_layers first_list (life (mark + 0) (pair 0) octet) (first_told octet ∷ [])) second_list
+    → LeavesBy (rules all_rules.does_outlast (IsAlikeBut without_mark)) (node_role quiet_layers) (plan octet) (life (mark + 0) (pair 0) octet) (past_at_end (node_role quiet_layers) first_list (life (mark + 0) (pair 0) octet) (first_told octet ∷ [])) second_list
 unfolding changed stores transmit_of
 mark_leaves octet = record { more = []; outlasts = no_record; ranges = all_of IsInRange second_list first_range; alike = record { config = refl; entries = λ src. refl } }
 
-mark_taken : LeavesBy (rules all_rules.does_outlast (IsAlikeBut without_mark)) quiet_layers [] empty_life (past_at_end quiet_layers second_list empty_life []) first_list
+mark_taken : LeavesBy (rules all_rules.does_outlast (IsAlikeBut without_mark)) (node_role quiet_layers) [] empty_life (past_at_end (node_role quiet_layers) second_list empty_life []) first_list
 unfolding changed
 mark_taken = record { more = []; outlasts = no_record; ranges = all_of IsInRange second_list first_range; alike = record { config = refl; entries = λ src. refl } }
 
@@ -127,7 +128,7 @@ mark_needed = (
 -- where anything outlasts a cut
 
 first_leaves : (octet : ℕ)
-    → LeavesBy (rules OutlastsAnything all_rules.is_alike) quiet_layers (plan octet) (life (mark + 0) (pair 0) octet) (past_at_end quiet_layers first_list (life (mark + 0) (pair 0) octet) (first_told octet ∷ [])) second_list
+    → LeavesBy (rules OutlastsAnything all_rules.is_alike) (node_role quiet_layers) (plan octet) (life (mark + 0) (pair 0) octet) (past_at_end (node_role quiet_layers) first_list (life (mark + 0) (pair 0) octet) (first_told octet ∷ [])) second_list
 unfolding changed stores transmit_of
 first_leaves octet = record { more = []; outlasts = tt; ranges = all_of IsInRange second_list first_range; alike = record { config = refl; entries = λ src. refl } }
 
@@ -147,7 +148,7 @@ taken_range = (
   ),
 )
 
-taken : LeavesBy (rules OutlastsAnything all_rules.is_alike) quiet_layers [] empty_life (past_at_end quiet_layers second_list empty_life []) first_list
+taken : LeavesBy (rules OutlastsAnything all_rules.is_alike) (node_role quiet_layers) [] empty_life (past_at_end (node_role quiet_layers) second_list empty_life []) first_list
 unfolding changed transmit_of
 taken = record {
   more = numbers 0 ∷ [];

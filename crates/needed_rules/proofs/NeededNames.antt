@@ -24,6 +24,7 @@ use Rattle.run_definitions.specs.Order.{Does, IsOrdered, Part, Step, ends, handl
 use Rattle.mesh_base.specs.Pairs.{word_of}
 use Rattle.store_definitions.specs.Ranges.{IsInRange}
 use Rattle.report_definitions.specs.Record.{Life, Run, Shown, list_at, shown, shown_by}
+use Rattle.event_definitions.specs.Role.{node_role}
 use Rattle.run_definitions.specs.RunOf.{IsNumbered, IsSpentRight, Script, draws, no_record, past_at_end}
 use Rattle.event_definitions.specs.Stores.{stores}
 use Rattle.event_definitions.specs.Layers.{quiet_layers}
@@ -113,7 +114,7 @@ reads = (
   },
 )
 
-handled : AreHandled quiet_layers first_list [] (told 5 ∷ [])
+handled : AreHandled (node_role quiet_layers) first_list [] (told 5 ∷ [])
 unfolding changed answer_of stores jobs_of
 handled = (refl, record { sees = sees_pdu refl reads control_lower refl; answer = refl; jobs = refl }, tt)
 
@@ -150,11 +151,11 @@ at_end_range iv h = (
   ),
 )
 
-leaves : LeavesBy forgetful quiet_layers (plan 5) (life 5) (past_at_end quiet_layers first_list (life 5) (told 5 ∷ [])) first_list
+leaves : LeavesBy forgetful (node_role quiet_layers) (plan 5) (life 5) (past_at_end (node_role quiet_layers) first_list (life 5) (told 5 ∷ [])) first_list
 unfolding changed stores
 leaves = record { more = []; outlasts = no_record; ranges = all_of IsInRange (first_list ++ R.Replay (control_name 5) None ∷ []) (at_end_range 5 (lit< tt)); alike = record { config = refl } }
 
-life_by : LifeBy forgetful quiet_layers (plan 5) first_list (life 5) first_list
+life_by : LifeBy forgetful (node_role quiet_layers) (plan 5) first_list (life 5) first_list
 life_by = record {
   opening = first_opens (pair 0) 0x7f;
   idle = λ e. absurd (true≢false e);

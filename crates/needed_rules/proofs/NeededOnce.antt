@@ -23,6 +23,7 @@ use Rattle.mesh_base.specs.Pairs.{word_of}
 use Rattle.store_definitions.specs.Ranges.{IsInRange}
 use Rattle.event_definitions.specs.Readings.{sees_nothing}
 use Rattle.report_definitions.specs.Record.{Life, Run, Shown, list_at, shown, shown_by}
+use Rattle.event_definitions.specs.Role.{node_role}
 use Rattle.run_definitions.specs.RunOf.{IsNumbered, IsSpentRight, Script, draws, no_record, past_at_end}
 use Rattle.event_definitions.specs.Stores.{stores}
 use Rattle.run_definitions.specs.Uses.{seals_of, uses}
@@ -53,7 +54,7 @@ told =
     ∷ record { entry = raw_entry 1 1 0 0x7e; insight = OfNothing; records = first_list }
     ∷ []
 
-handled : AreHandled quiet_layers first_list [] told
+handled : AreHandled (node_role quiet_layers) first_list [] told
 unfolding changed answer_of stores jobs_of transmit_of
 handled = (refl, record { sees = sees_nothing refl; answer = refl; jobs = refl }, (refl, record { sees = sees_nothing refl; answer = refl; jobs = refl }, tt))
 
@@ -79,7 +80,7 @@ numbered zero = refl
 numbered (suc zero) = refl
 numbered (suc (suc k)) = rw (third_none k) refl
 
-leaves : LeavesBy (drawn_only DrawsTwice) quiet_layers plan life (past_at_end quiet_layers first_list life told) second_list
+leaves : LeavesBy (drawn_only DrawsTwice) (node_role quiet_layers) plan life (past_at_end (node_role quiet_layers) first_list life told) second_list
 unfolding changed stores transmit_of
 leaves = record { more = []; outlasts = no_record; ranges = all_of IsInRange second_list first_range; alike = record { config = refl; entries = λ src. refl } }
 
@@ -97,7 +98,7 @@ drawn = record {
   rise = rises;
 }
 
-life_by : LifeBy (drawn_only DrawsTwice) quiet_layers plan first_list life second_list
+life_by : LifeBy (drawn_only DrawsTwice) (node_role quiet_layers) plan first_list life second_list
 life_by = record {
   opening = first_opens (pair 0) 0x7f;
   idle = λ e. absurd (true≢false e);

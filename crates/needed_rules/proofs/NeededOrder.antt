@@ -26,6 +26,7 @@ use Rattle.store_definitions.specs.Ranges.{IsInRange}
 use Rattle.event_definitions.specs.Readings.{sees_nothing}
 use Rattle.report_definitions.specs.Record.{Life, Run, Shown, list_at, shown, shown_by}
 use Rattle.run_definitions.specs.Order.{IsOrdered, Part, Step, placed_from}
+use Rattle.event_definitions.specs.Role.{node_role}
 use Rattle.run_definitions.specs.RunOf.{IsIdle, IsNumbered, IsSpentRight, Opens, Script, cut_at_start, draws, is_on, no_record, past_at_end}
 use Rattle.event_definitions.specs.Stores.{stores}
 use Rattle.run_definitions.specs.Uses.{seals_of, uses}
@@ -76,7 +77,7 @@ told =
     ∷ record { entry = begin_entry 2 6; insight = OfNothing; records = first_list }
     ∷ []
 
-handled : AreHandled quiet_layers first_list [] told
+handled : AreHandled (node_role quiet_layers) first_list [] told
 unfolding changed answer_of stores jobs_of transmit_of
 handled = (refl, record { sees = sees_nothing refl; answer = refl; jobs = refl }, (refl, record { sees = sees_nothing refl; answer = refl; jobs = refl }, tt))
 
@@ -99,7 +100,7 @@ abbrev rules : (Life → Type 0) → (List Step → Life → Type 0) → Rules
 rules is_idle is_ordered = record all_rules { is_idle = is_idle; is_ordered = is_ordered }
 
 leaves : (is_idle : Life → Type 0) (is_ordered : List Step → Life → Type 0) (opened : Opened) (end : End)
-    → LeavesBy (rules is_idle is_ordered) quiet_layers [] (life opened end) (past_at_end quiet_layers first_list (life opened end) told) first_list
+    → LeavesBy (rules is_idle is_ordered) (node_role quiet_layers) [] (life opened end) (past_at_end (node_role quiet_layers) first_list (life opened end) told) first_list
 unfolding changed stores
 leaves is_idle is_ordered opened end = record { more = []; outlasts = no_record; ranges = all_of IsInRange first_list ranges; alike = record { config = refl; entries = λ src. refl } }
 
@@ -111,7 +112,7 @@ life_by : (is_idle : Life → Type 0) (is_ordered : List Step → Life → Type 
     → Opens (config_of first_list) opened end
     → (is_on opened ≡ false → is_idle (life opened end))
     → (is_on opened ≡ true → is_ordered [] (life opened end))
-    → LifeBy (rules is_idle is_ordered) quiet_layers [] first_list (life opened end) first_list
+    → LifeBy (rules is_idle is_ordered) (node_role quiet_layers) [] first_list (life opened end) first_list
 life_by is_idle is_ordered opened end opening idle order = record {
   opening = opening;
   idle = idle;

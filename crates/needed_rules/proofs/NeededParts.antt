@@ -22,6 +22,7 @@ use Rattle.run_definitions.specs.Order.{Does, Part, Step, ends, handles, phase, 
 use Rattle.store_definitions.specs.Ranges.{IsInRange}
 use Rattle.event_definitions.specs.Readings.{sees_nothing}
 use Rattle.report_definitions.specs.Record.{Life, Run, Shown, list_at, shown, shown_by}
+use Rattle.event_definitions.specs.Role.{node_role}
 use Rattle.run_definitions.specs.RunOf.{IsNumbered, IsSpentRight, Script, draws, no_record, past_at_end}
 use Rattle.event_definitions.specs.Stores.{stores}
 use Rattle.run_definitions.specs.Uses.{seals_of, uses}
@@ -65,7 +66,7 @@ told =
     ∷ record { entry = raw_entry 0 2 0 0x7e; insight = OfNothing; records = first_list }
     ∷ []
 
-handled : AreHandled quiet_layers first_list [] told
+handled : AreHandled (node_role quiet_layers) first_list [] told
 unfolding changed answer_of stores jobs_of transmit_of
 handled = (refl, record { sees = sees_nothing refl; answer = refl; jobs = refl }, (refl, record { sees = sees_nothing refl; answer = refl; jobs = refl }, tt))
 
@@ -80,11 +81,11 @@ draws_none (suc k) = refl
 abbrev rules : (List Step → Life → Type 0) → Rules
 rules is_ordered = record all_rules { is_ordered = is_ordered }
 
-leaves : (is_ordered : List Step → Life → Type 0) → LeavesBy (rules is_ordered) quiet_layers plan life (past_at_end quiet_layers first_list life told) first_list
+leaves : (is_ordered : List Step → Life → Type 0) → LeavesBy (rules is_ordered) (node_role quiet_layers) plan life (past_at_end (node_role quiet_layers) first_list life told) first_list
 unfolding changed stores
 leaves is_ordered = record { more = []; outlasts = no_record; ranges = all_of IsInRange first_list ranges; alike = record { config = refl; entries = λ src. refl } }
 
-life_by : (is_ordered : List Step → Life → Type 0) → is_ordered plan life → LifeBy (rules is_ordered) quiet_layers plan first_list life first_list
+life_by : (is_ordered : List Step → Life → Type 0) → is_ordered plan life → LifeBy (rules is_ordered) (node_role quiet_layers) plan first_list life first_list
 life_by is_ordered ordered = record {
   opening = first_opens (pair 0) 0x7f;
   idle = λ e. absurd (true≢false e);

@@ -23,6 +23,7 @@ use Rattle.run_definitions.specs.Order.{Does, IsOrdered, Part, Step, ends, handl
 use Rattle.mesh_base.specs.Pairs.{word_of}
 use Rattle.event_definitions.specs.Readings.{sees_nothing}
 use Rattle.report_definitions.specs.Record.{Life, Run, Shown, list_at, shown, shown_by}
+use Rattle.event_definitions.specs.Role.{node_role}
 use Rattle.run_definitions.specs.RunOf.{IsDrawn, IsNumbered, IsSpentRight, Script, draws, no_record, past_at_end}
 use Rattle.event_definitions.specs.Stores.{stores}
 use Rattle.store_definitions.specs.Numbers.{fill_of, filled}
@@ -88,7 +89,7 @@ told =
 abbrev any_fields : Rules
 any_fields = record all_rules { is_in_range = HasAnyFields }
 
-handled : AreHandled quiet_layers first_list [] told
+handled : AreHandled (node_role quiet_layers) first_list [] told
 unfolding changed answer_of stores jobs_of transmit_of
 handled = (refl, record { sees = sees_nothing refl; answer = refl; jobs = refl }, (refl, record { sees = sees_nothing refl; answer = refl; jobs = refl }, tt))
 
@@ -119,7 +120,7 @@ same_config n = rw append-nil (next_config n ∙ sym (filled_config n first_list
 no_entry : (n src : ℕ) → entry_of (filled n first_list ++ []) src ≡ None
 no_entry n src = rw append-nil (ap (unexpired (config_of (filled n first_list)).iv.current) (filled_kept n first_list src))
 
-leaves : (n : ℕ) → LeavesBy any_fields quiet_layers plan (life n) (past_at_end quiet_layers first_list (life n) told) (next n)
+leaves : (n : ℕ) → LeavesBy any_fields (node_role quiet_layers) plan (life n) (past_at_end (node_role quiet_layers) first_list (life n) told) (next n)
 unfolding stores
 leaves n = record { more = []; outlasts = no_record; ranges = λ k d l. tt; alike = record { config = same_config n; entries = λ src. sym (no_entry n src) } }
 
@@ -143,7 +144,7 @@ drawn n h = record {
   rise = rises n;
 }
 
-life_by : (n : ℕ) → 2 ^ 49 < n → LifeBy any_fields quiet_layers plan first_list (life n) (next n)
+life_by : (n : ℕ) → 2 ^ 49 < n → LifeBy any_fields (node_role quiet_layers) plan first_list (life n) (next n)
 life_by n h = record {
   opening = first_opens (pair 0) 0x7f;
   idle = λ e. absurd (true≢false e);

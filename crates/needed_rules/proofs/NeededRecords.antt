@@ -12,6 +12,7 @@ use Rattle.event_definitions.specs.Jobs.{jobs_of}
 use Rattle.store_definitions.specs.Ranges.{IsInRange}
 use Rattle.event_definitions.specs.Readings.{sees_pdu}
 use Rattle.report_definitions.specs.Record.{Run, Shown, shown}
+use Rattle.event_definitions.specs.Role.{node_role}
 use Rattle.run_definitions.specs.RunOf.{IsSpentRight, Opens, Script, no_record, opens, past_at_end}
 use Rattle.event_definitions.specs.Stores.{stores}
 use Rattle.needed_rules.specs.Needed.{AreHandledOverAny, Repeats}
@@ -29,7 +30,7 @@ any_records = record all_rules { are_handled = AreHandledOverAny }
 abbrev left : List StoreRecord
 left = first_list ++ R.Replay (control_name 5) None ∷ []
 
-handled : Handles quiet_layers (past_of [] (told 5)) (told 5)
+handled : Handles (node_role quiet_layers) (past_of [] (told 5)) (told 5)
 unfolding changed answer_of stores jobs_of
 handled = record { sees = sees_pdu refl reads control_lower refl; answer = refl; jobs = refl }
 
@@ -37,11 +38,11 @@ opening : (over : List StoreRecord) → config_of over ≡ config_of first_list 
 unfolding changed transmit_of
 opening over e = rw e (opens refl)
 
-leaves : (over : List StoreRecord) → LeavesBy any_records quiet_layers (plan 5) (life 5) (past_at_end quiet_layers over (life 5) (told 5 ∷ [])) left
+leaves : (over : List StoreRecord) → LeavesBy any_records (node_role quiet_layers) (plan 5) (life 5) (past_at_end (node_role quiet_layers) over (life 5) (told 5 ∷ [])) left
 unfolding stores
 leaves over = record { more = []; outlasts = no_record; ranges = all_of IsInRange left (at_end_range 5 (lit< tt)); alike = record { config = refl; entries = λ src. refl } }
 
-life_by : (over : List StoreRecord) → config_of over ≡ config_of first_list → LifeBy any_records quiet_layers (plan 5) over (life 5) left
+life_by : (over : List StoreRecord) → config_of over ≡ config_of first_list → LifeBy any_records (node_role quiet_layers) (plan 5) over (life 5) left
 life_by over e = record {
   opening = opening over e;
   idle = λ e. absurd (true≢false e);

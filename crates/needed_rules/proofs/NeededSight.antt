@@ -10,6 +10,7 @@ use Rattle.store_definitions.specs.Entries.{entry_of, greatest_with, unexpired}
 use Rattle.event_definitions.specs.Jobs.{jobs_of}
 use Rattle.store_definitions.specs.Ranges.{IsInRange}
 use Rattle.report_definitions.specs.Record.{Run, Shown, shown}
+use Rattle.event_definitions.specs.Role.{node_role}
 use Rattle.run_definitions.specs.RunOf.{IsSpentRight, Script, no_record, past_at_end}
 use Rattle.event_definitions.specs.Stores.{stores}
 use Rattle.needed_rules.specs.Needed.{AreHandledSo, HandlesButSight, Repeats}
@@ -23,7 +24,7 @@ use Rattle.needed_rules.proofs.WrittenRun.{all_of, quiet_safe}
 abbrev any_sight : Rules
 any_sight = record all_rules { are_handled = AreHandledSo HandlesButSight }
 
-handled : AreHandledSo HandlesButSight quiet_layers first_list [] (told 3 ∷ [])
+handled : AreHandledSo HandlesButSight (node_role quiet_layers) first_list [] (told 3 ∷ [])
 unfolding changed answer_of stores jobs_of
 handled = (refl, record { answer = refl; jobs = refl }, tt)
 
@@ -39,11 +40,11 @@ same_entries : (src : ℕ) → entry_of first_list src ≡ entry_of at_end src
 unfolding changed
 same_entries src = expired_entry (eqb 0x0101 src)
 
-leaves : LeavesBy any_sight quiet_layers (plan 3) (life 3) (past_at_end quiet_layers first_list (life 3) (told 3 ∷ [])) first_list
+leaves : LeavesBy any_sight (node_role quiet_layers) (plan 3) (life 3) (past_at_end (node_role quiet_layers) first_list (life 3) (told 3 ∷ [])) first_list
 unfolding changed stores
 leaves = record { more = []; outlasts = no_record; ranges = all_of IsInRange at_end (at_end_range 3 (lit< tt)); alike = record { config = refl; entries = same_entries } }
 
-life_by : LifeBy any_sight quiet_layers (plan 3) first_list (life 3) first_list
+life_by : LifeBy any_sight (node_role quiet_layers) (plan 3) first_list (life 3) first_list
 life_by = record {
   opening = first_opens (pair 0) 0x7f;
   idle = λ e. absurd (true≢false e);

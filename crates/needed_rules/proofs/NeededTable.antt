@@ -23,6 +23,7 @@ use Rattle.run_safety.specs.Rules.{LeavesBy, LifeBy, Rules, all_rules}
 use Rattle.run_definitions.specs.Order.{Does, IsOrdered, Part, ends, handles, phase, placed_from, stops, whole}
 use Rattle.store_definitions.specs.Ranges.{IsInRange}
 use Rattle.report_definitions.specs.Record.{Life, Run, Shown, list_at, shown, shown_by}
+use Rattle.event_definitions.specs.Role.{node_role}
 use Rattle.run_definitions.specs.RunOf.{IsNumbered, IsSpentRight, Opens, Script, draws, no_record, opens, past_at_end}
 use Rattle.event_definitions.specs.Stores.{stores}
 use Rattle.event_definitions.specs.Layers.{quiet_layers}
@@ -103,7 +104,7 @@ message_reads = (
   },
 )
 
-message_handled : HandlesButStep quiet_layers (past_of [] message_told) message_told
+message_handled : HandlesButStep (node_role quiet_layers) (past_of [] message_told) message_told
 unfolding changed answer_of stores jobs_of
 message_handled = record { sees = sees_pdu refl message_reads control_lower refl; answer = refl; jobs = refl }
 
@@ -119,11 +120,11 @@ begin_reads = record {
   first = λ k earlier f iv lt is reads. absurd (omega arith);
 }
 
-begin_handled : HandlesButStep quiet_layers (past_of (message_told ∷ []) begin_told) begin_told
+begin_handled : HandlesButStep (node_role quiet_layers) (past_of (message_told ∷ []) begin_told) begin_told
 unfolding changed answer_of stores jobs_of
 begin_handled = record { sees = sees_beacon refl begin_reads; answer = (refl, refl); jobs = refl }
 
-first_handled : AreHandledSo HandlesButStep quiet_layers first_list [] (message_told ∷ begin_told ∷ [])
+first_handled : AreHandledSo HandlesButStep (node_role quiet_layers) first_list [] (message_told ∷ begin_told ∷ [])
 unfolding changed stores
 first_handled = (refl, message_handled, (refl, begin_handled, tt))
 
@@ -172,14 +173,14 @@ same_entries : (src : ℕ) → entry_of first_left src ≡ entry_of first_all sr
 unfolding changed
 same_entries src = expired_entry (eqb 0x0101 src)
 
-first_leaves : LeavesBy any_step quiet_layers (phase first_events ∷ []) first_life (past_at_end quiet_layers first_list first_life (message_told ∷ begin_told ∷ [])) first_left
+first_leaves : LeavesBy any_step (node_role quiet_layers) (phase first_events ∷ []) first_life (past_at_end (node_role quiet_layers) first_list first_life (message_told ∷ begin_told ∷ [])) first_left
 unfolding changed stores transmit_of
 first_leaves = record { more = []; outlasts = no_record; ranges = all_of IsInRange first_all first_ranges; alike = record { config = refl; entries = same_entries } }
 
 first_shows : (k : ℕ) → draws (shown_by first_life k) ≡ []
 first_shows k = rw (no_sends k) refl
 
-first_by : LifeBy any_step quiet_layers (phase first_events ∷ []) first_list first_life first_left
+first_by : LifeBy any_step (node_role quiet_layers) (phase first_events ∷ []) first_list first_life first_left
 first_by = record {
   opening = first_opens (pair 0) 0x7f;
   idle = λ e. absurd (true≢false e);
@@ -231,7 +232,7 @@ fall_reads = record {
   first = λ k earlier f iv lt is reads. absurd (omega arith);
 }
 
-fall_handled : HandlesButStep quiet_layers (past_of [] fall_told) fall_told
+fall_handled : HandlesButStep (node_role quiet_layers) (past_of [] fall_told) fall_told
 unfolding changed answer_of stores jobs_of
 fall_handled = record { sees = sees_beacon refl fall_reads; answer = (refl, refl); jobs = refl }
 
@@ -246,11 +247,11 @@ again_reads = (
   },
 )
 
-again_handled : HandlesButStep quiet_layers (past_of (fall_told ∷ []) again_told) again_told
+again_handled : HandlesButStep (node_role quiet_layers) (past_of (fall_told ∷ []) again_told) again_told
 unfolding changed answer_of stores jobs_of
 again_handled = record { sees = sees_pdu refl again_reads control_lower refl; answer = refl; jobs = refl }
 
-second_handled : AreHandledSo HandlesButStep quiet_layers first_left [] (fall_told ∷ again_told ∷ [])
+second_handled : AreHandledSo HandlesButStep (node_role quiet_layers) first_left [] (fall_told ∷ again_told ∷ [])
 unfolding changed stores transmit_of
 second_handled = (refl, fall_handled, (refl, again_handled, tt))
 
@@ -287,7 +288,7 @@ second_ranges = (
   ),
 )
 
-second_leaves : LeavesBy any_step quiet_layers (phase second_events ∷ []) second_life (past_at_end quiet_layers first_left second_life (fall_told ∷ again_told ∷ [])) second_left
+second_leaves : LeavesBy any_step (node_role quiet_layers) (phase second_events ∷ []) second_life (past_at_end (node_role quiet_layers) first_left second_life (fall_told ∷ again_told ∷ [])) second_left
 unfolding changed stores transmit_of
 second_leaves = record { more = []; outlasts = no_record; ranges = all_of IsInRange second_left second_ranges; alike = record { config = refl; entries = λ src. refl } }
 
@@ -298,7 +299,7 @@ second_opening : Opens (config_of first_left) second_life.opened second_life.end
 unfolding changed transmit_of
 second_opening = opens refl
 
-second_by : LifeBy any_step quiet_layers (phase second_events ∷ []) first_left second_life second_left
+second_by : LifeBy any_step (node_role quiet_layers) (phase second_events ∷ []) first_left second_life second_left
 second_by = record {
   opening = second_opening;
   idle = λ e. absurd (true≢false e);

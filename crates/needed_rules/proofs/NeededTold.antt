@@ -5,6 +5,7 @@ use Rattle.std.proofs.lemmas.Bool.{true≢false}
 use Rattle.store_definitions.specs.Config.{changed, config_of}
 use Rattle.store_definitions.specs.Ranges.{IsInRange}
 use Rattle.report_definitions.specs.Record.{Shown, shown}
+use Rattle.event_definitions.specs.Role.{node_role}
 use Rattle.run_definitions.specs.RunOf.{IsSpentRight, no_record, past_at_end}
 use Rattle.needed_rules.specs.Needed.{Reuses, TellsAnything}
 use Rattle.run_safety.specs.Rules.{LeavesBy, LifeBy, Rules, all_rules}
@@ -19,11 +20,11 @@ use Rattle.needed_rules.proofs.WrittenRun.{all_of, quiet_safe}
 abbrev untold : Rules
 untold = record all_rules { are_told = TellsAnything }
 
-leaves : LeavesBy untold quiet_layers (plan 0x7f) life (past_at_end quiet_layers first_list life []) first_list
+leaves : LeavesBy untold (node_role quiet_layers) (plan 0x7f) life (past_at_end (node_role quiet_layers) first_list life []) first_list
 unfolding changed
 leaves = record { more = []; outlasts = no_record; ranges = all_of IsInRange first_list ranges; alike = record { config = refl; entries = λ src. refl } }
 
-life_by : LifeBy untold quiet_layers (plan 0x7f) first_list life first_list
+life_by : LifeBy untold (node_role quiet_layers) (plan 0x7f) first_list life first_list
 life_by = record {
   opening = first_opens (pair 0) 0x7f;
   idle = λ e. absurd (true≢false e);

@@ -37,6 +37,7 @@ use Rattle.mesh_base.specs.Pairs.{word_of}
 use Rattle.store_definitions.specs.Ranges.{IsInRange, IsKey}
 use Rattle.event_definitions.specs.Readings.{IsOpened, IsReading, Sees, sees_pdu, sees_nothing}
 use Rattle.report_definitions.specs.Record.{Shown, list_at, shown, shown_by}
+use Rattle.event_definitions.specs.Role.{node_role}
 use Rattle.run_definitions.specs.RunOf.{IsDrawn, IsNumbered, IsSpentRight, Leaves, LifeOf, Opens, draws, no_record, opens, past_at_end}
 use Rattle.store_definitions.specs.Provisioning.{provisioned}
 use Rattle.event_definitions.specs.Safe.{AreSafe}
@@ -170,7 +171,7 @@ first_sees : Sees quiet_layers (past_of [] first_told) asked_event asked_insight
 unfolding changed
 first_sees = sees_pdu refl asked_reads asked_lower asked_opening
 
-first_handled : Handles quiet_layers (past_of [] first_told) first_told
+first_handled : Handles (node_role quiet_layers) (past_of [] first_told) first_told
 unfolding changed answer_of stores jobs_of
 first_handled = record { sees = first_sees; answer = refl; jobs = refl }
 
@@ -196,7 +197,7 @@ passing_reads = (
   },
 )
 
-second_handled : Handles quiet_layers second_past second_told
+second_handled : Handles (node_role quiet_layers) second_past second_told
 unfolding changed answer_of stores jobs_of
 second_handled = record { sees = sees_pdu refl passing_reads refl refl; answer = refl; jobs = refl }
 
@@ -205,21 +206,21 @@ second_handled = record { sees = sees_pdu refl passing_reads refl refl; answer =
 abbrev third_past : Past
 third_past = past_of (first_told ∷ second_told ∷ []) third_told
 
-third_handled : Handles quiet_layers third_past third_told
+third_handled : Handles (node_role quiet_layers) third_past third_told
 unfolding changed answer_of stores jobs_of
 third_handled = record { sees = sees_nothing refl; answer = refl; jobs = refl }
 
 abbrev fourth_past : Past
 fourth_past = past_of (first_told ∷ second_told ∷ third_told ∷ []) fourth_told
 
-fourth_handled : Handles quiet_layers fourth_past fourth_told
+fourth_handled : Handles (node_role quiet_layers) fourth_past fourth_told
 unfolding changed answer_of stores jobs_of transmit_of
 fourth_handled = record { sees = sees_nothing refl; answer = refl; jobs = refl }
 
 abbrev all_told : List Told
 all_told = first_told ∷ second_told ∷ third_told ∷ fourth_told ∷ []
 
-all_handled : AreHandled quiet_layers over [] all_told
+all_handled : AreHandled (node_role quiet_layers) over [] all_told
 unfolding changed stores transmit_of
 all_handled = (refl, first_handled, (refl, second_handled, (refl, third_handled, (refl, fourth_handled, tt))))
 
@@ -303,7 +304,7 @@ left_ranges = (
   ),
 )
 
-leaves : Leaves quiet_layers plan life (past_at_end quiet_layers over life all_told) left
+leaves : Leaves (node_role quiet_layers) plan life (past_at_end (node_role quiet_layers) over life all_told) left
 unfolding changed stores transmit_of
 leaves = record {
   more = [];
@@ -333,7 +334,7 @@ opens_on : Opens (config_of over) life.opened life.end
 unfolding changed transmit_of
 opens_on = opens refl
 
-life_of : LifeOf quiet_layers plan over life left
+life_of : LifeOf (node_role quiet_layers) plan over life left
 life_of = record {
   opening = opens_on;
   idle = λ e. absurd (true≢false e);

@@ -5,36 +5,33 @@ use Rattle.std.specs.List.{flat_map}
 use Rattle.mesh_types.specs.declared.answers.Answer.{Answer}
 use Rattle.mesh_types.specs.declared.answers.Answer.TheVariants as A
 use Rattle.record_types.specs.declared.records.StoreRecord.{StoreRecord}
-use Rattle.event_definitions.specs.Answers.{answer_of}
 use Rattle.store_definitions.specs.Config.{Config, config_of}
 use Rattle.store_definitions.specs.Entries.{entry_of}
-use Rattle.event_definitions.specs.Handling.{Handles, past_of}
+use Rattle.event_definitions.specs.Handling.{Handles, past_of, records_after}
 use Rattle.event_definitions.specs.History.{Past, Told}
-use Rattle.event_definitions.specs.Jobs.{jobs_of}
 use Rattle.event_definitions.specs.Layers.{Layers}
 use Rattle.run_definitions.specs.Order.{Part, PartsOf, Step, is_cut, phases_of, placed_from}
 use Rattle.mesh_base.specs.Pairs.{word_of}
-use Rattle.event_definitions.specs.Readings.{Sees}
 use Rattle.report_definitions.specs.Record.{Life, Run, list_at, shown, shown_by}
+use Rattle.event_definitions.specs.Role.{Role, node_role}
 use Rattle.run_definitions.specs.RunOf.{RunOf, Script, draws}
 use Rattle.run_safety.specs.Rules.{Rules, RunBy, all_rules}
 use Rattle.event_definitions.specs.Safe.{AreSafe}
-use Rattle.event_definitions.specs.Stores.{records_after}
 use Rattle.store_definitions.specs.Numbers.{filled}
 use Rattle.run_definitions.specs.Uses.{AtMostOnce, NoReuse, delivered, uses}
 
 -- By all rules it is a run.
 abbrev pub IsRunByAll : Type 0
-IsRunByAll = (layers : Layers) (s : Script) (r : Run) → RunBy all_rules layers s r → RunOf layers s r
+IsRunByAll = (layers : Layers) (s : Script) (r : Run) → RunBy all_rules (node_role layers) s r → RunOf (node_role layers) s r
 
 -- there is a record by these rules that seals two plaintexts under one key and nonce, or delivers a message twice
 abbrev pub Reuses : Rules → Type 0
 Reuses rules =
-    (layers : Layers) × (s : Script) × (r : Run) × AreSafe layers × RunBy rules layers s r × (NoReuse (uses r) → ⊥)
+    (layers : Layers) × (s : Script) × (r : Run) × AreSafe layers × RunBy rules (node_role layers) s r × (NoReuse (uses r) → ⊥)
 
 abbrev pub Repeats : Rules → Type 0
 Repeats rules =
-    (layers : Layers) × (s : Script) × (r : Run) × AreSafe layers × RunBy rules layers s r
+    (layers : Layers) × (s : Script) × (r : Run) × AreSafe layers × RunBy rules (node_role layers) s r
     × (AtMostOnce (delivered r) → ⊥)
 
 -- without the bound on SEQ: the word behind the last SEQ of an IV Index may lie between the marks, and its nonce is
@@ -93,23 +90,23 @@ abbrev pub TellsAnything : List Told → Life → Type 0
 TellsAnything told l = ⊤
 
 -- entries that are handled so, each after those before it and over the records that these left
-abbrev pub AreHandledSo : (Layers → Past → Told → Type 0) → Layers → List StoreRecord → List Told → List Told → Type 0
-AreHandledSo handles layers records before [] = ⊤
-AreHandledSo handles layers records before (t ∷ ts) =
+abbrev pub AreHandledSo : (Role → Past → Told → Type 0) → Role → List StoreRecord → List Told → List Told → Type 0
+AreHandledSo handles role records before [] = ⊤
+AreHandledSo handles role records before (t ∷ ts) =
     (t.records ≡ filled t.entry.fills records)
-    × handles layers (past_of before t) t
-    × AreHandledSo handles layers (records_after layers (past_of before t) t) (before ++ t ∷ []) ts
+    × handles role (past_of before t) t
+    × AreHandledSo handles role (records_after role (past_of before t) t) (before ++ t ∷ []) ts
 
 -- without the jobs of an entry: it may let PDUs of the node's own go on
-pub record HandlesButJobs (layers : Layers) (past : Past) (t : Told) : Type 0 where
-  pub sees : Sees layers past t.entry.event t.insight
-  pub answer : t.entry.answer ≡ answer_of layers past t.entry.event t.insight
+pub record HandlesButJobs (role : Role) (past : Past) (t : Told) : Type 0 where
+  pub sees : role.sees past t.entry.event t.insight
+  pub answer : t.entry.answer ≡ role.answer past t.entry.event t.insight
 
 -- without that octets are read as what they seal: a message of an IV Index that expired may be seen again and again
-pub record HandlesButSight (layers : Layers) (past : Past) (t : Told) : Type 0 where
-  pub answer : t.entry.answer ≡ answer_of layers past t.entry.event t.insight
+pub record HandlesButSight (role : Role) (past : Past) (t : Told) : Type 0 where
+  pub answer : t.entry.answer ≡ role.answer past t.entry.event t.insight
   pub jobs : t.entry.jobs
-      ≡ jobs_of layers past (config_of (records_after layers past t)) t.entry.event t.insight t.entry.answer
+      ≡ role.jobs past (config_of (records_after role past t)) t.entry.event t.insight t.entry.answer
 
 -- without the table of the IV Index, so that a beacon may take any step: where the known IV Index falls, a name comes
 -- back whose entry was expired
@@ -118,30 +115,30 @@ abbrev pub IsAnswerButStep : Answer → Answer → Type 0
 IsAnswerButStep (A.Beacon index key iv) (A.Beacon index' key' iv') = (index ≡ index') × (key ≡ key')
 IsAnswerButStep a b = a ≡ b
 
-pub record HandlesButStep (layers : Layers) (past : Past) (t : Told) : Type 0 where
-  pub sees : Sees layers past t.entry.event t.insight
-  pub answer : IsAnswerButStep t.entry.answer (answer_of layers past t.entry.event t.insight)
+pub record HandlesButStep (role : Role) (past : Past) (t : Told) : Type 0 where
+  pub sees : role.sees past t.entry.event t.insight
+  pub answer : IsAnswerButStep t.entry.answer (role.answer past t.entry.event t.insight)
   pub jobs : t.entry.jobs
-      ≡ jobs_of layers past (config_of (records_after layers past t)) t.entry.event t.insight t.entry.answer
+      ≡ role.jobs past (config_of (records_after role past t)) t.entry.event t.insight t.entry.answer
 
 -- without the records that the entries before have left: an entry may see a store that has forgotten what was accepted
-abbrev pub AreHandledOverAny : Layers → List StoreRecord → List Told → List Told → Type 0
-AreHandledOverAny layers records before [] = ⊤
-AreHandledOverAny layers records before (t ∷ ts) =
-    Handles layers (past_of before t) t
-    × AreHandledOverAny layers (records_after layers (past_of before t) t) (before ++ t ∷ []) ts
+abbrev pub AreHandledOverAny : Role → List StoreRecord → List Told → List Told → Type 0
+AreHandledOverAny role records before [] = ⊤
+AreHandledOverAny role records before (t ∷ ts) =
+    Handles role (past_of before t) t
+    × AreHandledOverAny role (records_after role (past_of before t) t) (before ++ t ∷ []) ts
 
 -- without the entries before: an entry may see a PDU of the node's own among what was heard, which a layer lets go on
-abbrev pub AreHandledAfterAny : Layers → List StoreRecord → List Told → List Told → Type 0
-AreHandledAfterAny layers records before [] = ⊤
-AreHandledAfterAny layers records before (t ∷ ts) =
+abbrev pub AreHandledAfterAny : Role → List StoreRecord → List Told → List Told → Type 0
+AreHandledAfterAny role records before [] = ⊤
+AreHandledAfterAny role records before (t ∷ ts) =
     (t.records ≡ filled t.entry.fills records)
-    × ((heard : List Told) × Handles layers (past_of heard t) t)
-    × AreHandledAfterAny layers (records_after layers (past_of before t) t) (before ++ t ∷ []) ts
+    × ((heard : List Told) × Handles role (past_of heard t) t)
+    × AreHandledAfterAny role (records_after role (past_of before t) t) (before ++ t ∷ []) ts
 
 -- without a rule on what outlasts a cut: a mark may outlast it that is lower than the one before
-abbrev pub OutlastsAnything : Layers → List Step → Life → Past → List StoreRecord → Type 0
-OutlastsAnything layers plan l past more = ⊤
+abbrev pub OutlastsAnything : Role → List Step → Life → Past → List StoreRecord → Type 0
+OutlastsAnything role plan l past more = ⊤
 
 -- without the ranges of a record's fields: so many numbers may be reserved that an IV Index outgrows its 32 bits, and its
 -- nonce is that of a lower one
@@ -174,7 +171,7 @@ pub record SaysTheSame (a b : List StoreRecord) : Type 0 where
 
 -- by all rules, but with layers that aren't safe: they may let a PDU of the node's own go on
 abbrev pub ReusesUnsafely : Type 0
-ReusesUnsafely = (layers : Layers) × (s : Script) × (r : Run) × RunOf layers s r × (NoReuse (uses r) → ⊥)
+ReusesUnsafely = (layers : Layers) × (s : Script) × (r : Run) × RunOf (node_role layers) s r × (NoReuse (uses r) → ⊥)
 
 -- what each rule is needed for
 pub record AreNeeded : Type 0 where

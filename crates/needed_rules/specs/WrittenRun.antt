@@ -29,6 +29,7 @@ use Rattle.mesh_types.specs.declared.report.Opened.TheVariants as W
 use Rattle.event_definitions.specs.Layers.{quiet_layers}
 use Rattle.run_definitions.specs.Order.{Step, phase}
 use Rattle.report_definitions.specs.Record.{Life, Run}
+use Rattle.event_definitions.specs.Role.{node_role}
 use Rattle.run_definitions.specs.RunOf.{RunOf, Script}
 use Rattle.store_definitions.specs.Provisioning.{Provisioning, provisioned}
 use Rattle.event_definitions.specs.Safe.{AreSafe}
@@ -202,4 +203,4 @@ run = record { lives = record { over = provisioned node; life = life } ∷ []; l
 -- it is a run of its script
 pub record IsWritten : Type 0 where
   pub safe : AreSafe quiet_layers
-  pub run_of : RunOf quiet_layers script run
+  pub run_of : RunOf (node_role quiet_layers) script run

@@ -9,3 +9,4 @@ pub mod LifeLines
 pub mod Nonces
 pub mod Reuse
 pub mod Enough
+pub mod NodeRole

@@ -20,7 +20,7 @@ use Rattle.report_definitions.specs.Record.{Shown}
 use Rattle.run_definitions.specs.Seals.{message_fields, own_fields, own_upper_fields}
 use Rattle.run_definitions.specs.Uses.{Use, network_use, nonce_source, seals_of}
 use Rattle.run_safety.proofs.Lists.{Apart}
-use Rattle.run_safety.proofs.Sending.{Foreign}
+use Rattle.run_safety.specs.SafeRole.{Foreign}
 use Rattle.run_safety.proofs.Walking.{ForeignJob, ShownFits, Tag, network_tag, tags, tags_of, upper_tag}
 
 -- the octets of a nonce that tell its layer, its SEQ and its IV Index

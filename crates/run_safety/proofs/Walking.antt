@@ -22,7 +22,7 @@ use Rattle.run_definitions.specs.RunOf.{draws}
 use Rattle.event_definitions.proofs.Accepting.{some_is}
 use Rattle.run_safety.proofs.Lists.{Sub, kept_part, passed_part, sub_nothing}
 use Rattle.event_definitions.proofs.Each.{every_append}
-use Rattle.run_safety.proofs.Sending.{BeginFits, Fine, FirstOf, first_of, Foreign, JobsFit}
+use Rattle.run_safety.specs.SafeRole.{BeginFits, Fine, FirstOf, first_of, Foreign, JobsFit}
 
 -- Tags: a pair, and whether the upper transport layer seals with it, or the network layer.
 

@@ -1,2 +1,3 @@
+pub mod SafeRole
 pub mod Safety
 pub mod Rules

@@ -2,7 +2,7 @@
 #![tactic(auto)]
 
 ghost use Rattle.run_safety.specs.Rules.{DeliversOnceByEnough, IsRunByEnough, ReusesNoNonceByEnough};
-ghost use Rattle.run_safety.specs.Safety.{DeliversOnce, DrawsApart, LivesKeep, ReusesNoNonce};
+ghost use Rattle.run_safety.specs.Safety.{DeliversOnce, DrawsApart, LivesKeep, NodesAreSafe, ReusesNoNonce};
 
 /// The law of every run: for all layers with the properties that `AreSafe` names, every script, and every record of a
 /// run of it, over all lives, bearers, refills and power cuts, no nonce of the node's own addresses seals two
@@ -10,6 +10,7 @@ ghost use Rattle.run_safety.specs.Safety.{DeliversOnce, DrawsApart, LivesKeep, R
 pub fn safety_law()
     ensures no_reuse { ReusesNoNonce }
     ensures at_most_once { DeliversOnce }
+    ensures nodes { NodesAreSafe }
 {}
 
 /// All pairs that the lines of a run draw, over all its lives, are different.
