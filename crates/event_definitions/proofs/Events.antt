@@ -76,5 +76,5 @@ nothing_silent layers past (E.Bcn octets) = unless_silent past A.Unread (silent 
 nothing_silent layers past (E.Send element dst ttl key payload) = unless_silent past _ (send_silent past key)
 nothing_silent layers past (E.Raw dst ttl tpdu) = unless_silent past A.Planned (silent refl)
 nothing_silent layers past (E.Tick ticks) = unless_silent past (A.Ticked (later past ticks)) (silent refl)
-nothing_silent layers past (E.Begin pair dst src ttl net akf aid upper) = begin_silent layers past pair dst
+nothing_silent layers past (E.Begin m) = begin_silent layers past m.name.pair m.dst
 nothing_silent layers past (E.Kept lpn fsn name octets) = silent_pick (layers.is_noted past lpn fsn) _ _ (silent refl) (silent refl)

@@ -254,5 +254,5 @@ answer_of layers past (E.Bcn octets) insight = unless_reset past (beacon_answer 
 answer_of layers past (E.Send element dst ttl key payload) insight = unless_reset past (send_answer past key)
 answer_of layers past (E.Raw dst ttl tpdu) insight = unless_reset past A.Planned
 answer_of layers past (E.Tick ticks) insight = unless_reset past (A.Ticked (later past ticks))
-answer_of layers past (E.Begin pair dst src ttl net akf aid upper) insight = begin_answer layers past pair dst
+answer_of layers past (E.Begin m) insight = begin_answer layers past m.name.pair m.dst
 answer_of layers past (E.Kept lpn fsn name pdu) insight = if layers.is_noted past lpn fsn then A.Kept else A.Dropped

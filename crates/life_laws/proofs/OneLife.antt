@@ -37,7 +37,7 @@ stores_inside layers past (E.Bcn octets) insight answer e = absurd (true≢false
 stores_inside layers past (E.Send element dst ttl key payload) insight answer e = absurd (true≢false e)
 stores_inside layers past (E.Raw dst ttl tpdu) insight answer e = absurd (true≢false e)
 stores_inside layers past (E.Tick ticks) insight answer e = absurd (true≢false e)
-stores_inside layers past (E.Begin pair dst src ttl net akf aid upper) insight answer e = refl
+stores_inside layers past (E.Begin m) insight answer e = refl
 stores_inside layers past (E.Kept lpn fsn name octets) insight answer e = refl
 
 take_nil : {A : Type 0} (n : ℕ) → take {A = A} n [] ≡ []
