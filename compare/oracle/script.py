@@ -48,6 +48,14 @@ def _beacon_octets(words: list[str]) -> bytes:
     return pdus.beacon(bytes.fromhex(net_key), int(flags, 16), int(iv, 16))
 
 
+def heard_octets(word: str, words: list[str]) -> bytes:
+    """What a bearer hears by a line `b0 WORD WORDS`."""
+    if word in ('net', 'bcn'):
+        return bytes.fromhex(words[0])
+    makers = {'peer': _peer_octets, 'talk': _talk_octets, 'beacon': _beacon_octets}
+    return makers[word](words)
+
+
 def do_event(life: Life, word: str, words: list[str]) -> None:
     """The event of a line `b0 WORD WORDS`."""
     if life.records.was_reset:
@@ -61,9 +69,6 @@ def do_event(life: Life, word: str, words: list[str]) -> None:
         dst, ttl, text = words
         life.send_control(int(dst, 16), int(ttl, 16), bytes.fromhex(text))
     elif KINDS[word] == 'bcn':
-        is_told = word == 'bcn'
-        life.hear_beacon(bytes.fromhex(words[0]) if is_told else _beacon_octets(words))
-    elif word == 'net':
-        life.hear(bytes.fromhex(words[0]))
+        life.hear_beacon(heard_octets(word, words))
     else:
-        life.hear(_peer_octets(words) if word == 'peer' else _talk_octets(words))
+        life.hear(heard_octets(word, words))
