@@ -18,16 +18,16 @@ use Rattle.node_layers.specs.Configuration.{config_act, is_for_server}
 use Rattle.node_layers.specs.Models.{elements_of, level_records, level_server, level_state, model_records, onoff_records, onoff_server, onoff_state, takes}
 use Rattle.node_layers.specs.ConfiguredLayers.{changes_of}
 use Rattle.node_records.proofs.Rising.{keyed_of}
-use Rattle.run_definitions.specs.Answers.{config_before}
-use Rattle.run_definitions.specs.Fit.{AreStorable}
-use Rattle.run_definitions.specs.History.{Past, now_of}
-use Rattle.run_safety.proofs.Lists.{every_append}
+use Rattle.event_definitions.specs.Answers.{config_before}
+use Rattle.event_definitions.specs.Fit.{AreStorable}
+use Rattle.event_definitions.specs.History.{Past, now_of}
+use Rattle.event_definitions.proofs.Each.{every_append}
 use Rattle.store_definitions.proofs.Pushes.{config_push}
-use Rattle.run_safety.specs.Safety.{IsChange}
+use Rattle.event_definitions.specs.Safe.{IsChange}
 use Rattle.store_definitions.specs.Following.{AreInOrder, Follows}
 use Rattle.store_definitions.specs.Node.{IsWhole, KeepsWhole}
 use Rattle.store_definitions.specs.Ranges.{IsInRange}
-use Rattle.run_definitions.specs.Layers.{AccessMessage}
+use Rattle.event_definitions.specs.Layers.{AccessMessage}
 use Rattle.record_types.specs.declared.records.StoreRecord.{StoreRecord}
 use Rattle.record_types.specs.declared.records.StoreRecord.TheVariants as R
 use Rattle.store_definitions.specs.Config.{Config, changed, config_of}

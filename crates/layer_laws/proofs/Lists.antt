@@ -4,7 +4,7 @@ use Rattle.std.specs.Prelude.{slice_index_or, slice_set}
 use Rattle.std.specs.Bool.{⊤}
 use Rattle.std.specs.List.{AllByRecursion as Every, cons_option, filter_map, flat_map, list_any, fold}
 use Rattle.std.specs.Option.{option_to_list}
-use Rattle.run_safety.proofs.Lists.{every_append}
+use Rattle.event_definitions.proofs.Each.{every_append}
 
 -- of what stands in an option
 abbrev pub Inside : {A : Type 0} → (A → Type 0) → Option A → Type 0

@@ -17,7 +17,7 @@ use Rattle.node_records.proofs.Rising.{Rises, RisesFrom}
 use Rattle.record_types.specs.declared.records.PublishRow.{PublishRow}
 use Rattle.record_types.specs.declared.records.StoreRecord.{StoreRecord}
 use Rattle.record_types.specs.declared.records.StoreRecord.TheVariants as R
-use Rattle.run_safety.specs.Safety.{IsChange}
+use Rattle.event_definitions.specs.Safe.{IsChange}
 use Rattle.store_definitions.specs.Config.{Config, apps_after, binds_after, is_bind, is_label, is_sub, labels_after, labels_without, nets_after, publication_index, subs_after, subs_without}
 use Rattle.store_definitions.specs.Node.{HasNext, IsPhased, IsWhole, KeepsWhole, has_other_net}
 use Rattle.store_definitions.specs.Ranges.{IsInRange, IsKey}

@@ -7,7 +7,7 @@ use Rattle.layer_definitions.specs.Lower.{last_segment}
 use Rattle.layer_states.specs.Names.{is_unicast}
 use Rattle.layer_states.specs.declared.sending.Acked.{Acked}
 use Rattle.layer_states.specs.declared.sending.Acked.TheVariants.{Stranger, Part, Whole, Cancelled}
-use Rattle.layer_states.specs.declared.sending.Outgoing.{Outgoing}
+use Rattle.mesh_types.specs.declared.events.Outgoing.{Outgoing}
 use Rattle.layer_states.specs.declared.sending.Sending.{Sending}
 use Rattle.mesh_base.specs.declared.address.Address.{Address}
 use Rattle.mesh_base.specs.declared.pair.Name.{Name}

@@ -13,6 +13,45 @@ use std::fmt;
 use std::fmt::{Debug, Formatter};
 use std::marker::Model;
 
+/// A segment of an own message, but for the pair that it goes under.
+#[derive(Drop, PartialEq, Eq)]
+pub struct Segment {
+    /// The material that seals it.
+    pub material: NetMaterial,
+    /// The message's name: SRC, one of the node's elements, with its SeqAuth.
+    pub name: Name,
+    /// TTL, below 128.
+    pub ttl: u8,
+    /// DST.
+    pub dst: Address,
+    /// SegO, 5 bits.
+    pub seg_o: u8,
+    /// SegN, 5 bits.
+    pub seg_n: u8,
+    /// The transport PDU, 5 to 16 octets.
+    pub tpdu: Octets<16>,
+    /// Whether it is the first segment of all, which goes under the pair of SeqAuth; every other draws a pair.
+    pub first: bool,
+}
+
+impl Segment {
+    /// The same segment once more. It takes no memory.
+    pub fn copied(&self) -> Segment
+        ensures value { result ≡ self.now }
+    {
+        Segment {
+            material: self.material,
+            name: self.name,
+            ttl: self.ttl,
+            dst: self.dst,
+            seg_o: self.seg_o,
+            seg_n: self.seg_n,
+            tpdu: self.tpdu.copied(),
+            first: self.first,
+        }
+    }
+}
+
 /// One job of an entry. Where it answers a Poll whose answer is to be kept, `keep` is the Low Power node and the FSN.
 #[derive(Drop, PartialEq, Eq)]
 pub enum Job {
@@ -73,26 +112,7 @@ pub enum Job {
         dst: Address,
     },
     /// A segment of an own message.
-    Segment {
-        /// The material that seals it.
-        material: NetMaterial,
-        /// The message's name, with its SeqAuth.
-        name: Name,
-        /// TTL, below 128.
-        ttl: u8,
-        /// SRC, one of the node's elements.
-        src: Address,
-        /// DST.
-        dst: Address,
-        /// SegO, 5 bits.
-        seg_o: u8,
-        /// SegN, 5 bits.
-        seg_n: u8,
-        /// The transport PDU, 5 to 16 octets.
-        tpdu: Octets<16>,
-        /// Whether it is the first segment of all, which goes under the pair of SeqAuth; every other draws a pair.
-        first: bool,
-    },
+    Segment(Segment),
     /// Octets that were kept for a Poll, once more.
     Repeat {
         /// SRC, IV Index and SEQ of the octets.
@@ -163,27 +183,7 @@ impl Job {
                 src: *src,
                 dst: *dst,
             },
-            Job::Segment {
-                material,
-                name,
-                ttl,
-                src,
-                dst,
-                seg_o,
-                seg_n,
-                tpdu,
-                first,
-            } => Job::Segment {
-                material: *material,
-                name: *name,
-                ttl: *ttl,
-                src: *src,
-                dst: *dst,
-                seg_o: *seg_o,
-                seg_n: *seg_n,
-                tpdu: tpdu.copied(),
-                first: *first,
-            },
+            Job::Segment(segment) => Job::Segment(segment.copied()),
             Job::Repeat { name, pdu } => Job::Repeat {
                 name: *name,
                 pdu: pdu.copied(),

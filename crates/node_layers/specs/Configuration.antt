@@ -6,7 +6,7 @@ use Rattle.mesh_base.specs.declared.address.Address.{Address}
 use Rattle.mesh_base.specs.declared.keys.UpperKey.{UpperKey}
 use Rattle.mesh_base.specs.declared.keys.UpperKey.TheVariants as U
 use Rattle.model_states.specs.declared.publication.HeartbeatRow.{HeartbeatRow}
-use Rattle.run_definitions.specs.Layers.{AccessMessage}
+use Rattle.event_definitions.specs.Layers.{AccessMessage}
 use Rattle.store_definitions.specs.Config.{Config}
 
 abbrev pub is_device_key : UpperKey → Bool

@@ -7,9 +7,10 @@ ghost use Rattle.layer_states.specs.Names.{is_unicast as is_unicast_in};
 ghost use Rattle.layer_states.specs.Sending.{begun as begun_in, has_bit as has_bit_in, is_due as is_due_in, is_last as is_last_in, left_after, pieces_of as pieces_in, round_after as round_after_in, round_of as round_in, segments_due, stepped};
 ghost use Rattle.segment_sender.specs.Held.{has_round as has_round_in};
 
-use layer_states::sending::{DueList, Outgoing, PieceList, Sending};
+use layer_states::sending::{DueList, PieceList, Sending};
 use mesh_base::address::Address;
 use mesh_base::table::Table;
+use mesh_types::events::Outgoing;
 
 // Whether an address is that of an element.
 fn is_unicast(a: Address) -> bool
@@ -54,28 +55,13 @@ fn round_after(now: u64, m: &Outgoing) -> u64
     now + 20 + 5 * u64::from(ttl)
 }
 
-// The same message once more. It takes no memory.
-fn copied(m: &Outgoing) -> Outgoing
-    ensures { result ≡ m.now }
-{
-    Outgoing {
-        name: m.name,
-        dst: m.dst,
-        ttl: m.ttl,
-        net: m.net,
-        akf: m.akf,
-        aid: m.aid,
-        upper: m.upper.copied(),
-    }
-}
-
 /// A message when it begins.
 pub(crate) fn begun(now: u64, m: &Outgoing) -> Sending
     requires { now ≤ 2 ^ 48 }
     ensures { result ≡ begun_in now m.now }
 {
     Sending {
-        message: copied(m),
+        message: m.copied(),
         left: pieces_of(m),
         rounds: 1,
         due: round_after(now, m),
@@ -140,7 +126,7 @@ pub(crate) fn again(s: &Sending) -> Sending
     ensures { result ≡ s.now }
 {
     Sending {
-        message: copied(&s.message),
+        message: s.message.copied(),
         left: s.left.copied(),
         rounds: s.rounds,
         due: s.due,

@@ -9,8 +9,9 @@ ghost use Rattle.segment_sender.specs.Held.{IsHeldWell, IsOutgoing, has_round};
 use crate::message::begun;
 use crate::rows::{Rows, acknowledge, all_due, all_rounds, step_all};
 use arrayvec::ArrayVec;
-use layer_states::sending::{Acked, DueList, Outgoing, Sending};
+use layer_states::sending::{Acked, DueList, Sending};
 use mesh_base::address::Address;
+use mesh_types::events::Outgoing;
 use std::marker::Model;
 use thiserror::Error;
 
