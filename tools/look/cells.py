@@ -1,8 +1,8 @@
-"""A long life as cells: each entry a small cell in the lane of its bearer, with a stroke below for
-each job; what they are is told under the pointer."""
+"""A long life as cells: each entry a small cell in the lane of its bearer, with a stroke below
+for each job; what they are is told under the pointer."""
 from typing import NamedTuple
 
-from .marks import GROUP_OF, NOT_SENT_FRAME, REFILL, SENT_FRAME, entry_title, job_title, seconds
+from .marks import CUT, GROUP_OF, NOT_SENT_FRAME, REFILL, SENT_FRAME, entry_title, job_title, seconds
 from .numbers import Range, refills
 from .report import Job
 from .runs import LifeRun, Step
@@ -12,6 +12,8 @@ GUTTER, CELL, GAP = 118, 13, 2
 CELL_HEIGHT, JOBS_HEIGHT, LANE_GAP, ROW_GAP = 15, 13, 3, 7
 MOST_STROKES = 5
 LETTERS = {'net': '', 'bcn': 'B', 'send': 'S', 'raw': 'R', 'tick': 'T', 'begin': 'b', 'kept': 'k'}
+LEGEND = 'cells: ' + ', '.join(f'{letter} {kind}' if letter else f'none {kind}'
+                               for kind, letter in LETTERS.items()) + '; a stroke a job'
 
 
 class CellRow(NamedTuple):
@@ -20,6 +22,7 @@ class CellRow(NamedTuple):
     steps: list[Step]
     bearers: list[int]
     filled: dict[tuple[int, int], Range]
+    is_cut: bool
 
     @property
     def height(self) -> float:
@@ -32,7 +35,8 @@ def cell_rows_of(run: LifeRun, width: float) -> list[CellRow]:
     count = max(1, int((width - GUTTER) / CELL))
     bearers = sorted({step.entry.bearer for step in run.steps})
     filled = refills(run.life)
-    return [CellRow(run.life.number, run.steps[at:at + count], bearers, filled)
+    return [CellRow(run.life.number, run.steps[at:at + count], bearers, filled,
+                    run.life.ending == 'cut' and at + count >= len(run.steps))
             for at in range(0, len(run.steps), count)]
 
 
@@ -63,7 +67,7 @@ def _draw_cell(drawing: Drawing, row: CellRow, step: Step, x: float, y: float) -
 
 def draw_cell_row(drawing: Drawing, row: CellRow, x: float, y: float) -> None:
     """A row with the number of its first entry and its time."""
-    first = row.steps[0]
+    first, top = row.steps[0], y
     drawing.text(x, y + 11, f'{first.entry.number}', 10, '#444', bold=True)
     drawing.text(x, y + 23, seconds(first.at), 9, '#777')
     for bearer in row.bearers:
@@ -72,3 +76,6 @@ def draw_cell_row(drawing: Drawing, row: CellRow, x: float, y: float) -> None:
             if step.entry.bearer == bearer:
                 _draw_cell(drawing, row, step, x + GUTTER + CELL * place, y)
         y += CELL_HEIGHT + JOBS_HEIGHT + LANE_GAP
+    if row.is_cut:
+        cut = x + GUTTER + CELL * len(row.steps)
+        drawing.line(cut, top - 3, cut, y - LANE_GAP, CUT, 2.5)

@@ -3,6 +3,7 @@
 Each fault that a tool tells of has an exit status of its own; tools/README.md lists them.
 """
 import argparse
+import os
 import sys
 from collections.abc import Callable
 from pathlib import Path
@@ -44,7 +45,12 @@ def run_tool(parser: argparse.ArgumentParser,
     """Runs a tool over the words of the command line, and ends with its status."""
     try:
         status = tool(parser.parse_args())
+        sys.stdout.flush()
     except Fault as fault:
         print(f'{parser.prog}: {fault}', file=sys.stderr)
         status = fault.status
+    except BrokenPipeError:
+        # nothing more can be printed, and what is left in the buffer is to go nowhere
+        os.dup2(os.open(os.devnull, os.O_WRONLY), sys.stdout.fileno())
+        status = NO_FILE
     sys.exit(status or DONE)

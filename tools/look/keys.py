@@ -1,13 +1,15 @@
 """The keys, labels and IV Indexes that a run shows: those provisioned, those that its script names,
 and those that configuration messages handed to the node while it ran."""
-from .report import Entry
-from .runs import LifeRun
+from .hearing import octets_heard
+from .report import Opening
+from .runs import LifeRun, Step
 from .script import Event, Script
 
 APP_KEY_ADD, APP_KEY_UPDATE = b'\x00', b'\x01'
 NET_KEY_ADD, NET_KEY_UPDATE = b'\x80\x40', b'\x80\x45'
 LABEL_ADD, LABEL_OVERWRITE = b'\x80\x20', b'\x80\x22'
 KEY_SIZE, INDEX_BITS = 16, 12
+IV_OF_BEACON = slice(10, 14)
 
 
 class Keys:
@@ -52,14 +54,20 @@ class Keys:
         if fields:
             fields(self, event.words)
 
-    def take_entry(self, entry: Entry) -> None:
-        """What a message that was accepted tells."""
+    def take_step(self, step: Step) -> None:
+        """What an entry and its jobs tell."""
+        entry = step.entry
+        if entry.answer == 'beacon' and step.event:
+            octets = octets_heard(step.event)
+            _note(self.iv_indexes, int.from_bytes(octets[IV_OF_BEACON], 'big'))
         if entry.answer in ('control', 'delivered'):
             _note(self.iv_indexes, int(entry.words[2], 16))
         if entry.answer == 'delivered':
             _, dst, _, _, key, payload = entry.words
             if key == 'dev' and int(dst, 16) == self.unicast:
                 self._take_configuration(bytes.fromhex(payload))
+        for iv in filter(None, (job.field('IV') for job in step.jobs)):
+            _note(self.iv_indexes, int(iv, 16))
 
     def _take_configuration(self, payload: bytes) -> None:
         """A key or a label that was handed to the node, whatever it answered."""
@@ -114,19 +122,25 @@ def _note(found: list, item: object) -> None:
         found.append(item)
 
 
+def _note_opening(keys: Keys, opening: Opening, hears_octets: bool) -> None:
+    """The IV Indexes of a life, and the one before, which octets alone may be heard under."""
+    found = [opening.transmit, opening.current]
+    if hears_octets and opening.current:
+        found.append(opening.current - 1)
+    for iv in found:
+        _note(keys.iv_indexes, iv)
+
+
 def keys_of(script: Script, runs: list[LifeRun]) -> Keys:
     """What a whole run shows, also in lines of the script that no entry answers."""
     keys = Keys(script)
+    events = [event for life in script.lives for event in life.events]
+    hears_octets = any(event.word == 'net' for event in events)
     for run in runs:
-        opening = run.life.opening
-        for iv in (opening.transmit, opening.current) if opening else ():
-            _note(keys.iv_indexes, iv)
+        if run.life.opening:
+            _note_opening(keys, run.life.opening, hears_octets)
         for step in run.steps:
-            keys.take_entry(step.entry)
-            for job in step.jobs:
-                if job.field('IV'):
-                    _note(keys.iv_indexes, int(job.field('IV'), 16))
-    for life in script.lives:
-        for event in life.events:
-            keys.take_event(event)
+            keys.take_step(step)
+    for event in events:
+        keys.take_event(event)
     return keys

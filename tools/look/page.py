@@ -2,8 +2,8 @@
 from collections import Counter
 from html import escape
 
+from . import cells
 from .cards import draw_row, rows_of
-from .cells import cell_rows_of, draw_cell_row
 from .marks import (CUT, GROUP_OF, GROUPS, NOT_SENT, NOT_SENT_FRAME, REFILL, SENT, SENT_FRAME,
                     event_words, opening_words)
 from .numbers import passed_over, refills
@@ -30,8 +30,8 @@ class Picture:
         """How wide a life is."""
         return self.width - 2 * MARGIN
 
-    def legend(self) -> None:
-        """What each colour means."""
+    def legend(self, has_cells: bool) -> None:
+        """What each colour means, and the letters of cells."""
         x: float = MARGIN
         rows = [*((group.name, group.fill, group.frame) for group in GROUPS),
                 ('sent', SENT, SENT_FRAME), ('not sent', NOT_SENT, NOT_SENT_FRAME),
@@ -44,6 +44,9 @@ class Picture:
             self.drawing.text(x + 17, self.y + 10, name, 10, '#444')
             x += width
         self.y += LEGEND_LINE + 4
+        if has_cells:
+            self.drawing.text(MARGIN, self.y + 6, cells.LEGEND, 10, '#444')
+            self.y += LEGEND_LINE
 
     def life(self, run: LifeRun, after: Life | None) -> None:
         """A life: its head, its rows, its notes, and a frame around them."""
@@ -64,9 +67,9 @@ class Picture:
                 self.y += row.height
             return
         self.y += 4
-        for cells in cell_rows_of(run, width):
-            draw_cell_row(self.drawing, cells, x, self.y)
-            self.y += cells.height
+        for row in cells.cell_rows_of(run, width):
+            cells.draw_cell_row(self.drawing, row, x, self.y)
+            self.y += row.height
 
     def _note(self, text: str, colour: str, is_filled: bool = False) -> None:
         if is_filled:
@@ -97,7 +100,7 @@ class Picture:
 def picture(runs: list[LifeRun], title: str, width: float, cells_from: int) -> str:
     """A run as SVG; a life with so many entries or more is drawn as cells."""
     made = Picture(width, cells_from)
-    made.legend()
+    made.legend(any(len(run.steps) >= cells_from for run in runs))
     for place, run in enumerate(runs):
         made.life(run, runs[place + 1].life if place + 1 < len(runs) else None)
     return made.drawing.document(width, made.y + 2, title)

@@ -33,6 +33,11 @@ class LifeRun(NamedTuple):
     steps: list[Step]
     unanswered: list[Event]
 
+    @property
+    def ended(self) -> int:
+        """The ticks at its last entry."""
+        return self.steps[-1].at if self.steps else self.began
+
 
 class NotOfScript(Exception):
     """A line of the report that isn't of this script, and why."""
@@ -93,8 +98,7 @@ def run_of(lives: list[Life], script: Script | None = None) -> list[LifeRun]:
         if script and place >= len(script.lives):
             raise NotOfScript(life.line, f'the script has {len(script.lives)} lives')
         plan = script.lives[place] if script else None
-        began = runs[-1].steps[-1].at if runs and runs[-1].steps else runs[-1].began if runs else 0
-        runs.append(_run_life(life, plan, began))
+        runs.append(_run_life(life, plan, runs[-1].ended if runs else 0))
     return runs
 
 

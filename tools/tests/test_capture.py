@@ -132,6 +132,21 @@ class Octets(unittest.TestCase):
                          ['two_pdus.mesh: packet 2, life 1, entry 2, job 1: SEQ is 1, and not 2'])
 
 
+class Tables(unittest.TestCase):
+    @unittest.skipUnless(tshark(), 'no tshark here')
+    def test_profile(self) -> None:
+        """tshark reads the sample message #1 with the table files of `--tables` in a profile."""
+        with tempfile.TemporaryDirectory() as folder:
+            path = Path(folder) / 'two_pdus.pcapng'
+            subprocess.run([REPOSITORY / 'tools' / 'capture', EXAMPLES / 'two_pdus.mesh',
+                            EXAMPLES / 'two_pdus.report', path, '--tables',
+                            Path(folder) / 'profiles' / 'mesh'], capture_output=True, check=True)
+            done = subprocess.run([tshark(), '-C', 'mesh', '-r', path, '-T', 'fields', '-e',
+                                   'btmesh.seq', '-e', 'btmesh.transp_pdu'], check=True, text=True,
+                                  capture_output=True, env={'WIRESHARK_CONFIG_DIR': folder})
+        self.assertEqual(done.stdout, '0\t034b50057e400000010000\n1\t034b50057e400000010000\n')
+
+
 class Command(unittest.TestCase):
     def test_ends(self) -> None:
         """Exit statuses, and messages with the line."""
