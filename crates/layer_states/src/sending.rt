@@ -5,6 +5,7 @@ use mesh_base::address::Address;
 use mesh_base::octets::Octets;
 use mesh_base::pair::Name;
 use mesh_base::table::Table;
+use node_limits::{DUE_SEGMENTS, SEGMENTS};
 
 /// An own access message that is sent in segments.
 #[derive(Default, Drop)]
@@ -26,7 +27,7 @@ pub struct Outgoing {
 }
 
 /// Pieces of a message by their SegO, in ascending order.
-pub type PieceList = Table<u8, 32>;
+pub type PieceList = Table<u8, SEGMENTS>;
 
 /// An own message with what is known of its segments.
 #[derive(Default, Drop)]
@@ -54,5 +55,5 @@ pub enum Acked {
     Cancelled,
 }
 
-/// Segments that are due: the name of a message, and a SegO; at most 32 of each of 4 messages.
-pub type DueList = Table<(Name, u8), 128>;
+/// Segments that are due: the name of a message, and a SegO; at most all of each message.
+pub type DueList = Table<(Name, u8), DUE_SEGMENTS>;
