@@ -11,6 +11,7 @@ ghost use Rattle.node_store.specs.Tie.{HasMarkFrom, Holds, IsFront, IsStoreOf};
 
 use crate::store::{PutFault, Store};
 use flash_model::Flash;
+use node_limits::PUT_CALLS;
 use record_types::records::StoreRecord;
 
 impl Store {
@@ -55,7 +56,7 @@ impl Store {
         ensures most_calls { IsTrue (F.chip flash.old).steady → self.old.journal.used + length items.now ≤ 1023
             → BeginsAtMost (2 * length items.now) (F.chip flash.old) (F.chip flash.new) }
         ensures bounded { IsTrue (F.chip flash.old).steady
-            → BeginsAtMost (820 * length items.now) (F.chip flash.old) (F.chip flash.new) }
+            → BeginsAtMost (PUT_CALLS * length items.now) (F.chip flash.old) (F.chip flash.new) }
 
         // of every flash, honest or not
         ensures reads { (F.chip flash.new).reads ≡ (F.chip flash.old).reads }

@@ -13,6 +13,7 @@ ghost use Rattle.node_store.specs.Numbers.{HasNumbers};
 ghost use Rattle.node_store.specs.Tie.{HasMark, HasMarkFrom, Holds, IsNoNumbers, IsNotBelow, IsPut, IsStoreOf};
 
 use flash_model::{Flash, FlashFailed};
+use node_limits::PUT_CALLS;
 use node_records::laws::value_law;
 use node_records::{Limit, Persist};
 use record_types::records::StoreRecord;
@@ -166,7 +167,7 @@ impl Store {
             → OnOk result (Begins (calls_of self.old) (F.chip flash.old) (F.chip flash.new)) }
         ensures most_calls { IsTrue (F.chip flash.old).steady
             → BeginsAtMost (calls_of self.old) (F.chip flash.old) (F.chip flash.new) }
-        ensures bounded { IsTrue (F.chip flash.old).steady → BeginsAtMost 820 (F.chip flash.old) (F.chip flash.new) }
+        ensures bounded { IsTrue (F.chip flash.old).steady → BeginsAtMost PUT_CALLS (F.chip flash.old) (F.chip flash.new) }
 
         // of every flash, honest or not
         ensures reads { (F.chip flash.new).reads ≡ (F.chip flash.old).reads }
