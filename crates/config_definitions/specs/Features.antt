@@ -2,6 +2,7 @@
 use Rattle.std.specs.Prelude.{ℕ, ◌+◌, ◌*◌, ◌/◌, ◌%◌, ◌==◌, ◌&&◌, ◌||◌, nat_le, Bool, if◌then◌else◌, List, [], ◌∷◌, ◌++◌, Option, Some, None}
 use Rattle.std.specs.List.{find}
 use Rattle.std.specs.Option.{option_map_or}
+use Rattle.node_limits.specs.declared.TheConstants.{REPLAY_ENTRIES}
 use Rattle.config_definitions.specs.Params.{address_of, replied, acted}
 use Rattle.config_definitions.specs.declared.acts.ConfigAct.{ConfigAct}
 use Rattle.mesh_base.specs.declared.address.Address.{Address}
@@ -53,9 +54,10 @@ relay_set c (relay ∷ retransmit ∷ []) =
     else None
 relay_set c _ = None
 
--- Composition Data Get 8008: any page asks for page 0, of a node whose replay list has 512 entries. Status 02: the page
+-- Composition Data Get 8008: any page asks for page 0, and tells how many entries the replay list has (CRPL). Status 02: the
+-- page
 abbrev pub composition_get : Config → List ℕ → Option ConfigAct
-composition_get c (page ∷ []) = replied (0x02 ∷ 0x00 ∷ composition c.elements 512)
+composition_get c (page ∷ []) = replied (0x02 ∷ 0x00 ∷ composition c.elements REPLAY_ENTRIES)
 composition_get c _ = None
 
 -- Low Power Node PollTimeout Get 802d, and Status 802e: the address, and the PollTimeout of its friendship in three octets, 0 without one

@@ -3,6 +3,7 @@
 use Rattle.std.specs.Prelude.{ℕ, ◌+◌, ◌*◌, ◌==◌, ◌&&◌, ◌||◌, not, nat_le, Bool, true, false, if◌then◌else◌, List, [], ◌∷◌, ◌++◌, Option, Some, None, is_none, is_some, length, map, filter, replicate, bytes_eq}
 use Rattle.std.specs.List.{list_any}
 use Rattle.std.specs.Option.{option_map_or}
+use Rattle.node_limits.specs.declared.TheConstants.{NETWORK_KEYS, APPLICATION_KEYS}
 use Rattle.config_definitions.specs.Params.{first_index, second_index, index_of, packed, packed_list, is_key, status_octet, refused, unchanged, stored, replied, acted}
 use Rattle.config_definitions.specs.declared.acts.ConfigAct.{ConfigAct}
 use Rattle.config_definitions.specs.declared.acts.Outcome.{Outcome}
@@ -38,7 +39,7 @@ app_key_add c net app key = if not (has_net c net) then refused S.InvalidNetKey 
   where
     by_row : Option AppKeyRow → Outcome
     by_row (Some r) = if r.net == net && bytes_eq r.key key then unchanged else refused S.KeyIndexStored
-    by_row None = if nat_le 8 (length c.apps) then refused S.InsufficientResources else stored (R.AppKey 1 net app key)
+    by_row None = if nat_le APPLICATION_KEYS (length c.apps) then refused S.InsufficientResources else stored (R.AppKey 1 net app key)
 
 abbrev pub app_key_update : Config → ℕ → ℕ → List ℕ → Outcome
 app_key_update c net app key = by_row (app_row c.apps app)
@@ -97,7 +98,7 @@ net_key_add c net key = by_row (net_row c.nets net)
   where
     by_row : Option NetKeyRow → Outcome
     by_row (Some r) = if bytes_eq r.key key then unchanged else refused S.KeyIndexStored
-    by_row None = if nat_le 4 (length c.nets) then refused S.InsufficientResources else stored (R.NetKey 1 net key)
+    by_row None = if nat_le NETWORK_KEYS (length c.nets) then refused S.InsufficientResources else stored (R.NetKey 1 net key)
 
 abbrev pub net_key_update : Config → ℕ → List ℕ → Outcome
 net_key_update c net key = by_row (net_row c.nets net)

@@ -2,6 +2,7 @@
 -- The first test that holds decides.
 use Rattle.std.specs.Prelude.{ℕ, ◌+◌, ◌*◌, ◌==◌, ◌&&◌, ◌||◌, not, nat_lt, nat_le, Bool, true, false, if◌then◌else◌, List, [], ◌∷◌, ◌++◌, Option, Some, None, Result, Ok, Err, is_some, length, take, drop, filter}
 use Rattle.std.specs.List.{list_any}
+use Rattle.node_limits.specs.declared.TheConstants.{BINDINGS, SUBSCRIPTIONS}
 use Rattle.cipher_definitions.specs.Kdf.{virtual_address}
 use Rattle.config_definitions.specs.Params.{address_of, index_of, is_model, status_octet, refused, unchanged, stored, acted}
 use Rattle.config_definitions.specs.declared.acts.ConfigAct.{ConfigAct}
@@ -43,9 +44,9 @@ on_model (Ok n) outcome = outcome n
 
 -- Subscriptions.
 
--- groups and labels count together, and 32 have room
+-- groups and labels count together
 abbrev pub is_full : List (Address × ℕ × Address) → List (Address × ℕ × List ℕ) → Bool
-is_full subs labels = nat_le 32 (length subs + length labels)
+is_full subs labels = nat_le SUBSCRIPTIONS (length subs + length labels)
 
 -- a group, but for the one of all nodes
 abbrev pub is_subscribed : Address → Bool
@@ -155,7 +156,7 @@ abbrev pub app_bind : Config → Address → ℕ → ℕ → Outcome
 app_bind c element app model =
     if not (has_app c app) then refused S.InvalidAppKey
     else if list_any (is_bind element model app) c.binds then unchanged
-    else if nat_le 32 (length c.binds) then refused S.InsufficientResources
+    else if nat_le BINDINGS (length c.binds) then refused S.InsufficientResources
     else stored (R.Bind 1 element model app)
 
 abbrev pub app_unbind : Config → Address → ℕ → ℕ → Outcome

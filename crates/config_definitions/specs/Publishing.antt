@@ -2,6 +2,7 @@
 -- holds decides.
 use Rattle.std.specs.Prelude.{ℕ, ◌+◌, ◌*◌, ◌==◌, ◌&&◌, ◌||◌, not, nat_le, Bool, if◌then◌else◌, List, [], ◌∷◌, ◌++◌, Option, Some, None, Result, Ok, Err, length, filter}
 use Rattle.std.specs.List.{list_any, find}
+use Rattle.node_limits.specs.declared.TheConstants.{PUBLICATIONS}
 use Rattle.config_definitions.specs.Keys.{has_net}
 use Rattle.config_definitions.specs.Models.{model_of, on_model, has_app}
 use Rattle.config_definitions.specs.Params.{address_of, index_of, is_model, status_octet, refused, unchanged, stored, replied, acted}
@@ -28,15 +29,15 @@ is_same_row a b =
     && a.period == b.period
     && a.retransmit == b.retransmit
 
--- A row is set. Publish addresses aren't virtual here; where there is one, its application key is held and bound to the model. There is room
--- for the rows of 8 models.
+-- A row is set. Publish addresses aren't virtual here; where there is one, its application key is held and bound to the model. There is a
+-- place for the row.
 abbrev pub row_set : Config → PublishRow → Outcome
 row_set c row =
     if is_virtual row.address then refused S.InvalidAddress
     else if not (row.address.0 == 0) && not (has_app c row.app) then refused S.InvalidAppKey
     else if not (row.address.0 == 0) && not (list_any (is_bind row.element row.model row.app) c.binds)
     then refused S.InvalidPublish
-    else if nat_le 8 (length (filter (λ r. not (is_model_row row.element row.model r)) c.publications))
+    else if nat_le PUBLICATIONS (length (filter (λ r. not (is_model_row row.element row.model r)) c.publications))
     then refused S.InsufficientResources
     else if list_any (is_same_row row) c.publications then unchanged
     else stored (R.Publish row)
