@@ -6,6 +6,7 @@ use Rattle.std.specs.List.{AllByRecursion as Every, flat_map, fold}
 use Rattle.std.specs.Option.{option_map_or, option_to_list}
 use Rattle.std.proofs.lemmas.Bool.Decides.{nat_tests}
 use Rattle.std.proofs.lemmas.List.Elements.{recursion_from_All}
+use Rattle.config_definitions.proofs.Reading.{Octets}
 use Rattle.config_definitions.specs.declared.acts.ConfigAct.{ConfigAct}
 use Rattle.layer_definitions.specs.KeyRefresh.{transmit_app}
 use Rattle.layer_definitions.specs.Network.{net_text}
@@ -45,7 +46,8 @@ use Rattle.event_definitions.proofs.Each.{every_append}
 use Rattle.event_definitions.specs.Safe.{IsChange}
 use Rattle.store_definitions.specs.Config.{Config, changed, config_of, is_element}
 use Rattle.layer_laws.proofs.Acts.{Acted, acted_weaker}
-use Rattle.layer_laws.proofs.Changes.{act_acted, every_place}
+use Rattle.layer_laws.proofs.Changes.{every_place}
+use Rattle.layer_laws.proofs.Messages.{act_acted}
 use Rattle.layer_laws.proofs.FriendCalls.{EntriesGood, HeardGood, KeptGood, SendGood, control_jobs_fit, friends_good}
 use Rattle.layer_laws.proofs.Friends.{every_drop}
 use Rattle.layer_laws.proofs.Lists.{Inside, and_true, every_chosen, every_flat, every_flat_any, every_mapped, every_pick, every_set, option_cases, through_fold, when}
@@ -268,7 +270,7 @@ module _ (base : Config) (some : 1 ≤ base.elements) where
       let c : Config = config_before past in
       let act : Option ConfigAct = act_of past st m in
       let same : IsSameNode base (config_after c act) =
-      then_same base c (config_after c act) s (after_act c act (acted_weaker (Leaf c m.payload) IsChange (λ item l. l.change) act (act_acted c _ (heartbeat_shown (published past)) m))) in
+      then_same base c (config_after c act) s (after_act c act (acted_weaker (Leaf c (Octets m.payload)) IsChange (λ item l. l.change) act (act_acted c _ (heartbeat_shown (published past)) m))) in
       every_mapped (IsPlaced c) Own (own_short (config_after c act) m) (λ reply k. at_place (config_after c act) reply.0 same (rw (← s.elements) k)) (replies_to past st m) (replies_placed past st m (rw s.elements some))
 
   publishes_own : (past : Past) → IsSameNode base (config_before past) → (ticks : ℕ) → Every Own (map publication_short (publications_due past (config_before past) ticks))

@@ -4,9 +4,10 @@
 use mesh_base::pair::Name;
 use mesh_base::table::Table;
 use mesh_types::events::Outgoing;
+use node_limits::{DUE_SEGMENTS, SEGMENTS};
 
 /// Pieces of a message by their SegO, in ascending order.
-pub type PieceList = Table<u8, 32>;
+pub type PieceList = Table<u8, SEGMENTS>;
 
 /// An own message with what is known of its segments.
 #[derive(Default, Drop)]
@@ -34,5 +35,5 @@ pub enum Acked {
     Cancelled,
 }
 
-/// Segments that are due: the name of a message, and a SegO; at most 32 of each of 4 messages.
-pub type DueList = Table<(Name, u8), 128>;
+/// Segments that are due: the name of a message, and a SegO; at most all of each message.
+pub type DueList = Table<(Name, u8), DUE_SEGMENTS>;

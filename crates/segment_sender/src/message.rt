@@ -11,6 +11,7 @@ use layer_states::sending::{DueList, PieceList, Sending};
 use mesh_base::address::Address;
 use mesh_base::table::Table;
 use mesh_types::events::Outgoing;
+use node_limits::{DUE_SEGMENTS, SEGMENTS};
 
 // Whether an address is that of an element.
 fn is_unicast(a: Address) -> bool
@@ -137,7 +138,7 @@ pub(crate) fn again(s: &Sending) -> Sending
 /// acknowledged, to several all of them; none before the round is due, or where the message has had all its rounds.
 pub fn round_due(now: u64, s: &Sending) -> PieceList
     ensures value { result ≡ (if is_due_in now s.now && not (is_last_in s.now) then round_in s.now else []) }
-    ensures length { length result ≤ 32 }
+    ensures length { length result ≤ SEGMENTS }
 {
     if has_round(now, s) {
         round_of(s)
@@ -148,7 +149,7 @@ pub fn round_due(now: u64, s: &Sending) -> PieceList
 
 // Puts segments of a message behind the others.
 fn push_round(list: &mut DueList, s: &Sending, round: &[u8])
-    requires { length list.old + length round.now ≤ 128 }
+    requires { length list.old + length round.now ≤ DUE_SEGMENTS }
     ensures value { list.new ≡ list.old ++ map (λ i. (s.now.message.name, i)) round.now }
     ensures length { length list.new ≡ length list.old + length round.now }
 {
@@ -159,9 +160,9 @@ fn push_round(list: &mut DueList, s: &Sending, round: &[u8])
 
 /// Puts the segments of a message that are due behind the others.
 pub(crate) fn push_due(list: &mut DueList, now: u64, s: &Sending)
-    requires { length list.old + 32 ≤ 128 }
+    requires { length list.old + SEGMENTS ≤ DUE_SEGMENTS }
     ensures value { list.new ≡ list.old ++ segments_due now s.now }
-    ensures length { length list.new ≤ length list.old + 32 }
+    ensures length { length list.new ≤ length list.old + SEGMENTS }
 {
     push_round(list, s, round_due(now, s).as_slice());
 }
