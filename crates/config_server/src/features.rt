@@ -10,10 +10,8 @@ use crate::params::{acted, address_of, put_two, replied};
 use config_definitions::acts::ConfigAct;
 use mesh_base::address::Address;
 use mesh_base::octets::Octets;
+use node_limits::{ELEMENTS, REPLAY_ENTRIES};
 use node_records::{Persist, StoreRecord};
-
-/// The number of entries of the replay list, CRPL.
-const REPLAY_ENTRIES: u16 = 512;
 
 // A reply of an opcode that begins with 80, and one octet.
 fn octet_status(opcode: u8, value: u8) -> Octets<48>
@@ -135,14 +133,14 @@ pub fn relay_set(p: &Persist, params: &[u8]) -> Option<ConfigAct>
 
 /// Composition Data Get, of any page.
 pub fn composition_get(p: &Persist, params: &[u8]) -> Option<ConfigAct>
-    requires { p.now.elements ≤ 4 }
+    requires { p.now.elements ≤ ELEMENTS }
     ensures { result ≡ composition_get (config_in p.now) params.now }
 {
     match params {
         [_page] => {
             let mut reply = Octets::new();
             reply.extend(&[0x02, 0x00]);
-            reply.extend(access_layer::composition(p.elements, REPLAY_ENTRIES).as_slice());
+            reply.extend(access_layer::composition(p.elements, REPLAY_ENTRIES as u16).as_slice());
             replied(reply)
         }
         _ => None,

@@ -21,6 +21,7 @@ use crate::publishing::{publication_get, publication_set};
 use config_definitions::acts::ConfigAct;
 use mesh_base::address::Address;
 use model_states::publication::HeartbeatRow;
+use node_limits::ELEMENTS;
 use node_records::Persist;
 use thiserror::Error;
 
@@ -32,7 +33,7 @@ pub struct Ignored;
 // Opcodes that begin with 80, up to 801a.
 #[tactic(auto, unfolding(config_definitions::specs::Answers::first_answers))]
 fn first_answers(p: &Persist, second: u8, params: &[u8]) -> Option<ConfigAct>
-    requires { p.now.elements ≤ 4 }
+    requires { p.now.elements ≤ ELEMENTS }
     ensures { result ≡ first_answers (config_in p.now) second params.now }
 {
     match second {
@@ -110,7 +111,7 @@ fn long_answer(
     beat: &HeartbeatRow,
     rest: &[u8],
 ) -> Option<ConfigAct>
-    requires { p.now.elements ≤ 4 }
+    requires { p.now.elements ≤ ELEMENTS }
     ensures { result ≡ config_answer (config_in p.now) under polls.now beat.now (0x80 ∷ rest.now) }
 {
     match rest {
@@ -137,7 +138,7 @@ fn answer_by_first(
     first: u8,
     rest: &[u8],
 ) -> Option<ConfigAct>
-    requires { p.now.elements ≤ 4 }
+    requires { p.now.elements ≤ ELEMENTS }
     ensures { result ≡ config_answer (config_in p.now) under polls.now beat.now (first ∷ rest.now) }
 {
     match first {
@@ -158,7 +159,7 @@ fn answer(
     beat: &HeartbeatRow,
     payload: &[u8],
 ) -> Option<ConfigAct>
-    requires { p.now.elements ≤ 4 }
+    requires { p.now.elements ≤ ELEMENTS }
     ensures { result ≡ config_answer (config_in p.now) under polls.now beat.now payload.now }
 {
     match payload {
@@ -171,7 +172,7 @@ fn answer(
 /// friendships with their PollTimeouts, in units of 100 ms, 24 bits; `beat` is the node's heartbeat as a Status shows it. `Ignored` comes
 /// exactly where opcode, length or a value is that of no message. A reply begins with its opcode.
 ///
-/// The node has at most 4 elements.
+/// The node has at most `ELEMENTS` elements.
 pub fn take(
     p: &Persist,
     under: u16,
@@ -179,7 +180,7 @@ pub fn take(
     beat: &HeartbeatRow,
     payload: &[u8],
 ) -> Result<ConfigAct, Ignored>
-    requires { p.now.elements ≤ 4 }
+    requires { p.now.elements ≤ ELEMENTS }
     ensures ok { IfOk result (λ act. config_answer (config_in p.now) under polls.now beat.now payload.now ≡ Some act) }
     ensures reply { IfOk result (λ act. 1 ≤ length act.reply) }
     ensures ignored { OnErr result (config_answer (config_in p.now) under polls.now beat.now payload.now ≡ None) }
