@@ -106,9 +106,9 @@ outcome_fits own n event _ _ (shows_msg {src = src} short) o f = home_source own
 outcome_fits own n event _ _ (shows_long {src = src} long) o f = home_source own src n o
 outcome_fits own n event _ _ (shows_sent {src = src} short) o f = home_source own src n o
 outcome_fits own n event _ _ (shows_sent_long {src = src} long) o f = home_source own src n o
-outcome_fits own n event _ _ (shows_first {src = src}) o f = home_source own src n o
-outcome_fits own n event _ _ (shows_seg {src = src} intime) o f = home_source own src n o
-outcome_fits own n event _ _ (shows_late late) o f = tt
+outcome_fits own n event _ _ (shows_first {s = s} first) o f = home_source own s.name.src n o
+outcome_fits own n event _ _ (shows_seg {s = s} later intime) o f = home_source own s.name.src n o
+outcome_fits own n event _ _ (shows_late later late) o f = tt
 outcome_fits own n event _ _ shows_relay o f = f
 outcome_fits own n event _ _ shows_rep o f = tt
 outcome_fits own n event _ _ shows_bcn o f = tt

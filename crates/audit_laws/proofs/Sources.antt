@@ -58,10 +58,9 @@ asked_own c r answer (Some numbers) h =
 refresh_own : (before c : Config) → Every (IsOwn c) (refresh_jobs before c)
 refresh_own before c = every_pick (IsOwn c) (list_any (is_refreshed before.nets) c.nets) _ [] (beacons_own c) tt
 
-begin_own : (c : Config) (pair : Pair) (dst src : Address) (ttl net : ℕ) (akf : Bool) (aid : ℕ) (upper : List ℕ) → is_element c src.0 ≡ true → Every (IsOwn c) (begin_jobs c pair dst src ttl net akf aid upper)
-begin_own c pair dst src ttl net akf aid upper h =
-    every_flat_any (IsOwn c) (λ seg_o. under c net (first_round_job pair dst src ttl akf aid upper seg_o))
-    (λ seg_o. every_under (IsOwn c) c net (first_round_job pair dst src ttl akf aid upper seg_o) (λ m. h)) _
+begin_own : (c : Config) (m : Outgoing) → is_element c m.name.src.0 ≡ true → Every (IsOwn c) (begin_jobs c m)
+begin_own c m h =
+    every_flat_any (IsOwn c) (λ seg_o. under c m.net (first_round_job m seg_o)) (λ seg_o. every_under (IsOwn c) c m.net (first_round_job m seg_o) (λ material. h)) _
 
 raw_own : (c : Config) (dst : Address) (ttl : ℕ) (tpdu : List ℕ) → 1 ≤ c.elements → Every (IsOwn c) (raw_jobs c dst ttl tpdu)
 raw_own c dst ttl tpdu h =
@@ -132,6 +131,6 @@ module _ (layers : Layers) (sends : SendOwn layers) (past : Past) (c : Config) (
   jobs_own (E.Raw dst ttl tpdu) insight _ h k = tt
   jobs_own (E.Tick ticks) insight (A.Ticked now) h k = tick_own ticks
   jobs_own (E.Tick ticks) insight _ h k = tt
-  jobs_own (E.Begin pair dst src ttl net akf aid upper) insight A.Begun h k = begin_own c pair dst src ttl net akf aid upper (still src.0 k)
-  jobs_own (E.Begin pair dst src ttl net akf aid upper) insight _ h k = tt
+  jobs_own (E.Begin m) insight A.Begun h k = begin_own c m (still m.name.src.0 k)
+  jobs_own (E.Begin m) insight _ h k = tt
   jobs_own (E.Kept lpn fsn name octets) insight answer h k = tt

@@ -3,6 +3,7 @@
 use Rattle.std.specs.Prelude.{ℕ, ◌+◌, ◌^◌, ◌==◌, ◌&&◌, ◌||◌, not, nat_lt, nat_le, min, Bool, true, false, if◌then◌else◌, length, take, Option, Some, None, is_some, is_none, unwrap_or}
 use Rattle.std.specs.List.{list_any, filter_map}
 use Rattle.std.specs.Option.{option_map, option_or, option_to_list}
+use Rattle.node_limits.specs.declared.TheConstants.{MESSAGES_IN_PROGRESS, OWN_MESSAGES}
 use Rattle.cipher_definitions.specs.Kdf.{virtual_address}
 use Rattle.layer_definitions.specs.IvIndex.{iv_next}
 use Rattle.layer_definitions.specs.KeyRefresh.{net_row, app_row}
@@ -154,8 +155,8 @@ is_again past n =
 -- the answer to a segment
 abbrev pub segment_answer : Layers → Past → Reading → Lower → Name → Option Answer
 segment_answer layers past r low n =
-    if not (list_any (is_name n) (layers.in_progress past)) && nat_le 8 (length (layers.in_progress past))
-    then Some (A.NoRoom (take 8 (layers.in_progress past)))
+    if not (list_any (is_name n) (layers.in_progress past)) && nat_le MESSAGES_IN_PROGRESS (length (layers.in_progress past))
+    then Some (A.NoRoom (take MESSAGES_IN_PROGRESS (layers.in_progress past)))
     else if layers.conflicts past n r low then Some A.Conflict
     else if nat_lt 0 (layers.missing past n low) then Some (A.Waiting (layers.missing past n low))
     else None
@@ -241,7 +242,7 @@ begin_answer layers past pair dst =
     let transmit = transmit_of (config_before past).iv in
     if not (pair.iv == transmit) then A.Moved transmit
     else if layers.is_befriended past dst then A.Befriended
-    else if nat_le 4 (layers.unacknowledged past) then A.SendFull (layers.unacknowledged past)
+    else if nat_le OWN_MESSAGES (layers.unacknowledged past) then A.SendFull (layers.unacknowledged past)
     else A.Begun
 
 -- after a Node Reset nothing from outside has another answer
@@ -254,5 +255,5 @@ answer_of layers past (E.Bcn octets) insight = unless_reset past (beacon_answer 
 answer_of layers past (E.Send element dst ttl key payload) insight = unless_reset past (send_answer past key)
 answer_of layers past (E.Raw dst ttl tpdu) insight = unless_reset past A.Planned
 answer_of layers past (E.Tick ticks) insight = unless_reset past (A.Ticked (later past ticks))
-answer_of layers past (E.Begin pair dst src ttl net akf aid upper) insight = begin_answer layers past pair dst
+answer_of layers past (E.Begin m) insight = begin_answer layers past m.name.pair m.dst
 answer_of layers past (E.Kept lpn fsn name pdu) insight = if layers.is_noted past lpn fsn then A.Kept else A.Dropped

@@ -28,7 +28,7 @@ abbrev pub IsOwn : Config → Job → Type 0
 IsOwn c (J.Control material ttl src dst tpdu keep) = is_element c src.0 ≡ true
 IsOwn c (J.Message net material key ttl src dst payload keep) = is_element c src.0 ≡ true
 IsOwn c (J.Sent net material key ttl src dst) = is_element c src.0 ≡ true
-IsOwn c (J.Segment material name ttl src dst seg_o seg_n tpdu first) = is_element c src.0 ≡ true
+IsOwn c (J.Segment s) = is_element c s.name.src.0 ≡ true
 IsOwn c _ = ⊤
 
 -- the elements are those of before
@@ -39,7 +39,7 @@ pub record HasElements (past : Past) (c : Config) : Type 0 where
 -- An event of this node: what it is asked to send, and a segmented message that begins, go from an element.
 abbrev pub IsOwnEvent : Config → Event → Type 0
 IsOwnEvent c (E.Send element dst ttl key payload) = element < c.elements
-IsOwnEvent c (E.Begin pair dst src ttl net akf aid upper) = is_element c src.0 ≡ true
+IsOwnEvent c (E.Begin m) = is_element c m.name.src.0 ≡ true
 IsOwnEvent c _ = ⊤
 
 abbrev pub HasOwnEvents : Past → Type 0

@@ -17,6 +17,7 @@ use Rattle.mesh_types.specs.declared.answers.Answer.{Answer}
 use Rattle.mesh_types.specs.declared.answers.Answer.TheVariants as A
 use Rattle.mesh_types.specs.declared.events.Event.{Event}
 use Rattle.mesh_types.specs.declared.events.Event.TheVariants as E
+use Rattle.mesh_types.specs.declared.events.Outgoing.{Outgoing}
 use Rattle.mesh_types.specs.declared.events.SendKey.{SendKey}
 use Rattle.mesh_types.specs.declared.events.SendKey.TheVariants as K
 use Rattle.mesh_types.specs.declared.jobs.Job.{Job}
@@ -155,16 +156,28 @@ abbrev pub raw_jobs : Config → Address → ℕ → List ℕ → List Job
 raw_jobs c dst ttl tpdu =
     option_map_or (λ net. under c net (λ m. J.Control m ttl (element_address c 0) dst tpdu None)) (first_net c) []
 
--- a segment of an own message for the first time; the first segment goes under the pair of SeqAuth
-abbrev pub first_round_job : Pair → Address → Address → ℕ → Bool → ℕ → List ℕ → ℕ → NetMaterial → Job
-first_round_job pair dst src ttl akf aid upper seg_o m =
-    J.Segment m (record { src = src; pair = pair }) ttl src dst seg_o (last_segment upper)
-    (lower_text (segment akf aid pair.seq upper seg_o)) (seg_o == 0)
+-- a segment of an own message
+abbrev pub segment_job : Bool → Outgoing → ℕ → NetMaterial → Job
+segment_job first m seg_o material =
+    J.Segment
+    (record {
+      material = material;
+      name = m.name;
+      ttl = m.ttl;
+      dst = m.dst;
+      seg_o = seg_o;
+      seg_n = last_segment m.upper;
+      tpdu = lower_text (segment m.akf m.aid m.name.pair.seq m.upper seg_o);
+      first = first;
+    })
 
-abbrev pub begin_jobs : Config → Pair → Address → Address → ℕ → ℕ → Bool → ℕ → List ℕ → List Job
-begin_jobs c pair dst src ttl net akf aid upper =
-    flat_map (λ seg_o. under c net (first_round_job pair dst src ttl akf aid upper seg_o))
-    (range_with_len 0 (last_segment upper + 1))
+-- such a segment for the first time; the first segment goes under the pair of SeqAuth
+abbrev pub first_round_job : Outgoing → ℕ → NetMaterial → Job
+first_round_job m seg_o = segment_job (seg_o == 0) m seg_o
+
+abbrev pub begin_jobs : Config → Outgoing → List Job
+begin_jobs c m =
+    flat_map (λ seg_o. under c m.net (first_round_job m seg_o)) (range_with_len 0 (last_segment m.upper + 1))
 
 unfoldable pub jobs_of : Layers → Past → Config → Event → Insight → Answer → List Job
 jobs_of layers past c (E.Net octets) insight answer = pdu_jobs layers past c insight answer
@@ -172,6 +185,5 @@ jobs_of layers past c (E.Send element dst ttl key payload) insight A.Planned =
     send_jobs layers past c element dst ttl key payload
 jobs_of layers past c (E.Raw dst ttl tpdu) insight A.Planned = raw_jobs c dst ttl tpdu
 jobs_of layers past c (E.Tick ticks) insight (A.Ticked now) = tick_jobs layers past c ticks
-jobs_of layers past c (E.Begin pair dst src ttl net akf aid upper) insight A.Begun =
-    begin_jobs c pair dst src ttl net akf aid upper
+jobs_of layers past c (E.Begin m) insight A.Begun = begin_jobs c m
 jobs_of layers past c _ insight answer = []

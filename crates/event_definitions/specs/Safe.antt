@@ -49,7 +49,7 @@ pub record IsTextHeard (past : Past) (name : Name) (octets : List ℕ) : Type 0 
 -- was sealed before, or is another node's PDU.
 abbrev pub IsFitJob : Past → Job → Type 0
 IsFitJob past (J.Relay material fields) = WasHeard past fields
-IsFitJob past (J.Segment material name ttl src dst seg_o seg_n tpdu first) = first ≡ false
+IsFitJob past (J.Segment s) = s.first ≡ false
 IsFitJob past (J.Repeat name pdu) = WasKept past name pdu ⊎ IsTextHeard past name pdu
 IsFitJob past _ = ⊤
 

@@ -1,19 +1,16 @@
 //! One record is put.
 #![tactic(auto)]
 
-ghost use Rattle.std.specs.Prelude.{◌≡◌, ◌+◌, ◌<◌, List, [], ◌∷◌, ◌++◌, true, false, Err, IsTrue, IsOk, OnOk, OnErr};
+ghost use Rattle.std.specs.Prelude.{◌≡◌, ◌+◌, List, [], ◌∷◌, ◌++◌, false, IsTrue, OnOk};
 ghost use Rattle.event_records.specs.Putting.{IsMove};
 ghost use Rattle.event_storing.specs.Storing.{advance_to, moved_to, state_said};
-ghost use Rattle.flash_model.specs.Arming.{Begins, BeginsAtMost};
-ghost use Rattle.flash_model.specs.Chip.{Keeps, LeavesOnly};
 ghost use Rattle.node_records.specs.Full.{IsFull};
-ghost use Rattle.node_records.specs.Meaning.{IsMeaningOf};
 ghost use Rattle.node_records.specs.Tables.{config_in};
 ghost use Rattle.node_store.specs.Calls.{calls_of, used_with_room};
-ghost use Rattle.node_store.specs.Tie.{HasMarkFrom, IsNoNumbers, IsNotBelow, IsPut, IsStoreOf};
+ghost use Rattle.node_store.specs.Tie.{IsNoNumbers, IsPut, IsStoreOf};
+ghost use Rattle.node_store.specs.Writing.{CostsCalls, CutLeaves, FailsAtFlash, LeavesFlash, Puts};
 ghost use Rattle.record_types.specs.declared.records.StoreRecord.{StoreRecord};
 ghost use Rattle.seq_reserve.specs.Reserving.{IsDurable, IsPublished};
-ghost use Rattle.store_definitions.specs.Config.{changed};
 ghost use Rattle.store_definitions.specs.Ranges.{IsInRange};
 
 use flash_model::Flash;
@@ -55,39 +52,20 @@ fn put_other<F: Flash>(
     requires range { IsInRange item.now }
     requires place { IsFull reserve.old.store.persist item.now → ⊥ }
 
-    ensures cause { OnErr result
-        ((result ≡ Err KeepFault.Flash) × (reserve.new.store.journal.closed ≡ true)
-        × ((F.chip flash.old).faults < (F.chip flash.new).faults)) }
-    ensures usable { OnOk result (reserve.new.store.journal.closed ≡ false) }
+    ensures fails { FailsAtFlash result KeepFault.Flash (F.chip flash.old) (F.chip flash.new) reserve.new.store }
+    ensures puts { OnOk result
+        (Puts (item.now ∷ []) (F.chip flash.old) (F.chip flash.new) reserve.old.store reserve.new.store) }
     ensures used { OnOk result (reserve.new.store.journal.used ≡ used_with_room reserve.old.store + 1) }
-    ensures change { OnOk result
-        (config_in reserve.new.store.persist ≡ changed (config_in reserve.old.store.persist) item.now) }
-    ensures meaning { (rs : List StoreRecord) → IsMeaningOf rs reserve.old.store.persist
-        → OnOk result (IsMeaningOf (rs ++ item.now ∷ []) reserve.new.store.persist) }
     ensures keeper { reserve.new.keeper ≡ reserve.old.keeper }
-    ensures published { IsPublished reserve.new.store reserve.new.keeper }
-
-    // of a store of this flash
-    ensures kept { (rs : List StoreRecord) → IsStoreOf (F.chip flash.old) reserve.old.store rs
-        → OnOk result (IsStoreOf (F.chip flash.new) reserve.new.store (rs ++ item.now ∷ [])) }
-    ensures any_moment { (rs : List StoreRecord) → IsStoreOf (F.chip flash.old) reserve.old.store rs
-        → LeavesOnly (F.chip flash.old) (F.chip flash.new) (IsPut rs item.now) }
-    ensures mark { (rs : List StoreRecord) → IsStoreOf (F.chip flash.old) reserve.old.store rs
-        → LeavesOnly (F.chip flash.old) (F.chip flash.new) (HasMarkFrom reserve.old.store.persist.mark) }
-    ensures durable { (rs : List StoreRecord) → IsStoreOf (F.chip flash.old) reserve.old.store rs
+    ensures cut { CutLeaves (λ records. IsPut records item.now) (F.chip flash.old) (F.chip flash.new) reserve.old.store }
+    ensures durable { (records : List StoreRecord) → IsStoreOf (F.chip flash.old) reserve.old.store records
         → IsDurable (F.chip flash.new) reserve.new.keeper.mark }
-
     // over a steady flash
-    ensures calls { IsTrue (F.chip flash.old).steady
-        → OnOk result (Begins (calls_of reserve.old.store) (F.chip flash.old) (F.chip flash.new)) }
-    ensures most_calls { IsTrue (F.chip flash.old).steady
-        → BeginsAtMost (calls_of reserve.old.store) (F.chip flash.old) (F.chip flash.new) }
-
-    // of every flash, honest or not
-    ensures reads { (F.chip flash.new).reads ≡ (F.chip flash.old).reads }
-    ensures no_fault { OnOk result ((F.chip flash.new).faults ≡ (F.chip flash.old).faults) }
-    ensures sure { IsTrue (F.chip flash.old).sure → IsOk result }
-    ensures frame { Keeps (F.chip flash.old) (F.chip flash.new) }
+    ensures costs { IsTrue (F.chip flash.old).steady
+        → CostsCalls (calls_of reserve.old.store) result (F.chip flash.old) (F.chip flash.new) }
+    ensures leaves { LeavesFlash result (F.chip flash.old) (F.chip flash.new) }
+    // for the next call
+    ensures published { IsPublished reserve.new.store reserve.new.keeper }
 {
     match reserve.store.put(flash, item) {
         Ok(()) => Ok(()),
@@ -110,42 +88,23 @@ pub(crate) fn store_one<F: Flash>(
     requires place { IsFull reserve.old.store.persist item.now → ⊥ }
     requires moves { IsMove (config_in reserve.old.store.persist) item.now }
 
-    ensures cause { OnErr result
-        ((result ≡ Err KeepFault.Flash) × (reserve.new.store.journal.closed ≡ true)
-        × ((F.chip flash.old).faults < (F.chip flash.new).faults)) }
-    ensures usable { OnOk result (reserve.new.store.journal.closed ≡ false) }
+    ensures fails { FailsAtFlash result KeepFault.Flash (F.chip flash.old) (F.chip flash.new) reserve.new.store }
+    ensures puts { OnOk result
+        (Puts (item.now ∷ []) (F.chip flash.old) (F.chip flash.new) reserve.old.store reserve.new.store) }
     ensures used { OnOk result (reserve.new.store.journal.used ≡ used_with_room reserve.old.store + 1) }
-    ensures change { OnOk result
-        (config_in reserve.new.store.persist ≡ changed (config_in reserve.old.store.persist) item.now) }
-    ensures meaning { (rs : List StoreRecord) → IsMeaningOf rs reserve.old.store.persist
-        → OnOk result (IsMeaningOf (rs ++ item.now ∷ []) reserve.new.store.persist) }
     ensures advanced { OnOk result
         (moved_to reserve.new.keeper
         ≡ moved_to reserve.old.keeper ++ advance_to (config_in reserve.old.store.persist) (state_said item.now)) }
+    ensures cut { CutLeaves (λ records. IsPut records item.now) (F.chip flash.old) (F.chip flash.new) reserve.old.store }
+    ensures durable { (records : List StoreRecord) → IsStoreOf (F.chip flash.old) reserve.old.store records
+        → IsDurable (F.chip flash.new) reserve.new.keeper.mark }
+    // over a steady flash
+    ensures costs { IsTrue (F.chip flash.old).steady
+        → CostsCalls (calls_of reserve.old.store) result (F.chip flash.old) (F.chip flash.new) }
+    ensures leaves { LeavesFlash result (F.chip flash.old) (F.chip flash.new) }
+    // for the next call
     ensures published { IsPublished reserve.new.store reserve.new.keeper }
     ensures made { reserve.new.keeper.which ≡ reserve.old.keeper.which }
-
-    // of a store of this flash
-    ensures kept { (rs : List StoreRecord) → IsStoreOf (F.chip flash.old) reserve.old.store rs
-        → OnOk result (IsStoreOf (F.chip flash.new) reserve.new.store (rs ++ item.now ∷ [])) }
-    ensures any_moment { (rs : List StoreRecord) → IsStoreOf (F.chip flash.old) reserve.old.store rs
-        → LeavesOnly (F.chip flash.old) (F.chip flash.new) (IsPut rs item.now) }
-    ensures mark { (rs : List StoreRecord) → IsStoreOf (F.chip flash.old) reserve.old.store rs
-        → LeavesOnly (F.chip flash.old) (F.chip flash.new) (HasMarkFrom reserve.old.store.persist.mark) }
-    ensures durable { (rs : List StoreRecord) → IsStoreOf (F.chip flash.old) reserve.old.store rs
-        → IsDurable (F.chip flash.new) reserve.new.keeper.mark }
-
-    // over a steady flash
-    ensures calls { IsTrue (F.chip flash.old).steady
-        → OnOk result (Begins (calls_of reserve.old.store) (F.chip flash.old) (F.chip flash.new)) }
-    ensures most_calls { IsTrue (F.chip flash.old).steady
-        → BeginsAtMost (calls_of reserve.old.store) (F.chip flash.old) (F.chip flash.new) }
-
-    // of every flash, honest or not
-    ensures reads { (F.chip flash.new).reads ≡ (F.chip flash.old).reads }
-    ensures no_fault { OnOk result ((F.chip flash.new).faults ≡ (F.chip flash.old).faults) }
-    ensures sure { IsTrue (F.chip flash.old).sure → IsOk result }
-    ensures frame { Keeps (F.chip flash.old) (F.chip flash.new) }
 {
     match state(item) {
         Some(to) => reserve.move_iv(n, flash, &to),

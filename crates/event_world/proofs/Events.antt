@@ -108,8 +108,8 @@ own_silent past (E.Tick ticks) i h = absurd h
 own_silent past (E.Send element dst ttl key payload) i h =
     record { nameless = tt; none = silent_none _ (nothing_silent node_layers past (E.Send element dst ttl key payload)) }
 own_silent past (E.Raw dst ttl tpdu) i h = record { nameless = tt; none = silent_none _ (nothing_silent node_layers past (E.Raw dst ttl tpdu)) }
-own_silent past (E.Begin pair dst src ttl net akf aid upper) i h =
-    record { nameless = tt; none = silent_none _ (nothing_silent node_layers past (E.Begin pair dst src ttl net akf aid upper)) }
+own_silent past (E.Begin m) i h =
+    record { nameless = tt; none = silent_none _ (nothing_silent node_layers past (E.Begin m)) }
 own_silent past (E.Kept lpn fsn name pdu) i h =
     record { nameless = tt; none = silent_none _ (nothing_silent node_layers past (E.Kept lpn fsn name pdu)) }
 
@@ -227,8 +227,8 @@ module _ (safe : AreSafe node_layers) (w : World) (past : Past) (p q : Persist) 
   goes_now (E.Send element dst ttl key payload) i sees moves after =
       by_silence (E.Send element dst ttl key payload) i (own_silent past (E.Send element dst ttl key payload) i tt) moves after
   goes_now (E.Raw dst ttl tpdu) i sees moves after = by_silence (E.Raw dst ttl tpdu) i (own_silent past (E.Raw dst ttl tpdu) i tt) moves after
-  goes_now (E.Begin pair dst src ttl net akf aid upper) i sees moves after =
-      by_silence (E.Begin pair dst src ttl net akf aid upper) i (own_silent past (E.Begin pair dst src ttl net akf aid upper) i tt) moves after
+  goes_now (E.Begin m) i sees moves after =
+      by_silence (E.Begin m) i (own_silent past (E.Begin m) i tt) moves after
   goes_now (E.Kept lpn fsn name pdu) i sees moves after =
       by_silence (E.Kept lpn fsn name pdu) i (own_silent past (E.Kept lpn fsn name pdu) i tt) moves after
 

@@ -112,7 +112,7 @@ ready_after m ready =
 
 pub event_sendable : (elements : ℕ) (event : Event) (p : Persist) → IsAfter elements p → IsEvent elements event → IsSendable (config_in p) event
 event_sendable elements (E.Send element dst ttl key payload) p after h = (omega (arith, h.0, after.same, after.unicast), h.3, h.5)
-event_sendable elements (E.Begin pair dst src ttl net akf aid upper) p after h =
+event_sendable elements (E.Begin m) p after h =
     record { least = h.4; seq = h.0; ttl = h.1; aid = h.2; device = h.3 }
 event_sendable elements (E.Net octets) p after h = tt
 event_sendable elements (E.Bcn octets) p after h = tt

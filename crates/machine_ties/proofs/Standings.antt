@@ -50,7 +50,7 @@ stores_inside past (E.Bcn octets) insight answer e = absurd (true≢false e)
 stores_inside past (E.Send element dst ttl key payload) insight answer e = absurd (true≢false e)
 stores_inside past (E.Raw dst ttl tpdu) insight answer e = absurd (true≢false e)
 stores_inside past (E.Tick ticks) insight answer e = absurd (true≢false e)
-stores_inside past (E.Begin pair dst src ttl net akf aid upper) insight answer e = refl
+stores_inside past (E.Begin m) insight answer e = refl
 stores_inside past (E.Kept lpn fsn name octets) insight answer e = refl
 
 take_nil : {A : Type 0} (n : ℕ) → take {A = A} n [] ≡ []

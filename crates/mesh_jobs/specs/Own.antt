@@ -11,7 +11,7 @@ use Rattle.store_definitions.specs.Config.{Config}
 abbrev pub IsSingle : Config → Event → Type 0
 IsSingle c (E.Net octets) = ⊥
 IsSingle c (E.Tick ticks) = ⊥
-IsSingle c (E.Begin pair dst src ttl net akf aid upper) = ⊥
+IsSingle c (E.Begin m) = ⊥
 IsSingle c (E.Send element dst ttl key payload) = c.unicast.0 + element < 2 ^ 16
 IsSingle c _ = ⊤
 

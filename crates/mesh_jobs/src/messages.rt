@@ -19,12 +19,11 @@ use crate::making::push_made;
 use crate::replies::is_stored;
 use crate::segments::push_first_round;
 use app_keys::AppKeys;
-use layer_states::sending::Outgoing;
 use mesh_base::address::Address;
 use mesh_base::keys::UpperKey;
 use mesh_base::octets::Octets;
 use mesh_types::answers::Answer;
-use mesh_types::events::{Event, SendKey};
+use mesh_types::events::{Event, Outgoing, SendKey};
 use mesh_types::jobs::{Job, JobDraft, Jobs};
 use net_keys::NetKeys;
 use node_records::Persist;
@@ -190,8 +189,7 @@ pub fn begin_jobs(
     requires outgoing { IsOutgoing m.now }
     ensures value { (layers : Layers) (past : Past) (insight : Insight)
         → result ≡ jobs_of layers past (config_in p.now)
-        (E.Begin m.now.name.pair m.now.dst m.now.name.src m.now.ttl m.now.net m.now.akf m.now.aid m.now.upper)
-        insight answer.now }
+        (E.Begin m.now) insight answer.now }
     ensures few { length result ≤ 32 }
 {
     if let Answer::Begun = answer {

@@ -4,6 +4,7 @@ use Rattle.std.proofs.Common.{◌≡◌, ℕ, zero, suc, ◌+◌, lit<, lit≤, 
 use Rattle.std.specs.List.{AllByRecursion}
 use Rattle.std.proofs.lemmas.Bool.{true≢false}
 use Rattle.mesh_base.specs.IvState.{transmit_of}
+use Rattle.mesh_base.specs.declared.pair.Name.{Name}
 use Rattle.mesh_types.specs.declared.answers.Answer.TheVariants as A
 use Rattle.mesh_types.specs.declared.events.Event.TheVariants as E
 use Rattle.mesh_types.specs.declared.history.Entry.{Entry}
@@ -42,15 +43,28 @@ use Rattle.needed_rules.proofs.NeededNames.{nothing_drawn}
 abbrev upper : ℕ → List ℕ
 upper octet = 1 ∷ 2 ∷ 3 ∷ 4 ∷ octet ∷ []
 
+abbrev name : Name
+name = record { src = address 0x1201; pair = pair 0 }
+
 abbrev begin_job : ℕ → Job
 begin_job octet =
-    J.Segment material (record { src = address 0x1201; pair = pair 0 }) 7 (address 0x1201) (address 3) 0 0 (lower_text (segment false 0 0 (upper octet) 0)) true
+    J.Segment
+    (record {
+      material = material;
+      name = name;
+      ttl = 7;
+      dst = address 3;
+      seg_o = 0;
+      seg_n = 0;
+      tpdu = lower_text (segment false 0 0 (upper octet) 0);
+      first = true;
+    })
 
 abbrev begin_entry : ℕ → ℕ → Entry
 begin_entry number octet = record {
   bearer = 0;
   number = number;
-  event = E.Begin (pair 0) (address 3) (address 0x1201) 7 0 false 0 (upper octet);
+  event = E.Begin (record { name = name; dst = address 3; ttl = 7; net = 0; akf = false; aid = 0; upper = upper octet });
   fills = 0;
   answer = A.Begun;
   jobs = begin_job octet ∷ [];

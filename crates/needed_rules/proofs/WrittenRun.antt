@@ -246,7 +246,7 @@ begun = entry_at 3 fourth_told
 
 -- from the `begin` entry on
 last_walk : Walks (follow begin_event ∷ []) (begun ∷ []) (slice_range lines 2 3) rest_tasks
-last_walk = follows begun (writes shows_first stops)
+last_walk = follows begun (writes (shows_first refl) stops)
 
 -- after the line of the message
 long_walk : Walks (map follow (after_line (J.Sent 0 material (U.Device dev_key) 7 (address 0x1201) (address 3)) (O.Long (pair 0) 7 (address 0x1201) (address 3) N.Dev said)) ++ []) (begun ∷ [])

@@ -102,8 +102,17 @@ said_name = record { src = address 0x1201; pair = pair 0 }
 
 abbrev pub said_segment : ℕ → Bool → Job
 said_segment seg_o first =
-    J.Segment material said_name 7 (address 0x1201) (address 3) seg_o 1
-    (lower_text (segment false 0 0 said_upper seg_o)) first
+    J.Segment
+    (record {
+      material = material;
+      name = said_name;
+      ttl = 7;
+      dst = address 3;
+      seg_o = seg_o;
+      seg_n = 1;
+      tpdu = lower_text (segment false 0 0 said_upper seg_o);
+      first = first;
+    })
 
 -- The events, and the entries of them.
 
@@ -117,7 +126,17 @@ abbrev pub said_event : Event
 said_event = E.Send 0 (address 3) 7 K.Own said
 
 abbrev pub begin_event : Event
-begin_event = E.Begin (pair 0) (address 3) (address 0x1201) 7 0 false 0 said_upper
+begin_event =
+    E.Begin
+    (record {
+      name = said_name;
+      dst = address 3;
+      ttl = 7;
+      net = 0;
+      akf = false;
+      aid = 0;
+      upper = said_upper;
+    })
 
 abbrev pub entries : List Entry
 entries =

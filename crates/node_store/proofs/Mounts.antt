@@ -34,6 +34,10 @@ module _ {T E : Type 0} where
   err_of (Ok x) e h = absurd h
   err_of (Err x) e h = ap (λ y. Err y) h
 
+  pub on_ok_none : (r : Result T E) (e : E) → IsErrAnd r (λ x. x ≡ e) → (P : Type 0) → OnOk r P
+  on_ok_none (Ok x) e h P = absurd h
+  on_ok_none (Err x) e h P = tt
+
   pub if_err_all : (r : Result T E) (P : E → Type 0) → ((e : E) → P e) → IfErr r P
   if_err_all (Ok x) P all = tt
   if_err_all (Err e) P all = all e

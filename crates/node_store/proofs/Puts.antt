@@ -1,25 +1,28 @@
 -- A put, over the chip before and after.
-use Rattle.std.proofs.Common.{◌≡◌, ◌⊎◌, inl, inr, ⊎_elim, ℕ, ◌≤◌, List, [], ◌∷◌, ◌++◌, Some, ap, sym, subst, ◌∙◌, arith}
-use Rattle.std.specs.Prelude.{map, option_map}
-use Rattle.std.proofs.lemmas.List.{map-append}
+use Rattle.std.proofs.Common.{◌≡◌, ◌⊎◌, inl, inr, ⊎_elim, ℕ, ◌≤◌, List, [], ◌∷◌, ◌++◌, Some, false, refl, ap, sym, subst, ◌∙◌, arith}
+use Rattle.std.specs.Prelude.{fold, map, option_map}
+use Rattle.std.proofs.lemmas.List.{append-nil, map-append}
 use Rattle.std.proofs.lemmas.List.Elements.{All-push}
 use Rattle.flash_model.specs.Chip.{Chip, LeavesOnly}
 use Rattle.flash_model.proofs.Leaves.{leaves_join, leaves_weaker}
 use Rattle.slot_definitions.specs.Slots.{Held, held_by, recovered}
 use Rattle.record_types.specs.declared.records.StoreRecord.{StoreRecord}
 use Rattle.store_definitions.specs.Alike.{IsAlike}
-use Rattle.store_definitions.specs.Config.{Config}
+use Rattle.store_definitions.specs.Config.{Config, changed}
 use Rattle.store_definitions.specs.Following.{Follows}
 use Rattle.store_definitions.specs.Ranges.{IsInRange}
 use Rattle.store_definitions.specs.Recovered.{record_text, IsRecovered}
 use Rattle.node_records.specs.Full.{IsFull}
+use Rattle.node_records.specs.declared.persist.Persist.{Persist}
 use Rattle.node_records.specs.Meaning.{IsMeaningOf}
+use Rattle.node_records.specs.Tables.{config_in}
 use Rattle.node_records.proofs.Alike.{alike_push}
 use Rattle.node_records.proofs.Room.{full_passes}
 use Rattle.slot_journal.specs.Tie.{IsAppended, IsJournalOf, with_last}
 use Rattle.node_store.specs.Mounted.{IsRead}
 use Rattle.node_store.specs.Tie.{HasMark, HasMarkFrom, Holds, IsExactly, IsHeld, IsNoNumbers, IsNotBelow, IsPut, IsStoreOf}
 use Rattle.node_store.specs.View.{StoreView}
+use Rattle.node_store.specs.Writing.{CutLeaves, Puts}
 use Rattle.node_store.proofs.Follows.{mark_before, mark_from, mark_same, not_below_current, rises_of}
 use Rattle.node_store.proofs.Holding.{holds_recovered, store_images, store_meaning}
 use Rattle.node_store.proofs.Orders.{in_order_push}
@@ -136,3 +139,42 @@ module _ (chip : Chip) (store : StoreView) (records : List StoreRecord) (item : 
 -- it is durable
 pub put_durable : (chip : Chip) (store : StoreView) (records : List StoreRecord) → IsStoreOf chip store records → (c : List ℕ) → chip.images c → Holds c records
 put_durable chip store records tie c image = (store_images chip store records tie c image).holds
+
+-- The words of a call that puts.
+
+pub puts_of : (items : List StoreRecord) (old new : Chip) (before after : StoreView) → after.journal.closed ≡ false
+    → config_in after.persist ≡ fold changed (config_in before.persist) items
+    → ((records : List StoreRecord) → IsMeaningOf records before.persist → IsMeaningOf (records ++ items) after.persist)
+    → ((records : List StoreRecord) → IsStoreOf old before records → IsStoreOf new after (records ++ items)) → Puts items old new before after
+puts_of items old new before after usable change value kept = record {
+  usable = usable;
+  change = change;
+  value = value;
+  kept = kept;
+  durable = λ records tie. put_durable new after (records ++ items) (kept records tie);
+}
+
+-- where there is none to put
+pub puts_none : (chip : Chip) (store : StoreView) → store.journal.closed ≡ false → Puts [] chip chip store store
+puts_none chip store usable =
+    puts_of [] chip chip store store usable refl
+    (λ records meaning. subst (λ (l : List StoreRecord). IsMeaningOf l store.persist) (sym (append-nil records)) meaning)
+    (λ records tie. subst (λ (l : List StoreRecord). IsStoreOf chip store l) (sym (append-nil records)) tie)
+
+-- room is made before
+pub room_puts : (items : List StoreRecord) (old mid new : Chip) (before between after : StoreView) → between.persist ≡ before.persist
+    → ((records : List StoreRecord) → IsStoreOf old before records → IsStoreOf mid between records) → Puts items mid new between after → Puts items old new before after
+room_puts items old mid new before between after stays there puts = record {
+  usable = puts.usable;
+  change = puts.change ∙ ap (λ (p : Persist). fold changed (config_in p) items) stays;
+  value = λ records meaning. puts.value records (subst (λ (p : Persist). IsMeaningOf records p) (sym stays) meaning);
+  kept = λ records tie. puts.kept records (there records tie);
+  durable = λ records tie. puts.durable records (there records tie);
+}
+
+pub put_cut : (old new : Chip) (store : StoreView) (item : StoreRecord) → IsNotBelow store.persist item
+    → ((records : List StoreRecord) → IsStoreOf old store records → LeavesOnly old new (IsPut records item)) → CutLeaves (λ records. IsPut records item) old new store
+put_cut old new store item rises leaves = record {
+  any_moment = leaves;
+  mark = λ records tie. put_mark old store records item tie old new rises (leaves records tie);
+}

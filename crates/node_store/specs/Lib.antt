@@ -7,3 +7,4 @@ pub mod Provisioning
 pub mod Several
 pub mod Tie
 pub mod View
+pub mod Writing

@@ -35,18 +35,20 @@
 //!    numbers are in range (`HasNumbers`: `numbers` of `persist`).
 //! 2. At most 1,023 slots are used (`few` of `used`).
 //! 3. A store that is closed takes no record, and a record that isn't taken changes nothing that the store says (`closed`, `refused`).
-//! 4. Ok leaves the count of faults, and `Flash` comes only where it rose (`no_fault`, `cause`).
+//! 4. Ok leaves the count of faults, and `Flash` comes only where it rose (`leaves.no_fault` and `fails.cause` of `put`).
 //!
 //! Of a store and its flash, where that is honest:
 //!
 //! 5. What is read is the one image of the flash, it is read as some records, and the store says what they say (`IsExactly`). A caller's list
-//!    is one that says the same (`IsStoreOf`): `provision` and `mount` give that, and each Ok keeps it (`kept`).
+//!    is one that says the same (`IsStoreOf`): `provision` and `mount` give that, and each Ok keeps it (`puts.kept` of `put`).
 //! 6. Every image at every moment is tidy (`IsTidy`), so that a header which doesn't count can't come to count by an erase that is cut; and
-//!    but for `provision` it holds the records of before, or those with a front of the new ones (`any_moment`; `IsHeld`, `IsPut`, `IsFront`).
+//!    but for `provision` it holds the records of before, or those with a front of the new ones (`cut.any_moment` of `put`; `IsHeld`,
+//!    `IsPut`, `IsFront`).
 //! 7. In each such image each record may follow those before it (`IsRead`, `AreInOrder`): no table outgrows its size, and the known IV Index
 //!    doesn't fall. So it is mounted again, unless there was a Node Reset (`stands`, `was_reset` of `held_law`).
-//! 8. The mark that is recovered doesn't fall (`mark`; `HasMarkFrom`), and only a Numbers record moves it (`same_mark`; `HasMark`).
-//! 9. After Ok every image holds the new record (`durable`).
+//! 8. The mark that is recovered doesn't fall (`cut.mark` of `put`; `HasMarkFrom`), and only a Numbers record moves it (`same_mark`;
+//!    `HasMark`).
+//! 9. After Ok every image holds the new record (`puts.durable` of `put`).
 //!
 //! # What a cut leaves, case by case
 //!
@@ -57,13 +59,13 @@
 //!    the header's gate: `NoNode`, or the node (`any_moment` of `provision`, `IsMade`). Where an octet isn't ff by then, the flash has to be
 //!    erased before it is provisioned again (`erased` of `provision`).
 //! 2. In the first call of a put, the 31 octets of a slot: its gate is ff, so it holds nothing. It is used where an octet isn't ff, and the
-//!    next record goes behind it. The records of before (`any_moment` of `put`, `IsPut`; `worked/made.py`, a cut at each call of a message).
+//!    next record goes behind it. The records of before (`cut.any_moment` of `put`, `IsPut`; `worked/made.py`, a cut at each call of a message).
 //! 3. In the second call, its gate: other than 00, as in case 2; or 00, and these records with the new one, though `put` answered `Flash`
 //!    (the same clause and scripts).
-//! 4. Among several records: those of before with the first few of the new ones behind them (`any_moment` of `put_all`, `IsFront`;
+//! 4. Among several records: those of before with the first few of the new ones behind them (`cut.any_moment` of `put_all`, `IsFront`;
 //!    the same scripts).
 //! 5. In an erase of a compaction: of the bank that doesn't count each bit is the old one or 1, and its header doesn't come to count by that
-//!    (`IsTidy`). The records of before, from the other bank (`any_moment` of `put`, `IsPut`; `worked/stored.py`, a cut at each call of a
+//!    (`IsTidy`). The records of before, from the other bank (`cut.any_moment` of `put`, `IsPut`; `worked/stored.py`, a cut at each call of a
 //!    compaction).
 //! 6. In a slot of a compaction: that bank's header is blank. As case 5.
 //! 7. In the header of a compaction: its gate isn't 00, as case 5; or it is, and the new bank counts, whose records say the same (`Holds`).
@@ -73,7 +75,7 @@
 //!    mount begins anew, but for one behind the whole header, which writes nothing (`stays`).
 //! 9. A second cut, of what is done anew behind a first: what a cut leaves is tidy and holds records, so all of this is said of it again
 //!    (`kept` of `mount`; the scripts of cases 5 and 8, each of which is cut twice).
-//! 10. Between two calls, the last of which was Ok: its records, the new one last (`durable`; `the_octets_of_a_node`).
+//! 10. Between two calls, the last of which was Ok: its records, the new one last (`puts.durable` of `put`; `the_octets_of_a_node`).
 //!
 //! What no cut leaves is damage, `Damaged` with the first slot that is so (`cause`, `exact` of `mount`; `IsDamaged`): a gated slot that is no
 //! record of the bank's format, that makes a table grow past its size, or that lowers the known IV Index (`what_is_mounted`,

@@ -1,6 +1,5 @@
 // A node is provisioned: its first records are written onto an erased flash.
 ghost use Rattle.std.specs.Prelude.{◌≡◌, List, false, IsTrue, IfOk, IfErr, OnOk, ℕ, ◌*◌, ◌^◌, ◌<◌, All, map, slice_index};
-ghost use Rattle.flash_model.specs.Arming.{Begins, BeginsAtMost};
 ghost use Rattle.flash_model.specs.Chip.{IsFresh, Keeps, LeavesOnly, Stays};
 ghost use Rattle.node_records.specs.Meaning.{IsMeaningOf, IsSaid};
 ghost use Rattle.store_definitions.specs.Ranges.{IsInRange};
@@ -12,6 +11,7 @@ ghost use Rattle.slot_journal.specs.Format.{IsErased};
 ghost use Rattle.node_store.specs.Provisioning.{IsProvision, provisioning, state_of};
 ghost use Rattle.node_store.specs.Mounted.{IsOldNode};
 ghost use Rattle.node_store.specs.Tie.{IsExactly, IsMade, IsStoreOf};
+ghost use Rattle.node_store.specs.Writing.{CostsCalls};
 
 use crate::store::Store;
 use flash_model::Flash;
@@ -81,10 +81,8 @@ impl Store {
         ensures any_moment { IsFresh (F.chip flash.old) → IsErased (F.chip flash.old).now
             → LeavesOnly (F.chip flash.old) (F.chip flash.new) (IsMade (provisioned (provisioning p.now))) }
 
-        // over a steady flash: two program calls for each record and two for the header, and at most these where it fails
-        ensures calls { IsTrue (F.chip flash.old).steady
-            → OnOk result (Begins 8 (F.chip flash.old) (F.chip flash.new)) }
-        ensures most_calls { IsTrue (F.chip flash.old).steady → BeginsAtMost 8 (F.chip flash.old) (F.chip flash.new) }
+        // over a steady flash: two program calls for each record and two for the header
+        ensures costs { IsTrue (F.chip flash.old).steady → CostsCalls 8 result (F.chip flash.old) (F.chip flash.new) }
 
         // of every flash, honest or not
         ensures no_fault { OnOk result ((F.chip flash.new).faults ≡ (F.chip flash.old).faults) }
@@ -117,9 +115,7 @@ impl Store {
             → LeavesOnly (F.chip flash.old) (F.chip flash.new) (IsMade (provisioned (provisioning p.now))) }
 
         // over a steady flash: as many calls as `provision` makes
-        ensures calls { IsTrue (F.chip flash.old).steady
-            → OnOk result (Begins 8 (F.chip flash.old) (F.chip flash.new)) }
-        ensures most_calls { IsTrue (F.chip flash.old).steady → BeginsAtMost 8 (F.chip flash.old) (F.chip flash.new) }
+        ensures costs { IsTrue (F.chip flash.old).steady → CostsCalls 8 result (F.chip flash.old) (F.chip flash.new) }
 
         // of every flash, honest or not
         ensures no_fault { OnOk result ((F.chip flash.new).faults ≡ (F.chip flash.old).faults) }

@@ -1,28 +1,24 @@
 // Room for a record: where all slots of the bank are used, the records that say the same are written into the other bank. Then the record
 // is added.
-ghost use Rattle.std.specs.Prelude.{◌≡◌, ℕ, ◌+◌, ◌<◌, ◌≤◌, List, [], ◌∷◌, ◌++◌, length, true, false, IsTrue, IsOk, OnOk, OnErr};
-ghost use Rattle.flash_model.specs.Arming.{Begins, BeginsAtMost};
-ghost use Rattle.flash_model.specs.Chip.{Keeps, LeavesOnly};
+ghost use Rattle.std.specs.Prelude.{◌≡◌, ◌+◌, ◌<◌, ◌≤◌, List, [], ◌∷◌, length, true, false, IsTrue, IsOk, OnOk, OnErr};
+ghost use Rattle.flash_model.specs.Chip.{LeavesOnly};
 ghost use Rattle.record_types.specs.declared.records.StoreRecord.{StoreRecord};
-ghost use Rattle.node_records.specs.Meaning.{IsMeaningOf, IsSaid};
+ghost use Rattle.node_records.specs.Meaning.{IsSaid};
 ghost use Rattle.node_records.specs.Full.{IsFull};
-ghost use Rattle.node_records.specs.Tables.{config_in};
 ghost use Rattle.node_snapshot.specs.Snapshot.{snapshot_of};
-ghost use Rattle.store_definitions.specs.Config.{changed};
 ghost use Rattle.store_definitions.specs.Ranges.{IsInRange};
 ghost use Rattle.node_store.specs.Calls.{compaction, room_of, used_with_room};
 ghost use Rattle.node_store.specs.Tie.{IsExactly, IsHeld, IsNotBelow, IsPut, IsStoreOf};
+ghost use Rattle.node_store.specs.Writing.{CostsCalls, LeavesFlash, Puts};
 
 use crate::store::Store;
 use flash_model::{Flash, FlashFailed};
+use node_limits::{BANK_RECORDS, COMPACTION_CALLS, SNAPSHOT_RECORDS};
 use node_records::Persist;
 use node_snapshot::snapshot;
 use record_texts::encode;
 use record_types::records::StoreRecord;
 use slot_journal::Journal;
-
-/// Slots of a bank that hold records.
-const ROOM: u32 = 1023;
 
 /// Compacts a journal to the records that say a value anew. At `Ok` they are durable. In every image that a cut at any moment leaves, the
 /// records say the same.
@@ -35,24 +31,20 @@ pub fn compact<F: Flash>(
     requires usable { journal.old.closed ≡ false }
     ensures usable { OnOk result (journal.new.closed ≡ false) }
     ensures used { OnOk result (journal.new.used ≡ length (snapshot_of persist.now)) }
-    ensures few { length (snapshot_of persist.now) ≤ 404 }
+    ensures few { length (snapshot_of persist.now) ≤ SNAPSHOT_RECORDS }
     ensures format { OnOk result (journal.new.version ≡ 2) }
     ensures closed { OnErr result (journal.new ≡ record journal.old { closed = true }) }
     ensures cause { OnErr result ((F.chip flash.old).faults < (F.chip flash.new).faults) }
+    ensures sure { IsTrue (F.chip flash.old).sure → IsOk result }
     ensures kept { (found : List StoreRecord)
         → IsExactly (F.chip flash.old) (record { journal = journal.old; persist = persist.now }) found
         → OnOk result (IsStoreOf (F.chip flash.new) (record { journal = journal.new; persist = persist.now }) found) }
     ensures any_moment { (found : List StoreRecord)
         → IsExactly (F.chip flash.old) (record { journal = journal.old; persist = persist.now }) found
         → LeavesOnly (F.chip flash.old) (F.chip flash.new) (IsHeld found) }
-    ensures calls { IsTrue (F.chip flash.old).steady
-        → OnOk result (Begins (compaction persist.now) (F.chip flash.old) (F.chip flash.new)) }
-    ensures most_calls { IsTrue (F.chip flash.old).steady
-        → BeginsAtMost (compaction persist.now) (F.chip flash.old) (F.chip flash.new) }
-    ensures reads { (F.chip flash.new).reads ≡ (F.chip flash.old).reads }
-    ensures no_fault { OnOk result ((F.chip flash.new).faults ≡ (F.chip flash.old).faults) }
-    ensures sure { IsTrue (F.chip flash.old).sure → IsOk result }
-    ensures frame { Keeps (F.chip flash.old) (F.chip flash.new) }
+    ensures costs { IsTrue (F.chip flash.old).steady
+        → CostsCalls (compaction persist.now) result (F.chip flash.old) (F.chip flash.new) }
+    ensures leaves { LeavesFlash result (F.chip flash.old) (F.chip flash.new) }
 {
     let slots = snapshot(persist);
     match journal.compact(flash, slots.as_slice()) {
@@ -71,21 +63,17 @@ impl Store {
         ensures room { OnOk result (self.new.journal.used < 1023) }
         ensures closed { OnErr result (self.new.journal.closed ≡ true) }
         ensures cause { OnErr result ((F.chip flash.old).faults < (F.chip flash.new).faults) }
+        ensures sure { IsTrue (F.chip flash.old).sure → IsOk result }
         ensures kept { (records : List StoreRecord) → IsStoreOf (F.chip flash.old) self.old records
             → OnOk result (IsStoreOf (F.chip flash.new) self.new records) }
         ensures any_moment { (records : List StoreRecord) → IsStoreOf (F.chip flash.old) self.old records
             → LeavesOnly (F.chip flash.old) (F.chip flash.new) (IsHeld records) }
-        ensures calls { IsTrue (F.chip flash.old).steady
-            → OnOk result (Begins (room_of self.old) (F.chip flash.old) (F.chip flash.new)) }
-        ensures most_calls { IsTrue (F.chip flash.old).steady
-            → BeginsAtMost (room_of self.old) (F.chip flash.old) (F.chip flash.new) }
-        ensures bounded { room_of self.old ≤ 818 }
-        ensures reads { (F.chip flash.new).reads ≡ (F.chip flash.old).reads }
-        ensures no_fault { OnOk result ((F.chip flash.new).faults ≡ (F.chip flash.old).faults) }
-        ensures sure { IsTrue (F.chip flash.old).sure → IsOk result }
-        ensures frame { Keeps (F.chip flash.old) (F.chip flash.new) }
+        ensures costs { IsTrue (F.chip flash.old).steady
+            → CostsCalls (room_of self.old) result (F.chip flash.old) (F.chip flash.new) }
+        ensures bounded { room_of self.old ≤ COMPACTION_CALLS }
+        ensures leaves { LeavesFlash result (F.chip flash.old) (F.chip flash.new) }
     {
-        if self.journal.used() < ROOM {
+        if self.journal.used() < BANK_RECORDS {
             return Ok(());
         }
         compact(&mut self.journal, &self.persist, flash)
@@ -102,26 +90,16 @@ impl Store {
         requires place { ¬ IsFull self.old.persist item.now }
         requires usable { self.old.journal.closed ≡ false }
         requires room { self.old.journal.used < 1023 }
-        ensures usable { OnOk result (self.new.journal.closed ≡ false) }
+        ensures puts { OnOk result (Puts (item.now ∷ []) (F.chip flash.old) (F.chip flash.new) self.old self.new) }
         ensures used { OnOk result (self.new.journal.used ≡ self.old.journal.used + 1) }
         ensures refused { OnErr result (self.new.persist ≡ self.old.persist) }
         ensures closed { OnErr result (self.new.journal.closed ≡ true) }
         ensures cause { OnErr result ((F.chip flash.old).faults < (F.chip flash.new).faults) }
-        ensures change { OnOk result (config_in self.new.persist ≡ changed (config_in self.old.persist) item.now) }
-        ensures value { OnOk result
-            ((records : List StoreRecord) → IsMeaningOf records self.old.persist
-            → IsMeaningOf (records ++ item.now ∷ []) self.new.persist) }
-        ensures kept { (records : List StoreRecord) → IsStoreOf (F.chip flash.old) self.old records
-            → OnOk result (IsStoreOf (F.chip flash.new) self.new (records ++ item.now ∷ [])) }
+        ensures sure { IsTrue (F.chip flash.old).sure → IsOk result }
         ensures any_moment { (records : List StoreRecord) → IsStoreOf (F.chip flash.old) self.old records
             → LeavesOnly (F.chip flash.old) (F.chip flash.new) (IsPut records item.now) }
-        ensures calls { IsTrue (F.chip flash.old).steady
-            → OnOk result (Begins 2 (F.chip flash.old) (F.chip flash.new)) }
-        ensures most_calls { IsTrue (F.chip flash.old).steady → BeginsAtMost 2 (F.chip flash.old) (F.chip flash.new) }
-        ensures reads { (F.chip flash.new).reads ≡ (F.chip flash.old).reads }
-        ensures no_fault { OnOk result ((F.chip flash.new).faults ≡ (F.chip flash.old).faults) }
-        ensures sure { IsTrue (F.chip flash.old).sure → IsOk result }
-        ensures frame { Keeps (F.chip flash.old) (F.chip flash.new) }
+        ensures costs { IsTrue (F.chip flash.old).steady → CostsCalls 2 result (F.chip flash.old) (F.chip flash.new) }
+        ensures leaves { LeavesFlash result (F.chip flash.old) (F.chip flash.new) }
     {
         let slot = encode(item);
         let Ok(()) = self.journal.append(flash, &slot) else {

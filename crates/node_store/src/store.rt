@@ -1,18 +1,18 @@
 // The store: the journal that keeps its records, and what they say.
-ghost use Rattle.std.specs.Prelude.{◌≡◌, ℕ, ◌+◌, ◌<◌, ◌≤◌, List, [], ◌∷◌, ◌++◌, true, false, Err, IsTrue, IsOk, OnOk, OnErr};
-ghost use Rattle.flash_model.specs.Arming.{Begins, BeginsAtMost};
-ghost use Rattle.flash_model.specs.Chip.{Keeps, LeavesOnly};
+ghost use Rattle.std.specs.Prelude.{◌≡◌, ◌+◌, ◌≤◌, List, [], ◌∷◌, true, false, Err, IsTrue, OnOk, OnErr};
+ghost use Rattle.flash_model.specs.Arming.{BeginsAtMost};
+ghost use Rattle.flash_model.specs.Chip.{LeavesOnly};
 ghost use Rattle.record_types.specs.declared.records.StoreRecord.{StoreRecord};
-ghost use Rattle.node_records.specs.Meaning.{IsMeaningOf, IsSaid};
+ghost use Rattle.node_records.specs.Meaning.{IsSaid};
 ghost use Rattle.node_records.specs.Full.{IsFull, held_for};
-ghost use Rattle.node_records.specs.Tables.{config_in};
-ghost use Rattle.store_definitions.specs.Config.{changed};
 ghost use Rattle.store_definitions.specs.Ranges.{IsInRange};
 ghost use Rattle.node_store.specs.Calls.{calls_of, used_with_room};
 ghost use Rattle.node_store.specs.Numbers.{HasNumbers};
-ghost use Rattle.node_store.specs.Tie.{HasMark, HasMarkFrom, Holds, IsNoNumbers, IsNotBelow, IsPut, IsStoreOf};
+ghost use Rattle.node_store.specs.Tie.{HasMark, IsNoNumbers, IsNotBelow, IsPut, IsStoreOf};
+ghost use Rattle.node_store.specs.Writing.{CostsCalls, CutLeaves, FailsAtFlash, LeavesFlash, OnlyAnswers, Puts};
 
 use flash_model::{Flash, FlashFailed};
+use node_limits::PUT_CALLS;
 use node_records::laws::value_law;
 use node_records::{Limit, Persist};
 use record_types::records::StoreRecord;
@@ -104,11 +104,11 @@ impl Store {
         self.journal.is_closed()
     }
 
-    /// Puts a record behind the others. At `Ok` it is durable (`durable`). In every image that a cut at any moment leaves, the records say
-    /// what those of before say, or what these say with the new one last (`any_moment`); so the mark doesn't fall (`mark`).
+    /// Puts a record behind the others. At `Ok` it is durable (`puts.durable`). In every image that a cut at any moment leaves, the records say
+    /// what those of before say, or what these say with the new one last (`cut.any_moment`); so the mark doesn't fall (`cut.mark`).
     ///
     /// Where all 1,023 slots of the bank are used, the records that say the same are written into the other bank first (`used`). It reads
-    /// nothing (`reads`).
+    /// nothing (`leaves.reads`).
     ///
     /// # Errors
     ///
@@ -117,7 +117,7 @@ impl Store {
     /// - `Closed` exactly where an earlier write failed: store and flash stay as they are (`closed`). Mount the flash again.
     /// - `Limit` exactly where the store isn't closed and the table that would grow is full: store and flash stay as they are (`limit`). It
     ///   tells how many rows there are. `check` of [`Persist`] tells it before.
-    /// - `Flash` where the flash failed in this call: the store is closed from then on (`cause`). The flash may hold the record, or not.
+    /// - `Flash` where the flash failed in this call: the store is closed from then on (`fails.cause`). The flash may hold the record, or not.
     ///
     /// # Asks
     ///
@@ -126,54 +126,30 @@ impl Store {
     ///   `seq_reserve` make such records; of any other record nothing is asked.
     ///
     /// The clauses on content are of a store of this flash (`IsStoreOf`): `provision` gives it over a fresh flash, `mount` over a fresh and
-    /// tidy one that holds records, and each Ok keeps it (`kept`), if nothing else writes there.
+    /// tidy one that holds records, and each Ok keeps it (`puts.kept`), if nothing else writes there.
     pub fn put<F: Flash>(&mut self, flash: &mut F, item: &StoreRecord) -> Result<(), PutFault>
         requires range { IsInRange item.now }
         requires rises { IsNotBelow self.old.persist item.now }
 
         ensures closed { self.old.journal.closed ≡ true
-            → (result ≡ Err PutFault.Closed) × (self.new ≡ self.old) × (flash.new ≡ flash.old) }
+            → OnlyAnswers result (Err PutFault.Closed) self.old self.new flash.old flash.new }
         ensures limit { self.old.journal.closed ≡ false → IsFull self.old.persist item.now
-            → (result ≡ Err (PutFault.Limit (held_for self.old.persist item.now))) × (self.new ≡ self.old)
-            × (flash.new ≡ flash.old) }
-        ensures cause { self.old.journal.closed ≡ false → ¬ IsFull self.old.persist item.now
-            → OnErr result
-            ((result ≡ Err PutFault.Flash) × (self.new.journal.closed ≡ true)
-            × ((F.chip flash.old).faults < (F.chip flash.new).faults)) }
+            → OnlyAnswers result (Err (PutFault.Limit (held_for self.old.persist item.now))) self.old self.new flash.old
+            flash.new }
+        ensures fails { self.old.journal.closed ≡ false → ¬ IsFull self.old.persist item.now
+            → FailsAtFlash result PutFault.Flash (F.chip flash.old) (F.chip flash.new) self.new }
         ensures refused { OnErr result (self.new.persist ≡ self.old.persist) }
         ensures said { IsSaid self.new.persist }
-        ensures usable { OnOk result (self.new.journal.closed ≡ false) }
+        ensures puts { OnOk result (Puts (item.now ∷ []) (F.chip flash.old) (F.chip flash.new) self.old self.new) }
         ensures used { OnOk result (self.new.journal.used ≡ used_with_room self.old + 1) }
-        ensures change { OnOk result (config_in self.new.persist ≡ changed (config_in self.old.persist) item.now) }
-        ensures value { OnOk result
-            ((records : List StoreRecord) → IsMeaningOf records self.old.persist
-            → IsMeaningOf (records ++ item.now ∷ []) self.new.persist) }
-
-        // Of a store of this flash.
-        ensures kept { (records : List StoreRecord) → IsStoreOf (F.chip flash.old) self.old records
-            → OnOk result (IsStoreOf (F.chip flash.new) self.new (records ++ item.now ∷ [])) }
-        ensures durable { (records : List StoreRecord) → IsStoreOf (F.chip flash.old) self.old records
-            → OnOk result ((c : List ℕ) → (F.chip flash.new).images c → Holds c (records ++ item.now ∷ [])) }
-        ensures any_moment { (records : List StoreRecord) → IsStoreOf (F.chip flash.old) self.old records
-            → LeavesOnly (F.chip flash.old) (F.chip flash.new) (IsPut records item.now) }
-        ensures mark { (records : List StoreRecord) → IsStoreOf (F.chip flash.old) self.old records
-            → LeavesOnly (F.chip flash.old) (F.chip flash.new) (HasMarkFrom self.old.persist.mark) }
+        ensures cut { CutLeaves (λ records. IsPut records item.now) (F.chip flash.old) (F.chip flash.new) self.old }
         ensures same_mark { (records : List StoreRecord) → IsStoreOf (F.chip flash.old) self.old records
             → IsNoNumbers item.now → LeavesOnly (F.chip flash.old) (F.chip flash.new) (HasMark self.old.persist.mark) }
-
-        // over a steady flash: two program calls, behind those of a compaction where all slots are used, and at most these where it fails
-        ensures calls { IsTrue (F.chip flash.old).steady
-            → OnOk result (Begins (calls_of self.old) (F.chip flash.old) (F.chip flash.new)) }
-        ensures most_calls { IsTrue (F.chip flash.old).steady
-            → BeginsAtMost (calls_of self.old) (F.chip flash.old) (F.chip flash.new) }
-        ensures bounded { IsTrue (F.chip flash.old).steady → BeginsAtMost 820 (F.chip flash.old) (F.chip flash.new) }
-
-        // of every flash, honest or not
-        ensures reads { (F.chip flash.new).reads ≡ (F.chip flash.old).reads }
-        ensures no_fault { OnOk result ((F.chip flash.new).faults ≡ (F.chip flash.old).faults) }
-        ensures sure { IsTrue (F.chip flash.old).sure → self.old.journal.closed ≡ false
-            → ¬ IsFull self.old.persist item.now → IsOk result }
-        ensures frame { Keeps (F.chip flash.old) (F.chip flash.new) }
+        // over a steady flash: two program calls, behind those of a compaction where all slots are used
+        ensures costs { IsTrue (F.chip flash.old).steady
+            → CostsCalls (calls_of self.old) result (F.chip flash.old) (F.chip flash.new) }
+        ensures bounded { IsTrue (F.chip flash.old).steady → BeginsAtMost PUT_CALLS (F.chip flash.old) (F.chip flash.new) }
+        ensures leaves { LeavesFlash result (F.chip flash.old) (F.chip flash.new) }
     {
         if self.journal.is_closed() {
             return Err(PutFault::Closed);

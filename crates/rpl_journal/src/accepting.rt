@@ -1,15 +1,15 @@
 //! A message is accepted: its record is put.
 #![tactic(auto)]
 
-ghost use Rattle.std.specs.Prelude.{◌≡◌, ℕ, ◌+◌, ◌^◌, ◌<◌, ◌≤◌, List, [], ◌∷◌, ◌++◌, true, false, Err, Some, IsTrue, IsOk, IfSome, OnOk, OnErr};
-ghost use Rattle.flash_model.specs.Arming.{Begins, BeginsAtMost};
-ghost use Rattle.flash_model.specs.Chip.{Keeps, LeavesOnly};
+ghost use Rattle.std.specs.Prelude.{◌≡◌, ℕ, ◌+◌, ◌^◌, ◌<◌, List, [], ◌∷◌, true, false, Err, Some, IsTrue, IfSome, OnOk, OnErr};
+ghost use Rattle.flash_model.specs.Chip.{LeavesOnly};
 ghost use Rattle.mesh_world.specs.World.{World};
 ghost use Rattle.mesh_world.specs.World.WorldStep.{Accept};
 ghost use Rattle.node_records.specs.Meaning.{IsMeaningOf};
 ghost use Rattle.node_records.specs.Tables.{config_in, entry_in};
 ghost use Rattle.node_store.specs.Calls.{calls_of, used_with_room};
-ghost use Rattle.node_store.specs.Tie.{HasMark, Holds, IsPut, IsStoreOf};
+ghost use Rattle.node_store.specs.Tie.{HasMark, IsPut, IsStoreOf};
+ghost use Rattle.node_store.specs.Writing.{CostsCalls, CutLeaves, FailsAtFlash, LeavesFlash, OnlyAnswers, Puts};
 ghost use Rattle.record_types.specs.declared.records.StoreRecord.{StoreRecord};
 ghost use Rattle.rpl_journal.specs.Accepting.{accepting, IsNoNewer, IsReadUnder};
 ghost use Rattle.store_definitions.specs.Entries.{others_held};
@@ -98,7 +98,7 @@ fn record_of(name: &Name) -> StoreRecord
     }
 }
 
-/// Accepts a message: its pair becomes the entry of its source, and no other entry changes (`value`). At `Ok` that is durable (`durable`), so
+/// Accepts a message: its pair becomes the entry of its source, and no other entry changes (`value`). At `Ok` that is durable (`puts.durable`), so
 /// after a power cut at any later moment neither the message nor an older one of its source is accepted. Deliver it only then.
 ///
 /// `name` is the source with the pair, of a segmented message with its SeqAuth.
@@ -109,9 +109,9 @@ fn record_of(name: &Name) -> StoreRecord
 ///
 /// - `Closed` exactly where an earlier write failed: nothing changes (`closed`). Mount the flash again.
 /// - `Old` where the source has an entry, which is told, and the pair isn't newer: nothing changes (`old`). At Ok it was newer (`newer`).
-/// - `ListFull` where the source has no entry, and 512 others have one, so many as are told: nothing changes (`full`). A place comes when an
+/// - `ListFull` where the source has no entry, and as many others have one as the replay list has entries, so many as are told: nothing changes (`full`). A place comes when an
 ///   entry expires.
-/// - `Flash` where the flash failed in this call: the store is closed from then on (`cause`). The flash may hold the entry, or not. Don't
+/// - `Flash` where the flash failed in this call: the store is closed from then on (`fails.cause`). The flash may hold the entry, or not. Don't
 ///   deliver the message then: where the entry is there, it is lost.
 ///
 /// # Asks
@@ -119,63 +119,43 @@ fn record_of(name: &Name) -> StoreRecord
 /// - `read`: the IV Index of the name is the known one or one less, as of every PDU that is read (`ok` of `read` in `network_layer`).
 /// - `seq`: SEQ is below 2^24, as of every PDU that is read and of every SeqAuth.
 ///
-/// The clauses on content are of a store of this flash (`IsStoreOf`; `kept`).
+/// The clauses on content are of a store of this flash (`IsStoreOf`; `puts.kept`).
 pub fn accept<F: Flash>(store: &mut Store, flash: &mut F, name: &Name) -> Result<(), AcceptFault>
     requires read { IsReadUnder store.old.persist.iv.current name.now }
     requires seq { name.now.pair.seq < 2 ^ 24 }
 
     ensures closed { store.old.journal.closed ≡ true
-        → (result ≡ Err AcceptFault.Closed) × (store.new ≡ store.old) × (flash.new ≡ flash.old) }
+        → OnlyAnswers result (Err AcceptFault.Closed) store.old store.new flash.old flash.new }
     ensures old { store.old.journal.closed ≡ false
         → IfSome (entry_in store.old.persist name.now.src.0)
         (λ kept. IsNoNewer (Some kept) name.now.pair
-        → (result ≡ Err (AcceptFault.Old kept)) × (store.new ≡ store.old) × (flash.new ≡ flash.old)) }
+        → OnlyAnswers result (Err (AcceptFault.Old kept)) store.old store.new flash.old flash.new) }
     ensures full { store.old.journal.closed ≡ false → (records : List StoreRecord)
         → IsMeaningOf records store.old.persist → HasNoPlace records name.now
-        → (result ≡ Err (AcceptFault.ListFull (others_held records name.now.src.0))) × (store.new ≡ store.old)
-        × (flash.new ≡ flash.old) }
-    ensures cause { store.old.journal.closed ≡ false
+        → OnlyAnswers result (Err (AcceptFault.ListFull (others_held records name.now.src.0))) store.old store.new
+        flash.old flash.new }
+    ensures fails { store.old.journal.closed ≡ false
         → IsAboveKept (entry_in store.old.persist name.now.src.0) name.now.pair → (records : List StoreRecord)
         → IsMeaningOf records store.old.persist → ¬ HasNoPlace records name.now
-        → OnErr result
-        ((result ≡ Err AcceptFault.Flash) × (store.new.journal.closed ≡ true)
-        × ((F.chip flash.old).faults < (F.chip flash.new).faults)) }
+        → FailsAtFlash result AcceptFault.Flash (F.chip flash.old) (F.chip flash.new) store.new }
+    ensures refused { OnErr result (store.new.persist ≡ store.old.persist) }
     ensures newer { OnOk result (IsAboveKept (entry_in store.old.persist name.now.src.0) name.now.pair) }
     ensures value { OnOk result
         ((src : ℕ) → entry_in store.new.persist src ≡ entry_with name.now (entry_in store.old.persist) src) }
-    ensures meaning { OnOk result
-        ((records : List StoreRecord) → IsMeaningOf records store.old.persist
-        → IsMeaningOf (records ++ accepting name.now ∷ []) store.new.persist) }
     ensures same_config { config_in store.new.persist ≡ config_in store.old.persist }
-    ensures refused { OnErr result (store.new.persist ≡ store.old.persist) }
-    ensures usable { OnOk result (store.new.journal.closed ≡ false) }
+    ensures puts { OnOk result
+        (Puts (accepting name.now ∷ []) (F.chip flash.old) (F.chip flash.new) store.old store.new) }
     ensures used { OnOk result (store.new.journal.used ≡ used_with_room store.old + 1) }
     ensures steps { (w : World) (published : ℕ) → IsWorldOf w store.old.persist published
         → OnOk result (GoesBy (Accept name.now ∷ []) w store.new.persist published) }
-
-    // of a store of this flash
-    ensures kept { (records : List StoreRecord) → IsStoreOf (F.chip flash.old) store.old records
-        → OnOk result (IsStoreOf (F.chip flash.new) store.new (records ++ accepting name.now ∷ [])) }
-    ensures durable { (records : List StoreRecord) → IsStoreOf (F.chip flash.old) store.old records
-        → OnOk result ((c : List ℕ) → (F.chip flash.new).images c → Holds c (records ++ accepting name.now ∷ [])) }
-    ensures any_moment { (records : List StoreRecord) → IsStoreOf (F.chip flash.old) store.old records
-        → LeavesOnly (F.chip flash.old) (F.chip flash.new) (IsPut records (accepting name.now)) }
-    ensures mark { (records : List StoreRecord) → IsStoreOf (F.chip flash.old) store.old records
+    ensures cut { CutLeaves (λ records. IsPut records (accepting name.now)) (F.chip flash.old) (F.chip flash.new)
+        store.old }
+    ensures same_mark { (records : List StoreRecord) → IsStoreOf (F.chip flash.old) store.old records
         → LeavesOnly (F.chip flash.old) (F.chip flash.new) (HasMark store.old.persist.mark) }
-
-    // over a steady flash: the calls of one record put, and at most these where it fails
-    ensures calls { IsTrue (F.chip flash.old).steady
-        → OnOk result (Begins (calls_of store.old) (F.chip flash.old) (F.chip flash.new)) }
-    ensures most_calls { IsTrue (F.chip flash.old).steady
-        → BeginsAtMost (calls_of store.old) (F.chip flash.old) (F.chip flash.new) }
-
-    // of every flash, honest or not
-    ensures reads { (F.chip flash.new).reads ≡ (F.chip flash.old).reads }
-    ensures no_fault { OnOk result ((F.chip flash.new).faults ≡ (F.chip flash.old).faults) }
-    ensures sure { IsTrue (F.chip flash.old).sure → store.old.journal.closed ≡ false
-        → IsAboveKept (entry_in store.old.persist name.now.src.0) name.now.pair → (records : List StoreRecord)
-        → IsMeaningOf records store.old.persist → ¬ HasNoPlace records name.now → IsOk result }
-    ensures frame { Keeps (F.chip flash.old) (F.chip flash.new) }
+    // over a steady flash: the calls of one record put
+    ensures costs { IsTrue (F.chip flash.old).steady
+        → CostsCalls (calls_of store.old) result (F.chip flash.old) (F.chip flash.new) }
+    ensures leaves { LeavesFlash result (F.chip flash.old) (F.chip flash.new) }
 {
     if store.is_closed() {
         return Err(AcceptFault::Closed);

@@ -29,7 +29,7 @@ material_of (J.Relay material fields) = Some material
 material_of (J.Control material ttl src dst tpdu keep) = Some material
 material_of (J.Message net material key ttl src dst payload keep) = Some material
 material_of (J.Sent net material key ttl src dst) = Some material
-material_of (J.Segment material name ttl src dst seg_o seg_n tpdu first) = Some material
+material_of (J.Segment s) = Some s.material
 material_of (J.Repeat name pdu) = None
 material_of (J.Beacon octets) = None
 
@@ -39,13 +39,13 @@ upper_key_of (J.Relay material fields) = None
 upper_key_of (J.Control material ttl src dst tpdu keep) = None
 upper_key_of (J.Message net material key ttl src dst payload keep) = Some key
 upper_key_of (J.Sent net material key ttl src dst) = Some key
-upper_key_of (J.Segment material name ttl src dst seg_o seg_n tpdu first) = None
+upper_key_of (J.Segment s) = None
 upper_key_of (J.Repeat name pdu) = None
 upper_key_of (J.Beacon octets) = None
 
 -- the transport PDU of a segment
 abbrev pub segment_of : Job → List ℕ
-segment_of (J.Segment material name ttl src dst seg_o seg_n tpdu first) = tpdu
+segment_of (J.Segment s) = s.tpdu
 segment_of _ = []
 
 -- the seal of a network PDU: of DST and the transport PDU, under the EncryptionKey and the network nonce

@@ -17,9 +17,11 @@ use Rattle.mesh_types.specs.declared.answers.Answer.{Answer}
 use Rattle.mesh_types.specs.declared.answers.Answer.TheVariants as A
 use Rattle.mesh_types.specs.declared.events.Event.{Event}
 use Rattle.mesh_types.specs.declared.events.Event.TheVariants as E
+use Rattle.mesh_types.specs.declared.events.Outgoing.{Outgoing}
 use Rattle.mesh_types.specs.declared.events.SendKey.{SendKey}
 use Rattle.mesh_types.specs.declared.jobs.Job.{Job}
 use Rattle.mesh_types.specs.declared.jobs.Job.TheVariants as J
+use Rattle.mesh_types.specs.declared.jobs.Segment.{Segment}
 use Rattle.layer_states.specs.Names.{is_unicast}
 use Rattle.event_definitions.specs.Answers.{answer_of, config_before, is_before_cache, later, network_answer, pdu_answer, transport_answer, unless_reset}
 use Rattle.store_definitions.specs.Config.{Config, is_element}
@@ -134,7 +136,7 @@ fit_fine : (own : Config) (past : Past) (job : Job) → AllByRecursion (HeardFit
 fit_fine own past (J.Relay material f) h k =
     let heard : HeardFits own k.told = All-contains (HeardFits own) past.told k.told (All-from_recursion (HeardFits own) past.told h) k.is_told in
     rw (ap (λ (g : NetFields). g.src) k.fields) (heard k.reading k.low k.opening k.read k.passed)
-fit_fine own past (J.Segment material name ttl src dst seg_o seg_n tpdu first) h k = k
+fit_fine own past (J.Segment s) h k = k
 fit_fine own past (J.Control material ttl src dst tpdu keep) h k = tt
 fit_fine own past (J.Message net material key ttl src dst payload keep) h k = tt
 fit_fine own past (J.Sent net material key ttl src dst) h k = tt
@@ -224,36 +226,31 @@ fine_raw own c dst ttl tpdu =
 
 -- The segments of a message that begins.
 
-abbrev round_jobs : Config → Pair → Address → Address → ℕ → ℕ → Bool → ℕ → List ℕ → ℕ → List Job
-round_jobs c pair dst src ttl net akf aid upper seg_o = under c net (first_round_job pair dst src ttl akf aid upper seg_o)
+abbrev round_jobs : Config → Outgoing → ℕ → List Job
+round_jobs c m seg_o = under c m.net (first_round_job m seg_o)
 
 not_zero : (k : ℕ) → eqb (suc k) 0 ≡ false
 not_zero k = ne_eqb (suc k) 0 (λ e. absurd (omega (arith, e)))
 
-later_segments : (own c : Config) (pair : Pair) (dst src : Address) (ttl net : ℕ) (akf : Bool) (aid : ℕ) (upper : List ℕ) (k n : ℕ)
-    → AllFine own (flat_map (round_jobs c pair dst src ttl net akf aid upper) (range_with_len (suc k) n))
-later_segments own c pair dst src ttl net akf aid upper k zero = no_job
-later_segments own c pair dst src ttl net akf aid upper k (suc n) =
-    rw add-one
-    (fine_append own _ _ (fine_under own c net (first_round_job pair dst src ttl akf aid upper (suc k)) (λ m. not_zero k))
-    (later_segments own c pair dst src ttl net akf aid upper (suc k) n))
+later_segments : (own c : Config) (m : Outgoing) (k n : ℕ) → AllFine own (flat_map (round_jobs c m) (range_with_len (suc k) n))
+later_segments own c m k zero = no_job
+later_segments own c m k (suc n) =
+    rw add-one (fine_append own _ _ (fine_under own c m.net (first_round_job m (suc k)) (λ material. not_zero k)) (later_segments own c m (suc k) n))
 
-begin_made : (own c : Config) (pair : Pair) (dst src : Address) (ttl : ℕ) (akf : Bool) (aid : ℕ) (upper : List ℕ) (o : Option NetMaterial) (rest : List Job)
-    → AllFine own rest → (o ≡ None → rest ≡ []) → BeginFits own pair (option_to_list (option_map (first_round_job pair dst src ttl akf aid upper 0) o) ++ rest)
-begin_made own c pair dst src ttl akf aid upper None rest h k = subst (BeginFits own pair) (sym (k refl)) tt
-begin_made own c pair dst src ttl akf aid upper (Some m) rest h k = (first_of refl, every_fine own rest h)
+begin_made : (own : Config) (m : Outgoing) (o : Option NetMaterial) (rest : List Job)
+    → AllFine own rest → (o ≡ None → rest ≡ []) → BeginFits own m.name.pair (option_to_list (option_map (first_round_job m 0) o) ++ rest)
+begin_made own m None rest h k = subst (BeginFits own m.name.pair) (sym (k refl)) tt
+begin_made own m (Some material) rest h k = (first_of refl refl, every_fine own rest h)
 
 none_under : (c : Config) (net : ℕ) (job : ℕ → NetMaterial → Job) (ks : List ℕ) → transmit_material c.nets net ≡ None → flat_map (λ k. under c net (job k)) ks ≡ []
 none_under c net job [] e = refl
 none_under c net job (k ∷ ks) e = rw e (none_under c net job ks e)
 
-begin_fits : (own c : Config) (pair : Pair) (dst src : Address) (ttl net : ℕ) (akf : Bool) (aid : ℕ) (upper : List ℕ)
-    → BeginFits own pair (begin_jobs c pair dst src ttl net akf aid upper)
-begin_fits own c pair dst src ttl net akf aid upper =
+begin_fits : (own c : Config) (m : Outgoing) → BeginFits own m.name.pair (begin_jobs c m)
+begin_fits own c m =
     rw add-one
-    (begin_made own c pair dst src ttl akf aid upper (transmit_material c.nets net) _
-    (later_segments own c pair dst src ttl net akf aid upper 0 (last_segment upper))
-    (none_under c net (first_round_job pair dst src ttl akf aid upper) (range_with_len 1 (last_segment upper))))
+    (begin_made own m (transmit_material c.nets m.net) _ (later_segments own c m 0 (last_segment m.upper))
+    (none_under c m.net (first_round_job m) (range_with_len 1 (last_segment m.upper))))
 
 -- The jobs of each entry.
 
@@ -270,6 +267,6 @@ jobs_fit layers safe own c past (E.Raw dst ttl tpdu) insight A.Planned h k = eve
 jobs_fit layers safe own c past (E.Raw dst ttl tpdu) insight _ h k = tt
 jobs_fit layers safe own c past (E.Tick ticks) insight (A.Ticked now) h k = every_fine own _ (fine_tick layers safe own c past ticks h)
 jobs_fit layers safe own c past (E.Tick ticks) insight _ h k = tt
-jobs_fit layers safe own c past (E.Begin pair dst src ttl net akf aid upper) insight A.Begun h k = begin_fits own c pair dst src ttl net akf aid upper
-jobs_fit layers safe own c past (E.Begin pair dst src ttl net akf aid upper) insight _ h k = tt
+jobs_fit layers safe own c past (E.Begin m) insight A.Begun h k = begin_fits own c m
+jobs_fit layers safe own c past (E.Begin m) insight _ h k = tt
 jobs_fit layers safe own c past (E.Kept lpn fsn name octets) insight answer h k = tt

@@ -4,7 +4,6 @@ use Rattle.std.specs.List.{AllByRecursion}
 use Rattle.mesh_base.specs.IvState.{transmit_of}
 use Rattle.mesh_base.specs.Pairs.{is_expired}
 use Rattle.mesh_base.specs.declared.address.Address.{Address}
-use Rattle.mesh_base.specs.declared.fields.NetMaterial.{NetMaterial}
 use Rattle.mesh_base.specs.declared.lower.Lower.{Lower}
 use Rattle.mesh_base.specs.declared.pair.Name.{Name}
 use Rattle.mesh_base.specs.declared.pair.Pair.{Pair}
@@ -13,6 +12,7 @@ use Rattle.mesh_types.specs.declared.events.Event.{Event}
 use Rattle.mesh_types.specs.declared.events.Event.TheVariants as E
 use Rattle.mesh_types.specs.declared.jobs.Job.{Job}
 use Rattle.mesh_types.specs.declared.jobs.Job.TheVariants as J
+use Rattle.mesh_types.specs.declared.jobs.Segment.{Segment}
 use Rattle.record_types.specs.declared.records.StoreRecord.{StoreRecord}
 use Rattle.record_types.specs.declared.records.StoreRecord.TheVariants as R
 use Rattle.event_definitions.specs.Answers.{accepted, config_before, is_before_cache, replayed}
@@ -48,21 +48,19 @@ Foreign own src = (is_element own src.0 ≡ false) × (src.0 < 2 ^ 16)
 -- a job that is neither a first segment nor a PDU of this node that goes on
 abbrev pub Fine : Config → Job → Type 0
 Fine own (J.Relay material f) = Foreign own f.src
-Fine own (J.Segment material name ttl src dst seg_o seg_n tpdu first) = first ≡ false
+Fine own (J.Segment s) = s.first ≡ false
 Fine own _ = ⊤
 
 -- a job that is the first segment of the message with this pair
 pub data FirstOf (p : Pair) : Job → Type 0 where
-  first_of : {material : NetMaterial} {name : Name} {ttl : ℕ} {src dst : Address} {seg_o seg_n : ℕ} {tpdu : List ℕ}
-      → name.pair ≡ p
-      → FirstOf p (J.Segment material name ttl src dst seg_o seg_n tpdu true)
+  first_of : {s : Segment} → s.first ≡ true → s.name.pair ≡ p → FirstOf p (J.Segment s)
 
 abbrev pub BeginFits : Config → Pair → List Job → Type 0
 BeginFits own p [] = ⊤
 BeginFits own p (job ∷ jobs) = FirstOf p job × AllByRecursion (Fine own) jobs
 
 abbrev pub JobsFit : Config → Event → List Job → Type 0
-JobsFit own (E.Begin pair dst src ttl net akf aid upper) jobs = BeginFits own pair jobs
+JobsFit own (E.Begin m) jobs = BeginFits own m.name.pair jobs
 JobsFit own _ jobs = AllByRecursion (Fine own) jobs
 
 -- what got into the message cache is of a foreign source

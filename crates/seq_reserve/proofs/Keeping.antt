@@ -1,5 +1,5 @@
 -- The mark is durable, and the record of a call is the one that the records say.
-use Rattle.std.proofs.Common.{◌≡◌, ℕ, ◌≤◌, List, ap, ◌∙◌, arith}
+use Rattle.std.proofs.Common.{◌≡◌, ℕ, ◌≤◌, List, [], ◌∷◌, ◌++◌, refl, ap, subst, ◌∙◌, arith}
 use Rattle.flash_model.specs.Chip.{Chip, LeavesOnly}
 use Rattle.flash_model.proofs.Leaves.{IsOnlyNow, leaves_none}
 use Rattle.mesh_base.specs.declared.iv_state.IvState.{IvState}
@@ -43,3 +43,9 @@ fill_said records p item is h = is ∙ ap (λ (c : Config). fill_of c) h.config
 pub move_said : (records : List StoreRecord) (p : Persist) (to : IvState) (item : StoreRecord) → item ≡ moved (config_in p) to → IsMeaningOf records p
     → item ≡ moved (config_of records) to
 move_said records p to item is h = is ∙ ap (λ (c : Config). moved c to) h.config
+
+-- so the records say with it what the value says after it
+pub fill_meaning : (records : List StoreRecord) (p q : Persist) → IsMeaningOf records p
+    → ((l : List StoreRecord) → IsMeaningOf l p → IsMeaningOf (l ++ fill_of (config_in p) ∷ []) q) → IsMeaningOf (records ++ fill_of (config_of records) ∷ []) q
+fill_meaning records p q h value =
+    subst (λ (item : StoreRecord). IsMeaningOf (records ++ item ∷ []) q) (fill_said records p (fill_of (config_in p)) refl h) (value records h)

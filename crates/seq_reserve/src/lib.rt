@@ -25,8 +25,8 @@
 //! 3. The counter begins at the stored mark (`opened`), and between any two steps of threads it is at most the mark (`in_order` of `Stands` in
 //!    `seq_word`; `order` of `close`).
 //! 4. After each call every image of the flash recovers the published mark or a higher one (`IsDurable`: `durable`), and at no moment of it a
-//!    lower one than the stored mark of before (`mark`).
-//! 5. A refill leaves the IV state, and its mark is 256 higher (`fill_of`: `filled`, `kept`). A mark is a word under the transmit IV Index
+//!    lower one than the stored mark of before (`cut.mark` of `refill`).
+//! 5. A refill leaves the IV state, and its mark is 256 higher (`fill_of`: `filled`, `puts.kept` of `refill`). A mark is a word under the transmit IV Index
 //!    whose SEQ is a multiple of 256, and at most 2^24 (`IsMark`: `numbers` of `persist` in `node_store`).
 //! 6. Where the transmit IV Index rises, its first word is the mark, and the counter goes there if it isn't above; else the mark stays
 //!    (`moved`: `advanced`, `stays`).
@@ -39,7 +39,7 @@
 //! For each, which numbers are in it, who brings them there, and the clause:
 //!
 //! 1. **Reserved**: from the published mark on, and below the mark of a Numbers record that is being put. `refill` and `move_iv` begin that; a
-//!    cut leaves the mark of before, or this one (`any_moment`, `IsPut`).
+//!    cut leaves the mark of before, or this one (`cut.any_moment` of `refill`, `IsPut`).
 //! 2. **Durable**: each image of the flash recovers a mark above it. The same calls, when their record is put (`durable`, `IsDurable`).
 //! 3. **Published**: below the keeper's mark, and not below the counter. The same calls, and only then, by `publish` of `seq_word` (`filled`,
 //!    `advanced`; `value` of `publish`).

@@ -1,20 +1,17 @@
 //! The store and the seat that moves the mark.
 #![tactic(auto)]
 
-ghost use Rattle.std.specs.Prelude.{◌≡◌, ◌≢◌, ℕ, ◌+◌, ◌*◌, ◌^◌, ◌<◌, ◌≤◌, List, [], ◌∷◌, ◌++◌, true, false, Ok, Err, IsTrue, IsOk, IfOk, OnOk, OnErr};
-ghost use Rattle.flash_model.specs.Arming.{Begins, BeginsAtMost};
-ghost use Rattle.flash_model.specs.Chip.{Keeps, LeavesOnly};
+ghost use Rattle.std.specs.Prelude.{◌≡◌, ◌≢◌, ℕ, ◌+◌, ◌*◌, ◌^◌, ◌<◌, ◌≤◌, List, [], ◌∷◌, ◌++◌, true, false, Ok, Err, IsTrue, IfOk, OnOk, OnErr};
 ghost use Rattle.mesh_base.specs.IvState.{HasTransmit, transmit_of};
 ghost use Rattle.mesh_world.specs.World.{World};
-ghost use Rattle.node_records.specs.Meaning.{IsMeaningOf};
 ghost use Rattle.node_records.specs.Tables.{config_in};
 ghost use Rattle.node_store.specs.Calls.{calls_of, used_with_room};
-ghost use Rattle.node_store.specs.Tie.{HasMarkFrom, IsPut, IsStoreOf};
+ghost use Rattle.node_store.specs.Tie.{IsPut, IsStoreOf};
+ghost use Rattle.node_store.specs.Writing.{CostsCalls, CutLeaves, FailsAtFlash, LeavesFlash, OnlyAnswers, Puts};
 ghost use Rattle.record_types.specs.declared.records.StoreRecord.{StoreRecord};
 ghost use Rattle.seq_reserve.specs.Reserving.{first_word, IsDurable, IsPublished, moving, refilling};
 ghost use Rattle.seq_word.specs.Seen.{fresh};
 ghost use Rattle.seq_word.specs.Word.{seq_of, IsWord};
-ghost use Rattle.store_definitions.specs.Config.{changed, config_of};
 ghost use Rattle.store_definitions.specs.Numbers.{fill_of, moved};
 ghost use Rattle.store_world.specs.Standing.{GoesBy, IsWorldOf};
 
@@ -63,7 +60,7 @@ impl Reserve {
     /// After each the keeper's mark and what the store says are as before (`refused`), so that draws go on below that mark.
     ///
     /// - `Closed` where an earlier write failed and `seen` is the keeper's mark: nothing changes (`closed`). Mount the flash again.
-    /// - `Flash` where the flash failed in this call: the store is closed from then on (`cause`). The flash may hold the higher mark, or not.
+    /// - `Flash` where the flash failed in this call: the store is closed from then on (`fails.cause`). The flash may hold the higher mark, or not.
     ///
     /// # Asks
     ///
@@ -72,7 +69,7 @@ impl Reserve {
     /// - `unspent`: SEQ of `seen` is below 2^24; else its IV Index has no number left. A mark that a draw told may have that SEQ where it was
     ///   seen before the counter moved on: don't refill then, but draw again, as `draw` of `node_bearer` does.
     ///
-    /// The clauses on content are of a store of this flash (`IsStoreOf`; `kept`).
+    /// The clauses on content are of a store of this flash (`IsStoreOf`; `puts.kept`).
     pub fn refill<F: Flash>(
         &mut self,
         n: &Numbers,
@@ -85,55 +82,35 @@ impl Reserve {
 
         ensures value { IfOk result (λ mark. mark ≡ self.new.keeper.mark) }
         ensures nothing { seen ≢ self.old.keeper.mark
-            → (result ≡ Ok self.old.keeper.mark) × (self.new ≡ self.old) × (flash.new ≡ flash.old) }
-        ensures filled { seen ≡ self.old.keeper.mark
-            → OnOk result
-            ((self.new.keeper ≡ record self.old.keeper { mark = seen + 256 })
-            × (config_in self.new.store.persist
-            ≡ changed (config_in self.old.store.persist) (fill_of (config_in self.old.store.persist)))) }
-        ensures meaning { (records : List StoreRecord) → IsMeaningOf records self.old.store.persist
-            → seen ≡ self.old.keeper.mark
-            → OnOk result (IsMeaningOf (records ++ fill_of (config_of records) ∷ []) self.new.store.persist) }
-        ensures usable { seen ≡ self.old.keeper.mark → OnOk result (self.new.store.journal.closed ≡ false) }
-        ensures used { seen ≡ self.old.keeper.mark
-            → OnOk result (self.new.store.journal.used ≡ used_with_room self.old.store + 1) }
+            → OnlyAnswers result (Ok self.old.keeper.mark) self.old self.new flash.old flash.new }
+        ensures closed { seen ≡ self.old.keeper.mark → self.old.store.journal.closed ≡ true
+            → OnlyAnswers result (Err KeepFault.Closed) self.old self.new flash.old flash.new }
+        ensures fails { seen ≡ self.old.keeper.mark → self.old.store.journal.closed ≡ false
+            → FailsAtFlash result KeepFault.Flash (F.chip flash.old) (F.chip flash.new) self.new.store }
         ensures refused { OnErr result
             ((self.new.keeper ≡ self.old.keeper) × (self.new.store.persist ≡ self.old.store.persist)) }
-        ensures closed { seen ≡ self.old.keeper.mark → self.old.store.journal.closed ≡ true
-            → (result ≡ Err KeepFault.Closed) × (self.new ≡ self.old) × (flash.new ≡ flash.old) }
-        ensures cause { seen ≡ self.old.keeper.mark → self.old.store.journal.closed ≡ false
-            → OnErr result
-            ((result ≡ Err KeepFault.Flash) × (self.new.store.journal.closed ≡ true)
-            × ((F.chip flash.old).faults < (F.chip flash.new).faults)) }
+        ensures filled { seen ≡ self.old.keeper.mark
+            → OnOk result (self.new.keeper ≡ record self.old.keeper { mark = seen + 256 }) }
+        ensures puts { seen ≡ self.old.keeper.mark
+            → OnOk result
+            (Puts (fill_of (config_in self.old.store.persist) ∷ []) (F.chip flash.old) (F.chip flash.new) self.old.store
+            self.new.store) }
+        ensures used { seen ≡ self.old.keeper.mark
+            → OnOk result (self.new.store.journal.used ≡ used_with_room self.old.store + 1) }
         ensures steps { (w : World) → IsWorldOf w self.old.store.persist self.old.keeper.mark
             → seen ≡ self.old.keeper.mark
             → OnOk result (GoesBy (refilling self.old.store.persist) w self.new.store.persist self.new.keeper.mark) }
+        ensures cut { CutLeaves (λ records. IsPut records (fill_of (config_in self.old.store.persist)))
+            (F.chip flash.old) (F.chip flash.new) self.old.store }
+        ensures durable { (records : List StoreRecord) → IsStoreOf (F.chip flash.old) self.old.store records
+            → IsDurable (F.chip flash.new) self.new.keeper.mark }
+        // over a steady flash: the calls of one record put
+        ensures costs { seen ≡ self.old.keeper.mark → IsTrue (F.chip flash.old).steady
+            → CostsCalls (calls_of self.old.store) result (F.chip flash.old) (F.chip flash.new) }
+        ensures leaves { LeavesFlash result (F.chip flash.old) (F.chip flash.new) }
         // for the next call
         ensures published { IsPublished self.new.store self.new.keeper }
         ensures made { self.new.keeper.which ≡ self.old.keeper.which }
-
-        // of a store of this flash
-        ensures kept { (records : List StoreRecord) → IsStoreOf (F.chip flash.old) self.old.store records
-            → seen ≡ self.old.keeper.mark
-            → OnOk result (IsStoreOf (F.chip flash.new) self.new.store (records ++ fill_of (config_of records) ∷ [])) }
-        ensures any_moment { (records : List StoreRecord) → IsStoreOf (F.chip flash.old) self.old.store records
-            → LeavesOnly (F.chip flash.old) (F.chip flash.new) (IsPut records (fill_of (config_of records))) }
-        ensures mark { (records : List StoreRecord) → IsStoreOf (F.chip flash.old) self.old.store records
-            → LeavesOnly (F.chip flash.old) (F.chip flash.new) (HasMarkFrom self.old.store.persist.mark) }
-        ensures durable { (records : List StoreRecord) → IsStoreOf (F.chip flash.old) self.old.store records
-            → IsDurable (F.chip flash.new) self.new.keeper.mark }
-
-        // over a steady flash: the calls of one record put, and at most these where it fails; none where nothing changes
-        ensures calls { seen ≡ self.old.keeper.mark → IsTrue (F.chip flash.old).steady
-            → OnOk result (Begins (calls_of self.old.store) (F.chip flash.old) (F.chip flash.new)) }
-        ensures most_calls { IsTrue (F.chip flash.old).steady
-            → BeginsAtMost (calls_of self.old.store) (F.chip flash.old) (F.chip flash.new) }
-
-        // of every flash, honest or not
-        ensures reads { (F.chip flash.new).reads ≡ (F.chip flash.old).reads }
-        ensures no_fault { OnOk result ((F.chip flash.new).faults ≡ (F.chip flash.old).faults) }
-        ensures sure { IsTrue (F.chip flash.old).sure → self.old.store.journal.closed ≡ false → IsOk result }
-        ensures frame { Keeps (F.chip flash.old) (F.chip flash.new) }
     {
         let mark = self.store.persist().mark;
         if seen != mark {
@@ -146,7 +123,7 @@ impl Reserve {
         Ok(mark)
     }
 
-    /// Stores a new IV state (`change`). Where its transmit IV Index rises, the first word under it becomes the mark: it is durable, then
+    /// Stores a new IV state (`puts.change`). Where its transmit IV Index rises, the first word under it becomes the mark: it is durable, then
     /// published, and then the counter moves there (`durable`, `advanced`). Else the mark stays (`stays`).
     ///
     /// # Errors
@@ -154,7 +131,7 @@ impl Reserve {
     /// After each the keeper's mark and what the store says are as before (`refused`).
     ///
     /// - `Closed` where an earlier write failed: nothing changes (`closed`). Mount the flash again.
-    /// - `Flash` where the flash failed in this call: the store is closed from then on (`cause`). The flash may hold the new state, or not.
+    /// - `Flash` where the flash failed in this call: the store is closed from then on (`fails.cause`). The flash may hold the new state, or not.
     ///
     /// # Asks
     ///
@@ -162,7 +139,7 @@ impl Reserve {
     /// - `transmit`: there is an IV Index to send with, so no update is in progress under IV Index 0.
     /// - `current`, `rises`: neither the known nor the transmit IV Index falls. The steps of `iv_update` are so (`steps_law`).
     ///
-    /// The clauses on content are of a store of this flash (`IsStoreOf`; `kept`).
+    /// The clauses on content are of a store of this flash (`IsStoreOf`; `puts.kept`).
     pub fn move_iv<F: Flash>(
         &mut self,
         n: &Numbers,
@@ -175,56 +152,36 @@ impl Reserve {
         requires current { self.old.store.persist.iv.current ≤ to.now.current }
         requires rises { transmit_of self.old.store.persist.iv ≤ transmit_of to.now }
 
+        ensures closed { self.old.store.journal.closed ≡ true
+            → OnlyAnswers result (Err KeepFault.Closed) self.old self.new flash.old flash.new }
+        ensures fails { self.old.store.journal.closed ≡ false
+            → FailsAtFlash result KeepFault.Flash (F.chip flash.old) (F.chip flash.new) self.new.store }
+        ensures refused { OnErr result
+            ((self.new.keeper ≡ self.old.keeper) × (self.new.store.persist ≡ self.old.store.persist)) }
         ensures stays { transmit_of self.old.store.persist.iv ≡ transmit_of to.now → self.new.keeper ≡ self.old.keeper }
         ensures advanced { transmit_of self.old.store.persist.iv < transmit_of to.now
             → OnOk result
             ((self.new.keeper.mark ≡ first_word to.now)
             × ((found : ℕ)
             × (self.new.keeper.advances ≡ self.old.keeper.advances ++ (found, first_word to.now) ∷ []))) }
-        ensures change { OnOk result
-            (config_in self.new.store.persist
-            ≡ changed (config_in self.old.store.persist) (moved (config_in self.old.store.persist) to.now)) }
-        ensures meaning { (records : List StoreRecord) → IsMeaningOf records self.old.store.persist
-            → OnOk result (IsMeaningOf (records ++ moved (config_of records) to.now ∷ []) self.new.store.persist) }
-        ensures usable { OnOk result (self.new.store.journal.closed ≡ false) }
+        ensures puts { OnOk result
+            (Puts (moved (config_in self.old.store.persist) to.now ∷ []) (F.chip flash.old) (F.chip flash.new)
+            self.old.store self.new.store) }
         ensures used { OnOk result (self.new.store.journal.used ≡ used_with_room self.old.store + 1) }
-        ensures refused { OnErr result
-            ((self.new.keeper ≡ self.old.keeper) × (self.new.store.persist ≡ self.old.store.persist)) }
-        ensures closed { self.old.store.journal.closed ≡ true
-            → (result ≡ Err KeepFault.Closed) × (self.new ≡ self.old) × (flash.new ≡ flash.old) }
-        ensures cause { self.old.store.journal.closed ≡ false
-            → OnErr result
-            ((result ≡ Err KeepFault.Flash) × (self.new.store.journal.closed ≡ true)
-            × ((F.chip flash.old).faults < (F.chip flash.new).faults)) }
         ensures steps { (w : World) → IsWorldOf w self.old.store.persist self.old.keeper.mark
             → OnOk result
             (GoesBy (moving self.old.store.persist to.now) w self.new.store.persist self.new.keeper.mark) }
+        ensures cut { CutLeaves (λ records. IsPut records (moved (config_in self.old.store.persist) to.now))
+            (F.chip flash.old) (F.chip flash.new) self.old.store }
+        ensures durable { (records : List StoreRecord) → IsStoreOf (F.chip flash.old) self.old.store records
+            → IsDurable (F.chip flash.new) self.new.keeper.mark }
+        // over a steady flash: the calls of one record put
+        ensures costs { IsTrue (F.chip flash.old).steady
+            → CostsCalls (calls_of self.old.store) result (F.chip flash.old) (F.chip flash.new) }
+        ensures leaves { LeavesFlash result (F.chip flash.old) (F.chip flash.new) }
         // for the next call
         ensures published { IsPublished self.new.store self.new.keeper }
         ensures made { self.new.keeper.which ≡ self.old.keeper.which }
-
-        // of a store of this flash
-        ensures kept { (records : List StoreRecord) → IsStoreOf (F.chip flash.old) self.old.store records
-            → OnOk result
-            (IsStoreOf (F.chip flash.new) self.new.store (records ++ moved (config_of records) to.now ∷ [])) }
-        ensures any_moment { (records : List StoreRecord) → IsStoreOf (F.chip flash.old) self.old.store records
-            → LeavesOnly (F.chip flash.old) (F.chip flash.new) (IsPut records (moved (config_of records) to.now)) }
-        ensures mark { (records : List StoreRecord) → IsStoreOf (F.chip flash.old) self.old.store records
-            → LeavesOnly (F.chip flash.old) (F.chip flash.new) (HasMarkFrom self.old.store.persist.mark) }
-        ensures durable { (records : List StoreRecord) → IsStoreOf (F.chip flash.old) self.old.store records
-            → IsDurable (F.chip flash.new) self.new.keeper.mark }
-
-        // over a steady flash: the calls of one record put, and at most these where it fails
-        ensures calls { IsTrue (F.chip flash.old).steady
-            → OnOk result (Begins (calls_of self.old.store) (F.chip flash.old) (F.chip flash.new)) }
-        ensures most_calls { IsTrue (F.chip flash.old).steady
-            → BeginsAtMost (calls_of self.old.store) (F.chip flash.old) (F.chip flash.new) }
-
-        // of every flash, honest or not
-        ensures reads { (F.chip flash.new).reads ≡ (F.chip flash.old).reads }
-        ensures no_fault { OnOk result ((F.chip flash.new).faults ≡ (F.chip flash.old).faults) }
-        ensures sure { IsTrue (F.chip flash.old).sure → self.old.store.journal.closed ≡ false → IsOk result }
-        ensures frame { Keeps (F.chip flash.old) (F.chip flash.new) }
     {
         let rises = raises(self.store.persist(), to);
         let item = move_record(self.store.persist(), to);

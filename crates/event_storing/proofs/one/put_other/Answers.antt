@@ -6,16 +6,16 @@ use Rattle.event_storing.proofs.one.put_other.Goals as goal
 
 pub returns-in-Ok-clause-published : goal.returns-in-Ok-clause-published
 returns-in-Ok-clause-published g c =
-    c.requires.published ∙ sym (other_mark c.args.reserve.now.store.persist c.put.new.self.persist c.args.item.now c.requires.none c.in-Ok.ensures.change)
+    c.requires.published ∙ sym (other_mark c.args.reserve.now.store.persist c.put.new.self.persist c.args.item.now c.requires.none c.in-Ok.ensures.puts.change)
 
 pub returns-in-Ok-clause-durable : goal.returns-in-Ok-clause-durable
 returns-in-Ok-clause-durable g c records tie =
     subst (λ n. IsDurable (g.F.Flash.chip c.put.new.flash) n) (sym c.requires.published)
     (durable_by (g.F.Flash.chip c.args.flash.now) (g.F.Flash.chip c.put.new.flash) c.args.reserve.now.store.persist.mark
-    (λ image later is. g.met.F.Flash.counts_now c.put.new.flash _ image later is) (c.in-Ok.ensures.mark records tie))
+    (λ image later is. g.met.F.Flash.counts_now c.put.new.flash _ image later is) (c.in-Ok.ensures.cut.mark records tie))
 
 pub returns-in-Err-clause-durable : goal.returns-in-Err-clause-durable
 returns-in-Err-clause-durable g c records tie =
     subst (λ n. IsDurable (g.F.Flash.chip c.put.new.flash) n) (sym c.requires.published)
     (durable_by (g.F.Flash.chip c.args.flash.now) (g.F.Flash.chip c.put.new.flash) c.args.reserve.now.store.persist.mark
-    (λ image later is. g.met.F.Flash.counts_now c.put.new.flash _ image later is) (c.in-Err.ensures.mark records tie))
+    (λ image later is. g.met.F.Flash.counts_now c.put.new.flash _ image later is) (c.in-Err.ensures.cut.mark records tie))

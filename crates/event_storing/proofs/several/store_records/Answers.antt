@@ -1,9 +1,10 @@
-use Rattle.std.proofs.Common.{◌≡◌, ◌∙◌, List, [], ◌++◌, ap, sym, subst}
-use Rattle.std.specs.Prelude.{OnOk}
-use Rattle.std.proofs.lemmas.List.{append-nil}
+use Rattle.std.proofs.Common.{◌≡◌, ◌+◌, ◌*◌, ◌≤◌, List, [], sym, subst}
+use Rattle.std.specs.Prelude.{length, IsTrue, OnOk}
 use Rattle.flash_model.specs.Chip.{LeavesOnly}
-use Rattle.node_store.specs.Tie.{IsFront, IsStoreOf}
+use Rattle.node_store.specs.Tie.{IsFront}
+use Rattle.node_store.specs.Writing.{CostsCalls, CutLeaves, Puts}
 use Rattle.node_store.proofs.Fronts.{fronts_none}
+use Rattle.node_store.proofs.Puts.{puts_none}
 use Rattle.record_types.specs.declared.records.StoreRecord.{StoreRecord}
 use Rattle.seq_reserve.specs.Reserving.{IsDurable}
 use Rattle.seq_reserve.proofs.Keeping.{durable_of}
@@ -12,25 +13,28 @@ use Rattle.event_storing.proofs.several.store_records.Goals as goal
 
 -- no records
 
-pub returns-then-is_empty-clause-kept : goal.returns-then-is_empty-clause-kept
-returns-then-is_empty-clause-kept g c records tie =
+pub returns-then-is_empty-clause-puts : goal.returns-then-is_empty-clause-puts
+returns-then-is_empty-clause-puts g c usable =
+    let chip = g.F.Flash.chip c.args.flash.now in
+    let store = c.args.reserve.now.store in
     let is : c.args.records.now ≡ [] = c.is_empty.ensures.0 c.if-is_empty.true in
-    subst (λ (l : List StoreRecord). IsStoreOf (g.F.Flash.chip c.args.flash.now) c.args.reserve.now.store l)
-    (sym (ap (λ (items : List StoreRecord). records ++ items) is ∙ append-nil records)) tie
+    subst (λ (items : List StoreRecord). Puts items chip chip store store) (sym is) (puts_none chip store usable)
 
-pub returns-then-is_empty-clause-any_moment : goal.returns-then-is_empty-clause-any_moment
-returns-then-is_empty-clause-any_moment g c records tie =
-    (fronts_none (g.F.Flash.chip c.args.flash.now) c.args.reserve.now.store records c.args.records.now tie (g.met.F.Flash.only_now c.args.flash.now)).leaves
+pub returns-then-is_empty-clause-cut : goal.returns-then-is_empty-clause-cut
+returns-then-is_empty-clause-cut g c =
+    let chip = g.F.Flash.chip c.args.flash.now in
+    let store = c.args.reserve.now.store in
+    let only = g.met.F.Flash.only_now c.args.flash.now in
+    record {
+      any_moment = λ records tie. (fronts_none chip store records c.args.records.now tie only).leaves;
+      mark = λ records tie. (fronts_none chip store records c.args.records.now tie only).marks;
+    }
 
 pub returns-then-is_empty-clause-fronts : goal.returns-then-is_empty-clause-fronts
 returns-then-is_empty-clause-fronts g c records tie =
     let chip = g.F.Flash.chip c.args.flash.now in
     images_by chip chip (IsFront records c.args.records.now) (λ image later is. g.met.F.Flash.counts_now c.args.flash.now _ image later is)
-    (returns-then-is_empty-clause-any_moment g c records tie)
-
-pub returns-then-is_empty-clause-mark : goal.returns-then-is_empty-clause-mark
-returns-then-is_empty-clause-mark g c records tie =
-    (fronts_none (g.F.Flash.chip c.args.flash.now) c.args.reserve.now.store records c.args.records.now tie (g.met.F.Flash.only_now c.args.flash.now)).marks
+    ((returns-then-is_empty-clause-cut g c).any_moment records tie)
 
 pub returns-then-is_empty-clause-durable : goal.returns-then-is_empty-clause-durable
 returns-then-is_empty-clause-durable g c records tie =
@@ -39,17 +43,28 @@ returns-then-is_empty-clause-durable g c records tie =
 
 -- each of them
 
-pub returns-clause-kept : goal.returns-clause-kept
-returns-clause-kept g c records tie =
-    subst (λ (items : List StoreRecord). OnOk c.store_each.result (IsStoreOf (g.F.Flash.chip c.store_each.new.flash) c.store_each.new.reserve.store (records ++ items)))
-    c.as_slice.ensures.value (c.store_each.ensures.kept records tie)
+pub returns-clause-puts : goal.returns-clause-puts
+returns-clause-puts g c usable =
+    let old = g.F.Flash.chip c.args.flash.now in
+    let new = g.F.Flash.chip c.store_each.new.flash in
+    subst (λ (items : List StoreRecord). OnOk c.store_each.result (Puts items old new c.args.reserve.now.store c.store_each.new.reserve.store))
+    c.as_slice.ensures.value c.store_each.ensures.puts
 
-pub returns-clause-any_moment : goal.returns-clause-any_moment
-returns-clause-any_moment g c records tie =
-    subst (λ (items : List StoreRecord). LeavesOnly (g.F.Flash.chip c.args.flash.now) (g.F.Flash.chip c.store_each.new.flash) (IsFront records items))
-    c.as_slice.ensures.value (c.store_each.ensures.any_moment records tie)
+pub returns-clause-cut : goal.returns-clause-cut
+returns-clause-cut g c =
+    let old = g.F.Flash.chip c.args.flash.now in
+    let new = g.F.Flash.chip c.store_each.new.flash in
+    subst (λ (items : List StoreRecord). CutLeaves (λ records. IsFront records items) old new c.args.reserve.now.store) c.as_slice.ensures.value c.store_each.ensures.cut
 
 pub returns-clause-fronts : goal.returns-clause-fronts
 returns-clause-fronts g c records tie =
     images_by (g.F.Flash.chip c.args.flash.now) (g.F.Flash.chip c.store_each.new.flash) (IsFront records c.args.records.now)
-    (λ image later is. g.met.F.Flash.counts_now c.store_each.new.flash _ image later is) (returns-clause-any_moment g c records tie)
+    (λ image later is. g.met.F.Flash.counts_now c.store_each.new.flash _ image later is) ((returns-clause-cut g c).any_moment records tie)
+
+pub returns-clause-costs : goal.returns-clause-costs
+returns-clause-costs g c =
+    let old = g.F.Flash.chip c.args.flash.now in
+    let new = g.F.Flash.chip c.store_each.new.flash in
+    let used = c.args.reserve.now.store.journal.used in
+    subst (λ (items : List StoreRecord). IsTrue old.steady → used + length items ≤ 1023 → CostsCalls (2 * length items) c.store_each.result old new)
+    c.as_slice.ensures.value c.store_each.ensures.costs

@@ -7,6 +7,6 @@ use Rattle.mesh_jobs.proofs.segments.push_first_round.Given as goal
 abbrev pub invariant-loop-seg_o : goal.invariant-loop-seg_o
 invariant-loop-seg_o l =
     record {
-      segments : l.jobs ≡ l.fn.jobs ++ map (λ i. first_round_job l.m.name.pair l.m.dst l.m.name.src l.m.ttl l.m.akf l.m.aid l.m.upper i l.material) (range_with_len 0 l.seg_o);
+      segments : l.jobs ≡ l.fn.jobs ++ map (λ i. first_round_job l.m i l.material) (range_with_len 0 l.seg_o);
       length : length l.jobs ≡ length l.fn.jobs + l.seg_o;
     }

@@ -1,40 +1,38 @@
-use Rattle.std.proofs.Common.{◌≡◌, ◌+◌, ap, ◌∙◌, sym, subst, arith, ℕ}
-use Rattle.flash_model.specs.Chip.{LeavesOnly}
+use Rattle.std.proofs.Common.{◌≡◌, ◌+◌, [], ◌∷◌, ap, ◌∙◌, sym, subst, arith, ℕ}
 use Rattle.node_records.specs.declared.persist.Persist.{Persist}
 use Rattle.node_records.specs.Tables.{config_in}
 use Rattle.node_store.specs.Tie.{IsPut}
-use Rattle.node_store.proofs.Holding.{store_meaning}
+use Rattle.node_store.specs.Writing.{CutLeaves, Puts}
 use Rattle.record_types.specs.declared.records.StoreRecord.{StoreRecord}
 use Rattle.seq_reserve.specs.Reserving.{IsDurable}
 use Rattle.seq_word.specs.Seen.{KeeperView}
 use Rattle.seq_word.specs.Word.{IsWord}
-use Rattle.store_definitions.specs.Config.{changed}
 use Rattle.store_definitions.specs.Numbers.{fill_of}
-use Rattle.seq_reserve.proofs.Keeping.{durable_of, fill_said, mark_none, put_none}
+use Rattle.seq_reserve.proofs.Keeping.{durable_of, mark_none, put_none}
 use Rattle.seq_reserve.proofs.Marks.{mark_filled, mark_word}
 use Rattle.seq_reserve.proofs.Worlds.{refill_goes}
 use Rattle.seq_reserve.proofs.reserve.Reserve.refill.Goals as goal
 
-pub returns-then-seen-mark-clause-any_moment : goal.returns-then-seen-mark-clause-any_moment
-returns-then-seen-mark-clause-any_moment g c records tie =
-    put_none (g.F.Flash.chip c.args.flash.now) c.args.self.now.store records tie (g.met.F.Flash.only_now c.args.flash.now) _
-
-pub returns-then-seen-mark-clause-mark : goal.returns-then-seen-mark-clause-mark
-returns-then-seen-mark-clause-mark g c records tie =
-    mark_none (g.F.Flash.chip c.args.flash.now) c.args.self.now.store records tie (g.met.F.Flash.only_now c.args.flash.now)
+pub returns-then-seen-mark-clause-cut : goal.returns-then-seen-mark-clause-cut
+returns-then-seen-mark-clause-cut g c =
+    let chip = g.F.Flash.chip c.args.flash.now in
+    let only = g.met.F.Flash.only_now c.args.flash.now in
+    record {
+      any_moment = λ records tie. put_none chip c.args.self.now.store records tie only _;
+      mark = λ records tie. mark_none chip c.args.self.now.store records tie only;
+    }
 
 pub returns-then-seen-mark-clause-durable : goal.returns-then-seen-mark-clause-durable
 returns-then-seen-mark-clause-durable g c records tie =
     subst (λ n. IsDurable (g.F.Flash.chip c.args.flash.now) n) (sym c.requires.published) (durable_of (g.F.Flash.chip c.args.flash.now) c.args.self.now.store records tie)
 
-pub returns-in_err-put_numbers-clause-any_moment : goal.returns-in_err-put_numbers-clause-any_moment
-returns-in_err-put_numbers-clause-any_moment g c records tie =
-    let old = g.F.Flash.chip c.args.flash.now in
+pub returns-in_err-put_numbers-clause-cut : goal.returns-in_err-put_numbers-clause-cut
+returns-in_err-put_numbers-clause-cut g c =
     let p = c.args.self.now.store.persist in
     let item = c.fill_record-item.result in
     let is : item ≡ fill_of (config_in p) = c.fill_record-item.ensures.value ∙ ap (λ (x : Persist). fill_of (config_in x)) c.persist-2.ensures.value in
-    subst (λ (i : StoreRecord). LeavesOnly old (g.F.Flash.chip c.put_numbers.new.flash) (IsPut records i))
-    (fill_said records p item is (store_meaning old c.args.self.now.store records tie)) (c.in_err-put_numbers.ensures.any_moment records tie)
+    subst (λ (i : StoreRecord). CutLeaves (λ records. IsPut records i) (g.F.Flash.chip c.args.flash.now) (g.F.Flash.chip c.put_numbers.new.flash) c.args.self.now.store) is
+    c.in_err-put_numbers.ensures.cut
 
 pub returns-in_err-put_numbers-clause-durable : goal.returns-in_err-put_numbers-clause-durable
 returns-in_err-put_numbers-clause-durable g c records tie =
@@ -49,7 +47,7 @@ publish-requires-clause-up g c =
     let p = c.args.self.now.store.persist in
     let item = c.fill_record-item.result in
     let is : item ≡ fill_of (config_in p) = c.fill_record-item.ensures.value ∙ ap (λ (x : Persist). fill_of (config_in x)) c.persist-2.ensures.value in
-    let up : c.put_numbers.new.store.persist.mark ≡ p.mark + 256 = mark_filled p c.put_numbers.new.store.persist item is c.in_ok-put_numbers.ensures.change in
+    let up : c.put_numbers.new.store.persist.mark ≡ p.mark + 256 = mark_filled p c.put_numbers.new.store.persist item is c.in_ok-put_numbers.ensures.puts.change in
     omega (arith, c.requires.published, ap (λ (x : Persist). x.mark) c.persist-3.ensures.value, up)
 
 pub returns-clause-filled : goal.returns-clause-filled
@@ -58,13 +56,19 @@ returns-clause-filled g c seen =
     let k = c.args.self.now.keeper in
     let item = c.fill_record-item.result in
     let is : item ≡ fill_of (config_in p) = c.fill_record-item.ensures.value ∙ ap (λ (x : Persist). fill_of (config_in x)) c.persist-2.ensures.value in
-    let up : c.put_numbers.new.store.persist.mark ≡ p.mark + 256 = mark_filled p c.put_numbers.new.store.persist item is c.in_ok-put_numbers.ensures.change in
+    let up : c.put_numbers.new.store.persist.mark ≡ p.mark + 256 = mark_filled p c.put_numbers.new.store.persist item is c.in_ok-put_numbers.ensures.puts.change in
     let mark : c.persist-3.result.now.mark ≡ c.args.seen + 256 =
     ap (λ (x : Persist). x.mark) c.persist-3.ensures.value ∙ up ∙ ap (λ n. n + 256) (sym (seen ∙ c.requires.published)) in
-    let with_mark : ℕ → KeeperView = λ n. record { which = k.which; mark = n; advances = k.advances } in (
-      c.publish.ensures.value ∙ ap with_mark mark,
-      c.in_ok-put_numbers.ensures.change ∙ ap (λ (i : StoreRecord). changed (config_in p) i) is,
-    )
+    let with_mark : ℕ → KeeperView = λ n. record { which = k.which; mark = n; advances = k.advances } in
+    c.publish.ensures.value ∙ ap with_mark mark
+
+pub returns-clause-puts : goal.returns-clause-puts
+returns-clause-puts g c seen =
+    let p = c.args.self.now.store.persist in
+    let item = c.fill_record-item.result in
+    let is : item ≡ fill_of (config_in p) = c.fill_record-item.ensures.value ∙ ap (λ (x : Persist). fill_of (config_in x)) c.persist-2.ensures.value in
+    subst (λ (i : StoreRecord). Puts (i ∷ []) (g.F.Flash.chip c.args.flash.now) (g.F.Flash.chip c.put_numbers.new.flash) c.args.self.now.store c.put_numbers.new.store) is
+    c.in_ok-put_numbers.ensures.puts
 
 pub returns-clause-steps : goal.returns-clause-steps
 returns-clause-steps g c w world seen =
@@ -72,18 +76,17 @@ returns-clause-steps g c w world seen =
     let q = c.put_numbers.new.store.persist in
     let item = c.fill_record-item.result in
     let is : item ≡ fill_of (config_in p) = c.fill_record-item.ensures.value ∙ ap (λ (x : Persist). fill_of (config_in x)) c.persist-2.ensures.value in
-    refill_goes w p q c.args.self.now.keeper.mark c.publish.new.k.mark item c.requires.published c.in_ok-put_numbers.ensures.change
+    refill_goes w p q c.args.self.now.keeper.mark c.publish.new.k.mark item c.requires.published c.in_ok-put_numbers.ensures.puts.change
     (c.in_ok-put_numbers.ensures.steps w c.args.self.now.keeper.mark world) is
     (ap (λ (k : KeeperView). k.mark) c.publish.ensures.value ∙ ap (λ (x : Persist). x.mark) c.persist-3.ensures.value)
 
-pub returns-clause-any_moment : goal.returns-clause-any_moment
-returns-clause-any_moment g c records tie =
-    let old = g.F.Flash.chip c.args.flash.now in
+pub returns-clause-cut : goal.returns-clause-cut
+returns-clause-cut g c =
     let p = c.args.self.now.store.persist in
     let item = c.fill_record-item.result in
     let is : item ≡ fill_of (config_in p) = c.fill_record-item.ensures.value ∙ ap (λ (x : Persist). fill_of (config_in x)) c.persist-2.ensures.value in
-    subst (λ (i : StoreRecord). LeavesOnly old (g.F.Flash.chip c.put_numbers.new.flash) (IsPut records i))
-    (fill_said records p item is (store_meaning old c.args.self.now.store records tie)) (c.in_ok-put_numbers.ensures.any_moment records tie)
+    subst (λ (i : StoreRecord). CutLeaves (λ records. IsPut records i) (g.F.Flash.chip c.args.flash.now) (g.F.Flash.chip c.put_numbers.new.flash) c.args.self.now.store) is
+    c.in_ok-put_numbers.ensures.cut
 
 pub returns-clause-durable : goal.returns-clause-durable
 returns-clause-durable g c records tie =
