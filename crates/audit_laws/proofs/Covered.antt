@@ -31,6 +31,7 @@ use Rattle.run_definitions.specs.RunOf.{LivesOf}
 use Rattle.run_definitions.specs.Seals.{message_fields, own_fields}
 use Rattle.event_definitions.proofs.Accepting.{some_is}
 use Rattle.event_definitions.proofs.Each.{every_append, every_map}
+use Rattle.event_definitions.specs.Role.{node_role}
 use Rattle.script_definitions.specs.declared.line.ScriptNet.{ScriptNet}
 use Rattle.audit_laws.specs.Covered.{HasKey, IsCovered, ReportsAreSound}
 use Rattle.audit_laws.specs.Laws.{TellsNothingTwice}
@@ -102,7 +103,7 @@ life_given nets elements l trace c hex n =
     (all_hold l.entries (IsCovered nets) (PduGiven nets) (λ s is covered. pdu_given nets is.found.entry is.event is.job s.outcome is.shows covered) l.sends
     (every_list (IsShown l.entries) l.sends trace.shown) c)
 
-lives_given : (layers : Layers) (nets : List ScriptNet) (elements : ℕ) (plans : List (List Step)) (lives : List LifeOver) (last : List StoreRecord) → LivesOf layers plans lives last
+lives_given : (layers : Layers) (nets : List ScriptNet) (elements : ℕ) (plans : List (List Step)) (lives : List LifeOver) (last : List StoreRecord) → LivesOf (node_role layers) plans lives last
     → AskPlans elements plans → Every (λ (x : LifeOver). Every (IsCovered nets) (shown x.life)) lives → (hex : Bool) (n : ℕ) → Every (LineGiven nets) (lives_lines hex n lives)
 unfolding lives_lines
 lives_given layers nets elements plans [] last h asks c hex n = tt

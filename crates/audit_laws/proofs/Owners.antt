@@ -14,14 +14,14 @@ use Rattle.mesh_types.specs.declared.jobs.Job.TheVariants as J
 use Rattle.record_types.specs.declared.records.StoreRecord.{StoreRecord}
 use Rattle.event_definitions.proofs.Handling.{handled_more, left_more}
 use Rattle.event_definitions.specs.Fit.{IsOwn, IsOwnEvent}
-use Rattle.event_definitions.specs.Handling.{AreHandled, Handles, IsPast, past_of, records_left}
+use Rattle.event_definitions.specs.Handling.{AreHandled, Handles, IsPast, past_of, records_after, records_left}
 use Rattle.event_definitions.specs.History.{Past, Told}
 use Rattle.event_definitions.specs.Jobs.{jobs_of}
 use Rattle.event_definitions.specs.Layers.{Layers}
 use Rattle.run_definitions.specs.Order.{placed_from}
-use Rattle.event_definitions.specs.Stores.{records_after}
 use Rattle.event_definitions.proofs.Each.{every_append, every_map}
 use Rattle.event_definitions.specs.Safe.{AreSafe}
+use Rattle.event_definitions.specs.Role.{node_role}
 use Rattle.store_definitions.specs.Config.{Config, config_of, is_element}
 use Rattle.store_definitions.specs.Numbers.{filled}
 use Rattle.audit_laws.specs.Laws.{IsOwnPast, SendOwn}
@@ -60,8 +60,8 @@ entries_told ts = map (λ t. t.entry) ts
 module _ (layers : Layers) (safe : AreSafe layers) (sends : SendOwn layers) (own : Config) (some : 1 ≤ own.elements) (over : List StoreRecord) (entries : List Entry) where
   -- what was handled so far
   record SoFar (records : List StoreRecord) (before : List Told) : Type 0 where
-    handled : AreHandled layers over [] before
-    records_are : records ≡ records_left layers over [] before
+    handled : AreHandled (node_role layers) over [] before
+    records_are : records ≡ records_left (node_role layers) over [] before
     node : IsSameNode own (config_of records)
     owned : Every (λ (t : Told). OwnEntry own t.entry) before
 
@@ -91,19 +91,19 @@ module _ (layers : Layers) (safe : AreSafe layers) (sends : SendOwn layers) (own
   -- one entry
   record Next (records : List StoreRecord) (before : List Told) (t : Told) : Type 0 where
     owned : OwnEntry own t.entry
-    so_far : SoFar (records_after layers (past_of before t) t) (before ++ t ∷ [])
+    so_far : SoFar (records_after (node_role layers) (past_of before t) t) (before ++ t ∷ [])
 
-  next : (records : List StoreRecord) (before : List Told) (t : Told) → SoFar records before → t.records ≡ filled t.entry.fills records → Handles layers (past_of before t) t
+  next : (records : List StoreRecord) (before : List Told) (t : Told) → SoFar records before → t.records ≡ filled t.entry.fills records → Handles (node_role layers) (past_of before t) t
       → IsOwnEvent own t.entry.event → Next records before t
   next records before t so is handles event =
       let past : Past = past_of before t in
       let opened : IsSameNode own (config_of t.records) =
       subst (λ (l : List StoreRecord). IsSameNode own (config_of l)) (sym is) (then_same own (config_of records) (config_of (filled t.entry.fills records)) so.node (same_filled t.entry.fills records)) in
-      let after : List StoreRecord = records_after layers past t in
+      let after : List StoreRecord = records_after (node_role layers) past t in
       let stored : IsSameNode (config_of t.records) (config_of after) = same_behind t.records _ (stores_none layers safe past t.entry.event t.insight t.entry.answer) in
       let left : IsSameNode own (config_of after) = then_same own (config_of t.records) (config_of after) opened stored in
-      let filled_is : t.records ≡ filled t.entry.fills (records_left layers over [] before) = is ∙ ap (filled t.entry.fills) so.records_are in
-      let is_past : IsPast layers past = record { over = over; handled = so.handled; fills = t.entry.fills; records = filled_is } in
+      let filled_is : t.records ≡ filled t.entry.fills (records_left (node_role layers) over [] before) = is ∙ ap (filled t.entry.fills) so.records_are in
+      let is_past : IsPast (node_role layers) past = record { over = over; handled = so.handled; fills = t.entry.fills; records = filled_is } in
       let own_past : IsOwnPast layers past (config_of after) =
       record {
         handled = is_past;
@@ -118,14 +118,14 @@ module _ (layers : Layers) (safe : AreSafe layers) (sends : SendOwn layers) (own
       record {
         owned = owned;
         so_far = record {
-          handled = handled_more layers over [] before t so.handled filled_is handles;
-          records_are = sym (left_more layers over [] before t);
+          handled = handled_more (node_role layers) over [] before t so.handled filled_is handles;
+          records_are = sym (left_more (node_role layers) over [] before t);
           node = left;
           owned = every_append (λ (u : Told). OwnEntry own u.entry) before (t ∷ []) so.owned (owned, tt);
         };
       }
 
-  entries_own : (records : List StoreRecord) (before ts : List Told) → entries ≡ entries_told before ++ entries_told ts → SoFar records before → AreHandled layers records before ts
+  entries_own : (records : List StoreRecord) (before ts : List Told) → entries ≡ entries_told before ++ entries_told ts → SoFar records before → AreHandled (node_role layers) records before ts
       → Every (HasOrigin own.elements entries) (placed_from (length before) (entries_told ts)) → Every (λ (t : Told). OwnEntry own t.entry) ts
   entries_own records before [] is so h o = tt
   entries_own records before (t ∷ ts) is so h o =
@@ -133,7 +133,7 @@ module _ (layers : Layers) (safe : AreSafe layers) (sends : SendOwn layers) (own
       let further : entries ≡ entries_told (before ++ t ∷ []) ++ entries_told ts = is ∙ split before t ts in
       let places : Every (HasOrigin own.elements entries) (placed_from (length (before ++ t ∷ [])) (entries_told ts)) =
       subst (λ n. Every (HasOrigin own.elements entries) (placed_from n (entries_told ts))) (sym (length-append before (t ∷ []))) o.1 in
-      (one.owned, entries_own (records_after layers (past_of before t) t) (before ++ t ∷ []) ts further one.so_far h.2 places)
+      (one.owned, entries_own (records_after (node_role layers) (past_of before t) t) (before ++ t ∷ []) ts further one.so_far h.2 places)
     where
       split : (xs : List Told) (t : Told) (ts : List Told) → entries_told xs ++ entries_told (t ∷ ts) ≡ entries_told (xs ++ t ∷ []) ++ entries_told ts
       split [] t ts = refl
@@ -141,7 +141,7 @@ module _ (layers : Layers) (safe : AreSafe layers) (sends : SendOwn layers) (own
 
 -- All entries of a life, from what it opened over.
 pub life_own : (layers : Layers) → AreSafe layers → SendOwn layers → (own : Config) (over : List StoreRecord) (told : List Told) → 1 ≤ own.elements → IsSameNode own (config_of over)
-    → AreHandled layers over [] told → Every (HasOrigin own.elements (entries_told told)) (placed_from 0 (entries_told told)) → Every (OwnEntry own) (entries_told told)
+    → AreHandled (node_role layers) over [] told → Every (HasOrigin own.elements (entries_told told)) (placed_from 0 (entries_told told)) → Every (OwnEntry own) (entries_told told)
 life_own layers safe sends own over told some node h o =
     every_of_map (OwnEntry own) (λ (t : Told). t.entry) told
     (entries_own layers safe sends own some over (entries_told told) over [] told refl (record { handled = tt; records_are = refl; node = node; owned = tt }) h o)

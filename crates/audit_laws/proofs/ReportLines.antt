@@ -29,14 +29,14 @@ use Rattle.report_definitions.specs.Record.{Life, LifeOver, first_over, shown, s
 use Rattle.report_definitions.specs.Report.{bearer_lines, end_lines, entry_lines, life_lines, lives_lines, opened_line, send_lines}
 use Rattle.event_definitions.specs.Answers.{accepted as accepted_by, answer_of}
 use Rattle.event_definitions.specs.Fit.{IsOwn}
-use Rattle.event_definitions.specs.Handling.{AreHandled, past_of, records_left}
+use Rattle.event_definitions.specs.Handling.{AreHandled, past_of, records_after, records_left}
 use Rattle.event_definitions.specs.History.{Insight, Past, Told}
 use Rattle.event_definitions.specs.Layers.{Layers}
 use Rattle.run_definitions.specs.Lines.{Shows, shows_bcn, shows_ctl, shows_first, shows_late, shows_long, shows_msg, shows_relay, shows_rep, shows_seg, shows_sent, shows_sent_long, shows_spent}
 use Rattle.run_definitions.specs.Order.{Step, phases_of, placed_from}
 use Rattle.event_definitions.specs.Readings.{Sees, sees_beacon, sees_nothing, sees_pdu}
 use Rattle.run_definitions.specs.RunOf.{LifeOf, LivesOf, draws}
-use Rattle.event_definitions.specs.Stores.{records_after, stores}
+use Rattle.event_definitions.specs.Stores.{stores}
 use Rattle.run_definitions.specs.Uses.{life_delivered}
 use Rattle.event_definitions.proofs.Events.{Silent, beacon_silent, nothing_silent, silent, unless_silent}
 use Rattle.run_safety.proofs.LifeLines as lines
@@ -45,11 +45,13 @@ use Rattle.event_definitions.proofs.Each.{every_append, every_back, every_front}
 use Rattle.run_safety.proofs.Lives.{life_later}
 use Rattle.run_safety.proofs.Names.{filled_is, left_is}
 use Rattle.run_safety.proofs.Rising.{Later, later_after}
-use Rattle.run_safety.proofs.Sending.{Foreign}
+use Rattle.run_safety.specs.SafeRole.{Foreign}
 use Rattle.run_safety.proofs.Walking.{ForeignJob, ShownFits, Tag, doubled, tags, tags_of}
 use Rattle.run_safety.specs.Rules.{LifeBy, LivesBy, enough_rules}
 use Rattle.run_safety.specs.Safety.{all_draws}
 use Rattle.event_definitions.specs.Safe.{AreSafe}
+use Rattle.event_definitions.specs.Role.{node_role}
+use Rattle.run_safety.proofs.NodeRole.{node_is_safe}
 use Rattle.store_definitions.specs.Config.{Config, config_of, is_element}
 use Rattle.store_definitions.specs.Ranges.{IsInRange, IsNameInRange}
 use Rattle.audit_laws.specs.Laws.{NamesElement, SendOwn}
@@ -145,15 +147,15 @@ answer_fits layers past _ _ answer (sees_pdu {octets = octets} {reading = readin
 answer_fits layers past _ _ answer (sees_beacon {b = b} reset k) e h = silent_fits answer _ e (unless_silent past _ (beacon_silent layers past b))
 answer_fits layers past _ _ answer (sees_nothing {event = event} k) e h = silent_fits answer _ e (nothing_silent layers past event)
 
-answers_fit : (layers : Layers) (records : List StoreRecord) (before ts : List Told) → AreHandled layers records before ts → Every IsInRange (records_left layers records before ts)
+answers_fit : (layers : Layers) (records : List StoreRecord) (before ts : List Told) → AreHandled (node_role layers) records before ts → Every IsInRange (records_left (node_role layers) records before ts)
     → Every (λ (e : Entry). AnswerFits e.answer) (map (λ t. t.entry) ts)
 answers_fit layers records before [] h r = tt
 answers_fit layers records before (t ∷ ts) h r =
     let past : Past = past_of before t in
-    let left = left_is layers (records_after layers past t) (before ++ t ∷ []) ts h.2 in
-    let after : Every IsInRange (records_after layers past t) = every_front IsInRange (records_after layers past t) left.0 (subst (Every IsInRange) left.1 r) in
+    let left = left_is (node_role layers) (records_after (node_role layers) past t) (before ++ t ∷ []) ts h.2 in
+    let after : Every IsInRange (records_after (node_role layers) past t) = every_front IsInRange (records_after (node_role layers) past t) left.0 (subst (Every IsInRange) left.1 r) in
     let stored : Every IsInRange (stores layers past t.entry.event t.insight t.entry.answer) = every_back IsInRange t.records _ after in
-    (answer_fits layers past t.entry.event t.insight t.entry.answer h.1.sees h.1.answer stored, answers_fit layers (records_after layers past t) (before ++ t ∷ []) ts h.2 r)
+    (answer_fits layers past t.entry.event t.insight t.entry.answer h.1.sees h.1.answer stored, answers_fit layers (records_after (node_role layers) past t) (before ++ t ∷ []) ts h.2 r)
 
 -- A life.
 
@@ -166,7 +168,7 @@ same_by : (own c : Config) → Later own c → IsSameNode own c
 same_by own c h = record { unicast = h.unicast; elements = h.elements }
 
 module _ (layers : Layers) (safe : AreSafe layers) (sends : SendOwn layers) (own : Config) (has : HasElement own) (plan : List Step) (over : List StoreRecord) (l : Life) (next : List StoreRecord)
-    (h : LifeOf layers plan over l next) (by : LifeBy enough_rules layers plan over l next) (later : Later own (config_of over)) (asks : Every (Every (Every (NamesElement own.elements))) (phases_of plan)) where
+    (h : LifeOf (node_role layers) plan over l next) (by : LifeBy enough_rules (node_role layers) plan over l next) (later : Later own (config_of over)) (asks : Every (Every (Every (NamesElement own.elements))) (phases_of plan)) where
   trace : Traced own.elements l
   trace = life_traced own.elements plan l asks h.order h.idle
 
@@ -176,10 +178,10 @@ module _ (layers : Layers) (safe : AreSafe layers) (sends : SendOwn layers) (own
       (life_own layers safe sends own over h.told has.some (same_by own (config_of over) later) h.handled
       (subst (λ es. Every (HasOrigin own.elements es) (placed_from 0 es)) (sym h.entries) trace.origins))
 
-  ranges : Every IsInRange (records_left layers over [] h.told)
+  ranges : Every IsInRange (records_left (node_role layers) over [] h.told)
   ranges =
       let whole = recursion_from_All IsInRange _ h.leaves.ranges in
-      let left : List StoreRecord = records_left layers over [] h.told in
+      let left : List StoreRecord = records_left (node_role layers) over [] h.told in
       let filled = filled_is l.refills left in
       every_front IsInRange left filled.0 (subst (Every IsInRange) filled.1 (every_front IsInRange _ h.leaves.more whole))
 
@@ -189,7 +191,7 @@ module _ (layers : Layers) (safe : AreSafe layers) (sends : SendOwn layers) (own
   life_fits : LifeFits own l
   life_fits = record {
     entries = subst (Every (λ (e : Entry). AnswerFits e.answer)) h.entries (answers_fit layers over [] h.told h.handled ranges);
-    sends = all_fit own has l.entries owned l.sends shown_all (lines.life_lines layers safe plan over l next by own later).shown;
+    sends = all_fit own has l.entries owned l.sends shown_all (lines.life_lines (node_role layers) (node_is_safe layers safe) plan over l next by own later).shown;
     tagged = all_tagged l.entries l.sends shown_all;
   }
 
@@ -321,12 +323,12 @@ abbrev pub AskPlans : ℕ → List (List Step) → Type 0
 AskPlans elements plans = Every (λ plan. Every (Every (Every (NamesElement elements))) (phases_of plan)) plans
 
 pub lives_fit : (layers : Layers) → AreSafe layers → SendOwn layers → (own : Config) → HasElement own → (plans : List (List Step)) (lives : List LifeOver) (last : List StoreRecord)
-    → LivesOf layers plans lives last → LivesBy enough_rules layers plans lives last → AskPlans own.elements plans → Later own (config_of (first_over lives last)) → LivesFit own lives
+    → LivesOf (node_role layers) plans lives last → LivesBy enough_rules (node_role layers) plans lives last → AskPlans own.elements plans → Later own (config_of (first_over lives last)) → LivesFit own lives
 lives_fit layers safe sends own has [] [] last h by asks later = no_life own
 lives_fit layers safe sends own has [] (x ∷ xs) last h by asks later = absurd h
 lives_fit layers safe sends own has (plan ∷ plans) [] last h by asks later = no_life own
 lives_fit layers safe sends own has (plan ∷ plans) (x ∷ xs) last h by asks later =
     let next : List StoreRecord = first_over xs last in
-    let after : Later own (config_of next) = later_after own (config_of x.over) (config_of next) later (life_later layers safe plan x.over x.life next by.0) in
-    life_more own x xs (life_fits layers safe sends own has plan x.over x.life next h.0 by.0 later asks.0) (lines.life_lines layers safe plan x.over x.life next by.0 own later).sub
+    let after : Later own (config_of next) = later_after own (config_of x.over) (config_of next) later (life_later (node_role layers) (node_is_safe layers safe) plan x.over x.life next by.0) in
+    life_more own x xs (life_fits layers safe sends own has plan x.over x.life next h.0 by.0 later asks.0) (lines.life_lines (node_role layers) (node_is_safe layers safe) plan x.over x.life next by.0 own later).sub
     (lives_fit layers safe sends own has plans xs last h.1 by.1 asks.1 after)

@@ -25,6 +25,8 @@ use Rattle.run_safety.proofs.Walking.{Tag}
 use Rattle.run_safety.specs.Rules.{LivesBy, enough_rules}
 use Rattle.run_safety.specs.Safety.{all_draws}
 use Rattle.event_definitions.specs.Safe.{AreSafe}
+use Rattle.event_definitions.specs.Role.{node_role}
+use Rattle.run_safety.proofs.NodeRole.{node_is_safe}
 use Rattle.store_definitions.specs.Config.{Config, changed, config_of}
 use Rattle.store_definitions.specs.Provisioning.{Provisioning, provisioned}
 use Rattle.store_definitions.specs.Ranges.{IsInRange}
@@ -87,12 +89,12 @@ provisioned_node : (p : Provisioning) → ((config_of (provisioned p)).elements 
 unfolding changed
 provisioned_node p = (refl, refl)
 
-over_ranges : (layers : Layers) (plan : List Step) (over : List StoreRecord) (l : Life) (next : List StoreRecord) → LifeOf layers plan over l next → Every IsInRange over
+over_ranges : (layers : Layers) (plan : List Step) (over : List StoreRecord) (l : Life) (next : List StoreRecord) → LifeOf (node_role layers) plan over l next → Every IsInRange over
 over_ranges layers plan over l next h =
     let whole = recursion_from_All IsInRange _ h.leaves.ranges in
-    let left : List StoreRecord = records_left layers over [] h.told in
+    let left : List StoreRecord = records_left (node_role layers) over [] h.told in
     let filled = filled_is l.refills left in
-    let rest = left_is layers over [] h.told h.handled in
+    let rest = left_is (node_role layers) over [] h.told h.handled in
     every_front IsInRange over rest.0 (subst (Every IsInRange) rest.1 (every_front IsInRange left filled.0 (subst (Every IsInRange) filled.1 (every_front IsInRange _ h.leaves.more whole))))
 
 has_element : (p : Provisioning) → Every IsInRange (provisioned p) → HasElement (config_of (provisioned p))
@@ -112,7 +114,7 @@ ask_plans elements plans h =
     (recursion_from_All (λ plan. All (λ phase. All (λ events. All (NamesElement elements) events) phase) (phases_of plan)) plans h)
 
 run_fits : (layers : Layers) → AreSafe layers → SendOwn layers → (node : Provisioning) (plans : List (List Step)) (lives : List LifeOver) (last : List StoreRecord)
-    → first_over lives last ≡ provisioned node → LivesOf layers plans lives last → LivesBy enough_rules layers plans lives last → AskPlans node.elements plans
+    → first_over lives last ≡ provisioned node → LivesOf (node_role layers) plans lives last → LivesBy enough_rules (node_role layers) plans lives last → AskPlans node.elements plans
     → LivesFit (config_of (first_over lives last)) lives
 run_fits layers safe sends node plans [] last first h by asks = no_life (config_of last)
 run_fits layers safe sends node [] (x ∷ xs) last first h by asks = absurd h
@@ -136,16 +138,16 @@ pub record SafeLines (own : Config) (lines : List ReportLine) : Type 0 where
   pub seals : Apart SealApart lines
   pub accepts : Apart AcceptApart lines
 
-pub run_lines : (layers : Layers) → AreSafe layers → SendOwn layers → (s : Script) (r : Run) → NamesElements s → RunOf layers s r → (hex : Bool) → SafeLines (node_of r) (lives_lines hex 1 r.lives)
+pub run_lines : (layers : Layers) → AreSafe layers → SendOwn layers → (s : Script) (r : Run) → NamesElements s → RunOf (node_role layers) s r → (hex : Bool) → SafeLines (node_of r) (lives_lines hex 1 r.lives)
 run_lines layers safe sends s r asks h hex =
-    let by = run_by_enough layers s r h in
+    let by = run_by_enough (node_role layers) s r h in
     let fit : LivesFit (node_of r) r.lives = run_fits layers safe sends s.node s.lives r.lives r.last h.first h.lives by.lives (ask_plans s.node.elements s.lives asks) in
-    let drawn : Drawn r.lives r.last = lives_drawn layers safe s.lives r.lives r.last by.lives in
+    let drawn : Drawn r.lives r.last = lives_drawn (node_role layers) (node_is_safe layers safe) s.lives r.lives r.last by.lives in
     let once = apart_sub (λ s t. s ≢ t) fit.sub (doubled_apart (all_draws r.lives) drawn.once) in
     let wide = every_sub (λ (t : Tag). Wide t.pair) fit.sub (both_wide (all_draws r.lives) drawn.wide) in
     let lines : List ReportLine = lives_lines hex 1 r.lives in
     let tagged = fit.tagged hex 1 in
-    let differ = apart_from_pairs (λ m n. m ≢ n) (delivered r) (enough.at_most_once layers safe s r h) in
+    let differ = apart_from_pairs (λ m n. m ≢ n) (delivered r) (enough.at_most_once (node_role layers) (node_is_safe layers safe) s r h) in
     record {
       fits = fit.fits hex 1;
       wide = every_parts (λ (t : Tag). Wide t.pair) line_tags lines (subst (Every (λ (t : Tag). Wide t.pair)) (sym tagged) wide);

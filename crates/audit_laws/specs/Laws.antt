@@ -19,6 +19,7 @@ use Rattle.event_definitions.specs.Layers.{AccessMessage, ControlMessage, Layers
 use Rattle.run_definitions.specs.Order.{phases_of}
 use Rattle.run_definitions.specs.RunOf.{RunOf, Script}
 use Rattle.event_definitions.specs.Safe.{AreSafe}
+use Rattle.event_definitions.specs.Role.{node_role}
 use Rattle.script_definitions.specs.declared.line.ScriptNet.{ScriptNet}
 use Rattle.store_definitions.specs.Config.{Config}
 
@@ -37,7 +38,7 @@ NamesElements s =
 
 -- What stands before an event in a node that has an element: what it was asked to send came from its elements, and they are still the same.
 pub record IsOwnPast (layers : Layers) (past : Past) (c : Config) : Type 0 where
-  pub handled : IsPast layers past
+  pub handled : IsPast (node_role layers) past
   pub some : 1 ≤ (config_before past).elements
   pub asked : HasOwnEvents past
   pub elements : HasElements past c
@@ -73,7 +74,7 @@ TellsNothingTwice (V.Bad line) = ⊤
 -- whatever is wrong with them is a bad line.
 abbrev pub AreReportsSafe : Layers → Type 0
 AreReportsSafe layers =
-    (s : Script) (r : Run) → NamesElements s → RunOf layers s r
+    (s : Script) (r : Run) → NamesElements s → RunOf (node_role layers) s r
     → (keys : List ℕ) (nets : List ScriptNet) → IsInput keys nets []
     → (hex : Bool) (given : List ScriptNet) (lines : List ReportLine) → IsInput (keys ++ report_text r hex) given lines
     → (v : Verdict) → IsWrong given lines v → TellsNothingTwice v
@@ -81,7 +82,7 @@ AreReportsSafe layers =
 -- so no verdict of an audit on this text is one of the two
 abbrev pub AreVerdictsSafe : Layers → Type 0
 AreVerdictsSafe layers =
-    (s : Script) (r : Run) → NamesElements s → RunOf layers s r
+    (s : Script) (r : Run) → NamesElements s → RunOf (node_role layers) s r
     → (keys : List ℕ) (nets : List ScriptNet) → IsInput keys nets []
     → (hex : Bool) (v : Verdict) → IsVerdict (keys ++ report_text r hex) v → TellsNothingTwice v
 

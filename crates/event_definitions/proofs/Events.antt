@@ -1,5 +1,4 @@
--- What the table of answers says of an accepted message: its IV Index is read, its name is newer than the entry of
--- its source, and its source is no element of this node.
+-- Which events are answered by an accepted message: of all events only a PDU, and of PDUs one whose name may be accepted.
 use Rattle.std.proofs.Common.{◌≡◌, Bool, true, false, cond, not, ◌||◌, eqb, leb, refl, Option, Some, None}
 use Rattle.std.specs.Option.{is_some}
 use Rattle.layer_definitions.specs.KeyRefresh.{app_row}
@@ -35,7 +34,7 @@ pdu_accepts layers past r low opening n e =
     let (passed, rest) = past_refusal (network_answer past r) _ n (network_refuses past r) e in
     transport_accepts layers past r low opening n rest
 
--- Of all events only a PDU is answered so, and its IV Index is the known one or the one before.
+-- Of all events only a PDU is answered so.
 
 pub data Silent : Answer → Type 0 where
   silent : {a : Answer} → accepted a ≡ None → Silent a

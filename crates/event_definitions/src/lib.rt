@@ -3,6 +3,7 @@
 //!
 //! - `History`, `Layers`: the entries of a life with what their octets were read as, and what the upper layers say of them
 //! - `Answers`, `Readings`, `Stores`, `Jobs`: the answer of an event, what its octets are read as, the records that it stores, and its jobs
+//! - `Role`: a kind of node, as what it makes of an event; a node's, with given layers
 //! - `Handling`: how an event is handled, and how the entries of a life follow from one another
 //! - `Safe`, `Fit`: what safety and the store ask of the upper layers: what they store and send
 //!

@@ -1,11 +1,9 @@
 -- A life is one of its plan.
-use Rattle.std.proofs.Common.{◌≡◌, ◌∙◌, ◌≢◌, ◌⊎◌, ⊎_elim, ℕ, zero, suc, ◌<◌, ◌≤◌, true, false, true≢false, Bool, List, [], ◌∷◌, length, map, take, refl, sym, ap, subst, arith}
+use Rattle.std.proofs.Common.{◌≡◌, ◌∙◌, ◌≢◌, ◌⊎◌, ⊎_elim, ℕ, suc, ◌<◌, ◌≤◌, true, false, true≢false, Bool, List, [], ◌∷◌, length, map, take, refl, sym, ap, subst, arith}
 use Rattle.std.specs.Prelude.{◌^◌, All, AllPairs, IsTrue}
 use Rattle.std.specs.List.{filter, filter_map, flat_map, range_with_len, slice_get}
 use Rattle.std.proofs.lemmas.List.Elements.{All-nil}
-use Rattle.mesh_types.specs.declared.answers.Answer.{Answer}
 use Rattle.mesh_types.specs.declared.events.Event.{Event}
-use Rattle.mesh_types.specs.declared.events.Event.TheVariants as E
 use Rattle.mesh_types.specs.declared.report.Opened.TheVariants as W
 use Rattle.record_types.specs.declared.records.StoreRecord.{StoreRecord}
 use Rattle.report_definitions.specs.Record.{Life, Shown, list_at, shown, shown_of}
@@ -14,13 +12,11 @@ use Rattle.mesh_base.specs.declared.pair.Pair.{Pair}
 use Rattle.mesh_types.specs.declared.history.Entry.{Entry}
 use Rattle.node_phase.proofs.Mine.{kept_no, kept_yes}
 use Rattle.store_definitions.specs.Numbers.{fill_of, filled}
-use Rattle.event_definitions.specs.Answers.{answer_of}
 use Rattle.event_definitions.specs.Handling.{AreHandled}
-use Rattle.event_definitions.specs.History.{Insight, Past, Told}
-use Rattle.event_definitions.specs.Layers.{Layers}
+use Rattle.event_definitions.specs.History.{Past, Told}
+use Rattle.event_definitions.specs.Role.{Role}
 use Rattle.run_definitions.specs.Order.{Step, is_cut, is_outside, phases_of}
 use Rattle.run_definitions.specs.RunOf.{IsDrawn, IsNumbered, IsSpentRight, Leaves, LifeOf, Opens, draws, is_on, no_record, of_event, of_refill, opens, past_at_end, plan_events}
-use Rattle.event_definitions.specs.Stores.{stores}
 use Rattle.store_definitions.specs.Config.{config_of}
 use Rattle.machine_contract.specs.declared.answers.Hand.{Hand}
 use Rattle.machine_contract.specs.declared.answers.Hand.TheVariants as H
@@ -28,21 +24,6 @@ use Rattle.machine_contract.specs.Opening.{IsLeft}
 use Rattle.machine_contract.specs.Standing.{IsFrontLeft, IsLeftBy, past_now}
 use Rattle.life_laws.specs.Hands.{IsNextIn, outs}
 use Rattle.life_laws.specs.Phases.{AreOrdered, entries_by}
-
--- a node's own event stores nothing
-stores_inside : (layers : Layers) (past : Past) (event : Event) (insight : Insight) (answer : Answer) → is_outside event ≡ false → stores layers past event insight answer ≡ []
-unfolding stores
-stores_inside layers past (E.Net octets) insight answer e = absurd (true≢false e)
-stores_inside layers past (E.Bcn octets) insight answer e = absurd (true≢false e)
-stores_inside layers past (E.Send element dst ttl key payload) insight answer e = absurd (true≢false e)
-stores_inside layers past (E.Raw dst ttl tpdu) insight answer e = absurd (true≢false e)
-stores_inside layers past (E.Tick ticks) insight answer e = absurd (true≢false e)
-stores_inside layers past (E.Begin m) insight answer e = refl
-stores_inside layers past (E.Kept lpn fsn name octets) insight answer e = refl
-
-take_nil : {A : Type 0} (n : ℕ) → take {A = A} n [] ≡ []
-take_nil zero = refl
-take_nil (suc n) = refl
 
 outs_length : (es : List Entry) → length (outs es) ≡ length (filter (λ e. is_outside e.event) es)
 outs_length [] = refl
@@ -53,30 +34,28 @@ outs_length (e ∷ es) = by_test (is_outside e.event) refl (outs_length es) wher
   by_test false other h =
       ap length (kept_no is_outside e.event (map (λ (x : Entry). x.event) es) other) ∙ h ∙ sym (ap length (kept_no (λ (x : Entry). is_outside x.event) e es other))
 
-module _ (layers : Layers) (plan : List Step) (over next : List StoreRecord) (told : List Told) (l : Life) where
+module _ (role : Role) (plan : List Step) (over next : List StoreRecord) (told : List Told) (l : Life) where
   abbrev past : Past
-  past = past_at_end layers over l told
+  past = past_at_end role over l told
 
-  plainly : IsLeft past.records [] next → Leaves layers plan l past next
+  plainly : IsLeft past.records [] next → Leaves role plan l past next
   plainly h = record { more = []; outlasts = no_record; ranges = h.ranges; alike = h.alike }
 
-  by_front : (event : Event) → IsTrue (is_on l.opened) → IsTrue (is_cut l.end) → (is_outside event ≡ true → IsNextIn (phases_of plan) l.entries event) → IsFrontLeft layers past event next → (b : Bool) → is_outside event ≡ b
-      → Leaves layers plan l past next
+  by_front : (event : Event) → IsTrue (is_on l.opened) → IsTrue (is_cut l.end) → (is_outside event ≡ true → IsNextIn (phases_of plan) l.entries event) → IsFrontLeft role past event next → (b : Bool) → is_outside event ≡ b
+      → Leaves role plan l past next
   by_front event on cut next_in h true out =
       let n = next_in out in
       record {
-        more = take h.count (stores layers past event h.insight (answer_of layers past event h.insight));
+        more = take h.count (role.stores past event h.insight (role.answer past event h.insight));
         outlasts = of_event n.bearer h.count event h.insight on cut (ap (slice_get (plan_events plan n.bearer)) (sym (outs_length (entries_by n.bearer l.entries))) ∙ n.next) h.sees;
         ranges = h.left.ranges;
         alike = h.left.alike;
       }
   by_front event on cut next_in h false inside =
-      let nothing : take h.count (stores layers past event h.insight (answer_of layers past event h.insight)) ≡ [] =
-      ap (take h.count) (stores_inside layers past event h.insight (answer_of layers past event h.insight) inside) ∙ take_nil h.count in
-      plainly (subst (λ more. IsLeft past.records more next) nothing h.left)
+      absurd (true≢false (sym h.outside ∙ inside))
 
   leaves_by : (hand : Hand) → IsTrue (is_on l.opened) → ((hand ≡ H.Nothing) ⊎ (is_cut l.end ≡ true)) → ((event : Event) → hand ≡ H.OfEvent event → is_outside event ≡ true → IsNextIn (phases_of plan) l.entries event)
-      → IsLeftBy layers past hand next → Leaves layers plan l past next
+      → IsLeftBy role past hand next → Leaves role plan l past next
   leaves_by H.Nothing on cut next_in h = plainly h
   leaves_by (H.OfEvent event) on cut next_in h =
       let is : is_cut l.end ≡ true = ⊎_elim (λ bad. absurd (let no_hand : H.OfEvent event ≡ H.Nothing = bad in cc)) (λ c. c) cut in
@@ -86,10 +65,10 @@ module _ (layers : Layers) (plan : List Step) (over next : List StoreRecord) (to
       ⊎_elim plainly (λ left. record { more = fill_of (config_of past.records) ∷ []; outlasts = of_refill on is; ranges = left.ranges; alike = left.alike }) h
 
   pub life_of : (hand : Hand) → (config_of over).reset ≡ false → l.opened ≡ W.On (config_of over).iv (config_of over).mark
-      → map (λ t. t.entry) told ≡ l.entries → AreHandled layers over [] told → ((k : ℕ) → IsNumbered l k) → AreOrdered (is_cut l.end) (phases_of plan) l.entries l.sends
-      → IsLeftBy layers (past_now layers over told l.refills) hand next → ((hand ≡ H.Nothing) ⊎ (is_cut l.end ≡ true))
+      → map (λ t. t.entry) told ≡ l.entries → AreHandled role over [] told → ((k : ℕ) → IsNumbered l k) → AreOrdered (is_cut l.end) (phases_of plan) l.entries l.sends
+      → IsLeftBy role (past_now role over told l.refills) hand next → ((hand ≡ H.Nothing) ⊎ (is_cut l.end ≡ true))
       → ((event : Event) → hand ≡ H.OfEvent event → is_outside event ≡ true → IsNextIn (phases_of plan) l.entries event)
-      → IsDrawn over next l → All (λ s. IsSpentRight (config_of next).mark s.outcome) (shown l) → LifeOf layers plan over l next
+      → IsDrawn over next l → All (λ s. IsSpentRight (config_of next).mark s.outcome) (shown l) → LifeOf role plan over l next
   life_of hand runs opened entries handled numbers ordered left cut next_in drawn spent =
       let on : is_on l.opened ≡ true = ap is_on opened in
       record {
@@ -105,7 +84,7 @@ module _ (layers : Layers) (plan : List Step) (over next : List StoreRecord) (to
         spent = spent;
       }
 
-module _ (layers : Layers) (plan : List Step) (over next : List StoreRecord) (l : Life) (off : is_on l.opened ≡ false) (entries : l.entries ≡ []) (refills : l.refills ≡ 0) (sends : l.sends ≡ []) where
+module _ (role : Role) (plan : List Step) (over next : List StoreRecord) (l : Life) (off : is_on l.opened ≡ false) (entries : l.entries ≡ []) (refills : l.refills ≡ 0) (sends : l.sends ≡ []) where
   nothing_shown : shown l ≡ []
   nothing_shown = ap (flat_map (filter_map (shown_of l.entries))) sends
 
@@ -120,7 +99,7 @@ module _ (layers : Layers) (plan : List Step) (over next : List StoreRecord) (l 
         rise = λ k. subst (λ ss. AllPairs (λ p q. word_of p < word_of q) (draws (filter_map (shown_of l.entries) (list_at ss k)))) (sym sends) (λ i j p lt within. absurd (omega (arith, within)));
       }
 
-  pub idle_life : Opens (config_of over) l.opened l.end → IsLeft over [] next → LifeOf layers plan over l next
+  pub idle_life : Opens (config_of over) l.opened l.end → IsLeft over [] next → LifeOf role plan over l next
   idle_life opening left = record {
     opening = opening;
     idle = λ e. record { entries = entries; refills = refills; sends = λ k. ap (λ ss. list_at ss k) sends };
@@ -129,7 +108,7 @@ module _ (layers : Layers) (plan : List Step) (over next : List StoreRecord) (l 
     handled = tt;
     numbers = λ k. subst (λ es. map (λ e. e.number) (entries_by k es) ≡ range_with_len 1 (length (entries_by k es))) (sym entries) refl;
     order = λ is. absurd (true≢false (sym is ∙ off));
-    leaves = subst (λ n. Leaves layers plan l (record { told = []; records = filled n over }) next) (sym refills) (record { more = []; outlasts = no_record; ranges = left.ranges; alike = left.alike });
+    leaves = subst (λ n. Leaves role plan l (record { told = []; records = filled n over }) next) (sym refills) (record { more = []; outlasts = no_record; ranges = left.ranges; alike = left.alike });
     drawn = nothing_drawn;
     spent = subst (All (λ s. IsSpentRight (config_of next).mark s.outcome)) (sym nothing_shown) (All-nil (λ (s : Shown). IsSpentRight (config_of next).mark s.outcome));
   }

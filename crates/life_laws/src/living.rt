@@ -9,7 +9,6 @@ ghost use Rattle.record_types.specs.declared.records.StoreRecord.{StoreRecord};
 ghost use Rattle.report_definitions.specs.Record.{Life, shown};
 ghost use Rattle.event_definitions.specs.Handling.{AreHandled};
 ghost use Rattle.event_definitions.specs.History.{Told};
-ghost use Rattle.event_definitions.specs.Layers.{Layers};
 ghost use Rattle.run_definitions.specs.Order.{Step, is_cut, is_outside, phases_of};
 ghost use Rattle.run_definitions.specs.RunOf.{IsDrawn, IsNumbered, IsSpentRight, LifeOf};
 ghost use Rattle.store_definitions.specs.Config.{config_of};
@@ -20,26 +19,28 @@ ghost use Rattle.machine_contract.specs.Standing.{IsLeftBy, past_now};
 ghost use Rattle.life_laws.specs.Hands.{IsNextIn};
 ghost use Rattle.life_laws.specs.Phases.{AreOrdered};
 
+use machine_contract::Machine;
+
 /// When a life is one of its plan that opened over the one list of records and leaves the other.
-pub fn life_law()
+pub fn life_law<M: Machine>()
     // a life that was run
-    ensures run { (layers : Layers) (plan : List Step) (over next : List StoreRecord) (told : List Told) (l : Life)
+    ensures run { (plan : List Step) (over next : List StoreRecord) (told : List Told) (l : Life)
         (hand : Hand)
         → (config_of over).reset ≡ false → l.opened ≡ Opens.On (config_of over).iv (config_of over).mark
-        → map (λ t. t.entry) told ≡ l.entries → AreHandled layers over [] told → ((k : ℕ) → IsNumbered l k)
+        → map (λ t. t.entry) told ≡ l.entries → AreHandled M.role over [] told → ((k : ℕ) → IsNumbered l k)
         → AreOrdered (is_cut l.end) (phases_of plan) l.entries l.sends
-        → IsLeftBy layers (past_now layers over told l.refills) hand next
+        → IsLeftBy M.role (past_now M.role over told l.refills) hand next
         → ((hand ≡ Hands.Nothing) ⊎ (is_cut l.end ≡ true))
         → ((event : Event) → hand ≡ Hands.OfEvent event → is_outside event ≡ true
         → IsNextIn (phases_of plan) l.entries event)
         → IsDrawn over next l → All (λ s. IsSpentRight (config_of next).mark s.outcome) (shown l)
-        → LifeOf layers plan over l next }
+        → LifeOf M.role plan over l next }
     // a life that wasn't run since there was a Node Reset, and one that was cut while it opened
-    ensures reset { (layers : Layers) (plan : List Step) (over next : List StoreRecord) → (config_of over).reset ≡ true
+    ensures reset { (plan : List Step) (over next : List StoreRecord) → (config_of over).reset ≡ true
         → IsLeft over [] next
-        → LifeOf layers plan over
+        → LifeOf M.role plan over
         (record { opened = Opens.WasReset; entries = []; refills = 0; sends = []; end = Ends.Ended }) next }
-    ensures cut { (layers : Layers) (plan : List Step) (over next : List StoreRecord) (calls : ℕ) → IsLeft over [] next
-        → LifeOf layers plan over
+    ensures cut { (plan : List Step) (over next : List StoreRecord) (calls : ℕ) → IsLeft over [] next
+        → LifeOf M.role plan over
         (record { opened = Opens.CutAtStart; entries = []; refills = 0; sends = []; end = Ends.Cut calls }) next }
 {}

@@ -48,6 +48,7 @@ use Rattle.event_definitions.specs.Jobs.{jobs_of}
 use Rattle.run_definitions.specs.Order.{is_outside}
 use Rattle.event_definitions.specs.Readings.{Sees}
 use Rattle.event_definitions.specs.Stores.{stores}
+use Rattle.event_definitions.specs.Role.{node_role}
 use Rattle.segment_sender.specs.Held.{IsHeldWell}
 use Rattle.seq_reserve.specs.Reserving.{IsPublished}
 use Rattle.seq_reserve.specs.declared.reserve.Reserve.{Reserve}
@@ -77,7 +78,7 @@ pub record IsEntryOf (past : Past) (event : Event) (plan : Plan) (p : Persist) (
   pub jobs : entry.jobs ≡ jobs_of node_layers past (config_in p) event (insight_in plan.basis) plan.answer
 
 plan_handles : (past : Past) (event : Event) (plan : Plan) (t : NodeTablesView) (p : Persist) (entry : Entry) → IsPlanned past event plan t → IsEntryOf past event plan p entry
-    → IsMeaningOf (past.records ++ plan.records) p → Handles node_layers past (told_by past entry (insight_in plan.basis))
+    → IsMeaningOf (past.records ++ plan.records) p → Handles (node_role node_layers) past (told_by past entry (insight_in plan.basis))
 plan_handles past event plan t p entry planned e meaning =
     let i = insight_in plan.basis in
     let after : config_in p ≡ config_of (past.records ++ stores node_layers past entry.event i entry.answer) =
@@ -166,17 +167,17 @@ module _ (laws : AreKeeping) (m : NodeMachine) (event : Event) (plan : Plan) (pl
   -- where all records were stored
   pub event_stands : (old new : Chip) (over : List StoreRecord) (s : Stands old over m) → m.closed ≡ false
       → (r : Reserve) (tables : NodeTablesView) (entry : Entry)
-      → IsPlanned (past_now node_layers over s.life.told m.fills) event plan planned_tables
+      → IsPlanned (past_now (node_role node_layers) over s.life.told m.fills) event plan planned_tables
       → ArePuttable m.reserve.store.persist plan.records → IsBounded m.reserve.store.persist (insight_in plan.basis)
       → ((past : Past) → AreNodeTablesOf planned_tables past → AreNodeTablesOf tables past)
-      → IsEntryOf (past_now node_layers over s.life.told m.fills) event plan r.store.persist entry → entry.fills ≡ m.fills
+      → IsEntryOf (past_now (node_role node_layers) over s.life.told m.fills) event plan r.store.persist entry → entry.fills ≡ m.fills
       → length m.entries + 1 < 2 ^ 32
-      → IsStoreOf new r.store ((past_now node_layers over s.life.told m.fills).records ++ plan.records)
-      → IsMeaningOf ((past_now node_layers over s.life.told m.fills).records ++ plan.records) r.store.persist
+      → IsStoreOf new r.store ((past_now (node_role node_layers) over s.life.told m.fills).records ++ plan.records)
+      → IsMeaningOf ((past_now (node_role node_layers) over s.life.told m.fills).records ++ plan.records) r.store.persist
       → IsPublished r.store r.keeper → Keeps old new
       → Stands new over (entered m r tables entry)
   event_stands old new over s runs r tables entry planned may bounded renewed e fills few store meaning published keeps =
-      let past : Past = past_now node_layers over s.life.told m.fills in
+      let past : Past = past_now (node_role node_layers) over s.life.told m.fills in
       let h : IsBefore past m = (s.usable runs).before in
       let kept : AreKept (config_of past.records) plan.records = plan_kept laws past m event plan planned_tables h planned may bounded in
       entered_stands laws old new over m s runs r tables entry (insight_in plan.basis) plan.records fills
@@ -190,13 +191,13 @@ module _ (laws : AreKeeping) (m : NodeMachine) (event : Event) (plan : Plan) (pl
   -- where the flash failed
   pub event_stops : (old new : Chip) (over : List StoreRecord) (s : Stands old over m) → m.closed ≡ false
       → (r : Reserve) (tables : NodeTablesView)
-      → IsPlanned (past_now node_layers over s.life.told m.fills) event plan planned_tables
+      → IsPlanned (past_now (node_role node_layers) over s.life.told m.fills) event plan planned_tables
       → ArePuttable m.reserve.store.persist plan.records → IsBounded m.reserve.store.persist (insight_in plan.basis)
-      → IsCutIn new (past_now node_layers over s.life.told m.fills).records plan.records r.keeper.mark
+      → IsCutIn new (past_now (node_role node_layers) over s.life.told m.fills).records plan.records r.keeper.mark
       → old.faults < new.faults → Keeps old new
       → Stands new over (stopped m r tables (H.OfEvent event))
   event_stops old new over s runs r tables planned may bounded cut rose keeps =
-      let past : Past = past_now node_layers over s.life.told m.fills in
+      let past : Past = past_now (node_role node_layers) over s.life.told m.fills in
       let h : IsBefore past m = (s.usable runs).before in
       let kept : AreKept (config_of past.records) plan.records = plan_kept laws past m event plan planned_tables h planned may bounded in
       stopped_stands laws old new over m s runs r tables event (insight_in plan.basis) plan.records planned.sees

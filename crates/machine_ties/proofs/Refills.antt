@@ -18,6 +18,7 @@ use Rattle.node_store.specs.Tie.{Holds, IsFront, IsPut, IsStoreOf}
 use Rattle.node_layers.specs.NodeLayers.{node_layers}
 use Rattle.record_types.specs.declared.records.StoreRecord.{StoreRecord}
 use Rattle.event_definitions.specs.History.{Past}
+use Rattle.event_definitions.specs.Role.{node_role}
 use Rattle.seq_reserve.proofs.Marks.{mark_more}
 use Rattle.seq_reserve.specs.Reserving.{IsDurable, IsPublished}
 use Rattle.seq_reserve.specs.declared.reserve.Reserve.{Reserve}
@@ -62,23 +63,23 @@ module _ (laws : AreKeeping) (m : NodeMachine) where
 
   pub refill_stands : (old new : Chip) (over : List StoreRecord) (s : Stands old over m) → m.closed ≡ false → (r : Reserve)
       → IsPublished m.reserve.store m.reserve.keeper → seq_of m.reserve.keeper.mark < 2 ^ 24
-      → IsStoreOf new r.store ((past_now node_layers over s.life.told m.fills).records ++ fill_of (config_of (past_now node_layers over s.life.told m.fills).records) ∷ [])
-      → IsMeaningOf ((past_now node_layers over s.life.told m.fills).records ++ fill_of (config_of (past_now node_layers over s.life.told m.fills).records) ∷ []) r.store.persist
+      → IsStoreOf new r.store ((past_now (node_role node_layers) over s.life.told m.fills).records ++ fill_of (config_of (past_now (node_role node_layers) over s.life.told m.fills).records) ∷ [])
+      → IsMeaningOf ((past_now (node_role node_layers) over s.life.told m.fills).records ++ fill_of (config_of (past_now (node_role node_layers) over s.life.told m.fills).records) ∷ []) r.store.persist
       → IsPublished r.store r.keeper → Keeps old new
       → Stands new over (refilled m r)
   refill_stands old new over s runs r before seq store meaning published keeps =
-      let past : Past = past_now node_layers over s.life.told m.fills in
+      let past : Past = past_now (node_role node_layers) over s.life.told m.fills in
       let h : IsBefore past m = (s.usable runs).before in
       refilled_stands laws old new over m s runs r (fill_kept past.records h.standing.ranges (seq_now past h before seq)) store published meaning
       (omega (arith, s.began, keeps.later, ap (λ (x : Setting). x.faults) keeps.setting))
 
   pub refill_stops : (old new : Chip) (over : List StoreRecord) (s : Stands old over m) → m.closed ≡ false → (r : Reserve)
       → IsPublished m.reserve.store m.reserve.keeper → seq_of m.reserve.keeper.mark < 2 ^ 24
-      → IsCutIn new (past_now node_layers over s.life.told m.fills).records (fill_of (config_of (past_now node_layers over s.life.told m.fills).records) ∷ []) r.keeper.mark
+      → IsCutIn new (past_now (node_role node_layers) over s.life.told m.fills).records (fill_of (config_of (past_now (node_role node_layers) over s.life.told m.fills).records) ∷ []) r.keeper.mark
       → old.faults < new.faults → Keeps old new
       → Stands new over (stopped m r m.tables H.OfRefill)
   refill_stops old new over s runs r before seq cut rose keeps =
-      let past : Past = past_now node_layers over s.life.told m.fills in
+      let past : Past = past_now (node_role node_layers) over s.life.told m.fills in
       let h : IsBefore past m = (s.usable runs).before in
       unfilled_stands laws old new over m s runs r (fill_kept past.records h.standing.ranges (seq_now past h before seq)) cut
       (omega (arith, s.began, rose, ap (λ (x : Setting). x.faults) keeps.setting))

@@ -14,6 +14,7 @@ use Rattle.node_records.specs.declared.persist.Persist.{Persist}
 use Rattle.node_store.specs.Tie.{IsFront, IsNode, IsStoreOf}
 use Rattle.record_types.specs.declared.records.StoreRecord.{StoreRecord}
 use Rattle.event_definitions.specs.History.{Past, Told}
+use Rattle.event_definitions.specs.Role.{node_role}
 use Rattle.seq_reserve.specs.Reserving.{IsDurable, IsPublished}
 use Rattle.seq_reserve.specs.declared.reserve.Reserve.{Reserve}
 use Rattle.store_definitions.specs.Config.{config_of}
@@ -47,8 +48,8 @@ pub record IsOver (chip : Chip) (past : Past) (m : NodeMachine) : Type 0 where
 
 -- A machine stands over a flash and the records that its life opened over.
 pub record Stands (chip : Chip) (over : List StoreRecord) (m : NodeMachine) : Type 0 where
-  pub life : IsLifeSoFar node_layers IsNode chip over (shown m)
-  pub usable : m.closed ≡ false → IsOver chip (past_now node_layers over life.told m.fills) m
+  pub life : IsLifeSoFar (node_role node_layers) IsNode chip over (shown m)
+  pub usable : m.closed ≡ false → IsOver chip (past_now (node_role node_layers) over life.told m.fills) m
   pub began : chip.setting.faults ≤ chip.faults
 
 -- The machine after an event: with this entry, and no refill behind it.

@@ -6,6 +6,7 @@ ghost use Rattle.event_plans.specs.Memory.{AreNodeTablesOf};
 ghost use Rattle.machine_ties.specs.Opening.{start_fault_of};
 ghost use Rattle.machine_ties.specs.Ties.{IsNodeStore, Stands, opened};
 ghost use Rattle.machine_ties.specs.Views.{shown};
+ghost use Rattle.event_definitions.specs.Role.{node_role};
 ghost use Rattle.node_layers.specs.NodeLayers.{node_layers};
 ghost use Rattle.node_records.specs.Meaning.{IsMeaningOf};
 ghost use Rattle.node_store.specs.Tie.{IsNode};
@@ -77,7 +78,7 @@ fn open(alloc: Global, store: Store) -> Result<Started<MeshMachine>, AllocError>
 }
 
 impl Machine for MeshMachine {
-    ghost layers = { node_layers };
+    ghost role = { node_role node_layers };
 
     ghost image = { IsNode };
 

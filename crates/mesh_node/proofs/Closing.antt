@@ -10,7 +10,7 @@ use Rattle.mesh_types.specs.declared.history.Sent.{Sent}
 use Rattle.mesh_types.specs.declared.report.End.TheVariants as Ends
 use Rattle.mesh_types.specs.declared.report.Opened.TheVariants as W
 use Rattle.record_types.specs.declared.records.StoreRecord.{StoreRecord}
-use Rattle.event_definitions.specs.Layers.{Layers}
+use Rattle.event_definitions.specs.Role.{Role}
 use Rattle.run_definitions.specs.Order.{Step, is_cut, phases_of}
 use Rattle.run_definitions.specs.RunOf.{LifeOf, Opens, cut_at_start, is_on, was_reset}
 use Rattle.seq_word.specs.Rule.{IsWithin, times}
@@ -35,10 +35,10 @@ use Rattle.mesh_node.proofs.Giving.{given_one, reached_some}
 use Rattle.mesh_node.proofs.Printing.{idle_printable, sends_short}
 
 -- a life that was run
-module _ {F : Type 0} (layers : Layers) (image : List ℕ → Type 0) (chip : F → Chip) (plan : List Step) (start : F) (node : NodeView F) (d : DrawerView) (log : LifeLog)
+module _ {F : Type 0} (role : Role) (image : List ℕ → Type 0) (chip : F → Chip) (plan : List Step) (start : F) (node : NodeView F) (d : DrawerView) (log : LifeLog)
     (one : (content : List ℕ) (rs ss : List StoreRecord) → IsRecovered content rs → IsRecovered content ss → rs ≡ ss)
     (begun : List StoreRecord) (read : IsRecovered (chip start).now begun) (runs : (config_of begun).reset ≡ false) (opened : log.opened ≡ W.On (config_of begun).iv (config_of begun).mark)
-    (h : IsNode layers image chip node) (is_start : node.start ≡ start) (over : IsOver (phases_of plan) node d (map (λ v. v.items) log.sends.items))
+    (h : IsNode role image chip node) (is_start : node.start ≡ start) (over : IsOver (phases_of plan) node d (map (λ v. v.items) log.sends.items))
     (entries : log.history.entries.items ≡ node.machine.entries) (refills : log.history.refills ≡ node.machine.fills) (cut : is_cut log.end ≡ node.machine.closed)
     (next mark first : ℕ) (order : next ≤ mark) (marks : mark ≡ node.machine.mark) (firsts : first ≡ (config_of begun).mark)
     (from : All (λ x. first ≤ x) d.drawn) (below : All (λ x. x < next) d.drawn) (once : (x : ℕ) → times x d.drawn ≤ 1) (seen : All (IsWithin next mark) d.looks)
@@ -49,8 +49,8 @@ module _ {F : Type 0} (layers : Layers) (image : List ℕ → Type 0) (chip : F 
   begun_is : begun ≡ h.over
   begun_is = one (chip start).now begun h.over read (subst (λ s. IsRecovered (chip s).now h.over) is_start h.read)
 
-  all_lives : EachRecovered (chip node.flash) (λ after. LifeOf layers plan h.over (life_of log) after)
-  all_lives = each_life layers image chip plan node d (map (λ v. v.items) log.sends.items) (life_of log) h over entries refills refl cut
+  all_lives : EachRecovered (chip node.flash) (λ after. LifeOf role plan h.over (life_of log) after)
+  all_lives = each_life role image chip plan node d (map (λ v. v.items) log.sends.items) (life_of log) h over entries refills refl cut
       (subst (λ o. (config_of o).reset ≡ false) begun_is runs) (subst (λ o. log.opened ≡ W.On (config_of o).iv (config_of o).mark) begun_is opened)
       next mark order marks (subst (λ o. All (λ x. (config_of o).mark ≤ x) d.drawn) begun_is (subst (λ m. All (λ x. m ≤ x) d.drawn) firsts from)) below once seen
 
@@ -60,7 +60,7 @@ module _ {F : Type 0} (layers : Layers) (image : List ℕ → Type 0) (chip : F 
     by_closed true is = λ calls mask among. reached_some (chip node.flash).setting.arm (chip node.flash).changes (explained steady (h.life.failed is))
     by_closed false is = given (h.live is)
 
-  pub ran : Ran layers image plan (chip start) log (chip node.flash)
+  pub ran : Ran role image plan (chip start) log (chip node.flash)
   ran = record {
     over = h.over;
     recovered = subst (λ o. IsRecovered (chip start).now o) begun_is read;
@@ -79,12 +79,12 @@ module _ {F : Type 0} (layers : Layers) (image : List ℕ → Type 0) (chip : F 
     armed = given_all;
   }
 
-module _ (layers : Layers) (image : List ℕ → Type 0) (items : List PlanStep) (single : HasOneArm items) (old start new : Chip) (log : LifeLog)
+module _ (role : Role) (image : List ℕ → Type 0) (items : List PlanStep) (single : HasOneArm items) (old start new : Chip) (log : LifeLog)
     (is : old.images start.now) (began : start.setting.faults ≡ old.faults) (order : IsOfPlan (steps_of items) start.setting.arm) (count : KeepsCount old start) where
   abbrev plan : List Step
   plan = steps_of items
 
-  pub lives_ran : Ran layers image plan start log new → Lives layers image plan old log new
+  pub lives_ran : Ran role image plan start log new → Lives role image plan old log new
   lives_ran r =
       let now : new.setting.faults ≡ old.faults = r.later.began ∙ began in
       record {
@@ -107,14 +107,14 @@ module _ (layers : Layers) (image : List ℕ → Type 0) (items : List PlanStep)
 
   -- a life that wasn't run
   pub lives_idle : Keeps start new → (IsTrue old.steady → log.opened ≢ W.WasReset → IsGiven plan new.setting.arm) → (u : IsUntouched image start new) → is_on log.opened ≡ false → log.drawn ≡ None → log.history.entries.items ≡ [] → log.history.refills ≡ 0 → log.sends.items ≡ []
-      → Opens (config_of u.over) log.opened log.end → (is_cut log.end ≡ true → start.faults < new.faults) → IfSome (cut_calls log.end) (λ n. n ≡ new.changes) → Lives layers image plan old log new
+      → Opens (config_of u.over) log.opened log.end → (is_cut log.end ≡ true → start.faults < new.faults) → IfSome (cut_calls log.end) (λ n. n ≡ new.changes) → Lives role image plan old log new
   lives_idle keeps armed u off none entries refills sends opening failed calls =
       record {
         over = u.over;
         image = start.now;
         is_image = is;
         recovered = u.read;
-        life = λ content next among recovers. idle_life layers plan u.over next (life_of log) off entries refills (ap (map (λ (v : Vec Sent Global). v.items)) sends) opening (u.left content next among recovers);
+        life = λ content next among recovers. idle_life role plan u.over next (life_of log) off entries refills (ap (map (λ (v : Vec Sent Global). v.items)) sends) opening (u.left content next among recovers);
         node = u.node;
         printable = idle_printable (life_of log) entries (ap (map (λ (v : Vec Sent Global). v.items)) sends);
         later = subst (λ n. n ≤ new.faults) count.faults keeps.later;
@@ -129,7 +129,7 @@ module _ (layers : Layers) (image : List ℕ → Type 0) (items : List PlanStep)
 
   -- it was cut while it opened
   pub lives_cut : Keeps start new → IsExplained new → IsUntouched image start new → start.faults < new.faults → log.opened ≡ W.CutAtStart → log.end ≡ Ends.Cut new.changes
-      → log.drawn ≡ None → log.history.entries.items ≡ [] → log.history.refills ≡ 0 → log.sends.items ≡ [] → Lives layers image plan old log new
+      → log.drawn ≡ None → log.history.entries.items ≡ [] → log.history.refills ≡ 0 → log.sends.items ≡ [] → Lives role image plan old log new
   lives_cut keeps explained u failed opened end none entries refills sends =
       let later : IsTrue old.steady → new.setting.faults < new.faults → HasGiven plan new.setting.arm =
       λ steady more calls mask among. reached_some new.setting.arm new.changes (explained (subst IsTrue (sym (keeps.steady ∙ count.steady)) steady) more) in
@@ -141,7 +141,7 @@ module _ (layers : Layers) (image : List ℕ → Type 0) (items : List PlanStep)
 
   -- there was a Node Reset
   pub lives_reset : Keeps start new → (u : IsUntouched image start new) → (config_of u.over).reset ≡ true → log.opened ≡ W.WasReset → log.end ≡ Ends.Ended
-      → log.drawn ≡ None → log.history.entries.items ≡ [] → log.history.refills ≡ 0 → log.sends.items ≡ [] → Lives layers image plan old log new
+      → log.drawn ≡ None → log.history.entries.items ≡ [] → log.history.refills ≡ 0 → log.sends.items ≡ [] → Lives role image plan old log new
   lives_reset keeps u reset opened end none entries refills sends =
       lives_idle keeps (λ steady other. absurd (other opened)) u (ap is_on opened) none entries refills sends
       (subst (λ o. Opens (config_of u.over) o log.end) (sym opened) (subst (λ e. Opens (config_of u.over) W.WasReset e) (sym end) (was_reset reset)))

@@ -11,7 +11,7 @@ use Rattle.mesh_types.specs.declared.history.Sent.{Sent}
 use Rattle.mesh_types.specs.declared.events.Event.{Event}
 use Rattle.mesh_types.specs.declared.report.Opened.TheVariants as W
 use Rattle.report_definitions.specs.Record.{Life}
-use Rattle.event_definitions.specs.Layers.{Layers}
+use Rattle.event_definitions.specs.Role.{Role}
 use Rattle.run_definitions.specs.Order.{Step, is_cut, is_outside, phases_of}
 use Rattle.run_definitions.specs.RunOf.{LifeOf}
 use Rattle.seq_word.specs.Rule.{IsWithin, times}
@@ -27,8 +27,8 @@ use Rattle.life_laws.proofs.Drawing.{is_drawn, is_spent}
 use Rattle.life_laws.proofs.OneLife.{life_of}
 use Rattle.mesh_node.specs.Going.{IsOver}
 
-module _ {F : Type 0} (layers : Layers) (image : List ℕ → Type 0) (chip : F → Chip) (plan : List Step) (node : NodeView F) (d : DrawerView) (sends : List (List Sent)) (l : Life)
-    (h : IsNode layers image chip node) (over : IsOver (phases_of plan) node d sends)
+module _ {F : Type 0} (role : Role) (image : List ℕ → Type 0) (chip : F → Chip) (plan : List Step) (node : NodeView F) (d : DrawerView) (sends : List (List Sent)) (l : Life)
+    (h : IsNode role image chip node) (over : IsOver (phases_of plan) node d sends)
     (entries : l.entries ≡ node.machine.entries) (refills : l.refills ≡ node.machine.fills) (lines : l.sends ≡ sends) (cut : is_cut l.end ≡ node.machine.closed)
     (runs : (config_of h.over).reset ≡ false) (opened : l.opened ≡ W.On (config_of h.over).iv (config_of h.over).mark)
     (next mark : ℕ) (order : next ≤ mark) (marks : mark ≡ node.machine.mark)
@@ -51,14 +51,14 @@ module _ {F : Type 0} (layers : Layers) (image : List ℕ → Type 0) (chip : F 
     by_closed true is = h.stopped is
     by_closed false is = absurd (let bad : H.OfEvent event ≡ H.Nothing = sym hand ∙ h.life.idle is in cc)
 
-  pub each_life : EachRecovered (chip node.flash) (λ after. LifeOf layers plan h.over l after)
+  pub each_life : EachRecovered (chip node.flash) (λ after. LifeOf role plan h.over l after)
   each_life content after is_image recovers =
       let left = h.life.left content after is_image recovers in
       let high : mark ≤ (config_of after).mark = subst (λ m. m ≤ (config_of after).mark) (sym marks) left.1 in
       let pairs = subst (λ es. PairsSo es l.sends d) (sym entries) (subst (λ ss. PairsSo node.machine.entries ss d) (sym lines) over.pairs) in
-      life_of layers plan h.over after h.life.told l node.machine.hand runs opened (h.life.entries ∙ sym entries) h.life.handled
+      life_of role plan h.over after h.life.told l node.machine.hand runs opened (h.life.entries ∙ sym entries) h.life.handled
       (λ k. subst (λ es. map (λ e. e.number) (entries_by k es) ≡ range_with_len 1 (length (entries_by k es))) (sym entries) (over.numbers k))
       (subst (λ es. AreOrdered (is_cut l.end) (phases_of plan) es l.sends) (sym entries) (subst (λ ss. AreOrdered (is_cut l.end) (phases_of plan) node.machine.entries ss) (sym lines) (over.ordered (is_cut l.end) cut_stops)))
-      (subst (λ n. IsLeftBy layers (past_now layers h.over h.life.told n) node.machine.hand after) (sym refills) left.0) hand_cut in_hand
+      (subst (λ n. IsLeftBy role (past_now role h.over h.life.told n) node.machine.hand after) (sym refills) left.0) hand_cut in_hand
       (is_drawn h.over after l d pairs from (λ k x lt. let low : slice_index_or d.drawn k x < next = below k x lt in omega (arith, low, order, high)) once)
       (is_spent (config_of after).mark l d pairs (λ word c. let low : word ≤ next = All-contains (IsWithin next mark) d.looks (saw.Counter word) seen c in omega (arith, low, order, high)))

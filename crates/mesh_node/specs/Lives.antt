@@ -8,7 +8,7 @@ use Rattle.mesh_types.specs.declared.report.End.TheVariants as F
 use Rattle.mesh_types.specs.declared.report.Opened.TheVariants as W
 use Rattle.report_definitions.specs.Record.{Life}
 use Rattle.record_types.specs.declared.records.StoreRecord.{StoreRecord}
-use Rattle.event_definitions.specs.Layers.{Layers}
+use Rattle.event_definitions.specs.Role.{Role}
 use Rattle.run_definitions.specs.Order.{Step, is_cut}
 use Rattle.run_definitions.specs.RunOf.{LifeOf}
 use Rattle.store_definitions.specs.Config.{config_of}
@@ -40,13 +40,13 @@ pub record IsPrintable (life : Life) : Type 0 where
   pub lines : All (All IsShort) life.sends
 
 -- The life opened over what one image of the flash recovers. Whatever an image recovers now, it is a life of its plan that leaves this.
-pub record Lives (layers : Layers) (IsNodeImage : List ℕ → Type 0) (plan : List Step) (old : Chip) (log : LifeLog)
+pub record Lives (role : Role) (IsNodeImage : List ℕ → Type 0) (plan : List Step) (old : Chip) (log : LifeLog)
     (new : Chip) : Type 0 where
   pub over : List StoreRecord
   pub image : List ℕ
   pub is_image : old.images image
   pub recovered : IsRecovered image over
-  pub life : EachRecovered new (λ next. LifeOf layers plan over (life_of log) next)
+  pub life : EachRecovered new (λ next. LifeOf role plan over (life_of log) next)
   pub node : IsNodeFlash IsNodeImage new
   pub printable : IsPrintable (life_of log)
   -- the causes of a cut

@@ -3,7 +3,7 @@ use Rattle.std.specs.Prelude.{◌≡◌, ℕ, ◌<◌, true, IsTrue, List, IfSom
 use Rattle.flash_model.specs.Chip.{Chip}
 use Rattle.machine_contract.specs.Opening.{EachRecovered, IsNodeFlash}
 use Rattle.record_types.specs.declared.records.StoreRecord.{StoreRecord}
-use Rattle.event_definitions.specs.Layers.{Layers}
+use Rattle.event_definitions.specs.Role.{Role}
 use Rattle.run_definitions.specs.Order.{Step, is_cut}
 use Rattle.run_definitions.specs.RunOf.{LifeOf}
 use Rattle.store_definitions.specs.Recovered.{IsRecovered}
@@ -14,11 +14,11 @@ use Rattle.mesh_node.specs.Drawn.{TellsDrawn}
 use Rattle.life_laws.specs.Plan.{life_of}
 use Rattle.mesh_node.specs.Steps.{HasGiven, IsOfPlan}
 
-pub record Ran (layers : Layers) (IsNodeImage : List ℕ → Type 0) (plan : List Step) (start : Chip) (log : LifeLog)
+pub record Ran (role : Role) (IsNodeImage : List ℕ → Type 0) (plan : List Step) (start : Chip) (log : LifeLog)
     (new : Chip) : Type 0 where
   pub over : List StoreRecord
   pub recovered : IsRecovered start.now over
-  pub life : EachRecovered new (λ next. LifeOf layers plan over (life_of log) next)
+  pub life : EachRecovered new (λ next. LifeOf role plan over (life_of log) next)
   pub node : IsNodeFlash IsNodeImage new
   pub printable : IsPrintable (life_of log)
   pub later : IsLater start new

@@ -40,7 +40,7 @@ pub fn life<M: Machine, B: Bench, G: Gate, R: Threads + Wait + Sync>(
     requires node { IsNodeFlash M.image (B.chip flash) }
     requires plan { IsPlanned (B.chip flash) plan.now }
     ensures life { IfOk result
-        (λ r. Lives M.layers M.image (steps_of plan.now.steps.items) (B.chip flash) r.0 (B.chip r.1)) }
+        (λ r. Lives M.role M.image (steps_of plan.now.steps.items) (B.chip flash) r.0 (B.chip r.1)) }
 {
     let mut flash = flash;
     flash.power_cycle();
@@ -116,7 +116,7 @@ fn run_life<M: Machine, F: Bench, G: Gate, R: Threads + Wait + Sync>(
     requires steps { (over : List StoreRecord) → IsRecovered (F.chip start).now over
         → All (IsStep plan.now.bearers (config_of over).elements) plan.now.steps.items }
     ensures ran { IfOk result
-        (λ r. Ran M.layers M.image (steps_of plan.now.steps.items) (F.chip start) r.0 (F.chip r.1)) }
+        (λ r. Ran M.role M.image (steps_of plan.now.steps.items) (F.chip start) r.0 (F.chip r.1)) }
 {
     // They do nothing when they run: the proof uses what they say.
     M::tells::<F>();

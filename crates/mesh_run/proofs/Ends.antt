@@ -5,7 +5,7 @@ use Rattle.std.specs.Io.KnownBytes.{Consumes, IsAtEnd}
 use Rattle.flash_model.specs.Chip.{Chip, Keeps, KeepsCount, Stays}
 use Rattle.slot_journal.specs.Format.{IsErased, IsFirstWritten}
 use Rattle.report_writer.specs.Writing.{SinkView}
-use Rattle.event_definitions.specs.Layers.{Layers}
+use Rattle.event_definitions.specs.Role.{Role}
 use Rattle.run_definitions.specs.RunOf.{Script}
 use Rattle.script_definitions.specs.Reading.{Reading}
 use Rattle.script_definitions.specs.Reading.Reading.{Fails, IsScript}
@@ -39,9 +39,9 @@ pub same_through : (old mid new : Chip) → IsSameFlash old mid → IsSameFlash 
 same_through old mid new h k = record { honest = k.honest; steady = k.steady ∙ h.steady; later = omega (arith, h.later, k.later) }
 
 -- a run from the flash of before
-pub ran_from : (layers : Layers) (s : Script) (hex : Bool) (old start chip : Chip) (before after : SinkView)
-    → IsSameFlash old start → Ran layers s hex start before chip after → Ran layers s hex old before chip after
-ran_from layers s hex old start chip before after same ran = record {
+pub ran_from : (role : Role) (s : Script) (hex : Bool) (old start chip : Chip) (before after : SinkView)
+    → IsSameFlash old start → Ran role s hex start before chip after → Ran role s hex old before chip after
+ran_from role s hex old start chip before after same ran = record {
   run = ran.run;
   is_run = ran.is_run;
   report = ran.report;

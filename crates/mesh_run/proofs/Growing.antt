@@ -6,6 +6,7 @@ use Rattle.record_types.specs.declared.records.StoreRecord.{StoreRecord}
 use Rattle.report_definitions.specs.Record.{LifeOver, first_over}
 use Rattle.report_definitions.specs.Report.{life_lines, lives_lines}
 use Rattle.event_definitions.specs.Layers.{Layers}
+use Rattle.event_definitions.specs.Role.{Role, node_role}
 use Rattle.run_definitions.specs.Order.{Step, is_cut}
 use Rattle.run_definitions.specs.RunOf.{LifeOf, LivesOf}
 use Rattle.run_safety.specs.Safety.{LivesKeep}
@@ -18,13 +19,13 @@ pub first_more : (xs : List LifeOver) (x : LifeOver) (next : List StoreRecord) �
 first_more [] x next = refl
 first_more (y ∷ ys) x next = refl
 
-pub lives_more : (layers : Layers) (plans : List (List Step)) (xs : List LifeOver) (plan : List Step) (x : LifeOver) (next : List StoreRecord)
-    → LivesOf layers plans xs x.over → LifeOf layers plan x.over x.life next → LivesOf layers (plans ++ plan ∷ []) (xs ++ x ∷ []) next
-lives_more layers [] [] plan x next h l = (l, tt)
-lives_more layers [] (y ∷ ys) plan x next h l = absurd h
-lives_more layers (p ∷ ps) [] plan x next h l = absurd h
-lives_more layers (p ∷ ps) (y ∷ ys) plan x next (first, h) l =
-    (subst (λ over. LifeOf layers p y.over y.life over) (sym (first_more ys x next)) first, lives_more layers ps ys plan x next h l)
+pub lives_more : (role : Role) (plans : List (List Step)) (xs : List LifeOver) (plan : List Step) (x : LifeOver) (next : List StoreRecord)
+    → LivesOf role plans xs x.over → LifeOf role plan x.over x.life next → LivesOf role (plans ++ plan ∷ []) (xs ++ x ∷ []) next
+lives_more role [] [] plan x next h l = (l, tt)
+lives_more role [] (y ∷ ys) plan x next h l = absurd h
+lives_more role (p ∷ ps) [] plan x next h l = absurd h
+lives_more role (p ∷ ps) (y ∷ ys) plan x next (first, h) l =
+    (subst (λ over. LifeOf role p y.over y.life over) (sym (first_more ys x next)) first, lives_more role ps ys plan x next h l)
 
 -- the lines of lives, and those of a life behind them
 pub lines_more : (hex : Bool) (n : ℕ) (xs : List LifeOver) (x : LifeOver)
@@ -49,7 +50,7 @@ armed_more (p ∷ ps) (y ∷ ys) plan x (first, h) a = (first, armed_more ps ys 
 
 -- the node keeps its elements over all lives
 pub kept_elements : LivesKeep → (layers : Layers) → AreSafe layers → (plans : List (List Step)) (xs : List LifeOver) (last : List StoreRecord)
-    → LivesOf layers plans xs last → (config_of last).elements ≡ (config_of (first_over xs last)).elements
+    → LivesOf (node_role layers) plans xs last → (config_of last).elements ≡ (config_of (first_over xs last)).elements
 kept_elements keeps layers safe [] [] last h = refl
 kept_elements keeps layers safe [] (x ∷ xs) last h = absurd h
 kept_elements keeps layers safe (p ∷ ps) [] last h = absurd h

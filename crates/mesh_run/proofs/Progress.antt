@@ -5,13 +5,14 @@ use Rattle.std.specs.List.{Contains}
 use Rattle.std.proofs.lemmas.List.{take_more, take_all}
 use Rattle.flash_model.specs.Arming.{IsReached}
 use Rattle.flash_model.specs.Chip.{Arm, Chip}
-use Rattle.layer_laws.specs.Laws.{NodeIsSafe, RunsDeliverOnce, RunsReuseNothing}
+use Rattle.layer_laws.specs.Laws.{NodeIsSafe}
 use Rattle.machine_contract.specs.Opening.{EachRecovered, IsNodeFlash}
 use Rattle.mesh_node.specs.Lives.{cut_calls}
 use Rattle.mesh_node.specs.Steps.{IsOfPlan}
 use Rattle.mesh_types.specs.declared.report.End.{End}
 use Rattle.mesh_types.specs.declared.report.End.TheVariants as F
 use Rattle.node_layers.specs.NodeLayers.{node_layers}
+use Rattle.node_safety.specs.Laws.{RunsDeliverOnce, RunsReuseNothing}
 use Rattle.node_store.specs.Tie.{IsNode}
 use Rattle.record_types.specs.declared.records.StoreRecord.{StoreRecord}
 use Rattle.report_definitions.specs.Record.{Life, LifeOver}
@@ -28,6 +29,7 @@ use Rattle.mesh_run.specs.Lived.{Lived}
 use Rattle.run_steps.specs.Provisioned.{IsProvisioned}
 use Rattle.mesh_run.specs.Ran.{IsArmed, AreArmed, Ran, RanFirst, RanFront, cuts}
 use Rattle.mesh_run.proofs.Growing.{armed_more, cuts_more, first_more, kept_elements, lines_more, lives_more}
+use Rattle.event_definitions.specs.Role.{node_role}
 
 -- the script of the first lives
 abbrev pub first_lives : ℕ → Script → Script
@@ -38,7 +40,7 @@ pub record Progress (s : Script) (hex : Bool) (start : Chip) (before : SinkView)
   pub lives : List LifeOver
   pub count : length lives ≡ i
   pub report : Written (lives_lines hex 1 lives) before after
-  pub run : EachRecovered chip (λ last. RunOf node_layers (first_lives i s) (record { lives = lives; last = last }))
+  pub run : EachRecovered chip (λ last. RunOf (node_role node_layers) (first_lives i s) (record { lives = lives; last = last }))
   pub node : IsNodeFlash IsNode chip
   pub faults : cuts lives + start.faults ≤ chip.faults
   pub steady : chip.steady ≡ start.steady
@@ -71,7 +73,7 @@ progress_elements safe keeps s hex start chip before after i p image records is 
 
 -- a run of the first lives, where the flash is honest
 pub progress_run : (s : Script) (hex : Bool) (start chip : Chip) (before after : SinkView) (i : ℕ) → chip.images chip.now
-    → (p : Progress s hex start before i chip after) → (last : List StoreRecord) × RunOf node_layers (first_lives i s) (record { lives = p.lives; last = last })
+    → (p : Progress s hex start before i chip after) → (last : List StoreRecord) × RunOf (node_role node_layers) (first_lives i s) (record { lives = p.lives; last = last })
 progress_run s hex start chip before after i image p =
     let node = p.node.each chip.now image in
     (node.records, p.run chip.now node.records image node.read.held)
@@ -93,15 +95,15 @@ module _ (s : Script) (hex : Bool) (start old new : Chip) (before mid : SinkView
   taken : take (i + 1) s.lives ≡ take i s.lives ++ slice_index_or s.lives i [] ∷ []
   taken = take_more s.lives i [] within
 
-  is_life : EachRecovered new (λ next. LifeOf node_layers (slice_index_or s.lives i []) h.lives.over life next)
-  is_life image next is read = subst (λ l. LifeOf node_layers (slice_index_or s.lives i []) h.lives.over l next) h.is (h.lives.life image next is read)
+  is_life : EachRecovered new (λ next. LifeOf (node_role node_layers) (slice_index_or s.lives i []) h.lives.over life next)
+  is_life image next is read = subst (λ l. LifeOf (node_role node_layers) (slice_index_or s.lives i []) h.lives.over l next) h.is (h.lives.life image next is read)
 
-  runs : EachRecovered new (λ last. RunOf node_layers (first_lives (i + 1) s) (record { lives = p.lives ++ over ∷ []; last = last }))
+  runs : EachRecovered new (λ last. RunOf (node_role node_layers) (first_lives (i + 1) s) (record { lives = p.lives ++ over ∷ []; last = last }))
   runs image last is read =
       let run = p.run h.lives.image h.lives.over h.lives.is_image h.lives.recovered in
       record {
         first = first_more p.lives over last ∙ run.first;
-        lives = rw taken (lives_more node_layers (take i s.lives) p.lives (slice_index_or s.lives i []) over last run.lives (is_life image last is read));
+        lives = rw taken (lives_more (node_role node_layers) (take i s.lives) p.lives (slice_index_or s.lives i []) over last run.lives (is_life image last is read));
       }
 
   lines : lives_lines hex 1 (p.lives ++ over ∷ []) ≡ lives_lines hex 1 p.lives ++ life_lines hex (i + 1) life
@@ -144,7 +146,7 @@ module _ (s : Script) (hex : Bool) (start old new : Chip) (before mid : SinkView
   }
 
   -- of its report a front was written
-  pub front_more : (after : SinkView) → new.images new.now → WrittenFront (life_lines hex (i + 1) life) mid after → RanFront node_layers s hex before after
+  pub front_more : (after : SinkView) → new.images new.now → WrittenFront (life_lines hex (i + 1) life) mid after → RanFront (node_role node_layers) s hex before after
   front_more after image w =
       let node = h.lives.node.each new.now image in
       record {
@@ -160,14 +162,14 @@ module _ (s : Script) (hex : Bool) (start old new : Chip) (before mid : SinkView
 
 -- no life was run any more
 pub front_same : (s : Script) (hex : Bool) (start chip : Chip) (before after : SinkView) (i : ℕ) → chip.images chip.now
-    → Progress s hex start before i chip after → RanFront node_layers s hex before after
+    → Progress s hex start before i chip after → RanFront (node_role node_layers) s hex before after
 front_same s hex start chip before after i image p =
     let (last, run) = progress_run s hex start chip before after i image p in
     record { n = i; run = record { lives = p.lives; last = last }; is_run = run; front = front_whole (lives_lines hex 1 p.lives) before after p.report }
 
 -- so the report of these lives was written, of which there are more
 pub first_same : (s : Script) (hex : Bool) (start chip : Chip) (before after : SinkView) (i : ℕ) → chip.images chip.now → i < length s.lives
-    → Progress s hex start before i chip after → RanFirst node_layers s hex before after
+    → Progress s hex start before i chip after → RanFirst (node_role node_layers) s hex before after
 first_same s hex start chip before after i image within p =
     let (last, run) = progress_run s hex start chip before after i image p in
     record { n = i; fewer = within; run = record { lives = p.lives; last = last }; is_run = run; report = p.report }
@@ -177,15 +179,15 @@ same_flash s hex start chip before after i p = record { honest = p.node.honest; 
 
 -- all lives were run
 pub all_lived : RunsReuseNothing node_layers → RunsDeliverOnce node_layers → (s : Script) (hex : Bool) (start chip : Chip) (before after : SinkView) (i : ℕ)
-    → length s.lives ≤ i → chip.images chip.now → Progress s hex start before i chip after → Ran node_layers s hex start before chip after
+    → length s.lives ≤ i → chip.images chip.now → Progress s hex start before i chip after → Ran (node_role node_layers) s hex start before chip after
 all_lived reuses delivers s hex start chip before after i whole image p =
     let (last, run) = progress_run s hex start chip before after i image p in
     let all : take i s.lives ≡ s.lives = take_all i s.lives whole in
     record {
       run = record { lives = p.lives; last = last };
-      is_run = subst (λ lives. RunOf node_layers (record { node = s.node; lives = lives }) (record { lives = p.lives; last = last })) all run;
+      is_run = subst (λ lives. RunOf (node_role node_layers) (record { node = s.node; lives = lives }) (record { lives = p.lives; last = last })) all run;
       report = p.report;
-      at_exit = λ c next is read. subst (λ lives. RunOf node_layers (record { node = s.node; lives = lives }) (record { lives = p.lives; last = next })) all (p.run c next is read);
+      at_exit = λ c next is read. subst (λ lives. RunOf (node_role node_layers) (record { node = s.node; lives = lives }) (record { lives = p.lives; last = next })) all (p.run c next is read);
       no_reuse = λ q same is. reuses s q is;
       at_most_once = λ q same is. delivers s q is;
       faults = p.faults;

@@ -11,12 +11,13 @@ use Rattle.report_definitions.specs.Record.{Life}
 use Rattle.run_definitions.specs.Order.{Step}
 use Rattle.mesh_run.specs.declared.lives.Stopped.{Stopped}
 use Rattle.mesh_run.specs.declared.lives.Stopped.TheVariants as P
+use Rattle.event_definitions.specs.Role.{node_role}
 
 -- the life of a log is one between the flash of before and the flash now
 pub record Lived (plan : List Step) (old : Chip) (life : Life) (new : Chip) : Type 0 where
   pub log : LifeLog
   pub is : life_of log ≡ life
-  pub lives : Lives node_layers IsNode plan old log new
+  pub lives : Lives (node_role node_layers) IsNode plan old log new
   pub explained : IsExplained new
 
 -- the sink failed

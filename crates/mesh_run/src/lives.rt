@@ -18,6 +18,7 @@ ghost use Rattle.life_laws.specs.Plan as Plan;
 ghost use Rattle.mesh_run.specs.Lived.{IsFault, IsMemory, Lived, flash_left};
 ghost use Rattle.run_steps.specs.Provisioned.{IsProvisioned};
 ghost use Rattle.mesh_run.specs.Ran.{Ran, RanFirst, RanFront};
+ghost use Rattle.event_definitions.specs.Role.{node_role};
 
 use flash_model::Bench;
 use layer_laws::laws::node_law;
@@ -25,6 +26,7 @@ use life_plans::{plan_of, script_law};
 use mesh_base::outside::Sink;
 use mesh_machine::MeshMachine;
 use mesh_node::{Gate, LifeLog, life};
+use node_safety::node_runs_law;
 use report_writer::{EndedLife, WriteStop, write_life};
 use run_safety::laws::lives_law;
 use script_definitions::script::Script;
@@ -99,13 +101,13 @@ pub(crate) fn live_all<R: Threads + Wait + Sync, B: Bench, K: Sink, G: Gate>(
     requires read { IsScriptOf Grammars.Node script.now }
     requires provisioned { IsProvisioned (B.chip flash) (provisioned (script_of script.now).node) }
     ensures all { IfOk result
-        (λ f. Ran node_layers (script_of script.now) hex (B.chip flash) (view_of K.held K.pieces sink.old)
+        (λ f. Ran (node_role node_layers) (script_of script.now) hex (B.chip flash) (view_of K.held K.pieces sink.old)
         (B.chip f) (view_of K.held K.pieces sink.new)) }
     ensures front { OnErr result
-        (RanFront node_layers (script_of script.now) hex (view_of K.held K.pieces sink.old)
+        (RanFront (node_role node_layers) (script_of script.now) hex (view_of K.held K.pieces sink.old)
         (view_of K.held K.pieces sink.new)) }
     ensures whole { IsMemory result
-        → RanFirst node_layers (script_of script.now) hex (view_of K.held K.pieces sink.old)
+        → RanFirst (node_role node_layers) (script_of script.now) hex (view_of K.held K.pieces sink.old)
         (view_of K.held K.pieces sink.new) }
     ensures cause { IsFault result → Rose (K.faults sink.old) (K.faults sink.new) }
     ensures no_fault { ¬ IsFault result → K.faults sink.new ≡ K.faults sink.old }
@@ -114,6 +116,7 @@ pub(crate) fn live_all<R: Threads + Wait + Sync, B: Bench, K: Sink, G: Gate>(
 {
     // They do nothing when they run: the proof uses what they say.
     node_law();
+    node_runs_law();
     lives_law();
     let mut flash = flash;
     for i in 0..script.lives.as_slice().len() {

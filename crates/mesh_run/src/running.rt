@@ -18,6 +18,7 @@ ghost use Rattle.command_words.specs.declared.commands.RunFlags.{RunFlags as Fla
 ghost use Rattle.audit_definitions.specs.Input.{IsFirstOther};
 ghost use Rattle.mesh_run.specs.Ran.{Ran, RanFirst, RanFront};
 ghost use Rattle.run_steps.specs.Reads.{ReadsMoreThan};
+ghost use Rattle.event_definitions.specs.Role.{node_role};
 
 use crate::scripts::run_text;
 use command_words::{Command, command_of};
@@ -86,27 +87,27 @@ pub fn run<R: Threads + Wait + Sync, S: Source, K: Sink, B: Bench, G: Gate>(
         → IfSome (S.left source.old)
         (λ text. IsScriptAnd (reading Grammars.Node text)
         (λ s. IsSomeAnd result.flash
-        (λ f. Ran node_layers (script_of s) flags.hex (B.chip flash) (view_of K.held K.pieces sink.old) (B.chip f)
+        (λ f. Ran (node_role node_layers) (script_of s) flags.hex (B.chip flash) (view_of K.held K.pieces sink.old) (B.chip f)
         (view_of K.held K.pieces sink.new)))) }
     ensures front { (flags : Flags) → command_of (map (λ w. w.now) words.now) ≡ Some (C.Run flags)
         → result.status ≡ Status.WriteFault
         → IfSome (S.left source.old)
         (λ text. IsScriptAnd (reading Grammars.Node text)
-        (λ s. RanFront node_layers (script_of s) flags.hex (view_of K.held K.pieces sink.old)
+        (λ s. RanFront (node_role node_layers) (script_of s) flags.hex (view_of K.held K.pieces sink.old)
         (view_of K.held K.pieces sink.new))) }
     ensures memory { (flags : Flags) → command_of (map (λ w. w.now) words.now) ≡ Some (C.Run flags)
         → result.status ≡ Status.Memory
         → (sink.new ≡ sink.old)
         ⊎ IfSome (S.left source.old)
         (λ text. IsScriptAnd (reading Grammars.Node text)
-        (λ s. RanFront node_layers (script_of s) flags.hex (view_of K.held K.pieces sink.old)
+        (λ s. RanFront (node_role node_layers) (script_of s) flags.hex (view_of K.held K.pieces sink.old)
         (view_of K.held K.pieces sink.new))) }
     ensures whole { (flags : Flags) → command_of (map (λ w. w.now) words.now) ≡ Some (C.Run flags)
         → result.status ≡ Status.Memory
         → (sink.new ≡ sink.old)
         ⊎ IfSome (S.left source.old)
         (λ text. IsScriptAnd (reading Grammars.Node text)
-        (λ s. RanFirst node_layers (script_of s) flags.hex (view_of K.held K.pieces sink.old)
+        (λ s. RanFirst (node_role node_layers) (script_of s) flags.hex (view_of K.held K.pieces sink.old)
         (view_of K.held K.pieces sink.new))) }
     ensures nothing_written { IsBeforeLives result.status → sink.new ≡ sink.old }
 

@@ -12,6 +12,7 @@ ghost use Rattle.script_definitions.specs.Reading.Reading.{Fails};
 ghost use Rattle.script_definitions.specs.declared.kind.Grammar.TheVariants as Grammars;
 ghost use Rattle.mesh_run.specs.Causes.{IfScript, IsBeforeFlash, IsBeforeLives, IsDueBy, IsErasedFlash, IsFromFlash, IsSameFlash, IsScriptAnd, IsWrittenAt, WasErased};
 ghost use Rattle.mesh_run.specs.Ran.{Ran, RanFirst, RanFront};
+ghost use Rattle.event_definitions.specs.Role.{node_role};
 
 use crate::lives::{Stopped, live_all};
 use command_words::RunFlags;
@@ -54,13 +55,13 @@ fn run_script<R: Threads + Wait + Sync, B: Bench, K: Sink, G: Gate>(
     // What is written is the report of a record of a run of the script, or a front of it.
     ensures done { result.status ≡ Status.Done
         → IsSomeAnd result.flash
-        (λ f. Ran node_layers (script_of script.now) flags.hex (B.chip flash) (view_of K.held K.pieces sink.old)
+        (λ f. Ran (node_role node_layers) (script_of script.now) flags.hex (B.chip flash) (view_of K.held K.pieces sink.old)
         (B.chip f) (view_of K.held K.pieces sink.new)) }
     ensures front { (result.status ≡ Status.WriteFault) ⊎ (result.status ≡ Status.Memory)
-        → RanFront node_layers (script_of script.now) flags.hex (view_of K.held K.pieces sink.old)
+        → RanFront (node_role node_layers) (script_of script.now) flags.hex (view_of K.held K.pieces sink.old)
         (view_of K.held K.pieces sink.new) }
     ensures whole { result.status ≡ Status.Memory
-        → RanFirst node_layers (script_of script.now) flags.hex (view_of K.held K.pieces sink.old)
+        → RanFirst (node_role node_layers) (script_of script.now) flags.hex (view_of K.held K.pieces sink.old)
         (view_of K.held K.pieces sink.new) }
     ensures nothing_written { IsBeforeLives result.status → sink.new ≡ sink.old }
 
@@ -123,21 +124,21 @@ pub(crate) fn run_text<R: Threads + Wait + Sync, B: Bench, K: Sink, G: Gate>(
     ensures done { result.status ≡ Status.Done
         → IsScriptAnd (reading Grammars.Node text.now)
         (λ s. IsSomeAnd result.flash
-        (λ f. Ran node_layers (script_of s) flags.hex (B.chip flash) (view_of K.held K.pieces sink.old) (B.chip f)
+        (λ f. Ran (node_role node_layers) (script_of s) flags.hex (B.chip flash) (view_of K.held K.pieces sink.old) (B.chip f)
         (view_of K.held K.pieces sink.new))) }
     ensures front { result.status ≡ Status.WriteFault
         → IsScriptAnd (reading Grammars.Node text.now)
-        (λ s. RanFront node_layers (script_of s) flags.hex (view_of K.held K.pieces sink.old)
+        (λ s. RanFront (node_role node_layers) (script_of s) flags.hex (view_of K.held K.pieces sink.old)
         (view_of K.held K.pieces sink.new)) }
     ensures memory { result.status ≡ Status.Memory
         → (sink.new ≡ sink.old)
         ⊎ IsScriptAnd (reading Grammars.Node text.now)
-        (λ s. RanFront node_layers (script_of s) flags.hex (view_of K.held K.pieces sink.old)
+        (λ s. RanFront (node_role node_layers) (script_of s) flags.hex (view_of K.held K.pieces sink.old)
         (view_of K.held K.pieces sink.new)) }
     ensures whole { result.status ≡ Status.Memory
         → (sink.new ≡ sink.old)
         ⊎ IsScriptAnd (reading Grammars.Node text.now)
-        (λ s. RanFirst node_layers (script_of s) flags.hex (view_of K.held K.pieces sink.old)
+        (λ s. RanFirst (node_role node_layers) (script_of s) flags.hex (view_of K.held K.pieces sink.old)
         (view_of K.held K.pieces sink.new)) }
     ensures nothing_written { IsBeforeLives result.status → sink.new ≡ sink.old }
 

@@ -22,7 +22,7 @@ use Rattle.run_safety.proofs.Handled.{stores_rise}
 use Rattle.run_safety.proofs.Rising.{later_same}
 use Rattle.run_safety.proofs.Sending.{heard_of, jobs_fit}
 
--- What is accepted is fresh.
+-- What is accepted is fresh: its IV Index is the known one or the one before, and its name is newer than the entry of its source.
 
 fresh_reading : (layers : Layers) (past : Past) (octets : List ℕ) (r : Reading) (n : Name) → IsReading layers past octets (Some r) → AcceptedFrom past r n → Fresh past n
 fresh_reading layers past octets r n h k = record {

@@ -50,7 +50,7 @@ run_life-requires-clause-steps g c κs lives =
 pub returns-in-Ok : goal.returns-in-Ok
 returns-in-Ok g c =
     let chip = g.B.Flash.chip in
-    let layers = g.M.Machine.layers in
+    let role = g.M.Machine.role in
     let image = g.M.Machine.image in
     let cycle = c.power_cycle.ensures in
     let items = c.args.plan.now.steps.items in
@@ -59,8 +59,8 @@ returns-in-Ok g c =
     let armed = subst (λ xs. IsArmedFirst xs (chip c.power_cycle.new.self) start) c.as_slice.ensures.value c.arm_first-steps.ensures.armed in
     let p = powered image items old (chip c.power_cycle.new.self) start c.requires.node cycle.frame cycle.fresh cycle.image cycle.setting armed in
     record {
-      life = IfOk-weaker c.run_life.result _ _ (λ r h. lives_ran layers image items c.requires.plan.arm old start (chip r.1) r.0 p.is p.began p.order p.count h)
-          (subst (λ s. IfOk c.run_life.result (λ r. Ran layers image (steps_of items) (chip s) r.0 (chip r.1))) c.in_ok-start.ensures.value c.run_life.ensures.ran);
+      life = IfOk-weaker c.run_life.result _ _ (λ r h. lives_ran role image items c.requires.plan.arm old start (chip r.1) r.0 p.is p.began p.order p.count h)
+          (subst (λ s. IfOk c.run_life.result (λ r. Ran role image (steps_of items) (chip s) r.0 (chip r.1))) c.in_ok-start.ensures.value c.run_life.ensures.ran);
     }
 
 pub returns-in-Err-Flash : goal.returns-in-Err-Flash
@@ -75,7 +75,7 @@ returns-in-Err-Flash g c =
     let cause = subst (IsStartCause g.M.Machine.image start (chip c.start.new.flash)) c.in-Err-Flash.field-0-is c.in-Err-Flash.ensures.cause in
     let log = c.idle_log.ensures in
     record {
-      life = lives_cut g.M.Machine.layers g.M.Machine.image items c.requires.plan.arm old start (chip c.start.new.flash) c.idle_log.result
+      life = lives_cut g.M.Machine.role g.M.Machine.image items c.requires.plan.arm old start (chip c.start.new.flash) c.idle_log.result
           p.is p.began p.order p.count c.start.ensures.frame ((g.met.B.Bench g.world.𝓛 g.world.𝓜 g.world.𝓡 ((λ s x. x), (λ x. x), (λ x. x), λ x. x)).explained c.start.new.flash) cause.1 cause.0 log.opened (log.end ∙ ap Ends.Cut c.changes.ensures) log.drawn log.entries log.refills log.sends;
     }
 
@@ -92,6 +92,6 @@ returns-in-Err-WasReset g c =
     let log = c.idle_log-in-Err-WasReset.ensures in
     let reset = subst (λ o. (config_of o).reset ≡ true) (c.one_list_is_recovered.ensures.one_list start.now cause.0.over cause.1.over cause.0.read cause.1.read) cause.0.reset in
     record {
-      life = lives_reset g.M.Machine.layers g.M.Machine.image items c.requires.plan.arm old start (chip c.start.new.flash) c.idle_log-in-Err-WasReset.result
+      life = lives_reset g.M.Machine.role g.M.Machine.image items c.requires.plan.arm old start (chip c.start.new.flash) c.idle_log-in-Err-WasReset.result
           p.is p.began p.order p.count c.start.ensures.frame cause.1 reset log.opened log.end log.drawn log.entries log.refills log.sends;
     }

@@ -60,7 +60,7 @@ returns g c =
     let given : node.stops ≡ 0 → HasGiven plan (chip node.flash).setting.arm =
     λ live. given_whole items before (chip node.flash).setting.arm c.requires.first held (subst (λ xs. HasGiven (steps_of xs) (chip node.flash).setting.arm) c.requires.behind (did.given live)) in
     let calls = subst (λ k. IfSome (cut_calls c.end_of-end.result) (λ n. n ≡ k)) (c.changes.ensures ∙ ap (λ f. (chip f).changes) c.into_parts-machine.ensures.flash) c.end_of-end.ensures.calls in
-    let whole = ran g.M.Machine.layers g.M.Machine.image chip plan start node c.do_steps.new.drawer log c.one_list_is_recovered.ensures.one_list
+    let whole = ran g.M.Machine.role g.M.Machine.image chip plan start node c.do_steps.new.drawer log c.one_list_is_recovered.ensures.one_list
     s.over s.read s.runs opened c.known.ensures.known (did.frame.start ∙ ap (λ n. n.start) c.in_ok-opened.ensures.value) over
     (c.finish-history.ensures.entries ∙ ap (λ m. m.entries) machine) (c.finish-history.ensures.refills ∙ ap (λ m. m.fills) machine)
     (c.end_of-end.ensures.cut ∙ c.is_closed.ensures.value ∙ ap (λ m. m.closed) machine)
@@ -69,4 +69,4 @@ returns g c =
     c.close-drawn.ensures.since c.close-drawn.ensures.below c.close-drawn.ensures.once c.close-drawn.ensures.seen
     c.close-drawn.result refl c.close-drawn.ensures.drawn c.close-drawn.ensures.distinct
     c.args.plan.now.bearers c.requires.few did.many ((g.met.F.Bench g.world.𝓛 g.world.𝓜 g.world.𝓡 ((λ s x. x), (λ x. x), (λ x. x), λ x. x)).explained node.flash) given order calls in
-    record { ran = subst (λ f. Ran g.M.Machine.layers g.M.Machine.image plan (chip start) log (chip f)) (sym c.into_parts-machine.ensures.flash) whole }
+    record { ran = subst (λ f. Ran g.M.Machine.role g.M.Machine.image plan (chip start) log (chip f)) (sym c.into_parts-machine.ensures.flash) whole }

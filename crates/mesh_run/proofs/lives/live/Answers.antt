@@ -8,6 +8,7 @@ use Rattle.script_definitions.specs.declared.kind.Grammar.TheVariants as Grammar
 use Rattle.script_events.specs.Happenings.{IsRead}
 use Rattle.mesh_run.proofs.Living.{lines_are, plan_is, planned}
 use Rattle.mesh_run.proofs.lives.live.Goals as goal
+use Rattle.event_definitions.specs.Role.{node_role}
 
 pub plan_of-requires : goal.plan_of-requires
 plan_of-requires g c =
@@ -32,6 +33,6 @@ returns-clause-lived g c =
     record {
       log = c.in_ok-log.log;
       is = sym c.ended_life.ensures.value;
-      lives = subst (λ steps. Lives node_layers IsNode steps (chip c.args.flash) c.in_ok-log.log (chip c.in_ok-log.flash)) plan c.in_ok-log.ensures.life;
+      lives = subst (λ steps. Lives (node_role node_layers) IsNode steps (chip c.args.flash) c.in_ok-log.log (chip c.in_ok-log.flash)) plan c.in_ok-log.ensures.life;
       explained = (g.met.B.Bench g.world.𝓛 g.world.𝓜 g.world.𝓡 ((λ s x. x), (λ x. x), (λ x. x), λ x. x)).explained c.in_ok-log.flash;
     }

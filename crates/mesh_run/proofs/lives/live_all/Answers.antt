@@ -7,6 +7,7 @@ use Rattle.mesh_run.specs.Ran.{RanFirst}
 use Rattle.mesh_run.proofs.Living.{is_past, is_within}
 use Rattle.mesh_run.proofs.Progress.{all_lived, first_same, front_more, front_same, progress_elements, progress_more, progress_none}
 use Rattle.mesh_run.proofs.lives.live_all.Goals as goal
+use Rattle.event_definitions.specs.Role.{node_role}
 
 pub loop-i-init : goal.loop-i-init
 loop-i-init g c = record {
@@ -67,7 +68,7 @@ returns-in-Err-Memory-clause-whole g c = λ yes.
     let law = g.met.B.Flash g.world.𝓛 g.world.𝓜 g.world.𝓡 ((λ s x. x), (λ x. x), (λ x. x), λ x. x) in
     let within = is_within c.args.script.now.lives c.as_slice-i-end.result.now c.loop-i.i c.as_slice-i-end.ensures.value c.loop-i-test.true in
     let progress = c.loop-i.invariant.progress in
-    subst (RanFirst node_layers (script_of c.args.script.now) c.args.hex (view c.args.sink.now)) (sym (ap view (c.in-Err-Memory.ensures.memory (ap (λ e. Err e) c.in-Err-Memory.field-0-is))))
+    subst (RanFirst (node_role node_layers) (script_of c.args.script.now) c.args.hex (view c.args.sink.now)) (sym (ap view (c.in-Err-Memory.ensures.memory (ap (λ e. Err e) c.in-Err-Memory.field-0-is))))
     (first_same (script_of c.args.script.now) c.args.hex (chip c.args.flash) (chip c.loop-i.flash) (view c.args.sink.now) (view c.loop-i.sink) c.loop-i.i
     (law.reads_image c.loop-i.flash progress.node.honest) within progress)
 
@@ -89,5 +90,5 @@ returns-clause-all g c =
     let law = g.met.B.Flash g.world.𝓛 g.world.𝓜 g.world.𝓡 ((λ s x. x), (λ x. x), (λ x. x), λ x. x) in
     let progress = c.loop-i.invariant.progress in
     let past = is_past c.args.script.now.lives c.as_slice-i-end.result.now c.loop-i.i c.as_slice-i-end.ensures.value c.loop-i-test.false in
-    all_lived c.node_law.ensures.no_reuse c.node_law.ensures.at_most_once (script_of c.args.script.now) c.args.hex (chip c.args.flash) (chip c.loop-i.flash)
+    all_lived c.node_runs_law.ensures.no_reuse c.node_runs_law.ensures.at_most_once (script_of c.args.script.now) c.args.hex (chip c.args.flash) (chip c.loop-i.flash)
     (view c.args.sink.now) (view c.loop-i.sink) c.loop-i.i past (law.reads_image c.loop-i.flash progress.node.honest) progress

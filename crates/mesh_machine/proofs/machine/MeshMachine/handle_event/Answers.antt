@@ -27,6 +27,7 @@ use Rattle.event_definitions.specs.Answers.{config_before}
 use Rattle.event_definitions.specs.History.{Insight, Past}
 use Rattle.event_definitions.specs.Jobs.{jobs_of}
 use Rattle.event_definitions.specs.Stores.{stores}
+use Rattle.event_definitions.specs.Role.{node_role}
 use Rattle.store_definitions.specs.Node.{IsWhole}
 use Rattle.store_world.specs.Standing.{IsWorldOf}
 use Rattle.mesh_machine.proofs.machine.MeshMachine.handle_event.Goals as goal
@@ -53,7 +54,7 @@ returns-in-Err-store_records-clause-kept g c over stands =
     let i = c.self.inside in
     let m : NodeMachine = record { reserve = i.reserve; tables = i.tables; entries = i.history.items; fills = i.fills; closed = i.closed; hand = i.hand; elements = i.elements } in
     let s : Stands (g.F.Flash.chip c.args.flash.now) over m = subst (λ (v : NodeMachine). Stands (g.F.Flash.chip c.args.flash.now) over v) (sym c.self.view_is) stands in
-    let past : Past = past_now node_layers over s.life.told i.fills in
+    let past : Past = past_now (node_role node_layers) over s.life.told i.fills in
     let h : IsOver (g.F.Flash.chip c.args.flash.now) past m = s.usable c.if-self.false in
     let may : ArePuttable i.reserve.store.persist c.in-Ok.prepared.plan.records = subst (λ (p : Persist). ArePuttable p c.in-Ok.prepared.plan.records) c.persist.ensures.value c.in-Ok.ensures.may in
     let bounded : IsBounded i.reserve.store.persist (insight_in c.in-Ok.prepared.plan.basis) =
@@ -244,7 +245,7 @@ returns-clause-kept g c over stands =
     let i = c.self.inside in
     let m : NodeMachine = record { reserve = i.reserve; tables = i.tables; entries = i.history.items; fills = i.fills; closed = i.closed; hand = i.hand; elements = i.elements } in
     let s : Stands (g.F.Flash.chip c.args.flash.now) over m = subst (λ (v : NodeMachine). Stands (g.F.Flash.chip c.args.flash.now) over v) (sym c.self.view_is) stands in
-    let past : Past = past_now node_layers over s.life.told i.fills in
+    let past : Past = past_now (node_role node_layers) over s.life.told i.fills in
     let h : IsOver (g.F.Flash.chip c.args.flash.now) past m = s.usable c.if-self.false in
     let may : ArePuttable i.reserve.store.persist c.in-Ok.prepared.plan.records = subst (λ (p : Persist). ArePuttable p c.in-Ok.prepared.plan.records) c.persist.ensures.value c.in-Ok.ensures.may in
     let bounded : IsBounded i.reserve.store.persist (insight_in c.in-Ok.prepared.plan.basis) =

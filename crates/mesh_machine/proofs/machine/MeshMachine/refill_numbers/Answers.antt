@@ -13,6 +13,7 @@ use Rattle.node_records.specs.Meaning.{IsMeaningOf}
 use Rattle.node_records.specs.Tables.{config_in}
 use Rattle.node_records.specs.declared.persist.Persist.{Persist}
 use Rattle.event_definitions.specs.History.{Past}
+use Rattle.event_definitions.specs.Role.{node_role}
 use Rattle.seq_word.specs.Word.{seq_of}
 use Rattle.store_definitions.specs.Config.{Config, changed, config_of}
 use Rattle.store_definitions.specs.Numbers.{fill_of}
@@ -50,7 +51,7 @@ returns-in-Ok-clause-kept g c over stands =
     let old = g.F.Flash.chip c.args.flash.now in
     let new = g.F.Flash.chip c.refill.new.flash in
     let s : Stands old over m = subst (λ (v : NodeMachine). Stands old over v) (sym c.self.view_is) stands in
-    let past : Past = past_now node_layers over s.life.told i.fills in
+    let past : Past = past_now (node_role node_layers) over s.life.told i.fills in
     let h : IsOver old past m = s.usable c.if-self.false in
     refill_stands c.ties_law.ensures.laws m old new over s c.if-self.false c.refill.new.self ready.published seq (c.in-Ok.ensures.kept past.records h.store seen)
     (c.in-Ok.ensures.meaning past.records h.before.standing.meaning seen) c.refill.ensures.published c.refill.ensures.frame
@@ -66,7 +67,7 @@ returns-in-Err-clause-kept g c over stands =
     let old = g.F.Flash.chip c.args.flash.now in
     let new = g.F.Flash.chip c.refill.new.flash in
     let s : Stands old over m = subst (λ (v : NodeMachine). Stands old over v) (sym c.self.view_is) stands in
-    let past : Past = past_now node_layers over s.life.told i.fills in
+    let past : Past = past_now (node_role node_layers) over s.life.told i.fills in
     let h : IsOver old past m = s.usable c.if-self.false in
     let leaves = c.refill.ensures.any_moment past.records h.store in
     let cut : IsCutIn new past.records (fill_of (config_of past.records) ∷ []) c.refill.new.self.keeper.mark =
