@@ -4,7 +4,7 @@
 ghost use Rattle.std.specs.Prelude.{◌≡◌, ℕ, ◌+◌, List, [], ◌∷◌, true, false, Err, IsTrue, OnOk, OnErr};
 ghost use Rattle.mesh_world.specs.World.{World};
 ghost use Rattle.mesh_world.specs.World.WorldStep.{Reserve};
-ghost use Rattle.node_records.specs.Meaning.{IsMeaningOf, IsSaid};
+ghost use Rattle.node_records.specs.Meaning.{IsSaid};
 ghost use Rattle.node_store.specs.Calls.{calls_of, used_with_room};
 ghost use Rattle.node_store.specs.Tie.{IsNotBelow, IsPut, IsStoreOf};
 ghost use Rattle.node_store.specs.Writing.{CostsCalls, CutLeaves, FailsAtFlash, LeavesFlash, OnlyAnswers, Puts};

@@ -58,7 +58,7 @@ returns-in-Ok-clause-kept g c over stands =
     let puts = c.in-Ok.ensures.puts seen in
     let said = h.before.standing.meaning in
     let kept : IsStoreOf new c.refill.new.self.store (past.records ++ fill_of (config_of past.records) ∷ []) =
-    subst (λ (item : StoreRecord). IsStoreOf new c.refill.new.self.store (past.records ++ item ∷ [])) (fill_said past.records i.reserve.store.persist _ refl said) (puts.kept past.records h.store) in
+    subst (λ (item : StoreRecord). IsStoreOf new c.refill.new.self.store (past.records ++ item ∷ [])) (fill_said past.records i.reserve.store.persist (fill_of (config_in i.reserve.store.persist)) refl said) (puts.kept past.records h.store) in
     refill_stands c.ties_law.ensures.laws m old new over s c.if-self.false c.refill.new.self ready.published seq kept
     (fill_meaning past.records i.reserve.store.persist c.refill.new.self.store.persist said puts.value) c.refill.ensures.published c.refill.ensures.leaves.frame
 
@@ -77,7 +77,7 @@ returns-in-Err-clause-kept g c over stands =
     let h : IsOver old past m = s.usable c.if-self.false in
     let leaves = c.refill.ensures.cut.any_moment past.records h.store in
     let cut : IsCutIn new past.records (fill_of (config_of past.records) ∷ []) c.refill.new.self.keeper.mark =
-    subst (λ (item : StoreRecord). IsCutIn new past.records (item ∷ []) c.refill.new.self.keeper.mark) (fill_said past.records i.reserve.store.persist _ refl h.before.standing.meaning)
+    subst (λ (item : StoreRecord). IsCutIn new past.records (item ∷ []) c.refill.new.self.keeper.mark) (fill_said past.records i.reserve.store.persist (fill_of (config_in i.reserve.store.persist)) refl h.before.standing.meaning)
     (put_cut new past.records (fill_of (config_in i.reserve.store.persist)) c.refill.new.self.keeper.mark (c.refill.ensures.leaves.frame.honest ∙ s.life.node.honest)
     (λ image is. leaves.each image (g.met.F.Flash.counts_now c.refill.new.flash _ image leaves.later is)) (c.refill.ensures.durable past.records h.store)) in
     refill_stops c.ties_law.ensures.laws m old new over s c.if-self.false c.refill.new.self ready.published seq cut (c.in-Err.ensures.fails seen ready.usable).cause.rose c.refill.ensures.leaves.frame
