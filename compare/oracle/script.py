@@ -12,7 +12,7 @@ KINDS = {'net': 'net', 'peer': 'net', 'talk': 'net', 'bcn': 'bcn', 'beacon': 'bc
 """The kind that the report tells of an event, by its word."""
 
 
-def _material(word: str) -> Material:
+def material(word: str) -> Material:
     """KEY, or KEY/LPN/FRIEND/LPNCOUNTER/FRIENDCOUNTER of a friendship."""
     key, *friendship = word.split('/')
     p = b'\1' + bytes.fromhex(''.join(friendship)) if friendship else b'\0'
@@ -23,7 +23,7 @@ def _peer_octets(words: list[str]) -> bytes:
     net, iv, ctl, ttl, seq, src, dst, transport = words
     pdu = NetworkPdu(int(ctl), int(ttl, 16), int(seq, 16), int(src, 16), int(dst, 16),
                      bytes.fromhex(transport))
-    return pdus.seal_network(_material(net), int(iv, 16), pdu)
+    return pdus.seal_network(material(net), int(iv, 16), pdu)
 
 
 def _talk_octets(words: list[str]) -> bytes:
@@ -40,12 +40,20 @@ def _talk_octets(words: list[str]) -> bytes:
     else:
         transport = pdus.segment_text(first, fields.seq, int(seg_o), upper)
     pdu = NetworkPdu(0, int(ttl, 16), int(seq, 16), fields.src, dst, transport)
-    return pdus.seal_network(_material(net), fields.iv_index, pdu)
+    return pdus.seal_network(material(net), fields.iv_index, pdu)
 
 
 def _beacon_octets(words: list[str]) -> bytes:
     net_key, flags, iv = words
     return pdus.beacon(bytes.fromhex(net_key), int(flags, 16), int(iv, 16))
+
+
+def heard_octets(word: str, words: list[str]) -> bytes:
+    """What a bearer hears by a line `b0 WORD WORDS`."""
+    if word in ('net', 'bcn'):
+        return bytes.fromhex(words[0])
+    makers = {'peer': _peer_octets, 'talk': _talk_octets, 'beacon': _beacon_octets}
+    return makers[word](words)
 
 
 def do_event(life: Life, word: str, words: list[str]) -> None:
@@ -61,9 +69,6 @@ def do_event(life: Life, word: str, words: list[str]) -> None:
         dst, ttl, text = words
         life.send_control(int(dst, 16), int(ttl, 16), bytes.fromhex(text))
     elif KINDS[word] == 'bcn':
-        is_told = word == 'bcn'
-        life.hear_beacon(bytes.fromhex(words[0]) if is_told else _beacon_octets(words))
-    elif word == 'net':
-        life.hear(bytes.fromhex(words[0]))
+        life.hear_beacon(heard_octets(word, words))
     else:
-        life.hear(_peer_octets(words) if word == 'peer' else _talk_octets(words))
+        life.hear(heard_octets(word, words))

@@ -1,8 +1,8 @@
 //! The opcode that an access payload begins with (Mesh Profile 1.0.1, section 3.7.3.1).
 #![tactic(auto)]
 
-ghost use Rattle.std.specs.Prelude.{◌↔◌, IsErr, IsTrue, IfOk};
-ghost use Rattle.model_states.specs.Access.{ReadsOpcode, has_no_opcode};
+ghost use Rattle.std.specs.Prelude.{◌≡◌, ◌+◌, ◌*◌, ◌≤◌, ◌↔◌, IsErr, IsTrue, IfOk, OnErr, Some, None, drop, length};
+ghost use Rattle.model_states.specs.Access.{ReadsOpcode, has_no_opcode, opcode_in};
 
 use model_states::access::Opcode;
 use thiserror::Error;
@@ -17,6 +17,9 @@ pub struct BadOpcode;
 pub fn read_opcode(payload: &[u8]) -> Result<(Opcode, usize), BadOpcode>
     ensures ok { IfOk result (λ r. ReadsOpcode payload.now r.0 r.1) }
     ensures bad_opcode { IsErr result ↔ IsTrue (has_no_opcode payload.now) }
+    ensures read { IfOk result (λ r. opcode_in payload.now ≡ Some (r.0.0, drop r.1 payload.now)) }
+    ensures size { IfOk result (λ r. r.1 ≤ length payload.now) }
+    ensures none { OnErr result (opcode_in payload.now ≡ None) }
 {
     match payload {
         [first @ 0x00..=0x7e, ..] => Ok((Opcode(u32::from(*first)), 1)),
@@ -27,8 +30,6 @@ pub fn read_opcode(payload: &[u8]) -> Result<(Opcode, usize), BadOpcode>
         _ => Err(BadOpcode),
     }
 }
-
-ghost use Rattle.std.specs.Prelude.{◌≡◌, ◌*◌, ◌+◌};
 
 // The opcode of these octets.
 fn two_octets(first: u8, second: u8) -> Opcode

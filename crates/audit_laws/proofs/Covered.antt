@@ -23,14 +23,14 @@ use Rattle.mesh_types.specs.declared.report.ReportLine.TheVariants as L
 use Rattle.record_types.specs.declared.records.StoreRecord.{StoreRecord}
 use Rattle.report_definitions.specs.Record.{Life, LifeOver, shown}
 use Rattle.report_definitions.specs.Report.{life_lines, lives_lines, report_text}
-use Rattle.run_definitions.specs.Answers.{pair_of}
-use Rattle.run_definitions.specs.Layers.{Layers}
+use Rattle.event_definitions.specs.Answers.{pair_of}
+use Rattle.event_definitions.specs.Layers.{Layers}
 use Rattle.run_definitions.specs.Lines.{Shows, shows_bcn, shows_ctl, shows_first, shows_late, shows_long, shows_msg, shows_relay, shows_rep, shows_seg, shows_sent, shows_sent_long, shows_spent}
 use Rattle.run_definitions.specs.Order.{Step}
 use Rattle.run_definitions.specs.RunOf.{LivesOf}
 use Rattle.run_definitions.specs.Seals.{message_fields, own_fields}
-use Rattle.run_definitions.proofs.Accepting.{some_is}
-use Rattle.run_safety.proofs.Lists.{every_append, every_map}
+use Rattle.event_definitions.proofs.Accepting.{some_is}
+use Rattle.event_definitions.proofs.Each.{every_append, every_map}
 use Rattle.script_definitions.specs.declared.line.ScriptNet.{ScriptNet}
 use Rattle.audit_laws.specs.Covered.{HasKey, IsCovered, ReportsAreSound}
 use Rattle.audit_laws.specs.Laws.{TellsNothingTwice}
@@ -71,15 +71,15 @@ pdu_given nets entry event _ _ (shows_msg {m = m} {key = key} {ttl = ttl} {src =
     sealed_so nets _ m (message_fields key pair ttl src dst payload) x.octets c.key c.pdu refl (shown_octets _ x e)
 pdu_given nets entry event _ _ (shows_sent {m = m} {key = key} {ttl = ttl} {src = src} {dst = dst} {payload = payload} {pair = pair} short) c x e =
     sealed_so nets _ m (message_fields key pair ttl src dst payload) x.octets c.key c.pdu refl (shown_octets _ x e)
-pdu_given nets entry event _ _ (shows_first {m = m} {name = name} {ttl = ttl} {src = src} {dst = dst} {tpdu = tpdu}) c x e =
-    sealed_so nets _ m (own_fields name.pair false ttl src dst tpdu) x.octets c.key c.pdu refl (shown_octets _ x e)
-pdu_given nets entry event _ _ (shows_seg {m = m} {ttl = ttl} {src = src} {dst = dst} {tpdu = tpdu} {pair = pair} intime) c x e =
-    sealed_so nets _ m (own_fields pair false ttl src dst tpdu) x.octets c.key c.pdu refl (shown_octets _ x e)
+pdu_given nets entry event _ _ (shows_first {s = s} first) c x e =
+    sealed_so nets _ s.material (own_fields s.name.pair false s.ttl s.name.src s.dst s.tpdu) x.octets c.key c.pdu refl (shown_octets _ x e)
+pdu_given nets entry event _ _ (shows_seg {s = s} {pair = pair} later intime) c x e =
+    sealed_so nets _ s.material (own_fields pair false s.ttl s.name.src s.dst s.tpdu) x.octets c.key c.pdu refl (shown_octets _ x e)
 pdu_given nets entry event _ _ (shows_relay {m = m} {f = f}) c x e =
     sealed_so nets _ m (own_fields (pair_of f) f.ctl f.ttl f.src f.dst f.tpdu) x.octets c.key c.pdu refl (shown_octets _ x e)
 pdu_given nets entry event _ _ (shows_long long) c x e = absurd cc
 pdu_given nets entry event _ _ (shows_sent_long long) c x e = absurd cc
-pdu_given nets entry event _ _ (shows_late late) c x e = absurd cc
+pdu_given nets entry event _ _ (shows_late later late) c x e = absurd cc
 pdu_given nets entry event _ _ shows_rep c x e = absurd cc
 pdu_given nets entry event _ _ shows_bcn c x e = absurd cc
 pdu_given nets entry event job _ (shows_spent draws) c x e = absurd cc

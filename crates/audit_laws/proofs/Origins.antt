@@ -15,11 +15,12 @@ use Rattle.mesh_types.specs.declared.jobs.Job.TheVariants as J
 use Rattle.mesh_types.specs.declared.lines.Outcome.{Outcome}
 use Rattle.mesh_types.specs.declared.lines.Outcome.TheVariants as O
 use Rattle.report_definitions.specs.Record.{Life, list_at}
-use Rattle.run_definitions.specs.Fit.{IsOwn}
+use Rattle.event_definitions.specs.Fit.{IsOwn}
 use Rattle.run_definitions.specs.Lines.{Shows, shows_bcn, shows_ctl, shows_first, shows_late, shows_long, shows_msg, shows_relay, shows_rep, shows_seg, shows_sent, shows_sent_long, shows_spent, after_line, kept_events}
 use Rattle.run_definitions.specs.Order.{Does, IsOrdered, Part, PartsOf, Placed, Step, Task, Walks, broken, ends, follow, follows, handle, handles, is_outside, job_tasks, of_bearer, phases_of, placed_from, stops, whole, write, write_tasks, writes}
 use Rattle.run_definitions.specs.RunOf.{IsIdle, is_on}
-use Rattle.run_safety.proofs.Lists.{Apart, every_append, every_back, every_front, every_map}
+use Rattle.run_safety.proofs.Lists.{Apart}
+use Rattle.event_definitions.proofs.Each.{every_append, every_back, every_front, every_map}
 use Rattle.run_safety.proofs.Walking.{Found}
 use Rattle.store_definitions.specs.Config.{Config, is_element}
 use Rattle.audit_laws.specs.Laws.{NamesElement}
@@ -39,7 +40,7 @@ pub record Comes (entries : List Entry) (before : ℕ) (src : Address) : Type 0 
 -- the event of the entry at a place
 abbrev pub Origin : ℕ → List Entry → ℕ → Event → Type 0
 Origin elements entries at (E.Send element dst ttl key payload) = element < elements
-Origin elements entries at (E.Begin pair dst src ttl net akf aid upper) = Comes entries at src
+Origin elements entries at (E.Begin m) = Comes entries at m.name.src
 Origin elements entries at _ = ⊤
 
 abbrev pub HasOrigin : ℕ → List Entry → Placed → Type 0
@@ -61,7 +62,7 @@ Earlier p q = p.at < q.at
 -- What is known of a task, where these entries are still to be made.
 
 abbrev Begins : List Entry → List Placed → Event → Type 0
-Begins entries es (E.Begin pair dst src ttl net akf aid upper) = Every (λ (q : Placed). Comes entries q.at src) es
+Begins entries es (E.Begin m) = Every (λ (q : Placed). Comes entries q.at m.name.src) es
 Begins entries es (E.Kept lpn fsn name octets) = ⊤
 Begins entries es _ = ⊥
 
@@ -80,7 +81,7 @@ module _ (elements : ℕ) (entries : List Entry) where
   fewer p es (follow event) h = fewer_begins event h
     where
       fewer_begins : (event : Event) → Begins entries (p ∷ es) event → Begins entries es event
-      fewer_begins (E.Begin pair dst src ttl net akf aid upper) h = h.1
+      fewer_begins (E.Begin m) h = h.1
       fewer_begins (E.Kept lpn fsn name octets) h = tt
       fewer_begins (E.Net octets) h = h
       fewer_begins (E.Bcn octets) h = h
@@ -118,7 +119,7 @@ module _ (elements : ℕ) (entries : List Entry) where
   spent_after (J.Control material ttl src dst tpdu keep) iv = refl
   spent_after (J.Message net material key ttl src dst payload keep) iv = refl
   spent_after (J.Sent net material key ttl src dst) iv = refl
-  spent_after (J.Segment material name ttl src dst seg_o seg_n tpdu first) iv = refl
+  spent_after (J.Segment s) iv = refl
   spent_after (J.Repeat name octets) iv = refl
   spent_after (J.Beacon octets) iv = refl
 
@@ -140,9 +141,9 @@ module _ (elements : ℕ) (entries : List Entry) where
   line_follows es i j event job _ (shows_long {src = src} long) f h = (comes_later es i j event job src f (λ c o. o) h, tt)
   line_follows es i j event _ _ (shows_sent short) f h = tt
   line_follows es i j event job _ (shows_sent_long {src = src} long) f h = (comes_later es i j event job src f (λ c o. o) h, tt)
-  line_follows es i j event _ _ shows_first f h = tt
-  line_follows es i j event _ _ (shows_seg intime) f h = tt
-  line_follows es i j event _ _ (shows_late late) f h = tt
+  line_follows es i j event _ _ (shows_first first) f h = tt
+  line_follows es i j event _ _ (shows_seg later intime) f h = tt
+  line_follows es i j event _ _ (shows_late later late) f h = tt
   line_follows es i j event _ _ shows_relay f h = tt
   line_follows es i j event _ _ shows_rep f h = tt
   line_follows es i j event _ _ shows_bcn f h = tt
@@ -151,7 +152,7 @@ module _ (elements : ℕ) (entries : List Entry) where
   -- an event from outside, and one that follows a line
   outside_origin : (at : ℕ) (event : Event) → IsTrue (is_outside event) → NamesElement elements event → Origin elements entries at event
   outside_origin at (E.Send element dst ttl key payload) o h = h
-  outside_origin at (E.Begin pair dst src ttl net akf aid upper) o h = absurd cc
+  outside_origin at (E.Begin m) o h = absurd cc
   outside_origin at (E.Net octets) o h = tt
   outside_origin at (E.Bcn octets) o h = tt
   outside_origin at (E.Raw dst ttl tpdu) o h = tt
@@ -159,7 +160,7 @@ module _ (elements : ℕ) (entries : List Entry) where
   outside_origin at (E.Kept lpn fsn name octets) o h = tt
 
   begun_origin : (p : Placed) (es : List Placed) (event : Event) → Begins entries (p ∷ es) event → Origin elements entries p.at event
-  begun_origin p es (E.Begin pair dst src ttl net akf aid upper) h = h.0
+  begun_origin p es (E.Begin m) h = h.0
   begun_origin p es (E.Kept lpn fsn name octets) h = tt
   begun_origin p es (E.Net octets) h = absurd h
   begun_origin p es (E.Bcn octets) h = absurd h

@@ -12,16 +12,16 @@ use Rattle.mesh_types.specs.declared.history.Entry.{Entry}
 use Rattle.mesh_types.specs.declared.jobs.Job.{Job}
 use Rattle.mesh_types.specs.declared.jobs.Job.TheVariants as J
 use Rattle.record_types.specs.declared.records.StoreRecord.{StoreRecord}
-use Rattle.run_definitions.proofs.Handling.{handled_more, left_more}
-use Rattle.run_definitions.specs.Fit.{IsOwn, IsOwnEvent}
-use Rattle.run_definitions.specs.Handling.{AreHandled, Handles, IsPast, past_of, records_left}
-use Rattle.run_definitions.specs.History.{Past, Told}
-use Rattle.run_definitions.specs.Jobs.{jobs_of}
-use Rattle.run_definitions.specs.Layers.{Layers}
+use Rattle.event_definitions.proofs.Handling.{handled_more, left_more}
+use Rattle.event_definitions.specs.Fit.{IsOwn, IsOwnEvent}
+use Rattle.event_definitions.specs.Handling.{AreHandled, Handles, IsPast, past_of, records_left}
+use Rattle.event_definitions.specs.History.{Past, Told}
+use Rattle.event_definitions.specs.Jobs.{jobs_of}
+use Rattle.event_definitions.specs.Layers.{Layers}
 use Rattle.run_definitions.specs.Order.{placed_from}
-use Rattle.run_definitions.specs.Stores.{records_after}
-use Rattle.run_safety.proofs.Lists.{every_append, every_map}
-use Rattle.run_safety.specs.Safety.{AreSafe}
+use Rattle.event_definitions.specs.Stores.{records_after}
+use Rattle.event_definitions.proofs.Each.{every_append, every_map}
+use Rattle.event_definitions.specs.Safe.{AreSafe}
 use Rattle.store_definitions.specs.Config.{Config, config_of, is_element}
 use Rattle.store_definitions.specs.Numbers.{filled}
 use Rattle.audit_laws.specs.Laws.{IsOwnPast, SendOwn}
@@ -35,14 +35,14 @@ own_job_same : (c d : Config) → IsSameNode c d → (job : Job) → IsOwn d job
 own_job_same c d s (J.Control material ttl src dst tpdu keep) h = same_element c d src.0 s ∙ h
 own_job_same c d s (J.Message net material key ttl src dst payload keep) h = same_element c d src.0 s ∙ h
 own_job_same c d s (J.Sent net material key ttl src dst) h = same_element c d src.0 s ∙ h
-own_job_same c d s (J.Segment material name ttl src dst seg_o seg_n tpdu first) h = same_element c d src.0 s ∙ h
+own_job_same c d s (J.Segment segment) h = same_element c d segment.name.src.0 s ∙ h
 own_job_same c d s (J.Relay material f) h = tt
 own_job_same c d s (J.Repeat name pdu) h = tt
 own_job_same c d s (J.Beacon octets) h = tt
 
 own_event_same : (c d : Config) → IsSameNode c d → (event : Event) → IsOwnEvent c event → IsOwnEvent d event
 own_event_same c d s (E.Send element dst ttl key payload) h = let e = s.elements in omega arith
-own_event_same c d s (E.Begin pair dst src ttl net akf aid upper) h = sym (same_element c d src.0 s) ∙ h
+own_event_same c d s (E.Begin m) h = sym (same_element c d m.name.src.0 s) ∙ h
 own_event_same c d s (E.Net octets) h = tt
 own_event_same c d s (E.Bcn octets) h = tt
 own_event_same c d s (E.Raw dst ttl tpdu) h = tt
@@ -81,7 +81,7 @@ module _ (layers : Layers) (safe : AreSafe layers) (sends : SendOwn layers) (own
   origin_own : (before rest : List Told) (event : Event) → entries ≡ entries_told before ++ entries_told rest → Every (λ (t : Told). OwnEntry own t.entry) before
       → Origin own.elements entries (length before) event → IsOwnEvent own event
   origin_own before rest (E.Send element dst ttl key payload) is owned h = h
-  origin_own before rest (E.Begin pair dst src ttl net akf aid upper) is owned h = comes_own before rest src is owned h
+  origin_own before rest (E.Begin m) is owned h = comes_own before rest m.name.src is owned h
   origin_own before rest (E.Net octets) is owned h = tt
   origin_own before rest (E.Bcn octets) is owned h = tt
   origin_own before rest (E.Raw dst ttl tpdu) is owned h = tt

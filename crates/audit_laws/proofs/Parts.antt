@@ -4,7 +4,8 @@ use Rattle.std.specs.Prelude.{slice_get}
 use Rattle.std.specs.List.{All, AllByRecursion as Every}
 use Rattle.std.proofs.lemmas.List.Elements.{recursion_from_All}
 use Rattle.report_definitions.specs.Record.{list_at}
-use Rattle.run_safety.proofs.Lists.{Apart, every_front, every_map}
+use Rattle.run_safety.proofs.Lists.{Apart}
+use Rattle.event_definitions.proofs.Each.{every_front, every_map}
 
 -- at a place
 pub every_at : {A : Type 0} (P : A → Type 0) (xs : List A) (i : ℕ) (x : A) → Every P xs → slice_get xs i ≡ Some x → P x

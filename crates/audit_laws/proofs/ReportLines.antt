@@ -27,28 +27,29 @@ use Rattle.mesh_types.specs.declared.report.ReportLine.TheVariants as L
 use Rattle.record_types.specs.declared.records.StoreRecord.{StoreRecord}
 use Rattle.report_definitions.specs.Record.{Life, LifeOver, first_over, shown, shown_of}
 use Rattle.report_definitions.specs.Report.{bearer_lines, end_lines, entry_lines, life_lines, lives_lines, opened_line, send_lines}
-use Rattle.run_definitions.specs.Answers.{answer_of}
-use Rattle.run_definitions.specs.Fit.{IsOwn}
-use Rattle.run_definitions.specs.Handling.{AreHandled, past_of, records_left}
-use Rattle.run_definitions.specs.History.{Insight, Past, Told}
-use Rattle.run_definitions.specs.Layers.{Layers}
+use Rattle.event_definitions.specs.Answers.{accepted as accepted_by, answer_of}
+use Rattle.event_definitions.specs.Fit.{IsOwn}
+use Rattle.event_definitions.specs.Handling.{AreHandled, past_of, records_left}
+use Rattle.event_definitions.specs.History.{Insight, Past, Told}
+use Rattle.event_definitions.specs.Layers.{Layers}
 use Rattle.run_definitions.specs.Lines.{Shows, shows_bcn, shows_ctl, shows_first, shows_late, shows_long, shows_msg, shows_relay, shows_rep, shows_seg, shows_sent, shows_sent_long, shows_spent}
 use Rattle.run_definitions.specs.Order.{Step, phases_of, placed_from}
-use Rattle.run_definitions.specs.Readings.{Sees, sees_beacon, sees_nothing, sees_pdu}
+use Rattle.event_definitions.specs.Readings.{Sees, sees_beacon, sees_nothing, sees_pdu}
 use Rattle.run_definitions.specs.RunOf.{LifeOf, LivesOf, draws}
-use Rattle.run_definitions.specs.Stores.{records_after, stores}
+use Rattle.event_definitions.specs.Stores.{records_after, stores}
 use Rattle.run_definitions.specs.Uses.{life_delivered}
-use Rattle.run_definitions.specs.Uses.{accepted as accepted_by}
-use Rattle.run_safety.proofs.Accepting.{Silent, beacon_silent, nothing_silent, silent, unless_silent}
+use Rattle.event_definitions.proofs.Events.{Silent, beacon_silent, nothing_silent, silent, unless_silent}
 use Rattle.run_safety.proofs.LifeLines as lines
-use Rattle.run_safety.proofs.Lists.{Sub, every_append, every_back, every_front, no_part, sub_append}
+use Rattle.run_safety.proofs.Lists.{Sub, no_part, sub_append}
+use Rattle.event_definitions.proofs.Each.{every_append, every_back, every_front}
 use Rattle.run_safety.proofs.Lives.{life_later}
 use Rattle.run_safety.proofs.Names.{filled_is, left_is}
 use Rattle.run_safety.proofs.Rising.{Later, later_after}
 use Rattle.run_safety.proofs.Sending.{Foreign}
 use Rattle.run_safety.proofs.Walking.{ForeignJob, ShownFits, Tag, doubled, tags, tags_of}
 use Rattle.run_safety.specs.Rules.{LifeBy, LivesBy, enough_rules}
-use Rattle.run_safety.specs.Safety.{AreSafe, all_draws}
+use Rattle.run_safety.specs.Safety.{all_draws}
+use Rattle.event_definitions.specs.Safe.{AreSafe}
 use Rattle.store_definitions.specs.Config.{Config, config_of, is_element}
 use Rattle.store_definitions.specs.Ranges.{IsInRange, IsNameInRange}
 use Rattle.audit_laws.specs.Laws.{NamesElement, SendOwn}
@@ -103,9 +104,9 @@ outcome_fits own n event _ _ (shows_msg {src = src} short) o f = home_source own
 outcome_fits own n event _ _ (shows_long {src = src} long) o f = home_source own src n o
 outcome_fits own n event _ _ (shows_sent {src = src} short) o f = home_source own src n o
 outcome_fits own n event _ _ (shows_sent_long {src = src} long) o f = home_source own src n o
-outcome_fits own n event _ _ (shows_first {src = src}) o f = home_source own src n o
-outcome_fits own n event _ _ (shows_seg {src = src} intime) o f = home_source own src n o
-outcome_fits own n event _ _ (shows_late late) o f = tt
+outcome_fits own n event _ _ (shows_first {s = s} first) o f = home_source own s.name.src n o
+outcome_fits own n event _ _ (shows_seg {s = s} later intime) o f = home_source own s.name.src n o
+outcome_fits own n event _ _ (shows_late later late) o f = tt
 outcome_fits own n event _ _ shows_relay o f = f
 outcome_fits own n event _ _ shows_rep o f = tt
 outcome_fits own n event _ _ shows_bcn o f = tt

@@ -8,21 +8,23 @@ use Rattle.mesh_types.specs.declared.report.ReportLine.{ReportLine}
 use Rattle.record_types.specs.declared.records.StoreRecord.{StoreRecord}
 use Rattle.report_definitions.specs.Record.{Life, LifeOver, Run, first_over}
 use Rattle.report_definitions.specs.Report.{lives_lines}
-use Rattle.run_definitions.specs.Handling.{records_left}
-use Rattle.run_definitions.specs.Layers.{Layers}
+use Rattle.event_definitions.specs.Handling.{records_left}
+use Rattle.event_definitions.specs.Layers.{Layers}
 use Rattle.run_definitions.specs.Order.{Step, phases_of}
 use Rattle.run_definitions.specs.RunOf.{LifeOf, LivesOf, RunOf, Script}
 use Rattle.run_definitions.specs.Uses.{delivered, node_of}
 use Rattle.run_safety.proofs.Enough.{run_by_enough}
 use Rattle.run_safety.proofs.Enough as enough
-use Rattle.run_safety.proofs.Lists.{Apart, apart_from_pairs, apart_sub, every_back, every_front, every_map, every_sub}
+use Rattle.run_safety.proofs.Lists.{Apart, apart_from_pairs, apart_sub, every_sub}
+use Rattle.event_definitions.proofs.Each.{every_back, every_front, every_map}
 use Rattle.run_safety.proofs.Names.{filled_is, left_is}
 use Rattle.run_safety.proofs.Nonces.{Wide}
 use Rattle.run_safety.proofs.Reuse.{Drawn, both_wide, doubled_apart, lives_drawn}
 use Rattle.run_safety.proofs.Rising.{later_same}
 use Rattle.run_safety.proofs.Walking.{Tag}
 use Rattle.run_safety.specs.Rules.{LivesBy, enough_rules}
-use Rattle.run_safety.specs.Safety.{AreSafe, all_draws}
+use Rattle.run_safety.specs.Safety.{all_draws}
+use Rattle.event_definitions.specs.Safe.{AreSafe}
 use Rattle.store_definitions.specs.Config.{Config, changed, config_of}
 use Rattle.store_definitions.specs.Provisioning.{Provisioning, provisioned}
 use Rattle.store_definitions.specs.Ranges.{IsInRange}

@@ -15,7 +15,7 @@ use Rattle.mesh_types.specs.declared.report.ReportLine.{ReportLine}
 use Rattle.mesh_types.specs.declared.report.ReportLine.TheVariants as L
 use Rattle.report_definitions.specs.Record.{Life, Shown, shown_of}
 use Rattle.report_definitions.specs.Report.{bearer_lines, end_lines, entry_lines, life_lines, opened_line, send_lines}
-use Rattle.run_safety.proofs.Lists.{every_append, every_back, every_front}
+use Rattle.event_definitions.proofs.Each.{every_append, every_back, every_front}
 use Rattle.run_safety.proofs.Walking.{Tag, tags, tags_of}
 use Rattle.audit_laws.proofs.Origins.{IsShown}
 

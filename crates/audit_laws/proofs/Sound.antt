@@ -22,7 +22,7 @@ use Rattle.mesh_types.specs.declared.report.ReportLine.TheVariants as L
 use Rattle.report_definitions.specs.Report.{line_text, lives_lines}
 use Rattle.report_definitions.specs.Text.{hex_digits}
 use Rattle.report_reader.proofs.Back.{number_back}
-use Rattle.run_definitions.proofs.Accepting.{some_is}
+use Rattle.event_definitions.proofs.Accepting.{some_is}
 use Rattle.run_definitions.specs.Uses.{node_of}
 use Rattle.run_safety.proofs.Lists.{Apart}
 use Rattle.run_safety.proofs.Nonces.{Wide}

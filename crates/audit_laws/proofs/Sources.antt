@@ -21,13 +21,13 @@ use Rattle.mesh_types.specs.declared.events.Event.TheVariants as E
 use Rattle.mesh_types.specs.declared.events.SendKey.{SendKey}
 use Rattle.mesh_types.specs.declared.jobs.Job.{Job}
 use Rattle.mesh_types.specs.declared.jobs.Job.TheVariants as J
-use Rattle.run_definitions.specs.Answers.{config_before, later}
-use Rattle.run_definitions.specs.Fit.{IsOwn, IsOwnEvent}
-use Rattle.run_definitions.specs.History.{Insight, OfBeacon, OfNothing, OfPdu, Opening, Past, Reading, now_of}
-use Rattle.run_definitions.specs.Jobs.{ack_asked, ack_job, ack_jobs, beacon_jobs, beacons_due, begin_jobs, block_asked, element_address, first_net, first_round_job, is_moved, is_refreshed, jobs_of, message_jobs, pdu_jobs, raw_jobs, refresh_jobs, relay_jobs, reply_ttl, segment_numbers, send_jobs, send_keys, sent_job, tick_jobs, under}
-use Rattle.run_definitions.specs.Layers.{Layers}
-use Rattle.run_definitions.specs.Stores.{message_of}
-use Rattle.run_safety.proofs.Lists.{every_append}
+use Rattle.event_definitions.specs.Answers.{config_before, later}
+use Rattle.event_definitions.specs.Fit.{IsOwn, IsOwnEvent}
+use Rattle.event_definitions.specs.History.{Insight, OfBeacon, OfNothing, OfPdu, Opening, Past, Reading, now_of}
+use Rattle.event_definitions.specs.Jobs.{ack_asked, ack_job, ack_jobs, beacon_jobs, beacons_due, begin_jobs, block_asked, element_address, first_net, first_round_job, is_moved, is_refreshed, jobs_of, message_jobs, pdu_jobs, raw_jobs, refresh_jobs, relay_jobs, reply_ttl, segment_numbers, send_jobs, send_keys, sent_job, tick_jobs, under}
+use Rattle.event_definitions.specs.Layers.{Layers}
+use Rattle.event_definitions.specs.Stores.{message_of}
+use Rattle.event_definitions.proofs.Each.{every_append}
 use Rattle.store_definitions.specs.Config.{Config, is_element}
 use Rattle.audit_laws.specs.Laws.{IsOwnPast, SendOwn}
 
@@ -58,10 +58,9 @@ asked_own c r answer (Some numbers) h =
 refresh_own : (before c : Config) → Every (IsOwn c) (refresh_jobs before c)
 refresh_own before c = every_pick (IsOwn c) (list_any (is_refreshed before.nets) c.nets) _ [] (beacons_own c) tt
 
-begin_own : (c : Config) (pair : Pair) (dst src : Address) (ttl net : ℕ) (akf : Bool) (aid : ℕ) (upper : List ℕ) → is_element c src.0 ≡ true → Every (IsOwn c) (begin_jobs c pair dst src ttl net akf aid upper)
-begin_own c pair dst src ttl net akf aid upper h =
-    every_flat_any (IsOwn c) (λ seg_o. under c net (first_round_job pair dst src ttl akf aid upper seg_o))
-    (λ seg_o. every_under (IsOwn c) c net (first_round_job pair dst src ttl akf aid upper seg_o) (λ m. h)) _
+begin_own : (c : Config) (m : Outgoing) → is_element c m.name.src.0 ≡ true → Every (IsOwn c) (begin_jobs c m)
+begin_own c m h =
+    every_flat_any (IsOwn c) (λ seg_o. under c m.net (first_round_job m seg_o)) (λ seg_o. every_under (IsOwn c) c m.net (first_round_job m seg_o) (λ material. h)) _
 
 raw_own : (c : Config) (dst : Address) (ttl : ℕ) (tpdu : List ℕ) → 1 ≤ c.elements → Every (IsOwn c) (raw_jobs c dst ttl tpdu)
 raw_own c dst ttl tpdu h =
@@ -132,6 +131,6 @@ module _ (layers : Layers) (sends : SendOwn layers) (past : Past) (c : Config) (
   jobs_own (E.Raw dst ttl tpdu) insight _ h k = tt
   jobs_own (E.Tick ticks) insight (A.Ticked now) h k = tick_own ticks
   jobs_own (E.Tick ticks) insight _ h k = tt
-  jobs_own (E.Begin pair dst src ttl net akf aid upper) insight A.Begun h k = begin_own c pair dst src ttl net akf aid upper (still src.0 k)
-  jobs_own (E.Begin pair dst src ttl net akf aid upper) insight _ h k = tt
+  jobs_own (E.Begin m) insight A.Begun h k = begin_own c m (still m.name.src.0 k)
+  jobs_own (E.Begin m) insight _ h k = tt
   jobs_own (E.Kept lpn fsn name octets) insight answer h k = tt

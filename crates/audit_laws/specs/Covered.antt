@@ -14,11 +14,11 @@ use Rattle.mesh_types.specs.declared.lines.Outcome.TheVariants as O
 use Rattle.report_definitions.specs.Record.{Run, Shown, shown}
 use Rattle.report_definitions.specs.Report.{report_text}
 use Rattle.report_reader.specs.ReportLine.{IsTold}
-use Rattle.run_definitions.specs.Layers.{Layers}
+use Rattle.event_definitions.specs.Layers.{Layers}
 use Rattle.run_definitions.specs.RunOf.{RunOf, Script}
 use Rattle.run_definitions.specs.Seals.{message_fields, own_fields}
 use Rattle.run_definitions.specs.Uses.{material_of, segment_of, upper_key_of}
-use Rattle.run_safety.specs.Safety.{AreSafe}
+use Rattle.event_definitions.specs.Safe.{AreSafe}
 use Rattle.script_definitions.specs.Events.{material_of as material_given}
 use Rattle.script_definitions.specs.declared.line.ScriptNet.{ScriptNet}
 use Rattle.audit_laws.specs.Laws.{NamesElements, SendOwn}

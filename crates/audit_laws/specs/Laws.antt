@@ -11,14 +11,14 @@ use Rattle.node_layers.specs.BuiltLayers.{built_layers}
 use Rattle.node_layers.specs.NodeLayers.{node_layers}
 use Rattle.report_definitions.specs.Record.{Run}
 use Rattle.report_definitions.specs.Report.{report_text}
-use Rattle.run_definitions.specs.Answers.{config_before}
-use Rattle.run_definitions.specs.Fit.{HasElements, HasOwnEvents, IsOwn}
-use Rattle.run_definitions.specs.Handling.{IsPast}
-use Rattle.run_definitions.specs.History.{Past}
-use Rattle.run_definitions.specs.Layers.{AccessMessage, ControlMessage, Layers}
+use Rattle.event_definitions.specs.Answers.{config_before}
+use Rattle.event_definitions.specs.Fit.{HasElements, HasOwnEvents, IsOwn}
+use Rattle.event_definitions.specs.Handling.{IsPast}
+use Rattle.event_definitions.specs.History.{Past}
+use Rattle.event_definitions.specs.Layers.{AccessMessage, ControlMessage, Layers}
 use Rattle.run_definitions.specs.Order.{phases_of}
 use Rattle.run_definitions.specs.RunOf.{RunOf, Script}
-use Rattle.run_safety.specs.Safety.{AreSafe}
+use Rattle.event_definitions.specs.Safe.{AreSafe}
 use Rattle.script_definitions.specs.declared.line.ScriptNet.{ScriptNet}
 use Rattle.store_definitions.specs.Config.{Config}
 

@@ -1,12 +1,16 @@
--- Messages about network keys and application keys (Mesh Profile 1.0.1, sections 4.3.2.31 to 4.3.2.42 and 4.3.2.58 to 4.3.2.60). Each test of an
--- outcome stands where it is asked: the first that holds decides.
+-- Messages about network keys and application keys (Mesh Profile 1.0.1, sections 4.3.2.31 to 4.3.2.42 and 4.3.2.58 to 4.3.2.60). The first test
+-- that holds decides.
 use Rattle.std.specs.Prelude.{ℕ, ◌+◌, ◌*◌, ◌==◌, ◌&&◌, ◌||◌, not, nat_le, Bool, true, false, if◌then◌else◌, List, [], ◌∷◌, ◌++◌, Option, Some, None, is_none, is_some, length, map, filter, replicate, bytes_eq}
 use Rattle.std.specs.List.{list_any}
 use Rattle.std.specs.Option.{option_map_or}
-use Rattle.config_definitions.specs.Params.{first_index, second_index, index_of, packed, packed_list, is_key, status_octet, refused, unchanged, stored, replied, acted}
+use Rattle.node_limits.specs.declared.TheConstants.{NETWORK_KEYS, APPLICATION_KEYS}
+use Rattle.config_definitions.specs.Params.{packed, packed_list, status_octet, refused, unchanged, stored, replied, acted}
 use Rattle.config_definitions.specs.declared.acts.ConfigAct.{ConfigAct}
 use Rattle.config_definitions.specs.declared.acts.Outcome.{Outcome}
 use Rattle.config_definitions.specs.declared.acts.Status.TheVariants as S
+use Rattle.config_definitions.specs.declared.messages.AppKeyIndexes.{AppKeyIndexes}
+use Rattle.config_definitions.specs.declared.messages.PhaseTransition.{PhaseTransition}
+use Rattle.config_definitions.specs.declared.messages.PhaseTransition.TheVariants as T
 use Rattle.layer_definitions.specs.KeyRefresh.{net_row, app_row}
 use Rattle.mesh_base.specs.declared.keys.AppKeyRow.{AppKeyRow}
 use Rattle.mesh_base.specs.declared.keys.NetKeyRow.{NetKeyRow}
@@ -38,7 +42,7 @@ app_key_add c net app key = if not (has_net c net) then refused S.InvalidNetKey 
   where
     by_row : Option AppKeyRow → Outcome
     by_row (Some r) = if r.net == net && bytes_eq r.key key then unchanged else refused S.KeyIndexStored
-    by_row None = if nat_le 8 (length c.apps) then refused S.InsufficientResources else stored (R.AppKey 1 net app key)
+    by_row None = if nat_le APPLICATION_KEYS (length c.apps) then refused S.InsufficientResources else stored (R.AppKey 1 net app key)
 
 abbrev pub app_key_update : Config → ℕ → ℕ → List ℕ → Outcome
 app_key_update c net app key = by_row (app_row c.apps app)
@@ -60,35 +64,17 @@ app_key_delete c net app = if not (has_net c net) then refused S.InvalidNetKey e
     by_row (Some r) = if not (r.net == net) then refused S.InvalidNetKey else stored (R.AppKey 3 net app no_key)
 
 -- AppKey Status 8003: status, both indexes
-abbrev pub app_key_act : Outcome → ℕ → ℕ → Option ConfigAct
-app_key_act o net app = acted o.change (0x80 ∷ 0x03 ∷ status_octet o.status ∷ packed net app)
+abbrev pub app_key_act : Outcome → AppKeyIndexes → ConfigAct
+app_key_act o key = acted o.change (0x80 ∷ 0x03 ∷ status_octet o.status ∷ packed key.net key.app)
 
--- AppKey Add 00 and AppKey Update 01: both indexes, the key
-abbrev pub app_key_set : (ℕ → ℕ → List ℕ → Outcome) → List ℕ → Option ConfigAct
-app_key_set outcome (a ∷ b ∷ d ∷ key) =
-    let net = first_index a b in
-    let app = second_index b d in
-    if is_key key then app_key_act (outcome net app key) net app else None
-app_key_set outcome _ = None
-
--- AppKey Delete 8000: both indexes
-abbrev pub app_key_removal : Config → List ℕ → Option ConfigAct
-app_key_removal c (a ∷ b ∷ d ∷ []) =
-    let net = first_index a b in
-    let app = second_index b d in
-    app_key_act (app_key_delete c net app) net app
-app_key_removal c _ = None
-
--- AppKey Get 8001: the network key. AppKey List 8002: status, the network key, its application keys
+-- AppKey List 8002: status, the network key, its application keys
 abbrev pub app_indexes : Config → ℕ → List ℕ
 app_indexes c net = map (λ r. r.index) (filter (λ r. r.net == net) c.apps)
 
-abbrev pub app_key_get : Config → List ℕ → Option ConfigAct
-app_key_get c (a ∷ b ∷ []) =
-    let net = index_of a b in
+abbrev pub app_key_list : Config → ℕ → ConfigAct
+app_key_list c net =
     if has_net c net then replied (0x80 ∷ 0x02 ∷ 0x00 ∷ two_low_first net ++ packed_list (app_indexes c net))
     else replied (0x80 ∷ 0x02 ∷ status_octet S.InvalidNetKey ∷ two_low_first net)
-app_key_get c _ = None
 
 -- Network keys.
 
@@ -97,7 +83,7 @@ net_key_add c net key = by_row (net_row c.nets net)
   where
     by_row : Option NetKeyRow → Outcome
     by_row (Some r) = if bytes_eq r.key key then unchanged else refused S.KeyIndexStored
-    by_row None = if nat_le 4 (length c.nets) then refused S.InsufficientResources else stored (R.NetKey 1 net key)
+    by_row None = if nat_le NETWORK_KEYS (length c.nets) then refused S.InsufficientResources else stored (R.NetKey 1 net key)
 
 abbrev pub net_key_update : Config → ℕ → List ℕ → Outcome
 net_key_update c net key = by_row (net_row c.nets net)
@@ -117,25 +103,12 @@ net_key_delete c under net =
     else stored (R.NetKey 5 net no_key)
 
 -- NetKey Status 8044: status, the index
-abbrev pub net_key_act : Outcome → ℕ → Option ConfigAct
+abbrev pub net_key_act : Outcome → ℕ → ConfigAct
 net_key_act o net = acted o.change (0x80 ∷ 0x44 ∷ status_octet o.status ∷ two_low_first net)
 
--- NetKey Add 8040 and NetKey Update 8045: the index, the key
-abbrev pub net_key_set : (ℕ → List ℕ → Outcome) → List ℕ → Option ConfigAct
-net_key_set outcome (a ∷ b ∷ key) =
-    let net = index_of a b in
-    if is_key key then net_key_act (outcome net key) net else None
-net_key_set outcome _ = None
-
--- NetKey Delete 8041: the index
-abbrev pub net_key_removal : Config → ℕ → List ℕ → Option ConfigAct
-net_key_removal c under (a ∷ b ∷ []) = let net = index_of a b in net_key_act (net_key_delete c under net) net
-net_key_removal c under _ = None
-
--- NetKey Get 8042, and NetKey List 8043: the network keys
-abbrev pub net_key_get : Config → List ℕ → Option ConfigAct
-net_key_get c [] = replied (0x80 ∷ 0x43 ∷ packed_list (map (λ r. r.index) c.nets))
-net_key_get c _ = None
+-- NetKey List 8043: the network keys
+abbrev pub net_key_list : Config → ConfigAct
+net_key_list c = replied (0x80 ∷ 0x43 ∷ packed_list (map (λ r. r.index) c.nets))
 
 -- Key Refresh Phase.
 
@@ -154,25 +127,16 @@ phase_end c net =
     else stored (R.NetKey 4 net no_key)
 
 -- Key Refresh Phase Status 8017: status, the network key, its phase
-abbrev pub phase_act : Outcome → ℕ → ℕ → Option ConfigAct
+abbrev pub phase_act : Outcome → ℕ → ℕ → ConfigAct
 phase_act o net phase = acted o.change (0x80 ∷ 0x17 ∷ status_octet o.status ∷ two_low_first net ++ phase ∷ [])
+
+abbrev pub phase_shown : Config → ℕ → ConfigAct
+phase_shown c net = phase_act (if has_net c net then unchanged else refused S.InvalidNetKey) net (phase_of c net)
 
 -- the phase is that before the message where it stays, and else the one that was set
 abbrev pub phase_after : Config → ℕ → Outcome → ℕ → ℕ
 phase_after c net o set = if is_some o.change then set else phase_of c net
 
--- Key Refresh Phase Get 8015: the network key
-abbrev pub phase_get : Config → List ℕ → Option ConfigAct
-phase_get c (a ∷ b ∷ []) =
-    let net = index_of a b in
-    phase_act (if has_net c net then unchanged else refused S.InvalidNetKey) net (phase_of c net)
-phase_get c _ = None
-
--- Key Refresh Phase Set 8016: the network key, the transition
-abbrev pub phase_set : Config → List ℕ → Option ConfigAct
-phase_set c (a ∷ b ∷ transition ∷ []) =
-    let net = index_of a b in
-    if transition == 2 then phase_act (phase_two c net) net (phase_after c net (phase_two c net) 2)
-    else if transition == 3 then phase_act (phase_end c net) net (phase_after c net (phase_end c net) 0)
-    else None
-phase_set c _ = None
+abbrev pub phase_set : Config → ℕ → PhaseTransition → ConfigAct
+phase_set c net T.ToPhaseTwo = phase_act (phase_two c net) net (phase_after c net (phase_two c net) 2)
+phase_set c net T.ToEnd = phase_act (phase_end c net) net (phase_after c net (phase_end c net) 0)

@@ -1,4 +1,5 @@
 pub mod Params
+pub mod Messages
 pub mod Keys
 pub mod Models
 pub mod Features

@@ -1,13 +1,20 @@
 -- Messages about the subscriptions and the application keys of models (Mesh Profile 1.0.1, sections 4.3.2.19 to 4.3.2.26 and 4.3.2.46 to 4.3.2.48).
 -- The first test that holds decides.
-use Rattle.std.specs.Prelude.{ℕ, ◌+◌, ◌*◌, ◌==◌, ◌&&◌, ◌||◌, not, nat_lt, nat_le, Bool, true, false, if◌then◌else◌, List, [], ◌∷◌, ◌++◌, Option, Some, None, Result, Ok, Err, is_some, length, take, drop, filter}
+use Rattle.std.specs.Prelude.{ℕ, ◌+◌, ◌*◌, ◌==◌, ◌&&◌, ◌||◌, not, nat_lt, nat_le, Bool, true, false, if◌then◌else◌, List, [], ◌∷◌, ◌++◌, Option, Some, None, Result, Ok, Err, is_some, length, filter}
 use Rattle.std.specs.List.{list_any}
+use Rattle.node_limits.specs.declared.TheConstants.{BINDINGS, SUBSCRIPTIONS}
 use Rattle.cipher_definitions.specs.Kdf.{virtual_address}
-use Rattle.config_definitions.specs.Params.{address_of, index_of, is_model, status_octet, refused, unchanged, stored, acted}
+use Rattle.config_definitions.specs.Params.{model_text, status_octet, refused, unchanged, stored, acted}
 use Rattle.config_definitions.specs.declared.acts.ConfigAct.{ConfigAct}
 use Rattle.config_definitions.specs.declared.acts.Outcome.{Outcome}
 use Rattle.config_definitions.specs.declared.acts.Status.{Status}
 use Rattle.config_definitions.specs.declared.acts.Status.TheVariants as S
+use Rattle.config_definitions.specs.declared.messages.AppBinding.{AppBinding}
+use Rattle.config_definitions.specs.declared.messages.ElementModel.{ElementModel}
+use Rattle.config_definitions.specs.declared.messages.GroupSubscription.{GroupSubscription}
+use Rattle.config_definitions.specs.declared.messages.LabelSubscription.{LabelSubscription}
+use Rattle.config_definitions.specs.declared.messages.ModelId.{ModelId}
+use Rattle.config_definitions.specs.declared.messages.ModelId.TheVariants as I
 use Rattle.layer_definitions.specs.KeyRefresh.{app_row}
 use Rattle.mesh_base.specs.declared.address.Address.{Address}
 use Rattle.model_states.specs.Access.{two_low_first}
@@ -17,10 +24,10 @@ use Rattle.store_definitions.specs.Config.{Config, is_element, is_bind, is_sub, 
 
 -- Which model is meant.
 
--- the number of a model of two octets; one of four octets has none
-abbrev pub model_number : List ℕ → Option ℕ
-model_number (a ∷ b ∷ []) = Some (a + b * 256)
-model_number _ = None
+-- the number of a model of the Bluetooth SIG; the node has none of a vendor
+abbrev pub model_number : ModelId → Option ℕ
+model_number (I.Sig n) = Some n
+model_number (I.Vendor company model) = None
 
 -- an element has the Generic OnOff Server and the Generic Level Server, the first one also the Configuration Server
 abbrev pub has_model : Config → Address → ℕ → Bool
@@ -28,13 +35,14 @@ has_model c element model = model == 0x1000 || model == 0x1002 || (model == 0x00
 
 -- The model that is meant: refused where there is no such element, then where it has no such model, then with this status where it is the
 -- Configuration Server, which neither subscribes nor publishes nor is bound.
-abbrev pub model_of : Config → Address → List ℕ → Status → Result ℕ Status
-model_of c element model status =
-    if not (is_element c element.0) then Err S.InvalidAddress else by_number (model_number model)
+abbrev pub model_of : Config → ElementModel → Status → Result ℕ Status
+model_of c holder status =
+    if not (is_element c holder.element.0) then Err S.InvalidAddress else by_number (model_number holder.model)
   where
     by_number : Option ℕ → Result ℕ Status
     by_number None = Err S.InvalidModel
-    by_number (Some n) = if not (has_model c element n) then Err S.InvalidModel else if n == 0 then Err status else Ok n
+    by_number (Some n) =
+        if not (has_model c holder.element n) then Err S.InvalidModel else if n == 0 then Err status else Ok n
 
 -- what is done to that model
 abbrev pub on_model : Result ℕ Status → (ℕ → Outcome) → Outcome
@@ -43,9 +51,9 @@ on_model (Ok n) outcome = outcome n
 
 -- Subscriptions.
 
--- groups and labels count together, and 32 have room
+-- groups and labels count together
 abbrev pub is_full : List (Address × ℕ × Address) → List (Address × ℕ × List ℕ) → Bool
-is_full subs labels = nat_le 32 (length subs + length labels)
+is_full subs labels = nat_le SUBSCRIPTIONS (length subs + length labels)
 
 -- a group, but for the one of all nodes
 abbrev pub is_subscribed : Address → Bool
@@ -110,41 +118,26 @@ label_overwrite c element label model =
     else stored (R.Label 4 element model label)
 
 -- Model Subscription Status 801f: status, element, address, model
-abbrev pub subscription_act : Outcome → Address → ℕ → List ℕ → Option ConfigAct
-subscription_act o element address model =
-    acted o.change (0x80 ∷ 0x1f ∷ status_octet o.status ∷ two_low_first element.0 ++ two_low_first address ++ model)
+abbrev pub subscription_act : Outcome → ElementModel → ℕ → ConfigAct
+subscription_act o holder address =
+    acted o.change
+    (0x80 ∷ 0x1f ∷ status_octet o.status ∷ two_low_first holder.element.0 ++ two_low_first address
+    ++ model_text holder.model)
 
--- Model Subscription Add 801b, Delete 801c, Overwrite 801e: element, address, model
-abbrev pub group_set : Config → (Address → Address → ℕ → Outcome) → List ℕ → Option ConfigAct
-group_set c outcome (a ∷ b ∷ d ∷ e ∷ model) =
-    let element = address_of a b in
-    let group = address_of d e in
-    if is_model model then
-    subscription_act (on_model (model_of c element model S.NotSubscribe) (outcome element group)) element group.0 model
-    else None
-group_set c outcome _ = None
+-- an Add, a Delete or an Overwrite of a group
+abbrev pub group_act : Config → (Address → Address → ℕ → Outcome) → GroupSubscription → ConfigAct
+group_act c outcome s =
+    subscription_act (on_model (model_of c s.holder S.NotSubscribe) (outcome s.holder.element s.group)) s.holder s.group.0
 
--- Model Subscription Delete All 801d: element, model
-abbrev pub subscriptions_removal : Config → List ℕ → Option ConfigAct
-subscriptions_removal c (a ∷ b ∷ model) =
-    let element = address_of a b in
-    if is_model model then
-    subscription_act (on_model (model_of c element model S.NotSubscribe) (subscriptions_delete c element)) element 0
-    model
-    else None
-subscriptions_removal c _ = None
+abbrev pub delete_all_act : Config → ElementModel → ConfigAct
+delete_all_act c holder =
+    subscription_act (on_model (model_of c holder S.NotSubscribe) (subscriptions_delete c holder.element)) holder 0
 
--- Model Subscription Virtual Address Add 8020, Delete 8021, Overwrite 8022: element, label, model
-abbrev pub label_set : Config → (Address → List ℕ → ℕ → Outcome) → List ℕ → Option ConfigAct
-label_set c outcome (a ∷ b ∷ rest) =
-    let element = address_of a b in
-    let label = take 16 rest in
-    let model = drop 16 rest in
-    if is_model model then
-    subscription_act (on_model (model_of c element model S.NotSubscribe) (outcome element label)) element
-    (virtual_address label) model
-    else None
-label_set c outcome _ = None
+-- an Add, a Delete or an Overwrite of a label
+abbrev pub label_act : Config → (Address → List ℕ → ℕ → Outcome) → LabelSubscription → ConfigAct
+label_act c outcome s =
+    subscription_act (on_model (model_of c s.holder S.NotSubscribe) (outcome s.holder.element s.label)) s.holder
+    (virtual_address s.label)
 
 -- Bindings.
 
@@ -155,7 +148,7 @@ abbrev pub app_bind : Config → Address → ℕ → ℕ → Outcome
 app_bind c element app model =
     if not (has_app c app) then refused S.InvalidAppKey
     else if list_any (is_bind element model app) c.binds then unchanged
-    else if nat_le 32 (length c.binds) then refused S.InsufficientResources
+    else if nat_le BINDINGS (length c.binds) then refused S.InsufficientResources
     else stored (R.Bind 1 element model app)
 
 abbrev pub app_unbind : Config → Address → ℕ → ℕ → Outcome
@@ -165,16 +158,13 @@ app_unbind c element app model =
     else unchanged
 
 -- Model App Status 803e: status, element, application key, model
-abbrev pub bind_act : Outcome → Address → ℕ → List ℕ → Option ConfigAct
-bind_act o element app model =
-    acted o.change (0x80 ∷ 0x3e ∷ status_octet o.status ∷ two_low_first element.0 ++ two_low_first app ++ model)
+abbrev pub bind_status : Outcome → AppBinding → ConfigAct
+bind_status o b =
+    acted o.change
+    (0x80 ∷ 0x3e ∷ status_octet o.status ∷ two_low_first b.holder.element.0 ++ two_low_first b.app
+    ++ model_text b.holder.model)
 
--- Model App Bind 803d and Unbind 803f: element, application key, model
-abbrev pub bind_set : Config → (Address → ℕ → ℕ → Outcome) → List ℕ → Option ConfigAct
-bind_set c outcome (a ∷ b ∷ d ∷ e ∷ model) =
-    let element = address_of a b in
-    let app = index_of d e in
-    if is_model model
-    then bind_act (on_model (model_of c element model S.CannotBind) (outcome element app)) element app model
-    else None
-bind_set c outcome _ = None
+-- a Bind or an Unbind
+abbrev pub bind_act : Config → (Address → ℕ → ℕ → Outcome) → AppBinding → ConfigAct
+bind_act c outcome b =
+    bind_status (on_model (model_of c b.holder S.CannotBind) (outcome b.holder.element b.app)) b

@@ -1,19 +1,24 @@
--- Numbers and statuses in configuration messages (Mesh Profile 1.0.1, sections 3.1.1.2, 4.3.1 and 4.3.5). The low octet of a number stands first.
-use Rattle.std.specs.Prelude.{ℕ, ◌+◌, ◌*◌, ◌/◌, ◌%◌, ◌==◌, ◌||◌, Bool, List, [], ◌∷◌, ◌++◌, Option, Some, None, length}
+-- Numbers and statuses in configuration messages, and acts (Mesh Profile 1.0.1, sections 3.1.1.2, 4.3.1 and 4.3.5). The low octet of a number stands first.
+use Rattle.std.specs.Prelude.{ℕ, ◌+◌, ◌*◌, ◌/◌, ◌%◌, Bool, true, false, List, [], ◌∷◌, ◌++◌, Option, Some, None}
 use Rattle.config_definitions.specs.declared.acts.ConfigAct.{ConfigAct}
 use Rattle.config_definitions.specs.declared.acts.Outcome.{Outcome}
 use Rattle.config_definitions.specs.declared.acts.Status.{Status}
 use Rattle.config_definitions.specs.declared.acts.Status.TheVariants as S
+use Rattle.config_definitions.specs.declared.messages.ModelId.{ModelId}
+use Rattle.config_definitions.specs.declared.messages.ModelId.TheVariants as I
 use Rattle.mesh_base.specs.declared.address.Address.{Address}
 use Rattle.model_states.specs.Access.{two_low_first}
 use Rattle.record_types.specs.declared.records.StoreRecord.{StoreRecord}
 
--- an address, and a key index, which has 12 bits: those above it aren't read
+-- a number, an address, and a key index, which has 12 bits: those above it aren't read
+abbrev pub number_of : ℕ → ℕ → ℕ
+number_of low high = low + high * 256
+
 abbrev pub address_of : ℕ → ℕ → Address
-address_of low high = record { 0 = low + high * 256 }
+address_of low high = record { 0 = number_of low high }
 
 abbrev pub index_of : ℕ → ℕ → ℕ
-index_of low high = (low + high * 256) % 4096
+index_of low high = number_of low high % 4096
 
 -- Two key indexes in three octets (4.3.1.1): the low 8 bits of the first; its high 4 bits with the low 4 bits of the second above them;
 -- the high 8 bits of the second.
@@ -32,13 +37,15 @@ packed_list [] = []
 packed_list (x ∷ []) = two_low_first x
 packed_list (x ∷ y ∷ rest) = packed x y ++ packed_list rest
 
--- a key and a label have 16 octets
-abbrev pub is_key : List ℕ → Bool
-is_key octets = length octets == 16
+-- a model
+abbrev pub model_text : ModelId → List ℕ
+model_text (I.Sig n) = two_low_first n
+model_text (I.Vendor company model) = two_low_first company ++ two_low_first model
 
--- a model has two octets, or four where a vendor defined it
-abbrev pub is_model : List ℕ → Bool
-is_model octets = length octets == 2 || length octets == 4
+-- a switch
+abbrev pub switch_octet : Bool → ℕ
+switch_octet true = 0x01
+switch_octet false = 0x00
 
 -- the octet of a status (4.3.5)
 abbrev pub status_octet : Status → ℕ
@@ -67,8 +74,8 @@ abbrev pub stored : StoreRecord → Outcome
 stored item = record { status = S.Success; change = Some item }
 
 -- a reply alone, and one with what is stored
-abbrev pub replied : List ℕ → Option ConfigAct
-replied reply = Some (record { change = None; reply = reply; beat = None })
+abbrev pub replied : List ℕ → ConfigAct
+replied reply = record { change = None; reply = reply; beat = None; ends_friendships = false }
 
-abbrev pub acted : Option StoreRecord → List ℕ → Option ConfigAct
-acted change reply = Some (record { change = change; reply = reply; beat = None })
+abbrev pub acted : Option StoreRecord → List ℕ → ConfigAct
+acted change reply = record (replied reply) { change = change }

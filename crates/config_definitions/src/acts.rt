@@ -54,4 +54,6 @@ pub struct ConfigAct {
     pub reply: Octets<48>,
     /// The heartbeat that is set, if any.
     pub beat: Option<HeartbeatRow>,
+    /// Whether the friendships of the node end, and its offers with them (section 4.4.1.2.6).
+    pub ends_friendships: bool,
 }

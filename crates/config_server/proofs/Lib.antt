@@ -1,3 +1,1 @@
 pub mod Indexes
-pub mod Replies
-pub mod Answered

@@ -1,19 +1,18 @@
 //! Messages about the application keys of models (Mesh Profile 1.0.1, sections 4.3.2.46 to 4.3.2.48).
 #![tactic(auto)]
 
-ghost use Rattle.std.specs.Prelude.{◌≡◌, ◌≤◌, ◌++◌, ◌∷◌, length};
+ghost use Rattle.std.specs.Prelude.{◌≡◌};
 ghost use Rattle.std.specs.List.{list_any};
-ghost use Rattle.config_definitions.specs.Models.{app_bind, app_unbind, bind_act, bind_set, model_of, on_model};
+ghost use Rattle.config_definitions.specs.Models.{app_bind, app_unbind, bind_act, bind_status, model_of, on_model};
 ghost use Rattle.config_definitions.specs.declared.acts.Status.TheVariants as S;
 ghost use Rattle.node_records.specs.Tables.{config_in};
 ghost use Rattle.store_definitions.specs.Config.{is_bind};
 
 use crate::keys::has_app;
 use crate::models::model_of;
-use crate::params::{
-    acted, address_of, index_of, is_model, put_two, refused, status_octet, stored, unchanged,
-};
+use crate::params::{acted, put_model, put_two, refused, status_octet, stored, unchanged};
 use config_definitions::acts::{ConfigAct, Outcome, Status};
+use config_definitions::messages::AppBinding;
 use mesh_base::address::Address;
 use mesh_base::octets::Octets;
 use node_records::{Persist, StoreRecord};
@@ -77,66 +76,51 @@ fn unbind(p: &Persist, element: Address, app: u16, model: u16) -> Outcome
 }
 
 // Model App Status.
-fn bind_act(o: &Outcome, element: Address, app: u16, model: &[u8]) -> Option<ConfigAct>
-    requires { length model.now ≤ 4 }
-    ensures { result ≡ bind_act o.now element app model.now }
+fn bind_status(o: &Outcome, b: &AppBinding) -> ConfigAct
+    ensures { result ≡ bind_status o.now b.now }
 {
     let mut reply = Octets::new();
     reply.extend(&[0x80, 0x3e, status_octet(o.status)]);
-    put_two(&mut reply, element.0);
-    put_two(&mut reply, app);
-    reply.extend(model);
+    put_two(&mut reply, b.holder.element.0);
+    put_two(&mut reply, b.app);
+    put_model(&mut reply, b.holder.model);
     acted(o.change, reply)
 }
 
 // Model App Bind, of the model that is meant.
-fn bound(p: &Persist, element: Address, app: u16, model: &[u8]) -> Outcome
+fn bound(p: &Persist, b: &AppBinding) -> Outcome
     ensures { result
-        ≡ on_model (model_of (config_in p.now) element model.now S.CannotBind) (app_bind (config_in p.now) element app) }
+        ≡ on_model (model_of (config_in p.now) b.now.holder S.CannotBind)
+        (app_bind (config_in p.now) b.now.holder.element b.now.app) }
 {
-    match model_of(p, element, model, Status::CannotBind) {
-        Ok(number) => bind(p, element, app, number),
+    match model_of(p, &b.holder, Status::CannotBind) {
+        Ok(number) => bind(p, b.holder.element, b.app, number),
         Err(status) => refused(status),
     }
 }
 
 /// Model App Bind.
-pub fn app_bind(p: &Persist, params: &[u8]) -> Option<ConfigAct>
-    ensures { result ≡ bind_set (config_in p.now) (app_bind (config_in p.now)) params.now }
+pub fn app_bind(p: &Persist, b: &AppBinding) -> ConfigAct
+    ensures { result ≡ bind_act (config_in p.now) (app_bind (config_in p.now)) b.now }
 {
-    match params {
-        [a, b, c, d, model @ ..] if is_model(model) => {
-            let element = address_of(*a, *b);
-            let app = index_of(*c, *d);
-            let o = bound(p, element, app, model);
-            bind_act(&o, element, app, model)
-        }
-        _ => None,
-    }
+    bind_status(&bound(p, b), b)
 }
 
 // Model App Unbind, of the model that is meant.
-fn unbound(p: &Persist, element: Address, app: u16, model: &[u8]) -> Outcome
+fn unbound(p: &Persist, b: &AppBinding) -> Outcome
     ensures { result
-        ≡ on_model (model_of (config_in p.now) element model.now S.CannotBind) (app_unbind (config_in p.now) element app) }
+        ≡ on_model (model_of (config_in p.now) b.now.holder S.CannotBind)
+        (app_unbind (config_in p.now) b.now.holder.element b.now.app) }
 {
-    match model_of(p, element, model, Status::CannotBind) {
-        Ok(number) => unbind(p, element, app, number),
+    match model_of(p, &b.holder, Status::CannotBind) {
+        Ok(number) => unbind(p, b.holder.element, b.app, number),
         Err(status) => refused(status),
     }
 }
 
 /// Model App Unbind.
-pub fn app_unbind(p: &Persist, params: &[u8]) -> Option<ConfigAct>
-    ensures { result ≡ bind_set (config_in p.now) (app_unbind (config_in p.now)) params.now }
+pub fn app_unbind(p: &Persist, b: &AppBinding) -> ConfigAct
+    ensures { result ≡ bind_act (config_in p.now) (app_unbind (config_in p.now)) b.now }
 {
-    match params {
-        [a, b, c, d, model @ ..] if is_model(model) => {
-            let element = address_of(*a, *b);
-            let app = index_of(*c, *d);
-            let o = unbound(p, element, app, model);
-            bind_act(&o, element, app, model)
-        }
-        _ => None,
-    }
+    bind_status(&unbound(p, b), b)
 }

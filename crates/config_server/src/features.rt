@@ -2,27 +2,18 @@
 #![tactic(auto)]
 
 ghost use Rattle.std.specs.Prelude.{◌≡◌, ◌≤◌, ◌+◌, ◌*◌, [], ◌∷◌};
-ghost use Rattle.config_definitions.specs.Features.{composition_get, feature_record, is_default_ttl, is_octet, is_switch, node_reset, octet_get, octet_set, poll_timeout, poll_timeout_get, proxy_set, relay_get, relay_set};
-ghost use Rattle.config_definitions.specs.Params.{acted};
+ghost use Rattle.config_definitions.specs.Features.{composition_shown, feature_record, friend_set, node_reset, octet_set, octet_shown, poll_timeout, poll_timeout_shown, relay_set, relay_shown};
 ghost use Rattle.node_records.specs.Tables.{config_in};
 
-use crate::params::{acted, address_of, put_two, replied};
+use crate::params::{acted, put_two, replied, switch_octet};
 use config_definitions::acts::ConfigAct;
+use config_definitions::messages::RelayValue;
 use mesh_base::address::Address;
 use mesh_base::octets::Octets;
 use node_records::{Persist, StoreRecord};
 
 /// The number of entries of the replay list, CRPL.
 const REPLAY_ENTRIES: u16 = 512;
-
-// A reply of an opcode that begins with 80, and one octet.
-fn octet_status(opcode: u8, value: u8) -> Octets<48>
-    ensures { result ≡ 0x80 ∷ opcode ∷ value ∷ [] }
-{
-    let mut reply = Octets::new();
-    reply.extend(&[0x80, opcode, value]);
-    reply
-}
 
 // The record of a feature that changes.
 fn feature_record(which: u8, before: u16, value: u16) -> Option<StoreRecord>
@@ -35,61 +26,37 @@ fn feature_record(which: u8, before: u16, value: u16) -> Option<StoreRecord>
     }
 }
 
-/// A Get of a state of one octet.
-pub fn octet_get(opcode: u8, value: u8, params: &[u8]) -> Option<ConfigAct>
-    ensures { result ≡ octet_get opcode value params.now }
+// A Status of an opcode that begins with 80, and one octet.
+fn octet_status(opcode: u8, value: u8) -> Octets<48>
+    ensures { result ≡ 0x80 ∷ opcode ∷ value ∷ [] }
 {
-    match params {
-        [] => replied(octet_status(opcode, value)),
-        _ => None,
-    }
+    let mut reply = Octets::new();
+    reply.extend(&[0x80, opcode, value]);
+    reply
 }
 
-// A state of one octet is set.
-fn octet_done(which: u8, opcode: u8, before: u8, value: u8) -> Option<ConfigAct>
-    ensures { result ≡ acted (feature_record which before value) (0x80 ∷ opcode ∷ value ∷ []) }
+/// The Status of a state of one octet.
+pub fn octet_shown(opcode: u8, value: u8) -> ConfigAct
+    ensures { result ≡ octet_shown opcode value }
+{
+    replied(octet_status(opcode, value))
+}
+
+/// A state of one octet is set.
+pub fn octet_set(which: u8, opcode: u8, before: u8, value: u8) -> ConfigAct
+    ensures { result ≡ octet_set which opcode before value }
 {
     let change = feature_record(which, u16::from(before), u16::from(value));
     acted(change, octet_status(opcode, value))
 }
 
-/// A Set of a state that is 0 or 1.
-pub fn switch_set(which: u8, opcode: u8, before: u8, params: &[u8]) -> Option<ConfigAct>
-    ensures { result ≡ octet_set is_switch which opcode before params.now }
+/// Friend is set.
+pub fn friend_set(p: &Persist, on: bool) -> ConfigAct
+    ensures { result ≡ friend_set (config_in p.now) on }
 {
-    match params {
-        [value @ 0..=1] => octet_done(which, opcode, before, *value),
-        _ => None,
-    }
-}
-
-/// Default TTL Set.
-pub fn default_ttl_set(before: u8, params: &[u8]) -> Option<ConfigAct>
-    ensures { result ≡ octet_set is_default_ttl 2 0x0e before params.now }
-{
-    match params {
-        [value @ (0 | 2..=0x7f)] => octet_done(2, 0x0e, before, *value),
-        _ => None,
-    }
-}
-
-/// Network Transmit Set.
-pub fn transmit_set(before: u8, params: &[u8]) -> Option<ConfigAct>
-    ensures { result ≡ octet_set is_octet 5 0x25 before params.now }
-{
-    match params {
-        [value] => octet_done(5, 0x25, before, *value),
-        _ => None,
-    }
-}
-
-/// GATT Proxy Set: the node has none.
-pub fn proxy_set(params: &[u8]) -> Option<ConfigAct>
-    ensures { result ≡ proxy_set params.now }
-{
-    match params {
-        [0..=1] => replied(octet_status(0x14, 0x02)),
-        _ => None,
+    ConfigAct {
+        ends_friendships: !on,
+        ..octet_set(3, 0x11, p.friend, switch_octet(on))
     }
 }
 
@@ -102,14 +69,11 @@ fn relay_status(relay: u8, retransmit: u8) -> Octets<48>
     reply
 }
 
-/// Relay Get.
-pub fn relay_get(p: &Persist, params: &[u8]) -> Option<ConfigAct>
-    ensures { result ≡ relay_get (config_in p.now) params.now }
+/// Relay Status of the node as it is.
+pub fn relay_shown(p: &Persist) -> ConfigAct
+    ensures { result ≡ relay_shown (config_in p.now) }
 {
-    match params {
-        [] => replied(relay_status(p.relay, p.retransmit)),
-        _ => None,
-    }
+    replied(relay_status(p.relay, p.retransmit))
 }
 
 // Relay in the high octet, its retransmissions in the low one.
@@ -119,34 +83,25 @@ fn relay_value(relay: u8, retransmit: u8) -> u16
     u16::from(relay) * 0x100 + u16::from(retransmit)
 }
 
-/// Relay Set.
-pub fn relay_set(p: &Persist, params: &[u8]) -> Option<ConfigAct>
-    ensures { result ≡ relay_set (config_in p.now) params.now }
+/// Relay is set with its retransmissions.
+pub fn relay_set(p: &Persist, relay: &RelayValue) -> ConfigAct
+    ensures { result ≡ relay_set (config_in p.now) relay.now }
 {
-    match params {
-        [relay @ 0..=1, retransmit] => {
-            let before = relay_value(p.relay, p.retransmit);
-            let change = feature_record(4, before, relay_value(*relay, *retransmit));
-            acted(change, relay_status(*relay, *retransmit))
-        }
-        _ => None,
-    }
+    let on = switch_octet(relay.on);
+    let before = relay_value(p.relay, p.retransmit);
+    let change = feature_record(4, before, relay_value(on, relay.retransmit));
+    acted(change, relay_status(on, relay.retransmit))
 }
 
-/// Composition Data Get, of any page.
-pub fn composition_get(p: &Persist, params: &[u8]) -> Option<ConfigAct>
+/// Composition Data Status, of page 0.
+pub fn composition_shown(p: &Persist) -> ConfigAct
     requires { p.now.elements ≤ 4 }
-    ensures { result ≡ composition_get (config_in p.now) params.now }
+    ensures { result ≡ composition_shown (config_in p.now) }
 {
-    match params {
-        [_page] => {
-            let mut reply = Octets::new();
-            reply.extend(&[0x02, 0x00]);
-            reply.extend(access_layer::composition(p.elements, REPLAY_ENTRIES).as_slice());
-            replied(reply)
-        }
-        _ => None,
-    }
+    let mut reply = Octets::new();
+    reply.extend(&[0x02, 0x00]);
+    reply.extend(access_layer::composition(p.elements, REPLAY_ENTRIES).as_slice());
+    replied(reply)
 }
 
 // The PollTimeout of a Low Power node's friendship, 24 bits; 0 without one.
@@ -161,37 +116,26 @@ fn poll_timeout(polls: &[(Address, u32)], lpn: Address) -> u32
     0
 }
 
-/// Low Power Node PollTimeout Get.
-pub fn poll_timeout_get(polls: &[(Address, u32)], params: &[u8]) -> Option<ConfigAct>
-    ensures { result ≡ poll_timeout_get polls.now params.now }
+/// Low Power Node PollTimeout Status.
+pub fn poll_timeout_shown(polls: &[(Address, u32)], lpn: Address) -> ConfigAct
+    ensures { result ≡ poll_timeout_shown polls.now lpn }
 {
-    match params {
-        [a, b] => {
-            let lpn = address_of(*a, *b);
-            let timeout = poll_timeout(polls, lpn);
-            let mut reply = Octets::new();
-            reply.extend(&[0x80, 0x2e]);
-            put_two(&mut reply, lpn.0);
-            let low = (timeout % 0x100) as u8;
-            let middle = (timeout / 0x100 % 0x100) as u8;
-            let high = (timeout / 0x1_0000 % 0x100) as u8;
-            reply.extend(&[low, middle, high]);
-            replied(reply)
-        }
-        _ => None,
-    }
+    let timeout = poll_timeout(polls, lpn);
+    let mut reply = Octets::new();
+    reply.extend(&[0x80, 0x2e]);
+    put_two(&mut reply, lpn.0);
+    let low = (timeout % 0x100) as u8;
+    let middle = (timeout / 0x100 % 0x100) as u8;
+    let high = (timeout / 0x1_0000 % 0x100) as u8;
+    reply.extend(&[low, middle, high]);
+    replied(reply)
 }
 
 /// Node Reset.
-pub fn node_reset(params: &[u8]) -> Option<ConfigAct>
-    ensures { result ≡ node_reset params.now }
+pub fn node_reset() -> ConfigAct
+    ensures { result ≡ node_reset }
 {
-    match params {
-        [] => {
-            let mut reply = Octets::new();
-            reply.extend(&[0x80, 0x4a]);
-            acted(Some(StoreRecord::Reset), reply)
-        }
-        _ => None,
-    }
+    let mut reply = Octets::new();
+    reply.extend(&[0x80, 0x4a]);
+    acted(Some(StoreRecord::Reset), reply)
 }

@@ -3,15 +3,15 @@
 
 ghost use Rattle.std.specs.Prelude.{◌≡◌, ◌≤◌, ◌==◌, ◌&&◌, length, filter, not};
 ghost use Rattle.std.specs.List.{list_any};
-ghost use Rattle.config_definitions.specs.Models.{count_of_model, group_add, group_delete, group_overwrite, group_set, groups_of, is_full_of_others, is_subscribed, labels_of, on_model, subscription_act, subscriptions_delete, subscriptions_removal};
+ghost use Rattle.config_definitions.specs.Models.{count_of_model, delete_all_act, group_act, group_add, group_delete, group_overwrite, groups_of, is_full_of_others, is_subscribed, labels_of, model_of, on_model, subscription_act, subscriptions_delete};
+ghost use Rattle.config_definitions.specs.declared.acts.Status.TheVariants as S;
 ghost use Rattle.node_records.specs.Tables.{config_in};
 ghost use Rattle.store_definitions.specs.Config.{is_sub, labels_without, subs_without};
 
 use crate::models::model_of;
-use crate::params::{
-    acted, address_of, is_model, put_two, refused, status_octet, stored, unchanged,
-};
+use crate::params::{acted, put_model, put_two, refused, status_octet, stored, unchanged};
 use config_definitions::acts::{ConfigAct, Outcome, Status};
+use config_definitions::messages::{ElementModel, GroupSubscription};
 use mesh_base::address::Address;
 use mesh_base::octets::Octets;
 use node_records::{Persist, StoreRecord};
@@ -195,90 +195,89 @@ fn delete_all(p: &Persist, element: Address, model: u16) -> Outcome
 }
 
 /// Model Subscription Status.
-pub fn subscription_act(
-    o: &Outcome,
-    element: Address,
-    address: u16,
-    model: &[u8],
-) -> Option<ConfigAct>
-    requires { length model.now ≤ 4 }
-    ensures { result ≡ subscription_act o.now element address model.now }
+pub fn subscription_act(o: &Outcome, holder: &ElementModel, address: u16) -> ConfigAct
+    ensures { result ≡ subscription_act o.now holder.now address }
 {
     let mut reply = Octets::new();
     reply.extend(&[0x80, 0x1f, status_octet(o.status)]);
-    put_two(&mut reply, element.0);
+    put_two(&mut reply, holder.element.0);
     put_two(&mut reply, address);
-    reply.extend(model);
+    put_model(&mut reply, holder.model);
     acted(o.change, reply)
 }
 
-/// Model Subscription Add.
-pub fn group_add(p: &Persist, params: &[u8]) -> Option<ConfigAct>
-    ensures { result ≡ group_set (config_in p.now) (group_add (config_in p.now)) params.now }
+// Model Subscription Add, of the model that is meant.
+fn group_added(p: &Persist, s: &GroupSubscription) -> Outcome
+    ensures { result
+        ≡ on_model (model_of (config_in p.now) s.now.holder S.NotSubscribe)
+        (group_add (config_in p.now) s.now.holder.element s.now.group) }
 {
-    match params {
-        [a, b, c, d, model @ ..] if is_model(model) => {
-            let element = address_of(*a, *b);
-            let group = address_of(*c, *d);
-            let o = match model_of(p, element, model, Status::NotSubscribe) {
-                Ok(number) => add_group(p, element, group, number),
-                Err(status) => refused(status),
-            };
-            subscription_act(&o, element, group.0, model)
-        }
-        _ => None,
+    match model_of(p, &s.holder, Status::NotSubscribe) {
+        Ok(number) => add_group(p, s.holder.element, s.group, number),
+        Err(status) => refused(status),
+    }
+}
+
+/// Model Subscription Add.
+pub fn group_add(p: &Persist, s: &GroupSubscription) -> ConfigAct
+    ensures { result ≡ group_act (config_in p.now) (group_add (config_in p.now)) s.now }
+{
+    subscription_act(&group_added(p, s), &s.holder, s.group.0)
+}
+
+// Model Subscription Delete, of the model that is meant.
+fn group_deleted(p: &Persist, s: &GroupSubscription) -> Outcome
+    ensures { result
+        ≡ on_model (model_of (config_in p.now) s.now.holder S.NotSubscribe)
+        (group_delete (config_in p.now) s.now.holder.element s.now.group) }
+{
+    match model_of(p, &s.holder, Status::NotSubscribe) {
+        Ok(number) => delete_group(p, s.holder.element, s.group, number),
+        Err(status) => refused(status),
     }
 }
 
 /// Model Subscription Delete.
-pub fn group_delete(p: &Persist, params: &[u8]) -> Option<ConfigAct>
-    ensures { result ≡ group_set (config_in p.now) (group_delete (config_in p.now)) params.now }
+pub fn group_delete(p: &Persist, s: &GroupSubscription) -> ConfigAct
+    ensures { result ≡ group_act (config_in p.now) (group_delete (config_in p.now)) s.now }
 {
-    match params {
-        [a, b, c, d, model @ ..] if is_model(model) => {
-            let element = address_of(*a, *b);
-            let group = address_of(*c, *d);
-            let o = match model_of(p, element, model, Status::NotSubscribe) {
-                Ok(number) => delete_group(p, element, group, number),
-                Err(status) => refused(status),
-            };
-            subscription_act(&o, element, group.0, model)
-        }
-        _ => None,
+    subscription_act(&group_deleted(p, s), &s.holder, s.group.0)
+}
+
+// Model Subscription Overwrite, of the model that is meant.
+fn group_overwritten(p: &Persist, s: &GroupSubscription) -> Outcome
+    ensures { result
+        ≡ on_model (model_of (config_in p.now) s.now.holder S.NotSubscribe)
+        (group_overwrite (config_in p.now) s.now.holder.element s.now.group) }
+{
+    match model_of(p, &s.holder, Status::NotSubscribe) {
+        Ok(number) => overwrite_group(p, s.holder.element, s.group, number),
+        Err(status) => refused(status),
     }
 }
 
 /// Model Subscription Overwrite.
-pub fn group_overwrite(p: &Persist, params: &[u8]) -> Option<ConfigAct>
-    ensures { result ≡ group_set (config_in p.now) (group_overwrite (config_in p.now)) params.now }
+pub fn group_overwrite(p: &Persist, s: &GroupSubscription) -> ConfigAct
+    ensures { result ≡ group_act (config_in p.now) (group_overwrite (config_in p.now)) s.now }
 {
-    match params {
-        [a, b, c, d, model @ ..] if is_model(model) => {
-            let element = address_of(*a, *b);
-            let group = address_of(*c, *d);
-            let o = match model_of(p, element, model, Status::NotSubscribe) {
-                Ok(number) => overwrite_group(p, element, group, number),
-                Err(status) => refused(status),
-            };
-            subscription_act(&o, element, group.0, model)
-        }
-        _ => None,
+    subscription_act(&group_overwritten(p, s), &s.holder, s.group.0)
+}
+
+// Model Subscription Delete All, of the model that is meant.
+fn all_deleted(p: &Persist, holder: &ElementModel) -> Outcome
+    ensures { result
+        ≡ on_model (model_of (config_in p.now) holder.now S.NotSubscribe)
+        (subscriptions_delete (config_in p.now) holder.now.element) }
+{
+    match model_of(p, holder, Status::NotSubscribe) {
+        Ok(number) => delete_all(p, holder.element, number),
+        Err(status) => refused(status),
     }
 }
 
 /// Model Subscription Delete All.
-pub fn subscriptions_delete(p: &Persist, params: &[u8]) -> Option<ConfigAct>
-    ensures { result ≡ subscriptions_removal (config_in p.now) params.now }
+pub fn subscriptions_delete(p: &Persist, holder: &ElementModel) -> ConfigAct
+    ensures { result ≡ delete_all_act (config_in p.now) holder.now }
 {
-    match params {
-        [a, b, model @ ..] if is_model(model) => {
-            let element = address_of(*a, *b);
-            let o = match model_of(p, element, model, Status::NotSubscribe) {
-                Ok(number) => delete_all(p, element, number),
-                Err(status) => refused(status),
-            };
-            subscription_act(&o, element, 0, model)
-        }
-        _ => None,
-    }
+    subscription_act(&all_deleted(p, holder), holder, 0)
 }

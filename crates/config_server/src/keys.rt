@@ -1,18 +1,21 @@
 //! Messages about network keys and application keys (Mesh Profile 1.0.1, sections 4.3.2.31 to 4.3.2.42 and 4.3.2.58 to 4.3.2.60).
 #![tactic(auto)]
 
-ghost use Rattle.std.specs.Prelude.{◌≡◌, ◌≤◌, ◌+◌, [], ◌∷◌, ◌++◌, ◌==◌, length, map, filter, is_some};
-ghost use Rattle.config_definitions.specs.Keys.{app_indexes, app_key_act, app_key_add, app_key_delete, app_key_get, app_key_removal, app_key_set, app_key_update, has_net, is_next, net_key_act, net_key_add, net_key_delete, net_key_get, net_key_removal, net_key_set, net_key_update, phase_act, phase_after, phase_end, phase_get, phase_of, phase_set, phase_two};
+ghost use Rattle.std.specs.Prelude.{◌≡◌, ◌≤◌, ◌+◌, [], ◌∷◌, ◌++◌, ◌==◌, length, map, filter, is_some, if◌then◌else◌};
+ghost use Rattle.config_definitions.specs.Keys.{app_indexes, app_key_act, app_key_add, app_key_delete, app_key_list, app_key_update, has_net, is_next, net_key_act, net_key_add, net_key_delete, net_key_list, net_key_update, phase_act, phase_after, phase_end, phase_of, phase_set, phase_shown, phase_two};
+ghost use Rattle.config_definitions.specs.Params.{refused, unchanged};
+ghost use Rattle.config_definitions.specs.declared.acts.Status.TheVariants as S;
 ghost use Rattle.layer_definitions.specs.KeyRefresh.{app_row, net_row};
 ghost use Rattle.mesh_base.specs.declared.keys.AppKeyRow.{AppKeyRow};
 ghost use Rattle.mesh_base.specs.declared.keys.NetKeyRow.{NetKeyRow};
 ghost use Rattle.node_records.specs.Tables.{config_in};
 
 use crate::params::{
-    acted, first_index, index_of, is_same_key, key_of, put_list, put_packed, put_two, refused,
-    replied, second_index, status_octet, stored, unchanged,
+    acted, is_same_key, put_list, put_packed, put_two, refused, replied, status_octet, stored,
+    unchanged,
 };
 use config_definitions::acts::{ConfigAct, Outcome, Status};
+use config_definitions::messages::{AppKeyIndexes, AppKeyValue, NetKeyValue, PhaseTransition};
 use mesh_base::keys::{AppKeyRow, NetKeyRow};
 use mesh_base::octets::Octets;
 use mesh_base::table::Table;
@@ -161,57 +164,36 @@ fn delete_app(p: &Persist, net: u16, app: u16) -> Outcome
 }
 
 // AppKey Status.
-fn app_act(o: &Outcome, net: u16, app: u16) -> Option<ConfigAct>
-    ensures { result ≡ app_key_act o.now net app }
+fn app_key_act(o: &Outcome, key: &AppKeyIndexes) -> ConfigAct
+    ensures { result ≡ app_key_act o.now key.now }
 {
     let mut reply = Octets::new();
     reply.extend(&[0x80, 0x03, status_octet(o.status)]);
-    put_packed(&mut reply, net, app);
+    put_packed(&mut reply, key.net, key.app);
     acted(o.change, reply)
 }
 
 /// AppKey Add.
-pub fn app_key_add(p: &Persist, params: &[u8]) -> Option<ConfigAct>
-    ensures { result ≡ app_key_set (app_key_add (config_in p.now)) params.now }
+pub fn app_key_add(p: &Persist, k: &AppKeyValue) -> ConfigAct
+    ensures { result
+        ≡ app_key_act (app_key_add (config_in p.now) k.now.indexes.net k.now.indexes.app k.now.key) k.now.indexes }
 {
-    match params {
-        [a, b, c, key @ ..] => {
-            let net = first_index(*a, *b);
-            let app = second_index(*b, *c);
-            let key = key_of(key)?;
-            app_act(&add_app(p, net, app, &key), net, app)
-        }
-        _ => None,
-    }
+    app_key_act(&add_app(p, k.indexes.net, k.indexes.app, &k.key), &k.indexes)
 }
 
 /// AppKey Update.
-pub fn app_key_update(p: &Persist, params: &[u8]) -> Option<ConfigAct>
-    ensures { result ≡ app_key_set (app_key_update (config_in p.now)) params.now }
+pub fn app_key_update(p: &Persist, k: &AppKeyValue) -> ConfigAct
+    ensures { result
+        ≡ app_key_act (app_key_update (config_in p.now) k.now.indexes.net k.now.indexes.app k.now.key) k.now.indexes }
 {
-    match params {
-        [a, b, c, key @ ..] => {
-            let net = first_index(*a, *b);
-            let app = second_index(*b, *c);
-            let key = key_of(key)?;
-            app_act(&update_app(p, net, app, &key), net, app)
-        }
-        _ => None,
-    }
+    app_key_act(&update_app(p, k.indexes.net, k.indexes.app, &k.key), &k.indexes)
 }
 
 /// AppKey Delete.
-pub fn app_key_delete(p: &Persist, params: &[u8]) -> Option<ConfigAct>
-    ensures { result ≡ app_key_removal (config_in p.now) params.now }
+pub fn app_key_delete(p: &Persist, key: &AppKeyIndexes) -> ConfigAct
+    ensures { result ≡ app_key_act (app_key_delete (config_in p.now) key.now.net key.now.app) key.now }
 {
-    match params {
-        [a, b, c] => {
-            let net = first_index(*a, *b);
-            let app = second_index(*b, *c);
-            app_act(&delete_app(p, net, app), net, app)
-        }
-        _ => None,
-    }
+    app_key_act(&delete_app(p, key.net, key.app), key)
 }
 
 // Puts an application key's index behind the others, if it is one of this network key.
@@ -236,26 +218,20 @@ fn app_indexes(p: &Persist, net: u16) -> Table<u16, 8>
     list
 }
 
-/// AppKey Get.
-pub fn app_key_get(p: &Persist, params: &[u8]) -> Option<ConfigAct>
-    ensures { result ≡ app_key_get (config_in p.now) params.now }
+/// AppKey List, of the application keys of a network key.
+pub fn app_key_list(p: &Persist, net: u16) -> ConfigAct
+    ensures { result ≡ app_key_list (config_in p.now) net }
 {
-    match params {
-        [a, b] => {
-            let net = index_of(*a, *b);
-            let mut reply = Octets::new();
-            if has_net(p, net) {
-                reply.extend(&[0x80, 0x02, 0x00]);
-                put_two(&mut reply, net);
-                put_list(&mut reply, app_indexes(p, net).as_slice());
-            } else {
-                reply.extend(&[0x80, 0x02, status_octet(Status::InvalidNetKey)]);
-                put_two(&mut reply, net);
-            }
-            replied(reply)
-        }
-        _ => None,
+    let mut reply = Octets::new();
+    if has_net(p, net) {
+        reply.extend(&[0x80, 0x02, 0x00]);
+        put_two(&mut reply, net);
+        put_list(&mut reply, app_indexes(p, net).as_slice());
+    } else {
+        reply.extend(&[0x80, 0x02, status_octet(Status::InvalidNetKey)]);
+        put_two(&mut reply, net);
     }
+    replied(reply)
 }
 
 // NetKey Add.
@@ -324,7 +300,7 @@ fn delete_net(p: &Persist, under: u16, net: u16) -> Outcome
 }
 
 // NetKey Status.
-fn net_act(o: &Outcome, net: u16) -> Option<ConfigAct>
+fn net_key_act(o: &Outcome, net: u16) -> ConfigAct
     ensures { result ≡ net_key_act o.now net }
 {
     let mut reply = Octets::new();
@@ -334,44 +310,24 @@ fn net_act(o: &Outcome, net: u16) -> Option<ConfigAct>
 }
 
 /// NetKey Add.
-pub fn net_key_add(p: &Persist, params: &[u8]) -> Option<ConfigAct>
-    ensures { result ≡ net_key_set (net_key_add (config_in p.now)) params.now }
+pub fn net_key_add(p: &Persist, k: &NetKeyValue) -> ConfigAct
+    ensures { result ≡ net_key_act (net_key_add (config_in p.now) k.now.net k.now.key) k.now.net }
 {
-    match params {
-        [a, b, key @ ..] => {
-            let net = index_of(*a, *b);
-            let key = key_of(key)?;
-            net_act(&add_net(p, net, &key), net)
-        }
-        _ => None,
-    }
+    net_key_act(&add_net(p, k.net, &k.key), k.net)
 }
 
 /// NetKey Update.
-pub fn net_key_update(p: &Persist, params: &[u8]) -> Option<ConfigAct>
-    ensures { result ≡ net_key_set (net_key_update (config_in p.now)) params.now }
+pub fn net_key_update(p: &Persist, k: &NetKeyValue) -> ConfigAct
+    ensures { result ≡ net_key_act (net_key_update (config_in p.now) k.now.net k.now.key) k.now.net }
 {
-    match params {
-        [a, b, key @ ..] => {
-            let net = index_of(*a, *b);
-            let key = key_of(key)?;
-            net_act(&update_net(p, net, &key), net)
-        }
-        _ => None,
-    }
+    net_key_act(&update_net(p, k.net, &k.key), k.net)
 }
 
 /// NetKey Delete.
-pub fn net_key_delete(p: &Persist, under: u16, params: &[u8]) -> Option<ConfigAct>
-    ensures { result ≡ net_key_removal (config_in p.now) under params.now }
+pub fn net_key_delete(p: &Persist, under: u16, net: u16) -> ConfigAct
+    ensures { result ≡ net_key_act (net_key_delete (config_in p.now) under net) net }
 {
-    match params {
-        [a, b] => {
-            let net = index_of(*a, *b);
-            net_act(&delete_net(p, under, net), net)
-        }
-        _ => None,
-    }
+    net_key_act(&delete_net(p, under, net), net)
 }
 
 // The indexes of the network keys.
@@ -386,19 +342,14 @@ fn net_indexes(p: &Persist) -> Table<u16, 4>
     list
 }
 
-/// NetKey Get.
-pub fn net_key_get(p: &Persist, params: &[u8]) -> Option<ConfigAct>
-    ensures { result ≡ net_key_get (config_in p.now) params.now }
+/// NetKey List.
+pub fn net_key_list(p: &Persist) -> ConfigAct
+    ensures { result ≡ net_key_list (config_in p.now) }
 {
-    match params {
-        [] => {
-            let mut reply = Octets::new();
-            reply.extend(&[0x80, 0x43]);
-            put_list(&mut reply, net_indexes(p).as_slice());
-            replied(reply)
-        }
-        _ => None,
-    }
+    let mut reply = Octets::new();
+    reply.extend(&[0x80, 0x43]);
+    put_list(&mut reply, net_indexes(p).as_slice());
+    replied(reply)
 }
 
 // Transition to phase 2.
@@ -437,7 +388,7 @@ fn end_refresh(p: &Persist, net: u16) -> Outcome
 }
 
 // Key Refresh Phase Status.
-fn phase_act(o: &Outcome, net: u16, phase: u8) -> Option<ConfigAct>
+fn phase_act(o: &Outcome, net: u16, phase: u8) -> ConfigAct
     ensures { result ≡ phase_act o.now net phase }
 {
     let mut reply = Octets::new();
@@ -458,39 +409,36 @@ fn phase_after(p: &Persist, net: u16, o: &Outcome, set: u8) -> u8
     }
 }
 
-/// Key Refresh Phase Get.
-pub fn phase_get(p: &Persist, params: &[u8]) -> Option<ConfigAct>
-    ensures { result ≡ phase_get (config_in p.now) params.now }
+// Whether a network key is held, as an outcome.
+fn held_outcome(p: &Persist, net: u16) -> Outcome
+    ensures { result ≡ (if has_net (config_in p.now) net then unchanged else refused S.InvalidNetKey) }
 {
-    match params {
-        [a, b] => {
-            let net = index_of(*a, *b);
-            let o = if has_net(p, net) {
-                unchanged()
-            } else {
-                refused(Status::InvalidNetKey)
-            };
-            phase_act(&o, net, phase_of(p, net))
-        }
-        _ => None,
+    if has_net(p, net) {
+        unchanged()
+    } else {
+        refused(Status::InvalidNetKey)
     }
 }
 
-/// Key Refresh Phase Set.
-pub fn phase_set(p: &Persist, params: &[u8]) -> Option<ConfigAct>
-    ensures { result ≡ phase_set (config_in p.now) params.now }
+/// Key Refresh Phase Status of a network key as it is.
+pub fn phase_shown(p: &Persist, net: u16) -> ConfigAct
+    ensures { result ≡ phase_shown (config_in p.now) net }
 {
-    match params {
-        [a, b, 2] => {
-            let net = index_of(*a, *b);
+    phase_act(&held_outcome(p, net), net, phase_of(p, net))
+}
+
+/// Key Refresh Phase Set.
+pub fn phase_set(p: &Persist, net: u16, transition: PhaseTransition) -> ConfigAct
+    ensures { result ≡ phase_set (config_in p.now) net transition }
+{
+    match transition {
+        PhaseTransition::ToPhaseTwo => {
             let o = begin_phase_two(p, net);
             phase_act(&o, net, phase_after(p, net, &o, 2))
         }
-        [a, b, 3] => {
-            let net = index_of(*a, *b);
+        PhaseTransition::ToEnd => {
             let o = end_refresh(p, net);
             phase_act(&o, net, phase_after(p, net, &o, 0))
         }
-        _ => None,
     }
 }

@@ -1,19 +1,18 @@
 //! Messages about subscriptions to labels (Mesh Profile 1.0.1, sections 4.3.2.20, 4.3.2.22 and 4.3.2.23).
 #![tactic(auto)]
 
-ghost use Rattle.std.specs.Prelude.{◌≡◌, ◌==◌, ◌&&◌, ◌≤◌, length, take, drop};
-ghost use Rattle.std.specs.Bool.{OnTrue};
+ghost use Rattle.std.specs.Prelude.{◌≡◌, ◌==◌, ◌&&◌};
 ghost use Rattle.std.specs.List.{list_any};
-ghost use Rattle.config_definitions.specs.Models.{count_of_model, label_add, label_delete, label_overwrite, label_set, model_of, on_model};
-ghost use Rattle.config_definitions.specs.Params.{is_model};
+ghost use Rattle.config_definitions.specs.Models.{count_of_model, label_add, label_delete, label_overwrite, label_act, model_of, on_model};
 ghost use Rattle.config_definitions.specs.declared.acts.Status.TheVariants as S;
 ghost use Rattle.node_records.specs.Tables.{config_in};
 ghost use Rattle.store_definitions.specs.Config.{is_label};
 
 use crate::groups::{MOST, count_of_model, is_full_of_others, subscription_act};
 use crate::models::model_of;
-use crate::params::{address_of, is_model, is_same_key, refused, stored, unchanged};
+use crate::params::{is_same_key, refused, stored, unchanged};
 use config_definitions::acts::{ConfigAct, Outcome, Status};
+use config_definitions::messages::LabelSubscription;
 use mesh_base::address::Address;
 use node_records::{Persist, StoreRecord};
 
@@ -95,112 +94,59 @@ fn overwrite_label(p: &Persist, element: Address, label: &[u8; 16], model: u16) 
     }
 }
 
-// Whether a label stands at the front, and a model behind it.
-fn is_labelled(rest: &[u8]) -> bool
-    ensures value { result ≡ is_model (drop 16 rest.now) }
-    ensures long { OnTrue result (16 ≤ length rest.now) }
-{
-    rest.len() >= 16 && is_model(&rest[16..])
-}
-
-// The label at the front.
-fn label_in(rest: &[u8]) -> [u8; 16]
-    requires { 16 ≤ length rest.now }
-    ensures { result ≡ take 16 rest.now }
-{
-    let mut label = [0; 16];
-    label.copy_from_slice(&rest[..16]);
-    label
-}
-
-// What stands behind the label.
-fn model_in(rest: &[u8]) -> &[u8]
-    requires { 16 ≤ length rest.now }
-    ensures { result.now ≡ drop 16 rest.now }
-{
-    &rest[16..]
-}
-
 // Virtual Address Add, of the model that is meant.
-fn label_added(p: &Persist, element: Address, label: &[u8; 16], model: &[u8]) -> Outcome
+fn label_added(p: &Persist, s: &LabelSubscription) -> Outcome
     ensures { result
-        ≡ on_model (model_of (config_in p.now) element model.now S.NotSubscribe)
-        (label_add (config_in p.now) element label.now) }
+        ≡ on_model (model_of (config_in p.now) s.now.holder S.NotSubscribe)
+        (label_add (config_in p.now) s.now.holder.element s.now.label) }
 {
-    match model_of(p, element, model, Status::NotSubscribe) {
-        Ok(number) => add_label(p, element, label, number),
+    match model_of(p, &s.holder, Status::NotSubscribe) {
+        Ok(number) => add_label(p, s.holder.element, &s.label, number),
         Err(status) => refused(status),
     }
 }
 
 /// Model Subscription Virtual Address Add.
-pub fn label_add(p: &Persist, params: &[u8]) -> Option<ConfigAct>
-    ensures { result ≡ label_set (config_in p.now) (label_add (config_in p.now)) params.now }
+pub fn label_add(p: &Persist, s: &LabelSubscription) -> ConfigAct
+    ensures { result ≡ label_act (config_in p.now) (label_add (config_in p.now)) s.now }
 {
-    match params {
-        [a, b, rest @ ..] if is_labelled(rest) => {
-            let element = address_of(*a, *b);
-            let label = label_in(rest);
-            let model = model_in(rest);
-            let o = label_added(p, element, &label, model);
-            subscription_act(&o, element, mesh_kdf::address(&label), model)
-        }
-        _ => None,
-    }
+    subscription_act(&label_added(p, s), &s.holder, mesh_kdf::address(&s.label))
 }
 
 // Virtual Address Delete, of the model that is meant.
-fn label_deleted(p: &Persist, element: Address, label: &[u8; 16], model: &[u8]) -> Outcome
+fn label_deleted(p: &Persist, s: &LabelSubscription) -> Outcome
     ensures { result
-        ≡ on_model (model_of (config_in p.now) element model.now S.NotSubscribe)
-        (label_delete (config_in p.now) element label.now) }
+        ≡ on_model (model_of (config_in p.now) s.now.holder S.NotSubscribe)
+        (label_delete (config_in p.now) s.now.holder.element s.now.label) }
 {
-    match model_of(p, element, model, Status::NotSubscribe) {
-        Ok(number) => delete_label(p, element, label, number),
+    match model_of(p, &s.holder, Status::NotSubscribe) {
+        Ok(number) => delete_label(p, s.holder.element, &s.label, number),
         Err(status) => refused(status),
     }
 }
 
 /// Model Subscription Virtual Address Delete.
-pub fn label_delete(p: &Persist, params: &[u8]) -> Option<ConfigAct>
-    ensures { result ≡ label_set (config_in p.now) (label_delete (config_in p.now)) params.now }
+pub fn label_delete(p: &Persist, s: &LabelSubscription) -> ConfigAct
+    ensures { result ≡ label_act (config_in p.now) (label_delete (config_in p.now)) s.now }
 {
-    match params {
-        [a, b, rest @ ..] if is_labelled(rest) => {
-            let element = address_of(*a, *b);
-            let label = label_in(rest);
-            let model = model_in(rest);
-            let o = label_deleted(p, element, &label, model);
-            subscription_act(&o, element, mesh_kdf::address(&label), model)
-        }
-        _ => None,
-    }
+    subscription_act(&label_deleted(p, s), &s.holder, mesh_kdf::address(&s.label))
 }
 
 // Virtual Address Overwrite, of the model that is meant.
-fn label_overwritten(p: &Persist, element: Address, label: &[u8; 16], model: &[u8]) -> Outcome
+fn label_overwritten(p: &Persist, s: &LabelSubscription) -> Outcome
     ensures { result
-        ≡ on_model (model_of (config_in p.now) element model.now S.NotSubscribe)
-        (label_overwrite (config_in p.now) element label.now) }
+        ≡ on_model (model_of (config_in p.now) s.now.holder S.NotSubscribe)
+        (label_overwrite (config_in p.now) s.now.holder.element s.now.label) }
 {
-    match model_of(p, element, model, Status::NotSubscribe) {
-        Ok(number) => overwrite_label(p, element, label, number),
+    match model_of(p, &s.holder, Status::NotSubscribe) {
+        Ok(number) => overwrite_label(p, s.holder.element, &s.label, number),
         Err(status) => refused(status),
     }
 }
 
 /// Model Subscription Virtual Address Overwrite.
-pub fn label_overwrite(p: &Persist, params: &[u8]) -> Option<ConfigAct>
-    ensures { result ≡ label_set (config_in p.now) (label_overwrite (config_in p.now)) params.now }
+pub fn label_overwrite(p: &Persist, s: &LabelSubscription) -> ConfigAct
+    ensures { result ≡ label_act (config_in p.now) (label_overwrite (config_in p.now)) s.now }
 {
-    match params {
-        [a, b, rest @ ..] if is_labelled(rest) => {
-            let element = address_of(*a, *b);
-            let label = label_in(rest);
-            let model = model_in(rest);
-            let o = label_overwritten(p, element, &label, model);
-            subscription_act(&o, element, mesh_kdf::address(&label), model)
-        }
-        _ => None,
-    }
+    subscription_act(&label_overwritten(p, s), &s.holder, mesh_kdf::address(&s.label))
 }

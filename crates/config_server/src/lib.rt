@@ -1,7 +1,9 @@
 //! The Configuration Server of a node (Mesh Profile 1.0.1, section 4.4.1): what a configuration message is answered by, and which record is
 //! stored for it. Nothing is stored or sent here.
 //!
-//! - `params`: numbers, keys and statuses in messages
+//! - `fields`: the fields of messages, out of their parameters
+//! - `reading`: from a payload to its message, a row for each opcode
+//! - `params`: numbers, keys and statuses in replies
 //! - `keys`: messages about network keys and application keys
 //! - `models`: the models that messages are about
 //! - `groups`: messages about subscriptions to groups
@@ -10,11 +12,12 @@
 //! - `features`: messages about the features of the node
 //! - `publishing`: messages about publications
 //! - `heartbeats`: messages about the heartbeat
-//! - `server`: a case for each message
+//! - `server`: what each message does
 #![tactic(auto)]
 
 mod bindings;
 mod features;
+mod fields;
 mod groups;
 mod heartbeats;
 mod keys;
@@ -22,6 +25,7 @@ mod labels;
 mod models;
 mod params;
 mod publishing;
+mod reading;
 mod server;
 
 pub use config_definitions::acts::ConfigAct;

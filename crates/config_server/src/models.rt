@@ -7,6 +7,7 @@ ghost use Rattle.node_records.specs.Tables.{config_in};
 ghost use Rattle.store_definitions.specs.Config.{is_element};
 
 use config_definitions::acts::Status;
+use config_definitions::messages::{ElementModel, ModelId};
 use mesh_base::address::Address;
 use node_records::Persist;
 
@@ -36,28 +37,28 @@ fn has_model(p: &Persist, element: Address, model: u16) -> bool
         || (model == CONFIGURATION_SERVER && element.0 == p.unicast.0)
 }
 
-// The number of a model of two octets.
-fn model_number(model: &[u8]) -> Option<u16>
-    ensures { result ≡ model_number model.now }
+// The number of a model of the Bluetooth SIG.
+fn model_number(model: ModelId) -> Option<u16>
+    ensures { result ≡ model_number model }
 {
     match model {
-        [a, b] => Some(u16::from(*a) + u16::from(*b) * 0x100),
-        _ => None,
+        ModelId::Sig(number) => Some(number),
+        ModelId::Vendor { .. } => None,
     }
 }
 
 /// The number of the model that is meant, or why it is refused: no such element, no such model, or this status where it is the
 /// Configuration Server.
-pub fn model_of(p: &Persist, element: Address, model: &[u8], status: Status) -> Result<u16, Status>
-    ensures { result ≡ model_of (config_in p.now) element model.now status }
+pub fn model_of(p: &Persist, holder: &ElementModel, status: Status) -> Result<u16, Status>
+    ensures { result ≡ model_of (config_in p.now) holder.now status }
 {
-    if !is_element(p, element) {
+    if !is_element(p, holder.element) {
         return Err(Status::InvalidAddress);
     }
-    match model_number(model) {
+    match model_number(holder.model) {
         None => Err(Status::InvalidModel),
         Some(number) => {
-            if !has_model(p, element, number) {
+            if !has_model(p, holder.element, number) {
                 Err(Status::InvalidModel)
             } else if number == CONFIGURATION_SERVER {
                 Err(status)

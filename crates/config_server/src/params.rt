@@ -1,43 +1,15 @@
-//! Numbers, keys and statuses in configuration messages (Mesh Profile 1.0.1, sections 3.1.1.2, 4.3.1 and 4.3.5). The low octet of a number
+//! Numbers, keys and statuses in replies (Mesh Profile 1.0.1, sections 3.1.1.2, 4.3.1 and 4.3.5). The low octet of a number
 //! stands first.
 #![tactic(auto)]
 
-ghost use Rattle.std.specs.Prelude.{◌≡◌, ◌≤◌, ◌<◌, ◌+◌, ◌*◌, ◌++◌, Some, None, length, bytes_eq, if◌then◌else◌};
-ghost use Rattle.config_definitions.specs.Params.{acted, address_of, first_index, index_of, is_key, is_model, packed, packed_list, refused, replied, second_index, status_octet, stored, unchanged};
+ghost use Rattle.std.specs.Prelude.{◌≡◌, ◌≤◌, ◌<◌, ◌+◌, ◌*◌, ◌++◌, length, bytes_eq};
+ghost use Rattle.config_definitions.specs.Params.{acted, model_text, packed, packed_list, refused, replied, status_octet, stored, switch_octet, unchanged};
 ghost use Rattle.model_states.specs.Access.{two_low_first};
 
 use config_definitions::acts::{ConfigAct, Outcome, Status};
-use mesh_base::address::Address;
+use config_definitions::messages::ModelId;
 use mesh_base::octets::Octets;
 use record_types::records::StoreRecord;
-
-/// An address.
-pub fn address_of(low: u8, high: u8) -> Address
-    ensures { result ≡ address_of low high }
-{
-    Address(u16::from(low) + u16::from(high) * 0x100)
-}
-
-/// A key index, of which 12 bits are read.
-pub fn index_of(low: u8, high: u8) -> u16
-    ensures { result ≡ index_of low high }
-{
-    (u16::from(low) + u16::from(high) * 0x100) % 0x1000
-}
-
-/// The first of two key indexes in three octets.
-pub fn first_index(a: u8, b: u8) -> u16
-    ensures { result ≡ first_index a b }
-{
-    u16::from(a) + u16::from(b % 0x10) * 0x100
-}
-
-/// The second of two key indexes in three octets.
-pub fn second_index(b: u8, c: u8) -> u16
-    ensures { result ≡ second_index b c }
-{
-    u16::from(b / 0x10) + u16::from(c) * 0x10
-}
 
 /// Puts a number behind the octets.
 pub fn put_two(reply: &mut Octets<48>, number: u16)
@@ -73,18 +45,6 @@ pub fn put_list(reply: &mut Octets<48>, indexes: &[u16])
     }
 }
 
-/// The key or the label that these octets are, if there are 16.
-pub fn key_of(octets: &[u8]) -> Option<[u8; 16]>
-    ensures { result ≡ (if is_key octets.now then Some octets.now else None) }
-{
-    if octets.len() != 16 {
-        return None;
-    }
-    let mut key = [0; 16];
-    key.copy_from_slice(octets);
-    Some(key)
-}
-
 /// Whether two keys are the same.
 pub fn is_same_key(a: &[u8; 16], b: &[u8; 16]) -> bool
     ensures { result ≡ bytes_eq a.now b.now }
@@ -92,11 +52,25 @@ pub fn is_same_key(a: &[u8; 16], b: &[u8; 16]) -> bool
     a.as_slice() == b.as_slice()
 }
 
-/// Whether these octets name a model: two, or four.
-pub fn is_model(octets: &[u8]) -> bool
-    ensures value { result ≡ is_model octets.now }
+/// Puts a model behind the octets.
+pub fn put_model(reply: &mut Octets<48>, model: ModelId)
+    requires { length reply.old + 4 ≤ 48 }
+    ensures { reply.new ≡ reply.old ++ model_text model }
 {
-    octets.len() == 2 || octets.len() == 4
+    match model {
+        ModelId::Sig(number) => put_two(reply, number),
+        ModelId::Vendor { company, model } => {
+            put_two(reply, company);
+            put_two(reply, model);
+        }
+    }
+}
+
+/// The octet of a switch.
+pub fn switch_octet(on: bool) -> u8
+    ensures { result ≡ switch_octet on }
+{
+    if on { 0x01 } else { 0x00 }
 }
 
 /// The octet of a status.
@@ -151,18 +125,19 @@ pub fn stored(item: StoreRecord) -> Outcome
 }
 
 /// A reply with what is stored.
-pub fn acted(change: Option<StoreRecord>, reply: Octets<48>) -> Option<ConfigAct>
+pub fn acted(change: Option<StoreRecord>, reply: Octets<48>) -> ConfigAct
     ensures { result ≡ acted change reply }
 {
-    Some(ConfigAct {
+    ConfigAct {
         change,
         reply,
         beat: None,
-    })
+        ends_friendships: false,
+    }
 }
 
 /// A reply alone.
-pub fn replied(reply: Octets<48>) -> Option<ConfigAct>
+pub fn replied(reply: Octets<48>) -> ConfigAct
     ensures { result ≡ replied reply }
 {
     acted(None, reply)

@@ -1,19 +1,20 @@
 //! Messages about publications (Mesh Profile 1.0.1, sections 4.3.2.15 to 4.3.2.18).
 #![tactic(auto)]
 
-ghost use Rattle.std.specs.Prelude.{◌≡◌, ◌≤◌, ◌==◌, ◌&&◌, not, nat_le, length, filter, option_map};
+ghost use Rattle.std.specs.Prelude.{◌≡◌, ◌≤◌, ◌==◌, ◌&&◌, not, length, filter};
 ghost use Rattle.std.specs.List.{list_any, find};
-ghost use Rattle.config_definitions.specs.Publishing.{is_model_row, is_publish_ttl, is_same_row, no_row, publication_act, publication_get, publication_set, publication_shown, row_of, row_set};
+ghost use Rattle.config_definitions.specs.Publishing.{is_model_row, is_same_row, no_row, publication_act, publication_set, publication_shown, row_asked, row_of, row_set};
+ghost use Rattle.config_definitions.specs.Models.{model_of, on_model};
+ghost use Rattle.config_definitions.specs.declared.acts.Status.TheVariants as S;
 ghost use Rattle.layer_definitions.specs.Labels.{is_virtual};
 ghost use Rattle.node_records.specs.Tables.{config_in};
 
 use crate::bindings::has_bind;
 use crate::keys::has_app;
 use crate::models::model_of;
-use crate::params::{
-    acted, address_of, index_of, is_model, put_two, refused, status_octet, stored, unchanged,
-};
+use crate::params::{acted, put_model, put_two, refused, status_octet, stored, unchanged};
 use config_definitions::acts::{ConfigAct, Outcome, Status};
+use config_definitions::messages::{ElementModel, PublicationValue};
 use mesh_base::address::Address;
 use mesh_base::octets::Octets;
 use node_records::{Persist, PublishRow, StoreRecord};
@@ -126,91 +127,59 @@ fn row_of(p: &Persist, element: Address, model: u16) -> PublishRow
 }
 
 // Model Publication Status.
-fn publication_act(
-    o: &Outcome,
-    element: Address,
-    row: &PublishRow,
-    model: &[u8],
-) -> Option<ConfigAct>
-    requires { length model.now ≤ 4 }
-    ensures { result ≡ publication_act o.now element row.now model.now }
+fn publication_act(o: &Outcome, holder: &ElementModel, row: &PublishRow) -> ConfigAct
+    ensures { result ≡ publication_act o.now holder.now row.now }
 {
     let mut reply = Octets::new();
     reply.extend(&[0x80, 0x19, status_octet(o.status)]);
-    put_two(&mut reply, element.0);
+    put_two(&mut reply, holder.element.0);
     put_two(&mut reply, row.address.0);
     put_two(&mut reply, row.app);
     reply.extend(&[row.ttl, row.period, row.retransmit]);
-    reply.extend(model);
+    put_model(&mut reply, holder.model);
     acted(o.change, reply)
 }
 
-// The answer to a Publication Get.
-fn shown(
-    p: &Persist,
-    element: Address,
-    model: &[u8],
-    number: Result<u16, Status>,
-) -> Option<ConfigAct>
-    requires { length model.now ≤ 4 }
-    ensures { result ≡ publication_shown (config_in p.now) element model.now number }
-{
-    match number {
-        Ok(number) => publication_act(&unchanged(), element, &row_of(p, element, number), model),
-        Err(status) => publication_act(&refused(status), element, &no_row(element, 0), model),
-    }
-}
-
 /// Model Publication Get.
-pub fn publication_get(p: &Persist, params: &[u8]) -> Option<ConfigAct>
-    ensures { result ≡ publication_get (config_in p.now) params.now }
+pub fn publication_shown(p: &Persist, holder: &ElementModel) -> ConfigAct
+    ensures { result ≡ publication_shown (config_in p.now) holder.now }
 {
-    match params {
-        [a, b, model @ ..] if is_model(model) => {
-            let element = address_of(*a, *b);
-            let number = model_of(p, element, model, Status::InvalidPublish);
-            shown(p, element, model, number)
-        }
-        _ => None,
+    match model_of(p, holder, Status::InvalidPublish) {
+        Ok(number) => publication_act(&unchanged(), holder, &row_of(p, holder.element, number)),
+        Err(status) => publication_act(&refused(status), holder, &no_row(holder.element, 0)),
     }
 }
 
-// Whether a TTL may be a Publish TTL.
-fn is_publish_ttl(ttl: u8) -> bool
-    ensures { result ≡ is_publish_ttl ttl }
+// The row that a Publication Set asks for, of the model of this number.
+fn row_asked(v: &PublicationValue, model: u16) -> PublishRow
+    ensures { result ≡ row_asked v.now model }
 {
-    ttl <= 0x7f || ttl == 0xff
+    PublishRow {
+        element: v.holder.element,
+        model,
+        address: v.address,
+        app: v.app,
+        ttl: v.ttl,
+        period: v.period,
+        retransmit: v.retransmit,
+    }
+}
+
+// Publication Set, of the model that is meant.
+fn published(p: &Persist, v: &PublicationValue) -> Outcome
+    ensures { result
+        ≡ on_model (model_of (config_in p.now) v.now.holder S.InvalidPublish)
+        (λ n. row_set (config_in p.now) (row_asked v.now n)) }
+{
+    match model_of(p, &v.holder, Status::InvalidPublish) {
+        Ok(number) => set_row(p, &row_asked(v, number)),
+        Err(status) => refused(status),
+    }
 }
 
 /// Model Publication Set.
-pub fn publication_set(p: &Persist, params: &[u8]) -> Option<ConfigAct>
-    ensures { result ≡ publication_set (config_in p.now) params.now }
+pub fn publication_set(p: &Persist, v: &PublicationValue) -> ConfigAct
+    ensures { result ≡ publication_set (config_in p.now) v.now }
 {
-    match params {
-        [a, b, c, d, e, f, ttl, period, retransmit, model @ ..]
-            if is_model(model) && is_publish_ttl(*ttl) => {
-            let element = address_of(*a, *b);
-            let asked = PublishRow {
-                element,
-                model: 0,
-                address: address_of(*c, *d),
-                app: index_of(*e, *f),
-                ttl: *ttl,
-                period: *period,
-                retransmit: *retransmit,
-            };
-            let o = match model_of(p, element, model, Status::InvalidPublish) {
-                Ok(number) => set_row(
-                    p,
-                    &PublishRow {
-                        model: number,
-                        ..asked
-                    },
-                ),
-                Err(status) => refused(status),
-            };
-            publication_act(&o, element, &asked, model)
-        }
-        _ => None,
-    }
+    publication_act(&published(p, v), &v.holder, &row_asked(v, 0))
 }

@@ -12,7 +12,7 @@ use Rattle.model_states.specs.OnOff.{onoff_asks, onoff_message, onoff_reply, ono
 use Rattle.model_states.specs.declared.models.LevelState.{LevelState}
 use Rattle.model_states.specs.declared.models.OnOffState.{OnOffState}
 use Rattle.node_layers.specs.Models.{level_server, onoff_server, takes}
-use Rattle.run_definitions.specs.Layers.{AccessMessage}
+use Rattle.event_definitions.specs.Layers.{AccessMessage}
 use Rattle.store_definitions.specs.Config.{Config}
 
 abbrev pub IsFilled : List ℕ → Type 0

@@ -22,10 +22,10 @@ use Rattle.node_records.specs.Tables.{config_in}
 use Rattle.node_records.specs.declared.persist.Persist.{Persist}
 use Rattle.record_types.specs.declared.records.PublishRow.{PublishRow}
 use Rattle.record_types.specs.declared.records.StoreRecord.{StoreRecord}
-use Rattle.run_definitions.specs.Answers.{config_before}
-use Rattle.run_definitions.specs.Handling.{past_of}
-use Rattle.run_definitions.specs.History.{Past, Told, now_of}
-use Rattle.run_definitions.specs.Layers.{AccessMessage}
+use Rattle.event_definitions.specs.Answers.{config_before}
+use Rattle.event_definitions.specs.Handling.{past_of}
+use Rattle.event_definitions.specs.History.{Past, Told, now_of}
+use Rattle.event_definitions.specs.Layers.{AccessMessage}
 use Rattle.store_definitions.specs.Config.{Config, config_of}
 
 -- At the opening.

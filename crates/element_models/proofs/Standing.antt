@@ -13,10 +13,10 @@ use Rattle.node_layers.specs.Models.{TakenMessage, delivered_by, elements_of, le
 use Rattle.node_layers.specs.Steps.{with_entry}
 use Rattle.record_types.specs.declared.records.StoreRecord.{StoreRecord}
 use Rattle.record_types.specs.declared.records.StoreRecord.TheVariants as R
-use Rattle.run_definitions.specs.Answers.{config_before}
-use Rattle.run_definitions.specs.Handling.{past_of}
-use Rattle.run_definitions.specs.History.{Past, Told, now_of}
-use Rattle.run_definitions.specs.Layers.{AccessMessage}
+use Rattle.event_definitions.specs.Answers.{config_before}
+use Rattle.event_definitions.specs.Handling.{past_of}
+use Rattle.event_definitions.specs.History.{Past, Told, now_of}
+use Rattle.event_definitions.specs.Layers.{AccessMessage}
 use Rattle.store_definitions.specs.Config.{Config, changed, config_of, no_config}
 use Rattle.store_definitions.specs.Numbers.{fill_of}
 use Rattle.store_definitions.specs.Ranges.{IsInRange}

@@ -2,7 +2,7 @@
 use Rattle.std.specs.Prelude.{ℕ, ◌≤◌, List, length}
 use Rattle.element_models.specs.declared.message.Message.{Message}
 use Rattle.element_models.specs.declared.taken.Reply.{Reply}
-use Rattle.run_definitions.specs.Layers.{AccessMessage}
+use Rattle.event_definitions.specs.Layers.{AccessMessage}
 
 abbrev pub message_in : Message → AccessMessage
 message_in m =

@@ -12,7 +12,7 @@ use Rattle.model_states.specs.declared.models.OnOffState.{OnOffState}
 use Rattle.node_layers.specs.Models.{level_first, level_server, onoff_first, onoff_server, takes}
 use Rattle.record_types.specs.declared.records.StoreRecord.{StoreRecord}
 use Rattle.record_types.specs.declared.records.StoreRecord.TheVariants as R
-use Rattle.run_definitions.specs.Layers.{AccessMessage}
+use Rattle.event_definitions.specs.Layers.{AccessMessage}
 use Rattle.store_definitions.specs.Config.{Config}
 
 -- One server of an element.

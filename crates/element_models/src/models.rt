@@ -13,8 +13,8 @@ ghost use Rattle.node_records.specs.Meaning.{IsMeaningOf};
 ghost use Rattle.node_records.specs.Tables.{config_in};
 ghost use Rattle.record_types.specs.declared.records.PublishRow.{PublishRow};
 ghost use Rattle.record_types.specs.declared.records.StoreRecord.{StoreRecord};
-ghost use Rattle.run_definitions.specs.Answers.{config_before};
-ghost use Rattle.run_definitions.specs.History.{Past, Told, now_of};
+ghost use Rattle.event_definitions.specs.Answers.{config_before};
+ghost use Rattle.event_definitions.specs.History.{Past, Told, now_of};
 ghost use Rattle.store_definitions.specs.Config.{Config, config_of};
 ghost use Rattle.store_definitions.specs.Ranges.{IsInRange};
 

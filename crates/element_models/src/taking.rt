@@ -7,8 +7,8 @@ ghost use Rattle.element_models.specs.Messages.{message_in};
 ghost use Rattle.mesh_base.specs.declared.address.Address.{Address};
 ghost use Rattle.node_layers.specs.Models.{is_bound, is_fixed_group, is_to_element, is_to_group, is_to_label, takes};
 ghost use Rattle.node_records.specs.Tables.{config_in};
-ghost use Rattle.run_definitions.specs.Answers.{is_group};
-ghost use Rattle.run_definitions.specs.Jobs.{element_address};
+ghost use Rattle.event_definitions.specs.Answers.{is_group};
+ghost use Rattle.event_definitions.specs.Jobs.{element_address};
 
 use crate::message::Message;
 use mesh_base::address::Address;

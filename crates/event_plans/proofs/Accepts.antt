@@ -18,11 +18,10 @@ use Rattle.node_records.specs.Full.{IsFull}
 use Rattle.node_records.specs.Meaning.{IsMeaningOf}
 use Rattle.node_records.specs.declared.persist.Persist.{Persist}
 use Rattle.record_types.specs.declared.records.StoreRecord.TheVariants as R
-use Rattle.run_definitions.proofs.Accepting.{HasPlace, Refuses, named_accepts, no_answer, past_refusal, refused, refuses_pick, some_is}
-use Rattle.run_definitions.specs.Answers.{answer_of, config_before, is_cached, is_mine, message_name, message_pair, network_answer, pair_of, pdu_answer, transport_answer}
-use Rattle.run_definitions.specs.History.{Insight, OfBeacon, OfNothing, OfPdu, Opening, Past, Reading}
-use Rattle.run_definitions.specs.Readings.{Sees, sees_pdu}
-use Rattle.run_definitions.specs.Uses.{accepted}
+use Rattle.event_definitions.proofs.Accepting.{HasPlace, Refuses, named_accepts, no_answer, past_refusal, refused, refuses_pick, some_is}
+use Rattle.event_definitions.specs.Answers.{accepted, answer_of, config_before, is_cached, is_mine, message_name, message_pair, network_answer, pair_of, pdu_answer, transport_answer}
+use Rattle.event_definitions.specs.History.{Insight, OfBeacon, OfNothing, OfPdu, Opening, Past, Reading}
+use Rattle.event_definitions.specs.Readings.{Sees, sees_pdu}
 use Rattle.store_definitions.specs.Config.{is_element}
 use Rattle.store_definitions.specs.Entries.{entry_of, has_room}
 use Rattle.store_definitions.specs.Following.{PassesLimit}

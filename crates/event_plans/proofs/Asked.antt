@@ -23,15 +23,16 @@ use Rattle.mesh_jobs.specs.Acting.{IsActIn}
 use Rattle.mesh_jobs.specs.Own.{IsBefriended, IsSingle}
 use Rattle.mesh_types.specs.declared.events.Event.{Event}
 use Rattle.mesh_types.specs.declared.events.Event.TheVariants as E
+use Rattle.mesh_types.specs.declared.events.Outgoing.{Outgoing}
 use Rattle.node_friends.specs.declared.acts.FriendAct.{FriendAct}
 use Rattle.node_layers.specs.BuiltLayers.{built_layers}
 use Rattle.node_layers.specs.ConfiguredLayers.{configured_layers}
 use Rattle.node_layers.specs.NodeLayers.{node_layers}
 use Rattle.node_models.specs.declared.taken.MessageReplies.{MessageReplies}
-use Rattle.run_definitions.specs.Answers.{answer_of, config_before, is_busy, later, network_answer}
-use Rattle.run_definitions.specs.History.{Insight, OfNothing, OfPdu, Opening, Past, Reading}
-use Rattle.run_definitions.specs.Jobs.{jobs_of}
-use Rattle.run_definitions.specs.Readings.{IsLowerPdu, Sees, sees_pdu}
+use Rattle.event_definitions.specs.Answers.{answer_of, config_before, is_busy, later, network_answer}
+use Rattle.event_definitions.specs.History.{Insight, OfNothing, OfPdu, Opening, Past, Reading}
+use Rattle.event_definitions.specs.Jobs.{jobs_of}
+use Rattle.event_definitions.specs.Readings.{IsLowerPdu, Sees, sees_pdu}
 use Rattle.store_definitions.specs.Config.{Config}
 
 lower_fits : (o : Option Answer) (r : Reading) (low : Lower) → MatchOption o (IsLowerPdu r.fields (Some low)) (λ answer. Some low ≡ None) → Fits low
@@ -75,10 +76,10 @@ befriended_so past _ a basis h = tt
 
 -- an event that asks for one job at most
 pub single_of : (c : Config) (event : Event) → IsSendable c event → ((octets : List ℕ) → event ≡ E.Net octets → ⊥) → ((ticks : ℕ) → event ≡ E.Tick ticks → ⊥)
-    → ((pair : Pair) (dst src : Address) (ttl net : ℕ) (akf : Bool) (aid : ℕ) (upper : List ℕ) → event ≡ E.Begin pair dst src ttl net akf aid upper → ⊥) → IsSingle c event
+    → ((m : Outgoing) → event ≡ E.Begin m → ⊥) → IsSingle c event
 single_of c (E.Net octets) h net tick begin = net octets refl
 single_of c (E.Tick ticks) h net tick begin = tick ticks refl
-single_of c (E.Begin pair dst src ttl net_key akf aid upper) h net tick begin = begin pair dst src ttl net_key akf aid upper refl
+single_of c (E.Begin m) h net tick begin = begin m refl
 single_of c (E.Send element dst ttl key payload) h net tick begin = h.0
 single_of c _ h net tick begin = tt
 

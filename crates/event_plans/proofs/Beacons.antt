@@ -19,9 +19,9 @@ use Rattle.mesh_types.specs.declared.events.Event.TheVariants as E
 use Rattle.node_layers.specs.NodeLayers.{node_layers}
 use Rattle.node_records.specs.Meaning.{IsMeaningOf}
 use Rattle.node_records.specs.declared.persist.Persist.{Persist}
-use Rattle.run_definitions.specs.Answers.{answer_of, beacon_answer, config_before, is_busy}
-use Rattle.run_definitions.specs.History.{Insight, OfBeacon, OfNothing, OfPdu, Past}
-use Rattle.run_definitions.specs.Readings.{Sees, sees_beacon}
+use Rattle.event_definitions.specs.Answers.{answer_of, beacon_answer, config_before, is_busy}
+use Rattle.event_definitions.specs.History.{Insight, OfBeacon, OfNothing, OfPdu, Past}
+use Rattle.event_definitions.specs.Readings.{Sees, sees_beacon}
 use Rattle.store_definitions.specs.Config.{Config}
 use Rattle.store_definitions.specs.Ranges.{IsInRange}
 

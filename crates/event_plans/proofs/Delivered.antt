@@ -29,12 +29,12 @@ use Rattle.node_models.specs.Models.{AreNodeModelsOf, GoOn, ModelsView, is_ticke
 use Rattle.node_models.specs.declared.taken.MessageReplies.{MessageReplies}
 use Rattle.record_types.specs.declared.records.StoreRecord.{StoreRecord}
 use Rattle.record_types.specs.declared.records.StoreRecord.TheVariants as R
-use Rattle.run_definitions.proofs.Accepting.{some_is}
-use Rattle.run_definitions.specs.Answers.{answer_of, config_before, is_again, is_cached, is_mine, lower_answer, message_name, named_answer, network_answer, opened_answer, pdu_answer, placed_answer, replayed, segment_answer, transport_answer, whole_answer}
-use Rattle.run_definitions.specs.Fit.{AreStorable}
-use Rattle.run_definitions.specs.History.{Insight, OfBeacon, OfNothing, OfPdu, Opening, Past, Reading, Told}
-use Rattle.run_definitions.specs.Layers.{AccessMessage, Layers}
-use Rattle.run_safety.specs.Safety.{AreSafe, IsChange}
+use Rattle.event_definitions.proofs.Accepting.{some_is}
+use Rattle.event_definitions.specs.Answers.{answer_of, config_before, is_again, is_cached, is_mine, lower_answer, message_name, named_answer, network_answer, opened_answer, pdu_answer, placed_answer, replayed, segment_answer, transport_answer, whole_answer}
+use Rattle.event_definitions.specs.Fit.{AreStorable}
+use Rattle.event_definitions.specs.History.{Insight, OfBeacon, OfNothing, OfPdu, Opening, Past, Reading, Told}
+use Rattle.event_definitions.specs.Layers.{AccessMessage, Layers}
+use Rattle.event_definitions.specs.Safe.{AreSafe, IsChange}
 use Rattle.store_definitions.specs.Config.{changed, config_of, is_element, no_config}
 use Rattle.store_definitions.specs.Entries.{entry_of, has_room}
 use Rattle.store_definitions.specs.Node.{IsWhole}

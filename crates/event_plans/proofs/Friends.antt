@@ -5,7 +5,7 @@ use Rattle.layer_states.specs.Friends.{FriendsState}
 use Rattle.mesh_types.specs.declared.answers.Answer.{Answer}
 use Rattle.mesh_types.specs.declared.events.Event.{Event}
 use Rattle.node_friends.specs.Steps.{AreFriendsOf}
-use Rattle.run_definitions.specs.History.{Insight, Told}
+use Rattle.event_definitions.specs.History.{Insight, Told}
 
 pub friends_stay : LeaveFriends → (st : FriendsState) (told : List Told) (event : Event) (a : Answer) (i : Insight) → has_reading i ≡ false → changes_friends event a ≡ false
     → AreFriendsOf st told → (e : Told) → e.entry.event ≡ event → e.insight ≡ i → e.entry.answer ≡ a → AreFriendsOf st (told ++ e ∷ [])

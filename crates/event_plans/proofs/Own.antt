@@ -16,7 +16,7 @@ use Rattle.friend_steps.specs.Sending.{IsSend}
 use Rattle.layer_definitions.specs.KeyRefresh.{app_row}
 use Rattle.layer_states.specs.Friends.{FriendsState}
 use Rattle.layer_states.specs.Sending.{after}
-use Rattle.layer_states.specs.declared.sending.Outgoing.{Outgoing}
+use Rattle.mesh_types.specs.declared.events.Outgoing.{Outgoing}
 use Rattle.layer_states.specs.declared.sending.Sending.{Sending}
 use Rattle.mesh_base.specs.declared.address.Address.{Address}
 use Rattle.mesh_base.specs.declared.keys.AppKeyRow.{AppKeyRow}
@@ -41,10 +41,10 @@ use Rattle.node_models.specs.Models as models
 use Rattle.node_records.specs.Meaning.{IsMeaningOf}
 use Rattle.node_records.specs.Tables.{config_in}
 use Rattle.node_records.specs.declared.persist.Persist.{Persist}
-use Rattle.run_definitions.specs.Answers.{answer_of, config_before, send_answer}
-use Rattle.run_definitions.specs.History.{OfNothing, Past, Told, ticks_after}
-use Rattle.run_definitions.specs.Readings.{has_octets, sees_nothing}
-use Rattle.run_definitions.specs.Stores.{stores}
+use Rattle.event_definitions.specs.Answers.{answer_of, config_before, send_answer}
+use Rattle.event_definitions.specs.History.{OfNothing, Past, Told, ticks_after}
+use Rattle.event_definitions.specs.Readings.{has_octets, sees_nothing}
+use Rattle.event_definitions.specs.Stores.{stores}
 use Rattle.store_definitions.specs.Config.{Config, config_of}
 
 -- an answer that says no time, delivers nothing, and says nothing of own segmented messages
@@ -235,53 +235,52 @@ begin_apart A.Befriended h = tt
 begin_apart A.Begun h = tt
 begin_apart _ h = absurd h
 
-begin_leaves : (pair : Pair) (dst src : Address) (ttl net : ℕ) (akf : Bool) (aid : ℕ) (upper : List ℕ) (a : Answer) → IsOfBegin a
-    → changes_friends (E.Begin pair dst src ttl net akf aid upper) a ≡ false
-begin_leaves pair dst src ttl net akf aid upper (A.Moved iv) h = refl
-begin_leaves pair dst src ttl net akf aid upper (A.SendFull held) h = refl
-begin_leaves pair dst src ttl net akf aid upper A.Befriended h = refl
-begin_leaves pair dst src ttl net akf aid upper A.Begun h = refl
-begin_leaves pair dst src ttl net akf aid upper _ h = absurd h
+begin_leaves : (m : Outgoing) (a : Answer) → IsOfBegin a → changes_friends (E.Begin m) a ≡ false
+begin_leaves m (A.Moved iv) h = refl
+begin_leaves m (A.SendFull held) h = refl
+begin_leaves m A.Befriended h = refl
+begin_leaves m A.Begun h = refl
+begin_leaves m _ h = absurd h
 
 begun_tables : (t : TablesView) (c : Config) (m : Outgoing) (a : Answer) → IsOfBegin a
-    → tables_after t c (E.Begin m.name.pair m.dst m.name.src m.ttl m.net m.akf m.aid m.upper) OfNothing a ≡ record t { own = fold after t.own (begin_calls t.ticks m a) }
+    → tables_after t c (E.Begin m) OfNothing a ≡ record t { own = fold after t.own (begin_calls t.ticks m a) }
 begun_tables t c m (A.Moved iv) h = refl
 begun_tables t c m (A.SendFull held) h = refl
 begun_tables t c m A.Befriended h = refl
 begun_tables t c m A.Begun h = refl
 begun_tables t c m _ h = absurd h
 
-begin_is : (past : Past) (p : Persist) (t : NodeTablesView) (befriended : Bool) (pair : Pair) (dst src : Address) (ttl net : ℕ) (akf : Bool) (aid : ℕ) (upper : List ℕ)
-    → IsStanding past p t → befriended ≡ is_befriended past dst
-    → begin_row (config_in p) befriended t.hearing.own pair ≡ answer_of node_layers past (E.Begin pair dst src ttl net akf aid upper) OfNothing
+begin_is : (past : Past) (p : Persist) (t : NodeTablesView) (befriended : Bool) (m : Outgoing)
+    → IsStanding past p t → befriended ≡ is_befriended past m.dst
+    → begin_row (config_in p) befriended t.hearing.own m.name.pair ≡ answer_of node_layers past (E.Begin m) OfNothing
 unfolding answer_of node_layers configured_layers built_layers
-begin_is past p t befriended pair dst src ttl net akf aid upper h is =
-    ap (λ c. begin_row c befriended t.hearing.own pair) h.meaning.config
-    ∙ ap (λ b. begin_row (config_before past) b t.hearing.own pair) is
-    ∙ ap (λ rows. begin_row (config_before past) (is_befriended past dst) rows pair) h.tables.hearing.own
+begin_is past p t befriended m h is =
+    ap (λ c. begin_row c befriended t.hearing.own m.name.pair) h.meaning.config
+    ∙ ap (λ b. begin_row (config_before past) b t.hearing.own m.name.pair) is
+    ∙ ap (λ rows. begin_row (config_before past) (is_befriended past m.dst) rows m.name.pair) h.tables.hearing.own
 
-begin_stores : (past : Past) (pair : Pair) (dst src : Address) (ttl net : ℕ) (akf : Bool) (aid : ℕ) (upper : List ℕ) (a : Answer) → [] ≡ stores node_layers past (E.Begin pair dst src ttl net akf aid upper) OfNothing a
+begin_stores : (past : Past) (m : Outgoing) (a : Answer) → [] ≡ stores node_layers past (E.Begin m) OfNothing a
 unfolding stores
-begin_stores past pair dst src ttl net akf aid upper a = refl
+begin_stores past m a = refl
 
 pub begin_planned : Laws → LeaveFriends → (past : Past) (p : Persist) (t : NodeTablesView) (befriended : Bool) (m : Outgoing) → IsStanding past p t → befriended ≡ is_befriended past m.dst
-    → IsPlanned past (E.Begin m.name.pair m.dst m.name.src m.ttl m.net m.akf m.aid m.upper) (own_plan (begin_row (config_in p) befriended t.hearing.own m.name.pair) false)
+    → IsPlanned past (E.Begin m) (own_plan (begin_row (config_in p) befriended t.hearing.own m.name.pair) false)
     (record t { hearing = record t.hearing { own = fold after t.hearing.own (begin_calls t.hearing.ticks m (begin_row (config_in p) befriended t.hearing.own m.name.pair)) } })
 begin_planned laws others past p t befriended m h is =
     let a = begin_row (config_in p) befriended t.hearing.own m.name.pair in
     let begun : IsOfBegin a = of_begin (config_in p) befriended t.hearing.own m.name.pair in
-    let event : Event = E.Begin m.name.pair m.dst m.name.src m.ttl m.net m.akf m.aid m.upper in
+    let event : Event = E.Begin m in
     record {
       sees = sees_nothing {event = event} refl;
-      answer = begin_is past p t befriended m.name.pair m.dst m.name.src m.ttl m.net m.akf m.aid m.upper h is;
-      records = begin_stores past m.name.pair m.dst m.name.src m.ttl m.net m.akf m.aid m.upper a;
+      answer = begin_is past p t befriended m h is;
+      records = begin_stores past m a;
       tables = λ e records is insight answer same elements. record {
         hearing =
             subst (λ (x : TablesView). AreTablesOf x (past.told ++ e ∷ [])) (begun_tables t.hearing (config_of e.records) m a begun)
             (tables_with laws.tables t.hearing past.told event a h.tables.hearing e is insight answer);
         models = models_stay laws.models t.models past e records a (begin_apart a begun) h.tables.models answer same elements;
         friends =
-            friends_stay others t.friends past.told event a OfNothing refl (begin_leaves m.name.pair m.dst m.name.src m.ttl m.net m.akf m.aid m.upper a begun)
+            friends_stay others t.friends past.told event a OfNothing refl (begin_leaves m a begun)
             h.tables.friends e is insight answer;
       };
       basis = tt;

@@ -3,7 +3,7 @@ use Rattle.std.specs.Prelude.{◌≡◌, ℕ}
 use Rattle.node_models.specs.Models.{AreNodeModelsOf, ModelsView}
 use Rattle.node_records.specs.Meaning.{IsMeaningOf}
 use Rattle.node_records.specs.declared.persist.Persist.{Persist}
-use Rattle.run_definitions.specs.History.{Past, now_of}
+use Rattle.event_definitions.specs.History.{Past, now_of}
 
 -- After a past, the store's value says its records, the models are those of its entries, and this is its time.
 pub record StandsFor (past : Past) (p : Persist) (m : ModelsView) (now : ℕ) : Type 0 where

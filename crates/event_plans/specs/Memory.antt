@@ -4,7 +4,7 @@ use Rattle.mesh_hearing.specs.Tables.{AreTablesOf, IsFit, TablesView}
 use Rattle.node_friends.specs.Steps.{AreFriendsOf}
 use Rattle.node_models.specs.Models.{AreNodeModelsOf, AreWithin, ModelsView}
 use Rattle.node_records.specs.declared.persist.Persist.{Persist}
-use Rattle.run_definitions.specs.History.{Past}
+use Rattle.event_definitions.specs.History.{Past}
 
 -- the tables of what was heard and what is sent, the models, and the friendships and offers
 pub record NodeTablesView : Type 0 where

@@ -2,7 +2,7 @@
 use Rattle.std.specs.Prelude.{◌==◌, not, if◌then◌else◌, ℕ, Bool, List, [], ◌∷◌, length}
 use Rattle.std.specs.List.{list_any}
 use Rattle.layer_states.specs.Sending.{SendCall, begin, is_full}
-use Rattle.layer_states.specs.declared.sending.Outgoing.{Outgoing}
+use Rattle.mesh_types.specs.declared.events.Outgoing.{Outgoing}
 use Rattle.layer_states.specs.declared.sending.Sending.{Sending}
 use Rattle.mesh_base.specs.IvState.{transmit_of}
 use Rattle.mesh_base.specs.declared.keys.AppKeyRow.{AppKeyRow}

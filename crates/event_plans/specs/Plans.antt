@@ -28,10 +28,10 @@ use Rattle.node_models.specs.declared.due.Due.{Due}
 use Rattle.node_records.specs.Meaning.{IsMeaningOf}
 use Rattle.node_records.specs.declared.persist.Persist.{Persist}
 use Rattle.record_types.specs.declared.records.StoreRecord.{StoreRecord}
-use Rattle.run_definitions.specs.Answers.{answer_of, config_before, later}
-use Rattle.run_definitions.specs.History.{Insight, OfBeacon, OfNothing, OfPdu, Past, Told}
-use Rattle.run_definitions.specs.Readings.{Sees}
-use Rattle.run_definitions.specs.Stores.{stores}
+use Rattle.event_definitions.specs.Answers.{answer_of, config_before, later}
+use Rattle.event_definitions.specs.History.{Insight, OfBeacon, OfNothing, OfPdu, Past, Told}
+use Rattle.event_definitions.specs.Readings.{Sees}
+use Rattle.event_definitions.specs.Stores.{stores}
 use Rattle.segment_sender.specs.Held.{IsHeldWell, has_round}
 use Rattle.store_definitions.specs.Config.{Config, config_of}
 use Rattle.store_definitions.specs.Node.{IsWhole}

@@ -10,15 +10,5 @@ use Rattle.store_definitions.specs.Config.{Config}
 abbrev pub IsSendable : Config → Event → Type 0
 IsSendable c (E.Send element dst ttl key payload) =
     (c.unicast.0 + element < 2 ^ 16) × (ttl < 2 ^ 7) × (1 ≤ length payload)
-IsSendable c (E.Begin pair dst src ttl net akf aid upper) =
-    IsOutgoing
-    (record {
-      name = record { src = src; pair = pair };
-      dst = dst;
-      ttl = ttl;
-      net = net;
-      akf = akf;
-      aid = aid;
-      upper = upper;
-    })
+IsSendable c (E.Begin m) = IsOutgoing m
 IsSendable c _ = ⊤

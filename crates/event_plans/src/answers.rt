@@ -10,11 +10,10 @@ ghost use Rattle.layer_states.specs.Sending.{after};
 ghost use Rattle.node_records.specs.Tables.{config_in};
 ghost use Rattle.segment_sender.specs.Held.{IsOutgoing};
 
-use layer_states::sending::Outgoing;
 use mesh_base::keys::AppKeyRow;
 use mesh_hearing::Tables;
 use mesh_types::answers::Answer;
-use mesh_types::events::{Event, SendKey};
+use mesh_types::events::{Event, Outgoing, SendKey};
 use node_records::Persist;
 
 // Whether an application key of this index is held.

@@ -10,15 +10,13 @@ ghost use Rattle.mesh_types.specs.declared.events.Event.TheVariants as E;
 ghost use Rattle.mesh_reading.specs.Held.{held_in, opening_of};
 ghost use Rattle.node_layers.specs.NodeLayers.{node_layers};
 ghost use Rattle.node_records.specs.Tables.{config_in};
-ghost use Rattle.run_definitions.specs.Answers.{config_before};
-ghost use Rattle.run_definitions.specs.History.{Opening, Past};
-ghost use Rattle.run_definitions.specs.Jobs.{jobs_of};
+ghost use Rattle.event_definitions.specs.Answers.{config_before};
+ghost use Rattle.event_definitions.specs.History.{Opening, Past};
+ghost use Rattle.event_definitions.specs.Jobs.{jobs_of};
 
 use crate::plan::{Basis, Plan};
-use layer_states::sending::Outgoing;
 use mesh_base::keys::UpperKey;
 use mesh_base::octets::Octets;
-use mesh_base::pair::Name;
 use mesh_hearing::{Keys, Opened};
 use mesh_jobs::{begin_jobs, own_jobs, pdu_jobs, tick_jobs};
 use mesh_types::answers::Answer;
@@ -148,30 +146,7 @@ pub fn plan_jobs(draft: JobDraft, p: &Persist, keys: &Keys, event: &Event, plan:
     match event {
         Event::Net(octets) => heard_jobs(draft, p, keys, octets, plan),
         Event::Tick(ticks) => passed_jobs(draft, p, keys, *ticks, plan),
-        Event::Begin {
-            pair,
-            dst,
-            src,
-            ttl,
-            net,
-            akf,
-            aid,
-            upper,
-        } => {
-            let message = Outgoing {
-                name: Name {
-                    src: *src,
-                    pair: *pair,
-                },
-                dst: *dst,
-                ttl: *ttl,
-                net: *net,
-                akf: *akf,
-                aid: *aid,
-                upper: upper.copied(),
-            };
-            begin_jobs(draft, p, keys.nets(), &message, &plan.answer)
-        }
+        Event::Begin(message) => begin_jobs(draft, p, keys.nets(), message, &plan.answer),
         _ => own_jobs(
             draft,
             p,

@@ -12,7 +12,7 @@ ghost use Rattle.mesh_types.specs.declared.events.Event.TheVariants as E;
 ghost use Rattle.node_records.specs.Meaning.{IsSaid};
 ghost use Rattle.node_records.specs.Tables.{config_in};
 ghost use Rattle.node_records.specs.declared.persist.Persist.{Persist as PersistValue};
-ghost use Rattle.run_definitions.specs.History.{Past};
+ghost use Rattle.event_definitions.specs.History.{Past};
 ghost use Rattle.segment_sender.specs.Held.{IsOutgoing};
 
 use crate::answers::{asked_answer, begin_answer};
@@ -22,14 +22,13 @@ use crate::tables::NodeTables;
 use event_records::{Records, beacon_records, heard_records, tick_records};
 use friend_steps::{friend_steps_law, hear_friends, keep_octets, store_send};
 use iv_update::steps_law;
-use layer_states::sending::Outgoing;
 use mesh_base::address::Address;
 use mesh_base::octets::Octets;
 use mesh_base::pair::Name;
 use mesh_hearing::tables_law;
 use mesh_jobs::{Span, held_phases};
 use mesh_types::answers::Answer;
-use mesh_types::events::Event;
+use mesh_types::events::{Event, Outgoing};
 use node_models::node_models_law;
 use node_records::Persist;
 use node_records::laws::value_law;
@@ -186,9 +185,7 @@ fn plan_begin(tables: &mut NodeTables, p: &Persist, m: &Outgoing) -> Plan
     requires said { IsSaid p.now }
     requires outgoing { IsOutgoing m.now }
     ensures planned { (past : Past) → IsStanding past p.now tables.old
-        → IsPlanned past
-        (E.Begin m.now.name.pair m.now.dst m.now.name.src m.now.ttl m.now.net m.now.akf m.now.aid m.now.upper)
-        result tables.new }
+        → IsPlanned past (E.Begin m.now) result tables.new }
     ensures records { result.records ≡ [] }
     ensures fit { IsFitFor tables.new p.now }
 {
@@ -249,30 +246,7 @@ pub fn plan_event(tables: &mut NodeTables, p: &Persist, event: &Event) -> Result
         Event::Tick(ticks) => Ok(plan_tick(tables, p, *ticks)),
         Event::Send { .. } => Ok(plan_send(tables, p, event)),
         Event::Raw { .. } => Ok(own_plan(asked_answer(p, event), false)),
-        Event::Begin {
-            pair,
-            dst,
-            src,
-            ttl,
-            net,
-            akf,
-            aid,
-            upper,
-        } => {
-            let message = Outgoing {
-                name: Name {
-                    src: *src,
-                    pair: *pair,
-                },
-                dst: *dst,
-                ttl: *ttl,
-                net: *net,
-                akf: *akf,
-                aid: *aid,
-                upper: upper.copied(),
-            };
-            Ok(plan_begin(tables, p, &message))
-        }
+        Event::Begin(message) => Ok(plan_begin(tables, p, message)),
         Event::Kept {
             lpn,
             fsn,

@@ -6,7 +6,7 @@ ghost use Rattle.event_plans.specs.Memory.{AreNodeTablesOf, IsFitFor};
 ghost use Rattle.mesh_reading.specs.Held.{AreHeldKeys, held_in};
 ghost use Rattle.node_records.specs.Meaning.{IsMeaningOf, IsSaid};
 ghost use Rattle.node_records.specs.Tables.{config_in};
-ghost use Rattle.run_definitions.specs.History.{Past};
+ghost use Rattle.event_definitions.specs.History.{Past};
 
 use mesh_hearing::{Keys, Tables};
 use node_friends::NodeFriends;

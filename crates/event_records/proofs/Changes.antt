@@ -14,8 +14,8 @@ use Rattle.node_store.specs.Tie.{IsNotBelow}
 use Rattle.mesh_base.specs.declared.pair.Name.{Name}
 use Rattle.record_types.specs.declared.records.StoreRecord.{StoreRecord}
 use Rattle.record_types.specs.declared.records.StoreRecord.TheVariants as R
-use Rattle.run_definitions.specs.Fit.{AreStorable}
-use Rattle.run_safety.specs.Safety.{IsChange}
+use Rattle.event_definitions.specs.Fit.{AreStorable}
+use Rattle.event_definitions.specs.Safe.{IsChange}
 use Rattle.store_definitions.specs.Config.{Config, apps_after, binds_after, changed, config_of, labels_after, nets_after, publication_index, subs_after}
 use Rattle.store_definitions.specs.Following.{PassesLimit}
 use Rattle.store_definitions.specs.Ranges.{IsInRange}

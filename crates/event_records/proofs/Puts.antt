@@ -17,7 +17,7 @@ use Rattle.node_records.specs.Tables.{config_in}
 use Rattle.node_records.specs.declared.persist.Persist.{Persist}
 use Rattle.record_types.specs.declared.records.StoreRecord.{StoreRecord}
 use Rattle.record_types.specs.declared.records.StoreRecord.TheVariants as R
-use Rattle.run_definitions.specs.Stores.{phase_records}
+use Rattle.event_definitions.specs.Stores.{phase_records}
 use Rattle.store_definitions.specs.Config.{Config, change_net, changed, finished_net}
 use Rattle.store_definitions.specs.Numbers.{moved}
 use Rattle.store_definitions.specs.Ranges.{IsMark}

@@ -3,9 +3,9 @@ use Rattle.std.specs.Prelude.{◌≡◌, ⊤, List}
 use Rattle.mesh_types.specs.declared.answers.Answer.{Answer}
 use Rattle.mesh_types.specs.declared.answers.Answer.TheVariants as A
 use Rattle.record_types.specs.declared.records.StoreRecord.{StoreRecord}
-use Rattle.run_definitions.specs.History.{Insight, Past}
-use Rattle.run_definitions.specs.Layers.{Layers}
-use Rattle.run_definitions.specs.Stores.{asked, message_of}
+use Rattle.event_definitions.specs.History.{Insight, Past}
+use Rattle.event_definitions.specs.Layers.{Layers}
+use Rattle.event_definitions.specs.Stores.{asked, message_of}
 
 -- These are the records that a delivered message asks for; no other answer has any.
 abbrev pub AreAskedFor : Layers → Past → Insight → Answer → List StoreRecord → Type 0

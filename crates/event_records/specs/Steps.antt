@@ -9,7 +9,7 @@ use Rattle.mesh_types.specs.declared.answers.Answer.{Answer}
 use Rattle.mesh_types.specs.declared.answers.Answer.TheVariants as A
 use Rattle.record_types.specs.declared.records.StoreRecord.{StoreRecord}
 use Rattle.record_types.specs.declared.records.StoreRecord.TheVariants as R
-use Rattle.run_definitions.specs.Stores.{step_records}
+use Rattle.event_definitions.specs.Stores.{step_records}
 use Rattle.store_definitions.specs.Config.{Config}
 
 -- the state that a step leads to, if it leads to one, may follow this one

@@ -8,10 +8,10 @@ ghost use Rattle.event_records.specs.Steps.{IsStepFrom, LeadsOn};
 ghost use Rattle.mesh_types.specs.declared.events.Event.TheVariants as E;
 ghost use Rattle.node_records.specs.Meaning.{IsSaid};
 ghost use Rattle.node_records.specs.Tables.{config_in};
-ghost use Rattle.run_definitions.specs.Answers.{config_before};
-ghost use Rattle.run_definitions.specs.History.{Insight, Past};
-ghost use Rattle.run_definitions.specs.Layers.{Layers};
-ghost use Rattle.run_definitions.specs.Stores.{phase_records, step_records, stores};
+ghost use Rattle.event_definitions.specs.Answers.{config_before};
+ghost use Rattle.event_definitions.specs.History.{Insight, Past};
+ghost use Rattle.event_definitions.specs.Layers.{Layers};
+ghost use Rattle.event_definitions.specs.Stores.{phase_records, step_records, stores};
 
 use crate::Records;
 use crate::numbers::{add, step_record};
@@ -70,7 +70,7 @@ fn step_and_phase(p: &Persist, index: u16, key: KeyStep, iv: &IvStep) -> Records
 /// What a beacon heard stores, by its answer: the record of the phase of its network key, if that changes, and then that of a new IV state, if
 /// there is one. `p` is what the records before the event say. Each record may be put behind those before it,
 /// and that of a new IV state is a move to a state that may follow.
-#[tactic(auto, unfolding(run_definitions::specs::Stores::stores))]
+#[tactic(auto, unfolding(event_definitions::specs::Stores::stores))]
 pub fn beacon_records(p: &Persist, answer: &Answer) -> Records
     requires said { IsSaid p.now }
     requires step { IsStepFrom p.now.iv answer.now }

@@ -11,8 +11,8 @@ ghost use Rattle.node_records.specs.Meaning.{IsSaid};
 ghost use Rattle.node_records.specs.Tables.{config_in};
 ghost use Rattle.node_records.specs.declared.persist.Persist.{Persist};
 ghost use Rattle.record_types.specs.declared.records.StoreRecord.{StoreRecord};
-ghost use Rattle.run_definitions.specs.Fit.{AreStorable};
-ghost use Rattle.run_safety.specs.Safety.{IsChange};
+ghost use Rattle.event_definitions.specs.Fit.{AreStorable};
+ghost use Rattle.event_definitions.specs.Safe.{IsChange};
 ghost use Rattle.store_definitions.specs.Config.{Config, config_of};
 
 /// The law of indexes, for proofs: it does nothing. The index of each network key that records in range say has 12 bits, and so has that of

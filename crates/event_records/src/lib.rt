@@ -1,4 +1,4 @@
-//! What an event stores, in the order in which it is put: the very records that the definitions of a run say (`run_definitions`,
+//! What an event stores, in the order in which it is put: the very records that the definitions of a run say (`event_definitions`,
 //! `specs/Stores.antt`). There is no flash here: the records come as values, with what the store asks of them.
 //!
 //! - `numbers`: the record of a new IV state

@@ -10,10 +10,10 @@ ghost use Rattle.node_records.specs.Full.{IsFull};
 ghost use Rattle.node_records.specs.Tables.{config_in};
 ghost use Rattle.node_records.specs.declared.persist.Persist.{Persist};
 ghost use Rattle.record_types.specs.declared.records.StoreRecord.TheVariants as R;
-ghost use Rattle.run_definitions.specs.History.{Insight, Past};
-ghost use Rattle.run_definitions.specs.Layers.{Layers};
-ghost use Rattle.run_definitions.specs.Stores.{stores};
-ghost use Rattle.run_definitions.specs.Uses.{accepted};
+ghost use Rattle.event_definitions.specs.History.{Insight, Past};
+ghost use Rattle.event_definitions.specs.Layers.{Layers};
+ghost use Rattle.event_definitions.specs.Stores.{stores};
+ghost use Rattle.event_definitions.specs.Answers.{accepted};
 ghost use Rattle.store_definitions.specs.Config.{Config};
 ghost use Rattle.store_definitions.specs.Ranges.{IsInRange};
 
@@ -39,7 +39,7 @@ fn named_records(first: Name, changes: &Changes) -> Records
 /// What a network PDU heard stores, by its answer: the name of an accepted message, and behind it what a delivered message asks for, which is
 /// `changes` in layers of any kind. The name is in range, as its SEQ has 24 bits. Where the replay list has a place for it, and the changes may
 /// be put over what the records say, so may all of them; and they are moves where the changes are.
-#[tactic(auto, unfolding(run_definitions::specs::Stores::stores))]
+#[tactic(auto, unfolding(event_definitions::specs::Stores::stores))]
 pub fn heard_records(answer: &Answer, changes: &Changes) -> Records
     requires { IfSome (accepted answer.now) (λ (name : Name). name.pair.seq < 2 ^ 24) }
     ensures value { (layers : Layers) (past : Past) (octets : List ℕ) (insight : Insight)

@@ -9,7 +9,7 @@ ghost use Rattle.iv_update.specs.Steps.{IsLater};
 ghost use Rattle.mesh_base.specs.IvState.{HasTransmit, transmit_of};
 ghost use Rattle.node_records.specs.Tables.{config_in};
 ghost use Rattle.node_records.specs.declared.persist.Persist.{Persist};
-ghost use Rattle.run_definitions.specs.Stores.{step_records};
+ghost use Rattle.event_definitions.specs.Stores.{step_records};
 ghost use Rattle.store_definitions.specs.Config.{Config};
 ghost use Rattle.store_definitions.specs.Numbers.{moved as moved_in};
 ghost use Rattle.store_definitions.specs.Ranges.{IsMark};

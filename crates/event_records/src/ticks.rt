@@ -7,10 +7,10 @@ ghost use Rattle.event_records.specs.Steps.{hour_records as hour_records_in};
 ghost use Rattle.mesh_types.specs.declared.events.Event.TheVariants as E;
 ghost use Rattle.node_records.specs.Meaning.{IsSaid};
 ghost use Rattle.node_records.specs.Tables.{config_in};
-ghost use Rattle.run_definitions.specs.Answers.{config_before, is_busy, later};
-ghost use Rattle.run_definitions.specs.History.{Insight, Past, now_of};
-ghost use Rattle.run_definitions.specs.Layers.{Layers};
-ghost use Rattle.run_definitions.specs.Stores.{stores};
+ghost use Rattle.event_definitions.specs.Answers.{config_before, is_busy, later};
+ghost use Rattle.event_definitions.specs.History.{Insight, Past, now_of};
+ghost use Rattle.event_definitions.specs.Layers.{Layers};
+ghost use Rattle.event_definitions.specs.Stores.{stores};
 
 use crate::Records;
 use crate::numbers::{add, step_record};
@@ -60,7 +60,7 @@ fn hour_records(p: &Persist, passed: u32, busy: bool) -> Records
 /// What a tick event stores, from the ticks of this life before it to those after it, at most 2^48: where hours passed, their record, and then
 /// that of a new IV state, if there is one. `p` is what the records before the event say, and `busy` says that an own segmented message is
 /// unacknowledged. Each record may be put behind those before it, and that of a new IV state is a move to a state that may follow.
-#[tactic(auto, unfolding(run_definitions::specs::Stores::stores))]
+#[tactic(auto, unfolding(event_definitions::specs::Stores::stores))]
 pub fn tick_records(p: &Persist, from: u64, to: u64, busy: bool, answer: &Answer) -> Records
     requires said { IsSaid p.now }
     requires time { to ≤ 2 ^ 48 }

@@ -19,11 +19,11 @@ use Rattle.node_records.specs.Tables.{pair_of}
 use Rattle.node_records.specs.declared.persist.Persist.{Persist}
 use Rattle.record_types.specs.declared.records.StoreRecord.{StoreRecord}
 use Rattle.record_types.specs.declared.records.StoreRecord.TheVariants as R
-use Rattle.run_definitions.specs.History.{Insight, Past}
-use Rattle.run_definitions.specs.Layers.{AccessMessage}
-use Rattle.run_definitions.specs.Stores.{asked, message_of, stores}
-use Rattle.run_definitions.specs.Uses.{accepted}
-use Rattle.run_safety.specs.Safety.{AreSafe, IsChange}
+use Rattle.event_definitions.specs.History.{Insight, Past}
+use Rattle.event_definitions.specs.Layers.{AccessMessage}
+use Rattle.event_definitions.specs.Stores.{asked, message_of, stores}
+use Rattle.event_definitions.specs.Answers.{accepted}
+use Rattle.event_definitions.specs.Safe.{AreSafe, IsChange}
 use Rattle.store_definitions.specs.Config.{Config, changed, config_of, no_config}
 use Rattle.store_definitions.specs.Entries.{kept_after, kept_of, unexpired}
 

@@ -29,14 +29,13 @@ use Rattle.node_records.specs.Tables.{config_in, entry_in, pair_of}
 use Rattle.node_records.specs.declared.persist.Persist.{Persist}
 use Rattle.record_types.specs.declared.records.StoreRecord.{StoreRecord}
 use Rattle.record_types.specs.declared.records.StoreRecord.TheVariants as R
-use Rattle.run_definitions.proofs.Accepting.{AcceptedFrom}
-use Rattle.run_definitions.specs.Answers.{answer_of, beacon_answer, config_before, later, pdu_answer, replayed}
-use Rattle.run_definitions.specs.History.{Insight, OfBeacon, OfNothing, OfPdu, Opening, Past, Reading}
-use Rattle.run_definitions.specs.Readings.{Sees, sees_pdu, sees_beacon, sees_nothing, IsReading}
-use Rattle.run_definitions.specs.Stores.{hours_passed, hours_step, phase_records, step_records, stores}
-use Rattle.run_definitions.specs.Uses.{accepted}
-use Rattle.run_safety.specs.Safety.{AreSafe, IsChange}
-use Rattle.run_safety.proofs.Accepting.{Silent, silent, beacon_silent, nothing_accepted, nothing_silent, pdu_accepts, reset_accepts, unless_silent}
+use Rattle.event_definitions.proofs.Accepting.{AcceptedFrom}
+use Rattle.event_definitions.specs.Answers.{accepted, answer_of, beacon_answer, config_before, later, pdu_answer, replayed}
+use Rattle.event_definitions.specs.History.{Insight, OfBeacon, OfNothing, OfPdu, Opening, Past, Reading}
+use Rattle.event_definitions.specs.Readings.{Sees, sees_pdu, sees_beacon, sees_nothing, IsReading}
+use Rattle.event_definitions.specs.Stores.{hours_passed, hours_step, phase_records, step_records, stores}
+use Rattle.event_definitions.specs.Safe.{AreSafe, IsChange}
+use Rattle.event_definitions.proofs.Events.{Silent, silent, beacon_silent, nothing_accepted, nothing_silent, pdu_accepts, reset_accepts, unless_silent}
 use Rattle.store_definitions.specs.Config.{Config, changed, config_of}
 use Rattle.store_definitions.specs.Entries.{entry_of, unexpired}
 use Rattle.store_definitions.specs.Ranges.{IsInRange}
@@ -109,8 +108,8 @@ own_silent past (E.Tick ticks) i h = absurd h
 own_silent past (E.Send element dst ttl key payload) i h =
     record { nameless = tt; none = silent_none _ (nothing_silent node_layers past (E.Send element dst ttl key payload)) }
 own_silent past (E.Raw dst ttl tpdu) i h = record { nameless = tt; none = silent_none _ (nothing_silent node_layers past (E.Raw dst ttl tpdu)) }
-own_silent past (E.Begin pair dst src ttl net akf aid upper) i h =
-    record { nameless = tt; none = silent_none _ (nothing_silent node_layers past (E.Begin pair dst src ttl net akf aid upper)) }
+own_silent past (E.Begin m) i h =
+    record { nameless = tt; none = silent_none _ (nothing_silent node_layers past (E.Begin m)) }
 own_silent past (E.Kept lpn fsn name pdu) i h =
     record { nameless = tt; none = silent_none _ (nothing_silent node_layers past (E.Kept lpn fsn name pdu)) }
 
@@ -228,8 +227,8 @@ module _ (safe : AreSafe node_layers) (w : World) (past : Past) (p q : Persist) 
   goes_now (E.Send element dst ttl key payload) i sees moves after =
       by_silence (E.Send element dst ttl key payload) i (own_silent past (E.Send element dst ttl key payload) i tt) moves after
   goes_now (E.Raw dst ttl tpdu) i sees moves after = by_silence (E.Raw dst ttl tpdu) i (own_silent past (E.Raw dst ttl tpdu) i tt) moves after
-  goes_now (E.Begin pair dst src ttl net akf aid upper) i sees moves after =
-      by_silence (E.Begin pair dst src ttl net akf aid upper) i (own_silent past (E.Begin pair dst src ttl net akf aid upper) i tt) moves after
+  goes_now (E.Begin m) i sees moves after =
+      by_silence (E.Begin m) i (own_silent past (E.Begin m) i tt) moves after
   goes_now (E.Kept lpn fsn name pdu) i sees moves after =
       by_silence (E.Kept lpn fsn name pdu) i (own_silent past (E.Kept lpn fsn name pdu) i tt) moves after
 

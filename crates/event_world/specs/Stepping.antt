@@ -13,11 +13,10 @@ use Rattle.node_records.specs.Tables.{config_in}
 use Rattle.node_records.specs.declared.persist.Persist.{Persist}
 use Rattle.record_types.specs.declared.records.StoreRecord.{StoreRecord}
 use Rattle.record_types.specs.declared.records.StoreRecord.TheVariants as R
-use Rattle.run_definitions.specs.Answers.{answer_of}
-use Rattle.run_definitions.specs.History.{Insight, Past}
-use Rattle.run_definitions.specs.Readings.{Sees}
-use Rattle.run_definitions.specs.Stores.{stores}
-use Rattle.run_definitions.specs.Uses.{accepted}
+use Rattle.event_definitions.specs.Answers.{accepted, answer_of}
+use Rattle.event_definitions.specs.History.{Insight, Past}
+use Rattle.event_definitions.specs.Readings.{Sees}
+use Rattle.event_definitions.specs.Stores.{stores}
 use Rattle.store_definitions.specs.Config.{Config, changed}
 use Rattle.store_world.specs.Standing.{GoesBy}
 

@@ -16,10 +16,10 @@ ghost use Rattle.node_layers.specs.NodeLayers.{node_layers};
 ghost use Rattle.node_records.specs.Meaning.{IsMeaningOf};
 ghost use Rattle.node_records.specs.Tables.{config_in};
 ghost use Rattle.node_records.specs.declared.persist.Persist.{Persist};
-ghost use Rattle.run_definitions.specs.Answers.{answer_of};
-ghost use Rattle.run_definitions.specs.History.{Insight, Past};
-ghost use Rattle.run_definitions.specs.Readings.{Sees};
-ghost use Rattle.run_definitions.specs.Stores.{stores};
+ghost use Rattle.event_definitions.specs.Answers.{answer_of};
+ghost use Rattle.event_definitions.specs.History.{Insight, Past};
+ghost use Rattle.event_definitions.specs.Readings.{Sees};
+ghost use Rattle.event_definitions.specs.Stores.{stores};
 ghost use Rattle.store_definitions.specs.Ranges.{IsInRange};
 ghost use Rattle.store_world.specs.Standing.{GoesBy, IsWorldOf};
 

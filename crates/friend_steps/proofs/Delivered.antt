@@ -4,7 +4,7 @@ use Rattle.friend_steps.specs.Hearing.{delivered_from}
 use Rattle.mesh_types.specs.declared.answers.Answer.{Answer}
 use Rattle.mesh_types.specs.declared.answers.Answer.TheVariants as A
 use Rattle.node_layers.specs.Models.{delivered_by}
-use Rattle.run_definitions.specs.History.{Insight, Told}
+use Rattle.event_definitions.specs.History.{Insight, Told}
 
 by_answer : (t : Told) (a : Answer) → delivered_by (record t { entry = record t.entry { answer = a } }) ≡ delivered_from t.insight a
 by_answer t (A.Delivered name dst key payload) = refl

@@ -31,10 +31,10 @@ use Rattle.node_records.specs.Meaning.{IsMeaningOf}
 use Rattle.node_records.specs.Tables.{config_in}
 use Rattle.node_records.specs.declared.persist.Persist.{Persist}
 use Rattle.record_types.specs.declared.records.StoreRecord.{StoreRecord}
-use Rattle.run_definitions.specs.Answers.{config_before}
-use Rattle.run_definitions.specs.History.{Insight, OfBeacon, OfNothing, OfPdu, Past, Told, now_of}
-use Rattle.run_definitions.specs.Layers.{AccessMessage}
-use Rattle.run_definitions.specs.Stores.{message_of}
+use Rattle.event_definitions.specs.Answers.{config_before}
+use Rattle.event_definitions.specs.History.{Insight, OfBeacon, OfNothing, OfPdu, Past, Told, now_of}
+use Rattle.event_definitions.specs.Layers.{AccessMessage}
+use Rattle.event_definitions.specs.Stores.{message_of}
 use Rattle.store_definitions.specs.Config.{Config}
 
 -- What a control message led to.

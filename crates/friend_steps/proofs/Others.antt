@@ -16,15 +16,15 @@ use Rattle.node_layers.specs.NodeLayers.{node_layers}
 use Rattle.node_layers.specs.Models.{delivered_by}
 use Rattle.node_models.specs.Models.{is_ticked}
 use Rattle.record_types.specs.declared.records.StoreRecord.{StoreRecord}
-use Rattle.run_definitions.specs.Answers.{config_before}
-use Rattle.run_definitions.specs.Handling.{past_of}
-use Rattle.run_definitions.specs.History.{Insight, OfBeacon, OfNothing, OfPdu, Past, Told}
+use Rattle.event_definitions.specs.Answers.{config_before}
+use Rattle.event_definitions.specs.Handling.{past_of}
+use Rattle.event_definitions.specs.History.{Insight, OfBeacon, OfNothing, OfPdu, Past, Told}
 use Rattle.friend_steps.proofs.Delivered.{delivered_is}
 use Rattle.friend_steps.specs.Hearing.{delivered_from}
 use Rattle.store_definitions.specs.Config.{Config}
 use Rattle.std.specs.Option.{option_map_or}
 use Rattle.layer_definitions.specs.ControlReading.{control_of}
-use Rattle.run_definitions.specs.Layers.{AccessMessage}
+use Rattle.event_definitions.specs.Layers.{AccessMessage}
 
 -- An entry whose octets aren't those of a network PDU delivers no message.
 none_delivered : (i : Insight) (a : Answer) → has_reading i ≡ false → delivered_from i a ≡ None

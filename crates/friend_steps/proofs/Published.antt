@@ -24,8 +24,8 @@ use Rattle.node_records.specs.Tables.{config_in}
 use Rattle.node_records.specs.declared.persist.Persist.{Persist}
 use Rattle.record_types.specs.declared.records.PublishRow.{PublishRow}
 use Rattle.record_types.specs.declared.records.StoreRecord.{StoreRecord}
-use Rattle.run_definitions.specs.Answers.{config_before}
-use Rattle.run_definitions.specs.History.{Insight, OfNothing, Past, Told, now_of}
+use Rattle.event_definitions.specs.Answers.{config_before}
+use Rattle.event_definitions.specs.History.{Insight, OfNothing, Past, Told, now_of}
 use Rattle.store_definitions.specs.Config.{Config}
 
 -- A row to an address of no friendship leaves them.

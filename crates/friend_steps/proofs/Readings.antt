@@ -29,11 +29,11 @@ use Rattle.network_layer.specs.declared.reading.NetReading.{NetReading}
 use Rattle.node_layers.proofs.FriendKeys.{friend_nids}
 use Rattle.node_layers.specs.Friendship.{friend_keys}
 use Rattle.node_layers.specs.NodeLayers.{node_layers}
-use Rattle.run_definitions.specs.Answers.{config_before, lower_answer, message_name}
-use Rattle.run_definitions.specs.History.{Insight, OfNothing, OfPdu, Opening, Past, Reading}
-use Rattle.run_definitions.specs.Layers.{Layers}
-use Rattle.run_definitions.specs.Readings.{IsOpened, IsOpenedByLabel, IsOpenedFor, IsOpenedUnder, IsOpening, IsOpeningOf, IsReading, Sees, fields_heard, keys_heard, keys_tried, labels_tried, sees_pdu}
-use Rattle.run_safety.proofs.Lists.{every_append}
+use Rattle.event_definitions.specs.Answers.{config_before, lower_answer, message_name}
+use Rattle.event_definitions.specs.History.{Insight, OfNothing, OfPdu, Opening, Past, Reading}
+use Rattle.event_definitions.specs.Layers.{Layers}
+use Rattle.event_definitions.specs.Readings.{IsOpened, IsOpenedByLabel, IsOpenedFor, IsOpenedUnder, IsOpening, IsOpeningOf, IsReading, Sees, fields_heard, keys_heard, keys_tried, labels_tried, sees_pdu}
+use Rattle.event_definitions.proofs.Each.{every_append}
 use Rattle.store_definitions.specs.Config.{Config}
 
 -- The NID that octets were read under.

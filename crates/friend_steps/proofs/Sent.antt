@@ -19,7 +19,7 @@ use Rattle.node_friends.proofs.Steps.{stored_more}
 use Rattle.node_friends.specs.Steps.{after_sent}
 use Rattle.node_layers.specs.Friendship.{is_short, stored}
 use Rattle.node_models.specs.Replies.{from_first}
-use Rattle.run_definitions.specs.Layers.{AccessMessage}
+use Rattle.event_definitions.specs.Layers.{AccessMessage}
 
 pub sent_append : (st : FriendsState) (xs ys : List OwnShort) → after_sent st (xs ++ ys) ≡ after_sent (after_sent st xs) ys
 sent_append st xs ys =

@@ -22,11 +22,11 @@ use Rattle.node_models.specs.Replies.{replies_in}
 use Rattle.node_models.specs.declared.taken.MessageReplies.{MessageReplies}
 use Rattle.node_records.specs.Meaning.{IsMeaningOf}
 use Rattle.node_records.specs.declared.persist.Persist.{Persist}
-use Rattle.run_definitions.specs.Answers.{config_before}
-use Rattle.run_definitions.specs.History.{Insight, OfPdu, Past, now_of}
-use Rattle.run_definitions.specs.Layers.{AccessMessage}
-use Rattle.run_definitions.specs.Readings.{Sees}
-use Rattle.run_definitions.specs.Stores.{message_of}
+use Rattle.event_definitions.specs.Answers.{config_before}
+use Rattle.event_definitions.specs.History.{Insight, OfPdu, Past, now_of}
+use Rattle.event_definitions.specs.Layers.{AccessMessage}
+use Rattle.event_definitions.specs.Readings.{Sees}
+use Rattle.event_definitions.specs.Stores.{message_of}
 use Rattle.store_definitions.specs.Config.{Config}
 
 -- the message that an answer delivered, as its octets opened

@@ -6,7 +6,7 @@ use Rattle.mesh_types.specs.declared.answers.Answer.TheVariants as A
 use Rattle.mesh_types.specs.declared.events.Event.{Event}
 use Rattle.mesh_types.specs.declared.events.Event.TheVariants as E
 use Rattle.node_friends.specs.Steps.{AreFriendsOf}
-use Rattle.run_definitions.specs.History.{Insight, OfPdu, Told}
+use Rattle.event_definitions.specs.History.{Insight, OfPdu, Told}
 
 -- whether octets were read as a network PDU
 abbrev pub has_reading : Insight → Bool

@@ -4,7 +4,7 @@ use Rattle.layer_states.specs.Friends.{FriendsState, after, end_all}
 use Rattle.layer_states.specs.declared.friends.OwnShort.{OwnShort}
 use Rattle.mesh_base.specs.declared.address.Address.{Address}
 use Rattle.node_friends.specs.Steps.{after_sent}
-use Rattle.run_definitions.specs.Layers.{AccessMessage}
+use Rattle.event_definitions.specs.Layers.{AccessMessage}
 
 -- where a message ends the friendships, it does so before its replies
 abbrev pub ended : Bool → FriendsState → FriendsState

@@ -15,7 +15,7 @@ ghost use Rattle.node_friends.specs.Steps.{AreFriendsOf, heard_step};
 ghost use Rattle.node_models.specs.Models.{is_ticked};
 ghost use Rattle.node_models.specs.Replies.{replies_in};
 ghost use Rattle.node_records.specs.Tables.{config_in};
-ghost use Rattle.run_definitions.specs.History.{Past, Told};
+ghost use Rattle.event_definitions.specs.History.{Past, Told};
 
 use crate::replying::{ReplyTo, store_replies};
 use mesh_hearing::Hearing;

@@ -15,8 +15,8 @@ ghost use Rattle.node_friends.specs.Steps.{AreFriendsOf, after_sent};
 ghost use Rattle.node_models.specs.Due.{IsDue, ShowsOctet};
 ghost use Rattle.node_records.specs.Meaning.{IsMeaningOf, IsSaid};
 ghost use Rattle.node_records.specs.Tables.{config_in};
-ghost use Rattle.run_definitions.specs.Answers.{config_before};
-ghost use Rattle.run_definitions.specs.History.{OfNothing, Past, Told, now_of};
+ghost use Rattle.event_definitions.specs.Answers.{config_before};
+ghost use Rattle.event_definitions.specs.History.{OfNothing, Past, Told, now_of};
 ghost use Rattle.store_definitions.specs.Config.{Config};
 
 use app_keys::AppKeys;

@@ -14,7 +14,7 @@ ghost use Rattle.node_layers.specs.NodeLayers.{node_layers};
 ghost use Rattle.node_models.specs.Models.{is_ticked};
 ghost use Rattle.node_records.specs.Meaning.{IsMeaningOf};
 ghost use Rattle.node_records.specs.Tables.{config_in};
-ghost use Rattle.run_definitions.specs.History.{OfNothing, Past, Told};
+ghost use Rattle.event_definitions.specs.History.{OfNothing, Past, Told};
 
 use crate::short::short_payload;
 use app_keys::AppKeys;

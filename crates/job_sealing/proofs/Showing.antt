@@ -9,12 +9,12 @@ use Rattle.mesh_types.specs.declared.events.SendKey.{SendKey}
 use Rattle.mesh_types.specs.declared.jobs.Job.TheVariants as J
 use Rattle.mesh_types.specs.declared.lines.Outcome.TheVariants as O
 use Rattle.job_sealing.specs.declared.messages.Access.{Access}
-use Rattle.job_sealing.specs.declared.segments.Segment.{Segment}
-use Rattle.job_sealing.specs.Sealed.{IsSentLine, begins, long_outcome, segment_outcome, short_outcome}
+use Rattle.job_sealing.specs.Sealed.{IsSentLine, begins, long_outcome, short_outcome}
 use Rattle.mesh_types.specs.declared.events.Event.{Event}
 use Rattle.mesh_types.specs.declared.jobs.Job.{Job}
+use Rattle.mesh_types.specs.declared.jobs.Segment.{Segment}
 use Rattle.mesh_types.specs.declared.lines.Outcome.{Outcome}
-use Rattle.run_definitions.specs.Lines.{Shows, after_line, drawn_of, is_late, shows_late, shows_seg, shows_sent, shows_sent_long}
+use Rattle.run_definitions.specs.Lines.{Shows, after_line, drawn_of, is_late, segment_outcome, shows_late, shows_seg, shows_sent, shows_sent_long}
 
 pub shown : (event : Event) (job job' : Job) (o o' : Outcome) → job ≡ job' → o ≡ o' → Shows event job' o' → Shows event job o
 shown event job job' o o' j e h = subst (λ x. Shows event x o) (sym j) (subst (λ x. Shows event job' x) (sym e) h)
@@ -45,11 +45,11 @@ module _ (event : Event) (a : Access) (element hops : ℕ) (at : Address) (with 
     after = n ∙ sym (ap (after_line job) h);
   }
 
-later_by : (event : Event) (s : Segment) (pair : Pair) (tpdu : List ℕ) (b : Bool) → is_late s.name.pair pair ≡ b
-    → Shows event (J.Segment s.material s.name s.ttl s.src s.dst s.seg_o s.seg_n tpdu false) (if b then O.Late pair else segment_outcome s pair tpdu)
-later_by event s pair tpdu true e = shows_late e
-later_by event s pair tpdu false e = shows_seg e
+later_by : (event : Event) (s : Segment) (pair : Pair) (b : Bool) → s.first ≡ false → is_late s.name.pair pair ≡ b
+    → Shows event (J.Segment s) (if b then O.Late pair else segment_outcome s pair)
+later_by event s pair true later e = shows_late later e
+later_by event s pair false later e = shows_seg later e
 
-pub later_shows : (event : Event) (s : Segment) (pair : Pair) (tpdu : List ℕ)
-    → Shows event (J.Segment s.material s.name s.ttl s.src s.dst s.seg_o s.seg_n tpdu false) (if is_late s.name.pair pair then O.Late pair else segment_outcome s pair tpdu)
-later_shows event s pair tpdu = later_by event s pair tpdu (is_late s.name.pair pair) refl
+pub later_shows : (event : Event) (s : Segment) (pair : Pair) → s.first ≡ false
+    → Shows event (J.Segment s) (if is_late s.name.pair pair then O.Late pair else segment_outcome s pair)
+later_shows event s pair later = later_by event s pair (is_late s.name.pair pair) later refl

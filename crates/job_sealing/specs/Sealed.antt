@@ -6,16 +6,14 @@ use Rattle.mesh_types.specs.declared.jobs.Job.TheVariants as J
 use Rattle.run_definitions.specs.Lines.{Shows, after_line, drawn_of}
 use Rattle.std.specs.Prelude.{Some}
 use Rattle.layer_definitions.specs.Network.{net_text}
-use Rattle.mesh_base.specs.declared.pair.Pair.{Pair}
 use Rattle.mesh_types.specs.declared.events.Event.{Event}
 use Rattle.mesh_types.specs.declared.lines.Outcome.{Outcome}
 use Rattle.mesh_types.specs.declared.lines.Outcome.TheVariants as O
 use Rattle.mesh_types.specs.KeyName.{key_name_of}
 use Rattle.run_definitions.specs.Lines.{begin_event}
-use Rattle.run_definitions.specs.Seals.{message_fields, own_fields}
+use Rattle.run_definitions.specs.Seals.{message_fields}
 use Rattle.machine_contract.specs.Ranges.{IsUpperKey}
 use Rattle.job_sealing.specs.declared.messages.Access.{Access}
-use Rattle.job_sealing.specs.declared.segments.Segment.{Segment}
 
 -- an access message that can be sealed
 pub record IsAccess (a : Access) : Type 0 where
@@ -36,12 +34,6 @@ long_outcome a payload = O.Long a.pair a.ttl a.src a.dst (key_name_of a.key) pay
 
 abbrev pub begins : Access → List ℕ → Event
 begins a payload = begin_event a.net a.key a.pair a.ttl a.src a.dst payload
-
--- a segment under a pair
-abbrev pub segment_outcome : Segment → Pair → List ℕ → Outcome
-segment_outcome s pair tpdu =
-    O.Seg pair s.ttl s.src s.dst s.seg_o s.seg_n s.name.pair.seq
-    (net_text s.material (own_fields pair false s.ttl s.src s.dst tpdu))
 
 -- an event whose payload is sent
 abbrev pub IsPayloadOf : Event → Type 0

@@ -13,7 +13,7 @@ ghost use Rattle.machine_contract.specs.Ranges.{IsEvent, IsJob};
 ghost use Rattle.job_sealing.specs.Sealed.{IsAccess, IsPayloadOf, IsSentLine};
 
 use crate::messages::{Access, UNSEGMENTED, long_line, short_line};
-use crate::segments::{Segment, later_segment, segment_line};
+use crate::segments::{later_segment, segment_line};
 use mesh_base::address::Address;
 use mesh_base::fields::{NetFields, NetMaterial};
 use mesh_base::octets::Octets;
@@ -38,7 +38,7 @@ pub fn draws(job: &Job) -> bool
 {
     match job {
         Job::Control { .. } | Job::Message { .. } | Job::Sent { .. } => true,
-        Job::Segment { first, .. } => !*first,
+        Job::Segment(segment) => !segment.first,
         Job::Relay { .. } | Job::Repeat { .. } | Job::Beacon(_) => false,
     }
 }
@@ -53,28 +53,7 @@ pub fn plain_line(event: &Event, job: &Job) -> Outcome
 {
     match job {
         Job::Relay { material, fields } => relayed(material, fields),
-        Job::Segment {
-            material,
-            name,
-            ttl,
-            src,
-            dst,
-            seg_o,
-            seg_n,
-            tpdu,
-            first: _,
-        } => {
-            let segment = Segment {
-                material: *material,
-                name: *name,
-                ttl: *ttl,
-                src: *src,
-                dst: *dst,
-                seg_o: *seg_o,
-                seg_n: *seg_n,
-            };
-            segment_line(&segment, name.pair, tpdu)
-        }
+        Job::Segment(segment) => segment_line(segment, segment.name.pair),
         Job::Repeat { name, pdu } => Outcome::Rep {
             name: *name,
             pdu: pdu.copied(),
@@ -148,31 +127,10 @@ pub fn drawn_line(event: &Event, job: &Job, pair: Pair) -> Line
             };
             sent_line(event, &access)
         }
-        Job::Segment {
-            material,
-            name,
-            ttl,
-            src,
-            dst,
-            seg_o,
-            seg_n,
-            tpdu,
-            first: _,
-        } => {
-            let segment = Segment {
-                material: *material,
-                name: *name,
-                ttl: *ttl,
-                src: *src,
-                dst: *dst,
-                seg_o: *seg_o,
-                seg_n: *seg_n,
-            };
-            Line {
-                outcome: later_segment(&segment, pair, tpdu),
-                next: None,
-            }
-        }
+        Job::Segment(segment) => Line {
+            outcome: later_segment(segment, pair),
+            next: None,
+        },
         Job::Relay { .. } | Job::Repeat { .. } | Job::Beacon(_) => unreachable!(),
     }
 }

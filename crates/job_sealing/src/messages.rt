@@ -21,7 +21,7 @@ use mesh_base::octets::Octets;
 use mesh_base::pair::{Name, Pair};
 use mesh_base::upper::UpperFields;
 use mesh_types::answers::KeyName;
-use mesh_types::events::Event;
+use mesh_types::events::{Event, Outgoing};
 use mesh_types::lines::Outcome;
 use network_layer::seal;
 use upper_transport::seal_access;
@@ -153,16 +153,18 @@ pub fn long_line(access: &Access, payload: &[u8]) -> Line
     let mut text = Octets::new();
     text.extend(payload);
     Line {
-        next: Some(Event::Begin {
-            pair: access.pair,
+        next: Some(Event::Begin(Outgoing {
+            name: Name {
+                src: access.src,
+                pair: access.pair,
+            },
             dst: access.dst,
-            src: access.src,
             ttl: access.ttl,
             net: access.net,
             akf,
             aid,
             upper: upper_of(access, payload),
-        }),
+        })),
         outcome: Outcome::Long {
             pair: access.pair,
             ttl: access.ttl,

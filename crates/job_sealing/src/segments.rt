@@ -3,37 +3,16 @@
 
 ghost use Rattle.std.specs.Prelude.{◌≡◌, ◌+◌, ◌^◌, ◌<◌, ◌≤◌, length, if◌then◌else◌};
 ghost use Rattle.mesh_types.specs.declared.lines.Outcome.TheVariants as O;
-ghost use Rattle.run_definitions.specs.Lines.{is_late};
-ghost use Rattle.job_sealing.specs.Sealed.{segment_outcome};
+ghost use Rattle.run_definitions.specs.Lines.{is_late, segment_outcome};
 
-use mesh_base::address::Address;
-use mesh_base::fields::{NetFields, NetMaterial};
-use mesh_base::octets::Octets;
-use mesh_base::pair::{Name, Pair};
+use mesh_base::fields::NetFields;
+use mesh_base::pair::Pair;
+use mesh_types::jobs::Segment;
 use mesh_types::lines::Outcome;
 use network_layer::seal;
 
 /// How far above SeqAuth the SEQ of a segment may be.
 const SPAN: u32 = 8191;
-
-/// A segment but for its transport PDU.
-#[derive(Clone, Copy)]
-pub struct Segment {
-    /// The material that seals it.
-    pub material: NetMaterial,
-    /// The message's name, with its SeqAuth.
-    pub name: Name,
-    /// TTL, below 128.
-    pub ttl: u8,
-    /// SRC.
-    pub src: Address,
-    /// DST.
-    pub dst: Address,
-    /// SegO, 5 bits.
-    pub seg_o: u8,
-    /// SegN, 5 bits.
-    pub seg_n: u8,
-}
 
 /// Whether the pair of a segment is under another IV Index than SeqAuth, or too far above it.
 fn is_late(auth: Pair, pair: Pair) -> bool
@@ -44,27 +23,27 @@ fn is_late(auth: Pair, pair: Pair) -> bool
 }
 
 /// The line of a segment that goes out under this pair.
-pub fn segment_line(segment: &Segment, pair: Pair, tpdu: &Octets<16>) -> Outcome
+pub fn segment_line(segment: &Segment, pair: Pair) -> Outcome
     requires nid { segment.now.material.nid < 2 ^ 7 }
     requires ttl { segment.now.ttl < 2 ^ 7 }
     requires pair { pair.seq < 2 ^ 24 }
-    requires least { 1 ≤ length tpdu.now }
-    requires most { length tpdu.now ≤ 16 }
-    ensures value { result ≡ segment_outcome segment.now pair tpdu.now }
+    requires least { 1 ≤ length segment.now.tpdu }
+    requires most { length segment.now.tpdu ≤ 16 }
+    ensures value { result ≡ segment_outcome segment.now pair }
 {
     let fields = NetFields {
         iv: pair.iv,
         ctl: false,
         ttl: segment.ttl,
         seq: pair.seq,
-        src: segment.src,
+        src: segment.name.src,
         dst: segment.dst,
-        tpdu: tpdu.copied(),
+        tpdu: segment.tpdu.copied(),
     };
     Outcome::Seg {
         pair,
         ttl: segment.ttl,
-        src: segment.src,
+        src: segment.name.src,
         dst: segment.dst,
         seg_o: segment.seg_o,
         seg_n: segment.seg_n,
@@ -74,19 +53,19 @@ pub fn segment_line(segment: &Segment, pair: Pair, tpdu: &Octets<16>) -> Outcome
 }
 
 /// The line of a segment that is not the first of its message, under the pair drawn for it. It doesn't go out where it is too late.
-pub fn later_segment(segment: &Segment, pair: Pair, tpdu: &Octets<16>) -> Outcome
+pub fn later_segment(segment: &Segment, pair: Pair) -> Outcome
     requires nid { segment.now.material.nid < 2 ^ 7 }
     requires ttl { segment.now.ttl < 2 ^ 7 }
     requires auth { segment.now.name.pair.seq < 2 ^ 24 }
     requires pair { pair.seq < 2 ^ 24 }
-    requires least { 1 ≤ length tpdu.now }
-    requires most { length tpdu.now ≤ 16 }
+    requires least { 1 ≤ length segment.now.tpdu }
+    requires most { length segment.now.tpdu ≤ 16 }
     ensures value { result
-        ≡ (if is_late segment.now.name.pair pair then O.Late pair else segment_outcome segment.now pair tpdu.now) }
+        ≡ (if is_late segment.now.name.pair pair then O.Late pair else segment_outcome segment.now pair) }
 {
     if is_late(segment.name.pair, pair) {
         Outcome::Late { pair }
     } else {
-        segment_line(segment, pair, tpdu)
+        segment_line(segment, pair)
     }
 }

@@ -3,8 +3,8 @@ use Rattle.std.proofs.lemmas.List.Elements.{All-from_recursion, All-nil}
 use Rattle.node_layers.specs.BuiltLayers.{built_layers}
 use Rattle.node_layers.specs.Reassembly.{due_job, due_jobs}
 use Rattle.node_layers.specs.Sending.{segments_at}
-use Rattle.run_definitions.specs.Fit.{AreFit, IsOwn}
-use Rattle.run_safety.specs.Safety.{AreSafe, IsChange, IsFitJob}
+use Rattle.event_definitions.specs.Fit.{AreFit, IsOwn}
+use Rattle.event_definitions.specs.Safe.{AreSafe, IsChange, IsFitJob}
 use Rattle.layer_laws.proofs.Lists.{every_flat_any}
 use Rattle.layer_laws.proofs.Own.{segments_own}
 use Rattle.layer_laws.proofs.Parts.{acks_own, every_under}

@@ -5,8 +5,7 @@ use Rattle.std.specs.List.{AllByRecursion as Every, range_with_len}
 use Rattle.std.specs.Option.{option_map_or, option_to_list}
 use Rattle.std.proofs.lemmas.Bool.Decides.{nat_tests}
 use Rattle.std.proofs.lemmas.List.{length-map}
-use Rattle.config_definitions.specs.Answers.{config_answer, first_answers, last_answers, middle_answers}
-use Rattle.config_definitions.specs.Features.{is_default_ttl, is_octet, is_switch}
+use Rattle.config_definitions.proofs.Reading.{Octets}
 use Rattle.config_definitions.specs.declared.acts.ConfigAct.{ConfigAct}
 use Rattle.mesh_base.specs.declared.address.Address.{Address}
 use Rattle.model_states.specs.declared.publication.HeartbeatRow.{HeartbeatRow}
@@ -18,106 +17,25 @@ use Rattle.node_layers.specs.Configuration.{config_act, is_for_server}
 use Rattle.node_layers.specs.Models.{elements_of, level_records, level_server, level_state, model_records, onoff_records, onoff_server, onoff_state, takes}
 use Rattle.node_layers.specs.ConfiguredLayers.{changes_of}
 use Rattle.node_records.proofs.Rising.{keyed_of}
-use Rattle.run_definitions.specs.Answers.{config_before}
-use Rattle.run_definitions.specs.Fit.{AreStorable}
-use Rattle.run_definitions.specs.History.{Past, now_of}
-use Rattle.run_safety.proofs.Lists.{every_append}
+use Rattle.event_definitions.specs.Answers.{config_before}
+use Rattle.event_definitions.specs.Fit.{AreStorable}
+use Rattle.event_definitions.specs.History.{Past, now_of}
+use Rattle.event_definitions.proofs.Each.{every_append}
 use Rattle.store_definitions.proofs.Pushes.{config_push}
-use Rattle.run_safety.specs.Safety.{IsChange}
+use Rattle.event_definitions.specs.Safe.{IsChange}
 use Rattle.store_definitions.specs.Following.{AreInOrder, Follows}
 use Rattle.store_definitions.specs.Node.{IsWhole, KeepsWhole}
 use Rattle.store_definitions.specs.Ranges.{IsInRange}
-use Rattle.run_definitions.specs.Layers.{AccessMessage}
+use Rattle.event_definitions.specs.Layers.{AccessMessage}
 use Rattle.record_types.specs.declared.records.StoreRecord.{StoreRecord}
 use Rattle.record_types.specs.declared.records.StoreRecord.TheVariants as R
 use Rattle.store_definitions.specs.Config.{Config, changed, config_of}
 use Rattle.layer_laws.specs.Laws.{IsWithinLimits}
-use Rattle.layer_laws.proofs.Acts.{Acted, acted_pick, acted_weaker, nothing}
+use Rattle.layer_laws.proofs.Acts.{Acted, acted_weaker}
 use Rattle.layer_laws.proofs.Levels.{kept_fits, payload_fits, state_fits, unsigned_small}
 use Rattle.layer_laws.proofs.Lists.{Inside, every_flat, every_flat_any, every_option, when}
-use Rattle.layer_laws.proofs.Messages.{app_add_acted, app_get_acted, app_removal_acted, app_update_acted, beat_acted, bind_acted, composition_acted, group_add_acted, group_delete_acted, group_overwrite_acted, heartbeat_acted, label_add_acted, label_delete_acted, label_overwrite_acted, net_add_acted, net_get_acted, net_removal_acted, net_update_acted, octet_get_acted, octet_set_acted, phase_get_acted, phase_set_acted, poll_acted, proxy_acted, publication_get_acted, publication_set_acted, relay_get_acted, relay_set_acted, removal_acted, reset_acted, unbind_acted}
-use Rattle.layer_laws.proofs.Stored.{Fits, IsWithin, Leaf, Octets, Sound, feature_leaf, filter_shorter}
-
--- Each message by its opcode.
-module _ (c : Config) where
-  first_acted : (second : ℕ) (params : List ℕ) → Acted (Leaf c params) (first_answers c second params)
-  unfolding first_answers
-  first_acted second params =
-      let P : StoreRecord → Type 0 = Leaf c params in
-      acted_pick P (eqb second 0x00) _ _ (app_removal_acted c params)
-      (acted_pick P (eqb second 0x01) _ _ (app_get_acted c P params)
-      (acted_pick P (eqb second 0x08) _ _ (composition_acted c P params)
-      (acted_pick P (eqb second 0x09) _ _ (octet_get_acted P 0x0b c.beacon params)
-      (acted_pick P (eqb second 0x0a) _ _ (octet_set_acted c is_switch 1 0x0b c.beacon params (λ value e. feature_leaf c params 1 value (λ o. e)))
-      (acted_pick P (eqb second 0x0c) _ _ (octet_get_acted P 0x0e c.ttl params)
-      (acted_pick P (eqb second 0x0d) _ _ (octet_set_acted c is_default_ttl 2 0x0e c.ttl params (λ value e. feature_leaf c params 2 value (λ o. e)))
-      (acted_pick P (eqb second 0x0f) _ _ (octet_get_acted P 0x11 c.friend params)
-      (acted_pick P (eqb second 0x10) _ _ (octet_set_acted c is_switch 3 0x11 c.friend params (λ value e. feature_leaf c params 3 value (λ o. e)))
-      (acted_pick P (eqb second 0x12) _ _ (octet_get_acted P 0x14 0x02 params)
-      (acted_pick P (eqb second 0x13) _ _ (proxy_acted c P params)
-      (acted_pick P (eqb second 0x15) _ _ (phase_get_acted c P params)
-      (acted_pick P (eqb second 0x16) _ _ (phase_set_acted c params)
-      (acted_pick P (eqb second 0x18) _ _ (publication_get_acted c P params) (nothing P))))))))))))))
-
-  octet_below : (value : ℕ) → is_octet value ≡ true → ltb value 256 ≡ true
-  octet_below value e = grind (arith, nat_tests, e)
-
-  middle_acted : (polls : List (Address × ℕ)) (beat : HeartbeatRow) (second : ℕ) (params : List ℕ) → Acted (Leaf c params) (middle_answers c polls beat second params)
-  unfolding middle_answers
-  middle_acted polls beat second params =
-      let P : StoreRecord → Type 0 = Leaf c params in
-      acted_pick P (eqb second 0x1b) _ _ (group_add_acted c params)
-      (acted_pick P (eqb second 0x1c) _ _ (group_delete_acted c params)
-      (acted_pick P (eqb second 0x1d) _ _ (removal_acted c params)
-      (acted_pick P (eqb second 0x1e) _ _ (group_overwrite_acted c params)
-      (acted_pick P (eqb second 0x20) _ _ (label_add_acted c params)
-      (acted_pick P (eqb second 0x21) _ _ (label_delete_acted c params)
-      (acted_pick P (eqb second 0x22) _ _ (label_overwrite_acted c params)
-      (acted_pick P (eqb second 0x23) _ _ (octet_get_acted P 0x25 c.transmit params)
-      (acted_pick P (eqb second 0x24) _ _ (octet_set_acted c is_octet 5 0x25 c.transmit params (λ value e. feature_leaf c params 5 value (λ o. octet_below value e)))
-      (acted_pick P (eqb second 0x26) _ _ (relay_get_acted c P params)
-      (acted_pick P (eqb second 0x27) _ _ (relay_set_acted c params)
-      (acted_pick P (eqb second 0x2d) _ _ (poll_acted c P polls params)
-      (acted_pick P (eqb second 0x38) _ _ (beat_acted c P beat params)
-      (acted_pick P (eqb second 0x39) _ _ (heartbeat_acted c P params) (nothing P))))))))))))))
-
-  last_acted : (under second : ℕ) (params : List ℕ) → Acted (Leaf c params) (last_answers c under second params)
-  unfolding last_answers
-  last_acted under second params =
-      let P : StoreRecord → Type 0 = Leaf c params in
-      acted_pick P (eqb second 0x3d) _ _ (bind_acted c params)
-      (acted_pick P (eqb second 0x3f) _ _ (unbind_acted c params)
-      (acted_pick P (eqb second 0x40) _ _ (net_add_acted c params)
-      (acted_pick P (eqb second 0x41) _ _ (net_removal_acted c under params)
-      (acted_pick P (eqb second 0x42) _ _ (net_get_acted c P params)
-      (acted_pick P (eqb second 0x45) _ _ (net_update_acted c params)
-      (acted_pick P (eqb second 0x49) _ _ (reset_acted c params) (nothing P)))))))
-
-  -- one octet more before the parameters
-  longer : (first : ℕ) (params : List ℕ) (o : Option ConfigAct) → Acted (Leaf c params) o → Acted (Leaf c (first ∷ params)) o
-  longer first params o h = acted_weaker (Leaf c params) (Leaf c (first ∷ params)) (λ item l. record { change = l.change; fits = λ s octets. l.fits s octets.1 }) o h
-
-  pub answer_acted : (under : ℕ) (polls : List (Address × ℕ)) (beat : HeartbeatRow) (payload : List ℕ) → Acted (Leaf c payload) (config_answer c under polls beat payload)
-  unfolding config_answer
-  answer_acted under polls beat [] = nothing (Leaf c [])
-  answer_acted under polls beat (first ∷ []) =
-      longer first [] _
-      (when _ (eqb first 0x00) (λ e. rw e (app_add_acted c [])) (λ e. rw e
-      (when _ (eqb first 0x01) (λ f. rw f (app_update_acted c [])) (λ f. rw f
-      (when _ (eqb first 0x03) (λ g. rw g (publication_set_acted c [])) (λ g. rw g
-      (when _ (eqb first 0x80) (λ h. rw h (nothing (Leaf c []))) (λ h. rw h (nothing (Leaf c []))))))))))
-  answer_acted under polls beat (first ∷ second ∷ params) =
-      longer first (second ∷ params) _
-      (when _ (eqb first 0x00) (λ e. rw e (app_add_acted c (second ∷ params))) (λ e. rw e
-      (when _ (eqb first 0x01) (λ f. rw f (app_update_acted c (second ∷ params))) (λ f. rw f
-      (when _ (eqb first 0x03) (λ g. rw g (publication_set_acted c (second ∷ params))) (λ g. rw g
-      (when _ (eqb first 0x80) (λ h. rw h (longer second params _
-      (acted_pick (Leaf c params) (ltb second 0x1b) _ _ (first_acted second params)
-      (acted_pick (Leaf c params) (ltb second 0x3d) _ _ (middle_acted polls beat second params) (last_acted under second params)))))
-      (λ h. rw h (nothing (Leaf c (second ∷ params)))))))))))
-
-  pub act_acted : (polls : List (Address × ℕ)) (beat : HeartbeatRow) (m : AccessMessage) → Acted (Leaf c m.payload) (config_act c polls beat m)
-  act_acted polls beat m = acted_pick (Leaf c m.payload) (is_for_server c m) _ None (answer_acted m.net polls beat m.payload) (nothing (Leaf c m.payload))
+use Rattle.layer_laws.proofs.Messages.{act_acted}
+use Rattle.layer_laws.proofs.Stored.{Fits, IsWithin, Leaf, Sound, filter_shorter}
 
 -- as a list
 pub act_list : (P : StoreRecord → Type 0) (o : Option ConfigAct) → Acted P o → Every P (option_map_or (λ (a : ConfigAct). option_to_list a.change) o [])
@@ -175,7 +93,7 @@ changes_are past m =
     let c : Config = config_before past in
     let act : Option ConfigAct = config_act c [] no_heartbeat m in
     every_append IsChange (option_map_or (λ (a : ConfigAct). option_to_list a.change) act []) (model_records past m)
-    (act_list IsChange act (acted_weaker (Leaf c m.payload) IsChange (λ item l. l.change) act (act_acted c [] no_heartbeat m)))
+    (act_list IsChange act (acted_weaker (Leaf c (Octets m.payload)) IsChange (λ item l. l.change) act (act_acted c [] no_heartbeat m)))
     (every_flat_any IsChange (λ element. onoff_records past c element m ++ level_records past c element m)
     (λ element. element_each IsChange past c element m (λ value h. tt) (λ value h. tt)) (elements_of c))
 
@@ -219,12 +137,12 @@ values_storable before (R.Reset ∷ rest) h = absurd h.0
 values_storable before (R.Label op element model label ∷ rest) h = absurd h.0
 values_storable before (R.Publish row ∷ rest) h = absurd h.0
 
-act_storable : (before values : List StoreRecord) (c : Config) (params : List ℕ) (act : Option ConfigAct) → config_of before ≡ c → Sound c → Octets params → Acted (Leaf c params) act
+act_storable : (before values : List StoreRecord) (c : Config) (O : Type 0) (act : Option ConfigAct) → config_of before ≡ c → Sound c → O → Acted (Leaf c O) act
     → Every IsValue values → AreStorable before (option_map_or (λ (a : ConfigAct). option_to_list a.change) act [] ++ values)
-act_storable before values c params None e s o h k = values_storable before values k
-act_storable before values c params (Some a) e s o h k = by_change a.change h.change
+act_storable before values c O None e s o h k = values_storable before values k
+act_storable before values c O (Some a) e s o h k = by_change a.change h.change
   where
-    by_change : (change : Option StoreRecord) → Inside (Leaf c params) change → AreStorable before (option_to_list change ++ values)
+    by_change : (change : Option StoreRecord) → Inside (Leaf c O) change → AreStorable before (option_to_list change ++ values)
     by_change None l = values_storable before values k
     by_change (Some item) l =
         let fits : Fits c item = l.fits s o in (
@@ -242,7 +160,7 @@ pub changes_storable : (past : Past) (m : AccessMessage) → Sound (config_befor
     → AreStorable (past.records ++ R.Replay m.name None ∷ []) (changes_of past m)
 changes_storable past m s o =
     let c : Config = config_before past in
-    act_storable (past.records ++ R.Replay m.name None ∷ []) (model_records past m) c m.payload (config_act c [] no_heartbeat m) (replay_same past.records m.name) s o (act_acted c [] no_heartbeat m)
+    act_storable (past.records ++ R.Replay m.name None ∷ []) (model_records past m) c (Octets m.payload) (config_act c [] no_heartbeat m) (replay_same past.records m.name) s o (act_acted c [] no_heartbeat m)
     (every_flat (λ e. e < 4) IsValue (λ element. onoff_records past c element m ++ level_records past c element m)
     (λ element l. element_each IsValue past c element m (λ value h. (l, inl (refl, h))) (λ value h. (l, inr (refl, h)))) (elements_of c)
     (every_place 0 c.elements 4 (omega (arith, s.whole.few))))

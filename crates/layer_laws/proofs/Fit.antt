@@ -7,10 +7,10 @@ use Rattle.node_layers.specs.Friendship.{control_jobs}
 use Rattle.node_layers.specs.NodeLayers.{node_layers, published_at, replies_of}
 use Rattle.node_layers.specs.Reassembly.{acks_at}
 use Rattle.node_layers.specs.Sending.{segments_at}
-use Rattle.run_definitions.specs.Answers.{config_before}
-use Rattle.run_definitions.specs.Fit.{AreFit, IsOwn, IsOwnEvent}
-use Rattle.run_definitions.specs.History.{Told}
-use Rattle.run_safety.proofs.Lists.{every_map}
+use Rattle.event_definitions.specs.Answers.{config_before}
+use Rattle.event_definitions.specs.Fit.{AreFit, IsOwn, IsOwnEvent}
+use Rattle.event_definitions.specs.History.{Told}
+use Rattle.event_definitions.proofs.Each.{every_map}
 use Rattle.store_definitions.specs.Config.{config_of}
 use Rattle.layer_laws.specs.Laws.{StoreFitting}
 use Rattle.layer_laws.proofs.Changes.{changes_storable, sound_of, sound_within}

@@ -29,12 +29,12 @@ use Rattle.node_layers.specs.Configuration.{ends_friendships}
 use Rattle.node_layers.specs.Friendship.{act_of, answer_jobs, answered_calls, calls_by_answer, calls_of_message, clear_jobs, cleared_jobs, config_after, confirm_jobs, control_calls, control_jobs, ended_calls, friends, friends_from, friends_with, heard_by, heard_calls, if_so, is_by_friend, is_by_master, is_request, is_short, jobs_of_control, kept_calls, no_friends, offer_jobs, own_control, own_short, poll_jobs, publication_short, replies_to, send_calls, stored, stored_octets}
 use Rattle.node_layers.specs.Models.{delivered_by}
 use Rattle.node_layers.specs.Publishing.{publications_due}
-use Rattle.run_definitions.specs.Answers.{config_before, is_before_cache, name_of}
-use Rattle.run_definitions.specs.Handling.{past_of}
-use Rattle.run_definitions.specs.History.{Insight, OfBeacon, OfNothing, OfPdu, Past, Reading, Told, now_of}
-use Rattle.run_definitions.specs.Jobs.{element_address, send_keys}
-use Rattle.run_definitions.specs.Layers.{AccessMessage, ControlMessage}
-use Rattle.run_safety.proofs.Lists.{every_append}
+use Rattle.event_definitions.specs.Answers.{config_before, is_before_cache, name_of}
+use Rattle.event_definitions.specs.Handling.{past_of}
+use Rattle.event_definitions.specs.History.{Insight, OfBeacon, OfNothing, OfPdu, Past, Reading, Told, now_of}
+use Rattle.event_definitions.specs.Jobs.{element_address, send_keys}
+use Rattle.event_definitions.specs.Layers.{AccessMessage, ControlMessage}
+use Rattle.event_definitions.proofs.Each.{every_append}
 use Rattle.store_definitions.specs.Config.{Config}
 use Rattle.layer_laws.proofs.Friends.{GoodAnswer, GoodCall, GoodResult, GoodState, calls_good, result_good}
 use Rattle.layer_laws.proofs.Lists.{by_test, every_filter, every_flat_any, every_mapped, every_pick, option_cases, result_cases}

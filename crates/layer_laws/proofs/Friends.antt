@@ -17,7 +17,7 @@ use Rattle.layer_states.specs.declared.friends.QueueEntry.TheVariants as Q
 use Rattle.mesh_base.specs.declared.address.Address.{Address}
 use Rattle.mesh_base.specs.declared.fields.NetFields.{NetFields}
 use Rattle.mesh_base.specs.declared.pair.Name.{Name}
-use Rattle.run_safety.proofs.Lists.{every_append}
+use Rattle.event_definitions.proofs.Each.{every_append}
 use Rattle.layer_laws.proofs.Lists.{Inside, every_filter, every_mapped, every_pick, through_fold}
 
 pub every_drop : {A : Type 0} (P : A → Type 0) (n : ℕ) (xs : List A) → Every P xs → Every P (drop n xs)

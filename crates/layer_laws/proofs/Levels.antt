@@ -22,7 +22,7 @@ use Rattle.model_states.specs.declared.models.LevelState.{LevelState}
 use Rattle.model_states.specs.declared.models.Timing.{Timing}
 use Rattle.node_layers.specs.Models.{TakenMessage, level_first, level_server, level_state, level_with, taken_from, first_records}
 use Rattle.onoff_level_models.proofs.Ways.{part-fits}
-use Rattle.run_definitions.specs.History.{Past}
+use Rattle.event_definitions.specs.History.{Past}
 use Rattle.store_definitions.specs.Config.{config_of}
 use Rattle.layer_laws.proofs.Lists.{Inside, by_test, option_cases, when}
 

@@ -4,12 +4,9 @@ use Rattle.std.specs.Prelude.{slice_index_or, slice_set}
 use Rattle.std.specs.Bool.{⊤}
 use Rattle.std.specs.List.{AllByRecursion as Every, cons_option, filter_map, flat_map, list_any, fold}
 use Rattle.std.specs.Option.{option_to_list}
-use Rattle.run_safety.proofs.Lists.{every_append}
-
--- of what stands in an option
-abbrev pub Inside : {A : Type 0} → (A → Type 0) → Option A → Type 0
-Inside P None = ⊤
-Inside P (Some x) = P x
+use Rattle.event_definitions.proofs.Each.{every_append}
+pub use Rattle.config_definitions.proofs.Cases.{Inside, by_test, option_cases, result_cases, when}
+use Rattle.config_definitions.proofs.Cases.{Inside}
 
 pub every_option : {A : Type 0} (P : A → Type 0) (o : Option A) → Inside P o → Every P (option_to_list o)
 every_option P None h = tt
@@ -82,21 +79,3 @@ and_true false b h = absurd cc
 pub none_any : {A : Type 0} (p : A → Bool) → ((x : A) → p x ≡ false) → (xs : List A) → list_any p xs ≡ false
 none_any p k [] = refl
 none_any p k (x ∷ xs) = or_false (p x) (list_any p xs) (k x) (none_any p k xs)
-
--- by a test and what it then says
-pub by_test : {A : Type 0} (P : A → Type 0) (b : Bool) (x y : A) → (b ≡ true → P x) → (b ≡ false → P y) → P (cond b x y)
-by_test P true x y h k = h refl
-by_test P false x y h k = k refl
-
--- by what an option or a result is
-pub option_cases : {A : Type 0} (G : Type 0) (o : Option A) → (o ≡ None → G) → ((x : A) → o ≡ Some x → G) → G
-option_cases G None h k = h refl
-option_cases G (Some x) h k = k x refl
-
-pub result_cases : {A B : Type 0} (G : Type 0) (o : Result A B) → ((x : A) → o ≡ Ok x → G) → ((y : B) → o ≡ Err y → G) → G
-result_cases G (Ok x) h k = h x refl
-result_cases G (Err y) h k = k y refl
-
-pub when : (G : Type 0) (b : Bool) → (b ≡ true → G) → (b ≡ false → G) → G
-when G true h k = h refl
-when G false h k = k refl

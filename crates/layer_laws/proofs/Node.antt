@@ -14,12 +14,13 @@ use Rattle.mesh_types.specs.declared.events.Event.{Event}
 use Rattle.mesh_types.specs.declared.events.Event.TheVariants as E
 use Rattle.record_types.specs.declared.records.StoreRecord.{StoreRecord}
 use Rattle.record_types.specs.declared.records.StoreRecord.TheVariants as R
-use Rattle.run_definitions.specs.Handling.{AreHandled, Handles, IsPast, past_of, records_left}
-use Rattle.run_definitions.specs.History.{Insight, Past, Told}
-use Rattle.run_definitions.specs.Layers.{AccessMessage, Layers}
-use Rattle.run_definitions.specs.Stores.{asked, hours_step, message_of, phase_records, records_after, step_records, stores, tick_records}
-use Rattle.run_safety.proofs.Lists.{every_append, every_map}
-use Rattle.run_safety.specs.Safety.{AreSafe, IsChange}
+use Rattle.event_definitions.specs.Role.{node_role}
+use Rattle.event_definitions.specs.Handling.{AreHandled, Handles, IsPast, past_of, records_after, records_left}
+use Rattle.event_definitions.specs.History.{Insight, Past, Told}
+use Rattle.event_definitions.specs.Layers.{AccessMessage, Layers}
+use Rattle.event_definitions.specs.Stores.{asked, hours_step, message_of, phase_records, step_records, stores, tick_records}
+use Rattle.event_definitions.proofs.Each.{every_append, every_map}
+use Rattle.event_definitions.specs.Safe.{AreSafe, IsChange}
 use Rattle.store_definitions.specs.Config.{Config, changed, config_of, is_element, no_config}
 use Rattle.store_definitions.specs.Numbers.{fill_of, filled}
 use Rattle.layer_laws.proofs.Lists.{every_pick}
@@ -107,29 +108,29 @@ stores_none layers safe past _ insight _ = tt
 
 pub record IsEntry (layers : Layers) (base : Config) (t : Told) : Type 0 where
   pub before : List Told
-  pub handles : Handles layers (past_of before t) t
+  pub handles : Handles (node_role layers) (past_of before t) t
   pub node : IsSameNode base (config_of t.records)
 
 pub entries_same : (layers : Layers) → AreSafe layers → (base : Config) (records : List StoreRecord) (before ts : List Told)
-    → AreHandled layers records before ts → IsSameNode base (config_of records)
-    → Every (IsEntry layers base) ts × IsSameNode base (config_of (records_left layers records before ts))
+    → AreHandled (node_role layers) records before ts → IsSameNode base (config_of records)
+    → Every (IsEntry layers base) ts × IsSameNode base (config_of (records_left (node_role layers) records before ts))
 entries_same layers safe base records before [] h s = (tt, s)
 entries_same layers safe base records before (t ∷ ts) h s =
     let opened : IsSameNode base (config_of t.records) =
     subst (λ (l : List StoreRecord). IsSameNode base (config_of l)) (sym h.0)
     (then_same base (config_of records) (config_of (filled t.entry.fills records)) s (same_filled t.entry.fills records)) in
-    let left : IsSameNode base (config_of (records_after layers (past_of before t) t)) =
-    then_same base (config_of t.records) (config_of (records_after layers (past_of before t) t)) opened
+    let left : IsSameNode base (config_of (records_after (node_role layers) (past_of before t) t)) =
+    then_same base (config_of t.records) (config_of (records_after (node_role layers) (past_of before t) t)) opened
     (same_behind t.records _ (stores_none layers safe (past_of before t) t.entry.event t.insight t.entry.answer)) in
-    let (rest, last) = entries_same layers safe base (records_after layers (past_of before t) t) (before ++ t ∷ []) ts h.2 left in
+    let (rest, last) = entries_same layers safe base (records_after (node_role layers) (past_of before t) t) (before ++ t ∷ []) ts h.2 left in
     ((record { before = before; handles = h.1; node = opened }, rest), last)
 
-pub entries_of : (layers : Layers) → AreSafe layers → (past : Past) → IsPast layers past → Every (IsEntry layers (config_of past.records)) past.told
+pub entries_of : (layers : Layers) → AreSafe layers → (past : Past) → IsPast (node_role layers) past → Every (IsEntry layers (config_of past.records)) past.told
 entries_of layers safe past h =
     let (all, left) = entries_same layers safe (config_of h.over) h.over [] past.told h.handled (same_node (config_of h.over)) in
     let last : IsSameNode (config_of h.over) (config_of past.records) =
     subst (λ (l : List StoreRecord). IsSameNode (config_of h.over) (config_of l)) (sym h.records)
-    (then_same (config_of h.over) _ _ left (same_filled h.fills (records_left layers h.over [] past.told))) in
+    (then_same (config_of h.over) _ _ left (same_filled h.fills (records_left (node_role layers) h.over [] past.told))) in
     every_map (IsEntry layers (config_of h.over)) (IsEntry layers (config_of past.records))
     (λ t e. record { before = e.before; handles = e.handles; node = then_same (config_of past.records) (config_of h.over) (config_of t.records) (back_same (config_of h.over) (config_of past.records) last) e.node })
     past.told all

@@ -6,6 +6,7 @@ use Rattle.std.specs.List.{AllByRecursion as Every, flat_map, fold}
 use Rattle.std.specs.Option.{option_map_or, option_to_list}
 use Rattle.std.proofs.lemmas.Bool.Decides.{nat_tests}
 use Rattle.std.proofs.lemmas.List.Elements.{recursion_from_All}
+use Rattle.config_definitions.proofs.Reading.{Octets}
 use Rattle.config_definitions.specs.declared.acts.ConfigAct.{ConfigAct}
 use Rattle.layer_definitions.specs.KeyRefresh.{transmit_app}
 use Rattle.layer_definitions.specs.Network.{net_text}
@@ -32,20 +33,21 @@ use Rattle.node_layers.specs.Friendship.{act_of, config_after, control_jobs, end
 use Rattle.node_layers.specs.Models.{element_replies, elements_of, level_answer, model_replies, onoff_answer}
 use Rattle.node_layers.specs.NodeLayers.{published_at, published_jobs, replies_of, reply_jobs}
 use Rattle.node_layers.specs.Publishing.{Publication, heartbeat_job, heartbeat_jobs, is_own_row, is_still_held, publication_job, publication_of, publications_due, published}
-use Rattle.node_layers.specs.Sending.{acknowledged, begun_calls, calls_at, calls_from, messages, round_jobs, segment_job, segments_at, stepped_calls}
+use Rattle.node_layers.specs.Sending.{acknowledged, begun_calls, calls_at, calls_from, messages, round_jobs, segments_at, stepped_calls}
 use Rattle.record_types.specs.declared.records.PublishRow.{PublishRow}
 use Rattle.record_types.specs.declared.records.StoreRecord.{StoreRecord}
-use Rattle.run_definitions.specs.Answers.{config_before, later, name_of}
-use Rattle.run_definitions.specs.Fit.{HasElements, HasOwnEvents, IsOwn, IsOwnEvent}
-use Rattle.run_definitions.specs.Handling.{past_of}
-use Rattle.run_definitions.specs.History.{Insight, OfBeacon, OfNothing, OfPdu, Past, Told, ticks_after}
-use Rattle.run_definitions.specs.Jobs.{element_address, under}
-use Rattle.run_definitions.specs.Layers.{AccessMessage, ControlMessage}
-use Rattle.run_safety.proofs.Lists.{every_append}
-use Rattle.run_safety.specs.Safety.{IsChange}
+use Rattle.event_definitions.specs.Answers.{config_before, later, name_of}
+use Rattle.event_definitions.specs.Fit.{HasElements, HasOwnEvents, IsOwn, IsOwnEvent}
+use Rattle.event_definitions.specs.Handling.{past_of}
+use Rattle.event_definitions.specs.History.{Insight, OfBeacon, OfNothing, OfPdu, Past, Told, ticks_after}
+use Rattle.event_definitions.specs.Jobs.{element_address, under, segment_job}
+use Rattle.event_definitions.specs.Layers.{AccessMessage, ControlMessage}
+use Rattle.event_definitions.proofs.Each.{every_append}
+use Rattle.event_definitions.specs.Safe.{IsChange}
 use Rattle.store_definitions.specs.Config.{Config, changed, config_of, is_element}
 use Rattle.layer_laws.proofs.Acts.{Acted, acted_weaker}
-use Rattle.layer_laws.proofs.Changes.{act_acted, every_place}
+use Rattle.layer_laws.proofs.Changes.{every_place}
+use Rattle.layer_laws.proofs.Messages.{act_acted}
 use Rattle.layer_laws.proofs.FriendCalls.{EntriesGood, HeardGood, KeptGood, SendGood, control_jobs_fit, friends_good}
 use Rattle.layer_laws.proofs.Friends.{every_drop}
 use Rattle.layer_laws.proofs.Lists.{Inside, and_true, every_chosen, every_flat, every_flat_any, every_mapped, every_pick, every_set, option_cases, through_fold, when}
@@ -93,7 +95,7 @@ send_after c rows (due now) k h = every_chosen (IsFrom c) (IsFrom c) (stepped no
 send_after c rows clear k h = tt
 
 begun_own : (c : Config) (now : ℕ) (event : Event) → IsOwnEvent c event → Every (IsOwnCall c) (begun_calls now event)
-begun_own c now (E.Begin pair dst src ttl net akf aid upper) h = (h, tt)
+begun_own c now (E.Begin m) h = (h, tt)
 begun_own c now _ h = tt
 
 acknowledged_own : (c : Config) (from : Address) (m : ControlMsg) → Every (IsOwnCall c) (acknowledged from m)
@@ -130,8 +132,8 @@ elements_same past c s = record { unicast = s.unicast; elements = s.elements }
 round_own : (base c : Config) (now : ℕ) (s : Sending) → IsSameNode base c → IsFrom base s → Every (IsOwn c) (round_jobs c now s)
 round_own base c now s same h =
     when _ (is_due now s && not (is_last s))
-    (λ e. rw e (every_flat_any (IsOwn c) (λ seg_o. under c s.message.net (segment_job s.message seg_o))
-    (λ seg_o. every_under (IsOwn c) c s.message.net (segment_job s.message seg_o) (λ m. sym (same_element base c s.message.name.src.0 same) ∙ h)) (round_of s)))
+    (λ e. rw e (every_flat_any (IsOwn c) (λ seg_o. under c s.message.net (segment_job false s.message seg_o))
+    (λ seg_o. every_under (IsOwn c) c s.message.net (segment_job false s.message seg_o) (λ m. sym (same_element base c s.message.name.src.0 same) ∙ h)) (round_of s)))
     (λ e. rw e tt)
 
 pub segments_own : (past : Past) (c : Config) (ticks : ℕ) → HasOwnEvents past → HasElements past c → Every (IsOwn c) (segments_at past c ticks)
@@ -268,7 +270,7 @@ module _ (base : Config) (some : 1 ≤ base.elements) where
       let c : Config = config_before past in
       let act : Option ConfigAct = act_of past st m in
       let same : IsSameNode base (config_after c act) =
-      then_same base c (config_after c act) s (after_act c act (acted_weaker (Leaf c m.payload) IsChange (λ item l. l.change) act (act_acted c _ (heartbeat_shown (published past)) m))) in
+      then_same base c (config_after c act) s (after_act c act (acted_weaker (Leaf c (Octets m.payload)) IsChange (λ item l. l.change) act (act_acted c _ (heartbeat_shown (published past)) m))) in
       every_mapped (IsPlaced c) Own (own_short (config_after c act) m) (λ reply k. at_place (config_after c act) reply.0 same (rw (← s.elements) k)) (replies_to past st m) (replies_placed past st m (rw s.elements some))
 
   publishes_own : (past : Past) → IsSameNode base (config_before past) → (ticks : ℕ) → Every Own (map publication_short (publications_due past (config_before past) ticks))

@@ -22,15 +22,16 @@ use Rattle.mesh_types.specs.declared.events.Event.{Event}
 use Rattle.mesh_types.specs.declared.jobs.Job.{Job}
 use Rattle.node_layers.specs.Reassembly.{acks_at, calls_at, calls_from, due_job, due_jobs, message_calls, messages, named_calls, part_calls, part_heard, tick_calls, whole_calls}
 use Rattle.layer_states.specs.Names.{is_unicast}
-use Rattle.run_definitions.specs.Answers.{config_before, is_group, is_mine, later, message_name, network_answer}
-use Rattle.run_definitions.specs.Fit.{HasElements, IsOwn}
-use Rattle.run_definitions.specs.Handling.{IsPast, past_of}
-use Rattle.run_definitions.specs.History.{Insight, OfBeacon, OfNothing, OfPdu, Opening, Past, Reading, Told, ticks_after}
-use Rattle.run_definitions.specs.Jobs.{under}
-use Rattle.run_definitions.specs.Layers.{Layers}
-use Rattle.run_definitions.specs.Readings.{IsLower, IsLowerPdu, Sees, sees_beacon, sees_nothing, sees_pdu}
-use Rattle.run_safety.proofs.Lists.{every_append, every_map}
-use Rattle.run_safety.specs.Safety.{AreSafe}
+use Rattle.event_definitions.specs.Role.{node_role}
+use Rattle.event_definitions.specs.Answers.{config_before, is_group, is_mine, later, message_name, network_answer}
+use Rattle.event_definitions.specs.Fit.{HasElements, IsOwn}
+use Rattle.event_definitions.specs.Handling.{IsPast, past_of}
+use Rattle.event_definitions.specs.History.{Insight, OfBeacon, OfNothing, OfPdu, Opening, Past, Reading, Told, ticks_after}
+use Rattle.event_definitions.specs.Jobs.{under}
+use Rattle.event_definitions.specs.Layers.{Layers}
+use Rattle.event_definitions.specs.Readings.{IsLower, IsLowerPdu, Sees, sees_beacon, sees_nothing, sees_pdu}
+use Rattle.event_definitions.proofs.Each.{every_append, every_map}
+use Rattle.event_definitions.specs.Safe.{AreSafe}
 use Rattle.store_definitions.specs.Config.{Config, config_of, is_element}
 use Rattle.layer_laws.proofs.Lists.{Inside, by_test, every_chosen, every_filter, every_flat, every_get, every_mapped, every_pick, every_set, left_false, none_any, or_left, through_fold}
 use Rattle.layer_laws.proofs.Node.{IsEntry, IsSameNode, entries_of, same_element}
@@ -199,7 +200,7 @@ after_home c rows (take_part now h) home k = noted_home c (live now rows) now h 
 after_home c rows (release n) home k = every_filter (IsTimedHere c) _ rows k
 after_home c rows (tick now) home k = every_mapped (IsTimedHere c) (IsTimedHere c) (rung now) (rung_home c now) (live now rows) (every_filter (IsTimedHere c) _ rows k)
 
-pub messages_home : (layers : Layers) → AreSafe layers → (past : Past) → IsPast layers past → Every (IsTimedHere (config_before past)) (messages past)
+pub messages_home : (layers : Layers) → AreSafe layers → (past : Past) → IsPast (node_role layers) past → Every (IsTimedHere (config_before past)) (messages past)
 messages_home layers safe past h =
     let c : Config = config_before past in
     let here : Every (λ (t : Told). IsHeardHere c t.insight) past.told = every_map (IsEntry layers c) (λ t. IsHeardHere c t.insight) (entry_here layers c) past.told (entries_of layers safe past h) in
@@ -214,7 +215,7 @@ due_home c now a k = by_test (Inside (λ (d : DueAck). is_element c d.dst.0 ≡ 
     made None k = tt
     made (Some t) k = k refl
 
-pub acks_own : (layers : Layers) → AreSafe layers → (past : Past) (c : Config) (ticks : ℕ) → IsPast layers past → HasElements past c → Every (IsOwn c) (acks_at past c ticks)
+pub acks_own : (layers : Layers) → AreSafe layers → (past : Past) (c : Config) (ticks : ℕ) → IsPast (node_role layers) past → HasElements past c → Every (IsOwn c) (acks_at past c ticks)
 acks_own layers safe past c ticks h s =
     let now : ℕ = later past ticks in
     let same : IsSameNode (config_before past) c = record { unicast = s.unicast; elements = s.elements } in

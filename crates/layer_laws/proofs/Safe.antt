@@ -22,12 +22,13 @@ use Rattle.node_layers.specs.Friendship.{control_jobs, ended_calls, friends, rep
 use Rattle.node_layers.specs.NodeLayers.{node_layers, published_at, published_jobs, replies_of, reply_jobs}
 use Rattle.node_layers.specs.Publishing.{Publication, heartbeat_job, heartbeat_jobs, publication_job, publications_due, published}
 use Rattle.node_layers.specs.Reassembly.{acks_at, due_job, due_jobs}
-use Rattle.node_layers.specs.Sending.{messages, round_jobs, segment_job, segments_at}
-use Rattle.run_definitions.specs.Answers.{config_before, later, name_of}
-use Rattle.run_definitions.specs.History.{Insight, OfBeacon, OfNothing, OfPdu, Past, Told}
-use Rattle.run_definitions.specs.Layers.{AccessMessage, ControlMessage}
-use Rattle.run_safety.proofs.Lists.{every_append}
-use Rattle.run_safety.specs.Safety.{AreSafe, IsChange, IsFitJob, IsTextHeard, WasHeard, WasKept}
+use Rattle.node_layers.specs.Sending.{messages, round_jobs, segments_at}
+use Rattle.event_definitions.specs.Answers.{config_before, later, name_of}
+use Rattle.event_definitions.specs.History.{Insight, OfBeacon, OfNothing, OfPdu, Past, Told}
+use Rattle.event_definitions.specs.Layers.{AccessMessage, ControlMessage}
+use Rattle.event_definitions.proofs.Each.{every_append}
+use Rattle.event_definitions.specs.Safe.{AreSafe, IsChange, IsFitJob, IsTextHeard, WasHeard, WasKept}
+use Rattle.event_definitions.specs.Jobs.{segment_job}
 use Rattle.store_definitions.specs.Config.{Config, config_of}
 use Rattle.layer_laws.proofs.Changes.{changes_are}
 use Rattle.layer_laws.proofs.FriendCalls.{EntriesGood, HeardGood, KeptGood, SendGood, control_jobs_fit, friends_good}
@@ -110,7 +111,7 @@ module _ (all : Past) where
 round_safe : (past : Past) (c : Config) (now : ℕ) (s : Sending) → Every (IsFitJob past) (round_jobs c now s)
 round_safe past c now s =
     every_pick (IsFitJob past) _ _ []
-    (every_flat_any (IsFitJob past) _ (λ seg_o. every_under (IsFitJob past) c s.message.net (segment_job s.message seg_o) (λ m. refl)) (round_of s)) tt
+    (every_flat_any (IsFitJob past) _ (λ seg_o. every_under (IsFitJob past) c s.message.net (segment_job false s.message seg_o) (λ m. refl)) (round_of s)) tt
 
 -- Replies and what is published.
 

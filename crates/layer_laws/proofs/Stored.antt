@@ -17,16 +17,12 @@ use Rattle.node_records.proofs.Rising.{Rises, RisesFrom}
 use Rattle.record_types.specs.declared.records.PublishRow.{PublishRow}
 use Rattle.record_types.specs.declared.records.StoreRecord.{StoreRecord}
 use Rattle.record_types.specs.declared.records.StoreRecord.TheVariants as R
-use Rattle.run_safety.specs.Safety.{IsChange}
+use Rattle.event_definitions.specs.Safe.{IsChange}
 use Rattle.store_definitions.specs.Config.{Config, apps_after, binds_after, is_bind, is_label, is_sub, labels_after, labels_without, nets_after, publication_index, subs_after, subs_without}
 use Rattle.store_definitions.specs.Node.{HasNext, IsPhased, IsWhole, KeepsWhole, has_other_net}
 use Rattle.store_definitions.specs.Ranges.{IsInRange, IsKey}
 use Rattle.layer_laws.proofs.Friends.{every_found}
 use Rattle.layer_laws.proofs.Lists.{Inside, and_true, when}
-
--- Octets.
-abbrev pub Octets : List ℕ → Type 0
-Octets xs = Every (λ x. x < 2 ^ 8) xs
 
 -- A node that is whole, with its tables in order and within their limits.
 pub record Sound (c : Config) : Type 0 where
@@ -54,9 +50,10 @@ pub record Fits (c : Config) (item : StoreRecord) : Type 0 where
   pub within : IsWithin c item
   pub keeps : KeepsWhole c item
 
-pub record Leaf (c : Config) (params : List ℕ) (item : StoreRecord) : Type 0 where
+-- a change, which fits a sound node where `O` holds, as that a payload is of octets
+pub record Leaf (c : Config) (O : Type 0) (item : StoreRecord) : Type 0 where
   pub change : IsChange item
-  pub fits : Sound c → Octets params → Fits c item
+  pub fits : Sound c → O → Fits c item
 
 -- Lengths.
 
@@ -133,26 +130,9 @@ put_among_others row n (r ∷ rest) h =
     (λ f. rw f (let high : publication_index r < publication_index row = grind (arith, nat_tests, e, f) in
     rw (other_index_below row r high) (omega (arith, put_among_others row (suc (publication_index r)) rest h.1))))))
 
--- What a record needs to be so. The octets of a key, and numbers.
-
-pub key_of : (key : List ℕ) → eqb (length key) 16 ≡ true → Octets key → IsKey key
-key_of key h o = record { size = grind (arith, nat_tests, h); octets = All-from_recursion (λ x. x < 2 ^ 8) key o }
-
-pub small_index : (n : ℕ) → n % 4096 ≤ 0xfff
-small_index n = omega arith
-
-pub small_first : (a b : ℕ) → a < 2 ^ 8 → a + b % 16 * 256 ≤ 0xfff
-small_first a b h = omega (arith, h)
-
-pub small_second : (a b : ℕ) → a < 2 ^ 8 → b < 2 ^ 8 → a / 16 + b * 16 ≤ 0xfff
-small_second a b h k = omega (arith, h, k)
-
-pub small_address : (a b : ℕ) → a < 2 ^ 8 → b < 2 ^ 8 → a + b * 256 < 2 ^ 16
-small_address a b h k = omega (arith, h, k)
-
 -- Network keys.
-module _ (c : Config) (params : List ℕ) where
-  pub net_add_leaf : (index : ℕ) (key : List ℕ) → index ≤ 0xfff → (Octets params → IsKey key) → leb 4 (length c.nets) ≡ false → Leaf c params (R.NetKey 1 index key)
+module _ (c : Config) (O : Type 0) where
+  pub net_add_leaf : (index : ℕ) (key : List ℕ) → index ≤ 0xfff → (O → IsKey key) → leb 4 (length c.nets) ≡ false → Leaf c O (R.NetKey 1 index key)
   net_add_leaf index key small is full = record {
     change = tt;
     fits = λ s o. record {
@@ -162,7 +142,7 @@ module _ (c : Config) (params : List ℕ) where
     };
   }
 
-  pub net_update_leaf : (index : ℕ) (key : List ℕ) → index ≤ 0xfff → (Octets params → IsKey key) → Leaf c params (R.NetKey 2 index key)
+  pub net_update_leaf : (index : ℕ) (key : List ℕ) → index ≤ 0xfff → (O → IsKey key) → Leaf c O (R.NetKey 2 index key)
   net_update_leaf index key small is = record {
     change = tt;
     fits = λ s o. record {
@@ -178,7 +158,7 @@ module _ (c : Config) (params : List ℕ) where
   row_in : (index : ℕ) (r : NetKeyRow) → Every IsPhased c.nets → net_row c.nets index ≡ Some r → IsPhased r
   row_in index r h e = subst (Inside IsPhased) e (every_found IsPhased _ c.nets h)
 
-  pub phase_two_leaf : (index : ℕ) → index ≤ 0xfff → eqb (phase_of c index) 0 ≡ false → eqb (phase_of c index) 2 ≡ false → Leaf c params (R.NetKey 3 index (replicate 16 0))
+  pub phase_two_leaf : (index : ℕ) → index ≤ 0xfff → eqb (phase_of c index) 0 ≡ false → eqb (phase_of c index) 2 ≡ false → Leaf c O (R.NetKey 3 index (replicate 16 0))
   phase_two_leaf index small not_zero not_two = record {
     change = tt;
     fits = λ s o. record {
@@ -193,7 +173,7 @@ module _ (c : Config) (params : List ℕ) where
           let phased : IsPhased r = row_in index r (recursion_from_All IsPhased c.nets s.whole.phased) f in
           phased.next ∙ grind (arith, nat_tests, not_zero, not_two, phase_is index r f, phased.phase)
 
-  pub phase_end_leaf : (index : ℕ) → index ≤ 0xfff → Leaf c params (R.NetKey 4 index (replicate 16 0))
+  pub phase_end_leaf : (index : ℕ) → index ≤ 0xfff → Leaf c O (R.NetKey 4 index (replicate 16 0))
   phase_end_leaf index small = record {
     change = tt;
     fits = λ s o. record {
@@ -207,7 +187,7 @@ module _ (c : Config) (params : List ℕ) where
   two_of true n e = absurd cc
   two_of false n e = grind (arith, nat_tests, e)
 
-  pub net_delete_leaf : (index under : ℕ) → index ≤ 0xfff → (eqb index under || leb (length c.nets) 1) ≡ false → Leaf c params (R.NetKey 5 index (replicate 16 0))
+  pub net_delete_leaf : (index under : ℕ) → index ≤ 0xfff → (eqb index under || leb (length c.nets) 1) ≡ false → Leaf c O (R.NetKey 5 index (replicate 16 0))
   net_delete_leaf index under small kept = record {
     change = tt;
     fits = λ s o. record {
@@ -219,8 +199,8 @@ module _ (c : Config) (params : List ℕ) where
 
   -- Application keys.
 
-  pub app_add_leaf : (net index : ℕ) (key : List ℕ) → (Octets params → net ≤ 0xfff) → (Octets params → index ≤ 0xfff) → (Octets params → IsKey key)
-      → not (has_net c net) ≡ false → leb 8 (length c.apps) ≡ false → Leaf c params (R.AppKey 1 net index key)
+  pub app_add_leaf : (net index : ℕ) (key : List ℕ) → (O → net ≤ 0xfff) → (O → index ≤ 0xfff) → (O → IsKey key)
+      → not (has_net c net) ≡ false → leb 8 (length c.apps) ≡ false → Leaf c O (R.AppKey 1 net index key)
   app_add_leaf net index key net_small index_small is held full = record {
     change = tt;
     fits = λ s o. record {
@@ -234,7 +214,7 @@ module _ (c : Config) (params : List ℕ) where
       not_not true e = refl
       not_not false e = cc
 
-  pub app_update_leaf : (net index : ℕ) (key : List ℕ) → (Octets params → net ≤ 0xfff) → (Octets params → index ≤ 0xfff) → (Octets params → IsKey key) → Leaf c params (R.AppKey 2 net index key)
+  pub app_update_leaf : (net index : ℕ) (key : List ℕ) → (O → net ≤ 0xfff) → (O → index ≤ 0xfff) → (O → IsKey key) → Leaf c O (R.AppKey 2 net index key)
   app_update_leaf net index key net_small index_small is = record {
     change = tt;
     fits = λ s o. record {
@@ -244,7 +224,7 @@ module _ (c : Config) (params : List ℕ) where
     };
   }
 
-  pub app_delete_leaf : (net index : ℕ) → (Octets params → net ≤ 0xfff) → (Octets params → index ≤ 0xfff) → Leaf c params (R.AppKey 3 net index (replicate 16 0))
+  pub app_delete_leaf : (net index : ℕ) → (O → net ≤ 0xfff) → (O → index ≤ 0xfff) → Leaf c O (R.AppKey 3 net index (replicate 16 0))
   app_delete_leaf net index net_small index_small = record {
     change = tt;
     fits = λ s o. record {
@@ -256,7 +236,7 @@ module _ (c : Config) (params : List ℕ) where
 
   -- Bindings and subscriptions.
 
-  pub bind_leaf : (element : Address) (model app : ℕ) → (Octets params → element.0 < 2 ^ 16) → model < 2 ^ 16 → app ≤ 0xfff → leb 32 (length c.binds) ≡ false → Leaf c params (R.Bind 1 element model app)
+  pub bind_leaf : (element : Address) (model app : ℕ) → (O → element.0 < 2 ^ 16) → model < 2 ^ 16 → app ≤ 0xfff → leb 32 (length c.binds) ≡ false → Leaf c O (R.Bind 1 element model app)
   bind_leaf element model app element_small model_small app_small full = record {
     change = tt;
     fits = λ s o. record {
@@ -266,7 +246,7 @@ module _ (c : Config) (params : List ℕ) where
     };
   }
 
-  pub unbind_leaf : (element : Address) (model app : ℕ) → (Octets params → element.0 < 2 ^ 16) → model < 2 ^ 16 → app ≤ 0xfff → Leaf c params (R.Bind 2 element model app)
+  pub unbind_leaf : (element : Address) (model app : ℕ) → (O → element.0 < 2 ^ 16) → model < 2 ^ 16 → app ≤ 0xfff → Leaf c O (R.Bind 2 element model app)
   unbind_leaf element model app element_small model_small app_small = record {
     change = tt;
     fits = λ s o. record {
@@ -279,8 +259,8 @@ module _ (c : Config) (params : List ℕ) where
   room_for_one : (a b : ℕ) → leb 32 (a + b) ≡ false → (a < 32) × (b < 32)
   room_for_one a b e = (grind (arith, nat_tests, e), grind (arith, nat_tests, e))
 
-  pub subscribe_leaf : (element : Address) (model : ℕ) (group : Address) → (Octets params → element.0 < 2 ^ 16) → model < 2 ^ 16 → (Octets params → group.0 < 2 ^ 16)
-      → is_full c.subs c.labels ≡ false → Leaf c params (R.Subscribe 1 element model group)
+  pub subscribe_leaf : (element : Address) (model : ℕ) (group : Address) → (O → element.0 < 2 ^ 16) → model < 2 ^ 16 → (O → group.0 < 2 ^ 16)
+      → is_full c.subs c.labels ≡ false → Leaf c O (R.Subscribe 1 element model group)
   subscribe_leaf element model group element_small model_small group_small full = record {
     change = tt;
     fits = λ s o. record {
@@ -290,7 +270,7 @@ module _ (c : Config) (params : List ℕ) where
     };
   }
 
-  pub unsubscribe_leaf : (element : Address) (model : ℕ) (group : Address) → (Octets params → element.0 < 2 ^ 16) → model < 2 ^ 16 → (Octets params → group.0 < 2 ^ 16) → Leaf c params (R.Subscribe 2 element model group)
+  pub unsubscribe_leaf : (element : Address) (model : ℕ) (group : Address) → (O → element.0 < 2 ^ 16) → model < 2 ^ 16 → (O → group.0 < 2 ^ 16) → Leaf c O (R.Subscribe 2 element model group)
   unsubscribe_leaf element model group element_small model_small group_small = record {
     change = tt;
     fits = λ s o. record {
@@ -300,7 +280,7 @@ module _ (c : Config) (params : List ℕ) where
     };
   }
 
-  pub none_leaf : (element : Address) (model : ℕ) → (Octets params → element.0 < 2 ^ 16) → model < 2 ^ 16 → Leaf c params (R.Subscribe 3 element model (record { 0 = 0 }))
+  pub none_leaf : (element : Address) (model : ℕ) → (O → element.0 < 2 ^ 16) → model < 2 ^ 16 → Leaf c O (R.Subscribe 3 element model (record { 0 = 0 }))
   none_leaf element model element_small model_small = record {
     change = tt;
     fits = λ s o. record {
@@ -310,8 +290,8 @@ module _ (c : Config) (params : List ℕ) where
     };
   }
 
-  pub overwrite_leaf : (element : Address) (model : ℕ) (group : Address) → (Octets params → element.0 < 2 ^ 16) → model < 2 ^ 16 → (Octets params → group.0 < 2 ^ 16)
-      → is_full_of_others c element model ≡ false → Leaf c params (R.Subscribe 4 element model group)
+  pub overwrite_leaf : (element : Address) (model : ℕ) (group : Address) → (O → element.0 < 2 ^ 16) → model < 2 ^ 16 → (O → group.0 < 2 ^ 16)
+      → is_full_of_others c element model ≡ false → Leaf c O (R.Subscribe 4 element model group)
   overwrite_leaf element model group element_small model_small group_small full = record {
     change = tt;
     fits = λ s o. record {
@@ -321,8 +301,8 @@ module _ (c : Config) (params : List ℕ) where
     };
   }
 
-  pub label_leaf : (element : Address) (model : ℕ) (label : List ℕ) → (Octets params → element.0 < 2 ^ 16) → model < 2 ^ 16 → (Octets params → IsKey label)
-      → is_full c.subs c.labels ≡ false → Leaf c params (R.Label 1 element model label)
+  pub label_leaf : (element : Address) (model : ℕ) (label : List ℕ) → (O → element.0 < 2 ^ 16) → model < 2 ^ 16 → (O → IsKey label)
+      → is_full c.subs c.labels ≡ false → Leaf c O (R.Label 1 element model label)
   label_leaf element model label element_small model_small is full = record {
     change = tt;
     fits = λ s o. record {
@@ -332,7 +312,7 @@ module _ (c : Config) (params : List ℕ) where
     };
   }
 
-  pub unlabel_leaf : (element : Address) (model : ℕ) (label : List ℕ) → (Octets params → element.0 < 2 ^ 16) → model < 2 ^ 16 → (Octets params → IsKey label) → Leaf c params (R.Label 2 element model label)
+  pub unlabel_leaf : (element : Address) (model : ℕ) (label : List ℕ) → (O → element.0 < 2 ^ 16) → model < 2 ^ 16 → (O → IsKey label) → Leaf c O (R.Label 2 element model label)
   unlabel_leaf element model label element_small model_small is = record {
     change = tt;
     fits = λ s o. record {
@@ -342,8 +322,8 @@ module _ (c : Config) (params : List ℕ) where
     };
   }
 
-  pub label_overwrite_leaf : (element : Address) (model : ℕ) (label : List ℕ) → (Octets params → element.0 < 2 ^ 16) → model < 2 ^ 16 → (Octets params → IsKey label)
-      → is_full_of_others c element model ≡ false → Leaf c params (R.Label 4 element model label)
+  pub label_overwrite_leaf : (element : Address) (model : ℕ) (label : List ℕ) → (O → element.0 < 2 ^ 16) → model < 2 ^ 16 → (O → IsKey label)
+      → is_full_of_others c element model ≡ false → Leaf c O (R.Label 4 element model label)
   label_overwrite_leaf element model label element_small model_small is full = record {
     change = tt;
     fits = λ s o. record {
@@ -355,13 +335,13 @@ module _ (c : Config) (params : List ℕ) where
 
   -- Features, a Node Reset, and publications.
 
-  pub feature_leaf : (which value : ℕ) → (Octets params → IsInRange (R.Feature which value)) → Leaf c params (R.Feature which value)
+  pub feature_leaf : (which value : ℕ) → (O → IsInRange (R.Feature which value)) → Leaf c O (R.Feature which value)
   feature_leaf which value is = record { change = tt; fits = λ s o. record { range = is o; within = tt; keeps = tt } }
 
-  pub reset_leaf : Leaf c params R.Reset
+  pub reset_leaf : Leaf c O R.Reset
   reset_leaf = record { change = tt; fits = λ s o. record { range = tt; within = tt; keeps = tt } }
 
-  pub publish_leaf : (row : PublishRow) → (Octets params → IsInRange (R.Publish row)) → leb 8 (length (filter (λ r. not (is_model_row row.element row.model r)) c.publications)) ≡ false → Leaf c params (R.Publish row)
+  pub publish_leaf : (row : PublishRow) → (O → IsInRange (R.Publish row)) → leb 8 (length (filter (λ r. not (is_model_row row.element row.model r)) c.publications)) ≡ false → Leaf c O (R.Publish row)
   publish_leaf row is full = record {
     change = tt;
     fits = λ s o. record {

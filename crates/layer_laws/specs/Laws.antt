@@ -3,14 +3,11 @@ use Rattle.std.specs.Prelude.{◌<◌, ◌≤◌, ◌^◌, [], ◌∷◌, ◌++�
 use Rattle.node_layers.specs.BuiltLayers.{built_layers}
 use Rattle.node_layers.specs.NodeLayers.{node_layers}
 use Rattle.record_types.specs.declared.records.StoreRecord.TheVariants as R
-use Rattle.report_definitions.specs.Record.{Run}
-use Rattle.run_definitions.specs.Answers.{config_before}
-use Rattle.run_definitions.specs.Fit.{AreFit, AreStorable}
-use Rattle.run_definitions.specs.History.{Past}
-use Rattle.run_definitions.specs.Layers.{AccessMessage, Layers}
-use Rattle.run_definitions.specs.RunOf.{RunOf, Script}
-use Rattle.run_definitions.specs.Uses.{AtMostOnce, NoReuse, delivered, uses}
-use Rattle.run_safety.specs.Safety.{AreSafe}
+use Rattle.event_definitions.specs.Answers.{config_before}
+use Rattle.event_definitions.specs.Fit.{AreFit, AreStorable}
+use Rattle.event_definitions.specs.History.{Past}
+use Rattle.event_definitions.specs.Layers.{AccessMessage, Layers}
+use Rattle.event_definitions.specs.Safe.{AreSafe}
 use Rattle.store_definitions.specs.Config.{Config}
 use Rattle.store_definitions.specs.Node.{IsWhole}
 
@@ -41,10 +38,3 @@ StoreFitting layers =
     (past : Past) (m : AccessMessage) → IsWhole (config_before past) → IsWithinLimits (config_before past)
     → All (λ octet. octet < 2 ^ 8) m.payload
     → AreStorable (past.records ++ R.Replay m.name None ∷ []) (layers.changes past m)
-
--- so no run of a node with these layers reuses a nonce or delivers a message twice
-abbrev pub RunsReuseNothing : Layers → Type 0
-RunsReuseNothing layers = (s : Script) (r : Run) → RunOf layers s r → NoReuse (uses r)
-
-abbrev pub RunsDeliverOnce : Layers → Type 0
-RunsDeliverOnce layers = (s : Script) (r : Run) → RunOf layers s r → AtMostOnce (delivered r)

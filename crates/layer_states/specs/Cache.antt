@@ -1,7 +1,8 @@
--- The network message cache (Mesh Profile 1.0.1, section 3.4.5.5): the names of the last 128 network PDUs that weren't in it, the oldest
--- first. A name that is in it stays in its place when it is heard again.
+-- The network message cache (Mesh Profile 1.0.1, section 3.4.5.5): the names of the last network PDUs that weren't in it, as many as it
+-- remembers, the oldest first. A name that is in it stays in its place when it is heard again.
 use Rattle.std.specs.Prelude.{◌≡◌, ℕ, ◌-◌, Bool, if◌then◌else◌, List, [], ◌∷◌, ◌++◌, length, drop}
 use Rattle.std.specs.List.{list_any}
+use Rattle.node_limits.specs.declared.TheConstants.{MESSAGE_CACHE}
 use Rattle.layer_states.specs.Names.{is_name}
 use Rattle.mesh_base.specs.declared.pair.Name.{Name}
 
@@ -15,7 +16,7 @@ is_cached names n = list_any (is_name n) names
 
 -- the cache with a PDU that wasn't in it
 abbrev pub remembered : List Name → Name → List Name
-remembered names n = last_of 128 (names ++ n ∷ [])
+remembered names n = last_of MESSAGE_CACHE (names ++ n ∷ [])
 
 -- what a PDU heard leaves of the cache
 abbrev pub after_heard : List Name → Name → List Name

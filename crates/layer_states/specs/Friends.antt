@@ -3,6 +3,7 @@
 use Rattle.std.specs.Prelude.{ℕ, ◌+◌, ◌-◌, ◌*◌, ◌%◌, ◌^◌, ◌==◌, ◌||◌, ◌&&◌, not, nat_lt, nat_le, Bool, true, false, if◌then◌else◌, List, [], ◌∷◌, ◌++◌, length, drop, map, filter, find, fold, slice_index, Option, Some, None, is_some, is_none, Result, Ok, Err}
 use Rattle.std.specs.List.{list_any}
 use Rattle.std.specs.Option.{option_map, option_map_or}
+use Rattle.node_limits.specs.declared.TheConstants.{FRIENDSHIPS, FRIEND_QUEUE_LOG, FRIEND_QUEUE, FRIEND_ADDRESSES}
 use Rattle.layer_definitions.specs.KeyRefresh.{friendship_material, transmit_key}
 use Rattle.layer_states.specs.Cache.{last_of}
 use Rattle.layer_states.specs.Names.{is_same, is_unicast}
@@ -56,31 +57,31 @@ change_where test change slots = map (λ s. if test s then change s else s) slot
 abbrev pub is_between : ℕ → ℕ → ℕ → Bool
 is_between low high n = nat_le low n && nat_le n high
 
--- The first field outside its range, counted from 1: MinQueueSizeLog, in the low 3 bits of Criteria, is 1 to 4; ReceiveDelay is at least 10
+-- The first field outside its range, counted from 1: MinQueueSizeLog, in the low 3 bits of Criteria, is 1 to that of the queue; ReceiveDelay is at least 10
 -- milliseconds; PollTimeout is 1 second to 96 hours; PreviousAddress is unassigned or unicast; there is an element, and each has a unicast
 -- address.
 abbrev pub field_outside : Address → Request → Option ℕ
 field_outside lpn r =
-    if not (is_between 1 4 (r.criteria % 2 ^ 3)) then Some 1
+    if not (is_between 1 FRIEND_QUEUE_LOG (r.criteria % 2 ^ 3)) then Some 1
     else if nat_lt r.receive_delay 0x0a then Some 2
     else if not (is_between 0x00000a 0x34bbff r.poll_timeout) then Some 3
     else if not (r.previous.0 == 0 || is_unicast r.previous) then Some 4
     else if r.elements == 0 || nat_lt 0x7fff (lpn.0 + r.elements - 1) then Some 5
     else None
 
--- two others may stand
+-- no place is left by the others that stand
 abbrev pub request_fault : ℕ → List Friendship → Address → Request → Option FriendFault
 request_fault now slots lpn r =
     let held = length (others lpn (standing now slots)) in
-    if nat_le 2 held then Some (NoSlot held) else option_map BadRequest (field_outside lpn r)
+    if nat_le FRIENDSHIPS held then Some (NoSlot held) else option_map BadRequest (field_outside lpn r)
 
--- ReceiveWindow of 100 milliseconds, 16 messages, 16 addresses, and an RSSI that isn't known (3.6.5.4)
+-- ReceiveWindow of 100 milliseconds, the sizes of the queue and of the list, and an RSSI that isn't known (3.6.5.4)
 abbrev pub offer_of : ℕ → Offer
 offer_of counter =
     record {
       receive_window = 0x64;
-      queue_size = 0x10;
-      subscription_list_size = 0x10;
+      queue_size = FRIEND_QUEUE;
+      subscription_list_size = FRIEND_ADDRESSES;
       rssi = 0x7f;
       friend_counter = counter;
     }
@@ -198,14 +199,14 @@ is_stored f s =
     && not (has_address s f.src)
     && (has_address s f.dst || list_any (is_address f.dst) s.list)
 
--- the queue holds 16 messages: a 17th takes the place of the oldest
+-- in a full queue a message more takes the place of the oldest
 abbrev pub queued : QueueEntry → Friendship → Friendship
-queued e s = record s { answered = s.answered && nat_lt (length s.queue) 16; queue = last_of 16 (s.queue ++ e ∷ []) }
+queued e s = record s { answered = s.answered && nat_lt (length s.queue) FRIEND_QUEUE; queue = last_of FRIEND_QUEUE (s.queue ++ e ∷ []) }
 
--- The Friend Subscription List (3.6.6.4.3): it holds 16 addresses, each once, and passes over the rest.
+-- The Friend Subscription List (3.6.6.4.3): it holds each address once, and passes over those that have no place.
 
 abbrev pub with_address : List Address → Address → List Address
-with_address list a = if list_any (is_address a) list || nat_le 16 (length list) then list else list ++ a ∷ []
+with_address list a = if list_any (is_address a) list || nat_le FRIEND_ADDRESSES (length list) then list else list ++ a ∷ []
 
 abbrev pub list_with : List Address → List Address → List Address
 list_with list added = fold with_address list added

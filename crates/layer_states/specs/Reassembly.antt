@@ -3,6 +3,7 @@
 use Rattle.std.specs.Prelude.{ℕ, ◌+◌, ◌-◌, ◌*◌, ◌^◌, ◌==◌, ◌||◌, ◌&&◌, not, nat_lt, nat_le, Bool, true, false, if◌then◌else◌, List, [], ◌∷◌, ◌++◌, length, take, map, filter, replicate, slice_set, count_by, bytes_eq, fold, Option, Some, None, is_some, is_none, unwrap_or, slice_index_or}
 use Rattle.std.specs.List.{flat_map, filter_map, position_or_len}
 use Rattle.std.specs.Option.{option_map, option_map_or}
+use Rattle.node_limits.specs.declared.TheConstants.{MESSAGES_IN_PROGRESS}
 use Rattle.layer_states.specs.Names.{is_name, is_same, is_unicast}
 use Rattle.layer_states.specs.declared.reassembly.Assembly.{Assembly}
 use Rattle.layer_states.specs.declared.reassembly.DueAck.{DueAck}
@@ -153,14 +154,14 @@ judged_after a now h = if is_at_odds a h then a else heard_by a now h
 abbrev pub live : ℕ → List Assembly → List Assembly
 live now rows = filter (λ a. nat_lt (now - a.renewed) 1000) rows
 
--- a message that isn't in progress begins while fewer than 8 others are
+-- a message that isn't in progress begins while there is a place
 abbrev pub has_no_room : Name → List Assembly → Bool
-has_no_room n rows = not (is_held n rows) && nat_le 8 (length rows)
+has_no_room n rows = not (is_held n rows) && nat_le MESSAGES_IN_PROGRESS (length rows)
 
 -- what becomes of a segment, over the messages in progress
 abbrev pub taken : List Assembly → ℕ → PartHeard → Taken
 taken rows now h =
-    if has_no_room h.name rows then NoRoom (take 8 (names_of rows)) else judged (message_for rows now h) now h
+    if has_no_room h.name rows then NoRoom (take MESSAGES_IN_PROGRESS (names_of rows)) else judged (message_for rows now h) now h
 
 -- what it leaves of them; a whole message stays until it is released
 abbrev pub noted : List Assembly → ℕ → PartHeard → List Assembly

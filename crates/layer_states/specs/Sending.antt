@@ -3,11 +3,12 @@
 use Rattle.std.specs.Prelude.{ℕ, ◌+◌, ◌*◌, ◌/◌, ◌%◌, ◌^◌, ◌==◌, ◌||◌, ◌&&◌, not, nat_le, Bool, true, false, if◌then◌else◌, List, [], ◌∷◌, ◌++◌, length, map, filter, remove, slice_set, slice_get, fold, Option, Some, None}
 use Rattle.std.specs.List.{flat_map, filter_map, position_or_len, range_with_len}
 use Rattle.std.specs.Option.{option_map_or}
+use Rattle.node_limits.specs.declared.TheConstants.{OWN_MESSAGES}
 use Rattle.layer_definitions.specs.Lower.{last_segment}
 use Rattle.layer_states.specs.Names.{is_unicast}
 use Rattle.layer_states.specs.declared.sending.Acked.{Acked}
 use Rattle.layer_states.specs.declared.sending.Acked.TheVariants.{Stranger, Part, Whole, Cancelled}
-use Rattle.layer_states.specs.declared.sending.Outgoing.{Outgoing}
+use Rattle.mesh_types.specs.declared.events.Outgoing.{Outgoing}
 use Rattle.layer_states.specs.declared.sending.Sending.{Sending}
 use Rattle.mesh_base.specs.declared.address.Address.{Address}
 use Rattle.mesh_base.specs.declared.pair.Name.{Name}
@@ -28,9 +29,9 @@ rounds_of m = if is_unicast m.dst then 4 else 3
 abbrev pub begun : ℕ → Outgoing → Sending
 begun now m = record { message = m; left = pieces_of m; rounds = 1; due = round_after now m }
 
--- at most 4 are held
+-- so many are held as have a place
 abbrev pub is_full : List Sending → Bool
-is_full rows = nat_le 4 (length rows)
+is_full rows = nat_le OWN_MESSAGES (length rows)
 
 -- Acknowledgments (3.5.2.3.1, 3.5.3.3).
 

@@ -9,6 +9,7 @@ use mesh_base::keys::UpperKey;
 use mesh_base::octets::Octets;
 use mesh_base::pair::Name;
 use mesh_base::table::Table;
+use node_limits::{FRIEND_ADDRESSES, FRIEND_QUEUE, FRIENDSHIPS};
 use std::marker::Model;
 use thiserror::Error;
 
@@ -45,11 +46,11 @@ impl Default for QueueEntry {
     }
 }
 
-/// A Friend Queue: at most 16 messages, the oldest first. A clause sees it as the list of them.
+/// A Friend Queue: at most `FRIEND_QUEUE` messages, the oldest first. A clause sees it as the list of them.
 #[derive(Drop)]
 pub struct Queue {
     /// The messages.
-    pub entries: ArrayVec<QueueEntry, 16>,
+    pub entries: ArrayVec<QueueEntry, FRIEND_QUEUE>,
 }
 
 impl Model for Queue {
@@ -85,8 +86,8 @@ pub struct KeptPdu {
     pub pdu: Octets<29>,
 }
 
-/// A Friend Subscription List: at most 16 addresses.
-pub type AddressTable = Table<Address, 16>;
+/// A Friend Subscription List.
+pub type AddressTable = Table<Address, FRIEND_ADDRESSES>;
 
 /// An offer to a Low Power node, and from its first Poll on the friendship with it. It holds a key, so it can't be
 /// printed.
@@ -166,4 +167,4 @@ pub enum FriendFault {
 }
 
 /// The Low Power nodes of the friendships that stand, with their PollTimeout in units of 100 ms.
-pub type PollList = Table<(Address, u32), 2>;
+pub type PollList = Table<(Address, u32), FRIENDSHIPS>;

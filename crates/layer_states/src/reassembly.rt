@@ -7,6 +7,7 @@ use mesh_base::lower::Lower;
 use mesh_base::octets::Octets;
 use mesh_base::pair::Name;
 use mesh_base::table::Table;
+use node_limits::MESSAGES_IN_PROGRESS;
 use std::marker::Model;
 
 /// What all segments of a message have in common besides their name and SegN.
@@ -109,7 +110,7 @@ pub enum Taken {
     /// It belongs to no message in progress, and eight others are in progress.
     NoRoom {
         /// Their names, in the order in which they began.
-        held: [Name; 8],
+        held: [Name; MESSAGES_IN_PROGRESS],
     },
 }
 
@@ -129,4 +130,4 @@ pub struct DueAck {
 }
 
 /// Acknowledgments that are due, in the order in which their messages began.
-pub type AckList = Table<DueAck, 8>;
+pub type AckList = Table<DueAck, MESSAGES_IN_PROGRESS>;

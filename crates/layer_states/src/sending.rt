@@ -1,32 +1,13 @@
 //! Own messages of which segments are sent (Mesh Profile 1.0.1, section 3.5.3.2).
 #![tactic(auto)]
 
-use mesh_base::address::Address;
-use mesh_base::octets::Octets;
 use mesh_base::pair::Name;
 use mesh_base::table::Table;
-
-/// An own access message that is sent in segments.
-#[derive(Default, Drop)]
-pub struct Outgoing {
-    /// Its name: SRC with its SeqAuth.
-    pub name: Name,
-    /// DST.
-    pub dst: Address,
-    /// TTL, below 128.
-    pub ttl: u8,
-    /// The index of the network key, 12 bits.
-    pub net: u16,
-    /// Whether an application key sealed it; else a device key.
-    pub akf: bool,
-    /// AID, 6 bits; 0 with a device key.
-    pub aid: u8,
-    /// The upper transport PDU, 5 to 384 octets.
-    pub upper: Octets<384>,
-}
+use mesh_types::events::Outgoing;
+use node_limits::{DUE_SEGMENTS, SEGMENTS};
 
 /// Pieces of a message by their SegO, in ascending order.
-pub type PieceList = Table<u8, 32>;
+pub type PieceList = Table<u8, SEGMENTS>;
 
 /// An own message with what is known of its segments.
 #[derive(Default, Drop)]
@@ -54,5 +35,5 @@ pub enum Acked {
     Cancelled,
 }
 
-/// Segments that are due: the name of a message, and a SegO; at most 32 of each of 4 messages.
-pub type DueList = Table<(Name, u8), 128>;
+/// Segments that are due: the name of a message, and a SegO; at most all of each message.
+pub type DueList = Table<(Name, u8), DUE_SEGMENTS>;

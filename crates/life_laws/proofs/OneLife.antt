@@ -14,13 +14,13 @@ use Rattle.mesh_base.specs.declared.pair.Pair.{Pair}
 use Rattle.mesh_types.specs.declared.history.Entry.{Entry}
 use Rattle.node_phase.proofs.Mine.{kept_no, kept_yes}
 use Rattle.store_definitions.specs.Numbers.{fill_of, filled}
-use Rattle.run_definitions.specs.Answers.{answer_of}
-use Rattle.run_definitions.specs.Handling.{AreHandled}
-use Rattle.run_definitions.specs.History.{Insight, Past, Told}
-use Rattle.run_definitions.specs.Layers.{Layers}
+use Rattle.event_definitions.specs.Answers.{answer_of}
+use Rattle.event_definitions.specs.Handling.{AreHandled}
+use Rattle.event_definitions.specs.History.{Insight, Past, Told}
+use Rattle.event_definitions.specs.Layers.{Layers}
 use Rattle.run_definitions.specs.Order.{Step, is_cut, is_outside, phases_of}
 use Rattle.run_definitions.specs.RunOf.{IsDrawn, IsNumbered, IsSpentRight, Leaves, LifeOf, Opens, draws, is_on, no_record, of_event, of_refill, opens, past_at_end, plan_events}
-use Rattle.run_definitions.specs.Stores.{stores}
+use Rattle.event_definitions.specs.Stores.{stores}
 use Rattle.store_definitions.specs.Config.{config_of}
 use Rattle.machine_contract.specs.declared.answers.Hand.{Hand}
 use Rattle.machine_contract.specs.declared.answers.Hand.TheVariants as H
@@ -37,7 +37,7 @@ stores_inside layers past (E.Bcn octets) insight answer e = absurd (true≢false
 stores_inside layers past (E.Send element dst ttl key payload) insight answer e = absurd (true≢false e)
 stores_inside layers past (E.Raw dst ttl tpdu) insight answer e = absurd (true≢false e)
 stores_inside layers past (E.Tick ticks) insight answer e = absurd (true≢false e)
-stores_inside layers past (E.Begin pair dst src ttl net akf aid upper) insight answer e = refl
+stores_inside layers past (E.Begin m) insight answer e = refl
 stores_inside layers past (E.Kept lpn fsn name octets) insight answer e = refl
 
 take_nil : {A : Type 0} (n : ℕ) → take {A = A} n [] ≡ []

@@ -4,7 +4,7 @@ use Rattle.flash_model.specs.Chip.{Chip}
 use Rattle.machine_contract.specs.Standing.{IsLifeSoFar}
 use Rattle.machine_contract.specs.View.{MachineView}
 use Rattle.record_types.specs.declared.records.StoreRecord.{StoreRecord}
-use Rattle.run_definitions.specs.Layers.{Layers}
+use Rattle.event_definitions.specs.Role.{Role}
 use Rattle.store_definitions.specs.Recovered.{IsRecovered}
 use Rattle.locked_node.specs.Node.{NodeView}
 
@@ -26,11 +26,11 @@ pub record Holds {M F : Type 0} (stands : Chip → List StoreRecord → M → Ty
   pub later : IsLater (chip start) (chip flash)
 
 -- the same as a caller sees it
-pub record IsNode {F : Type 0} (layers : Layers) (image : List ℕ → Type 0) (chip : F → Chip)
+pub record IsNode {F : Type 0} (role : Role) (image : List ℕ → Type 0) (chip : F → Chip)
     (n : NodeView F) : Type 0 where
   pub over : List StoreRecord
   pub read : IsRecovered (chip n.start).now over
-  pub life : IsLifeSoFar layers image (chip n.flash) over n.machine
+  pub life : IsLifeSoFar role image (chip n.flash) over n.machine
   pub few : n.stops < 2 ^ 32
   pub live : n.machine.closed ≡ false → n.stops ≡ 0
   pub stopped : n.machine.closed ≡ true → 0 < n.stops

@@ -172,7 +172,7 @@ impl<M: Machine, F: Bench> Node<M, F> {
 
     /// What holds of it. It does nothing.
     pub fn known(&self)
-        ensures known { IsNode M.layers M.image F.chip self.now }
+        ensures known { IsNode M.role M.image F.chip self.now }
         ensures few { length (node_marks self.now) < 2 ^ 64 }
     {
         let _ = &self.machine;

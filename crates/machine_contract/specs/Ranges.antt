@@ -29,9 +29,9 @@ IsEvent elements (E.Send element dst ttl key payload) =
     × (1 ≤ length payload) × (length payload ≤ 380)
 IsEvent elements (E.Raw dst ttl tpdu) = (1 ≤ dst.0) × (ttl < 2 ^ 7) × (1 ≤ length tpdu) × (length tpdu ≤ 12)
 IsEvent elements (E.Tick ticks) = ⊤
-IsEvent elements (E.Begin pair dst src ttl net akf aid upper) =
-    (pair.seq < 2 ^ 24) × (ttl < 2 ^ 7) × (aid < 2 ^ 6) × (IsFalse akf → aid ≡ 0) × (5 ≤ length upper)
-    × (length upper ≤ 384)
+IsEvent elements (E.Begin m) =
+    (m.name.pair.seq < 2 ^ 24) × (m.ttl < 2 ^ 7) × (m.aid < 2 ^ 6) × (IsFalse m.akf → m.aid ≡ 0) × (5 ≤ length m.upper)
+    × (length m.upper ≤ 384)
 IsEvent elements (E.Kept lpn fsn name octets) = ⊤
 
 -- the key of an access message: AID has 6 bits
@@ -49,8 +49,8 @@ IsJob event (J.Message net material key ttl src dst payload keep) =
 IsJob (E.Send element at hops with payload) (J.Sent net material key ttl src dst) =
     (material.nid < 2 ^ 7) × (ttl < 2 ^ 7) × IsUpperKey key × (1 ≤ length payload) × (length payload ≤ 380)
 IsJob event (J.Sent net material key ttl src dst) = ⊥
-IsJob event (J.Segment material name ttl src dst seg_o seg_n tpdu first) =
-    (material.nid < 2 ^ 7) × (ttl < 2 ^ 7) × (name.pair.seq < 2 ^ 24) × (1 ≤ length tpdu) × (length tpdu ≤ 16)
+IsJob event (J.Segment s) =
+    (s.material.nid < 2 ^ 7) × (s.ttl < 2 ^ 7) × (s.name.pair.seq < 2 ^ 24) × (1 ≤ length s.tpdu) × (length s.tpdu ≤ 16)
 IsJob event (J.Repeat name octets) = ⊤
 IsJob event (J.Beacon octets) = ⊤
 

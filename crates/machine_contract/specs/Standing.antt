@@ -3,12 +3,10 @@ use Rattle.std.specs.Prelude.{◌≡◌, ◌⊎◌, ℕ, ◌<◌, ◌≤◌, ◌
 use Rattle.flash_model.specs.Chip.{Chip}
 use Rattle.mesh_types.specs.declared.events.Event.{Event}
 use Rattle.record_types.specs.declared.records.StoreRecord.{StoreRecord}
-use Rattle.run_definitions.specs.Answers.{answer_of}
-use Rattle.run_definitions.specs.Handling.{AreHandled, records_left}
-use Rattle.run_definitions.specs.History.{Insight, Past, Told}
-use Rattle.run_definitions.specs.Layers.{Layers}
-use Rattle.run_definitions.specs.Readings.{Sees}
-use Rattle.run_definitions.specs.Stores.{stores}
+use Rattle.event_definitions.specs.Handling.{AreHandled, records_left}
+use Rattle.event_definitions.specs.History.{Insight, Past, Told}
+use Rattle.run_definitions.specs.Order.{is_outside}
+use Rattle.event_definitions.specs.Role.{Role}
 use Rattle.store_definitions.specs.Config.{config_of}
 use Rattle.store_definitions.specs.Numbers.{fill_of, filled}
 use Rattle.machine_contract.specs.declared.answers.Hand.{Hand}
@@ -17,36 +15,37 @@ use Rattle.machine_contract.specs.Opening.{EachRecovered, IsLeft, IsNodeFlash}
 use Rattle.machine_contract.specs.View.{MachineView}
 
 -- what stands after these entries and so many refills, in a life that opened over some records
-abbrev pub past_now : Layers → List StoreRecord → List Told → ℕ → Past
-past_now layers over told fills = record { told = told; records = filled fills (records_left layers over [] told) }
+abbrev pub past_now : Role → List StoreRecord → List Told → ℕ → Past
+past_now role over told fills = record { told = told; records = filled fills (records_left role over [] told) }
 
--- What a cut may leave in an event: a front of the event's records, behind those of before.
-pub record IsFrontLeft (layers : Layers) (past : Past) (event : Event) (next : List StoreRecord) : Type 0 where
+-- What a cut may leave in an event from outside: a front of the event's records, behind those of before.
+pub record IsFrontLeft (role : Role) (past : Past) (event : Event) (next : List StoreRecord) : Type 0 where
+  pub outside : is_outside event ≡ true
   pub insight : Insight
-  pub sees : Sees layers past event insight
+  pub sees : role.sees past event insight
   pub count : ℕ
   pub left : IsLeft past.records
-      (take count (stores layers past event insight (answer_of layers past event insight))) next
+      (take count (role.stores past event insight (role.answer past event insight))) next
 
 -- What an image recovers, by what a failed call had in hand: all records so far, or these and what may be left of the ones in hand.
-abbrev pub IsLeftBy : Layers → Past → Hand → List StoreRecord → Type 0
-IsLeftBy layers past H.Nothing next = IsLeft past.records [] next
-IsLeftBy layers past (H.OfEvent event) next = IsLeft past.records [] next ⊎ IsFrontLeft layers past event next
-IsLeftBy layers past H.OfRefill next =
+abbrev pub IsLeftBy : Role → Past → Hand → List StoreRecord → Type 0
+IsLeftBy role past H.Nothing next = IsLeft past.records [] next
+IsLeftBy role past (H.OfEvent event) next = IsLeft past.records [] next ⊎ IsFrontLeft role past event next
+IsLeftBy role past H.OfRefill next =
     IsLeft past.records [] next ⊎ IsLeft past.records (fill_of (config_of past.records) ∷ []) next
 
 -- The entries so far were handled in order, from the records that the life opened over; an image recovers what they left, with the mark
 -- that is published at most; and the machine is closed only where the flash failed.
-pub record IsLifeSoFar (layers : Layers) (IsNodeImage : List ℕ → Type 0) (chip : Chip) (over : List StoreRecord)
+pub record IsLifeSoFar (role : Role) (IsNodeImage : List ℕ → Type 0) (chip : Chip) (over : List StoreRecord)
     (m : MachineView) : Type 0 where
   pub told : List Told
   pub entries : map (λ t. t.entry) told ≡ m.entries
-  pub handled : AreHandled layers over [] told
+  pub handled : AreHandled role over [] told
   pub few : length m.entries < 2 ^ 32
   pub elements : m.elements ≡ (config_of over).elements
   pub node : IsNodeFlash IsNodeImage chip
   pub left : EachRecovered chip
-      (λ next. IsLeftBy layers (past_now layers over told m.fills) m.hand next × (m.mark ≤ (config_of next).mark))
+      (λ next. IsLeftBy role (past_now role over told m.fills) m.hand next × (m.mark ≤ (config_of next).mark))
   pub idle : m.closed ≡ false → m.hand ≡ H.Nothing
   pub failed : m.closed ≡ true → chip.setting.faults < chip.faults
 

@@ -4,7 +4,7 @@
 ghost use Rattle.std.specs.Prelude.{◌≡◌, ℕ, ◌+◌, ◌<◌, ◌≤◌, ◌^◌, List, [], ◌∷◌, ◌++◌, length, All, true, false, Ok, Err, IsErr, IfOk, OnOk, IfErr};
 ghost use Rattle.flash_model.specs.Chip.{Chip, IsFresh, Keeps};
 ghost use Rattle.record_types.specs.declared.records.StoreRecord.{StoreRecord};
-ghost use Rattle.run_definitions.specs.Layers.{Layers};
+ghost use Rattle.event_definitions.specs.Role.{Role};
 ghost use Rattle.run_definitions.specs.Order.{is_outside};
 ghost use Rattle.seq_word.specs.Word.{seq_of};
 ghost use Rattle.machine_contract.specs.Opening.{IsNodeFlash};
@@ -28,8 +28,8 @@ use std::alloc::Global;
 /// `stands` ties a machine to its flash and to the records that its life opened over. `start` gives it, each call keeps it whatever the
 /// call answers, and `tells` says what it means in terms of what the machine shows, its `view`.
 pub trait Machine: Send + Drop {
-    // What the layers above the lower transport layer say of a life.
-    ghost layers: { Layers };
+    // What kind of node it is.
+    ghost role: { Role };
 
     // What `start` asks of each image of a flash: it recovers a node or a reset.
     ghost image: { List ℕ → Type 0 };
@@ -114,7 +114,7 @@ pub trait Machine: Send + Drop {
     /// What a machine that stands tells of its life. It does nothing.
     fn tells<F: Flash>()
         ensures known { (f : F) (over : List StoreRecord) (m : Self) → stands (F.chip f) over m
-            → IsLifeSoFar layers image (F.chip f) over (view m) };
+            → IsLifeSoFar role image (F.chip f) over (view m) };
 
     /// A machine stands over the same flash, also where that was given an arm. It does nothing.
     fn stays<F: Flash>()

@@ -16,9 +16,9 @@ use Rattle.mesh_base.specs.declared.pair.Name.{Name}
 use Rattle.mesh_types.specs.declared.answers.Answer.{Answer}
 use Rattle.mesh_types.specs.declared.answers.Answer.TheVariants as A
 use Rattle.node_layers.specs.Reassembly.{calls_at, calls_from, message_calls, messages, named_calls, part_calls, part_heard, tick_calls, whole_calls}
-use Rattle.run_definitions.specs.Answers.{message_name}
-use Rattle.run_definitions.specs.History.{Insight, OfBeacon, OfNothing, OfPdu, Past, Reading, Told, ticks_after}
-use Rattle.run_definitions.specs.Jobs.{reply_ttl}
+use Rattle.event_definitions.specs.Answers.{message_name}
+use Rattle.event_definitions.specs.History.{Insight, OfBeacon, OfNothing, OfPdu, Past, Reading, Told, ticks_after}
+use Rattle.event_definitions.specs.Jobs.{reply_ttl}
 use Rattle.store_definitions.specs.Config.{Config, config_of}
 
 abbrev pub IsShort : ℕ → Type 0

@@ -32,9 +32,9 @@ use Rattle.node_friends.specs.declared.acts.FriendAct.TheVariants as F
 use Rattle.node_layers.proofs.FriendKeys.{HasNid, friend_nids}
 use Rattle.node_layers.specs.Friendship.{answer_jobs, clear_jobs, control_jobs, friend_keys, friends, heard_calls}
 use Rattle.node_layers.specs.NodeLayers.{node_layers}
-use Rattle.run_definitions.specs.Answers.{config_before}
-use Rattle.run_definitions.specs.History.{Insight, OfBeacon, OfNothing, OfPdu, Past, Reading, now_of}
-use Rattle.run_definitions.specs.Readings.{IsReading, keys_heard}
+use Rattle.event_definitions.specs.Answers.{config_before}
+use Rattle.event_definitions.specs.History.{Insight, OfBeacon, OfNothing, OfPdu, Past, Reading, now_of}
+use Rattle.event_definitions.specs.Readings.{IsReading, keys_heard}
 use Rattle.store_definitions.specs.Config.{Config}
 
 -- The material by which a PDU was heard has a NID of 7 bits: it is that of a network key, or of a friendship.

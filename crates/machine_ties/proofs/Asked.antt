@@ -11,7 +11,7 @@ use Rattle.layer_definitions.specs.Network.{HasPdu}
 use Rattle.layer_states.specs.Reassembly.{acks_due}
 use Rattle.layer_states.specs.Sending.{round_of}
 use Rattle.layer_states.specs.declared.reassembly.DueAck.{DueAck}
-use Rattle.layer_states.specs.declared.sending.Outgoing.{Outgoing}
+use Rattle.mesh_types.specs.declared.events.Outgoing.{Outgoing}
 use Rattle.layer_states.specs.declared.sending.Sending.{Sending}
 use Rattle.machine_contract.specs.Ranges.{IsEvent, IsJob, IsQuiet, IsUpperKey}
 use Rattle.machine_ties.proofs.Acks.{IsShort, IsShortTold, acks_short, reply_short}
@@ -41,14 +41,14 @@ use Rattle.node_layers.specs.NodeLayers.{node_layers, published_at}
 use Rattle.mesh_jobs.proofs.Rounds.{rounds_are}
 use Rattle.node_layers.proofs.FriendKeys.{HasNid}
 use Rattle.node_layers.specs.Reassembly.{acks_at, due_job, due_jobs, messages}
-use Rattle.node_layers.specs.Sending.{round_jobs, segment_job, segments_at}
+use Rattle.node_layers.specs.Sending.{round_jobs, segments_at}
 use Rattle.node_layers.specs.Sending as own
 use Rattle.node_snapshot.proofs.Built.{IsPublishRow}
-use Rattle.run_definitions.specs.Answers.{config_before, is_before_cache, later}
-use Rattle.run_definitions.specs.History.{Insight, OfBeacon, OfNothing, OfPdu, Opening, Past, Reading}
-use Rattle.run_definitions.specs.Jobs.{ack_asked, ack_job, ack_jobs, beacon_jobs, beacons_due, begin_jobs, block_asked, element_address, first_net, first_round_job, jobs_of, message_jobs, pdu_jobs, raw_jobs, refresh_jobs, relay_jobs, segment_numbers, send_jobs, send_keys, sent_job, under}
+use Rattle.event_definitions.specs.Answers.{config_before, is_before_cache, later}
+use Rattle.event_definitions.specs.History.{Insight, OfBeacon, OfNothing, OfPdu, Opening, Past, Reading}
+use Rattle.event_definitions.specs.Jobs.{ack_asked, ack_job, ack_jobs, beacon_jobs, beacons_due, begin_jobs, block_asked, element_address, first_net, first_round_job, jobs_of, message_jobs, pdu_jobs, raw_jobs, refresh_jobs, relay_jobs, segment_numbers, send_jobs, send_keys, sent_job, under, segment_job}
 use Rattle.run_definitions.specs.Order.{is_outside}
-use Rattle.run_definitions.specs.Readings.{IsOpening, Sees, sees_pdu}
+use Rattle.event_definitions.specs.Readings.{IsOpening, Sees, sees_pdu}
 use Rattle.segment_sender.specs.Held.{IsHeldWell, IsOutgoing, has_round}
 use Rattle.store_definitions.specs.Config.{Config}
 
@@ -140,7 +140,7 @@ module _ (event : Event) where
   segment_length akf id seq upper seg_o = refl
 
   piece_in : (m : Outgoing) (seg_o : ℕ) (material : NetMaterial) → IsOutgoing m → material.nid < 2 ^ 7
-      → IsJob event (segment_job m seg_o material)
+      → IsJob event (segment_job false m seg_o material)
   piece_in m seg_o material h nid =
       let octets = segment_length m.akf m.aid m.name.pair.seq m.upper seg_o in
       (nid, h.ttl, h.seq, omega (arith, octets), omega (arith, octets, take_few 12 (drop (12 * seg_o) m.upper)))
@@ -148,8 +148,8 @@ module _ (event : Event) where
   round_in : (c : Config) (now : ℕ) (s : Sending) → IsHeldWell s → Every (IsJob event) (round_jobs c now s)
   round_in c now s h =
       every_pick (IsJob event) (has_round now s) _ []
-      (every_flat_any (IsJob event) (λ seg_o. under c s.message.net (segment_job s.message seg_o))
-      (λ seg_o. every_under (IsJob event) c s.message.net (segment_job s.message seg_o) (λ m nid. piece_in s.message seg_o m h.message nid)) (round_of s))
+      (every_flat_any (IsJob event) (λ seg_o. under c s.message.net (segment_job false s.message seg_o))
+      (λ seg_o. every_under (IsJob event) c s.message.net (segment_job false s.message seg_o) (λ m nid. piece_in s.message seg_o m h.message nid)) (round_of s))
       tt
 
   rounds_in : (past : Past) (c : Config) (ticks : ℕ)
@@ -185,13 +185,17 @@ module _ (event : Event) where
 
   -- Of a segmented message that begins.
 
-  begin_in : (c : Config) (pair : Pair) (dst src : Address) (ttl net : ℕ) (akf : Bool) (id : ℕ) (upper : List ℕ)
-      → pair.seq < 2 ^ 24 → ttl < 2 ^ 7
-      → Every (IsJob event) (begin_jobs c pair dst src ttl net akf id upper)
-  begin_in c pair dst src ttl net akf id upper seq short =
+  begin_in : (c : Config) (m : Outgoing) → m.name.pair.seq < 2 ^ 24 → m.ttl < 2 ^ 7 → Every (IsJob event) (begin_jobs c m)
+  begin_in c m seq short =
       every_flat_any (IsJob event) _
-      (λ seg_o. every_under (IsJob event) c net (first_round_job pair dst src ttl akf id upper seg_o)
-      (λ m nid. (nid, short, seq, omega (arith, segment_length akf id pair.seq upper seg_o), omega (arith, segment_length akf id pair.seq upper seg_o, take_few 12 (drop (12 * seg_o) upper)))))
+      (λ seg_o. every_under (IsJob event) c m.net (first_round_job m seg_o)
+      (λ material nid. (
+        nid,
+        short,
+        seq,
+        omega (arith, segment_length m.akf m.aid m.name.pair.seq m.upper seg_o),
+        omega (arith, segment_length m.akf m.aid m.name.pair.seq m.upper seg_o, take_few 12 (drop (12 * seg_o) m.upper)),
+      )))
       (range_with_len 0 _)
 
 -- Of a message that the node is asked to send.
@@ -243,8 +247,8 @@ every_job past c (E.Raw dst ttl tpdu) i A.Planned elements s e h rows k r act = 
 every_job past c (E.Raw dst ttl tpdu) i _ elements s e h rows k r act = tt
 every_job past c (E.Tick ticks) i (A.Ticked now) elements s e h rows k r act = tick_in (E.Tick ticks) past c ticks i now h rows k r
 every_job past c (E.Tick ticks) i _ elements s e h rows k r act = tt
-every_job past c (E.Begin pair dst src ttl net akf id upper) i A.Begun elements s e h rows k r act = begin_in (E.Begin pair dst src ttl net akf id upper) c pair dst src ttl net akf id upper e.0 e.1
-every_job past c (E.Begin pair dst src ttl net akf id upper) i _ elements s e h rows k r act = tt
+every_job past c (E.Begin m) i A.Begun elements s e h rows k r act = begin_in (E.Begin m) c m e.0 e.1
+every_job past c (E.Begin m) i _ elements s e h rows k r act = tt
 every_job past c (E.Kept lpn fsn name pdu) i a elements s e h rows k r act = tt
 
 pub jobs_ranged : (past : Past) (c : Config) (event : Event) (i : Insight) (a : Answer) (elements : ℕ)
@@ -256,16 +260,15 @@ jobs_ranged past c event i a elements s e h rows k r act =
 
 -- After the lines of a segmented message nothing is handled.
 
-begun_quiet : (c : Config) (pair : Pair) (dst src : Address) (ttl net : ℕ) (akf : Bool) (id : ℕ) (upper : List ℕ)
-    → Every IsQuiet (begin_jobs c pair dst src ttl net akf id upper)
-begun_quiet c pair dst src ttl net akf id upper =
-    every_flat_any IsQuiet _ (λ seg_o. every_under IsQuiet c net (first_round_job pair dst src ttl akf id upper seg_o) (λ m nid outcome. refl)) (range_with_len 0 _)
+begun_quiet : (c : Config) (m : Outgoing) → Every IsQuiet (begin_jobs c m)
+begun_quiet c m =
+    every_flat_any IsQuiet _ (λ seg_o. every_under IsQuiet c m.net (first_round_job m seg_o) (λ material nid outcome. refl)) (range_with_len 0 _)
 
 every_quiet : (past : Past) (c : Config) (event : Event) (i : Insight) (a : Answer) → is_outside event ≡ false
     → Every IsQuiet (jobs_of node_layers past c event i a)
 unfolding jobs_of
-every_quiet past c (E.Begin pair dst src ttl net akf id upper) i A.Begun e = begun_quiet c pair dst src ttl net akf id upper
-every_quiet past c (E.Begin pair dst src ttl net akf id upper) i _ e = tt
+every_quiet past c (E.Begin m) i A.Begun e = begun_quiet c m
+every_quiet past c (E.Begin m) i _ e = tt
 every_quiet past c (E.Kept lpn fsn name pdu) i a e = tt
 every_quiet past c (E.Net octets) i a e = absurd cc
 every_quiet past c (E.Bcn octets) i a e = absurd cc

@@ -41,13 +41,13 @@ use Rattle.node_snapshot.proofs.Built.{IsPublishRow, built_of}
 use Rattle.node_store.specs.Tie.{IsStoreOf}
 use Rattle.record_types.specs.declared.records.StoreRecord.{StoreRecord}
 use Rattle.record_types.specs.declared.records.StoreRecord.TheVariants as R
-use Rattle.run_definitions.specs.Answers.{answer_of, config_before, later}
-use Rattle.run_definitions.specs.Handling.{Handles}
-use Rattle.run_definitions.specs.History.{Insight, OfNothing, Past, Told}
-use Rattle.run_definitions.specs.Jobs.{jobs_of}
+use Rattle.event_definitions.specs.Answers.{answer_of, config_before, later}
+use Rattle.event_definitions.specs.Handling.{Handles}
+use Rattle.event_definitions.specs.History.{Insight, OfNothing, Past, Told}
+use Rattle.event_definitions.specs.Jobs.{jobs_of}
 use Rattle.run_definitions.specs.Order.{is_outside}
-use Rattle.run_definitions.specs.Readings.{Sees}
-use Rattle.run_definitions.specs.Stores.{stores}
+use Rattle.event_definitions.specs.Readings.{Sees}
+use Rattle.event_definitions.specs.Stores.{stores}
 use Rattle.segment_sender.specs.Held.{IsHeldWell}
 use Rattle.seq_reserve.specs.Reserving.{IsPublished}
 use Rattle.seq_reserve.specs.declared.reserve.Reserve.{Reserve}
@@ -111,7 +111,7 @@ ready_after m ready =
 
 pub event_sendable : (elements : ℕ) (event : Event) (p : Persist) → IsAfter elements p → IsEvent elements event → IsSendable (config_in p) event
 event_sendable elements (E.Send element dst ttl key payload) p after h = (omega (arith, h.0, after.same, after.unicast), h.3, h.5)
-event_sendable elements (E.Begin pair dst src ttl net akf aid upper) p after h =
+event_sendable elements (E.Begin m) p after h =
     record { least = h.4; seq = h.0; ttl = h.1; aid = h.2; device = h.3 }
 event_sendable elements (E.Net octets) p after h = tt
 event_sendable elements (E.Bcn octets) p after h = tt

@@ -20,7 +20,7 @@ use Rattle.node_store.specs.Mounted.{IsRead}
 use Rattle.node_store.specs.Tie.{Holds, IsHeld, IsNode, IsStoreOf}
 use Rattle.node_store.specs.View.{StoreView}
 use Rattle.record_types.specs.declared.records.StoreRecord.{StoreRecord}
-use Rattle.run_definitions.specs.History.{Told}
+use Rattle.event_definitions.specs.History.{Told}
 use Rattle.seq_reserve.specs.Reserving.{IsPublished}
 use Rattle.seq_reserve.specs.declared.reserve.Reserve.{Reserve}
 use Rattle.slot_journal.specs.Headers.{IsTidy}

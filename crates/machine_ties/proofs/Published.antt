@@ -33,10 +33,10 @@ use Rattle.node_layers.specs.NodeLayers.{published_at, published_jobs}
 use Rattle.node_layers.specs.Publishing.{Publication, heartbeat_job, heartbeat_jobs, is_own_row, is_row, is_still_held, publication_job, publication_of, publications_due, published, published_after, published_by_act, published_by_message, published_by_tick, published_with, status_of, stored_row}
 use Rattle.node_snapshot.proofs.Built.{IsPublishRow}
 use Rattle.record_types.specs.declared.records.PublishRow.{PublishRow}
-use Rattle.run_definitions.specs.Answers.{later}
-use Rattle.run_definitions.specs.History.{Past, Told, ticks_after}
-use Rattle.run_definitions.specs.Jobs.{under}
-use Rattle.run_definitions.specs.Layers.{AccessMessage}
+use Rattle.event_definitions.specs.Answers.{later}
+use Rattle.event_definitions.specs.History.{Past, Told, ticks_after}
+use Rattle.event_definitions.specs.Jobs.{under}
+use Rattle.event_definitions.specs.Layers.{AccessMessage}
 use Rattle.store_definitions.specs.Config.{Config, config_of}
 
 -- A row that the store still holds has a TTL of 7 bits, or stands for the Default TTL.

@@ -17,7 +17,7 @@ use Rattle.node_records.specs.declared.persist.Persist.{Persist}
 use Rattle.node_store.specs.Tie.{Holds, IsFront, IsPut, IsStoreOf}
 use Rattle.node_layers.specs.NodeLayers.{node_layers}
 use Rattle.record_types.specs.declared.records.StoreRecord.{StoreRecord}
-use Rattle.run_definitions.specs.History.{Past}
+use Rattle.event_definitions.specs.History.{Past}
 use Rattle.seq_reserve.proofs.Marks.{mark_more}
 use Rattle.seq_reserve.specs.Reserving.{IsDurable, IsPublished}
 use Rattle.seq_reserve.specs.declared.reserve.Reserve.{Reserve}

@@ -34,10 +34,10 @@ use Rattle.node_layers.specs.ConfiguredLayers.{reply_job, sent_reply}
 use Rattle.node_layers.specs.Friendship.{act_of, ended_calls, friends, replies_to}
 use Rattle.node_layers.specs.Models.{element_replies, elements_of, level_answer, level_server, level_state, model_replies, onoff_answer, onoff_server, onoff_state, takes}
 use Rattle.node_layers.specs.NodeLayers.{node_layers, replies_of, reply_jobs}
-use Rattle.run_definitions.specs.Answers.{config_before, lower_answer, message_name}
-use Rattle.run_definitions.specs.History.{Opening, Past, Reading, now_of}
-use Rattle.run_definitions.specs.Layers.{AccessMessage}
-use Rattle.run_definitions.specs.Readings.{IsOpened, IsOpenedByLabel, IsOpenedFor, IsOpenedUnder, IsOpening, IsOpeningOf, fields_heard, keys_tried, labels_tried}
+use Rattle.event_definitions.specs.Answers.{config_before, lower_answer, message_name}
+use Rattle.event_definitions.specs.History.{Opening, Past, Reading, now_of}
+use Rattle.event_definitions.specs.Layers.{AccessMessage}
+use Rattle.event_definitions.specs.Readings.{IsOpened, IsOpenedByLabel, IsOpenedFor, IsOpenedUnder, IsOpening, IsOpeningOf, fields_heard, keys_tried, labels_tried}
 use Rattle.store_definitions.specs.Config.{Config}
 
 -- The key that a message opened under: its AID is that of the key.

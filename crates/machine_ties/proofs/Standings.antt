@@ -23,12 +23,12 @@ use Rattle.node_layers.specs.Steps.{with_entry}
 use Rattle.node_records.specs.Meaning.{IsMeaningOf}
 use Rattle.node_store.specs.Tie.{IsStoreOf}
 use Rattle.record_types.specs.declared.records.StoreRecord.{StoreRecord}
-use Rattle.run_definitions.specs.Answers.{answer_of}
-use Rattle.run_definitions.proofs.Handling.{handled_more, left_more}
-use Rattle.run_definitions.specs.Handling.{Handles, records_left}
-use Rattle.run_definitions.specs.History.{Insight, Past, Told}
-use Rattle.run_definitions.specs.Readings.{Sees}
-use Rattle.run_definitions.specs.Stores.{stores}
+use Rattle.event_definitions.specs.Answers.{answer_of}
+use Rattle.event_definitions.proofs.Handling.{handled_more, left_more}
+use Rattle.event_definitions.specs.Handling.{Handles, records_left}
+use Rattle.event_definitions.specs.History.{Insight, Past, Told}
+use Rattle.event_definitions.specs.Readings.{Sees}
+use Rattle.event_definitions.specs.Stores.{stores}
 use Rattle.seq_reserve.specs.declared.reserve.Reserve.{Reserve}
 use Rattle.store_definitions.specs.Config.{config_of}
 use Rattle.store_definitions.specs.Numbers.{fill_of, filled}

@@ -25,12 +25,12 @@ use Rattle.store_definitions.proofs.Pushes.{config_push}
 use Rattle.node_records.proofs.Rising.{RisesFrom, keyed_of}
 use Rattle.record_types.specs.declared.records.StoreRecord.{StoreRecord}
 use Rattle.record_types.specs.declared.records.StoreRecord.TheVariants as R
-use Rattle.run_definitions.specs.Answers.{answer_of, beacon_answer, config_before, key_step}
-use Rattle.run_definitions.specs.Fit.{AreStorable}
-use Rattle.run_definitions.specs.History.{Insight, OfBeacon, OfNothing, OfPdu, Past}
-use Rattle.run_definitions.specs.Layers.{AccessMessage}
-use Rattle.run_definitions.specs.Stores.{asked, hours_passed, hours_step, message_of, phase_records, step_records, stores}
-use Rattle.run_safety.specs.Safety.{AreSafe, IsChange}
+use Rattle.event_definitions.specs.Answers.{answer_of, beacon_answer, config_before, key_step}
+use Rattle.event_definitions.specs.Fit.{AreStorable}
+use Rattle.event_definitions.specs.History.{Insight, OfBeacon, OfNothing, OfPdu, Past}
+use Rattle.event_definitions.specs.Layers.{AccessMessage}
+use Rattle.event_definitions.specs.Stores.{asked, hours_passed, hours_step, message_of, phase_records, step_records, stores}
+use Rattle.event_definitions.specs.Safe.{AreSafe, IsChange}
 use Rattle.store_definitions.specs.Config.{Config, changed, config_of}
 use Rattle.store_definitions.specs.Node.{HasNext, IsPhased, IsWhole, KeepsWhole}
 
@@ -175,7 +175,7 @@ other_keep past (E.Bcn octets) i h = absurd h
 other_keep past (E.Tick ticks) i h = absurd h
 other_keep past (E.Send element dst ttl key payload) i h = tt
 other_keep past (E.Raw dst ttl tpdu) i h = tt
-other_keep past (E.Begin pair dst src ttl net akf aid upper) i h = tt
+other_keep past (E.Begin m) i h = tt
 other_keep past (E.Kept lpn fsn name pdu) i h = tt
 
 pub stores_keep : AreKeeping → (past : Past) (event : Event) (i : Insight) → IsWhole (config_of past.records) → IsWithinLimits (config_of past.records) → HasOctets i
@@ -185,5 +185,5 @@ stores_keep laws past (E.Bcn octets) i whole limits h = bcn_keep past octets i w
 stores_keep laws past (E.Tick ticks) i whole limits h = tick_keep past ticks i (answer_of node_layers past (E.Tick ticks) i)
 stores_keep laws past (E.Send element dst ttl key payload) i whole limits h = other_keep past (E.Send element dst ttl key payload) i tt
 stores_keep laws past (E.Raw dst ttl tpdu) i whole limits h = other_keep past (E.Raw dst ttl tpdu) i tt
-stores_keep laws past (E.Begin pair dst src ttl net akf aid upper) i whole limits h = other_keep past (E.Begin pair dst src ttl net akf aid upper) i tt
+stores_keep laws past (E.Begin m) i whole limits h = other_keep past (E.Begin m) i tt
 stores_keep laws past (E.Kept lpn fsn name pdu) i whole limits h = other_keep past (E.Kept lpn fsn name pdu) i tt

@@ -12,7 +12,7 @@ use Rattle.mesh_base.specs.declared.keys.AppKeyRow.{AppKeyRow}
 use Rattle.mesh_base.specs.declared.keys.NetKeyRow.{NetKeyRow}
 use Rattle.mesh_base.specs.declared.keys.UpperKey.{UpperKey}
 use Rattle.mesh_types.specs.declared.jobs.Job.{Job}
-use Rattle.run_definitions.specs.Jobs.{under}
+use Rattle.event_definitions.specs.Jobs.{under}
 use Rattle.store_definitions.specs.Config.{Config}
 
 pub every_under : (P : Job → Type 0) (c : Config) (net : ℕ) (job : NetMaterial → Job)

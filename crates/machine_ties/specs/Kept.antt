@@ -7,8 +7,8 @@ use Rattle.node_records.specs.Tables.{config_in}
 use Rattle.node_records.specs.declared.persist.Persist.{Persist}
 use Rattle.record_types.specs.declared.records.StoreRecord.{StoreRecord}
 use Rattle.record_types.specs.declared.records.StoreRecord.TheVariants as R
-use Rattle.run_definitions.specs.History.{Insight, OfPdu}
-use Rattle.run_safety.specs.Safety.{AreSafe}
+use Rattle.event_definitions.specs.History.{Insight, OfPdu}
+use Rattle.event_definitions.specs.Safe.{AreSafe}
 use Rattle.store_definitions.specs.Config.{Config, changed}
 use Rattle.store_definitions.specs.Node.{IsWhole, KeepsWhole}
 use Rattle.store_definitions.specs.Ranges.{IsInRange}

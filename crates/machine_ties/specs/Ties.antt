@@ -13,7 +13,7 @@ use Rattle.node_records.specs.Meaning.{IsMeaningOf}
 use Rattle.node_records.specs.declared.persist.Persist.{Persist}
 use Rattle.node_store.specs.Tie.{IsFront, IsNode, IsStoreOf}
 use Rattle.record_types.specs.declared.records.StoreRecord.{StoreRecord}
-use Rattle.run_definitions.specs.History.{Past, Told}
+use Rattle.event_definitions.specs.History.{Past, Told}
 use Rattle.seq_reserve.specs.Reserving.{IsDurable, IsPublished}
 use Rattle.seq_reserve.specs.declared.reserve.Reserve.{Reserve}
 use Rattle.store_definitions.specs.Config.{config_of}

@@ -12,8 +12,8 @@ use Rattle.node_layers.proofs.Steps.{cache_goes_on, own_go_on, parts_go_on, segm
 use Rattle.node_layers.specs.Reassembly.{calls_at, message_calls, tick_calls}
 use Rattle.node_layers.specs.Sending.{own_calls}
 use Rattle.node_layers.specs.Steps.{cached_names, segmented_name, segmented_names}
-use Rattle.run_definitions.specs.Answers.{cached_name, is_before_cache}
-use Rattle.run_definitions.specs.History.{now_of, ticks_after}
+use Rattle.event_definitions.specs.Answers.{cached_name, is_before_cache}
+use Rattle.event_definitions.specs.History.{now_of, ticks_after}
 use Rattle.store_definitions.specs.Config.{config_of}
 
 cache_more : (names : List Name) (name : Option Name) → cache_after (last_of 128 names) name ≡ last_of 128 (last_of 128 names ++ option_to_list name)

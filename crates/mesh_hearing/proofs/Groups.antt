@@ -11,8 +11,8 @@ use Rattle.mesh_types.specs.declared.answers.Answer.TheVariants as A
 use Rattle.mesh_types.specs.declared.events.Event.{Event}
 use Rattle.node_layers.specs.Reassembly.{part_calls, tick_calls, whole_calls}
 use Rattle.node_layers.specs.Sending.{own_calls}
-use Rattle.run_definitions.specs.Answers.{is_before_cache}
-use Rattle.run_definitions.specs.History.{ticks_after}
+use Rattle.event_definitions.specs.Answers.{is_before_cache}
+use Rattle.event_definitions.specs.History.{ticks_after}
 
 pub late_cached : (a : Answer) → is_late a ≡ true → is_before_cache a ≡ false
 late_cached A.Unread e = absurd (false≢true e)

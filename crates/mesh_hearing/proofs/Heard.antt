@@ -33,9 +33,9 @@ use Rattle.node_layers.specs.Steps.{segmented_name}
 use Rattle.node_records.specs.Meaning.{IsMeaningOf}
 use Rattle.node_records.specs.Tables.{config_in}
 use Rattle.node_records.specs.declared.persist.Persist.{Persist}
-use Rattle.run_definitions.specs.Answers.{answer_of, cached_name, config_before, is_before_cache, message_name, name_of, network_answer, pdu_answer, transport_answer}
-use Rattle.run_definitions.specs.History.{Insight, OfNothing, OfPdu, Past, Reading, Told, ticks_after}
-use Rattle.run_definitions.specs.Readings.{IsLowerPdu, IsReading, Sees, sees_nothing, sees_pdu}
+use Rattle.event_definitions.specs.Answers.{answer_of, cached_name, config_before, is_before_cache, message_name, name_of, network_answer, pdu_answer, transport_answer}
+use Rattle.event_definitions.specs.History.{Insight, OfNothing, OfPdu, Past, Reading, Told, ticks_after}
+use Rattle.event_definitions.specs.Readings.{IsLowerPdu, IsReading, Sees, sees_nothing, sees_pdu}
 use Rattle.store_definitions.specs.Config.{Config, config_of}
 
 -- What octets read as.

@@ -22,9 +22,9 @@ use Rattle.node_records.specs.Meaning.{IsMeaningOf}
 use Rattle.node_records.specs.Tables.{config_in, entry_in}
 use Rattle.node_records.specs.declared.persist.Persist.{Persist}
 use Rattle.record_types.specs.declared.records.StoreRecord.TheVariants as R
-use Rattle.run_definitions.specs.Answers.{config_before, placed_answer}
-use Rattle.run_definitions.specs.History.{Past, Reading}
-use Rattle.run_definitions.specs.Readings.{IsOpenedFor, fields_heard, keys_tried}
+use Rattle.event_definitions.specs.Answers.{config_before, placed_answer}
+use Rattle.event_definitions.specs.History.{Past, Reading}
+use Rattle.event_definitions.specs.Readings.{IsOpenedFor, fields_heard, keys_tried}
 use Rattle.store_definitions.specs.Entries.{entry_of, has_room, others_held}
 use Rattle.store_definitions.specs.Following.{PassesLimit}
 

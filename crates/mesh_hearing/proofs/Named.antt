@@ -32,10 +32,9 @@ use Rattle.node_layers.specs.NodeLayers.{node_layers}
 use Rattle.node_layers.specs.Reassembly.{messages, named_calls, octets_after, part_heard}
 use Rattle.node_records.specs.Tables.{config_in}
 use Rattle.node_records.specs.declared.persist.Persist.{Persist}
-use Rattle.run_definitions.specs.Answers.{config_before, is_again, is_entry, lower_answer, replayed, segment_answer, whole_answer}
-use Rattle.run_definitions.specs.History.{OfNothing, OfPdu, Opening, Past, Reading}
-use Rattle.run_definitions.specs.Readings.{IsOpened}
-use Rattle.run_definitions.specs.Uses.{accepted}
+use Rattle.event_definitions.specs.Answers.{accepted, config_before, is_again, is_entry, lower_answer, replayed, segment_answer, whole_answer}
+use Rattle.event_definitions.specs.History.{OfNothing, OfPdu, Opening, Past, Reading}
+use Rattle.event_definitions.specs.Readings.{IsOpened}
 use Rattle.store_definitions.specs.Config.{Config}
 use Rattle.store_definitions.specs.Entries.{entry_of}
 

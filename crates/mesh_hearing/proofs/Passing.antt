@@ -27,9 +27,9 @@ use Rattle.node_layers.specs.Sending as own
 use Rattle.node_records.specs.Meaning.{IsMeaningOf}
 use Rattle.node_records.specs.Tables.{config_in}
 use Rattle.node_records.specs.declared.persist.Persist.{Persist}
-use Rattle.run_definitions.specs.Answers.{answer_of, beacon_answer, config_before, later}
-use Rattle.run_definitions.specs.History.{Insight, OfBeacon, OfNothing, Past, Told}
-use Rattle.run_definitions.specs.Readings.{sees_beacon, sees_nothing}
+use Rattle.event_definitions.specs.Answers.{answer_of, beacon_answer, config_before, later}
+use Rattle.event_definitions.specs.History.{Insight, OfBeacon, OfNothing, Past, Told}
+use Rattle.event_definitions.specs.Readings.{sees_beacon, sees_nothing}
 use Rattle.segment_sender.specs.Held.{has_round}
 use Rattle.store_definitions.specs.Config.{Config, config_of}
 

@@ -13,9 +13,9 @@ use Rattle.mesh_types.specs.declared.answers.Answer.{Answer}
 use Rattle.mesh_types.specs.declared.answers.Answer.TheVariants as A
 use Rattle.node_layers.specs.Steps.{cached_names}
 use Rattle.layer_states.specs.Names.{is_unicast}
-use Rattle.run_definitions.specs.Answers.{config_before, is_cached, is_mine, name_of, network_answer}
-use Rattle.run_definitions.specs.History.{Past, Reading}
-use Rattle.run_definitions.specs.Readings.{labels_tried}
+use Rattle.event_definitions.specs.Answers.{config_before, is_cached, is_mine, name_of, network_answer}
+use Rattle.event_definitions.specs.History.{Past, Reading}
+use Rattle.event_definitions.specs.Readings.{labels_tried}
 use Rattle.store_definitions.specs.Config.{Config, config_of, is_element}
 use Rattle.virtual_labels.specs.Addresses.{has_address}
 

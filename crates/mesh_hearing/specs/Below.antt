@@ -30,9 +30,9 @@ use Rattle.node_layers.specs.Steps.{segmented_names}
 use Rattle.node_records.specs.Meaning.{IsMeaningOf}
 use Rattle.node_records.specs.declared.persist.Persist.{Persist}
 use Rattle.layer_states.specs.Names.{is_unicast}
-use Rattle.run_definitions.specs.Answers.{answer_of, config_before, is_again, is_before_cache, is_group, key_step, name_of, named_answer, opened_answer, replayed, segment_answer, transport_answer, whole_answer}
-use Rattle.run_definitions.specs.History.{Past, Reading, now_of}
-use Rattle.run_definitions.specs.Readings.{IsLowerPdu, IsOpened, IsOpenedFor, IsOpening, IsOpeningOf, Sees, fields_heard, keys_tried}
+use Rattle.event_definitions.specs.Answers.{answer_of, config_before, is_again, is_before_cache, is_group, key_step, name_of, named_answer, opened_answer, replayed, segment_answer, transport_answer, whole_answer}
+use Rattle.event_definitions.specs.History.{Past, Reading, now_of}
+use Rattle.event_definitions.specs.Readings.{IsLowerPdu, IsOpened, IsOpenedFor, IsOpening, IsOpeningOf, Sees, fields_heard, keys_tried}
 use Rattle.store_definitions.specs.Config.{Config, is_element}
 use Rattle.store_definitions.specs.Entries.{entry_of}
 

@@ -11,9 +11,9 @@ use Rattle.mesh_types.specs.declared.events.Event.TheVariants as E
 use Rattle.node_layers.specs.NodeLayers.{node_layers}
 use Rattle.node_layers.specs.Reassembly.{messages}
 use Rattle.node_layers.specs.Sending as own
-use Rattle.run_definitions.specs.Answers.{answer_of, config_before, later}
-use Rattle.run_definitions.specs.History.{Insight, OfPdu, OfBeacon, OfNothing, Past, Told}
-use Rattle.run_definitions.specs.Readings.{Sees}
+use Rattle.event_definitions.specs.Answers.{answer_of, config_before, later}
+use Rattle.event_definitions.specs.History.{Insight, OfPdu, OfBeacon, OfNothing, Past, Told}
+use Rattle.event_definitions.specs.Readings.{Sees}
 use Rattle.segment_sender.specs.Held.{has_round}
 
 -- what the octets of a network PDU were read as

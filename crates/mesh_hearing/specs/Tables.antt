@@ -15,8 +15,8 @@ use Rattle.node_layers.specs.Sending as own
 use Rattle.node_layers.specs.Steps.{cached_names, segmented_name, segmented_names}
 use Rattle.node_records.specs.Tables.{config_in}
 use Rattle.node_records.specs.declared.persist.Persist.{Persist}
-use Rattle.run_definitions.specs.Answers.{cached_name, is_before_cache}
-use Rattle.run_definitions.specs.History.{Insight, Told, now_of, ticks_after}
+use Rattle.event_definitions.specs.Answers.{cached_name, is_before_cache}
+use Rattle.event_definitions.specs.History.{Insight, Told, now_of, ticks_after}
 use Rattle.store_definitions.specs.Config.{Config, config_of}
 
 -- The keys that are derived from the store; the message cache, the oldest name first; the messages in progress, in the order in which they

@@ -10,8 +10,8 @@ ghost use Rattle.mesh_hearing.specs.Heard.{beacon_insight, IsBeaconHeard};
 ghost use Rattle.mesh_hearing.specs.Tables.{AreTablesOf};
 ghost use Rattle.node_records.specs.Meaning.{IsMeaningOf};
 ghost use Rattle.node_records.specs.Tables.{config_in};
-ghost use Rattle.run_definitions.specs.Answers.{key_step as key_step_in};
-ghost use Rattle.run_definitions.specs.History.{Past, Told};
+ghost use Rattle.event_definitions.specs.Answers.{key_step as key_step_in};
+ghost use Rattle.event_definitions.specs.History.{Past, Told};
 
 use crate::own::recover;
 use crate::tables::Tables;

@@ -17,8 +17,8 @@ ghost use Rattle.node_records.specs.Meaning.{IsMeaningOf};
 ghost use Rattle.node_records.specs.Tables.{config_in};
 ghost use Rattle.mesh_types.specs.declared.answers.Answer.TheVariants as A;
 ghost use Rattle.mesh_types.specs.declared.events.Event.{Event};
-ghost use Rattle.run_definitions.specs.Answers.{cached_name, is_before_cache};
-ghost use Rattle.run_definitions.specs.History.{Past, ticks_after};
+ghost use Rattle.event_definitions.specs.Answers.{cached_name, is_before_cache};
+ghost use Rattle.event_definitions.specs.History.{Past, ticks_after};
 
 use crate::lower::{accepted_part, hear_low};
 use crate::network::network_row;

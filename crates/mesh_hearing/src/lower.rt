@@ -19,10 +19,9 @@ ghost use Rattle.node_layers.specs.Reassembly.{named_calls, part_heard as part_h
 ghost use Rattle.node_layers.specs.Segments.{taken_answer};
 ghost use Rattle.node_layers.specs.Steps.{segmented_name, segmented_names};
 ghost use Rattle.node_records.specs.Tables.{config_in, entry_in};
-ghost use Rattle.run_definitions.specs.Answers.{is_again as is_again_in, is_entry as is_entry_in, message_name as message_name_in, message_pair as message_pair_in, replayed as replayed_in};
-ghost use Rattle.run_definitions.specs.History.{Past};
-ghost use Rattle.run_definitions.specs.Jobs.{reply_ttl as reply_ttl_in};
-ghost use Rattle.run_definitions.specs.Uses.{accepted as accepted_in};
+ghost use Rattle.event_definitions.specs.Answers.{accepted as accepted_in, is_again as is_again_in, is_entry as is_entry_in, message_name as message_name_in, message_pair as message_pair_in, replayed as replayed_in};
+ghost use Rattle.event_definitions.specs.History.{Past};
+ghost use Rattle.event_definitions.specs.Jobs.{reply_ttl as reply_ttl_in};
 ghost use Rattle.store_definitions.specs.Entries.{entry_of};
 
 use crate::hearing::Hearing;

@@ -11,8 +11,8 @@ ghost use Rattle.node_layers.specs.Steps.{cached_names};
 ghost use Rattle.mesh_reading.specs.Held.{held_in, reading_of};
 ghost use Rattle.node_records.specs.Tables.{config_in};
 ghost use Rattle.layer_states.specs.Names.{is_unicast};
-ghost use Rattle.run_definitions.specs.Answers.{is_group, is_mine, network_answer};
-ghost use Rattle.run_definitions.specs.History.{Past};
+ghost use Rattle.event_definitions.specs.Answers.{is_group, is_mine, network_answer};
+ghost use Rattle.event_definitions.specs.History.{Past};
 ghost use Rattle.store_definitions.specs.Config.{config_of, is_element};
 
 use mesh_base::address::Address;

@@ -10,11 +10,11 @@ ghost use Rattle.node_layers.specs.Sending.{acknowledged};
 ghost use Rattle.segment_sender.specs.Held.{IsOutgoing};
 
 use crate::tables::Tables;
-use layer_states::sending::Outgoing;
 use mesh_base::address::Address;
 use mesh_base::control::ControlMsg;
 use mesh_base::iv_state::IvStep;
 use mesh_types::answers::Answer;
+use mesh_types::events::Outgoing;
 use segment_sender::{SendFull, Senders};
 use upper_transport::read_control;
 

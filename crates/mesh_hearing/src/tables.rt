@@ -5,7 +5,7 @@ ghost use Rattle.std.specs.Prelude.{◌≡◌, ◌≤◌, ◌^◌, List, [], IfO
 ghost use Rattle.mesh_hearing.specs.Tables.{AreTablesOf, IsFit};
 ghost use Rattle.mesh_reading.specs.Held.{held_in, AreHeldKeys};
 ghost use Rattle.node_records.specs.Tables.{config_in};
-ghost use Rattle.run_definitions.specs.History.{Told};
+ghost use Rattle.event_definitions.specs.History.{Told};
 
 use mesh_base::pair::Name;
 use mesh_reading::Keys;

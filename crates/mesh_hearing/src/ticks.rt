@@ -5,7 +5,7 @@ ghost use Rattle.std.specs.Prelude.{◌≡◌, ◌≤◌, All, length};
 ghost use Rattle.mesh_hearing.specs.Heard.{IsPassed};
 ghost use Rattle.mesh_hearing.specs.Tables.{AreTablesOf, IsFit};
 ghost use Rattle.node_records.specs.Meaning.{IsMeaningOf};
-ghost use Rattle.run_definitions.specs.History.{Past};
+ghost use Rattle.event_definitions.specs.History.{Past};
 ghost use Rattle.segment_sender.specs.Held.{IsHeldWell};
 
 use crate::tables::Tables;

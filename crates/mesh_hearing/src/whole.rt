@@ -9,8 +9,8 @@ ghost use Rattle.mesh_reading.specs.Held.{held_in, reading_of};
 ghost use Rattle.mesh_types.specs.declared.answers.Answer.TheVariants as A;
 ghost use Rattle.node_records.specs.Meaning.{IsMeaningOf};
 ghost use Rattle.node_records.specs.Tables.{config_in, entry_in};
-ghost use Rattle.run_definitions.specs.Answers.{placed_answer};
-ghost use Rattle.run_definitions.specs.History.{Past};
+ghost use Rattle.event_definitions.specs.Answers.{placed_answer};
+ghost use Rattle.event_definitions.specs.History.{Past};
 
 use lower_transport::Lower;
 use mesh_base::octets::Octets;

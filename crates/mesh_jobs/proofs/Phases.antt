@@ -6,7 +6,7 @@ use Rattle.std.specs.Option.{option_map_or}
 use Rattle.mesh_base.specs.declared.keys.NetKeyRow.{NetKeyRow}
 use Rattle.mesh_jobs.specs.Phases.{is_changed, phase_of, phases_of}
 use Rattle.mesh_jobs.specs.declared.refresh.KeyPhase.{KeyPhase}
-use Rattle.run_definitions.specs.Jobs.{is_refreshed}
+use Rattle.event_definitions.specs.Jobs.{is_refreshed}
 
 changed_as : (rows : List NetKeyRow) (r : NetKeyRow) → is_changed (phases_of rows) r ≡ is_refreshed rows r
 changed_as [] r = refl

@@ -26,9 +26,9 @@ use Rattle.node_models.specs.Due.{due_row}
 use Rattle.node_models.specs.declared.due.Due.{Due}
 use Rattle.node_models.specs.declared.due.DueRow.{DueRow}
 use Rattle.record_types.specs.declared.records.PublishRow.{PublishRow}
-use Rattle.run_definitions.specs.Answers.{later}
-use Rattle.run_definitions.specs.History.{Past}
-use Rattle.run_definitions.specs.Jobs.{under}
+use Rattle.event_definitions.specs.Answers.{later}
+use Rattle.event_definitions.specs.History.{Past}
+use Rattle.event_definitions.specs.Jobs.{under}
 use Rattle.store_definitions.specs.Config.{Config}
 
 -- A Status goes unsegmented.

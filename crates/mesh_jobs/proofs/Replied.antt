@@ -21,9 +21,9 @@ use Rattle.node_layers.specs.Friendship.{friends, is_short, replies_to}
 use Rattle.node_layers.specs.NodeLayers.{node_layers}
 use Rattle.node_models.specs.Replies.{replies_in}
 use Rattle.node_models.specs.declared.taken.MessageReplies.{MessageReplies}
-use Rattle.run_definitions.specs.History.{Insight, Opening, Past, Reading}
-use Rattle.run_definitions.specs.Jobs.{message_jobs, unless_stored}
-use Rattle.run_definitions.specs.Layers.{AccessMessage}
+use Rattle.event_definitions.specs.History.{Insight, Opening, Past, Reading}
+use Rattle.event_definitions.specs.Jobs.{message_jobs, unless_stored}
+use Rattle.event_definitions.specs.Layers.{AccessMessage}
 use Rattle.store_definitions.specs.Config.{Config}
 
 -- the jobs of the replies that are sent are those of all replies but what is stored

@@ -17,8 +17,8 @@ use Rattle.node_layers.specs.ConfiguredLayers.{configured_layers}
 use Rattle.node_layers.specs.NodeLayers.{node_layers, published_at}
 use Rattle.node_layers.specs.Reassembly.{acks_at}
 use Rattle.node_layers.specs.Sending.{round_jobs, segments_at}
-use Rattle.run_definitions.specs.History.{Insight, Past}
-use Rattle.run_definitions.specs.Jobs.{beacons_due, jobs_of}
+use Rattle.event_definitions.specs.History.{Insight, Past}
+use Rattle.event_definitions.specs.Jobs.{beacons_due, jobs_of}
 use Rattle.segment_sender.proofs.Held.{numbers_up_to}
 use Rattle.segment_sender.specs.Held.{has_round}
 use Rattle.store_definitions.specs.Config.{Config}

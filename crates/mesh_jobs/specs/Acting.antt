@@ -7,7 +7,7 @@ use Rattle.mesh_types.specs.declared.answers.Answer.TheVariants as A
 use Rattle.node_friends.specs.Acts.{IsActOf}
 use Rattle.node_friends.specs.declared.acts.FriendAct.{FriendAct}
 use Rattle.node_layers.specs.Friendship.{friends, heard_calls}
-use Rattle.run_definitions.specs.History.{Insight, OfPdu, Past, now_of}
+use Rattle.event_definitions.specs.History.{Insight, OfPdu, Past, now_of}
 use Rattle.store_definitions.specs.Config.{Config}
 
 -- After a past and under these records, this is what the control message of an answer led to: with the friendships behind the PDU, which was

@@ -4,7 +4,7 @@ use Rattle.std.specs.Option.{option_map}
 use Rattle.mesh_base.specs.declared.lower.Lower.{Lower}
 use Rattle.mesh_reading.specs.Held.{reading_of}
 use Rattle.network_layer.specs.declared.reading.NetReading.{NetReading}
-use Rattle.run_definitions.specs.History.{Insight, OfPdu, Opening}
+use Rattle.event_definitions.specs.History.{Insight, OfPdu, Opening}
 
 -- what a PDU was read as
 abbrev pub insight_of : Option NetReading → Option Lower → Option Opening → Insight

@@ -2,8 +2,8 @@
 use Rattle.std.specs.Prelude.{◌≡◌, ◌+◌, ◌<◌, ◌^◌, ⊤, Bool}
 use Rattle.mesh_types.specs.declared.events.Event.{Event}
 use Rattle.mesh_types.specs.declared.events.Event.TheVariants as E
-use Rattle.run_definitions.specs.History.{Past}
-use Rattle.run_definitions.specs.Layers.{Layers}
+use Rattle.event_definitions.specs.History.{Past}
+use Rattle.event_definitions.specs.Layers.{Layers}
 use Rattle.store_definitions.specs.Config.{Config}
 
 -- An event that asks for at most one job: nothing was heard as a network PDU, no time passed, and no segments begin. A message is sent by an
@@ -11,7 +11,7 @@ use Rattle.store_definitions.specs.Config.{Config}
 abbrev pub IsSingle : Config → Event → Type 0
 IsSingle c (E.Net octets) = ⊥
 IsSingle c (E.Tick ticks) = ⊥
-IsSingle c (E.Begin pair dst src ttl net akf aid upper) = ⊥
+IsSingle c (E.Begin m) = ⊥
 IsSingle c (E.Send element dst ttl key payload) = c.unicast.0 + element < 2 ^ 16
 IsSingle c _ = ⊤
 

@@ -13,7 +13,7 @@ use Rattle.node_layers.specs.Publishing.{Publication, is_still_held, published}
 use Rattle.node_models.specs.Due.{due_row}
 use Rattle.node_models.specs.declared.due.Due.{Due}
 use Rattle.node_models.specs.declared.due.DueRow.{DueRow}
-use Rattle.run_definitions.specs.History.{Past}
+use Rattle.event_definitions.specs.History.{Past}
 use Rattle.store_definitions.specs.Config.{Config}
 
 -- as a publication under these keys, with TTL ff as the Default TTL

@@ -9,10 +9,10 @@ use Rattle.network_layer.specs.declared.reading.NetReading.{NetReading}
 use Rattle.node_layers.specs.Friendship.{ended_calls, friends, is_short, replies_to}
 use Rattle.node_models.specs.Replies.{replies_in}
 use Rattle.node_models.specs.declared.taken.MessageReplies.{MessageReplies}
-use Rattle.run_definitions.specs.Answers.{config_before}
-use Rattle.run_definitions.specs.History.{Insight, Past}
-use Rattle.run_definitions.specs.Layers.{AccessMessage}
-use Rattle.run_definitions.specs.Stores.{message_of}
+use Rattle.event_definitions.specs.Answers.{config_before}
+use Rattle.event_definitions.specs.History.{Insight, Past}
+use Rattle.event_definitions.specs.Layers.{AccessMessage}
+use Rattle.event_definitions.specs.Stores.{message_of}
 
 -- of replies to an address, which may be that of a friendship, those that are sent: a short one to a friendship is stored
 abbrev pub replies_sent : Bool → List (ℕ × List ℕ) → List (ℕ × List ℕ)

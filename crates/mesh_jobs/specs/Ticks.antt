@@ -2,9 +2,9 @@
 use Rattle.std.specs.Prelude.{◌≡◌, ℕ, ◌/◌, ◌||◌, nat_lt, Bool}
 use Rattle.mesh_base.specs.declared.iv_state.IvState.{IvState}
 use Rattle.mesh_jobs.specs.declared.ticks.Span.{Span}
-use Rattle.run_definitions.specs.Answers.{config_before, later}
-use Rattle.run_definitions.specs.History.{Past, now_of}
-use Rattle.run_definitions.specs.Jobs.{is_moved}
+use Rattle.event_definitions.specs.Answers.{config_before, later}
+use Rattle.event_definitions.specs.History.{Past, now_of}
+use Rattle.event_definitions.specs.Jobs.{is_moved}
 
 -- the time and the IV state before a tick event of so many ticks, and the time after it
 pub record IsSpan (past : Past) (ticks : ℕ) (s : Span) : Type 0 where

@@ -4,7 +4,7 @@
 ghost use Rattle.std.specs.Prelude.{◌≡◌, ◌+◌, ◌≤◌, ◌++◌, length};
 ghost use Rattle.layer_definitions.specs.KeyRefresh.{own_beacon as own_beacon_in, transmit_key as transmit_key_in};
 ghost use Rattle.node_records.specs.Tables.{config_in};
-ghost use Rattle.run_definitions.specs.Jobs.{beacon_jobs};
+ghost use Rattle.event_definitions.specs.Jobs.{beacon_jobs};
 
 use mesh_base::iv_state::IvState;
 use mesh_base::keys::NetKeyRow;

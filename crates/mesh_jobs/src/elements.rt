@@ -4,7 +4,7 @@
 ghost use Rattle.std.specs.Prelude.{◌≡◌, ◌+◌, ◌<◌, ◌^◌};
 ghost use Rattle.node_records.specs.Tables.{config_in};
 ghost use Rattle.layer_states.specs.Names.{is_unicast as is_unicast_in};
-ghost use Rattle.run_definitions.specs.Jobs.{element_address as element_in};
+ghost use Rattle.event_definitions.specs.Jobs.{element_address as element_in};
 ghost use Rattle.store_definitions.specs.Config.{is_element as is_element_in};
 
 use mesh_base::address::Address;

@@ -1,5 +1,5 @@
 //! What an event's answer asks to be sent, in the order in which it is sent. Each call answers, or puts behind others,
-//! the very list that the definitions of a run say (`run_definitions`, `specs/Jobs.antt`), for what the records after
+//! the very list that the definitions of a run say (`event_definitions`, `specs/Jobs.antt`), for what the records after
 //! the event say. There is no flash here and no table of a life: what a call needs of these comes as plain values.
 //! Nothing here wants memory: jobs are made in a draft that has room for all of them, and the rest of its memory is
 //! handed back.

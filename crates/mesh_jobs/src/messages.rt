@@ -9,9 +9,9 @@ ghost use Rattle.mesh_jobs.specs.Own.{IsBefriended, IsSingle};
 ghost use Rattle.mesh_types.specs.declared.answers.Answer.TheVariants as A;
 ghost use Rattle.mesh_types.specs.declared.events.Event.TheVariants as E;
 ghost use Rattle.node_records.specs.Tables.{config_in};
-ghost use Rattle.run_definitions.specs.History.{Insight, Past};
-ghost use Rattle.run_definitions.specs.Jobs.{first_net as first_net_in, jobs_of, raw_jobs, send_keys as send_keys_in, sent_job as sent_job_in};
-ghost use Rattle.run_definitions.specs.Layers.{Layers};
+ghost use Rattle.event_definitions.specs.History.{Insight, Past};
+ghost use Rattle.event_definitions.specs.Jobs.{first_net as first_net_in, jobs_of, raw_jobs, send_keys as send_keys_in, sent_job as sent_job_in};
+ghost use Rattle.event_definitions.specs.Layers.{Layers};
 ghost use Rattle.segment_sender.specs.Held.{IsOutgoing};
 
 use crate::elements::element_address;
@@ -19,12 +19,11 @@ use crate::making::push_made;
 use crate::replies::is_stored;
 use crate::segments::push_first_round;
 use app_keys::AppKeys;
-use layer_states::sending::Outgoing;
 use mesh_base::address::Address;
 use mesh_base::keys::UpperKey;
 use mesh_base::octets::Octets;
 use mesh_types::answers::Answer;
-use mesh_types::events::{Event, SendKey};
+use mesh_types::events::{Event, Outgoing, SendKey};
 use mesh_types::jobs::{Job, JobDraft, Jobs};
 use net_keys::NetKeys;
 use node_records::Persist;
@@ -116,7 +115,7 @@ fn send_job(
 }
 
 // The job of an event that asks for one at most.
-#[tactic(auto, unfolding(run_definitions::specs::Jobs::jobs_of))]
+#[tactic(auto, unfolding(event_definitions::specs::Jobs::jobs_of))]
 fn own_job(
     p: &Persist,
     nets: &NetKeys,
@@ -151,7 +150,7 @@ fn own_job(
 /// The jobs of an event that asks for one at most: a message or a control PDU that the node is asked to send, where it was answered `planned`;
 /// a beacon heard and octets that were kept ask for none. `befriended` says whether the message goes to an address of a friendship that
 /// stands. `p` is what the records after the event say, and `nets` and `apps` are its keys. The jobs are made in `draft`, which has none.
-#[tactic(auto, unfolding(run_definitions::specs::Jobs::jobs_of))]
+#[tactic(auto, unfolding(event_definitions::specs::Jobs::jobs_of))]
 pub fn own_jobs(
     mut draft: JobDraft,
     p: &Persist,
@@ -177,7 +176,7 @@ pub fn own_jobs(
 
 /// The jobs of an own message that begins, where it was answered `begun`: all of its segments. `p` is what the records after the event say,
 /// and `nets` are its keys. The jobs are made in `draft`, which has none.
-#[tactic(auto, unfolding(run_definitions::specs::Jobs::jobs_of))]
+#[tactic(auto, unfolding(event_definitions::specs::Jobs::jobs_of))]
 pub fn begin_jobs(
     mut draft: JobDraft,
     p: &Persist,
@@ -190,8 +189,7 @@ pub fn begin_jobs(
     requires outgoing { IsOutgoing m.now }
     ensures value { (layers : Layers) (past : Past) (insight : Insight)
         → result ≡ jobs_of layers past (config_in p.now)
-        (E.Begin m.now.name.pair m.now.dst m.now.name.src m.now.ttl m.now.net m.now.akf m.now.aid m.now.upper)
-        insight answer.now }
+        (E.Begin m.now) insight answer.now }
     ensures few { length result ≤ 32 }
 {
     if let Answer::Begun = answer {

@@ -20,9 +20,9 @@ ghost use Rattle.node_layers.specs.ConfiguredLayers.{sent_reply};
 ghost use Rattle.node_layers.specs.NodeLayers.{node_layers};
 ghost use Rattle.node_models.specs.Replies.{replies_in};
 ghost use Rattle.node_records.specs.Tables.{config_in};
-ghost use Rattle.run_definitions.specs.Answers.{config_before, is_before_cache as is_before_cache_in};
-ghost use Rattle.run_definitions.specs.History.{Opening, Past};
-ghost use Rattle.run_definitions.specs.Jobs.{ack_job as ack_job_in, ack_jobs, block_asked as block_asked_in, jobs_of, message_jobs, relay_jobs, segment_numbers as segment_numbers_in};
+ghost use Rattle.event_definitions.specs.Answers.{config_before, is_before_cache as is_before_cache_in};
+ghost use Rattle.event_definitions.specs.History.{Opening, Past};
+ghost use Rattle.event_definitions.specs.Jobs.{ack_job as ack_job_in, ack_jobs, block_asked as block_asked_in, jobs_of, message_jobs, relay_jobs, segment_numbers as segment_numbers_in};
 ghost use Rattle.store_definitions.specs.Config.{is_element as is_element_in};
 
 use crate::acknowledgments::{acknowledgment, all_pieces};
@@ -275,7 +275,7 @@ fn push_message_jobs(
 /// `low` is within its widths; `key` is the key that opened it, `replies` are those that are sent to the message that it delivered, without
 /// those that are stored, and `act` is what its control message led to. `p` is what the records after the event say, `nets` are its keys, and
 /// `before` the phases before the event. The jobs are made in `draft`, which has none.
-#[tactic(auto, unfolding(node_layers::specs::ConfiguredLayers::configured_layers, node_layers::specs::NodeLayers::node_layers, run_definitions::specs::Jobs::jobs_of))]
+#[tactic(auto, unfolding(node_layers::specs::ConfiguredLayers::configured_layers, node_layers::specs::NodeLayers::node_layers, event_definitions::specs::Jobs::jobs_of))]
 pub fn pdu_jobs(
     mut draft: JobDraft,
     p: &Persist,

@@ -11,9 +11,9 @@ ghost use Rattle.model_states.specs.declared.publication.HeartbeatRow.{Heartbeat
 ghost use Rattle.node_layers.specs.NodeLayers.{published_at};
 ghost use Rattle.node_layers.specs.Publishing.{features_of, heartbeat_job as heartbeat_job_in, is_row as is_row_in, is_still_held as is_still_held_in};
 ghost use Rattle.node_records.specs.Tables.{config_in};
-ghost use Rattle.run_definitions.specs.Answers.{later};
-ghost use Rattle.run_definitions.specs.History.{Past};
-ghost use Rattle.run_definitions.specs.Jobs.{under};
+ghost use Rattle.event_definitions.specs.Answers.{later};
+ghost use Rattle.event_definitions.specs.History.{Past};
+ghost use Rattle.event_definitions.specs.Jobs.{under};
 
 use crate::making::{payload_of, push_made};
 use app_keys::AppKeys;

@@ -7,7 +7,7 @@ ghost use Rattle.std.specs.Option.{option_copied};
 ghost use Rattle.mesh_jobs.specs.Phases.{is_changed as is_changed_in, phases_of};
 ghost use Rattle.mesh_jobs.specs.declared.refresh.KeyPhase.{KeyPhase};
 ghost use Rattle.node_records.specs.Tables.{config_in};
-ghost use Rattle.run_definitions.specs.Jobs.{refresh_jobs};
+ghost use Rattle.event_definitions.specs.Jobs.{refresh_jobs};
 ghost use Rattle.store_definitions.specs.Config.{Config};
 
 use crate::beacons::push_beacons;

@@ -4,7 +4,7 @@
 ghost use Rattle.std.specs.Prelude.{◌≡◌, if◌then◌else◌, List, []};
 ghost use Rattle.mesh_types.specs.declared.jobs.Job.{Job};
 ghost use Rattle.node_records.specs.Tables.{config_in};
-ghost use Rattle.run_definitions.specs.Jobs.{reply_ttl as reply_ttl_in, unless_stored};
+ghost use Rattle.event_definitions.specs.Jobs.{reply_ttl as reply_ttl_in, unless_stored};
 
 use node_records::Persist;
 

@@ -3,22 +3,22 @@
 
 ghost use Rattle.std.specs.Prelude.{◌≡◌, ℕ, ◌+◌, ◌*◌, ◌<◌, ◌≤◌, ◌^◌, ◌++◌, ◌==◌, Bool, All, length, take, drop};
 ghost use Rattle.std.specs.List.{flat_map};
-ghost use Rattle.layer_definitions.specs.Lower.{Fits, last_segment as last_segment_in, lower_text, segment as segment_in};
+ghost use Rattle.layer_definitions.specs.Lower.{Fits, last_segment as last_segment_in, segment as segment_in};
 ghost use Rattle.layer_states.specs.Sending.{round_of};
 ghost use Rattle.mesh_base.specs.declared.fields.NetMaterial.{NetMaterial};
 ghost use Rattle.mesh_jobs.specs.Segments.{segments_under};
-ghost use Rattle.mesh_types.specs.declared.jobs.Job.TheVariants as J;
 ghost use Rattle.node_layers.specs.Sending.{round_jobs};
 ghost use Rattle.node_records.specs.Tables.{config_in};
-ghost use Rattle.run_definitions.specs.Jobs.{begin_jobs};
+ghost use Rattle.event_definitions.specs.Jobs.{begin_jobs, segment_job};
 ghost use Rattle.segment_sender.specs.Held.{IsHeldWell, IsOutgoing};
 
-use layer_states::sending::{Outgoing, Sending};
+use layer_states::sending::Sending;
 use lower_transport::write;
 use mesh_base::fields::NetMaterial;
 use mesh_base::lower::Lower;
 use mesh_base::octets::Octets;
-use mesh_types::jobs::{Job, JobDraft};
+use mesh_types::events::Outgoing;
+use mesh_types::jobs::{Job, JobDraft, Segment};
 use net_keys::NetKeys;
 use node_records::Persist;
 use segment_sender::round_due;
@@ -78,21 +78,18 @@ fn segment(m: &Outgoing, seg_o: u8) -> Lower
 fn segment_job(material: NetMaterial, m: &Outgoing, seg_o: u8, first: bool) -> Job
     requires outgoing { IsOutgoing m.now }
     requires place { seg_o ≤ last_segment_in m.now.upper }
-    ensures { result
-        ≡ J.Segment material m.now.name m.now.ttl m.now.name.src m.now.dst seg_o (last_segment_in m.now.upper)
-        (lower_text (segment_in m.now.akf m.now.aid m.now.name.pair.seq m.now.upper seg_o)) first }
+    ensures { result ≡ segment_job first m.now seg_o material }
 {
-    Job::Segment {
+    Job::Segment(Segment {
         material,
         name: m.name,
         ttl: m.ttl,
-        src: m.name.src,
         dst: m.dst,
         seg_o,
         seg_n: last_segment(m.upper.as_slice()),
         tpdu: write(&segment(m, seg_o)),
         first,
-    }
+    })
 }
 
 /// Puts all segments of a message that begins behind the others, where its network key is held. The first of all is the one that goes under
@@ -102,9 +99,7 @@ pub(crate) fn push_first_round(jobs: &mut JobDraft, p: &Persist, nets: &NetKeys,
     requires nets { nets.now ≡ p.now.nets }
     requires outgoing { IsOutgoing m.now }
     ensures value { jobs.new
-        ≡ jobs.old
-        ++ begin_jobs
-        (config_in p.now) m.now.name.pair m.now.dst m.now.name.src m.now.ttl m.now.net m.now.akf m.now.aid m.now.upper }
+        ≡ jobs.old ++ begin_jobs (config_in p.now) m.now }
     ensures few { length jobs.new ≤ length jobs.old + 32 }
 {
     let Some(material) = nets.transmit(m.net) else {

@@ -13,9 +13,9 @@ ghost use Rattle.node_layers.specs.NodeLayers.{node_layers};
 ghost use Rattle.node_layers.specs.Reassembly.{due_jobs, messages};
 ghost use Rattle.node_layers.specs.Sending as own;
 ghost use Rattle.node_records.specs.Tables.{config_in};
-ghost use Rattle.run_definitions.specs.Answers.{later};
-ghost use Rattle.run_definitions.specs.History.{Insight, Past};
-ghost use Rattle.run_definitions.specs.Jobs.{beacon_jobs, beacons_due, is_moved as is_moved_in, jobs_of};
+ghost use Rattle.event_definitions.specs.Answers.{later};
+ghost use Rattle.event_definitions.specs.History.{Insight, Past};
+ghost use Rattle.event_definitions.specs.Jobs.{beacon_jobs, beacons_due, is_moved as is_moved_in, jobs_of};
 ghost use Rattle.segment_sender.specs.Held.{IsHeldWell, has_round};
 
 use crate::acknowledgments::acknowledgment;
@@ -106,7 +106,7 @@ pub fn push_beacons_due(jobs: &mut JobDraft, p: &Persist, span: &Span)
 /// are due, and then what is published. `rounds` are the messages that send one, as they are before the time is
 /// counted, and `due` is what is due of the models, without what is stored, and of the heartbeat. `p` is what the records after the event say,
 /// and `nets` and `apps` are its keys. The jobs are made in `draft`, which has none.
-#[tactic(auto, unfolding(node_layers::specs::ConfiguredLayers::configured_layers, node_layers::specs::NodeLayers::node_layers, run_definitions::specs::Jobs::jobs_of))]
+#[tactic(auto, unfolding(node_layers::specs::ConfiguredLayers::configured_layers, node_layers::specs::NodeLayers::node_layers, event_definitions::specs::Jobs::jobs_of))]
 pub fn tick_jobs(
     mut draft: JobDraft,
     p: &Persist,

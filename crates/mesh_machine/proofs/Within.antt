@@ -5,8 +5,8 @@ use Rattle.node_models.specs.Models.{AreWithin, ModelsView, StayWithin}
 use Rattle.node_records.specs.Meaning.{IsMeaningOf}
 use Rattle.node_records.specs.Tables.{config_in}
 use Rattle.node_records.specs.declared.persist.Persist.{Persist}
-use Rattle.run_definitions.specs.Answers.{config_before}
-use Rattle.run_definitions.specs.History.{Past}
+use Rattle.event_definitions.specs.Answers.{config_before}
+use Rattle.event_definitions.specs.History.{Past}
 use Rattle.store_definitions.specs.Config.{Config}
 
 -- `law` is that of the models

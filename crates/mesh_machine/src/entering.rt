@@ -14,9 +14,9 @@ ghost use Rattle.mesh_reading.specs.Held.{AreHeldKeys};
 ghost use Rattle.node_layers.specs.NodeLayers.{node_layers};
 ghost use Rattle.node_records.specs.Meaning.{IsSaid};
 ghost use Rattle.node_records.specs.Tables.{config_in};
-ghost use Rattle.run_definitions.specs.Answers.{config_before};
-ghost use Rattle.run_definitions.specs.History.{Past};
-ghost use Rattle.run_definitions.specs.Jobs.{jobs_of};
+ghost use Rattle.event_definitions.specs.Answers.{config_before};
+ghost use Rattle.event_definitions.specs.History.{Past};
+ghost use Rattle.event_definitions.specs.Jobs.{jobs_of};
 
 use event_plans::{NodeTables, Plan, plan_event, plan_jobs};
 use machine_contract::Answered;

@@ -10,7 +10,7 @@ use Rattle.mesh_types.specs.declared.history.Sent.{Sent}
 use Rattle.mesh_types.specs.declared.report.End.TheVariants as Ends
 use Rattle.mesh_types.specs.declared.report.Opened.TheVariants as W
 use Rattle.record_types.specs.declared.records.StoreRecord.{StoreRecord}
-use Rattle.run_definitions.specs.Layers.{Layers}
+use Rattle.event_definitions.specs.Layers.{Layers}
 use Rattle.run_definitions.specs.Order.{Step, is_cut, phases_of}
 use Rattle.run_definitions.specs.RunOf.{LifeOf, Opens, cut_at_start, is_on, was_reset}
 use Rattle.seq_word.specs.Rule.{IsWithin, times}

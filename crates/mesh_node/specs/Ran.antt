@@ -3,7 +3,7 @@ use Rattle.std.specs.Prelude.{◌≡◌, ℕ, ◌<◌, true, IsTrue, List, IfSom
 use Rattle.flash_model.specs.Chip.{Chip}
 use Rattle.machine_contract.specs.Opening.{EachRecovered, IsNodeFlash}
 use Rattle.record_types.specs.declared.records.StoreRecord.{StoreRecord}
-use Rattle.run_definitions.specs.Layers.{Layers}
+use Rattle.event_definitions.specs.Layers.{Layers}
 use Rattle.run_definitions.specs.Order.{Step, is_cut}
 use Rattle.run_definitions.specs.RunOf.{LifeOf}
 use Rattle.store_definitions.specs.Recovered.{IsRecovered}

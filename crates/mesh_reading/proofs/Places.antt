@@ -6,7 +6,7 @@ use Rattle.layer_definitions.specs.Labels.{OpensLabel}
 use Rattle.layer_definitions.specs.Upper.{Opens}
 use Rattle.mesh_base.specs.declared.keys.UpperKey.{UpperKey}
 use Rattle.mesh_base.specs.declared.upper.UpperFields.{UpperFields}
-use Rattle.run_definitions.specs.Readings.{IsOpenedByLabel, IsOpenedUnder}
+use Rattle.event_definitions.specs.Readings.{IsOpenedByLabel, IsOpenedUnder}
 
 -- what stands at a place of a list that is another one
 at_place : {A : Type 0} (xs ys : List A) (at : ℕ) (x d : A) → ys ≡ xs → slice_get xs at ≡ Some x → slice_get xs at ≡ Some (get_or ys at d)

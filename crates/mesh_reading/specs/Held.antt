@@ -3,8 +3,8 @@ use Rattle.layer_definitions.specs.KeyRefresh.{net_index, app_index, AreBound}
 use Rattle.layer_definitions.specs.Order.{IsByIndex}
 use Rattle.mesh_reading.specs.declared.opening.Opened.{Opened}
 use Rattle.network_layer.specs.declared.reading.NetReading.{NetReading}
-use Rattle.run_definitions.specs.History.{Opening, Reading}
-use Rattle.run_definitions.specs.Readings.{labels_tried}
+use Rattle.event_definitions.specs.History.{Opening, Reading}
+use Rattle.event_definitions.specs.Readings.{labels_tried}
 use Rattle.mesh_reading.specs.Keys.{HeldKeys}
 use Rattle.store_definitions.specs.Config.{Config}
 

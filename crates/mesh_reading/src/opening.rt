@@ -8,7 +8,7 @@ ghost use Rattle.layer_definitions.specs.Labels.{is_virtual};
 ghost use Rattle.mesh_base.specs.declared.keys.UpperKey.TheVariants.{Device};
 ghost use Rattle.mesh_reading.specs.Held.{held_in, opening_of, reading_of};
 ghost use Rattle.layer_states.specs.Names.{is_unicast};
-ghost use Rattle.run_definitions.specs.Readings.{IsOpenedByLabel, IsOpenedFor, IsOpenedUnder, fields_heard, keys_tried};
+ghost use Rattle.event_definitions.specs.Readings.{IsOpenedByLabel, IsOpenedFor, IsOpenedUnder, fields_heard, keys_tried};
 ghost use Rattle.store_definitions.specs.Config.{Config};
 
 use crate::keys::Keys;

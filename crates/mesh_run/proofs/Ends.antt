@@ -5,7 +5,7 @@ use Rattle.std.specs.Io.KnownBytes.{Consumes, IsAtEnd}
 use Rattle.flash_model.specs.Chip.{Chip, Keeps, KeepsCount, Stays}
 use Rattle.slot_journal.specs.Format.{IsErased, IsFirstWritten}
 use Rattle.report_writer.specs.Writing.{SinkView}
-use Rattle.run_definitions.specs.Layers.{Layers}
+use Rattle.event_definitions.specs.Layers.{Layers}
 use Rattle.run_definitions.specs.RunOf.{Script}
 use Rattle.script_definitions.specs.Reading.{Reading}
 use Rattle.script_definitions.specs.Reading.Reading.{Fails, IsScript}

@@ -5,10 +5,11 @@ use Rattle.std.proofs.lemmas.List.Sums.{sum_by-append}
 use Rattle.record_types.specs.declared.records.StoreRecord.{StoreRecord}
 use Rattle.report_definitions.specs.Record.{LifeOver, first_over}
 use Rattle.report_definitions.specs.Report.{life_lines, lives_lines}
-use Rattle.run_definitions.specs.Layers.{Layers}
+use Rattle.event_definitions.specs.Layers.{Layers}
 use Rattle.run_definitions.specs.Order.{Step, is_cut}
 use Rattle.run_definitions.specs.RunOf.{LifeOf, LivesOf}
-use Rattle.run_safety.specs.Safety.{AreSafe, LivesKeep}
+use Rattle.run_safety.specs.Safety.{LivesKeep}
+use Rattle.event_definitions.specs.Safe.{AreSafe}
 use Rattle.store_definitions.specs.Config.{config_of}
 use Rattle.mesh_run.specs.Ran.{AreArmed, IsArmed, cuts}
 

@@ -7,7 +7,7 @@ use Rattle.mesh_node.specs.Lives.{cut_calls}
 use Rattle.report_definitions.specs.Record.{Life, LifeOver, Run}
 use Rattle.report_definitions.specs.Report.{lives_lines, report_text}
 use Rattle.report_writer.specs.Writing.{SinkView, Written, WrittenFront}
-use Rattle.run_definitions.specs.Layers.{Layers}
+use Rattle.event_definitions.specs.Layers.{Layers}
 use Rattle.run_definitions.specs.Order.{Step, arm, is_cut}
 use Rattle.run_definitions.specs.RunOf.{RunOf, Script}
 use Rattle.run_definitions.specs.Uses.{AtMostOnce, NoReuse, delivered, uses}

@@ -11,5 +11,5 @@ kind_of (E.Bcn octets) = K.Bcn
 kind_of (E.Send element dst ttl key payload) = K.Send
 kind_of (E.Raw dst ttl tpdu) = K.Raw
 kind_of (E.Tick ticks) = K.Tick
-kind_of (E.Begin pair dst src ttl net akf aid upper) = K.Begin
+kind_of (E.Begin message) = K.Begin
 kind_of (E.Kept lpn fsn name pdu) = K.Kept

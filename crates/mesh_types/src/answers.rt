@@ -6,6 +6,7 @@ use mesh_base::iv_state::IvStep;
 use mesh_base::keys::UpperKey;
 use mesh_base::octets::Octets;
 use mesh_base::pair::{Name, Pair};
+use node_limits::MESSAGES_IN_PROGRESS;
 
 /// A key of the upper transport layer, as the report names it.
 #[derive(Clone, Copy, Debug, PartialEq, Eq)]
@@ -64,10 +65,10 @@ pub enum Answer {
         /// That entry.
         kept: Pair,
     },
-    /// A segment of a new message, while eight others are in progress.
+    /// A segment of a new message, while so many others as have a place are in progress.
     NoRoom {
         /// Their names, in the order in which they began.
-        held: [Name; 8],
+        held: [Name; MESSAGES_IN_PROGRESS],
     },
     /// A segment at odds with the message in progress under its name.
     Conflict,

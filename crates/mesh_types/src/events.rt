@@ -3,7 +3,7 @@
 
 use mesh_base::address::Address;
 use mesh_base::octets::Octets;
-use mesh_base::pair::{Name, Pair};
+use mesh_base::pair::Name;
 use std::fmt;
 use std::fmt::{Debug, Formatter};
 
@@ -25,6 +25,44 @@ impl Debug for SendKey {
             SendKey::Own => f.write_str("Own"),
             SendKey::Other(_) => f.write_str("Other(..)"),
             SendKey::App(index) => f.debug_tuple("App").field(index).finish(),
+        }
+    }
+}
+
+/// An own access message that is sent in segments.
+#[derive(Debug, Default, Drop, PartialEq, Eq)]
+pub struct Outgoing {
+    /// Its name: SRC, one of the node's elements, with its SeqAuth, the pair of the seal.
+    pub name: Name,
+    /// DST.
+    pub dst: Address,
+    /// TTL, below 128.
+    pub ttl: u8,
+    /// The index of the network key, 12 bits.
+    pub net: u16,
+    /// Whether an application key sealed it; else a device key.
+    pub akf: bool,
+    /// AID, 6 bits; 0 with a device key.
+    pub aid: u8,
+    /// The upper transport PDU, 5 to 384 octets.
+    pub upper: Octets<384>,
+}
+
+impl Outgoing {
+    ghost use Rattle.std.specs.Prelude.{◌≡◌};
+
+    /// The same message once more. It takes no memory.
+    pub fn copied(&self) -> Outgoing
+        ensures value { result ≡ self.now }
+    {
+        Outgoing {
+            name: self.name,
+            dst: self.dst,
+            ttl: self.ttl,
+            net: self.net,
+            akf: self.akf,
+            aid: self.aid,
+            upper: self.upper.copied(),
         }
     }
 }
@@ -61,24 +99,7 @@ pub enum Event {
     /// So many ticks of 10 ms passed.
     Tick(u32),
     /// The upper transport PDU of an own segmented message was sealed, and its segments are to be sent.
-    Begin {
-        /// The pair of the seal, which is the message's SeqAuth.
-        pair: Pair,
-        /// DST.
-        dst: Address,
-        /// SRC, one of the node's elements.
-        src: Address,
-        /// TTL, below 128.
-        ttl: u8,
-        /// The index of the network key, 12 bits.
-        net: u16,
-        /// Whether an application key sealed it; else a device key.
-        akf: bool,
-        /// AID, 6 bits; 0 with a device key.
-        aid: u8,
-        /// The upper transport PDU, 5 to 384 octets.
-        upper: Octets<384>,
-    },
+    Begin(Outgoing),
     /// A Poll was answered by these octets.
     Kept {
         /// The Low Power node.
@@ -125,7 +146,7 @@ impl Event {
             Event::Send { .. } => Kind::Send,
             Event::Raw { .. } => Kind::Raw,
             Event::Tick(_) => Kind::Tick,
-            Event::Begin { .. } => Kind::Begin,
+            Event::Begin(_) => Kind::Begin,
             Event::Kept { .. } => Kind::Kept,
         }
     }
@@ -156,25 +177,7 @@ impl Event {
                 tpdu: tpdu.copied(),
             },
             Event::Tick(ticks) => Event::Tick(*ticks),
-            Event::Begin {
-                pair,
-                dst,
-                src,
-                ttl,
-                net,
-                akf,
-                aid,
-                upper,
-            } => Event::Begin {
-                pair: *pair,
-                dst: *dst,
-                src: *src,
-                ttl: *ttl,
-                net: *net,
-                akf: *akf,
-                aid: *aid,
-                upper: upper.copied(),
-            },
+            Event::Begin(message) => Event::Begin(message.copied()),
             Event::Kept {
                 lpn,
                 fsn,

@@ -8,10 +8,50 @@ use mesh_base::fields::{NetFields, NetMaterial};
 use mesh_base::keys::UpperKey;
 use mesh_base::octets::Octets;
 use mesh_base::pair::Name;
+use node_limits::JOBS;
 use std::alloc::{AllocError, Global};
 use std::fmt;
 use std::fmt::{Debug, Formatter};
 use std::marker::Model;
+
+/// A segment of an own message, but for the pair that it goes under.
+#[derive(Drop, PartialEq, Eq)]
+pub struct Segment {
+    /// The material that seals it.
+    pub material: NetMaterial,
+    /// The message's name: SRC, one of the node's elements, with its SeqAuth.
+    pub name: Name,
+    /// TTL, below 128.
+    pub ttl: u8,
+    /// DST.
+    pub dst: Address,
+    /// SegO, 5 bits.
+    pub seg_o: u8,
+    /// SegN, 5 bits.
+    pub seg_n: u8,
+    /// The transport PDU, 5 to 16 octets.
+    pub tpdu: Octets<16>,
+    /// Whether it is the first segment of all, which goes under the pair of SeqAuth; every other draws a pair.
+    pub first: bool,
+}
+
+impl Segment {
+    /// The same segment once more. It takes no memory.
+    pub fn copied(&self) -> Segment
+        ensures value { result ≡ self.now }
+    {
+        Segment {
+            material: self.material,
+            name: self.name,
+            ttl: self.ttl,
+            dst: self.dst,
+            seg_o: self.seg_o,
+            seg_n: self.seg_n,
+            tpdu: self.tpdu.copied(),
+            first: self.first,
+        }
+    }
+}
 
 /// One job of an entry. Where it answers a Poll whose answer is to be kept, `keep` is the Low Power node and the FSN.
 #[derive(Drop, PartialEq, Eq)]
@@ -73,26 +113,7 @@ pub enum Job {
         dst: Address,
     },
     /// A segment of an own message.
-    Segment {
-        /// The material that seals it.
-        material: NetMaterial,
-        /// The message's name, with its SeqAuth.
-        name: Name,
-        /// TTL, below 128.
-        ttl: u8,
-        /// SRC, one of the node's elements.
-        src: Address,
-        /// DST.
-        dst: Address,
-        /// SegO, 5 bits.
-        seg_o: u8,
-        /// SegN, 5 bits.
-        seg_n: u8,
-        /// The transport PDU, 5 to 16 octets.
-        tpdu: Octets<16>,
-        /// Whether it is the first segment of all, which goes under the pair of SeqAuth; every other draws a pair.
-        first: bool,
-    },
+    Segment(Segment),
     /// Octets that were kept for a Poll, once more.
     Repeat {
         /// SRC, IV Index and SEQ of the octets.
@@ -163,27 +184,7 @@ impl Job {
                 src: *src,
                 dst: *dst,
             },
-            Job::Segment {
-                material,
-                name,
-                ttl,
-                src,
-                dst,
-                seg_o,
-                seg_n,
-                tpdu,
-                first,
-            } => Job::Segment {
-                material: *material,
-                name: *name,
-                ttl: *ttl,
-                src: *src,
-                dst: *dst,
-                seg_o: *seg_o,
-                seg_n: *seg_n,
-                tpdu: tpdu.copied(),
-                first: *first,
-            },
+            Job::Segment(segment) => Job::Segment(segment.copied()),
             Job::Repeat { name, pdu } => Job::Repeat {
                 name: *name,
                 pdu: pdu.copied(),
@@ -193,10 +194,7 @@ impl Job {
     }
 }
 
-/// The most jobs of an event.
-const MOST_JOBS: usize = 160;
-
-/// The jobs of an entry in their order, at most 160. They take the memory of so many as they are, as far as the allocator gives the rest back;
+/// The jobs of an entry in their order, at most `JOBS`. They take the memory of so many as they are, as far as the allocator gives the rest back;
 /// no clause says so. A clause sees them as the list.
 #[derive(Drop)]
 pub struct Jobs {
@@ -215,19 +213,20 @@ impl Debug for Jobs {
 impl Model for Jobs {
     ghost use Rattle.std.specs.Prelude.{◌≤◌, List, length};
     ghost use Rattle.mesh_types.specs.declared.jobs.Job.{Job};
+    ghost use Rattle.node_limits.specs.declared.TheConstants.{JOBS};
 
     ghost Value = { List Job };
 
     ghost view = { λ j. j.table.items };
 
-    ghost invariant = { λ j. length j.table.items ≤ 160 };
+    ghost invariant = { λ j. length j.table.items ≤ JOBS };
 }
 
 impl Jobs {
     /// The number of jobs.
     pub fn len(&self) -> usize
         ensures value { result ≡ length self.now }
-        ensures length { result ≤ 160 }
+        ensures length { result ≤ JOBS }
     {
         self.table.len()
     }
@@ -242,7 +241,7 @@ impl Jobs {
     /// The jobs, in their order.
     pub fn as_slice(&self) -> &[Job]
         ensures value { result.now ≡ self.now }
-        ensures length { length result.now ≤ 160 }
+        ensures length { length result.now ≤ JOBS }
     {
         self.table.as_slice()
     }
@@ -259,7 +258,7 @@ impl Jobs {
     }
 }
 
-/// The jobs of an entry while they are made: there is memory for 160, taken at once, so that a job more can't fail. A clause sees them as
+/// The jobs of an entry while they are made: there is memory for `JOBS`, taken at once, so that a job more can't fail. A clause sees them as
 /// the list.
 #[derive(Drop)]
 pub struct JobDraft {
@@ -269,27 +268,28 @@ pub struct JobDraft {
 impl Model for JobDraft {
     ghost use Rattle.std.specs.Prelude.{◌≤◌, List, length, vec_capacity};
     ghost use Rattle.mesh_types.specs.declared.jobs.Job.{Job};
+    ghost use Rattle.node_limits.specs.declared.TheConstants.{JOBS};
 
     ghost Value = { List Job };
 
     ghost view = { λ j. j.table.items };
 
-    ghost invariant = { λ j. (length j.table.items ≤ 160) × (160 ≤ vec_capacity j.table) };
+    ghost invariant = { λ j. (length j.table.items ≤ JOBS) × (JOBS ≤ vec_capacity j.table) };
 }
 
 impl JobDraft {
-    /// No jobs, and memory for 160, which comes from `alloc`. The error is for want of memory.
+    /// No jobs, and memory for `JOBS`, which comes from `alloc`. The error is for want of memory.
     pub fn new(alloc: Global) -> Result<JobDraft, AllocError>
         ensures value { IfOk result (λ j. j ≡ []) }
     {
         Ok(JobDraft {
-            table: Vec::with_capacity(alloc, MOST_JOBS)?,
+            table: Vec::with_capacity(alloc, JOBS)?,
         })
     }
 
     /// Puts a job behind the others, for which the caller has room.
     pub fn push(&mut self, job: Job)
-        requires room { length self.old < 160 }
+        requires room { length self.old < JOBS }
         ensures value { self.new ≡ self.old ++ job ∷ [] }
     {
         let _ = self.table.push(job);

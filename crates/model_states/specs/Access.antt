@@ -1,5 +1,5 @@
 -- Opcodes of access messages and the Composition Data (Mesh Profile 1.0.1). Section numbers are the profile's.
-use Rattle.std.specs.Prelude.{◌≡◌, ℕ, zero, suc, ◌/◌, ◌%◌, ◌==◌, ◌&&◌, ◌||◌, nat_lt, nat_le, Bool, true, IsTrue, if◌then◌else◌, List, [], ◌∷◌, ◌++◌, length, take, replicate}
+use Rattle.std.specs.Prelude.{◌≡◌, ℕ, zero, suc, ◌+◌, ◌*◌, ◌/◌, ◌%◌, ◌==◌, ◌&&◌, ◌||◌, nat_lt, nat_le, Bool, true, IsTrue, if◌then◌else◌, List, [], ◌∷◌, ◌++◌, Option, Some, None, length, take, drop, fold, replicate}
 use Rattle.std.specs.List.{flat_map}
 use Rattle.cipher_definitions.specs.Octets.{two_octets, three_octets}
 use Rattle.model_states.specs.declared.access.Opcode.{Opcode}
@@ -32,6 +32,16 @@ opcode_size first = if nat_lt first 0x80 then 1 else if nat_lt first 0xc0 then 2
 abbrev pub has_no_opcode : List ℕ → Bool
 has_no_opcode [] = true
 has_no_opcode (first ∷ rest) = first == 0x7f || nat_lt (suc (length rest)) (opcode_size first)
+
+-- the opcode that a payload begins with, as a number, and the parameters behind it
+abbrev pub opcode_in : List ℕ → Option (ℕ × List ℕ)
+opcode_in [] = None
+opcode_in (first ∷ rest) =
+    if has_no_opcode (first ∷ rest) then None
+    else Some (
+      fold (λ n octet. n * 256 + octet) 0 (take (opcode_size first) (first ∷ rest)),
+      drop (opcode_size first) (first ∷ rest),
+    )
 
 -- Composition Data Page 0 (4.2.1).
 

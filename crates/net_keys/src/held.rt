@@ -15,6 +15,7 @@ use kept_keys::HeardSchedules;
 use mesh_base::fields::Heard;
 use mesh_base::keys::NetKeyRow;
 use mesh_base::table::HeardList;
+use node_limits::{HEARD_NETWORK_KEYS, NETWORK_KEYS};
 
 // The master credentials of a key, with their schedules.
 fn kept(index: u16, fresh: bool, key: &[u8; 16]) -> HeardSchedules
@@ -29,8 +30,8 @@ fn kept(index: u16, fresh: bool, key: &[u8; 16]) -> HeardSchedules
 }
 
 // Puts the keys of a row behind the others, the old one before the new.
-fn add_keys(heard: &mut ArrayVec<HeardSchedules, 8>, row: &NetKeyRow)
-    requires room { array_vec_len heard.old + 2 ≤ 8 }
+fn add_keys(heard: &mut ArrayVec<HeardSchedules, HEARD_NETWORK_KEYS>, row: &NetKeyRow)
+    requires room { array_vec_len heard.old + 2 ≤ HEARD_NETWORK_KEYS }
     ensures value { heard.new.items ≡ heard.old.items ++ keys_of (heard_key row.now.index) row.now.key row.now.next }
     ensures length { array_vec_len heard.new ≤ array_vec_len heard.old + 2 }
 {
@@ -41,8 +42,8 @@ fn add_keys(heard: &mut ArrayVec<HeardSchedules, 8>, row: &NetKeyRow)
 }
 
 /// The keys of these rows.
-pub(crate) fn keep(rows: &[NetKeyRow]) -> ArrayVec<HeardSchedules, 8>
-    requires room { length rows.now ≤ 4 }
+pub(crate) fn keep(rows: &[NetKeyRow]) -> ArrayVec<HeardSchedules, HEARD_NETWORK_KEYS>
+    requires room { length rows.now ≤ NETWORK_KEYS }
     ensures value { result.items ≡ heard_keys rows.now }
 {
     let mut heard = ArrayVec::new();

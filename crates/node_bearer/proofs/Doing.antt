@@ -203,6 +203,6 @@ after_spent (J.Relay material fields) iv = refl
 after_spent (J.Control material ttl src dst tpdu keep) iv = refl
 after_spent (J.Message net material key ttl src dst payload keep) iv = refl
 after_spent (J.Sent net material key ttl src dst) iv = refl
-after_spent (J.Segment material name ttl src dst seg_o seg_n tpdu first) iv = refl
+after_spent (J.Segment s) iv = refl
 after_spent (J.Repeat name octets) iv = refl
 after_spent (J.Beacon octets) iv = refl

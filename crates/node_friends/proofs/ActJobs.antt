@@ -17,8 +17,8 @@ use Rattle.node_friends.specs.Acts.{IsActStill, friend_act, jobs_of_act}
 use Rattle.node_friends.specs.declared.acts.FriendAct.{FriendAct}
 use Rattle.node_friends.specs.declared.acts.FriendAct.TheVariants as A
 use Rattle.node_layers.specs.Friendship.{is_by_friend, is_by_master, is_request, jobs_of_control, offer_jobs, own_control, poll_jobs}
-use Rattle.run_definitions.specs.History.{Reading}
-use Rattle.run_definitions.specs.Jobs.{under}
+use Rattle.event_definitions.specs.History.{Reading}
+use Rattle.event_definitions.specs.Jobs.{under}
 use Rattle.store_definitions.specs.Config.{Config}
 
 -- an act under a test

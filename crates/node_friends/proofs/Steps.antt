@@ -15,10 +15,10 @@ use Rattle.node_layers.specs.Configuration.{ends_friendships}
 use Rattle.node_layers.specs.Friendship.{act_of, calls_by_answer, calls_of_message, config_after, ended_calls, friends_with, heard_by, heard_calls, if_so, is_short, own_short, replies_to, stored}
 use Rattle.node_layers.specs.Models.{delivered_by}
 use Rattle.record_types.specs.declared.records.StoreRecord.{StoreRecord}
-use Rattle.run_definitions.specs.Answers.{config_before, is_before_cache}
-use Rattle.run_definitions.specs.Handling.{past_of}
-use Rattle.run_definitions.specs.History.{Insight, OfBeacon, OfNothing, OfPdu, Past, Reading, Told}
-use Rattle.run_definitions.specs.Layers.{AccessMessage}
+use Rattle.event_definitions.specs.Answers.{config_before, is_before_cache}
+use Rattle.event_definitions.specs.Handling.{past_of}
+use Rattle.event_definitions.specs.History.{Insight, OfBeacon, OfNothing, OfPdu, Past, Reading, Told}
+use Rattle.event_definitions.specs.Layers.{AccessMessage}
 
 -- A PDU heard.
 

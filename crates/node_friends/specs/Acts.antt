@@ -12,8 +12,8 @@ use Rattle.mesh_types.specs.declared.jobs.Job.{Job}
 use Rattle.node_friends.specs.declared.acts.FriendAct.{FriendAct}
 use Rattle.node_friends.specs.declared.acts.FriendAct.TheVariants as A
 use Rattle.node_layers.specs.Friendship.{answer_jobs, clear_jobs, is_by_friend, is_by_master, is_request, own_control}
-use Rattle.run_definitions.specs.History.{Reading}
-use Rattle.run_definitions.specs.Jobs.{under}
+use Rattle.event_definitions.specs.History.{Reading}
+use Rattle.event_definitions.specs.Jobs.{under}
 use Rattle.store_definitions.specs.Config.{Config}
 
 -- What a control message leads to, by the state that it meets.

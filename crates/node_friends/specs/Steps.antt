@@ -11,10 +11,10 @@ use Rattle.node_layers.specs.Configuration.{ends_friendships}
 use Rattle.node_layers.specs.Friendship.{act_of, answered_calls, config_after, control_calls, friends, heard_calls, kept_calls, no_friends, own_short, publication_short, replies_to, send_calls, stored}
 use Rattle.node_layers.specs.Models.{delivered_by}
 use Rattle.node_layers.specs.Publishing.{publications_due}
-use Rattle.run_definitions.specs.Answers.{config_before, is_before_cache}
-use Rattle.run_definitions.specs.Handling.{past_of}
-use Rattle.run_definitions.specs.History.{Insight, OfPdu, Past, Reading, Told, now_of}
-use Rattle.run_definitions.specs.Layers.{AccessMessage}
+use Rattle.event_definitions.specs.Answers.{config_before, is_before_cache}
+use Rattle.event_definitions.specs.Handling.{past_of}
+use Rattle.event_definitions.specs.History.{Insight, OfPdu, Past, Reading, Told, now_of}
+use Rattle.event_definitions.specs.Layers.{AccessMessage}
 use Rattle.store_definitions.specs.Config.{Config}
 
 -- These are the friendships and offers of a life with these entries so far.

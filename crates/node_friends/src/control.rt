@@ -11,7 +11,7 @@ ghost use Rattle.node_friends.specs.Steps.{after_control};
 ghost use Rattle.node_friends.specs.declared.acts.FriendAct.TheVariants as A;
 ghost use Rattle.node_layers.specs.Friendship.{answered_calls, control_calls, stored_octets};
 ghost use Rattle.node_records.specs.Tables.{config_in};
-ghost use Rattle.run_definitions.specs.Answers.{name_of as name_in};
+ghost use Rattle.event_definitions.specs.Answers.{name_of as name_in};
 ghost use Rattle.store_definitions.specs.Config.{Config};
 
 use crate::acts::FriendAct;

@@ -13,7 +13,7 @@ ghost use Rattle.mesh_types.specs.declared.events.Event.TheVariants as E;
 ghost use Rattle.node_friends.specs.Queues.{IsSendable};
 ghost use Rattle.node_friends.specs.Steps.{AreFriendsOf};
 ghost use Rattle.node_layers.specs.Friendship.{friend_keys, heard_calls, is_befriended as is_befriended_after, is_to_be_kept, kept_calls, no_friends, stored};
-ghost use Rattle.run_definitions.specs.History.{Past};
+ghost use Rattle.event_definitions.specs.History.{Past};
 
 use crate::heard::is_by_master;
 use friend_queue::Friends;

@@ -14,7 +14,7 @@ ghost use Rattle.mesh_types.specs.declared.jobs.Job.TheVariants as J;
 ghost use Rattle.node_friends.specs.Acts.{IsActOf, jobs_of_act};
 ghost use Rattle.node_layers.specs.Friendship.{answer_jobs, clear_jobs, flags_of as flags_in, jobs_of_control, own_control as own_control_in, update_of as update_in};
 ghost use Rattle.node_records.specs.Tables.{config_in};
-ghost use Rattle.run_definitions.specs.Jobs.{under};
+ghost use Rattle.event_definitions.specs.Jobs.{under};
 
 use crate::acts::FriendAct;
 use crate::heard::net_row;

@@ -10,8 +10,8 @@ use Rattle.layer_states.specs.declared.friends.Friendship.{Friendship}
 use Rattle.layer_states.specs.declared.friends.QueueEntry.TheVariants as Q
 use Rattle.mesh_base.specs.declared.fields.Heard.{Heard}
 use Rattle.node_layers.specs.Friendship.{calls_by_answer, friend_keys, friends, friends_from, friends_with, heard_by, no_friends}
-use Rattle.run_definitions.specs.Handling.{past_of}
-use Rattle.run_definitions.specs.History.{Past, Told}
+use Rattle.event_definitions.specs.Handling.{past_of}
+use Rattle.event_definitions.specs.History.{Past, Told}
 
 -- the highest 7 of 263 bits
 high_seven : (x : ℕ) → x % 2 ^ 263 / 2 ^ 256 < 2 ^ 7

@@ -17,8 +17,8 @@ use Rattle.node_layers.specs.ConfiguredLayers.{configured_layers}
 use Rattle.node_layers.specs.NodeLayers.{node_layers}
 use Rattle.node_layers.specs.Reassembly.{held, part_heard}
 use Rattle.node_layers.specs.Segments.{AnswersSegments, HasWhole, taken_answer}
-use Rattle.run_definitions.specs.Answers.{config_before}
-use Rattle.run_definitions.specs.History.{now_of}
+use Rattle.event_definitions.specs.Answers.{config_before}
+use Rattle.event_definitions.specs.History.{now_of}
 
 -- a name is among those in progress where its place is before their end
 place_step : (b x : Bool) (place size : ℕ) → x ≡ ltb place size → (b || x) ≡ ltb (cond (not b) (1 + place) 0) (suc size)

@@ -13,10 +13,10 @@ use Rattle.node_layers.specs.Friendship.{no_friends, replies_to}
 use Rattle.node_layers.specs.Models.{model_records}
 use Rattle.node_layers.specs.Publishing.{Publication, heartbeat_jobs, publication_job, publications_due}
 use Rattle.record_types.specs.declared.records.StoreRecord.{StoreRecord}
-use Rattle.run_definitions.specs.Answers.{config_before}
-use Rattle.run_definitions.specs.History.{Past}
-use Rattle.run_definitions.specs.Jobs.{element_address, reply_ttl, under}
-use Rattle.run_definitions.specs.Layers.{AccessMessage, Layers}
+use Rattle.event_definitions.specs.Answers.{config_before}
+use Rattle.event_definitions.specs.History.{Past}
+use Rattle.event_definitions.specs.Jobs.{element_address, reply_ttl, under}
+use Rattle.event_definitions.specs.Layers.{AccessMessage, Layers}
 use Rattle.store_definitions.specs.Config.{Config}
 
 -- What a message stores: the record of the configuration that it asks for, then the values of the models that it changes, by element.

@@ -34,11 +34,11 @@ use Rattle.model_states.specs.Publication.{heartbeat_shown}
 use Rattle.node_layers.specs.Configuration.{config_act, ends_friendships}
 use Rattle.node_layers.specs.Models.{delivered_by, model_replies}
 use Rattle.node_layers.specs.Publishing.{Publication, publications_due, published}
-use Rattle.run_definitions.specs.Answers.{config_before, is_before_cache, name_of}
-use Rattle.run_definitions.specs.Handling.{past_of}
-use Rattle.run_definitions.specs.History.{Insight, OfPdu, Past, Reading, Told, now_of}
-use Rattle.run_definitions.specs.Jobs.{element_address, reply_ttl, send_keys, under}
-use Rattle.run_definitions.specs.Layers.{AccessMessage, ControlMessage}
+use Rattle.event_definitions.specs.Answers.{config_before, is_before_cache, name_of}
+use Rattle.event_definitions.specs.Handling.{past_of}
+use Rattle.event_definitions.specs.History.{Insight, OfPdu, Past, Reading, Told, now_of}
+use Rattle.event_definitions.specs.Jobs.{element_address, reply_ttl, send_keys, under}
+use Rattle.event_definitions.specs.Layers.{AccessMessage, ControlMessage}
 use Rattle.store_definitions.specs.Config.{Config, changed}
 
 -- Replies: of the Configuration Server, then of the models by element, each with the place of its element.

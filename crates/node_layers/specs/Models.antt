@@ -15,11 +15,11 @@ use Rattle.model_states.specs.declared.models.LevelState.{LevelState}
 use Rattle.model_states.specs.declared.models.OnOffState.{OnOffState}
 use Rattle.record_types.specs.declared.records.StoreRecord.{StoreRecord}
 use Rattle.record_types.specs.declared.records.StoreRecord.TheVariants as R
-use Rattle.run_definitions.specs.Answers.{config_before, is_group}
-use Rattle.run_definitions.specs.History.{Past, Told, now_of, ticks_after}
-use Rattle.run_definitions.specs.Jobs.{element_address}
-use Rattle.run_definitions.specs.Layers.{AccessMessage}
-use Rattle.run_definitions.specs.Stores.{message_of}
+use Rattle.event_definitions.specs.Answers.{config_before, is_group}
+use Rattle.event_definitions.specs.History.{Past, Told, now_of, ticks_after}
+use Rattle.event_definitions.specs.Jobs.{element_address}
+use Rattle.event_definitions.specs.Layers.{AccessMessage}
+use Rattle.event_definitions.specs.Stores.{message_of}
 use Rattle.store_definitions.specs.Config.{Config, config_of}
 
 -- the models by their numbers

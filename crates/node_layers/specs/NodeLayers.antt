@@ -8,10 +8,10 @@ use Rattle.mesh_types.specs.declared.jobs.Job.{Job}
 use Rattle.node_layers.specs.ConfiguredLayers.{configured_layers, sent_publication, sent_reply}
 use Rattle.node_layers.specs.Friendship.{control_jobs, ended_calls, friend_keys, friends, is_befriended, is_to_be_kept, replies_to}
 use Rattle.node_layers.specs.Publishing.{Publication, heartbeat_jobs, publications_due}
-use Rattle.run_definitions.specs.Answers.{config_before, later}
-use Rattle.run_definitions.specs.History.{Past}
-use Rattle.run_definitions.specs.Jobs.{unless_stored}
-use Rattle.run_definitions.specs.Layers.{AccessMessage, Layers}
+use Rattle.event_definitions.specs.Answers.{config_before, later}
+use Rattle.event_definitions.specs.History.{Past}
+use Rattle.event_definitions.specs.Jobs.{unless_stored}
+use Rattle.event_definitions.specs.Layers.{AccessMessage, Layers}
 use Rattle.store_definitions.specs.Config.{Config}
 
 -- a reply to an address of a friendship that still stands is stored

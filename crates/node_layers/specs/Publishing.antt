@@ -20,10 +20,10 @@ use Rattle.node_layers.specs.Models.{delivered_by, first_records, level_server, 
 use Rattle.record_types.specs.declared.records.PublishRow.{PublishRow}
 use Rattle.record_types.specs.declared.records.StoreRecord.{StoreRecord}
 use Rattle.record_types.specs.declared.records.StoreRecord.TheVariants as R
-use Rattle.run_definitions.specs.Answers.{later}
-use Rattle.run_definitions.specs.History.{Past, Told, ticks_after}
-use Rattle.run_definitions.specs.Jobs.{element_address, under}
-use Rattle.run_definitions.specs.Layers.{AccessMessage}
+use Rattle.event_definitions.specs.Answers.{later}
+use Rattle.event_definitions.specs.History.{Past, Told, ticks_after}
+use Rattle.event_definitions.specs.Jobs.{element_address, under}
+use Rattle.event_definitions.specs.Layers.{AccessMessage}
 use Rattle.store_definitions.specs.Config.{Config, config_of, is_element}
 
 -- rows of this node's elements and of models that it has

@@ -14,9 +14,9 @@ use Rattle.mesh_types.specs.declared.answers.Answer.{Answer}
 use Rattle.mesh_types.specs.declared.answers.Answer.TheVariants as A
 use Rattle.mesh_types.specs.declared.jobs.Job.{Job}
 use Rattle.mesh_types.specs.declared.jobs.Job.TheVariants as J
-use Rattle.run_definitions.specs.Answers.{config_before, later, message_name}
-use Rattle.run_definitions.specs.History.{Insight, OfPdu, Past, Reading, Told, now_of, ticks_after}
-use Rattle.run_definitions.specs.Jobs.{reply_ttl, under}
+use Rattle.event_definitions.specs.Answers.{config_before, later, message_name}
+use Rattle.event_definitions.specs.History.{Insight, OfPdu, Past, Reading, Told, now_of, ticks_after}
+use Rattle.event_definitions.specs.Jobs.{reply_ttl, under}
 use Rattle.store_definitions.specs.Config.{Config, config_of}
 
 -- a segment as it was heard; its acknowledgment goes with the TTL of what the records say at that moment

@@ -8,9 +8,9 @@ use Rattle.mesh_base.specs.declared.pair.Name.{Name}
 use Rattle.mesh_types.specs.declared.answers.Answer.{Answer}
 use Rattle.mesh_types.specs.declared.answers.Answer.TheVariants as A
 use Rattle.node_layers.specs.Reassembly.{held, part_heard}
-use Rattle.run_definitions.specs.Answers.{config_before, segment_answer}
-use Rattle.run_definitions.specs.History.{Past, Reading, now_of}
-use Rattle.run_definitions.specs.Layers.{Layers}
+use Rattle.event_definitions.specs.Answers.{config_before, segment_answer}
+use Rattle.event_definitions.specs.History.{Past, Reading, now_of}
+use Rattle.event_definitions.specs.Layers.{Layers}
 
 -- what becomes of a segment of this name
 abbrev pub segment_taken : Past → Reading → Name → Lower → Taken

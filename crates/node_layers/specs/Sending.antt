@@ -2,14 +2,11 @@
 use Rattle.std.specs.Prelude.{ℕ, ◌&&◌, not, false, if◌then◌else◌, List, [], ◌∷◌, ◌++◌, length}
 use Rattle.std.specs.List.{flat_map}
 use Rattle.layer_definitions.specs.ControlReading.{control_of}
-use Rattle.layer_definitions.specs.Lower.{last_segment, lower_text, segment}
 use Rattle.layer_states.specs.Sending.{SendCall, ack, begin, clear, due, is_due, is_last, round_of, sent}
-use Rattle.layer_states.specs.declared.sending.Outgoing.{Outgoing}
 use Rattle.layer_states.specs.declared.sending.Sending.{Sending}
 use Rattle.mesh_base.specs.declared.address.Address.{Address}
 use Rattle.mesh_base.specs.declared.control.ControlMsg.{ControlMsg}
 use Rattle.mesh_base.specs.declared.control.ControlMsg.TheVariants as C
-use Rattle.mesh_base.specs.declared.fields.NetMaterial.{NetMaterial}
 use Rattle.mesh_base.specs.declared.iv_state.IvStep.{IvStep}
 use Rattle.mesh_base.specs.declared.iv_state.IvStep.TheVariants as I
 use Rattle.mesh_types.specs.declared.answers.Answer.{Answer}
@@ -17,25 +14,14 @@ use Rattle.mesh_types.specs.declared.answers.Answer.TheVariants as A
 use Rattle.mesh_types.specs.declared.events.Event.{Event}
 use Rattle.mesh_types.specs.declared.events.Event.TheVariants as E
 use Rattle.mesh_types.specs.declared.jobs.Job.{Job}
-use Rattle.mesh_types.specs.declared.jobs.Job.TheVariants as J
-use Rattle.run_definitions.specs.Answers.{later}
-use Rattle.run_definitions.specs.History.{Past, Told, ticks_after}
-use Rattle.run_definitions.specs.Jobs.{under}
+use Rattle.event_definitions.specs.Answers.{later}
+use Rattle.event_definitions.specs.History.{Past, Told, ticks_after}
+use Rattle.event_definitions.specs.Jobs.{under, segment_job}
 use Rattle.store_definitions.specs.Config.{Config}
 
 -- a message that begins: its upper PDU was sealed under the pair of its SeqAuth
 abbrev pub begun_calls : ℕ → Event → List SendCall
-begun_calls now (E.Begin pair dst src ttl net akf aid upper) =
-    begin now
-    (record {
-      name = record { src = src; pair = pair };
-      dst = dst;
-      ttl = ttl;
-      net = net;
-      akf = akf;
-      aid = aid;
-      upper = upper;
-    }) ∷ []
+begun_calls now (E.Begin m) = begin now m ∷ []
 begun_calls now _ = []
 
 -- a Segment Acknowledgment that was accepted, from its SRC
@@ -72,15 +58,10 @@ held_count past = length (messages past)
 
 -- The segments that are due at a tick, in the order in which their messages began. Each draws a pair of its own.
 
-abbrev pub segment_job : Outgoing → ℕ → NetMaterial → Job
-segment_job m seg_o material =
-    J.Segment material m.name m.ttl m.name.src m.dst seg_o (last_segment m.upper)
-    (lower_text (segment m.akf m.aid m.name.pair.seq m.upper seg_o)) false
-
 abbrev pub round_jobs : Config → ℕ → Sending → List Job
 round_jobs c now s =
     if is_due now s && not (is_last s)
-    then flat_map (λ seg_o. under c s.message.net (segment_job s.message seg_o)) (round_of s) else []
+    then flat_map (λ seg_o. under c s.message.net (segment_job false s.message seg_o)) (round_of s) else []
 
 abbrev pub segments_at : Past → Config → ℕ → List Job
 segments_at past c ticks = flat_map (round_jobs c (later past ticks)) (messages past)

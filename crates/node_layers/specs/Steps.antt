@@ -15,10 +15,9 @@ use Rattle.node_layers.specs.Sending as own
 use Rattle.record_types.specs.declared.records.StoreRecord.{StoreRecord}
 use Rattle.layer_states.specs.Names.{is_name}
 use Rattle.layer_states.specs.Reassembly.{is_segment}
-use Rattle.run_definitions.specs.Answers.{cached_name, is_accepted_segmented, is_before_cache}
-use Rattle.run_definitions.specs.Handling.{past_of}
-use Rattle.run_definitions.specs.History.{Insight, OfPdu, Past, Told, now_of, ticks_after}
-use Rattle.run_definitions.specs.Uses.{accepted}
+use Rattle.event_definitions.specs.Answers.{accepted, cached_name, is_accepted_segmented, is_before_cache}
+use Rattle.event_definitions.specs.Handling.{past_of}
+use Rattle.event_definitions.specs.History.{Insight, OfPdu, Past, Told, now_of, ticks_after}
 
 -- what stands before the event after an entry, over some records
 abbrev pub with_entry : List Told → Told → List StoreRecord → Past

@@ -10,7 +10,7 @@
 //! - `Segments`, `Steps`: what the laws of `laws` say: the answer to a segment by the state of reassembly, and that an entry more is one step
 //!   of each state
 //!
-//! That `node_layers` and `built_layers` have the properties `AreSafe` of `run_safety` and `AreFit` of `run_definitions` is proved in `layer_laws`.
+//! That `node_layers` and `built_layers` have the properties `AreSafe` and `AreFit` of `event_definitions` is proved in `layer_laws`.
 #![tactic(auto)]
 
 pub mod laws;

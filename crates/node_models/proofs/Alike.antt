@@ -12,7 +12,7 @@ use Rattle.record_types.specs.declared.records.StoreRecord.{StoreRecord}
 use Rattle.node_layers.specs.Configuration.{config_act, is_for_server}
 use Rattle.node_layers.specs.Publishing.{published_by_act, stored_row}
 use Rattle.node_models.specs.Acts.{change_in}
-use Rattle.run_definitions.specs.Layers.{AccessMessage}
+use Rattle.event_definitions.specs.Layers.{AccessMessage}
 use Rattle.store_definitions.specs.Config.{Config}
 
 module _ {X : Type 0} (f : Option StoreRecord → Option HeartbeatRow → X) (d : X) where

@@ -19,7 +19,7 @@ use Rattle.node_models.proofs.Rows.{rest_answers}
 use Rattle.node_models.specs.Acts.{AsksShort, IsShortTtl}
 use Rattle.record_types.specs.declared.records.StoreRecord.{StoreRecord}
 use Rattle.record_types.specs.declared.records.StoreRecord.TheVariants as R
-use Rattle.run_definitions.specs.Layers.{AccessMessage}
+use Rattle.event_definitions.specs.Layers.{AccessMessage}
 use Rattle.store_definitions.specs.Config.{Config, changed}
 
 abbrev is_plain : Option StoreRecord → Bool

@@ -10,9 +10,9 @@ use Rattle.node_layers.specs.Publishing.{is_own_row, published, published_by_mes
 use Rattle.node_layers.specs.Steps.{PublishedGoesOn, with_entry}
 use Rattle.node_models.specs.Models.{is_ticked}
 use Rattle.record_types.specs.declared.records.StoreRecord.{StoreRecord}
-use Rattle.run_definitions.specs.Answers.{config_before}
-use Rattle.run_definitions.specs.History.{Past, Told, now_of}
-use Rattle.run_definitions.specs.Layers.{AccessMessage}
+use Rattle.event_definitions.specs.Answers.{config_before}
+use Rattle.event_definitions.specs.History.{Past, Told, now_of}
+use Rattle.event_definitions.specs.Layers.{AccessMessage}
 use Rattle.store_definitions.specs.Config.{Config, changed, config_of, no_config}
 use Rattle.store_definitions.specs.Numbers.{fill_of, filled}
 

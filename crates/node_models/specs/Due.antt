@@ -5,7 +5,7 @@ use Rattle.node_layers.specs.Publishing.{published, status_of}
 use Rattle.node_models.specs.declared.due.Due.{Due}
 use Rattle.node_models.specs.declared.due.DueRow.{DueRow}
 use Rattle.record_types.specs.declared.records.PublishRow.{PublishRow}
-use Rattle.run_definitions.specs.History.{Past}
+use Rattle.event_definitions.specs.History.{Past}
 use Rattle.store_definitions.specs.Config.{Config}
 
 -- a row with the Status of its model

@@ -5,7 +5,7 @@ ghost use Rattle.std.specs.Prelude.{◌≡◌, ◌≤◌, ◌<◌, ◌^◌, ◌+
 ghost use Rattle.element_models.specs.Models.{AreModelsOf};
 ghost use Rattle.model_publish.specs.Own.{IsOwnRow};
 ghost use Rattle.node_models.specs.Due.{ShowsOctet, due_row};
-ghost use Rattle.run_definitions.specs.History.{Past};
+ghost use Rattle.event_definitions.specs.History.{Past};
 ghost use Rattle.store_definitions.specs.Config.{Config};
 
 use arrayvec::ArrayVec;

@@ -18,8 +18,8 @@ ghost use Rattle.node_models.specs.Replies.{replies_in};
 ghost use Rattle.node_records.specs.Meaning.{IsMeaningOf, IsSaid};
 ghost use Rattle.node_records.specs.Tables.{config_in};
 ghost use Rattle.record_types.specs.declared.records.StoreRecord.{StoreRecord};
-ghost use Rattle.run_definitions.specs.Answers.{config_before};
-ghost use Rattle.run_definitions.specs.History.{Past, Told, now_of};
+ghost use Rattle.event_definitions.specs.Answers.{config_before};
+ghost use Rattle.event_definitions.specs.History.{Past, Told, now_of};
 ghost use Rattle.store_definitions.specs.Config.{Config, config_of};
 
 use crate::configuration::{config_act, ends_friendships, publish, ttl_behind};

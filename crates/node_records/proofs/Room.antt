@@ -4,6 +4,7 @@ use Rattle.std.specs.Prelude.{◌==◌, ◌&&◌, ◌||◌, not, nat_lt, nat_le,
 use Rattle.std.specs.List.{list_any}
 use Rattle.std.proofs.lemmas.Bool.Decides.{nat_tests}
 use Rattle.std.proofs.lemmas.List.{length-map}
+use Rattle.node_limits.specs.declared.TheConstants.{NETWORK_KEYS, APPLICATION_KEYS, BINDINGS, GROUP_SUBSCRIPTIONS, LABEL_SUBSCRIPTIONS, PUBLICATIONS, REPLAY_ENTRIES}
 use Rattle.layer_definitions.specs.Order.{put_by}
 use Rattle.mesh_base.specs.declared.pair.Pair.{Pair}
 use Rattle.mesh_base.specs.declared.pair.Name.{Name}
@@ -232,7 +233,7 @@ module _ (current : ℕ) where
       rw (here, rest) refl
 
   -- so where all rows are held, none is expired and none is this source's, a name lacks a place
-  pub lacks_all : (rows : List Name) (name : Name) → pair_of rows name.src.0 ≡ None → 512 ≤ length rows
+  pub lacks_all : (rows : List Name) (name : Name) → pair_of rows name.src.0 ≡ None → REPLAY_ENTRIES ≤ length rows
       → ((k : ℕ) (d : Name) → k < length rows → is_expired current (get_or rows k d).pair ≡ false) → LacksPlace (live_of current rows) name
   lacks_all rows name none held live =
       subst (λ xs. LacksPlace xs name) (sym (all_live rows live))
@@ -251,10 +252,10 @@ second_of false c h = absurd (true≢false (sym h))
 other : (s src : ℕ) → (s ≡ src → ⊥) → not (s == src) ≡ true
 other s src h = grind (arith, nat_tests)
 
-no_room : (n : ℕ) → 512 ≤ n → nat_lt n 512 ≡ false
+no_room : (n : ℕ) → REPLAY_ENTRIES ≤ n → nat_lt n REPLAY_ENTRIES ≡ false
 no_room n h = grind (arith, nat_tests)
 
-room_least : (n : ℕ) → nat_lt n 512 ≡ false → 512 ≤ n
+room_least : (n : ℕ) → nat_lt n REPLAY_ENTRIES ≡ false → REPLAY_ENTRIES ≤ n
 room_least n h = grind (arith, nat_tests)
 
 -- rows that stand for the entries of records
@@ -342,25 +343,25 @@ module _ (records : List StoreRecord) (p : Persist) (means : IsMeaningOf records
   replay_from first (Some name) (inl h) = inl (place_from records live live_is_apart live_same first h)
   replay_from first (Some name) (inr h) = inr (place_from (after first) (live_with p.iv.current live first) (after_is_apart first) (after_same first) name h)
 
-  live_few : length p.replay ≤ 512 → length live ≤ 512
+  live_few : length p.replay ≤ REPLAY_ENTRIES → length live ≤ REPLAY_ENTRIES
   live_few few = omega (arith, few, filter_few (λ row. not (is_expired p.iv.current row.pair)) p.replay)
 
-  with_few : (first : Name) → length p.replay ≤ 512 → (LacksPlace live first → ⊥) → length (live_with p.iv.current live first) ≤ 512
+  with_few : (first : Name) → length p.replay ≤ REPLAY_ENTRIES → (LacksPlace live first → ⊥) → length (live_with p.iv.current live first) ≤ REPLAY_ENTRIES
   with_few first few place = by_tests (has_row live first.src.0) (not (is_expired p.iv.current first.pair)) refl
     where
-      room : has_row live first.src.0 ≡ false → (512 ≤ length live → ⊥)
+      room : has_row live first.src.0 ≡ false → (REPLAY_ENTRIES ≤ length live → ⊥)
       room e h = place (record { none = e; held = h })
 
-      by_tests : (b c : Bool) → has_row live first.src.0 ≡ b → length (if not b && c then live ++ first ∷ [] else live) ≤ 512
+      by_tests : (b c : Bool) → has_row live first.src.0 ≡ b → length (if not b && c then live ++ first ∷ [] else live) ≤ REPLAY_ENTRIES
       by_tests true c e = live_few few
       by_tests false true e = omega (arith, room e, length-append live (first ∷ []))
       by_tests false false e = live_few few
 
-  first_held : (first : Name) → length p.replay ≤ 512 → LacksPlace live first → 512 ≡ others_held records first.src.0
+  first_held : (first : Name) → length p.replay ≤ REPLAY_ENTRIES → LacksPlace live first → REPLAY_ENTRIES ≡ others_held records first.src.0
   first_held first few h = omega (arith, h.held, live_few few, count_others records live live_is_apart live_same first.src.0 h.none)
 
-  second_held : (first name : Name) → length p.replay ≤ 512 → (LacksPlace live first → ⊥) → LacksPlace (live_with p.iv.current live first) name
-      → 512 ≡ others_held (after first) name.src.0
+  second_held : (first name : Name) → length p.replay ≤ REPLAY_ENTRIES → (LacksPlace live first → ⊥) → LacksPlace (live_with p.iv.current live first) name
+      → REPLAY_ENTRIES ≡ others_held (after first) name.src.0
   second_held first name few place h =
       omega (
         arith,
@@ -370,23 +371,23 @@ module _ (records : List StoreRecord) (p : Persist) (means : IsMeaningOf records
       )
 
   lacks_or : (first : Name) → LacksPlace live first ⊎ (LacksPlace live first → ⊥)
-  lacks_or first = by_tests (has_row live first.src.0) (nat_le 512 (length live)) refl refl
+  lacks_or first = by_tests (has_row live first.src.0) (nat_le REPLAY_ENTRIES (length live)) refl refl
     where
-      least : (n : ℕ) → nat_le 512 n ≡ true → 512 ≤ n
+      least : (n : ℕ) → nat_le REPLAY_ENTRIES n ≡ true → REPLAY_ENTRIES ≤ n
       least n h = grind (arith, nat_tests)
 
-      less : (n : ℕ) → nat_le 512 n ≡ false → 512 ≤ n → ⊥
+      less : (n : ℕ) → nat_le REPLAY_ENTRIES n ≡ false → REPLAY_ENTRIES ≤ n → ⊥
       less n h k = grind (arith, nat_tests)
 
-      by_tests : (b c : Bool) → has_row live first.src.0 ≡ b → nat_le 512 (length live) ≡ c → LacksPlace live first ⊎ (LacksPlace live first → ⊥)
+      by_tests : (b c : Bool) → has_row live first.src.0 ≡ b → nat_le REPLAY_ENTRIES (length live) ≡ c → LacksPlace live first ⊎ (LacksPlace live first → ⊥)
       by_tests true c e f = inr (λ h. true≢false (sym e ∙ h.none))
       by_tests false true e f = inl (record { none = e; held = least (length live) f })
       by_tests false false e f = inr (λ h. less (length live) f h.held)
 
-  pub held_by : (first : Name) (second : Option Name) → length p.replay ≤ 512 → IsFull p (R.Replay first second) → IsHeldByOthers records (R.Replay first second) 512
+  pub held_by : (first : Name) (second : Option Name) → length p.replay ≤ REPLAY_ENTRIES → IsFull p (R.Replay first second) → IsHeldByOthers records (R.Replay first second) REPLAY_ENTRIES
   held_by first second few full = by_first (lacks_or first)
     where
-      after_first : (o : Option Name) → (LacksPlace live first → ⊥) → LacksPlace live first ⊎ IsSomeAnd o (LacksPlace (live_with p.iv.current live first)) → IsHeldByOthers records (R.Replay first o) 512
+      after_first : (o : Option Name) → (LacksPlace live first → ⊥) → LacksPlace live first ⊎ IsSomeAnd o (LacksPlace (live_with p.iv.current live first)) → IsHeldByOthers records (R.Replay first o) REPLAY_ENTRIES
       after_first o place (inl h) = absurd (place h)
       after_first None place (inr h) = absurd h
       after_first (Some name) place (inr h) = inr (replay_second name h, second_held first name few place h)
@@ -394,7 +395,7 @@ module _ (records : List StoreRecord) (p : Persist) (means : IsMeaningOf records
           replay_second : (n : Name) → LacksPlace (live_with p.iv.current live first) n → HasNoPlace (after first) n
           replay_second n k = place_to (after first) (live_with p.iv.current live first) (after_is_apart first) (after_same first) n k
 
-      by_first : LacksPlace live first ⊎ (LacksPlace live first → ⊥) → IsHeldByOthers records (R.Replay first second) 512
+      by_first : LacksPlace live first ⊎ (LacksPlace live first → ⊥) → IsHeldByOthers records (R.Replay first second) REPLAY_ENTRIES
       by_first (inl h) = inl (place_to records live live_is_apart live_same first h, first_held first few h)
       by_first (inr h) = after_first second h full
 
@@ -408,17 +409,17 @@ same_rows more xs ys n e =
 -- a table of a value is full exactly where the records that it stands for fill it
 pub full_passes : (records : List StoreRecord) (p : Persist) (item : StoreRecord) → IsMeaningOf records p → IsFull p item ↔ PassesLimit records item
 full_passes records p (R.NetKey op index key) means =
-    same_rows (nets_after op index key) p.nets (config_of records).nets 4 (ap (λ (c : Config). c.nets) means.config)
+    same_rows (nets_after op index key) p.nets (config_of records).nets NETWORK_KEYS (ap (λ (c : Config). c.nets) means.config)
 full_passes records p (R.AppKey op net index key) means =
-    same_rows (apps_after op net index key) p.apps (config_of records).apps 8 (ap (λ (c : Config). c.apps) means.config)
+    same_rows (apps_after op net index key) p.apps (config_of records).apps APPLICATION_KEYS (ap (λ (c : Config). c.apps) means.config)
 full_passes records p (R.Bind op element model app) means =
-    same_rows (binds_after op element model app) p.binds (config_of records).binds 32 (ap (λ (c : Config). c.binds) means.config)
+    same_rows (binds_after op element model app) p.binds (config_of records).binds BINDINGS (ap (λ (c : Config). c.binds) means.config)
 full_passes records p (R.Subscribe op element model address) means =
-    same_rows (subs_after op element model address) p.subs (config_of records).subs 32 (ap (λ (c : Config). c.subs) means.config)
+    same_rows (subs_after op element model address) p.subs (config_of records).subs GROUP_SUBSCRIPTIONS (ap (λ (c : Config). c.subs) means.config)
 full_passes records p (R.Label op element model label) means =
-    same_rows (labels_after op element model label) p.labels (config_of records).labels 32 (ap (λ (c : Config). c.labels) means.config)
+    same_rows (labels_after op element model label) p.labels (config_of records).labels LABEL_SUBSCRIPTIONS (ap (λ (c : Config). c.labels) means.config)
 full_passes records p (R.Publish row) means =
-    same_rows (put_by publication_index row) p.publications (config_of records).publications 8 (ap (λ (c : Config). c.publications) means.config)
+    same_rows (put_by publication_index row) p.publications (config_of records).publications PUBLICATIONS (ap (λ (c : Config). c.publications) means.config)
 full_passes records p (R.Replay first second) means = (replay_to records p means first second, replay_from records p means first second)
 full_passes records p (R.Identity unicast elements dev_key) means = ((λ h. h), (λ h. h))
 full_passes records p (R.Numbers current progress mark hours since) means = ((λ h. h), (λ h. h))
@@ -431,7 +432,7 @@ full_passes records p (R.Model element model value) means = ((λ h. h), (λ h. h
 pub passes : {B : Type 0} (records : List StoreRecord) (p : Persist) (item : StoreRecord) → B ↔ IsFull p item → IsMeaningOf records p → B ↔ PassesLimit records item
 passes records p item full means = pairs full (full_passes records p item means)
 
-held_others : (records : List StoreRecord) (p : Persist) (item : StoreRecord) (held : ℕ) → IsMeaningOf records p → length p.replay ≤ 512 → IsFull p item → held ≡ held_for p item → IsHeldByOthers records item held
+held_others : (records : List StoreRecord) (p : Persist) (item : StoreRecord) (held : ℕ) → IsMeaningOf records p → length p.replay ≤ REPLAY_ENTRIES → IsFull p item → held ≡ held_for p item → IsHeldByOthers records item held
 held_others records p (R.Replay first second) held means few full e =
     subst (λ n. IsHeldByOthers records (R.Replay first second) n) (sym e) (held_by records p means first second few full)
 held_others records p (R.NetKey op index key) held means few full e = tt
@@ -448,6 +449,6 @@ held_others records p R.Reset held means few full e = tt
 held_others records p (R.Model element model value) held means few full e = tt
 
 pub others : (records : List StoreRecord) (p : Persist) (item : StoreRecord) (r : Result Unit Limit) → IsErr r ↔ IsFull p item → IfErr r (λ e. e.held ≡ held_for p item)
-    → length p.replay ≤ 512 → IsMeaningOf records p → IfErr r (λ e. IsHeldByOthers records item e.held)
+    → length p.replay ≤ REPLAY_ENTRIES → IsMeaningOf records p → IfErr r (λ e. IsHeldByOthers records item e.held)
 others records p item (Ok x) full held few means = tt
 others records p item (Err e) full held few means = held_others records p item e.held means few (full.0 refl) held

@@ -6,6 +6,7 @@ use Rattle.std.proofs.lemmas.Bool.{eq-eqb, eqb-true}
 use Rattle.std.proofs.lemmas.Bool.Decides.{nat_tests}
 use Rattle.std.proofs.lemmas.List.{length-map}
 use Rattle.std.proofs.lemmas.List.Sums.{length-filter}
+use Rattle.node_limits.specs.declared.TheConstants.{NETWORK_KEYS, APPLICATION_KEYS}
 use Rattle.layer_definitions.specs.KeyRefresh.{net_index, app_index}
 use Rattle.layer_definitions.specs.Order.{put_by}
 use Rattle.mesh_base.specs.declared.address.Address.{Address}
@@ -42,18 +43,18 @@ passes_rows : {A : Type 0} (is_op new : Bool) (rows grown other : List A) (max :
 passes_rows is_op new rows grown other max few is rest =
     subst (λ (n : ℕ). IsTrue (is_op && (length rows == max && new)) ↔ (max < n)) (sym (length_if is_op grown other)) (passes is_op new (length rows) max (length grown) (length other) few is rest)
 
-pub nets_pass : (op index : ℕ) (key : List ℕ) (rows : List NetKeyRow) → length rows ≤ 4 → IsTrue (op == 1 && passes_keyed net_index 4 index rows) ↔ (4 < length (nets_after op index key rows))
+pub nets_pass : (op index : ℕ) (key : List ℕ) (rows : List NetKeyRow) → length rows ≤ NETWORK_KEYS → IsTrue (op == 1 && passes_keyed net_index NETWORK_KEYS index rows) ↔ (NETWORK_KEYS < length (nets_after op index key rows))
 nets_pass op index key rows few =
-    passes_rows (op == 1) (is_new net_index index rows) rows _ _ 4 few
+    passes_rows (op == 1) (is_new net_index index rows) rows _ _ NETWORK_KEYS few
     (put_length net_index (record { index = index; phase = 0; key = key; next = None }) rows)
     (len_if_most (op == 2) _ _ (length rows) (map_most _ rows)
     (len_if_most (op == 3) _ _ (length rows) (map_most _ rows)
     (len_if_most (op == 4) _ _ (length rows) (map_most _ rows)
     (len_if_most (op == 5) _ _ (length rows) (filter_few _ rows) (omega arith)))))
 
-pub apps_pass : (op net index : ℕ) (key : List ℕ) (rows : List AppKeyRow) → length rows ≤ 8 → IsTrue (op == 1 && passes_keyed app_index 8 index rows) ↔ (8 < length (apps_after op net index key rows))
+pub apps_pass : (op net index : ℕ) (key : List ℕ) (rows : List AppKeyRow) → length rows ≤ APPLICATION_KEYS → IsTrue (op == 1 && passes_keyed app_index APPLICATION_KEYS index rows) ↔ (APPLICATION_KEYS < length (apps_after op net index key rows))
 apps_pass op net index key rows few =
-    passes_rows (op == 1) (is_new app_index index rows) rows _ _ 8 few
+    passes_rows (op == 1) (is_new app_index index rows) rows _ _ APPLICATION_KEYS few
     (put_length app_index (record { net = net; index = index; key = key; next = None }) rows)
     (len_if_most (op == 2) _ _ (length rows) (map_most _ rows)
     (len_if_most (op == 3) _ _ (length rows) (filter_few _ rows) (omega arith)))

@@ -1,6 +1,6 @@
--- When a table has no place for what a record adds. Sizes are 4 network keys, 8 application keys, 32 bindings, 32 subscriptions to groups,
--- 32 to labels, 8 publications and 512 rows of the replay list.
+-- When a table has no place for what a record adds.
 use Rattle.std.specs.Prelude.{◌≡◌, ◌⊎◌, ℕ, ◌<◌, ⊤, List, [], ◌∷◌, ◌++◌, length, None, IsSomeAnd}
+use Rattle.node_limits.specs.declared.TheConstants.{NETWORK_KEYS, APPLICATION_KEYS, BINDINGS, GROUP_SUBSCRIPTIONS, LABEL_SUBSCRIPTIONS, PUBLICATIONS, REPLAY_ENTRIES}
 use Rattle.layer_definitions.specs.Order.{put_by}
 use Rattle.record_types.specs.declared.records.StoreRecord.{StoreRecord}
 use Rattle.record_types.specs.declared.records.StoreRecord.TheVariants as R
@@ -13,12 +13,12 @@ use Rattle.node_records.specs.Places.{live_of, live_with, LacksPlace}
 -- The table that would grow is full: with the record's change it would have more rows than its size. Of a subscription that takes the
 -- place of all of its model these are counted after they are gone. Of two names the second is asked after the first.
 abbrev pub IsFull : Persist → StoreRecord → Type 0
-IsFull p (R.NetKey op index key) = 4 < length (nets_after op index key p.nets)
-IsFull p (R.AppKey op net index key) = 8 < length (apps_after op net index key p.apps)
-IsFull p (R.Bind op element model app) = 32 < length (binds_after op element model app p.binds)
-IsFull p (R.Subscribe op element model address) = 32 < length (subs_after op element model address p.subs)
-IsFull p (R.Label op element model label) = 32 < length (labels_after op element model label p.labels)
-IsFull p (R.Publish row) = 8 < length (put_by publication_index row p.publications)
+IsFull p (R.NetKey op index key) = NETWORK_KEYS < length (nets_after op index key p.nets)
+IsFull p (R.AppKey op net index key) = APPLICATION_KEYS < length (apps_after op net index key p.apps)
+IsFull p (R.Bind op element model app) = BINDINGS < length (binds_after op element model app p.binds)
+IsFull p (R.Subscribe op element model address) = GROUP_SUBSCRIPTIONS < length (subs_after op element model address p.subs)
+IsFull p (R.Label op element model label) = LABEL_SUBSCRIPTIONS < length (labels_after op element model label p.labels)
+IsFull p (R.Publish row) = PUBLICATIONS < length (put_by publication_index row p.publications)
 IsFull p (R.Replay first second) =
     LacksPlace (live_of p.iv.current p.replay) first
     ⊎ IsSomeAnd second (LacksPlace (live_with p.iv.current (live_of p.iv.current p.replay) first))
@@ -32,7 +32,7 @@ held_for p (R.Bind op element model app) = length p.binds
 held_for p (R.Subscribe op element model address) = length p.subs
 held_for p (R.Label op element model label) = length p.labels
 held_for p (R.Publish row) = length p.publications
-held_for p (R.Replay first second) = 512
+held_for p (R.Replay first second) = REPLAY_ENTRIES
 held_for p _ = 0
 
 -- so many other sources have an entry where a name of a Replay record has no place

@@ -1,6 +1,7 @@
--- The places of the replay list, by its rows that aren't expired. There are 512.
+-- The places of the replay list, by its rows that aren't expired.
 use Rattle.std.specs.Prelude.{◌≡◌, ℕ, ◌≤◌, ◌==◌, ◌&&◌, not, false, Bool, if◌then◌else◌, List, [], ◌∷◌, ◌++◌, length, filter}
 use Rattle.std.specs.List.{list_any}
+use Rattle.node_limits.specs.declared.TheConstants.{REPLAY_ENTRIES}
 use Rattle.mesh_base.specs.declared.pair.Name.{Name}
 use Rattle.mesh_base.specs.Pairs.{is_expired}
 
@@ -20,7 +21,7 @@ adds_live current live name = not (has_row live name.src.0) && not (is_expired c
 abbrev pub live_with : ℕ → List Name → Name → List Name
 live_with current live name = if adds_live current live name then live ++ name ∷ [] else live
 
--- A name has no place: its source has no row among the unexpired ones, and there are 512.
+-- A name has no place: its source has no row among the unexpired ones, and these take all places.
 pub record LacksPlace (live : List Name) (name : Name) : Type 0 where
   pub none : has_row live name.src.0 ≡ false
-  pub held : 512 ≤ length live
+  pub held : REPLAY_ENTRIES ≤ length live

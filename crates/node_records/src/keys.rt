@@ -6,9 +6,9 @@ ghost use Rattle.store_definitions.specs.Config.{finished_app, updated_app, nets
 ghost use Rattle.node_records.specs.Rows.{net_after};
 
 use crate::keyed::put;
-use crate::persist::{APPS, NETS};
 use mesh_base::keys::{AppKeyRow, NetKeyRow};
 use mesh_base::table::Table;
+use node_limits::{APPLICATION_KEYS, NETWORK_KEYS};
 
 /// A network key after op 2, 3 or 4 on this index.
 fn net_with(row: NetKeyRow, op: u8, index: u16, key: &[u8; 16]) -> NetKeyRow
@@ -34,7 +34,7 @@ fn net_with(row: NetKeyRow, op: u8, index: u16, key: &[u8; 16]) -> NetKeyRow
 }
 
 /// The network keys after op 2, 3 or 4 on this index.
-fn change_nets(nets: &mut Table<NetKeyRow, NETS>, op: u8, index: u16, key: &[u8; 16])
+fn change_nets(nets: &mut Table<NetKeyRow, NETWORK_KEYS>, op: u8, index: u16, key: &[u8; 16])
     requires least { 2 ≤ op }
     requires most { op ≤ 4 }
     ensures { nets.new ≡ nets_after op index key.now nets.old }
@@ -46,15 +46,20 @@ fn change_nets(nets: &mut Table<NetKeyRow, NETS>, op: u8, index: u16, key: &[u8;
 }
 
 /// The network keys without the one of this index.
-fn drop_net(nets: &mut Table<NetKeyRow, NETS>, index: u16)
+fn drop_net(nets: &mut Table<NetKeyRow, NETWORK_KEYS>, index: u16)
     ensures { nets.new ≡ filter (λ r. not (r.index == index)) nets.old }
 {
     nets.retain(|row| row.index != index);
 }
 
 /// The network keys after a NetKey record, for which there is a place.
-pub(crate) fn apply_to_nets(nets: &mut Table<NetKeyRow, NETS>, op: u8, index: u16, key: &[u8; 16])
-    requires { length (nets_after op index key.now nets.old) ≤ 4 }
+pub(crate) fn apply_to_nets(
+    nets: &mut Table<NetKeyRow, NETWORK_KEYS>,
+    op: u8,
+    index: u16,
+    key: &[u8; 16],
+)
+    requires { length (nets_after op index key.now nets.old) ≤ NETWORK_KEYS }
     ensures { nets.new ≡ nets_after op index key.now nets.old }
 {
     match op {
@@ -88,7 +93,7 @@ fn app_finished(row: AppKeyRow, net: u16) -> AppKeyRow
 }
 
 /// The application keys after the end of their network key's refresh.
-fn finish_apps(apps: &mut Table<AppKeyRow, APPS>, net: u16)
+fn finish_apps(apps: &mut Table<AppKeyRow, APPLICATION_KEYS>, net: u16)
     ensures { apps.new ≡ map (finished_app net) apps.old }
 {
     for place in 0..apps.len() {
@@ -98,14 +103,14 @@ fn finish_apps(apps: &mut Table<AppKeyRow, APPS>, net: u16)
 }
 
 /// The application keys without those of a network key.
-fn drop_apps_of(apps: &mut Table<AppKeyRow, APPS>, net: u16)
+fn drop_apps_of(apps: &mut Table<AppKeyRow, APPLICATION_KEYS>, net: u16)
     ensures { apps.new ≡ filter (λ r. not (r.net == net)) apps.old }
 {
     apps.retain(|row| row.net != net);
 }
 
 /// The application keys after a NetKey record.
-pub(crate) fn apply_net_to_apps(apps: &mut Table<AppKeyRow, APPS>, op: u8, net: u16)
+pub(crate) fn apply_net_to_apps(apps: &mut Table<AppKeyRow, APPLICATION_KEYS>, op: u8, net: u16)
     ensures { apps.new ≡ apps_after_net op net apps.old }
 {
     match op {
@@ -129,7 +134,7 @@ fn app_updated(row: AppKeyRow, index: u16, key: &[u8; 16]) -> AppKeyRow
 }
 
 /// The application keys after an update of the one of this index.
-fn update_apps(apps: &mut Table<AppKeyRow, APPS>, index: u16, key: &[u8; 16])
+fn update_apps(apps: &mut Table<AppKeyRow, APPLICATION_KEYS>, index: u16, key: &[u8; 16])
     ensures { apps.new ≡ map (updated_app index key.now) apps.old }
 {
     for place in 0..apps.len() {
@@ -139,7 +144,7 @@ fn update_apps(apps: &mut Table<AppKeyRow, APPS>, index: u16, key: &[u8; 16])
 }
 
 /// The application keys without the one of this index.
-fn drop_app(apps: &mut Table<AppKeyRow, APPS>, index: u16)
+fn drop_app(apps: &mut Table<AppKeyRow, APPLICATION_KEYS>, index: u16)
     ensures { apps.new ≡ filter (λ r. not (r.index == index)) apps.old }
 {
     apps.retain(|row| row.index != index);
@@ -147,13 +152,13 @@ fn drop_app(apps: &mut Table<AppKeyRow, APPS>, index: u16)
 
 /// The application keys after an AppKey record, for which there is a place.
 pub(crate) fn apply_to_apps(
-    apps: &mut Table<AppKeyRow, APPS>,
+    apps: &mut Table<AppKeyRow, APPLICATION_KEYS>,
     op: u8,
     net: u16,
     index: u16,
     key: &[u8; 16],
 )
-    requires { length (apps_after op net index key.now apps.old) ≤ 8 }
+    requires { length (apps_after op net index key.now apps.old) ≤ APPLICATION_KEYS }
     ensures { apps.new ≡ apps_after op net index key.now apps.old }
 {
     match op {

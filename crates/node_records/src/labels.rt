@@ -5,9 +5,9 @@ ghost use Rattle.std.specs.Prelude.{◌≡◌, ◌≤◌, ◌==◌, ◌&&◌, no
 ghost use Rattle.std.specs.List.{list_any};
 ghost use Rattle.store_definitions.specs.Config.{is_label, labels_without, labels_after, labels_after_sub};
 
-use crate::persist::LABELS;
 use mesh_base::address::Address;
 use mesh_base::table::Table;
+use node_limits::LABEL_SUBSCRIPTIONS;
 
 /// Element, model and label of a subscription.
 type Label = (Address, u16, [u8; 16]);
@@ -27,8 +27,13 @@ pub(crate) fn has_label(labels: &[Label], element: Address, model: u16, label: &
 }
 
 /// Adds a label, unless it is there.
-fn add_label(labels: &mut Table<Label, LABELS>, element: Address, model: u16, label: &[u8; 16])
-    requires { length (labels_after 1 element model label.now labels.old) ≤ 32 }
+fn add_label(
+    labels: &mut Table<Label, LABEL_SUBSCRIPTIONS>,
+    element: Address,
+    model: u16,
+    label: &[u8; 16],
+)
+    requires { length (labels_after 1 element model label.now labels.old) ≤ LABEL_SUBSCRIPTIONS }
     ensures { labels.new ≡ labels_after 1 element model label.now labels.old }
 {
     if has_label(labels.as_slice(), element, model, label) {
@@ -39,14 +44,19 @@ fn add_label(labels: &mut Table<Label, LABELS>, element: Address, model: u16, la
 }
 
 /// The labels without this one.
-fn drop_label(labels: &mut Table<Label, LABELS>, element: Address, model: u16, label: &[u8; 16])
+fn drop_label(
+    labels: &mut Table<Label, LABEL_SUBSCRIPTIONS>,
+    element: Address,
+    model: u16,
+    label: &[u8; 16],
+)
     ensures { labels.new ≡ filter (λ l. not (is_label element model label.now l)) labels.old }
 {
     labels.retain(|row| !is_row(row, element, model, label));
 }
 
 /// The labels without those of a model.
-fn drop_labels(labels: &mut Table<Label, LABELS>, element: Address, model: u16)
+fn drop_labels(labels: &mut Table<Label, LABEL_SUBSCRIPTIONS>, element: Address, model: u16)
     ensures { labels.new ≡ labels_without element model labels.old }
 {
     labels.retain(|row| !(row.0.0 == element.0 && row.1 == model));
@@ -54,12 +64,12 @@ fn drop_labels(labels: &mut Table<Label, LABELS>, element: Address, model: u16)
 
 /// Puts a label in the place of all of its model.
 fn overwrite_labels(
-    labels: &mut Table<Label, LABELS>,
+    labels: &mut Table<Label, LABEL_SUBSCRIPTIONS>,
     element: Address,
     model: u16,
     label: &[u8; 16],
 )
-    requires { length (labels_after 4 element model label.now labels.old) ≤ 32 }
+    requires { length (labels_after 4 element model label.now labels.old) ≤ LABEL_SUBSCRIPTIONS }
     ensures { labels.new ≡ labels_after 4 element model label.now labels.old }
 {
     drop_labels(labels, element, model);
@@ -68,13 +78,13 @@ fn overwrite_labels(
 
 /// The labels after a Label record, for which there is a place.
 pub(crate) fn apply_to_labels(
-    labels: &mut Table<Label, LABELS>,
+    labels: &mut Table<Label, LABEL_SUBSCRIPTIONS>,
     op: u8,
     element: Address,
     model: u16,
     label: &[u8; 16],
 )
-    requires { length (labels_after op element model label.now labels.old) ≤ 32 }
+    requires { length (labels_after op element model label.now labels.old) ≤ LABEL_SUBSCRIPTIONS }
     ensures { labels.new ≡ labels_after op element model label.now labels.old }
 {
     match op {
@@ -87,7 +97,7 @@ pub(crate) fn apply_to_labels(
 
 /// The labels after a Subscribe record: with all groups of a model its labels go.
 pub(crate) fn apply_sub_to_labels(
-    labels: &mut Table<Label, LABELS>,
+    labels: &mut Table<Label, LABEL_SUBSCRIPTIONS>,
     op: u8,
     element: Address,
     model: u16,

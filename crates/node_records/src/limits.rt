@@ -1,7 +1,7 @@
 //! Whether the table that a record adds to has a place for it.
 #![tactic(auto)]
 
-ghost use Rattle.std.specs.Prelude.{◌≡◌, ◌⊎◌, ℕ, ◌<◌, ◌≤◌, ◌↔◌, ◌==◌, ◌&&◌, not, false, List, length, count_by, IsTrue, IsErr, IfErr, IsSomeAnd};
+ghost use Rattle.std.specs.Prelude.{◌≡◌, ◌^◌, ◌⊎◌, ℕ, ◌<◌, ◌≤◌, ◌↔◌, ◌==◌, ◌&&◌, not, false, List, length, count_by, IsTrue, IsErr, IfErr, IsSomeAnd};
 ghost use Rattle.node_records.specs.Growth as table;
 ghost use Rattle.layer_definitions.specs.KeyRefresh.{net_index, app_index};
 ghost use Rattle.layer_definitions.specs.Order.{put_by};
@@ -12,11 +12,15 @@ use crate::applying::Limit;
 use crate::keyed::{Keyed, adds};
 use crate::labels::has_label;
 use crate::lists::{has_bind, has_sub};
-use crate::persist::{APPS, BINDS, LABELS, NETS, PUBLICATIONS, Persist, REPLAY, SUBS};
+use crate::persist::Persist;
 use crate::replay::{has_few_rows, lacks_place, lacks_place_after};
 use mesh_base::address::Address;
 use mesh_base::keys::{AppKeyRow, NetKeyRow};
 use mesh_base::pair::Name;
+use node_limits::{
+    APPLICATION_KEYS, BINDINGS, GROUP_SUBSCRIPTIONS, LABEL_SUBSCRIPTIONS, NETWORK_KEYS,
+    PUBLICATIONS, REPLAY_ENTRIES,
+};
 use record_types::records::{PublishRow, StoreRecord};
 
 impl Persist {
@@ -77,7 +81,7 @@ impl Persist {
 
 /// The refusal of a table with so many rows, where it is full.
 fn limit_where(full: bool, held: usize) -> Result<(), Limit>
-    requires { held ≤ 512 }
+    requires { held < 2 ^ 32 }
     ensures limit { IsErr result ↔ IsTrue full }
     ensures held { IfErr result (λ e. e.held ≡ held) }
 {
@@ -87,17 +91,17 @@ fn limit_where(full: bool, held: usize) -> Result<(), Limit>
     Ok(())
 }
 
-/// Whether a NetKey record would add a fifth row.
+/// Whether a NetKey record would add a row that has no place.
 fn passes_nets(rows: &[NetKeyRow], op: u8, index: u16) -> bool
-    ensures { result ≡ (op == 1 && table.passes_keyed net_index 4 index rows.now) }
+    ensures { result ≡ (op == 1 && table.passes_keyed net_index NETWORK_KEYS index rows.now) }
 {
-    op == 1 && rows.len() == NETS && adds(rows, u32::from(index))
+    op == 1 && rows.len() == NETWORK_KEYS && adds(rows, u32::from(index))
 }
 
 /// Whether there is a place for what a NetKey record adds.
 fn check_nets(rows: &[NetKeyRow], op: u8, index: u16) -> Result<(), Limit>
-    requires { length rows.now ≤ 4 }
-    ensures limit { (key : List ℕ) → IsErr result ↔ (4 < length (nets_after op index key rows.now)) }
+    requires { length rows.now ≤ NETWORK_KEYS }
+    ensures limit { (key : List ℕ) → IsErr result ↔ (NETWORK_KEYS < length (nets_after op index key rows.now)) }
     ensures held { IfErr result (λ e. e.held ≡ length rows.now) }
 {
     limit_where(passes_nets(rows, op, index), rows.len())
@@ -107,13 +111,13 @@ fn check_nets(rows: &[NetKeyRow], op: u8, index: u16) -> Result<(), Limit>
 fn passes_apps(rows: &[AppKeyRow], op: u8, index: u16) -> bool
     ensures { result ≡ (op == 1 && table.passes_keyed app_index 8 index rows.now) }
 {
-    op == 1 && rows.len() == APPS && adds(rows, u32::from(index))
+    op == 1 && rows.len() == APPLICATION_KEYS && adds(rows, u32::from(index))
 }
 
 /// Whether there is a place for what an AppKey record adds.
 fn check_apps(rows: &[AppKeyRow], op: u8, index: u16) -> Result<(), Limit>
-    requires { length rows.now ≤ 8 }
-    ensures limit { (net : ℕ) (key : List ℕ) → IsErr result ↔ (8 < length (apps_after op net index key rows.now)) }
+    requires { length rows.now ≤ APPLICATION_KEYS }
+    ensures limit { (net : ℕ) (key : List ℕ) → IsErr result ↔ (APPLICATION_KEYS < length (apps_after op net index key rows.now)) }
     ensures held { IfErr result (λ e. e.held ≡ length rows.now) }
 {
     limit_where(passes_apps(rows, op, index), rows.len())
@@ -121,15 +125,15 @@ fn check_apps(rows: &[AppKeyRow], op: u8, index: u16) -> Result<(), Limit>
 
 /// Whether a Publish record would add a ninth row.
 fn passes_publications(rows: &[PublishRow], row: &PublishRow) -> bool
-    ensures { result ≡ table.passes_keyed publication_index 8 (publication_index row.now) rows.now }
+    ensures { result ≡ table.passes_keyed publication_index PUBLICATIONS (publication_index row.now) rows.now }
 {
     rows.len() == PUBLICATIONS && adds(rows, row.number())
 }
 
 /// Whether there is a place for what a Publish record adds.
 fn check_publications(rows: &[PublishRow], row: &PublishRow) -> Result<(), Limit>
-    requires { length rows.now ≤ 8 }
-    ensures limit { IsErr result ↔ (8 < length (put_by publication_index row.now rows.now)) }
+    requires { length rows.now ≤ PUBLICATIONS }
+    ensures limit { IsErr result ↔ (PUBLICATIONS < length (put_by publication_index row.now rows.now)) }
     ensures held { IfErr result (λ e. e.held ≡ length rows.now) }
 {
     limit_where(passes_publications(rows, row), rows.len())
@@ -145,7 +149,7 @@ fn passes_binds(
 ) -> bool
     ensures { result ≡ (op == 1 && table.passes_pushed (is_bind element model app) rows.now) }
 {
-    op == 1 && rows.len() == BINDS && !has_bind(rows, element, model, app)
+    op == 1 && rows.len() == BINDINGS && !has_bind(rows, element, model, app)
 }
 
 /// Whether there is a place for what a Bind record adds.
@@ -156,8 +160,8 @@ fn check_binds(
     model: u16,
     app: u16,
 ) -> Result<(), Limit>
-    requires { length rows.now ≤ 32 }
-    ensures limit { IsErr result ↔ (32 < length (binds_after op element model app rows.now)) }
+    requires { length rows.now ≤ BINDINGS }
+    ensures limit { IsErr result ↔ (BINDINGS < length (binds_after op element model app rows.now)) }
     ensures held { IfErr result (λ e. e.held ≡ length rows.now) }
 {
     limit_where(passes_binds(rows, op, element, model, app), rows.len())
@@ -183,8 +187,8 @@ fn passes_subs(
     ensures { result
         ≡ table.passes_list (is_sub element model address) (λ s. s.0.0 == element.0 && s.1 == model) op rows.now }
 {
-    (op == 1 && rows.len() == SUBS && !has_sub(rows, element, model, address))
-        || (op == 4 && count_other_subs(rows, element, model) == SUBS)
+    (op == 1 && rows.len() == GROUP_SUBSCRIPTIONS && !has_sub(rows, element, model, address))
+        || (op == 4 && count_other_subs(rows, element, model) == GROUP_SUBSCRIPTIONS)
 }
 
 /// Whether there is a place for what a Subscribe record adds.
@@ -195,8 +199,8 @@ fn check_subs(
     model: u16,
     address: Address,
 ) -> Result<(), Limit>
-    requires { length rows.now ≤ 32 }
-    ensures limit { IsErr result ↔ (32 < length (subs_after op element model address rows.now)) }
+    requires { length rows.now ≤ GROUP_SUBSCRIPTIONS }
+    ensures limit { IsErr result ↔ (GROUP_SUBSCRIPTIONS < length (subs_after op element model address rows.now)) }
     ensures held { IfErr result (λ e. e.held ≡ length rows.now) }
 {
     limit_where(passes_subs(rows, op, element, model, address), rows.len())
@@ -222,8 +226,8 @@ fn passes_labels(
     ensures { result
         ≡ table.passes_list (is_label element model label.now) (λ l. l.0.0 == element.0 && l.1 == model) op rows.now }
 {
-    (op == 1 && rows.len() == LABELS && !has_label(rows, element, model, label))
-        || (op == 4 && count_other_labels(rows, element, model) == LABELS)
+    (op == 1 && rows.len() == LABEL_SUBSCRIPTIONS && !has_label(rows, element, model, label))
+        || (op == 4 && count_other_labels(rows, element, model) == LABEL_SUBSCRIPTIONS)
 }
 
 /// Whether there is a place for what a Label record adds.
@@ -234,8 +238,8 @@ fn check_labels(
     model: u16,
     label: &[u8; 16],
 ) -> Result<(), Limit>
-    requires { length rows.now ≤ 32 }
-    ensures limit { IsErr result ↔ (32 < length (labels_after op element model label.now rows.now)) }
+    requires { length rows.now ≤ LABEL_SUBSCRIPTIONS }
+    ensures limit { IsErr result ↔ (LABEL_SUBSCRIPTIONS < length (labels_after op element model label.now rows.now)) }
     ensures held { IfErr result (λ e. e.held ≡ length rows.now) }
 {
     limit_where(passes_labels(rows, op, element, model, label), rows.len())
@@ -248,17 +252,17 @@ fn check_replay(
     first: &Name,
     second: &Option<Name>,
 ) -> Result<(), Limit>
-    requires { length rows.now ≤ 512 }
+    requires { length rows.now ≤ REPLAY_ENTRIES }
     ensures limit { IsErr result ↔ (LacksPlace (live_of current rows.now) first.now
         ⊎ IsSomeAnd second.now (LacksPlace (live_with current (live_of current rows.now) first.now))) }
-    ensures held { IfErr result (λ e. e.held ≡ 512) }
+    ensures held { IfErr result (λ e. e.held ≡ REPLAY_ENTRIES) }
 {
     let full = lacks_place(rows, current, first);
     let Some(name) = second else {
-        return limit_where(full, REPLAY)
+        return limit_where(full, REPLAY_ENTRIES)
     };
     limit_where(
         full || lacks_place_after(rows, current, first, name),
-        REPLAY,
+        REPLAY_ENTRIES,
     )
 }

@@ -7,28 +7,11 @@ use mesh_base::iv_state::IvState;
 use mesh_base::keys::{AppKeyRow, NetKeyRow};
 use mesh_base::pair::{Name, Pair};
 use mesh_base::table::Table;
+use node_limits::{
+    APPLICATION_KEYS, BINDINGS, ELEMENTS, GROUP_SUBSCRIPTIONS, LABEL_SUBSCRIPTIONS, NETWORK_KEYS,
+    PUBLICATIONS, REPLAY_ENTRIES,
+};
 use record_types::records::PublishRow;
-
-/// Network keys of a node at most.
-pub(crate) const NETS: usize = 4;
-
-/// Application keys at most.
-pub(crate) const APPS: usize = 8;
-
-/// Bindings at most.
-pub(crate) const BINDS: usize = 32;
-
-/// Subscriptions to groups at most.
-pub(crate) const SUBS: usize = 32;
-
-/// Subscriptions to virtual addresses at most.
-pub(crate) const LABELS: usize = 32;
-
-/// Publications at most.
-pub(crate) const PUBLICATIONS: usize = 8;
-
-/// Rows of the replay list at most.
-pub(crate) const REPLAY: usize = 512;
 
 /// What the records of a store say of the node. It holds keys, so it isn't printed.
 #[derive(Drop)]
@@ -58,23 +41,23 @@ pub struct Persist {
     /// Whether there was a Node Reset.
     pub reset: bool,
     /// The network keys, by index.
-    pub nets: Table<NetKeyRow, NETS>,
+    pub nets: Table<NetKeyRow, NETWORK_KEYS>,
     /// The application keys, by index.
-    pub apps: Table<AppKeyRow, APPS>,
+    pub apps: Table<AppKeyRow, APPLICATION_KEYS>,
     /// Element, model and application key index of each binding.
-    pub binds: Table<(Address, u16, u16), BINDS>,
+    pub binds: Table<(Address, u16, u16), BINDINGS>,
     /// Element, model and group of each subscription to a group.
-    pub subs: Table<(Address, u16, Address), SUBS>,
+    pub subs: Table<(Address, u16, Address), GROUP_SUBSCRIPTIONS>,
     /// Element, model and label of each subscription to a virtual address, in the order in which they came.
-    pub labels: Table<(Address, u16, [u8; 16]), LABELS>,
+    pub labels: Table<(Address, u16, [u8; 16]), LABEL_SUBSCRIPTIONS>,
     /// What models publish, by element and model.
     pub publications: Table<PublishRow, PUBLICATIONS>,
     /// The value that each Generic OnOff Server keeps, 0 or 1, by the place of its element.
-    pub onoffs: [u8; 4],
+    pub onoffs: [u8; ELEMENTS],
     /// The level that each Generic Level Server keeps, in two's complement, by the place of its element.
-    pub levels: [u16; 4],
+    pub levels: [u16; ELEMENTS],
     /// The replay list: the greatest pair accepted of each source.
-    pub replay: Table<Name, REPLAY>,
+    pub replay: Table<Name, REPLAY_ENTRIES>,
 }
 
 impl Persist {
@@ -115,8 +98,8 @@ impl Persist {
             subs: Table::new(),
             labels: Table::new(),
             publications: Table::new(),
-            onoffs: [0; 4],
-            levels: [0; 4],
+            onoffs: [0; ELEMENTS],
+            levels: [0; ELEMENTS],
             replay: Table::new(),
         }
     }

@@ -6,9 +6,9 @@ ghost use Rattle.std.specs.List.{list_any};
 ghost use Rattle.store_definitions.specs.Config.{publications_after_app, publications_after_net};
 
 use crate::lists::has_app;
-use crate::persist::PUBLICATIONS;
 use mesh_base::keys::AppKeyRow;
 use mesh_base::table::Table;
+use node_limits::PUBLICATIONS;
 use record_types::records::PublishRow;
 
 /// The publications without those under an application key.

@@ -11,13 +11,13 @@ ghost use Rattle.node_records.specs.Steps.{KeepsName, KeepsEntries};
 ghost use Rattle.node_records.specs.Tables.{pair_of, IsApart};
 ghost use Rattle.record_types.specs.declared.records.StoreRecord.TheVariants as R;
 
-use crate::persist::REPLAY;
 use mesh_base::pair::{Name, Pair};
 use mesh_base::table::Table;
+use node_limits::REPLAY_ENTRIES;
 
-/// A replay list has at most 512 rows, since its table holds no more.
-pub(crate) fn has_few_rows(rows: &Table<Name, REPLAY>)
-    ensures { length rows.now ≤ 512 }
+/// A replay list has at most so many rows as it has entries, since its table holds no more.
+pub(crate) fn has_few_rows(rows: &Table<Name, REPLAY_ENTRIES>)
+    ensures { length rows.now ≤ REPLAY_ENTRIES }
 {
     let _held = rows.len();
 }
@@ -89,7 +89,7 @@ fn first_expired(rows: &[Name], current: u32) -> Option<usize>
 }
 
 /// Puts a name into its source's row where it is above what stands there.
-fn raise(rows: &mut Table<Name, REPLAY>, current: u32, place: usize, name: &Name)
+fn raise(rows: &mut Table<Name, REPLAY_ENTRIES>, current: u32, place: usize, name: &Name)
     requires within { place < length rows.old }
     requires source { (d : Name) → (slice_index_or rows.old place d).src.0 ≡ name.now.src.0 }
     ensures { IsApart rows.old → KeepsName current rows.old rows.new name.now }
@@ -99,8 +99,8 @@ fn raise(rows: &mut Table<Name, REPLAY>, current: u32, place: usize, name: &Name
     }
 }
 
-/// Puts the name of a source without a row behind the others, or in the place of the first that is expired where 512 are held.
-fn add_row(rows: &mut Table<Name, REPLAY>, current: u32, name: &Name)
+/// Puts the name of a source without a row behind the others, or in the place of the first that is expired where all places are taken.
+fn add_row(rows: &mut Table<Name, REPLAY_ENTRIES>, current: u32, name: &Name)
     requires none { pair_of rows.old name.now.src.0 ≡ None }
     ensures { IsApart rows.old → (LacksPlace (live_of current rows.old) name.now → ⊥)
         → KeepsName current rows.old rows.new name.now }
@@ -118,7 +118,7 @@ fn add_row(rows: &mut Table<Name, REPLAY>, current: u32, name: &Name)
 }
 
 /// The replay list with one name more, if there is a place for it.
-fn apply_name(rows: &mut Table<Name, REPLAY>, current: u32, name: &Name)
+fn apply_name(rows: &mut Table<Name, REPLAY_ENTRIES>, current: u32, name: &Name)
     ensures { IsApart rows.old → (LacksPlace (live_of current rows.old) name.now → ⊥)
         → KeepsName current rows.old rows.new name.now }
 {
@@ -130,7 +130,7 @@ fn apply_name(rows: &mut Table<Name, REPLAY>, current: u32, name: &Name)
 
 /// The replay list after a Replay record, for whose names there is a place.
 pub(crate) fn apply_to_replay(
-    rows: &mut Table<Name, REPLAY>,
+    rows: &mut Table<Name, REPLAY_ENTRIES>,
     current: u32,
     first: &Name,
     second: &Option<Name>,
@@ -176,7 +176,7 @@ fn has_live(rows: &[Name], current: u32, src: u16) -> bool
 pub(crate) fn lacks_place(rows: &[Name], current: u32, name: &Name) -> bool
     ensures { IsTrue result ↔ LacksPlace (live_of current rows.now) name.now }
 {
-    !has_live(rows, current, name.src.0) && count_live(rows, current) >= REPLAY
+    !has_live(rows, current, name.src.0) && count_live(rows, current) >= REPLAY_ENTRIES
 }
 
 /// Whether a name brings an unexpired row more.
@@ -188,10 +188,10 @@ fn is_added(rows: &[Name], current: u32, name: &Name) -> bool
 
 /// Whether a second name has no place after a first one.
 pub(crate) fn lacks_place_after(rows: &[Name], current: u32, first: &Name, name: &Name) -> bool
-    requires { length rows.now ≤ 512 }
+    requires { length rows.now ≤ REPLAY_ENTRIES }
     ensures { IsTrue result ↔ LacksPlace (live_with current (live_of current rows.now) first.now) name.now }
 {
     let more = is_added(rows, current, first);
     let there = has_live(rows, current, name.src.0) || (more && first.src.0 == name.src.0);
-    !there && count_live(rows, current) + usize::from(more) >= REPLAY
+    !there && count_live(rows, current) + usize::from(more) >= REPLAY_ENTRIES
 }

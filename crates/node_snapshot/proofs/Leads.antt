@@ -6,6 +6,7 @@ use Rattle.std.specs.List.{flat_map, list_any}
 use Rattle.std.proofs.lemmas.Bool.Decides.{nat_tests}
 use Rattle.std.proofs.lemmas.List.Elements.{All-nil, All-cons}
 use Rattle.std.proofs.lemmas.List.Sums.{fold-append}
+use Rattle.node_limits.specs.declared.TheConstants.{REPLAY_ENTRIES}
 use Rattle.layer_definitions.specs.Order.{put_by}
 use Rattle.mesh_base.specs.declared.pair.Name.{Name}
 use Rattle.mesh_base.specs.declared.pair.Pair.{Pair}
@@ -30,7 +31,7 @@ Fits c names (R.Bind op element model app) = length (binds_after op element mode
 Fits c names (R.Subscribe op element model address) = length (subs_after op element model address c.subs) ≤ 32
 Fits c names (R.Label op element model label) = length (labels_after op element model label c.labels) ≤ 32
 Fits c names (R.Publish row) = length (put_by publication_index row c.publications) ≤ 8
-Fits c names (R.Replay first second) = length (names ++ first ∷ option_to_list second) ≤ 512
+Fits c names (R.Replay first second) = length (names ++ first ∷ option_to_list second) ≤ REPLAY_ENTRIES
 Fits c names (R.Numbers current progress mark hours since) = c.iv.current ≤ current
 Fits c names _ = ⊤
 
@@ -115,13 +116,13 @@ sources_push records item =
     let e : sources_of (records ++ item ∷ []) ≡ sources_after (sources_of records) item = fold-append sources_after [] records (item ∷ []) in
     omega (arith, ap (λ l. length l) e, sources_few (names_in item) (sources_of records))
 
-has_place : (records : List StoreRecord) (name : Name) → length (sources_of records) < 512 → HasNoPlace records name → ⊥
+has_place : (records : List StoreRecord) (name : Name) → length (sources_of records) < REPLAY_ENTRIES → HasNoPlace records name → ⊥
 has_place records name few h =
     let most : others_held records name.src.0 ≤ length (sources_of records) = filter_few _ (sources_of records) in
-    let least : 512 ≤ others_held records name.src.0 = at_least (others_held records name.src.0) h.1 in
+    let least : REPLAY_ENTRIES ≤ others_held records name.src.0 = at_least (others_held records name.src.0) h.1 in
     omega (arith, few, most, least)
   where
-    at_least : (n : ℕ) → nat_lt n 512 ≡ false → 512 ≤ n
+    at_least : (n : ℕ) → nat_lt n REPLAY_ENTRIES ≡ false → REPLAY_ENTRIES ≤ n
     at_least n e = grind (arith, nat_tests)
 
 follows : (before : List StoreRecord) (names : List Name) (item : StoreRecord) → length (sources_of before) ≤ length names → Fits (config_of before) names item → Follows before item

@@ -4,6 +4,7 @@ use Rattle.std.specs.Prelude.{◌==◌, if◌then◌else◌, IsTrue, IfSome, Opt
 use Rattle.std.specs.List.{AllByRecursion, flat_map}
 use Rattle.std.proofs.lemmas.Bool.{eqb-true}
 use Rattle.std.proofs.lemmas.Bool.Decides.{nat_tests}
+use Rattle.node_limits.specs.declared.TheConstants.{REPLAY_ENTRIES}
 use Rattle.layer_definitions.specs.KeyRefresh.{net_index, app_index}
 use Rattle.layer_definitions.specs.Order.{put_by, IsByIndexFrom}
 use Rattle.mesh_base.specs.declared.address.Address.{Address}
@@ -338,7 +339,7 @@ module _ (c : Config) (names : List Name) where
 
 -- Names.
 
-pub replay_lead : (c : Config) (done names : List Name) (n : ℕ) → AllByRecursion IsNameInRange names → IsApart names → IsByIndexFrom source_of n names → length done + length names ≤ 512
+pub replay_lead : (c : Config) (done names : List Name) (n : ℕ) → AllByRecursion IsNameInRange names → IsApart names → IsByIndexFrom source_of n names → length done + length names ≤ REPLAY_ENTRIES
     → Leads c done (replay_records names) c (done ++ names)
 unfolding changed
 replay_lead c done [] n ranges apart order few = (refl, sym (append-nil done))

@@ -2,6 +2,7 @@
 use Rattle.std.proofs.Common.{◌≡◌, ℕ, ◌≤◌, List, [], ◌∷◌, length, refl, ap, sym, subst, ◌∙◌, arith}
 use Rattle.std.specs.Prelude.{IfSome, Option, not}
 use Rattle.std.specs.List.{flat_map}
+use Rattle.node_limits.specs.declared.TheConstants.{REPLAY_ENTRIES}
 use Rattle.layer_definitions.proofs.OrderLaws.{is_by_index, length-by_index}
 use Rattle.mesh_base.specs.Pairs.{is_expired}
 use Rattle.mesh_base.specs.declared.pair.Name.{Name}
@@ -46,7 +47,7 @@ module _ (p : Persist) (said : IsSaid p) (sizes : HasSizes p) where
       let entry : pair_of (names_of p) src ≡ entry_of said.records src = are.pairs src ∙ said.meaning.entries src in
       subst (λ (o : Option Pair). IfSome o (λ q. IsNameInRange (named src q))) (sym entry) (entry_in_range said.records src said.ranges)
 
-  names_few : length (names_of p) ≤ 512
+  names_few : length (names_of p) ≤ REPLAY_ENTRIES
   names_few = omega (arith, length-by_index (λ (n : Name). n.src.0) (live_of p.iv.current p.replay), filter_few (λ row. not (is_expired p.iv.current row.pair)) p.replay, sizes.replay)
 
   -- what the parts say, one after another

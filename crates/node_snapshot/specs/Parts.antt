@@ -1,6 +1,7 @@
 -- The records that say a value anew, part by part.
 use Rattle.std.specs.Prelude.{ℕ, ◌+◌, ◌*◌, ◌==◌, Bool, if◌then◌else◌, List, [], ◌∷◌, ◌++◌, Option, Some, None, replicate, slice_index}
 use Rattle.std.specs.List.{flat_map, range_with_len}
+use Rattle.node_limits.specs.declared.TheConstants.{ELEMENTS}
 use Rattle.mesh_base.specs.declared.address.Address.{Address}
 use Rattle.mesh_base.specs.declared.keys.NetKeyRow.{NetKeyRow}
 use Rattle.mesh_base.specs.declared.keys.AppKeyRow.{AppKeyRow}
@@ -61,7 +62,7 @@ element_records onoffs levels element =
     model_record 0x1000 element (slice_index onoffs element) ++ model_record 0x1002 element (slice_index levels element)
 
 abbrev pub model_records : List ℕ → List ℕ → List StoreRecord
-model_records onoffs levels = flat_map (element_records onoffs levels) (range_with_len 0 4)
+model_records onoffs levels = flat_map (element_records onoffs levels) (range_with_len 0 ELEMENTS)
 
 -- names two a record, in their order
 abbrev pub replay_records : List Name → List StoreRecord

@@ -17,12 +17,13 @@ use crate::parts::{
 };
 use mesh_base::slot::Slot;
 use mesh_base::table::Table;
+use node_limits::SNAPSHOT_RECORDS;
 use node_records::Persist;
 use record_texts::encode;
 use record_types::records::StoreRecord;
 
 /// The slots of a snapshot.
-pub type Snapshot = Table<Slot, 512>;
+pub type Snapshot = Table<Slot, SNAPSHOT_RECORDS>;
 
 /// The Numbers record of a value.
 fn numbers_of(p: &Persist) -> StoreRecord
@@ -54,7 +55,7 @@ fn has_sizes(p: &Persist)
 #[tactic(auto, unfolding(crate::specs::Snapshot::snapshot_of))]
 fn records_of(p: &Persist) -> Records
     ensures value { result ≡ snapshot_of p.now }
-    ensures few { length result ≤ 404 }
+    ensures few { length result ≤ SNAPSHOT_RECORDS }
 {
     let mut records = Table::new();
     put_identity(&mut records, p.unicast, p.elements, &p.dev_key);
@@ -84,7 +85,7 @@ fn records_of(p: &Persist) -> Records
 /// The slots of records.
 fn texts(records: &[StoreRecord]) -> Snapshot
     requires ranges { All IsInRange records.now }
-    requires few { length records.now ≤ 404 }
+    requires few { length records.now ≤ SNAPSHOT_RECORDS }
     ensures { result ≡ map record_text records.now }
 {
     let mut slots = Table::new();
@@ -94,14 +95,14 @@ fn texts(records: &[StoreRecord]) -> Snapshot
     slots
 }
 
-/// The slots of the records that say a value anew, at most 404. They fold to the same value without expired entries of the replay list.
+/// The slots of the records that say a value anew, at most `SNAPSHOT_RECORDS`. They fold to the same value without expired entries of the replay list.
 ///
 /// The value is one that records in range say, as a new one is, and each that `apply` leaves.
 pub fn snapshot(p: &Persist) -> Snapshot
     requires said { IsSaid p.now }
     ensures value { result ≡ map record_text (snapshot_of p.now) }
     ensures says { IsSnapshot (snapshot_of p.now) p.now }
-    ensures few { length result ≤ 404 }
+    ensures few { length result ≤ SNAPSHOT_RECORDS }
 {
     has_sizes(p);
     let records = records_of(p);

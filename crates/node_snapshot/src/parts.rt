@@ -9,18 +9,18 @@ ghost use Rattle.node_snapshot.specs.Parts.{identity_records, net_records, app_r
 use mesh_base::address::Address;
 use mesh_base::keys::{AppKeyRow, NetKeyRow};
 use mesh_base::table::Table;
+use node_limits::{
+    ELEMENTS, FEATURES, RECORDS_OF_APPLICATION_KEY, RECORDS_OF_NETWORK_KEY, SERVERS,
+    SNAPSHOT_RECORDS,
+};
 use record_types::records::{PublishRow, StoreRecord};
 
-/// Records at most: Identity and Numbers, 4 network keys with three records each, 8 application keys with two, 32 bindings, 32 subscriptions,
-/// 32 labels, 5 features, 8 kept values, 256 records of two names, Reset and 8 publications.
-pub(crate) const RECORDS: usize = 404;
-
 /// The records so far.
-pub(crate) type Records = Table<StoreRecord, RECORDS>;
+pub(crate) type Records = Table<StoreRecord, SNAPSHOT_RECORDS>;
 
 /// One record more.
 pub(crate) fn push(records: &mut Records, item: StoreRecord)
-    requires { length records.old < 404 }
+    requires { length records.old < SNAPSHOT_RECORDS }
     ensures { records.new ≡ records.old ++ item ∷ [] }
 {
     records.push(item).unwrap();
@@ -33,7 +33,7 @@ pub(crate) fn put_identity(
     elements: u8,
     dev_key: &[u8; 16],
 )
-    requires { length records.old < 404 }
+    requires { length records.old < SNAPSHOT_RECORDS }
     ensures value { records.new ≡ records.old ++ identity_records unicast elements dev_key.now }
     ensures few { length records.new ≤ length records.old + 1 }
 {
@@ -51,9 +51,9 @@ pub(crate) fn put_identity(
 
 /// A network key.
 fn put_net(records: &mut Records, row: NetKeyRow)
-    requires { length records.old + 3 ≤ 404 }
+    requires { length records.old + RECORDS_OF_NETWORK_KEY ≤ SNAPSHOT_RECORDS }
     ensures value { records.new ≡ records.old ++ net_records row }
-    ensures few { length records.new ≤ length records.old + 3 }
+    ensures few { length records.new ≤ length records.old + RECORDS_OF_NETWORK_KEY }
 {
     let index = row.index;
     let key = row.key;
@@ -75,9 +75,9 @@ fn put_net(records: &mut Records, row: NetKeyRow)
 
 /// The network keys.
 pub(crate) fn put_nets(records: &mut Records, rows: &[NetKeyRow])
-    requires { length records.old + 3 * length rows.now ≤ 404 }
+    requires { length records.old + RECORDS_OF_NETWORK_KEY * length rows.now ≤ SNAPSHOT_RECORDS }
     ensures value { records.new ≡ records.old ++ flat_map net_records rows.now }
-    ensures few { length records.new ≤ length records.old + 3 * length rows.now }
+    ensures few { length records.new ≤ length records.old + RECORDS_OF_NETWORK_KEY * length rows.now }
 {
     for row in rows {
         put_net(records, *row);
@@ -86,9 +86,9 @@ pub(crate) fn put_nets(records: &mut Records, rows: &[NetKeyRow])
 
 /// An application key.
 fn put_app(records: &mut Records, row: AppKeyRow)
-    requires { length records.old + 2 ≤ 404 }
+    requires { length records.old + RECORDS_OF_APPLICATION_KEY ≤ SNAPSHOT_RECORDS }
     ensures value { records.new ≡ records.old ++ app_records row }
-    ensures few { length records.new ≤ length records.old + 2 }
+    ensures few { length records.new ≤ length records.old + RECORDS_OF_APPLICATION_KEY }
 {
     let net = row.net;
     let index = row.index;
@@ -117,9 +117,9 @@ fn put_app(records: &mut Records, row: AppKeyRow)
 
 /// The application keys.
 pub(crate) fn put_apps(records: &mut Records, rows: &[AppKeyRow])
-    requires { length records.old + 2 * length rows.now ≤ 404 }
+    requires { length records.old + RECORDS_OF_APPLICATION_KEY * length rows.now ≤ SNAPSHOT_RECORDS }
     ensures value { records.new ≡ records.old ++ flat_map app_records rows.now }
-    ensures few { length records.new ≤ length records.old + 2 * length rows.now }
+    ensures few { length records.new ≤ length records.old + RECORDS_OF_APPLICATION_KEY * length rows.now }
 {
     for row in rows {
         put_app(records, *row);
@@ -128,7 +128,7 @@ pub(crate) fn put_apps(records: &mut Records, rows: &[AppKeyRow])
 
 /// The bindings.
 pub(crate) fn put_binds(records: &mut Records, rows: &[(Address, u16, u16)])
-    requires { length records.old + length rows.now ≤ 404 }
+    requires { length records.old + length rows.now ≤ SNAPSHOT_RECORDS }
     ensures value { records.new ≡ records.old ++ flat_map bind_records rows.now }
     ensures few { length records.new ≤ length records.old + length rows.now }
 {
@@ -147,7 +147,7 @@ pub(crate) fn put_binds(records: &mut Records, rows: &[(Address, u16, u16)])
 
 /// The subscriptions to groups.
 pub(crate) fn put_subs(records: &mut Records, rows: &[(Address, u16, Address)])
-    requires { length records.old + length rows.now ≤ 404 }
+    requires { length records.old + length rows.now ≤ SNAPSHOT_RECORDS }
     ensures value { records.new ≡ records.old ++ flat_map sub_records rows.now }
     ensures few { length records.new ≤ length records.old + length rows.now }
 {
@@ -166,7 +166,7 @@ pub(crate) fn put_subs(records: &mut Records, rows: &[(Address, u16, Address)])
 
 /// The subscriptions to virtual addresses.
 pub(crate) fn put_labels(records: &mut Records, rows: &[(Address, u16, [u8; 16])])
-    requires { length records.old + length rows.now ≤ 404 }
+    requires { length records.old + length rows.now ≤ SNAPSHOT_RECORDS }
     ensures value { records.new ≡ records.old ++ flat_map label_records rows.now }
     ensures few { length records.new ≤ length records.old + length rows.now }
 {
@@ -185,7 +185,7 @@ pub(crate) fn put_labels(records: &mut Records, rows: &[(Address, u16, [u8; 16])
 
 /// A feature, where its value differs from the first one.
 fn put_feature(records: &mut Records, which: u8, first: u16, value: u16)
-    requires { length records.old < 404 }
+    requires { length records.old < SNAPSHOT_RECORDS }
     ensures value { records.new ≡ records.old ++ feature_record which first value }
     ensures few { length records.new ≤ length records.old + 1 }
 {
@@ -204,9 +204,9 @@ pub(crate) fn put_features(
     retransmit: u8,
     transmit: u8,
 )
-    requires { length records.old + 5 ≤ 404 }
+    requires { length records.old + FEATURES ≤ SNAPSHOT_RECORDS }
     ensures value { records.new ≡ records.old ++ feature_records beacon ttl friend relay retransmit transmit }
-    ensures few { length records.new ≤ length records.old + 5 }
+    ensures few { length records.new ≤ length records.old + FEATURES }
 {
     put_feature(records, 1, 0, u16::from(beacon));
     put_feature(records, 2, 7, u16::from(ttl));
@@ -222,7 +222,7 @@ pub(crate) fn put_features(
 
 /// The value that a model keeps, where it isn't 0.
 fn put_model(records: &mut Records, model: u16, element: u8, value: u16)
-    requires { length records.old < 404 }
+    requires { length records.old < SNAPSHOT_RECORDS }
     ensures value { records.new ≡ records.old ++ model_record model element value }
     ensures few { length records.new ≤ length records.old + 1 }
 {
@@ -239,9 +239,14 @@ fn put_model(records: &mut Records, model: u16, element: u8, value: u16)
 }
 
 /// The values that the models of an element keep.
-fn put_element(records: &mut Records, onoffs: &[u8; 4], levels: &[u16; 4], element: u8)
-    requires place { element < 4 }
-    requires room { length records.old + 2 ≤ 404 }
+fn put_element(
+    records: &mut Records,
+    onoffs: &[u8; ELEMENTS],
+    levels: &[u16; ELEMENTS],
+    element: u8,
+)
+    requires place { element < ELEMENTS }
+    requires room { length records.old + 2 ≤ SNAPSHOT_RECORDS }
     ensures value { records.new ≡ records.old ++ element_records onoffs.now levels.now element }
     ensures few { length records.new ≤ length records.old + 2 }
 {
@@ -251,19 +256,19 @@ fn put_element(records: &mut Records, onoffs: &[u8; 4], levels: &[u16; 4], eleme
 }
 
 /// The kept values, by element and model.
-pub(crate) fn put_models(records: &mut Records, onoffs: &[u8; 4], levels: &[u16; 4])
-    requires { length records.old + 8 ≤ 404 }
+pub(crate) fn put_models(records: &mut Records, onoffs: &[u8; ELEMENTS], levels: &[u16; ELEMENTS])
+    requires { length records.old + SERVERS ≤ SNAPSHOT_RECORDS }
     ensures value { records.new ≡ records.old ++ model_records onoffs.now levels.now }
-    ensures few { length records.new ≤ length records.old + 8 }
+    ensures few { length records.new ≤ length records.old + SERVERS }
 {
-    for element in 0..4u8 {
+    for element in 0..ELEMENTS as u8 {
         put_element(records, onoffs, levels, element);
     }
 }
 
 /// The Node Reset, where there was one.
 pub(crate) fn put_reset(records: &mut Records, reset: bool)
-    requires { length records.old < 404 }
+    requires { length records.old < SNAPSHOT_RECORDS }
     ensures value { records.new ≡ records.old ++ reset_records reset }
     ensures few { length records.new ≤ length records.old + 1 }
 {
@@ -274,7 +279,7 @@ pub(crate) fn put_reset(records: &mut Records, reset: bool)
 
 /// The publications.
 pub(crate) fn put_publications(records: &mut Records, rows: &[PublishRow])
-    requires { length records.old + length rows.now ≤ 404 }
+    requires { length records.old + length rows.now ≤ SNAPSHOT_RECORDS }
     ensures value { records.new ≡ records.old ++ flat_map publish_records rows.now }
     ensures few { length records.new ≤ length records.old + length rows.now }
 {

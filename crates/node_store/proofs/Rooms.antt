@@ -2,6 +2,7 @@
 use Rattle.std.proofs.Common.{◌≡◌, ⊎_elim, ℕ, ◌≤◌, List, Bool, true, false, Some, refl, ap, subst, ◌∙◌, arith}
 use Rattle.std.specs.Prelude.{map, length, ◌==◌, if◌then◌else◌}
 use Rattle.std.proofs.lemmas.Bool.{eqb-true}
+use Rattle.node_limits.specs.declared.TheConstants.{SNAPSHOT_RECORDS, COMPACTION_CALLS}
 use Rattle.flash_model.specs.Chip.{Chip, LeavesOnly}
 use Rattle.flash_model.proofs.Leaves.{leaves_weaker}
 use Rattle.mesh_base.specs.declared.slot.Slot.{Slot}
@@ -58,9 +59,9 @@ module _ (old : Chip) (journal : JournalView) (p : Persist) (found : List StoreR
   }
 
 -- the calls for room are at most those of the largest snapshot
-pub room_few : (s : StoreView) → (s.journal.used ≡ 1023 → length (snapshot_of s.persist) ≤ 404) → room_of s ≤ 818
+pub room_few : (s : StoreView) → (s.journal.used ≡ 1023 → length (snapshot_of s.persist) ≤ SNAPSHOT_RECORDS) → room_of s ≤ COMPACTION_CALLS
 room_few s few = by_test (s.journal.used == 1023) refl
   where
-    by_test : (b : Bool) → (s.journal.used == 1023) ≡ b → (if b then compaction s.persist else 0) ≤ 818
+    by_test : (b : Bool) → (s.journal.used == 1023) ≡ b → (if b then compaction s.persist else 0) ≤ COMPACTION_CALLS
     by_test true e = let h = few (eqb-true s.journal.used 1023 e) in omega (arith, h)
     by_test false e = omega arith

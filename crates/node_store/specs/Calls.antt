@@ -1,21 +1,22 @@
 -- How many program and erase calls the calls on a store make over a steady flash.
 use Rattle.std.specs.Prelude.{ℕ, ◌+◌, ◌*◌, ◌==◌, if◌then◌else◌, length}
+use Rattle.node_limits.specs.declared.TheConstants.{BANK_RECORDS, RECORD_CALLS, BANK_CALLS}
 use Rattle.node_records.specs.declared.persist.Persist.{Persist}
 use Rattle.node_snapshot.specs.Snapshot.{snapshot_of}
 use Rattle.node_store.specs.View.{StoreView}
 
 -- a compaction: eight sectors are erased, each slot of the snapshot takes two program calls, and the header two
 abbrev pub compaction : Persist → ℕ
-compaction p = 10 + 2 * length (snapshot_of p)
+compaction p = BANK_CALLS + RECORD_CALLS * length (snapshot_of p)
 
--- for room: a compaction where all 1,023 slots of the bank are used
+-- for room: a compaction where all slots of the bank are used
 abbrev pub room_of : StoreView → ℕ
-room_of s = if s.journal.used == 1023 then compaction s.persist else 0
+room_of s = if s.journal.used == BANK_RECORDS then compaction s.persist else 0
 
 -- a put: the two of its slot, behind those for room
 abbrev pub calls_of : StoreView → ℕ
-calls_of s = room_of s + 2
+calls_of s = room_of s + RECORD_CALLS
 
 -- how many slots are used where there is room
 abbrev pub used_with_room : StoreView → ℕ
-used_with_room s = if s.journal.used == 1023 then length (snapshot_of s.persist) else s.journal.used
+used_with_room s = if s.journal.used == BANK_RECORDS then length (snapshot_of s.persist) else s.journal.used

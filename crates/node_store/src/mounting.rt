@@ -16,6 +16,7 @@ use crate::room::compact;
 use crate::store::Store;
 use flash_model::{Flash, FlashFailed};
 use mesh_base::slot::Slot;
+use node_limits::COMPACTION_CALLS;
 use node_records::Persist;
 use record_texts::decode;
 use record_types::records::StoreRecord;
@@ -110,7 +111,7 @@ impl Store {
         ensures calls { IsTrue (F.chip flash.old).steady → IsTrue (F.chip flash.old).honest
             → HasFormat 1 (F.chip flash.old).now
             → IfOk result (λ s. Begins (compaction s.persist) (F.chip flash.old) (F.chip flash.new)) }
-        ensures most_calls { IsTrue (F.chip flash.old).steady → BeginsAtMost 818 (F.chip flash.old) (F.chip flash.new) }
+        ensures most_calls { IsTrue (F.chip flash.old).steady → BeginsAtMost COMPACTION_CALLS (F.chip flash.old) (F.chip flash.new) }
         ensures no_calls { IsTrue (F.chip flash.old).steady → IsTrue (F.chip flash.old).honest
             → ¬ HasFormat 1 (F.chip flash.old).now → (F.chip flash.new).changes ≡ (F.chip flash.old).changes }
 
@@ -154,7 +155,7 @@ fn migrated<F: Flash>(
     ensures unchanged { ¬ journal.version ≡ 1 → flash.new ≡ flash.old }
     ensures calls { IsTrue (F.chip flash.old).steady → journal.version ≡ 1
         → OnOk result (Begins (compaction persist.now) (F.chip flash.old) (F.chip flash.new)) }
-    ensures most_calls { IsTrue (F.chip flash.old).steady → BeginsAtMost 818 (F.chip flash.old) (F.chip flash.new) }
+    ensures most_calls { IsTrue (F.chip flash.old).steady → BeginsAtMost COMPACTION_CALLS (F.chip flash.old) (F.chip flash.new) }
     ensures no_fault { OnOk result ((F.chip flash.new).faults ≡ (F.chip flash.old).faults) }
     ensures cause { OnErr result ((F.chip flash.old).faults < (F.chip flash.new).faults) }
     ensures sure { IsTrue (F.chip flash.old).sure → IsOk result }

@@ -13,14 +13,12 @@ ghost use Rattle.node_store.specs.Writing.{CostsCalls, LeavesFlash, Puts};
 
 use crate::store::Store;
 use flash_model::{Flash, FlashFailed};
+use node_limits::{BANK_RECORDS, COMPACTION_CALLS, SNAPSHOT_RECORDS};
 use node_records::Persist;
 use node_snapshot::snapshot;
 use record_texts::encode;
 use record_types::records::StoreRecord;
 use slot_journal::Journal;
-
-/// Slots of a bank that hold records.
-const ROOM: u32 = 1023;
 
 /// Compacts a journal to the records that say a value anew. At `Ok` they are durable. In every image that a cut at any moment leaves, the
 /// records say the same.
@@ -33,7 +31,7 @@ pub fn compact<F: Flash>(
     requires usable { journal.old.closed ≡ false }
     ensures usable { OnOk result (journal.new.closed ≡ false) }
     ensures used { OnOk result (journal.new.used ≡ length (snapshot_of persist.now)) }
-    ensures few { length (snapshot_of persist.now) ≤ 404 }
+    ensures few { length (snapshot_of persist.now) ≤ SNAPSHOT_RECORDS }
     ensures format { OnOk result (journal.new.version ≡ 2) }
     ensures closed { OnErr result (journal.new ≡ record journal.old { closed = true }) }
     ensures cause { OnErr result ((F.chip flash.old).faults < (F.chip flash.new).faults) }
@@ -72,10 +70,10 @@ impl Store {
             → LeavesOnly (F.chip flash.old) (F.chip flash.new) (IsHeld records) }
         ensures costs { IsTrue (F.chip flash.old).steady
             → CostsCalls (room_of self.old) result (F.chip flash.old) (F.chip flash.new) }
-        ensures bounded { room_of self.old ≤ 818 }
+        ensures bounded { room_of self.old ≤ COMPACTION_CALLS }
         ensures leaves { LeavesFlash result (F.chip flash.old) (F.chip flash.new) }
     {
-        if self.journal.used() < ROOM {
+        if self.journal.used() < BANK_RECORDS {
             return Ok(());
         }
         compact(&mut self.journal, &self.persist, flash)

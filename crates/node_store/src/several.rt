@@ -7,6 +7,7 @@ ghost use Rattle.node_store.specs.Writing.{CostsCalls, CutLeaves, FailsAtFlash, 
 
 use crate::store::{PutFault, Store};
 use flash_model::Flash;
+use node_limits::PUT_CALLS;
 use record_types::records::StoreRecord;
 
 impl Store {
@@ -31,7 +32,7 @@ impl Store {
         ensures costs { IsTrue (F.chip flash.old).steady → self.old.journal.used + length items.now ≤ 1023
             → CostsCalls (2 * length items.now) result (F.chip flash.old) (F.chip flash.new) }
         ensures bounded { IsTrue (F.chip flash.old).steady
-            → BeginsAtMost (820 * length items.now) (F.chip flash.old) (F.chip flash.new) }
+            → BeginsAtMost (PUT_CALLS * length items.now) (F.chip flash.old) (F.chip flash.new) }
         ensures leaves { LeavesFlash result (F.chip flash.old) (F.chip flash.new) }
     {
         if self.is_closed() {

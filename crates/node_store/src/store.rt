@@ -12,6 +12,7 @@ ghost use Rattle.node_store.specs.Tie.{HasMark, IsNoNumbers, IsNotBelow, IsPut, 
 ghost use Rattle.node_store.specs.Writing.{CostsCalls, CutLeaves, FailsAtFlash, LeavesFlash, OnlyAnswers, Puts};
 
 use flash_model::{Flash, FlashFailed};
+use node_limits::PUT_CALLS;
 use node_records::laws::value_law;
 use node_records::{Limit, Persist};
 use record_types::records::StoreRecord;
@@ -147,7 +148,7 @@ impl Store {
         // over a steady flash: two program calls, behind those of a compaction where all slots are used
         ensures costs { IsTrue (F.chip flash.old).steady
             → CostsCalls (calls_of self.old) result (F.chip flash.old) (F.chip flash.new) }
-        ensures bounded { IsTrue (F.chip flash.old).steady → BeginsAtMost 820 (F.chip flash.old) (F.chip flash.new) }
+        ensures bounded { IsTrue (F.chip flash.old).steady → BeginsAtMost PUT_CALLS (F.chip flash.old) (F.chip flash.new) }
         ensures leaves { LeavesFlash result (F.chip flash.old) (F.chip flash.new) }
     {
         if self.journal.is_closed() {

@@ -11,6 +11,7 @@ ghost use Rattle.record_texts.specs.Kinds.{HasOp};
 use mesh_base::address::Address;
 use mesh_base::iv_state::IvState;
 use mesh_base::pair::Name;
+use node_limits::ELEMENTS;
 use record_types::records::{PublishRow, StoreRecord};
 
 /// Whether a key that isn't needed is zeros.
@@ -35,7 +36,7 @@ fn is_identity(unicast: Address, elements: u8, dev_key: &[u8; 16]) -> bool
 {
     let has_key = is_key(true, dev_key);
     let end = u32::from(unicast.0) + u32::from(elements);
-    1 <= elements && elements <= 4 && 1 <= unicast.0 && end <= 0x8000 && has_key
+    1 <= elements && usize::from(elements) <= ELEMENTS && 1 <= unicast.0 && end <= 0x8000 && has_key
 }
 
 /// Whether there is an IV Index to send with, and the mark is one of it.
@@ -116,7 +117,7 @@ fn is_subscribe(op: u8, element: Address, model: u16, address: Address) -> bool
 fn is_model(element: u8, model: u16, value: u16) -> bool
     ensures { IsTrue result ↔ IsInRange (R.Model element model value) }
 {
-    element < 4 && ((model == 0x1000 && value < 2) || model == 0x1002)
+    usize::from(element) < ELEMENTS && ((model == 0x1000 && value < 2) || model == 0x1002)
 }
 
 /// Whether the fields of a Label record are in their ranges.

@@ -8,6 +8,7 @@ use Rattle.std.specs.List.{list_any}
 use Rattle.std.specs.Map.{lookup, lookup_entry, remove_entry}
 use Rattle.std.proofs.lemmas.List.{drop-append-le, length-reverse, length-take, reverse-append, take-append-drop, take-map}
 use Rattle.std.proofs.lemmas.List.Folds.{list_any-append}
+use Rattle.node_limits.specs.declared.TheConstants.{MESSAGE_CACHE}
 use Rattle.layer_states.specs.Cache.{is_cached, remembered}
 use Rattle.layer_states.specs.Names.{is_name}
 use Rattle.mesh_base.specs.declared.pair.Name.{Name}
@@ -21,13 +22,13 @@ front_reversed n xs =
     ∙ drop_at (reverse (drop n xs)) (reverse (take n xs)) (length xs - n) (length-reverse (drop n xs) ∙ length-drop n xs)
 
 -- one name more
-pub names_more : (ks : List Name) (k : Name) → reverse (k ∷ take 127 ks) ≡ remembered (reverse ks) k
+pub names_more : (ks : List Name) (k : Name) → reverse (k ∷ take (MESSAGE_CACHE - 1) ks) ≡ remembered (reverse ks) k
 names_more ks k =
-    let many : length (reverse ks ++ k ∷ []) - 128 ≡ length ks - 127 = omega (arith, length-append (reverse ks) (k ∷ []), length-reverse ks) in
-    let few : length ks - 127 ≤ length (reverse ks) = omega (arith, length-reverse ks) in
-    reverse-append (k ∷ []) (take 127 ks)
-    ∙ ap (λ l. l ++ k ∷ []) (sym (front_reversed 127 ks))
-    ∙ sym (drop-append-le (length ks - 127) (reverse ks) (k ∷ []) few)
+    let many : length (reverse ks ++ k ∷ []) - MESSAGE_CACHE ≡ length ks - (MESSAGE_CACHE - 1) = omega (arith, length-append (reverse ks) (k ∷ []), length-reverse ks) in
+    let few : length ks - (MESSAGE_CACHE - 1) ≤ length (reverse ks) = omega (arith, length-reverse ks) in
+    reverse-append (k ∷ []) (take (MESSAGE_CACHE - 1) ks)
+    ∙ ap (λ l. l ++ k ∷ []) (sym (front_reversed (MESSAGE_CACHE - 1) ks))
+    ∙ sym (drop-append-le (length ks - (MESSAGE_CACHE - 1)) (reverse ks) (k ∷ []) few)
     ∙ ap (λ m. drop m (reverse ks ++ k ∷ [])) (sym many)
 
 -- whether a name is held, either way round
@@ -100,21 +101,21 @@ entries_put eq c k h =
 
 -- the cache with a key that wasn't there
 pub record IsPut (old new : LruCache Name (Unit {0})) (k : Name) : Type 0 where
-  pub cap : new.cap ≡ 128
-  pub few : length new.entries ≤ 128
+  pub cap : new.cap ≡ MESSAGE_CACHE
+  pub few : length new.entries ≤ MESSAGE_CACHE
   pub names : names_of new ≡ remembered (names_of old) k
 
-pub is_put : (old new : LruCache Name (Unit {0})) (k : Name) → old.cap ≡ 128 → is_some (lookup (same k) old.entries) ≡ false
+pub is_put : (old new : LruCache Name (Unit {0})) (k : Name) → old.cap ≡ MESSAGE_CACHE → is_some (lookup (same k) old.entries) ≡ false
     → new ≡ lru_cache (put_entries same old k tt) old.cap → IsPut old new k
 is_put old new k cap miss e =
-    let size : old.cap - 1 ≡ 127 = omega (arith, cap) in
-    let entries : new.entries ≡ (k, tt) ∷ take 127 old.entries =
+    let size : old.cap - 1 ≡ (MESSAGE_CACHE - 1) = omega (arith, cap) in
+    let entries : new.entries ≡ (k, tt) ∷ take (MESSAGE_CACHE - 1) old.entries =
     ap (λ c. c.entries) e ∙ entries_put same old k miss ∙ ap (λ n. (k, tt) ∷ take n old.entries) size in
     record {
       cap = ap (λ c. c.cap) e ∙ cap;
-      few = omega (arith, ap (λ (es : List (Name × Unit {0})). length es) entries, length-take 127 old.entries);
+      few = omega (arith, ap (λ (es : List (Name × Unit {0})). length es) entries, length-take (MESSAGE_CACHE - 1) old.entries);
       names =
           ap (λ (es : List (Name × Unit {0})). reverse (map (λ x. x.0) es)) entries
-          ∙ ap (λ ks. reverse (k ∷ ks)) (sym (take-map (λ (x : Name × Unit {0}). x.0) 127 old.entries))
+          ∙ ap (λ ks. reverse (k ∷ ks)) (sym (take-map (λ (x : Name × Unit {0}). x.0) (MESSAGE_CACHE - 1) old.entries))
           ∙ names_more (map (λ x. x.0) old.entries) k;
     }

@@ -9,6 +9,7 @@ use Rattle.mesh_types.specs.declared.answers.Answer.TheVariants as A
 use Rattle.mesh_types.specs.declared.answers.KeyName.TheVariants as N
 use Rattle.mesh_types.specs.declared.events.Event.{Event}
 use Rattle.mesh_types.specs.declared.events.Event.TheVariants as E
+use Rattle.mesh_types.specs.declared.events.Outgoing.{Outgoing}
 use Rattle.mesh_types.specs.declared.events.SendKey.TheVariants as S
 use Rattle.mesh_types.specs.declared.history.Entry.{Entry}
 use Rattle.mesh_types.specs.declared.history.Sent.{Sent}
@@ -121,12 +122,25 @@ abbrev pub entry_of : ℕ → Event → Answer → Entry
 entry_of number event answer =
     record { bearer = 0; number = number; event = event; fills = 0; answer = answer; jobs = [] }
 
+-- a message to address 3 that goes in segments
+abbrev pub begun : Outgoing
+begun =
+    record {
+      name = record { src = address 0x1201; pair = pair 1 };
+      dst = address 3;
+      ttl = 7;
+      net = 0;
+      akf = false;
+      aid = 0;
+      upper = [];
+    }
+
 abbrev pub cut_entries : List Entry
 cut_entries =
     entry_of 1 (E.Net []) (A.Control (record { src = address 0x0201; pair = pair 2 }) (address 0x1201) 1 (0 ∷ []))
     ∷ entry_of 2 (E.Kept (address 0x0201) false (record { src = address 0x1201; pair = pair 0 }) []) A.Kept
     ∷ entry_of 3 (E.Send 0 (address 3) 7 S.Own payload) A.Planned
-    ∷ entry_of 4 (E.Begin (pair 1) (address 3) (address 0x1201) 7 0 false 0 []) A.Begun
+    ∷ entry_of 4 (E.Begin begun) A.Begun
     ∷ []
 
 abbrev pub cut_lines : List Sent

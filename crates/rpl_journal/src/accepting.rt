@@ -109,7 +109,7 @@ fn record_of(name: &Name) -> StoreRecord
 ///
 /// - `Closed` exactly where an earlier write failed: nothing changes (`closed`). Mount the flash again.
 /// - `Old` where the source has an entry, which is told, and the pair isn't newer: nothing changes (`old`). At Ok it was newer (`newer`).
-/// - `ListFull` where the source has no entry, and 512 others have one, so many as are told: nothing changes (`full`). A place comes when an
+/// - `ListFull` where the source has no entry, and as many others have one as the replay list has entries, so many as are told: nothing changes (`full`). A place comes when an
 ///   entry expires.
 /// - `Flash` where the flash failed in this call: the store is closed from then on (`fails.cause`). The flash may hold the entry, or not. Don't
 ///   deliver the message then: where the entry is there, it is lost.

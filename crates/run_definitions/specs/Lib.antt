@@ -1,13 +1,5 @@
 pub mod Seals
 pub mod Uses
-pub mod History
-pub mod Layers
-pub mod Answers
-pub mod Readings
-pub mod Stores
-pub mod Jobs
-pub mod Handling
 pub mod Lines
 pub mod Order
 pub mod RunOf
-pub mod Fit

@@ -13,14 +13,15 @@ use Rattle.mesh_types.specs.declared.events.Event.TheVariants as E
 use Rattle.mesh_types.specs.declared.events.SendKey.{SendKey}
 use Rattle.mesh_types.specs.declared.jobs.Job.{Job}
 use Rattle.mesh_types.specs.declared.jobs.Job.TheVariants as J
+use Rattle.mesh_types.specs.declared.jobs.Segment.{Segment}
 use Rattle.mesh_types.specs.declared.lines.Outcome.{Outcome}
 use Rattle.mesh_types.specs.declared.lines.Outcome.TheVariants as O
-use Rattle.run_definitions.specs.Answers.{pair_of}
+use Rattle.event_definitions.specs.Answers.{pair_of}
 use Rattle.run_definitions.specs.Seals.{own_fields, own_upper, message_fields, is_app_key, aid_of_key}
 
 -- whether a job is the first segment of a message, which goes under the pair of SeqAuth and draws none
 abbrev pub is_first : Job → Bool
-is_first (J.Segment material name ttl src dst seg_o seg_n tpdu first) = first
+is_first (J.Segment s) = s.first
 is_first _ = false
 
 -- whether a job draws a pair
@@ -29,13 +30,19 @@ is_drawing (J.Relay material fields) = false
 is_drawing (J.Control material ttl src dst tpdu keep) = true
 is_drawing (J.Message net material key ttl src dst payload keep) = true
 is_drawing (J.Sent net material key ttl src dst) = true
-is_drawing (J.Segment material name ttl src dst seg_o seg_n tpdu first) = not first
+is_drawing (J.Segment s) = not s.first
 is_drawing (J.Repeat name pdu) = false
 is_drawing (J.Beacon octets) = false
 
 -- whether the pair of a segment is under another IV Index than SeqAuth, or too far above it
 abbrev pub is_late : Pair → Pair → Bool
 is_late auth p = not (p.iv == auth.iv) || nat_lt (auth.seq + 8191) p.seq
+
+-- a segment of an own message that goes out under a pair
+abbrev pub segment_outcome : Segment → Pair → Outcome
+segment_outcome s pair =
+    O.Seg pair s.ttl s.name.src s.dst s.seg_o s.seg_n s.name.pair.seq
+    (net_text s.material (own_fields pair false s.ttl s.name.src s.dst s.tpdu))
 
 -- A line shows the fields of its job and one pair. A payload of at most 11 octets goes unsegmented. The payload of the message that an
 -- event asks for is the event's. Where a network PDU goes out, its octets are the text of these fields.
@@ -67,19 +74,11 @@ pub data Shows : Event → Job → Outcome → Type 0 where
       → 11 < length payload
       → Shows (E.Send element at hops with payload) (J.Sent net m key ttl src dst)
       (O.Long pair ttl src dst (key_name_of key) payload)
-  shows_first : {event : Event} {m : NetMaterial} {name : Name} {ttl : ℕ} {src dst : Address} {seg_o seg_n : ℕ}
-      {tpdu : List ℕ}
-      → Shows event (J.Segment m name ttl src dst seg_o seg_n tpdu true)
-      (O.Seg name.pair ttl src dst seg_o seg_n name.pair.seq (net_text m (own_fields name.pair false ttl src dst tpdu)))
-  shows_seg : {event : Event} {m : NetMaterial} {name : Name} {ttl : ℕ} {src dst : Address} {seg_o seg_n : ℕ}
-      {tpdu : List ℕ} {pair : Pair}
-      → is_late name.pair pair ≡ false
-      → Shows event (J.Segment m name ttl src dst seg_o seg_n tpdu false)
-      (O.Seg pair ttl src dst seg_o seg_n name.pair.seq (net_text m (own_fields pair false ttl src dst tpdu)))
-  shows_late : {event : Event} {m : NetMaterial} {name : Name} {ttl : ℕ} {src dst : Address} {seg_o seg_n : ℕ}
-      {tpdu : List ℕ} {pair : Pair}
-      → is_late name.pair pair ≡ true
-      → Shows event (J.Segment m name ttl src dst seg_o seg_n tpdu false) (O.Late pair)
+  shows_first : {event : Event} {s : Segment} → s.first ≡ true → Shows event (J.Segment s) (segment_outcome s s.name.pair)
+  shows_seg : {event : Event} {s : Segment} {pair : Pair}
+      → s.first ≡ false → is_late s.name.pair pair ≡ false → Shows event (J.Segment s) (segment_outcome s pair)
+  shows_late : {event : Event} {s : Segment} {pair : Pair}
+      → s.first ≡ false → is_late s.name.pair pair ≡ true → Shows event (J.Segment s) (O.Late pair)
   shows_relay : {event : Event} {m : NetMaterial} {f : NetFields}
       → Shows event (J.Relay m f) (O.Relay (pair_of f) f.ctl f.ttl f.src f.dst f.tpdu (net_text m f))
   shows_rep : {event : Event} {name : Name} {octets : List ℕ} → Shows event (J.Repeat name octets) (O.Rep name octets)
@@ -101,7 +100,16 @@ drawn_of job (O.Late pair) = Some pair
 -- the segments of a sealed message are to be sent
 abbrev pub begin_event : ℕ → UpperKey → Pair → ℕ → Address → Address → List ℕ → Event
 begin_event net key pair ttl src dst payload =
-    E.Begin pair dst src ttl net (is_app_key key) (aid_of_key key) (own_upper key pair src dst payload)
+    E.Begin
+    (record {
+      name = record { src = src; pair = pair };
+      dst = dst;
+      ttl = ttl;
+      net = net;
+      akf = is_app_key key;
+      aid = aid_of_key key;
+      upper = own_upper key pair src dst payload;
+    })
 
 -- the octets of the answer to a Poll are to be kept
 abbrev pub kept_events : Option (Address × Bool) → Address → Pair → List ℕ → List Event

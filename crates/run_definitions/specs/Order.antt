@@ -19,7 +19,7 @@ is_outside (E.Bcn octets) = true
 is_outside (E.Send element dst ttl key payload) = true
 is_outside (E.Raw dst ttl tpdu) = true
 is_outside (E.Tick ticks) = true
-is_outside (E.Begin pair dst src ttl net akf aid upper) = false
+is_outside (E.Begin m) = false
 is_outside (E.Kept lpn fsn name octets) = false
 
 -- an entry, and its place in the history

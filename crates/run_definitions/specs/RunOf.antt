@@ -11,21 +11,18 @@ use Rattle.mesh_types.specs.declared.report.End.{End}
 use Rattle.mesh_types.specs.declared.report.End.TheVariants as F
 use Rattle.mesh_types.specs.declared.report.Opened.{Opened}
 use Rattle.mesh_types.specs.declared.report.Opened.TheVariants as W
-use Rattle.run_definitions.specs.Answers.{answer_of}
 use Rattle.store_definitions.specs.Alike.{IsAlike}
 use Rattle.store_definitions.specs.Config.{Config, config_of}
 use Rattle.store_definitions.specs.Numbers.{filled, fill_of}
 use Rattle.store_definitions.specs.Provisioning.{Provisioning, provisioned}
-use Rattle.run_definitions.specs.Handling.{AreHandled, records_left}
-use Rattle.run_definitions.specs.History.{Insight, Past, Told}
-use Rattle.run_definitions.specs.Layers.{Layers}
+use Rattle.event_definitions.specs.Handling.{AreHandled, records_left}
+use Rattle.event_definitions.specs.History.{Insight, Past, Told}
 use Rattle.run_definitions.specs.Lines.{drawn_of}
 use Rattle.run_definitions.specs.Order.{Step, IsOrdered, is_cut, is_outside, phases_of}
 use Rattle.mesh_base.specs.Pairs.{word_of}
 use Rattle.store_definitions.specs.Ranges.{IsInRange}
-use Rattle.run_definitions.specs.Readings.{Sees}
+use Rattle.event_definitions.specs.Role.{Role}
 use Rattle.report_definitions.specs.Record.{Life, LifeOver, Run, Shown, first_over, list_at, shown, shown_by}
-use Rattle.run_definitions.specs.Stores.{stores}
 
 -- The opening of a life over records that say `c`: the flash may fail; else the life is `wasreset` where there was a Node Reset, and
 -- where there was none it opens with the IV state and the mark.
@@ -62,25 +59,25 @@ abbrev pub next_event : List Step → Life → ℕ → Option Event
 next_event plan l k = slice_get (plan_events plan k) (length (filter (λ e. is_outside e.event) (bearer_entries l k)))
 
 -- what stands at the end of a life
-abbrev pub past_at_end : Layers → List StoreRecord → Life → List Told → Past
-past_at_end layers over l told = record { told = told; records = filled l.refills (records_left layers over [] told) }
+abbrev pub past_at_end : Role → List StoreRecord → Life → List Told → Past
+past_at_end role over l told = record { told = told; records = filled l.refills (records_left role over [] told) }
 
 -- What of the records in hand may outlast a cut: whole records from the front of those of a bearer's next event, or those of one
 -- refill, all after the refills that were stored last. Of a life that was cut at its opening nothing does.
-pub data Outlasts (layers : Layers) (plan : List Step) (l : Life) (past : Past) : List StoreRecord → Type 0 where
-  no_record : Outlasts layers plan l past []
+pub data Outlasts (role : Role) (plan : List Step) (l : Life) (past : Past) : List StoreRecord → Type 0 where
+  no_record : Outlasts role plan l past []
   of_event : (k n : ℕ) (event : Event) (insight : Insight)
       → IsTrue (is_on l.opened) → IsTrue (is_cut l.end)
       → next_event plan l k ≡ Some event
-      → Sees layers past event insight
-      → Outlasts layers plan l past (take n (stores layers past event insight (answer_of layers past event insight)))
+      → role.sees past event insight
+      → Outlasts role plan l past (take n (role.stores past event insight (role.answer past event insight)))
   of_refill : IsTrue (is_on l.opened) → IsTrue (is_cut l.end)
-      → Outlasts layers plan l past (fill_of (config_of past.records) ∷ [])
+      → Outlasts role plan l past (fill_of (config_of past.records) ∷ [])
 
 -- What the next life opens over is alike to all the records of this life.
-pub record Leaves (layers : Layers) (plan : List Step) (l : Life) (past : Past) (next : List StoreRecord) : Type 0 where
+pub record Leaves (role : Role) (plan : List Step) (l : Life) (past : Past) (next : List StoreRecord) : Type 0 where
   pub more : List StoreRecord
-  pub outlasts : Outlasts layers plan l past more
+  pub outlasts : Outlasts role plan l past more
   pub ranges : All IsInRange (past.records ++ more)
   pub alike : IsAlike next (past.records ++ more)
 
@@ -104,17 +101,17 @@ IsSpentRight mark (O.Spent iv) = iv * 2 ^ 25 + 2 ^ 24 ≤ mark
 IsSpentRight mark _ = ⊤
 
 -- The life is one of this plan: it opens over the one list of records and leaves the other.
-pub record LifeOf (layers : Layers) (plan : List Step) (over : List StoreRecord) (l : Life)
+pub record LifeOf (role : Role) (plan : List Step) (over : List StoreRecord) (l : Life)
     (next : List StoreRecord) : Type 0 where
   pub opening : Opens (config_of over) l.opened l.end
   pub idle : is_on l.opened ≡ false → IsIdle l
   -- what the octets of the entries were read as
   pub told : List Told
   pub entries : map (λ t. t.entry) told ≡ l.entries
-  pub handled : AreHandled layers over [] told
+  pub handled : AreHandled role over [] told
   pub numbers : (k : ℕ) → IsNumbered l k
   pub order : is_on l.opened ≡ true → IsOrdered plan l
-  pub leaves : Leaves layers plan l (past_at_end layers over l told) next
+  pub leaves : Leaves role plan l (past_at_end role over l told) next
   pub drawn : IsDrawn over next l
   pub spent : All (λ s. IsSpentRight (config_of next).mark s.outcome) (shown l)
 
@@ -126,12 +123,12 @@ pub record Script : Type 0 where
   pub lives : List (List Step)
 
 -- each life is one of its plan, and leaves what the life after it opens over; the last one leaves the last list
-abbrev pub LivesOf : Layers → List (List Step) → List LifeOver → List StoreRecord → Type 0
-LivesOf layers [] [] last = ⊤
-LivesOf layers (plan ∷ plans) (x ∷ xs) last =
-    LifeOf layers plan x.over x.life (first_over xs last) × LivesOf layers plans xs last
-LivesOf layers _ _ last = ⊥
+abbrev pub LivesOf : Role → List (List Step) → List LifeOver → List StoreRecord → Type 0
+LivesOf role [] [] last = ⊤
+LivesOf role (plan ∷ plans) (x ∷ xs) last =
+    LifeOf role plan x.over x.life (first_over xs last) × LivesOf role plans xs last
+LivesOf role _ _ last = ⊥
 
-pub record RunOf (layers : Layers) (s : Script) (r : Run) : Type 0 where
+pub record RunOf (role : Role) (s : Script) (r : Run) : Type 0 where
   pub first : first_over r.lives r.last ≡ provisioned s.node
-  pub lives : LivesOf layers s.lives r.lives r.last
+  pub lives : LivesOf role s.lives r.lives r.last

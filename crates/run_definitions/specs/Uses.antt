@@ -10,14 +10,13 @@ use Rattle.mesh_base.specs.declared.fields.NetMaterial.{NetMaterial}
 use Rattle.mesh_base.specs.declared.keys.UpperKey.{UpperKey}
 use Rattle.mesh_base.specs.declared.pair.Name.{Name}
 use Rattle.mesh_base.specs.declared.pair.Pair.{Pair}
-use Rattle.mesh_types.specs.declared.answers.Answer.{Answer}
-use Rattle.mesh_types.specs.declared.answers.Answer.TheVariants as A
 use Rattle.mesh_types.specs.declared.jobs.Job.{Job}
 use Rattle.mesh_types.specs.declared.jobs.Job.TheVariants as J
 use Rattle.mesh_types.specs.declared.lines.Outcome.{Outcome}
 use Rattle.mesh_types.specs.declared.lines.Outcome.TheVariants as O
 -- a use of a key, and what safety means: of the uses of keys, and of the messages accepted
 pub use Rattle.mesh_base.specs.Safety.{Use, NoReuse, AtMostOnce}
+use Rattle.event_definitions.specs.Answers.{accepted}
 use Rattle.store_definitions.specs.Config.{Config, config_of, is_element}
 use Rattle.report_definitions.specs.Record.{Life, Run, first_over, shown}
 use Rattle.run_definitions.specs.Seals.{own_fields, own_upper_fields, message_fields}
@@ -30,7 +29,7 @@ material_of (J.Relay material fields) = Some material
 material_of (J.Control material ttl src dst tpdu keep) = Some material
 material_of (J.Message net material key ttl src dst payload keep) = Some material
 material_of (J.Sent net material key ttl src dst) = Some material
-material_of (J.Segment material name ttl src dst seg_o seg_n tpdu first) = Some material
+material_of (J.Segment s) = Some s.material
 material_of (J.Repeat name pdu) = None
 material_of (J.Beacon octets) = None
 
@@ -40,13 +39,13 @@ upper_key_of (J.Relay material fields) = None
 upper_key_of (J.Control material ttl src dst tpdu keep) = None
 upper_key_of (J.Message net material key ttl src dst payload keep) = Some key
 upper_key_of (J.Sent net material key ttl src dst) = Some key
-upper_key_of (J.Segment material name ttl src dst seg_o seg_n tpdu first) = None
+upper_key_of (J.Segment s) = None
 upper_key_of (J.Repeat name pdu) = None
 upper_key_of (J.Beacon octets) = None
 
 -- the transport PDU of a segment
 abbrev pub segment_of : Job → List ℕ
-segment_of (J.Segment material name ttl src dst seg_o seg_n tpdu first) = tpdu
+segment_of (J.Segment s) = s.tpdu
 segment_of _ = []
 
 -- the seal of a network PDU: of DST and the transport PDU, under the EncryptionKey and the network nonce
@@ -101,35 +100,6 @@ node_of r = config_of (first_over r.lives r.last)
 -- all seals of a run whose nonce has an own address as SRC
 abbrev pub uses : Run → List Use
 uses r = filter (λ u. is_element (node_of r) (nonce_source u.nonce)) (flat_map (λ x. life_seals x.life) r.lives)
-
--- the name of an accepted message
-abbrev pub accepted : Answer → Option Name
-accepted (A.Delivered name dst key payload) = Some name
-accepted (A.Control name dst opcode params) = Some name
-accepted A.Unread = None
-accepted A.BadAddress = None
-accepted A.Own = None
-accepted A.Cached = None
-accepted A.NotMine = None
-accepted A.Malformed = None
-accepted A.Again = None
-accepted (A.Replay kept) = None
-accepted (A.NoRoom held) = None
-accepted A.Conflict = None
-accepted (A.Waiting missing) = None
-accepted A.NoKey = None
-accepted (A.ListFull held) = None
-accepted (A.Beacon index key iv) = None
-accepted A.Planned = None
-accepted (A.NoAppKey index) = None
-accepted (A.Ticked now) = None
-accepted A.Begun = None
-accepted (A.Moved iv) = None
-accepted A.Befriended = None
-accepted (A.SendFull held) = None
-accepted A.Kept = None
-accepted A.Dropped = None
-accepted A.Reset = None
 
 -- the names that were accepted in a life, in the order of its history
 abbrev pub life_delivered : Life → List Name

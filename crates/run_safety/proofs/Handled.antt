@@ -17,23 +17,20 @@ use Rattle.mesh_types.specs.declared.events.Event.{Event}
 use Rattle.mesh_types.specs.declared.events.Event.TheVariants as E
 use Rattle.record_types.specs.declared.records.StoreRecord.{StoreRecord}
 use Rattle.record_types.specs.declared.records.StoreRecord.TheVariants as R
-use Rattle.run_definitions.specs.Answers.{answer_of, beacon_answer, config_before, is_busy}
+use Rattle.event_definitions.specs.Answers.{answer_of, beacon_answer, config_before, is_busy}
 use Rattle.store_definitions.specs.Config.{Config, changed, config_of, no_config}
-use Rattle.run_definitions.specs.History.{Insight, OfBeacon, OfNothing, OfPdu, Past}
-use Rattle.run_definitions.specs.Layers.{AccessMessage, Layers}
+use Rattle.event_definitions.specs.History.{Insight, OfBeacon, OfNothing, OfPdu, Past}
+use Rattle.event_definitions.specs.Layers.{AccessMessage, Layers}
 use Rattle.run_safety.specs.Rules.{HasFitNumbers}
-use Rattle.run_safety.specs.Safety.{AreSafe, IsChange}
-use Rattle.run_definitions.specs.Stores.{asked, hours_passed, hours_step, message_of, phase_records, step_records, stores, tick_records}
+use Rattle.event_definitions.specs.Safe.{AreSafe, IsChange}
+use Rattle.event_definitions.specs.Stores.{asked, hours_passed, hours_step, message_of, phase_records, step_records, stores, tick_records}
 use Rattle.store_definitions.specs.Numbers.{fill_of, filled, moved}
-use Rattle.run_safety.proofs.Rising.{Rise, same, more, Rises, rise_after}
+use Rattle.run_safety.specs.SafeRole.{Marked, RiseAll, Rises}
+use Rattle.run_safety.proofs.Rising.{Rise, same, more, rise_after}
 use Rattle.store_definitions.proofs.Pushes.{config_push}
 
 -- The mark of a list of records with fit numbers is at most the end of its transmit IV Index, and the known IV Index has 32
 -- bits.
-
-pub record Marked (c : Config) : Type 0 where
-  pub mark : c.mark ≤ transmit_of c.iv * 2 ^ 25 + 2 ^ 24
-  pub current : c.iv.current < 2 ^ 32
 
 marked_changed : (c : Config) (r : StoreRecord) → HasFitNumbers r → Marked c → Marked (changed c r)
 unfolding changed transmit_of
@@ -89,10 +86,6 @@ due_rises s mark_seq busy =
     by_test s (s.progress && leb 144 s.hours && not busy) _ _ (λ e. on_finish (le_itself s.current)) (λ e. on_ignore))
 
 -- Records one after another that rise.
-
-abbrev pub RiseAll : Config → List StoreRecord → Type 0
-RiseAll c [] = ⊤
-RiseAll c (r ∷ rs) = Rises c r × RiseAll (changed c r) rs
 
 pub rise_all : (rs records : List StoreRecord) → RiseAll (config_of records) rs → Rise records (records ++ rs)
 rise_all [] records h = rw append-nil same

@@ -8,17 +8,22 @@ use Rattle.mesh_types.specs.declared.history.Entry.{Entry}
 use Rattle.mesh_types.specs.declared.history.Sent.{Sent}
 use Rattle.record_types.specs.declared.records.StoreRecord.{StoreRecord}
 use Rattle.store_definitions.specs.Config.{Config, config_of}
-use Rattle.run_definitions.specs.History.{Told}
-use Rattle.run_definitions.specs.Layers.{Layers}
+use Rattle.event_definitions.specs.History.{Told}
+use Rattle.event_definitions.specs.Role.{Role}
 use Rattle.run_definitions.specs.Order.{Does, IsOrdered, Part, PartsOf, Placed, Step, Task, broken, ends, handle, of_bearer, placed_from, whole}
 use Rattle.report_definitions.specs.Record.{Life, Shown, list_at, shown, shown_of}
 use Rattle.run_definitions.specs.RunOf.{is_on}
 use Rattle.run_safety.specs.Rules.{LifeBy, enough_rules}
-use Rattle.run_safety.specs.Safety.{AreSafe}
-use Rattle.run_safety.proofs.Lists.{every_append, every_back, every_front, sub_append}
+use Rattle.run_safety.specs.SafeRole.{HeardFits, IsSafeRole, JobsFit}
+use Rattle.run_safety.proofs.Lists.{sub_append}
+use Rattle.event_definitions.proofs.Each.{every_append, every_back, every_front}
 use Rattle.run_safety.proofs.Lives.{left_in_range}
-use Rattle.run_safety.proofs.Rising.{Later}
-use Rattle.run_safety.proofs.Sending.{JobsFit, entries_fit}
+use Rattle.run_safety.proofs.Rising.{Later, Rise, later_after, rise_later}
+use Rattle.run_safety.proofs.Handled.{rise_filled}
+use Rattle.run_safety.proofs.Names.{InRange, entry_rises, first_in_range}
+use Rattle.run_safety.proofs.Sending.{foreign_in}
+use Rattle.event_definitions.specs.Answers.{is_before_cache}
+use Rattle.event_definitions.specs.Handling.{AreHandled, past_of, records_after, records_left}
 use Rattle.run_safety.proofs.Walking.{EntryFits, LinesFit, ShownFits, TaskFits, no_lines, plain, tags_of, walk}
 
 lines_append : (own : Config) (xs ys : List Shown) → LinesFit own None xs → LinesFit own None ys → LinesFit own None (xs ++ ys)
@@ -87,12 +92,33 @@ told_fit : (own : Config) (told : List Told) → AllByRecursion (λ (t : Told). 
 told_fit own [] h = tt
 told_fit own (t ∷ ts) h = (h.0, told_fit own ts h.1)
 
-module _ (layers : Layers) (safe : AreSafe layers) (plan : List Step) (over : List StoreRecord) (l : Life) (next : List StoreRecord) (h : LifeBy enough_rules layers plan over l next)
+-- The jobs of each entry.
+
+pub entries_fit : (role : Role) → IsSafeRole role → (own : Config) (records : List StoreRecord) (before ts : List Told)
+    → AreHandled role records before ts → InRange (records_left role records before ts) → Later own (config_of records)
+    → AllByRecursion (HeardFits own) before → AllByRecursion (λ t. JobsFit own t.entry.event t.entry.jobs) ts
+entries_fit role safe own records before [] h r k heard = tt
+entries_fit role safe own records before (t ∷ ts) h r k heard =
+    let here : InRange (records_after role (past_of before t) t) = first_in_range role records before t ts h r in
+    let filled : Later own (config_of t.records) =
+    later_after own (config_of records) (config_of t.records) k (rise_later (subst (λ l. Rise records l) (sym h.0) (rise_filled t.entry.fills records))) in
+    let after : Later own (config_of (records_after role (past_of before t) t)) =
+    later_after own (config_of t.records) _ filled (rise_later (entry_rises role safe before t h.1 here)) in
+    let this : HeardFits own t = λ r low opening is passed.
+    foreign_in own (config_of t.records) r.fields.src filled
+    (safe.heard (past_of before t) t.entry.event t.insight h.1.sees r low opening is (ap is_before_cache (sym h.1.answer) ∙ passed)) in
+    let fits : JobsFit own t.entry.event (role.jobs (past_of before t) (config_of (records_after role (past_of before t) t)) t.entry.event t.insight t.entry.answer) =
+    safe.jobs own _ (past_of before t) t.entry.event t.insight t.entry.answer heard this in (
+      subst (JobsFit own t.entry.event) (sym h.1.jobs) fits,
+      entries_fit role safe own (records_after role (past_of before t) t) (before ++ t ∷ []) ts h.2 r after (every_append (HeardFits own) before (t ∷ []) heard (this, tt)),
+    )
+
+module _ (role : Role) (safe : IsSafeRole role) (plan : List Step) (over : List StoreRecord) (l : Life) (next : List StoreRecord) (h : LifeBy enough_rules role plan over l next)
     (own : Config) (later : Later own (config_of over)) where
   entries_fits : AllByRecursion (λ (e : Entry). JobsFit own e.event e.jobs) l.entries
   entries_fits =
       subst (AllByRecursion (λ (e : Entry). JobsFit own e.event e.jobs)) h.entries
-      (told_fit own h.told (entries_fit layers safe own over [] h.told h.handled (left_in_range layers safe plan over l next h) later tt))
+      (told_fit own h.told (entries_fit role safe own over [] h.told h.handled (left_in_range role safe plan over l next h) later tt))
 
   on_lines : IsOrdered plan l → (k : ℕ) → LinesFit own None (filter_map (shown_of l.entries) (list_at l.sends k))
   on_lines o k =

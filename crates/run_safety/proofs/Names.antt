@@ -5,27 +5,20 @@ use Rattle.mesh_base.specs.declared.pair.Name.{Name}
 use Rattle.mesh_base.specs.declared.pair.Pair.{Pair}
 use Rattle.record_types.specs.declared.records.StoreRecord.{StoreRecord}
 use Rattle.record_types.specs.declared.records.StoreRecord.TheVariants as R
-use Rattle.mesh_types.specs.declared.answers.Answer.{Answer}
 use Rattle.mesh_types.specs.declared.answers.Answer.TheVariants as A
-use Rattle.mesh_types.specs.declared.events.Event.{Event}
-use Rattle.mesh_types.specs.declared.events.Event.TheVariants as E
-use Rattle.run_definitions.specs.Answers.{answer_of, replayed}
+use Rattle.event_definitions.specs.Answers.{accepted, replayed}
 use Rattle.store_definitions.specs.Config.{config_of}
 use Rattle.store_definitions.specs.Entries.{kept_of}
-use Rattle.run_definitions.specs.Handling.{AreHandled, Handles, past_of, records_left}
-use Rattle.run_definitions.specs.History.{Insight, OfPdu, Past, Told}
-use Rattle.run_definitions.specs.Layers.{Layers}
+use Rattle.event_definitions.specs.Handling.{AreHandled, Handles, past_of, records_after, records_left}
+use Rattle.event_definitions.specs.History.{Past, Told}
+use Rattle.event_definitions.specs.Role.{Role}
 use Rattle.mesh_base.specs.Pairs.{is_expired, is_newer}
-use Rattle.run_definitions.specs.Readings.{Sees, sees_pdu, sees_beacon, sees_nothing}
 use Rattle.run_safety.specs.Rules.{HasFitNumbers}
-use Rattle.run_safety.specs.Safety.{AreSafe}
-use Rattle.run_definitions.specs.Stores.{asked, message_of, records_after, stores}
+use Rattle.run_safety.specs.SafeRole.{Fresh, IsSafeRole, RiseAll}
 use Rattle.store_definitions.specs.Numbers.{filled, fill_of}
-use Rattle.run_definitions.specs.Uses.{accepted}
-use Rattle.run_safety.proofs.Accepting.{Fresh, beacon_silent, fresh, nothing_accepted, nothing_silent, unless_silent}
-use Rattle.run_definitions.proofs.Accepting.{some_is}
-use Rattle.run_safety.proofs.Handled.{RiseAll, marked, rise_all, rise_filled, stores_rise}
-use Rattle.run_safety.proofs.Lists.{Apart, apart_push, every_append, every_front, every_map}
+use Rattle.run_safety.proofs.Handled.{marked, rise_all, rise_filled}
+use Rattle.run_safety.proofs.Lists.{Apart, apart_push}
+use Rattle.event_definitions.proofs.Each.{every_append, every_front, every_map}
 use Rattle.store_definitions.proofs.Pushes.{config_push}
 use Rattle.run_safety.proofs.Rising.{Blocked, by_expiry, by_kept, IsBlocked, Rise, same, blocked_by_replay, blocked_entry, blocked_rise, rise_after}
 
@@ -40,13 +33,13 @@ filled_is (suc n) records =
 joined : (r fills t stored rest l : List StoreRecord) → l ≡ (t ++ stored) ++ rest → t ≡ r ++ fills → l ≡ r ++ (fills ++ (stored ++ rest))
 joined r fills t stored rest l e g = rw (e, g, append_assoc r fills stored, append_assoc r (fills ++ stored) rest, append_assoc fills stored rest) refl
 
-pub left_is : (layers : Layers) (records : List StoreRecord) (before ts : List Told) → AreHandled layers records before ts
-    → (rest : List StoreRecord) × (records_left layers records before ts ≡ records ++ rest)
-left_is layers records before [] h = ([], sym (append-nil records))
-left_is layers records before (t ∷ ts) h =
+pub left_is : (role : Role) (records : List StoreRecord) (before ts : List Told) → AreHandled role records before ts
+    → (rest : List StoreRecord) × (records_left role records before ts ≡ records ++ rest)
+left_is role records before [] h = ([], sym (append-nil records))
+left_is role records before (t ∷ ts) h =
     let (fills, e) = filled_is t.entry.fills records in
-    let (rest, f) = left_is layers (records_after layers (past_of before t) t) (before ++ t ∷ []) ts h.2 in
-    let stored : List StoreRecord = stores layers (past_of before t) t.entry.event t.insight t.entry.answer in
+    let (rest, f) = left_is role (records_after role (past_of before t) t) (before ++ t ∷ []) ts h.2 in
+    let stored : List StoreRecord = role.stores (past_of before t) t.entry.event t.insight t.entry.answer in
     (fills ++ (stored ++ rest), joined records fills t.records stored rest _ f (h.0 ∙ e))
 
 -- A blocked name is no fresh one.
@@ -69,33 +62,34 @@ InRange records = AllByRecursion HasFitNumbers records
 
 -- the records before the first of some entries, and those that it leaves, are in range if those that all of them
 -- leave are
-pub first_in_range : (layers : Layers) (records : List StoreRecord) (before : List Told) (t : Told) (ts : List Told)
-    → AreHandled layers records before (t ∷ ts) → InRange (records_left layers records before (t ∷ ts)) → InRange (records_after layers (past_of before t) t)
-first_in_range layers records before t ts h r =
-    let (rest, e) = left_is layers (records_after layers (past_of before t) t) (before ++ t ∷ []) ts h.2 in
-    every_front HasFitNumbers (records_after layers (past_of before t) t) rest (subst InRange e r)
+pub first_in_range : (role : Role) (records : List StoreRecord) (before : List Told) (t : Told) (ts : List Told)
+    → AreHandled role records before (t ∷ ts) → InRange (records_left role records before (t ∷ ts)) → InRange (records_after role (past_of before t) t)
+first_in_range role records before t ts h r =
+    let (rest, e) = left_is role (records_after role (past_of before t) t) (before ++ t ∷ []) ts h.2 in
+    every_front HasFitNumbers (records_after role (past_of before t) t) rest (subst InRange e r)
 
-pub before_in_range : (layers : Layers) (before : List Told) (t : Told) → InRange (records_after layers (past_of before t) t) → InRange t.records
-before_in_range layers before t r = every_front HasFitNumbers t.records _ r
+pub before_in_range : (role : Role) (before : List Told) (t : Told) → InRange (records_after role (past_of before t) t) → InRange t.records
+before_in_range role before t r = every_front HasFitNumbers t.records _ r
 
-pub entry_rise_all : (layers : Layers) → AreSafe layers → (before : List Told) (t : Told)
-    → Handles layers (past_of before t) t → InRange (records_after layers (past_of before t) t)
-    → RiseAll (config_of t.records) (stores layers (past_of before t) t.entry.event t.insight t.entry.answer)
-entry_rise_all layers safe before t h r =
-    stores_rise layers safe (past_of before t) t.entry.event t.insight t.entry.answer h.answer (marked t.records (before_in_range layers before t r))
+pub entry_rise_all : (role : Role) → IsSafeRole role → (before : List Told) (t : Told)
+    → Handles role (past_of before t) t → InRange (records_after role (past_of before t) t)
+    → RiseAll (config_of t.records) (role.stores (past_of before t) t.entry.event t.insight t.entry.answer)
+entry_rise_all role safe before t h r =
+    subst (λ a. RiseAll (config_of t.records) (role.stores (past_of before t) t.entry.event t.insight a)) (sym h.answer)
+    (safe.rises (past_of before t) t.entry.event t.insight (marked t.records (before_in_range role before t r)))
 
-pub entry_rises : (layers : Layers) → AreSafe layers → (before : List Told) (t : Told)
-    → Handles layers (past_of before t) t → InRange (records_after layers (past_of before t) t) → Rise t.records (records_after layers (past_of before t) t)
-entry_rises layers safe before t h r = rise_all _ t.records (entry_rise_all layers safe before t h r)
+pub entry_rises : (role : Role) → IsSafeRole role → (before : List Told) (t : Told)
+    → Handles role (past_of before t) t → InRange (records_after role (past_of before t) t) → Rise t.records (records_after role (past_of before t) t)
+entry_rises role safe before t h r = rise_all _ t.records (entry_rise_all role safe before t h r)
 
-pub handled_rise : (layers : Layers) → AreSafe layers → (records : List StoreRecord) (before ts : List Told)
-    → AreHandled layers records before ts → InRange (records_left layers records before ts) → Rise records (records_left layers records before ts)
-handled_rise layers safe records before [] h r = same
-handled_rise layers safe records before (t ∷ ts) h r =
-    let here : InRange (records_after layers (past_of before t) t) = first_in_range layers records before t ts h r in
+pub handled_rise : (role : Role) → IsSafeRole role → (records : List StoreRecord) (before ts : List Told)
+    → AreHandled role records before ts → InRange (records_left role records before ts) → Rise records (records_left role records before ts)
+handled_rise role safe records before [] h r = same
+handled_rise role safe records before (t ∷ ts) h r =
+    let here : InRange (records_after role (past_of before t) t) = first_in_range role records before t ts h r in
     let fills : Rise records t.records = subst (λ l. Rise records l) (sym h.0) (rise_filled t.entry.fills records) in
-    rise_after (handled_rise layers safe (records_after layers (past_of before t) t) (before ++ t ∷ []) ts h.2 r)
-    (rise_after (entry_rises layers safe before t h.1 here) fills)
+    rise_after (handled_rise role safe (records_after role (past_of before t) t) (before ++ t ∷ []) ts h.2 r)
+    (rise_after (entry_rises role safe before t h.1 here) fills)
 
 -- The names accepted in a list of entries are none of the names before, which stay blocked, and they are apart.
 
@@ -121,27 +115,6 @@ pub record Once (ns : List Name) (records : List StoreRecord) : Type 0 where
   pub differ : Differ ns
   pub blocked : AllBlocked ns records
 
--- what an accepted message stores begins with its Replay record
-net_stores : (layers : Layers) (past : Past) (octets : List ℕ) (insight : Insight) (answer : Answer) (n : Name) → accepted answer ≡ Some n
-    → (rest : List StoreRecord) × (stores layers past (E.Net octets) insight answer ≡ R.Replay n None ∷ rest)
-unfolding stores
-net_stores layers past octets insight (A.Delivered name dst key payload) n a =
-    let same : name ≡ n = some_is a in (asked layers past (message_of insight name dst), ap (λ m. R.Replay m None ∷ asked layers past (message_of insight name dst)) same)
-net_stores layers past octets insight (A.Control name dst opcode params) n a =
-    let same : name ≡ n = some_is a in ([], ap (λ m. R.Replay m None ∷ []) same)
-net_stores layers past octets insight _ n a = absurd cc
-
-accepted_stores : (layers : Layers) (past : Past) (event : Event) (insight : Insight) (answer : Answer) (n : Name)
-    → Sees layers past event insight → answer ≡ answer_of layers past event insight → accepted answer ≡ Some n
-    → (rest : List StoreRecord) × (stores layers past event insight answer ≡ R.Replay n None ∷ rest)
-unfolding answer_of
-accepted_stores layers past _ _ answer n (sees_pdu {octets = octets} {reading = reading} {low = low} {opening = opening} reset r l o) e a =
-    net_stores layers past octets (OfPdu reading low opening) answer n a
-accepted_stores layers past _ _ answer n (sees_beacon {b = b} reset k) e a =
-    absurd (nothing_accepted _ n (unless_silent past _ (beacon_silent layers past b)) (ap accepted (sym e) ∙ a))
-accepted_stores layers past _ _ answer n (sees_nothing {event = event} h) e a =
-    absurd (nothing_accepted _ n (nothing_silent layers past event) (ap accepted (sym e) ∙ a))
-
 -- so the name is blocked by what is stored
 blocked_stored : (records stored : List StoreRecord) (n : Name) (rest : List StoreRecord) → stored ≡ R.Replay n None ∷ rest → RiseAll (config_of records) stored
     → IsBlocked n (records ++ stored)
@@ -153,42 +126,43 @@ blocked_stored records stored n rest e r =
     subst (IsBlocked n) (append_assoc records (R.Replay n None ∷ []) rest ∙ ap (λ l. records ++ l) (sym e)) b
 
 -- with an entry more
-once_named : (layers : Layers) (past : Past) (stored : List StoreRecord) (ns : List Name) (o : Option Name)
+once_named : (role : Role) (past : Past) (stored : List StoreRecord) (ns : List Name) (o : Option Name)
     → RiseAll (config_of past.records) stored
     → ((n : Name) → o ≡ Some n → Fresh past n)
     → ((n : Name) → o ≡ Some n → (rest : List StoreRecord) × (stored ≡ R.Replay n None ∷ rest))
     → Once ns past.records → Once (ns ++ cons_option o []) (past.records ++ stored)
-once_named layers past stored ns None rise f g o =
+once_named role past stored ns None rise f g o =
     rw append-nil (record { differ = o.differ; blocked = blocked_all ns (rise_all stored past.records rise) o.blocked })
-once_named layers past stored ns (Some n) rise f g o = record {
+once_named role past stored ns (Some n) rise f g o = record {
   differ = differ_push ns past n o.differ o.blocked (f n refl);
   blocked =
       every_append _ ns (n ∷ []) (blocked_all ns (rise_all stored past.records rise) o.blocked)
       (blocked_stored past.records stored n (g n refl).0 (g n refl).1 rise, tt);
 }
 
-once_entry : (layers : Layers) → AreSafe layers → (before : List Told) (t : Told) (ns : List Name)
-    → Handles layers (past_of before t) t → InRange (records_after layers (past_of before t) t)
-    → Once ns t.records → Once (ns ++ names (t ∷ [])) (records_after layers (past_of before t) t)
-once_entry layers safe before t ns h r o =
-    once_named layers (past_of before t) _ ns (accepted t.entry.answer) (entry_rise_all layers safe before t h r)
-    (λ n a. fresh layers (past_of before t) t.entry.event t.insight n h.sees (ap accepted (sym h.answer) ∙ a))
-    (λ n a. accepted_stores layers (past_of before t) t.entry.event t.insight t.entry.answer n h.sees h.answer a)
+once_entry : (role : Role) → IsSafeRole role → (before : List Told) (t : Told) (ns : List Name)
+    → Handles role (past_of before t) t → InRange (records_after role (past_of before t) t)
+    → Once ns t.records → Once (ns ++ names (t ∷ [])) (records_after role (past_of before t) t)
+once_entry role safe before t ns h r o =
+    once_named role (past_of before t) _ ns (accepted t.entry.answer) (entry_rise_all role safe before t h r)
+    (λ n a. safe.fresh (past_of before t) t.entry.event t.insight n h.sees (ap accepted (sym h.answer) ∙ a))
+    (λ n a. subst (λ b. (rest : List StoreRecord) × (role.stores (past_of before t) t.entry.event t.insight b ≡ R.Replay n None ∷ rest)) (sym h.answer)
+    (safe.replay (past_of before t) t.entry.event t.insight n h.sees (ap accepted (sym h.answer) ∙ a)))
     o
 
 -- over a list of entries
-pub once_handled : (layers : Layers) → AreSafe layers → (records : List StoreRecord) (before ts : List Told) (ns : List Name)
-    → AreHandled layers records before ts → InRange (records_left layers records before ts)
-    → Once ns records → Once (ns ++ names ts) (records_left layers records before ts)
-once_handled layers safe records before [] ns h r o = rw append-nil o
-once_handled layers safe records before (t ∷ ts) ns h r o =
-    let here : InRange (records_after layers (past_of before t) t) = first_in_range layers records before t ts h r in
+pub once_handled : (role : Role) → IsSafeRole role → (records : List StoreRecord) (before ts : List Told) (ns : List Name)
+    → AreHandled role records before ts → InRange (records_left role records before ts)
+    → Once ns records → Once (ns ++ names ts) (records_left role records before ts)
+once_handled role safe records before [] ns h r o = rw append-nil o
+once_handled role safe records before (t ∷ ts) ns h r o =
+    let here : InRange (records_after role (past_of before t) t) = first_in_range role records before t ts h r in
     let filled_once : Once ns t.records =
     record { differ = o.differ; blocked = blocked_all ns (subst (λ l. Rise records l) (sym h.0) (rise_filled t.entry.fills records)) o.blocked } in
-    let one : Once (ns ++ names (t ∷ [])) (records_after layers (past_of before t) t) = once_entry layers safe before t ns h.1 here filled_once in
-    let all : Once ((ns ++ names (t ∷ [])) ++ names ts) (records_left layers records before (t ∷ ts)) =
-    once_handled layers safe (records_after layers (past_of before t) t) (before ++ t ∷ []) ts (ns ++ names (t ∷ [])) h.2 r one in
-    subst (λ k. Once k (records_left layers records before (t ∷ ts))) (more_names ns t ts) all
+    let one : Once (ns ++ names (t ∷ [])) (records_after role (past_of before t) t) = once_entry role safe before t ns h.1 here filled_once in
+    let all : Once ((ns ++ names (t ∷ [])) ++ names ts) (records_left role records before (t ∷ ts)) =
+    once_handled role safe (records_after role (past_of before t) t) (before ++ t ∷ []) ts (ns ++ names (t ∷ [])) h.2 r one in
+    subst (λ k. Once k (records_left role records before (t ∷ ts))) (more_names ns t ts) all
   where
     more_names : (ns : List Name) (t : Told) (ts : List Told) → (ns ++ names (t ∷ [])) ++ names ts ≡ ns ++ names (t ∷ ts)
     more_names ns t ts = append_assoc ns (names (t ∷ [])) (names ts) ∙ ap (λ l. ns ++ l) (one_more (accepted t.entry.answer) (names ts))

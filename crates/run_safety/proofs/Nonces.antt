@@ -20,7 +20,7 @@ use Rattle.report_definitions.specs.Record.{Shown}
 use Rattle.run_definitions.specs.Seals.{message_fields, own_fields, own_upper_fields}
 use Rattle.run_definitions.specs.Uses.{Use, network_use, nonce_source, seals_of}
 use Rattle.run_safety.proofs.Lists.{Apart}
-use Rattle.run_safety.proofs.Sending.{Foreign}
+use Rattle.run_safety.specs.SafeRole.{Foreign}
 use Rattle.run_safety.proofs.Walking.{ForeignJob, ShownFits, Tag, network_tag, tags, tags_of, upper_tag}
 
 -- the octets of a nonce that tell its layer, its SEQ and its IV Index
@@ -125,9 +125,9 @@ line_tagged own event _ _ (shows_long {key = key} {src = src} {dst = dst} {pair 
 line_tagged own event _ _ (shows_sent {key = key} {ttl = ttl} {src = src} {dst = dst} {payload = payload} {pair = pair} short) h =
     own_use (upper_has_tag key pair src dst) (own_use (network_has_tag (message_fields key pair ttl src dst payload)) no_use)
 line_tagged own event _ _ (shows_sent_long {key = key} {src = src} {dst = dst} {pair = pair} long) h = own_use (upper_has_tag key pair src dst) no_use
-line_tagged own event _ _ (shows_first {name = name} {ttl = ttl} {src = src} {dst = dst} {tpdu = tpdu}) h = own_use (network_has_tag (own_fields name.pair false ttl src dst tpdu)) no_use
-line_tagged own event _ _ (shows_seg {ttl = ttl} {src = src} {dst = dst} {tpdu = tpdu} {pair = pair} intime) h = own_use (network_has_tag (own_fields pair false ttl src dst tpdu)) no_use
-line_tagged own event _ _ (shows_late late) h = no_use
+line_tagged own event _ _ (shows_first {s = s} first) h = own_use (network_has_tag (own_fields s.name.pair false s.ttl s.name.src s.dst s.tpdu)) no_use
+line_tagged own event _ _ (shows_seg {s = s} {pair = pair} later intime) h = own_use (network_has_tag (own_fields pair false s.ttl s.name.src s.dst s.tpdu)) no_use
+line_tagged own event _ _ (shows_late later late) h = no_use
 line_tagged own event _ _ (shows_relay {m = m} {f = f}) h = foreign_use (relayed_foreign own m f h) no_use
 line_tagged own event _ _ shows_rep h = no_use
 line_tagged own event _ _ shows_bcn h = no_use

@@ -1,6 +1,5 @@
 -- Records that only rise: none lowers the known IV Index or the mark, and none is an identity.
 use Rattle.std.proofs.Common.{eq-eqb, eqb, ◌≡◌, ℕ, ◌≤◌, Bool, true, false, cond, List, [], ◌∷◌, ◌++◌, refl, ap, ◌∙◌, arith, Option, Some, None}
-use Rattle.std.specs.Bool.{⊤}
 use Rattle.std.specs.List.{fold}
 use Rattle.mesh_base.specs.declared.pair.Name.{Name}
 use Rattle.mesh_base.specs.declared.pair.Pair.{Pair}
@@ -10,13 +9,8 @@ use Rattle.store_definitions.proofs.Pushes.{config_push, kept_push}
 use Rattle.store_definitions.specs.Config.{Config, changed, config_of}
 use Rattle.store_definitions.specs.Entries.{greatest_with, kept_after, kept_of, kept_with, names_in, unexpired}
 use Rattle.mesh_base.specs.Pairs.{is_expired, is_newer}
+use Rattle.run_safety.specs.SafeRole.{Rises}
 use Rattle.mesh_base.proofs.Pairs.{expired_below, expired_later, not_newer_left, not_newer_right, not_newer_itself}
-
--- what a record may not do
-abbrev pub Rises : Config → StoreRecord → Type 0
-Rises c (R.Identity unicast elements dev_key) = ⊥
-Rises c (R.Numbers current progress mark hours since) = (c.iv.current ≤ current) × (c.mark ≤ mark)
-Rises c _ = ⊤
 
 -- the second list is the first with records that rise behind it
 pub data Rise : List StoreRecord → List StoreRecord → Type 0 where

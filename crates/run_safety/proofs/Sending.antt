@@ -1,7 +1,6 @@
 -- The jobs of an entry: a PDU that goes on is none of this node's, and a first segment is the first job of a `begin`
 -- entry alone.
-use Rattle.std.proofs.Common.{add-one, ne_eqb, zero, suc, ◌≡◌, ℕ, ◌-◌, ◌/◌, ◌^◌, ◌<◌, Bool, true, false, cond, not, ◌&&◌, ◌||◌, eqb, ltb, leb, List, [], ◌∷◌, ◌++◌, map, refl, ap, sym, subst, ◌∙◌, arith, Option, Some, None, length}
-use Rattle.std.specs.Bool.{⊤}
+use Rattle.std.proofs.Common.{add-one, ne_eqb, zero, suc, ◌≡◌, ℕ, ◌-◌, ◌/◌, Bool, true, false, cond, not, ◌&&◌, ◌||◌, eqb, ltb, leb, List, [], ◌∷◌, ◌++◌, map, refl, ap, sym, subst, ◌∙◌, arith, Option, Some, None, length}
 use Rattle.std.specs.List.{All, AllByRecursion, flat_map, list_any, range_with_len}
 use Rattle.std.specs.Option.{option_map, option_map_or, option_to_list, unwrap_or}
 use Rattle.std.proofs.lemmas.List.Elements.{recursion_from_All, All-from_recursion, All-contains}
@@ -13,63 +12,31 @@ use Rattle.layer_definitions.specs.Lower.{acknowledgment, last_segment, lower_te
 use Rattle.mesh_base.specs.declared.keys.NetKeyRow.{NetKeyRow}
 use Rattle.mesh_base.specs.declared.keys.UpperKey.{UpperKey}
 use Rattle.mesh_base.specs.declared.lower.Lower.{Lower}
-use Rattle.mesh_base.specs.declared.pair.Name.{Name}
 use Rattle.mesh_base.specs.declared.pair.Pair.{Pair}
 use Rattle.mesh_types.specs.declared.answers.Answer.{Answer}
 use Rattle.mesh_types.specs.declared.answers.Answer.TheVariants as A
 use Rattle.mesh_types.specs.declared.events.Event.{Event}
 use Rattle.mesh_types.specs.declared.events.Event.TheVariants as E
+use Rattle.mesh_types.specs.declared.events.Outgoing.{Outgoing}
 use Rattle.mesh_types.specs.declared.events.SendKey.{SendKey}
 use Rattle.mesh_types.specs.declared.jobs.Job.{Job}
 use Rattle.mesh_types.specs.declared.jobs.Job.TheVariants as J
-use Rattle.record_types.specs.declared.records.StoreRecord.{StoreRecord}
+use Rattle.mesh_types.specs.declared.jobs.Segment.{Segment}
 use Rattle.layer_states.specs.Names.{is_unicast}
-use Rattle.run_definitions.specs.Answers.{answer_of, config_before, is_before_cache, later, network_answer, pdu_answer, transport_answer, unless_reset}
-use Rattle.store_definitions.specs.Config.{Config, config_of, is_element}
-use Rattle.run_definitions.specs.Handling.{AreHandled, Handles, past_of, records_left}
-use Rattle.run_definitions.specs.History.{Insight, OfBeacon, OfNothing, OfPdu, Opening, Past, Reading, Told, now_of}
-use Rattle.run_definitions.specs.Jobs.{ack_asked, ack_job, ack_jobs, beacon_jobs, beacons_due, begin_jobs, block_asked, element_address, first_net, first_round_job, is_moved, is_refreshed, reply_ttl, jobs_of, message_jobs, pdu_jobs, raw_jobs, refresh_jobs, relay_jobs, segment_numbers, send_jobs, send_keys, sent_job, tick_jobs, under}
-use Rattle.run_definitions.specs.Layers.{Layers}
-use Rattle.run_definitions.specs.Readings.{IsReading, Sees, sees_pdu, sees_beacon, sees_nothing}
-use Rattle.run_safety.specs.Safety.{AreSafe, IsFitJob}
-use Rattle.run_definitions.specs.Stores.{message_of, records_after}
-use Rattle.run_definitions.proofs.Accepting.{some_is}
-use Rattle.run_safety.proofs.Handled.{rise_filled}
-use Rattle.run_safety.proofs.Lists.{every_append, every_map}
-use Rattle.run_safety.proofs.Names.{InRange, entry_rises, first_in_range}
-use Rattle.run_safety.proofs.Rising.{Later, Rise, later_after, rise_later}
-
--- a source is none of the node's elements, and is within its width
-abbrev pub Foreign : Config → Address → Type 0
-Foreign own src = (is_element own src.0 ≡ false) × (src.0 < 2 ^ 16)
-
--- a job that is neither a first segment nor a PDU of this node that goes on
-abbrev pub Fine : Config → Job → Type 0
-Fine own (J.Relay material f) = Foreign own f.src
-Fine own (J.Segment material name ttl src dst seg_o seg_n tpdu first) = first ≡ false
-Fine own _ = ⊤
-
--- a job that is the first segment of the message with this pair
-pub data FirstOf (p : Pair) : Job → Type 0 where
-  first_of : {material : NetMaterial} {name : Name} {ttl : ℕ} {src dst : Address} {seg_o seg_n : ℕ} {tpdu : List ℕ}
-      → name.pair ≡ p
-      → FirstOf p (J.Segment material name ttl src dst seg_o seg_n tpdu true)
-
-abbrev pub BeginFits : Config → Pair → List Job → Type 0
-BeginFits own p [] = ⊤
-BeginFits own p (job ∷ jobs) = FirstOf p job × AllByRecursion (Fine own) jobs
-
-abbrev pub JobsFit : Config → Event → List Job → Type 0
-JobsFit own (E.Begin pair dst src ttl net akf aid upper) jobs = BeginFits own pair jobs
-JobsFit own _ jobs = AllByRecursion (Fine own) jobs
+use Rattle.event_definitions.specs.Answers.{answer_of, config_before, is_before_cache, later, network_answer, pdu_answer, transport_answer, unless_reset}
+use Rattle.store_definitions.specs.Config.{Config, is_element}
+use Rattle.event_definitions.specs.History.{Insight, OfBeacon, OfNothing, OfPdu, Opening, Past, Reading, now_of}
+use Rattle.event_definitions.specs.Jobs.{ack_asked, ack_job, ack_jobs, beacon_jobs, beacons_due, begin_jobs, block_asked, element_address, first_net, first_round_job, is_moved, is_refreshed, reply_ttl, jobs_of, message_jobs, pdu_jobs, raw_jobs, refresh_jobs, relay_jobs, segment_numbers, send_jobs, send_keys, sent_job, tick_jobs, under}
+use Rattle.event_definitions.specs.Layers.{Layers}
+use Rattle.event_definitions.specs.Readings.{IsReading, Sees, sees_pdu, sees_beacon, sees_nothing}
+use Rattle.run_safety.specs.SafeRole.{BeginFits, Fine, first_of, Foreign, HeardFits, JobsFit}
+use Rattle.event_definitions.specs.Safe.{AreSafe, IsFitJob}
+use Rattle.event_definitions.specs.Stores.{message_of}
+use Rattle.event_definitions.proofs.Accepting.{some_is}
+use Rattle.event_definitions.proofs.Each.{every_map}
+use Rattle.run_safety.proofs.Rising.{Later}
 
 -- What was heard.
-
--- what got into the message cache is of a foreign source
-abbrev pub HeardFits : Config → Told → Type 0
-HeardFits own t =
-    (r : Reading) (low : Option Lower) (opening : Option Opening)
-    → t.insight ≡ OfPdu (Some r) low opening → is_before_cache t.entry.answer ≡ false → Foreign own r.fields.src
 
 element_refused : (past : Past) (r : Reading) (x : Answer) → is_element (config_before past) r.fields.src.0 ≡ true
     → is_before_cache (unwrap_or (network_answer past r) x) ≡ true
@@ -97,7 +64,7 @@ passed_foreign layers past octets r low opening h e = (
   h.1.reads.in_widths.src,
 )
 
-foreign_in : (own c : Config) (src : Address) → Later own c → Foreign c src → Foreign own src
+pub foreign_in : (own c : Config) (src : Address) → Later own c → Foreign c src → Foreign own src
 foreign_in own c src h k = (rw (← h.unicast, ← h.elements) k.0, k.1)
 
 -- one that is handled, after its answer
@@ -115,7 +82,7 @@ reading_of : Insight → Option Reading
 reading_of (OfPdu reading low opening) = reading
 reading_of _ = None
 
-heard_of : (layers : Layers) (own : Config) (past : Past) (event : Event) (insight : Insight) (answer : Answer)
+pub heard_of : (layers : Layers) (own : Config) (past : Past) (event : Event) (insight : Insight) (answer : Answer)
     → Later own (config_before past) → Sees layers past event insight → answer ≡ answer_of layers past event insight
     → (r : Reading) (low : Option Lower) (opening : Option Opening) → insight ≡ OfPdu (Some r) low opening → is_before_cache answer ≡ false → Foreign own r.fields.src
 unfolding answer_of reading_of
@@ -123,11 +90,6 @@ heard_of layers own past _ _ answer k (sees_pdu {octets = octets} {reading = rea
     pdu_heard layers own past octets reading l o answer k h e r (ap reading_of is) passed
 heard_of layers own past _ _ answer k (sees_beacon reset h) e r low opening is passed = absurd cc
 heard_of layers own past _ _ answer k (sees_nothing h) e r low opening is passed = absurd cc
-
-pub heard_fits : (layers : Layers) (own : Config) (before : List Told) (t : Told)
-    → Later own (config_of t.records) → Handles layers (past_of before t) t → HeardFits own t
-heard_fits layers own before t k h r low opening is passed =
-    heard_of layers own (past_of before t) t.entry.event t.insight t.entry.answer k h.sees h.answer r low opening is passed
 
 -- The jobs of each kind of event.
 
@@ -174,7 +136,7 @@ fit_fine : (own : Config) (past : Past) (job : Job) → AllByRecursion (HeardFit
 fit_fine own past (J.Relay material f) h k =
     let heard : HeardFits own k.told = All-contains (HeardFits own) past.told k.told (All-from_recursion (HeardFits own) past.told h) k.is_told in
     rw (ap (λ (g : NetFields). g.src) k.fields) (heard k.reading k.low k.opening k.read k.passed)
-fit_fine own past (J.Segment material name ttl src dst seg_o seg_n tpdu first) h k = k
+fit_fine own past (J.Segment s) h k = k
 fit_fine own past (J.Control material ttl src dst tpdu keep) h k = tt
 fit_fine own past (J.Message net material key ttl src dst payload keep) h k = tt
 fit_fine own past (J.Sent net material key ttl src dst) h k = tt
@@ -264,40 +226,35 @@ fine_raw own c dst ttl tpdu =
 
 -- The segments of a message that begins.
 
-abbrev round_jobs : Config → Pair → Address → Address → ℕ → ℕ → Bool → ℕ → List ℕ → ℕ → List Job
-round_jobs c pair dst src ttl net akf aid upper seg_o = under c net (first_round_job pair dst src ttl akf aid upper seg_o)
+abbrev round_jobs : Config → Outgoing → ℕ → List Job
+round_jobs c m seg_o = under c m.net (first_round_job m seg_o)
 
 not_zero : (k : ℕ) → eqb (suc k) 0 ≡ false
 not_zero k = ne_eqb (suc k) 0 (λ e. absurd (omega (arith, e)))
 
-later_segments : (own c : Config) (pair : Pair) (dst src : Address) (ttl net : ℕ) (akf : Bool) (aid : ℕ) (upper : List ℕ) (k n : ℕ)
-    → AllFine own (flat_map (round_jobs c pair dst src ttl net akf aid upper) (range_with_len (suc k) n))
-later_segments own c pair dst src ttl net akf aid upper k zero = no_job
-later_segments own c pair dst src ttl net akf aid upper k (suc n) =
-    rw add-one
-    (fine_append own _ _ (fine_under own c net (first_round_job pair dst src ttl akf aid upper (suc k)) (λ m. not_zero k))
-    (later_segments own c pair dst src ttl net akf aid upper (suc k) n))
+later_segments : (own c : Config) (m : Outgoing) (k n : ℕ) → AllFine own (flat_map (round_jobs c m) (range_with_len (suc k) n))
+later_segments own c m k zero = no_job
+later_segments own c m k (suc n) =
+    rw add-one (fine_append own _ _ (fine_under own c m.net (first_round_job m (suc k)) (λ material. not_zero k)) (later_segments own c m (suc k) n))
 
-begin_made : (own c : Config) (pair : Pair) (dst src : Address) (ttl : ℕ) (akf : Bool) (aid : ℕ) (upper : List ℕ) (o : Option NetMaterial) (rest : List Job)
-    → AllFine own rest → (o ≡ None → rest ≡ []) → BeginFits own pair (option_to_list (option_map (first_round_job pair dst src ttl akf aid upper 0) o) ++ rest)
-begin_made own c pair dst src ttl akf aid upper None rest h k = subst (BeginFits own pair) (sym (k refl)) tt
-begin_made own c pair dst src ttl akf aid upper (Some m) rest h k = (first_of refl, every_fine own rest h)
+begin_made : (own : Config) (m : Outgoing) (o : Option NetMaterial) (rest : List Job)
+    → AllFine own rest → (o ≡ None → rest ≡ []) → BeginFits own m.name.pair (option_to_list (option_map (first_round_job m 0) o) ++ rest)
+begin_made own m None rest h k = subst (BeginFits own m.name.pair) (sym (k refl)) tt
+begin_made own m (Some material) rest h k = (first_of refl refl, every_fine own rest h)
 
 none_under : (c : Config) (net : ℕ) (job : ℕ → NetMaterial → Job) (ks : List ℕ) → transmit_material c.nets net ≡ None → flat_map (λ k. under c net (job k)) ks ≡ []
 none_under c net job [] e = refl
 none_under c net job (k ∷ ks) e = rw e (none_under c net job ks e)
 
-begin_fits : (own c : Config) (pair : Pair) (dst src : Address) (ttl net : ℕ) (akf : Bool) (aid : ℕ) (upper : List ℕ)
-    → BeginFits own pair (begin_jobs c pair dst src ttl net akf aid upper)
-begin_fits own c pair dst src ttl net akf aid upper =
+begin_fits : (own c : Config) (m : Outgoing) → BeginFits own m.name.pair (begin_jobs c m)
+begin_fits own c m =
     rw add-one
-    (begin_made own c pair dst src ttl akf aid upper (transmit_material c.nets net) _
-    (later_segments own c pair dst src ttl net akf aid upper 0 (last_segment upper))
-    (none_under c net (first_round_job pair dst src ttl akf aid upper) (range_with_len 1 (last_segment upper))))
+    (begin_made own m (transmit_material c.nets m.net) _ (later_segments own c m 0 (last_segment m.upper))
+    (none_under c m.net (first_round_job m) (range_with_len 1 (last_segment m.upper))))
 
 -- The jobs of each entry.
 
-jobs_fit : (layers : Layers) → AreSafe layers → (own c : Config) (past : Past) (event : Event) (insight : Insight) (answer : Answer)
+pub jobs_fit : (layers : Layers) → AreSafe layers → (own c : Config) (past : Past) (event : Event) (insight : Insight) (answer : Answer)
     → AllByRecursion (HeardFits own) past.told
     → ((r : Reading) (low : Option Lower) (opening : Option Opening) → insight ≡ OfPdu (Some r) low opening → is_before_cache answer ≡ false → Foreign own r.fields.src)
     → JobsFit own event (jobs_of layers past c event insight answer)
@@ -310,23 +267,6 @@ jobs_fit layers safe own c past (E.Raw dst ttl tpdu) insight A.Planned h k = eve
 jobs_fit layers safe own c past (E.Raw dst ttl tpdu) insight _ h k = tt
 jobs_fit layers safe own c past (E.Tick ticks) insight (A.Ticked now) h k = every_fine own _ (fine_tick layers safe own c past ticks h)
 jobs_fit layers safe own c past (E.Tick ticks) insight _ h k = tt
-jobs_fit layers safe own c past (E.Begin pair dst src ttl net akf aid upper) insight A.Begun h k = begin_fits own c pair dst src ttl net akf aid upper
-jobs_fit layers safe own c past (E.Begin pair dst src ttl net akf aid upper) insight _ h k = tt
+jobs_fit layers safe own c past (E.Begin m) insight A.Begun h k = begin_fits own c m
+jobs_fit layers safe own c past (E.Begin m) insight _ h k = tt
 jobs_fit layers safe own c past (E.Kept lpn fsn name octets) insight answer h k = tt
-
-pub entries_fit : (layers : Layers) → AreSafe layers → (own : Config) (records : List StoreRecord) (before ts : List Told)
-    → AreHandled layers records before ts → InRange (records_left layers records before ts) → Later own (config_of records)
-    → AllByRecursion (HeardFits own) before → AllByRecursion (λ t. JobsFit own t.entry.event t.entry.jobs) ts
-entries_fit layers safe own records before [] h r k heard = tt
-entries_fit layers safe own records before (t ∷ ts) h r k heard =
-    let here : InRange (records_after layers (past_of before t) t) = first_in_range layers records before t ts h r in
-    let filled : Later own (config_of t.records) =
-    later_after own (config_of records) (config_of t.records) k (rise_later (subst (λ l. Rise records l) (sym h.0) (rise_filled t.entry.fills records))) in
-    let after : Later own (config_of (records_after layers (past_of before t) t)) =
-    later_after own (config_of t.records) _ filled (rise_later (entry_rises layers safe before t h.1 here)) in
-    let this : HeardFits own t = heard_fits layers own before t filled h.1 in
-    let fits : JobsFit own t.entry.event (jobs_of layers (past_of before t) (config_of (records_after layers (past_of before t) t)) t.entry.event t.insight t.entry.answer) =
-    jobs_fit layers safe own _ (past_of before t) t.entry.event t.insight t.entry.answer heard this in (
-      subst (JobsFit own t.entry.event) (sym h.1.jobs) fits,
-      entries_fit layers safe own (records_after layers (past_of before t) t) (before ++ t ∷ []) ts h.2 r after (every_append (HeardFits own) before (t ∷ []) heard (this, tt)),
-    )

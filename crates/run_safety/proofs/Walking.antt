@@ -19,9 +19,10 @@ use Rattle.run_definitions.specs.Lines.{Shows, shows_bcn, shows_ctl, shows_first
 use Rattle.run_definitions.specs.Order.{Placed, Task, Walks, follow, follows, handle, handles, is_outside, job_tasks, stops, write, write_tasks, writes}
 use Rattle.report_definitions.specs.Record.{Shown, shown_of}
 use Rattle.run_definitions.specs.RunOf.{draws}
-use Rattle.run_definitions.proofs.Accepting.{some_is}
-use Rattle.run_safety.proofs.Lists.{Sub, kept_part, passed_part, every_append, sub_nothing}
-use Rattle.run_safety.proofs.Sending.{BeginFits, Fine, FirstOf, first_of, Foreign, JobsFit}
+use Rattle.event_definitions.proofs.Accepting.{some_is}
+use Rattle.run_safety.proofs.Lists.{Sub, kept_part, passed_part, sub_nothing}
+use Rattle.event_definitions.proofs.Each.{every_append}
+use Rattle.run_safety.specs.SafeRole.{BeginFits, Fine, FirstOf, first_of, Foreign, JobsFit}
 
 -- Tags: a pair, and whether the upper transport layer seals with it, or the network layer.
 
@@ -87,7 +88,7 @@ doubled_cons (Some p) ps = refl
 -- What is known of a task.
 
 abbrev pub begin_pair : Event → Option Pair
-begin_pair (E.Begin pair dst src ttl net akf aid upper) = Some pair
+begin_pair (E.Begin m) = Some m.name.pair
 begin_pair _ = None
 
 pub record Found (entries : List Entry) (i j : ℕ) (event : Event) (job : Job) : Type 0 where
@@ -126,7 +127,7 @@ spent_after (J.Relay material f) iv = refl
 spent_after (J.Control material ttl src dst tpdu keep) iv = refl
 spent_after (J.Message net material key ttl src dst payload keep) iv = refl
 spent_after (J.Sent net material key ttl src dst) iv = refl
-spent_after (J.Segment material name ttl src dst seg_o seg_n tpdu first) iv = refl
+spent_after (J.Segment s) iv = refl
 spent_after (J.Repeat name octets) iv = refl
 spent_after (J.Beacon octets) iv = refl
 
@@ -140,9 +141,9 @@ step own entries event _ _ ts (shows_long {pair = pair} long) fine h =
     record { next = Some pair; ready = begins refl h; sub = λ m d s. kept_part s }
 step own entries event _ _ ts (shows_sent short) fine h = record { next = None; ready = plain h; sub = λ m d s. kept_part (kept_part s) }
 step own entries event _ _ ts (shows_sent_long {pair = pair} long) fine h = record { next = Some pair; ready = begins refl h; sub = λ m d s. kept_part s }
-step own entries event _ _ ts shows_first fine h = absurd cc
-step own entries event _ _ ts (shows_seg intime) fine h = record { next = None; ready = plain h; sub = λ m d s. passed_part (kept_part s) }
-step own entries event _ _ ts (shows_late late) fine h = record { next = None; ready = plain h; sub = λ m d s. passed_part (passed_part s) }
+step own entries event _ _ ts (shows_first first) fine h = absurd cc
+step own entries event _ _ ts (shows_seg later intime) fine h = record { next = None; ready = plain h; sub = λ m d s. rw later (passed_part (kept_part s)) }
+step own entries event _ _ ts (shows_late later late) fine h = record { next = None; ready = plain h; sub = λ m d s. passed_part (passed_part s) }
 step own entries event _ _ ts shows_relay fine h = record { next = None; ready = plain h; sub = λ m d s. s }
 step own entries event _ _ ts shows_rep fine h = record { next = None; ready = plain h; sub = λ m d s. s }
 step own entries event _ _ ts shows_bcn fine h = record { next = None; ready = plain h; sub = λ m d s. s }
@@ -174,7 +175,7 @@ pub record EntryFits (own : Config) (entries : List Entry) (p : Placed) : Type 0
   pub fits : JobsFit own p.entry.event p.entry.jobs
 
 fits_plain : (own : Config) (event : Event) (jobs : List Job) → begin_pair event ≡ None → JobsFit own event jobs → AllByRecursion (Fine own) jobs
-fits_plain own (E.Begin pair dst src ttl net akf aid upper) jobs e h = absurd cc
+fits_plain own (E.Begin m) jobs e h = absurd cc
 fits_plain own (E.Net octets) jobs e h = h
 fits_plain own (E.Bcn octets) jobs e h = h
 fits_plain own (E.Send element dst ttl key payload) jobs e h = h
@@ -183,7 +184,7 @@ fits_plain own (E.Tick ticks) jobs e h = h
 fits_plain own (E.Kept lpn fsn name octets) jobs e h = h
 
 fits_begin : (own : Config) (event : Event) (p : Pair) (jobs : List Job) → begin_pair event ≡ Some p → JobsFit own event jobs → BeginFits own p jobs
-fits_begin own (E.Begin pair dst src ttl net akf aid upper) p jobs e h = subst (λ q. BeginFits own q jobs) (some_is e) h
+fits_begin own (E.Begin m) p jobs e h = subst (λ q. BeginFits own q jobs) (some_is e) h
 fits_begin own (E.Net octets) p jobs e h = absurd cc
 fits_begin own (E.Bcn octets) p jobs e h = absurd cc
 fits_begin own (E.Send element dst ttl key payload) p jobs e h = absurd cc
@@ -192,7 +193,7 @@ fits_begin own (E.Tick ticks) p jobs e h = absurd cc
 fits_begin own (E.Kept lpn fsn name octets) p jobs e h = absurd cc
 
 outside_plain : (event : Event) → IsTrue (is_outside event) → begin_pair event ≡ None
-outside_plain (E.Begin pair dst src ttl net akf aid upper) h = absurd cc
+outside_plain (E.Begin m) h = absurd cc
 outside_plain (E.Net octets) h = refl
 outside_plain (E.Bcn octets) h = refl
 outside_plain (E.Send element dst ttl key payload) h = refl
@@ -224,7 +225,7 @@ fine_foreign own (J.Relay material f) h = h
 fine_foreign own (J.Control material ttl src dst tpdu keep) h = tt
 fine_foreign own (J.Message net material key ttl src dst payload keep) h = tt
 fine_foreign own (J.Sent net material key ttl src dst) h = tt
-fine_foreign own (J.Segment material name ttl src dst seg_o seg_n tpdu first) h = tt
+fine_foreign own (J.Segment s) h = tt
 fine_foreign own (J.Repeat name octets) h = tt
 fine_foreign own (J.Beacon octets) h = tt
 
@@ -240,12 +241,14 @@ line_more own entries job outcome ts e lines s shows foreign h = record {
 first_line : (own : Config) (event : Event) (p : Pair) (e : Entry) (job : Job) (outcome : Outcome) (lines : List Shown)
     → FirstOf p job → Shows event job outcome → Shows e.event job outcome → LinesFit own None lines
     → LinesFit own (Some p) (record { entry = e; job = job; outcome = outcome } ∷ lines)
-first_line own event p e _ _ lines (first_of is) (shows_first {name = name}) shows h =
-    record { sub = subst (λ q. Sub Tag (network_tag name.pair ∷ tags lines) (network_tag q ∷ doubled (draws lines))) is (kept_part h.sub); shown = ((shows, tt), h.shown) }
-first_line own event p e _ _ lines (first_of is) (shows_spent draws) shows h = absurd cc
+first_line own event p e _ _ lines (first_of first is) (shows_first {s = s} _) shows h =
+    record { sub = rw first (subst (λ q. Sub Tag (network_tag s.name.pair ∷ tags lines) (network_tag q ∷ doubled (draws lines))) is (kept_part h.sub)); shown = ((shows, tt), h.shown) }
+first_line own event p e _ _ lines (first_of first is) (shows_seg later intime) shows h = absurd cc
+first_line own event p e _ _ lines (first_of first is) (shows_late later late) shows h = absurd cc
+first_line own event p e _ _ lines (first_of first is) (shows_spent draws) shows h = absurd cc
 
 first_after : (p : Pair) (job : Job) (outcome : Outcome) → FirstOf p job → after_line job outcome ≡ []
-first_after p _ outcome (first_of is) = refl
+first_after p _ outcome (first_of first is) = refl
 
 weaker : (own : Config) (o : Option Pair) (lines : List Shown) → LinesFit own None lines → LinesFit own o lines
 weaker own None lines h = h

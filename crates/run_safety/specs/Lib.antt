@@ -1,4 +1,3 @@
+pub mod SafeRole
 pub mod Safety
-pub mod WrittenRun
 pub mod Rules
-pub mod Needed

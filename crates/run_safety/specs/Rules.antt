@@ -6,12 +6,12 @@ use Rattle.record_types.specs.declared.records.StoreRecord.{StoreRecord}
 use Rattle.record_types.specs.declared.records.StoreRecord.TheVariants as R
 use Rattle.mesh_types.specs.declared.report.End.{End}
 use Rattle.mesh_types.specs.declared.report.Opened.{Opened}
-use Rattle.run_definitions.specs.Answers.{answer_of}
 use Rattle.store_definitions.specs.Config.{Config, config_of}
 use Rattle.store_definitions.specs.Entries.{entry_of}
-use Rattle.run_definitions.specs.Handling.{AreHandled}
-use Rattle.run_definitions.specs.History.{Insight, Past, Told}
-use Rattle.run_definitions.specs.Layers.{Layers}
+use Rattle.event_definitions.specs.Handling.{AreHandled}
+use Rattle.event_definitions.specs.History.{Insight, Past, Told}
+use Rattle.event_definitions.specs.Layers.{Layers}
+use Rattle.event_definitions.specs.Role.{Role, node_role}
 use Rattle.run_definitions.specs.Order.{IsOrdered, Step}
 use Rattle.mesh_base.specs.Pairs.{word_of}
 use Rattle.store_definitions.specs.Ranges.{IsInRange}
@@ -19,10 +19,9 @@ use Rattle.report_definitions.specs.Record.{Life, LifeOver, Run, first_over, lis
 use Rattle.run_definitions.specs.RunOf.{IsDrawn, IsIdle, IsNumbered, IsSpentRight, Opens, Outlasts, RunOf, Script, draws, is_on, past_at_end}
 use Rattle.store_definitions.specs.Provisioning.{Provisioning, provisioned}
 use Rattle.store_definitions.specs.Alike.{IsAlike}
-use Rattle.run_definitions.specs.Stores.{stores}
 use Rattle.store_definitions.specs.Numbers.{fill_of}
 use Rattle.run_definitions.specs.Uses.{AtMostOnce, NoReuse, delivered, uses}
-use Rattle.run_safety.specs.Safety.{AreSafe}
+use Rattle.event_definitions.specs.Safe.{AreSafe}
 
 -- The rules: what a run begins with, how a life opens, that a life that isn't run does nothing, that its entries are
 -- told, how they are handled and numbered, in which order bearers work, what outlasts a cut, which records there are,
@@ -32,10 +31,10 @@ pub record Rules : Type 1 where
   pub does_open : Config → Opened → End → Type 0
   pub is_idle : Life → Type 0
   pub are_told : List Told → Life → Type 0
-  pub are_handled : Layers → List StoreRecord → List Told → List Told → Type 0
+  pub are_handled : Role → List StoreRecord → List Told → List Told → Type 0
   pub is_numbered : Life → ℕ → Type 0
   pub is_ordered : List Step → Life → Type 0
-  pub does_outlast : Layers → List Step → Life → Past → List StoreRecord → Type 0
+  pub does_outlast : Role → List Step → Life → Past → List StoreRecord → Type 0
   pub is_in_range : StoreRecord → Type 0
   pub is_alike : List StoreRecord → List StoreRecord → Type 0
   pub is_drawn : List StoreRecord → List StoreRecord → Life → Type 0
@@ -55,7 +54,7 @@ all_rules = record {
   are_handled = AreHandled;
   is_numbered = IsNumbered;
   is_ordered = IsOrdered;
-  does_outlast = λ layers plan l past more. Outlasts layers plan l past more;
+  does_outlast = λ role plan l past more. Outlasts role plan l past more;
   is_in_range = IsInRange;
   is_alike = IsAlike;
   is_drawn = IsDrawn;
@@ -64,39 +63,35 @@ all_rules = record {
 
 -- A run by these rules.
 
-pub record LeavesBy (rules : Rules) (layers : Layers) (plan : List Step) (l : Life) (past : Past)
+pub record LeavesBy (rules : Rules) (role : Role) (plan : List Step) (l : Life) (past : Past)
     (next : List StoreRecord) : Type 0 where
   pub more : List StoreRecord
-  pub outlasts : rules.does_outlast layers plan l past more
+  pub outlasts : rules.does_outlast role plan l past more
   pub ranges : All rules.is_in_range (past.records ++ more)
   pub alike : rules.is_alike next (past.records ++ more)
 
-pub record LifeBy (rules : Rules) (layers : Layers) (plan : List Step) (over : List StoreRecord) (l : Life)
+pub record LifeBy (rules : Rules) (role : Role) (plan : List Step) (over : List StoreRecord) (l : Life)
     (next : List StoreRecord) : Type 0 where
   pub opening : rules.does_open (config_of over) l.opened l.end
   pub idle : is_on l.opened ≡ false → rules.is_idle l
   pub told : List Told
   pub entries : rules.are_told told l
-  pub handled : rules.are_handled layers over [] told
+  pub handled : rules.are_handled role over [] told
   pub numbers : (k : ℕ) → rules.is_numbered l k
   pub order : is_on l.opened ≡ true → rules.is_ordered plan l
-  pub leaves : LeavesBy rules layers plan l (past_at_end layers over l told) next
+  pub leaves : LeavesBy rules role plan l (past_at_end role over l told) next
   pub drawn : rules.is_drawn over next l
   pub spent : rules.is_spent next l
 
-abbrev pub LivesBy : Rules → Layers → List (List Step) → List LifeOver → List StoreRecord → Type 0
-LivesBy rules layers [] [] last = ⊤
-LivesBy rules layers (plan ∷ plans) (x ∷ xs) last =
-    LifeBy rules layers plan x.over x.life (first_over xs last) × LivesBy rules layers plans xs last
-LivesBy rules layers _ _ last = ⊥
+abbrev pub LivesBy : Rules → Role → List (List Step) → List LifeOver → List StoreRecord → Type 0
+LivesBy rules role [] [] last = ⊤
+LivesBy rules role (plan ∷ plans) (x ∷ xs) last =
+    LifeBy rules role plan x.over x.life (first_over xs last) × LivesBy rules role plans xs last
+LivesBy rules role _ _ last = ⊥
 
-pub record RunBy (rules : Rules) (layers : Layers) (s : Script) (r : Run) : Type 0 where
+pub record RunBy (rules : Rules) (role : Role) (s : Script) (r : Run) : Type 0 where
   pub first : rules.does_begin s.node (first_over r.lives r.last)
-  pub lives : LivesBy rules layers s.lives r.lives r.last
-
--- By all rules it is a run.
-abbrev pub IsRunByAll : Type 0
-IsRunByAll = (layers : Layers) (s : Script) (r : Run) → RunBy all_rules layers s r → RunOf layers s r
+  pub lives : LivesBy rules role s.lives r.lives r.last
 
 -- The rules that are enough.
 
@@ -105,11 +100,11 @@ abbrev pub WritesNothing : Life → Type 0
 WritesNothing l = (k : ℕ) → list_at l.sends k ≡ []
 
 -- what outlasts a cut is a front of what some event stores by its answer, or a refill
-pub data MayOutlast (layers : Layers) (past : Past) : List StoreRecord → Type 0 where
-  nothing_more : MayOutlast layers past []
+pub data MayOutlast (role : Role) (past : Past) : List StoreRecord → Type 0 where
+  nothing_more : MayOutlast role past []
   some_stored : (n : ℕ) (event : Event) (insight : Insight)
-      → MayOutlast layers past (take n (stores layers past event insight (answer_of layers past event insight)))
-  one_filled : MayOutlast layers past (fill_of (config_of past.records) ∷ [])
+      → MayOutlast role past (take n (role.stores past event insight (role.answer past event insight)))
+  one_filled : MayOutlast role past (fill_of (config_of past.records) ∷ [])
 
 -- of all ranges: the known IV Index has 32 bits, and the mark is at most the end of its transmit IV Index
 abbrev pub HasFitNumbers : StoreRecord → Type 0
@@ -143,23 +138,25 @@ enough_rules = record all_rules {
   does_open = λ c opened end. ⊤;
   is_idle = WritesNothing;
   is_numbered = λ l k. ⊤;
-  does_outlast = λ layers plan l past more. MayOutlast layers past more;
+  does_outlast = λ role plan l past more. MayOutlast role past more;
   is_in_range = HasFitNumbers;
   is_alike = KeepsNode;
   is_drawn = DrawsInAnyOrder;
   is_spent = λ next l. ⊤;
 }
 
--- each run is one by these
+-- each run of a node is one by these
 abbrev pub IsRunByEnough : Type 0
-IsRunByEnough = (layers : Layers) (s : Script) (r : Run) → RunOf layers s r → RunBy enough_rules layers s r
+IsRunByEnough =
+    (layers : Layers) (s : Script) (r : Run) → RunOf (node_role layers) s r → RunBy enough_rules (node_role layers) s r
 
 -- and each run by these is safe
 abbrev pub ReusesNoNonceByEnough : Type 0
 ReusesNoNonceByEnough =
-    (layers : Layers) → AreSafe layers → (s : Script) (r : Run) → RunBy enough_rules layers s r → NoReuse (uses r)
+    (layers : Layers) → AreSafe layers → (s : Script) (r : Run) → RunBy enough_rules (node_role layers) s r
+    → NoReuse (uses r)
 
 abbrev pub DeliversOnceByEnough : Type 0
 DeliversOnceByEnough =
-    (layers : Layers) → AreSafe layers → (s : Script) (r : Run) → RunBy enough_rules layers s r
+    (layers : Layers) → AreSafe layers → (s : Script) (r : Run) → RunBy enough_rules (node_role layers) s r
     → AtMostOnce (delivered r)

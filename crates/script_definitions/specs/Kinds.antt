@@ -2,6 +2,7 @@
 use Rattle.std.specs.Prelude.{ℕ, ◌+◌, ◌-◌, ◌==◌, ◌&&◌, nat_le, nat_lt, if◌then◌else◌, Bool, true, false, List, length, slice_index, codes, Option, Some, None, Result, Ok, Err}
 use Rattle.std.specs.Option.{option_map}
 use Rattle.std.specs.Str.{bytes_eq}
+use Rattle.node_limits.specs.declared.TheConstants.{BEARERS}
 use Rattle.script_definitions.specs.Words.{word_at}
 use Rattle.script_definitions.specs.Lines.{provision_line, arm_line, heard_line, peer_line, talk_line, beacon_line, send_line, raw_line, tick_line, list_line}
 use Rattle.script_definitions.specs.declared.kind.Grammar.{Grammar}
@@ -17,7 +18,7 @@ use Rattle.script_definitions.specs.declared.line.ScriptLine.TheVariants as L
 
 -- how many bearers a grammar has
 abbrev pub bearer_count : Grammar → ℕ
-bearer_count G.Node = 8
+bearer_count G.Node = BEARERS
 bearer_count G.LowPower = 1
 
 -- K of a word `bK`: one digit, below the number of bearers

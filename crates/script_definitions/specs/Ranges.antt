@@ -1,6 +1,7 @@
 -- What holds of every line of a script, besides the widths of its types.
 use Rattle.std.specs.Prelude.{◌≡◌, ℕ, ◌^◌, ◌≤◌, ◌<◌, List, length, count_by, IsTrue}
 use Rattle.std.specs.List.{All}
+use Rattle.node_limits.specs.declared.TheConstants.{LIVES, BEARER_LINES}
 use Rattle.layer_definitions.specs.Network.{HasPdu}
 use Rattle.mesh_types.specs.declared.events.SendKey.{SendKey}
 use Rattle.mesh_types.specs.declared.events.SendKey.TheVariants as S
@@ -111,11 +112,11 @@ IsCounted g elements (C.Line line) = IsLine g elements line
 -- a life: at most 4,096 lines of bearers, and at most one `arm`
 pub record IsLife (g : Grammar) (elements : ℕ) (life : List ScriptLine) : Type 0 where
   pub lines : All (IsLine g elements) life
-  pub events : count_by is_bearer_line life ≤ 4096
+  pub events : count_by is_bearer_line life ≤ BEARER_LINES
   pub arms : count_by is_arm life ≤ 1
 
 -- a script of a grammar: the node's data, and at most 64 lives
 pub record IsScriptOf (g : Grammar) (s : Script) : Type 0 where
   pub provision : IsProvision s.provision
   pub lives : All (IsLife g s.provision.elements) s.lives
-  pub count : length s.lives ≤ 64
+  pub count : length s.lives ≤ LIVES

@@ -13,6 +13,7 @@
 use Rattle.std.specs.Prelude.{ℕ, ◌+◌, ◌==◌, ◌&&◌, ◌||◌, not, nat_le, if◌then◌else◌, Bool, true, false, List, [], ◌∷◌, ◌++◌, length, count_by, codes, Option, Some, None, Result, Ok, Err}
 use Rattle.std.specs.List.{list_all, list_any}
 use Rattle.std.specs.Str.{bytes_eq}
+use Rattle.node_limits.specs.declared.TheConstants.{LIVES, BEARER_LINES, LINE_OCTETS}
 use Rattle.script_definitions.specs.Words.{begins_with, lines_of, words_of, word_at}
 use Rattle.script_definitions.specs.Lives.{last_life, in_last_life}
 use Rattle.script_definitions.specs.Kinds.{line_kind, word_count, fields_of}
@@ -32,7 +33,7 @@ abbrev pub ◌>>>◌ : {A B : Type 0} → Result A ℕ → (A → Result B ℕ) 
 
 -- rule 1
 unfoldable pub has_form : List ℕ → Bool
-has_form line = nat_le (length line) 1200 && list_all (λ b. nat_le 32 b && nat_le b 126) line
+has_form line = nat_le (length line) LINE_OCTETS && list_all (λ b. nat_le 32 b && nat_le b 126) line
 
 -- neither an empty line nor a comment
 unfoldable pub is_counted : List ℕ → Bool
@@ -64,13 +65,13 @@ is_bearer_line _ = true
 -- rules 6 and 7 for a life
 unfoldable pub with_life : Script → Result Script ℕ
 with_life s =
-    if length s.lives == 64 then Err 7 else Ok (record { provision = s.provision; lives = s.lives ++ [] ∷ [] })
+    if length s.lives == LIVES then Err 7 else Ok (record { provision = s.provision; lives = s.lives ++ [] ∷ [] })
 
 -- rules 6 and 7 for a line of a life
 unfoldable pub with_line : Script → ScriptLine → Result Script ℕ
 with_line s line =
     if (length s.lives == 0) || (is_arm line && list_any is_arm (last_life s.lives)) then Err 6
-    else if is_bearer_line line && nat_le 4096 (count_by is_bearer_line (last_life s.lives)) then Err 7
+    else if is_bearer_line line && nat_le BEARER_LINES (count_by is_bearer_line (last_life s.lives)) then Err 7
     else Ok (record { provision = s.provision; lives = in_last_life s.lives line })
 
 -- a counted line behind a script

@@ -11,6 +11,7 @@ use Rattle.layer_states.specs.declared.reassembly.Assembly.{Assembly}
 use Rattle.layer_states.specs.declared.reassembly.PartHeard.{PartHeard}
 use Rattle.layer_states.specs.declared.reassembly.Taken.TheVariants.{NoRoom}
 use Rattle.std.proofs.lemmas.Bool.Decides.{nat_tests}
+use Rattle.node_limits.specs.declared.TheConstants.{MESSAGES_IN_PROGRESS}
 
 -- what one item more gives
 one_given : {X Y : Type 0} (h : X → Option Y) (x : X) → filter_map h (x ∷ []) ≡ option_to_list (h x)
@@ -64,12 +65,12 @@ module _ (rows : List Assembly) (now : ℕ) (h : PartHeard) where
   ]) refl e
 
   -- A segment of a message that isn't held, where there is no room.
-  pub taken_full : position (λ a. is_name h.name a.name) rows ≡ None → nat_le 8 (length rows) ≡ true
-      → (taken rows now h ≡ NoRoom (take 8 (names_of rows))) × (noted rows now h ≡ rows)
+  pub taken_full : position (λ a. is_name h.name a.name) rows ≡ None → nat_le MESSAGES_IN_PROGRESS (length rows) ≡ true
+      → (taken rows now h ≡ NoRoom (take MESSAGES_IN_PROGRESS (names_of rows))) × (noted rows now h ≡ rows)
   taken_full e full = (rw (not_held e, full) refl, rw (not_held e, full) refl)
 
   -- and where there is room
-  pub taken_new : position (λ a. is_name h.name a.name) rows ≡ None → nat_le 8 (length rows) ≡ false
+  pub taken_new : position (λ a. is_name h.name a.name) rows ≡ None → nat_le MESSAGES_IN_PROGRESS (length rows) ≡ false
       → (taken rows now h ≡ judged (begun now h) now h) × (noted rows now h ≡ rows ++ judged_after (begun now h) now h ∷ [])
   taken_new e room =
       let past : length rows ≤ place_of h.name rows = grind (arith, nat_tests, not_held e) in

@@ -3,6 +3,7 @@ use Rattle.std.proofs.Common.{◌≡◌, ℕ, ◌+◌, ◌*◌, ◌≤◌, ◌<�
 use Rattle.std.specs.Prelude.{◌&&◌, ◌||◌, ◌==◌, not, nat_lt, IsTrue, replicate, slice_set, is_some, unwrap_or}
 use Rattle.std.specs.List.{list_all}
 use Rattle.std.proofs.lemmas.Bool.Decides.{nat_tests}
+use Rattle.node_limits.specs.declared.TheConstants.{MESSAGES_IN_PROGRESS}
 use Rattle.layer_definitions.specs.Lower.{Fits}
 use Rattle.layer_states.specs.Reassembly.{begun, form_of, has_no_room, heard_by, is_at_odds, is_due, is_form, is_other, judged, judged_after, live, names_of, message_for, missing_of, noted, outcome, piece_at, piece_of, place_of, put_message, rung, seg_n_of, seg_o_of, taken, timer_after, whole_of, with_piece}
 use Rattle.layer_states.specs.Names.{is_same}
@@ -201,7 +202,7 @@ pub taken_within : (rows : List Assembly) (now : ℕ) (h : PartHeard) → Fits h
 taken_within rows now h fits short ctl =
     let a : Assembly = message_for rows now h in
     let held : is_short a ≡ true = for_short rows now h short in
-    elim (has_no_room h.name rows) as (λ b. IsWithin 256 (cond b (NoRoom (take 8 (names_of rows))) (judged a now h))) [
+    elim (has_no_room h.name rows) as (λ b. IsWithin 256 (cond b (NoRoom (take MESSAGES_IN_PROGRESS (names_of rows))) (judged a now h))) [
       | true ↦ tt
       | false ↦ (elim (is_at_odds a h) as (λ b. is_at_odds a h ≡ b → IsWithin 256 (cond b Conflict (outcome (with_piece a.pieces h.part)))) [
         | true ↦ λ t. tt

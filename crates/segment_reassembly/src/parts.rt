@@ -13,7 +13,7 @@ use layer_states::reassembly::{AckList, PartHeard, Taken};
 use mesh_base::pair::Name;
 use std::marker::Model;
 
-/// At most 8 messages of which segments were heard. A clause sees it as the list of them, in the order in which they
+/// At most `MESSAGES_IN_PROGRESS` messages of which segments were heard. A clause sees it as the list of them, in the order in which they
 /// began.
 ///
 /// It stands for the calls on it so far: a new one for none, and after a call it is `after` of what it was and that

@@ -13,9 +13,10 @@ use crate::message::{begun, due_ack, judge, ring};
 use arrayvec::ArrayVec;
 use layer_states::reassembly::{AckList, Assembly, DueAck, PartHeard, Taken};
 use mesh_base::pair::Name;
+use node_limits::MESSAGES_IN_PROGRESS;
 
 /// The messages, in the order in which they began.
-pub(crate) type Rows = ArrayVec<Assembly, 8>;
+pub(crate) type Rows = ArrayVec<Assembly, MESSAGES_IN_PROGRESS>;
 
 // Whether two names are the same.
 fn is_name(m: &Name, n: &Name) -> bool
@@ -31,12 +32,12 @@ fn place_of(rows: &[Assembly], name: &Name) -> Option<usize>
     rows.iter().position(|a| is_name(name, &a.name))
 }
 
-// The names of eight messages.
-fn names_of(rows: &[Assembly]) -> [Name; 8]
-    requires { length rows.now ≡ 8 }
-    ensures { result ≡ take 8 (names_in rows.now) }
+// The names of so many messages as have a place.
+fn names_of(rows: &[Assembly]) -> [Name; MESSAGES_IN_PROGRESS]
+    requires { length rows.now ≡ MESSAGES_IN_PROGRESS }
+    ensures { result ≡ take MESSAGES_IN_PROGRESS (names_in rows.now) }
 {
-    let mut names = [Name::default(); 8];
+    let mut names = [Name::default(); MESSAGES_IN_PROGRESS];
     for (i, a) in rows.iter().enumerate() {
         names[i] = a.name;
     }
@@ -93,7 +94,7 @@ pub(crate) fn take_in(rows: &mut Rows, now: u64, h: &PartHeard) -> Taken
 
 // Puts an acknowledgment, if there is one, behind the others.
 fn push_due(list: &mut AckList, ack: Option<DueAck>)
-    requires { length list.old < 8 }
+    requires { length list.old < MESSAGES_IN_PROGRESS }
     ensures { list.new ≡ list.old ++ option_to_list ack }
 {
     if let Some(ack) = ack {
@@ -103,7 +104,7 @@ fn push_due(list: &mut AckList, ack: Option<DueAck>)
 
 /// The acknowledgments that are due of these messages.
 pub(crate) fn due_acks(rows: &[Assembly], now: u64) -> AckList
-    requires { length rows.now ≤ 8 }
+    requires { length rows.now ≤ MESSAGES_IN_PROGRESS }
     ensures { result ≡ filter_map (due_ack_in now) rows.now }
 {
     let mut list = AckList::new();

@@ -7,7 +7,7 @@ use Rattle.std.proofs.lemmas.List.Elements.{All-append, All-cons, All-drop, All-
 use Rattle.std.proofs.lemmas.List.FromFn.{get_or-range_with_len, length-range_with_len}
 use Rattle.layer_definitions.specs.Lower.{last_segment}
 use Rattle.layer_states.specs.Sending.{ack, ack_of, after, begun, due, ends, has_bit, is_due, is_last, left_after, place_of, rows_acked, stepped}
-use Rattle.layer_states.specs.declared.sending.Outgoing.{Outgoing}
+use Rattle.mesh_types.specs.declared.events.Outgoing.{Outgoing}
 use Rattle.layer_states.specs.declared.sending.Sending.{Sending}
 use Rattle.mesh_base.specs.declared.address.Address.{Address}
 use Rattle.segment_sender.specs.Held.{IsHeldWell, IsOutgoing, has_round}

@@ -2,7 +2,7 @@
 use Rattle.std.specs.Prelude.{◌≡◌, ℕ, ◌<◌, ◌≤◌, ◌^◌, ◌&&◌, not, Bool, IsFalse, All, length}
 use Rattle.layer_definitions.specs.Lower.{last_segment}
 use Rattle.layer_states.specs.Sending.{is_due, is_last}
-use Rattle.layer_states.specs.declared.sending.Outgoing.{Outgoing}
+use Rattle.mesh_types.specs.declared.events.Outgoing.{Outgoing}
 use Rattle.layer_states.specs.declared.sending.Sending.{Sending}
 
 -- A message in segments: its upper transport PDU is that of some payload, SEQ has 24 bits, TTL 7 and AID 6, and AID is 0 without an

@@ -11,6 +11,7 @@ mod message;
 mod rows;
 mod senders;
 
-pub use layer_states::sending::{Acked, DueList, Outgoing, Sending};
+pub use layer_states::sending::{Acked, DueList, Sending};
+pub use mesh_types::events::Outgoing;
 pub use message::round_due;
 pub use senders::{Rounds, SendFull, Senders};

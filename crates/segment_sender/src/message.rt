@@ -7,9 +7,11 @@ ghost use Rattle.layer_states.specs.Names.{is_unicast as is_unicast_in};
 ghost use Rattle.layer_states.specs.Sending.{begun as begun_in, has_bit as has_bit_in, is_due as is_due_in, is_last as is_last_in, left_after, pieces_of as pieces_in, round_after as round_after_in, round_of as round_in, segments_due, stepped};
 ghost use Rattle.segment_sender.specs.Held.{has_round as has_round_in};
 
-use layer_states::sending::{DueList, Outgoing, PieceList, Sending};
+use layer_states::sending::{DueList, PieceList, Sending};
 use mesh_base::address::Address;
 use mesh_base::table::Table;
+use mesh_types::events::Outgoing;
+use node_limits::{DUE_SEGMENTS, SEGMENTS};
 
 // Whether an address is that of an element.
 fn is_unicast(a: Address) -> bool
@@ -54,28 +56,13 @@ fn round_after(now: u64, m: &Outgoing) -> u64
     now + 20 + 5 * u64::from(ttl)
 }
 
-// The same message once more. It takes no memory.
-fn copied(m: &Outgoing) -> Outgoing
-    ensures { result ≡ m.now }
-{
-    Outgoing {
-        name: m.name,
-        dst: m.dst,
-        ttl: m.ttl,
-        net: m.net,
-        akf: m.akf,
-        aid: m.aid,
-        upper: m.upper.copied(),
-    }
-}
-
 /// A message when it begins.
 pub(crate) fn begun(now: u64, m: &Outgoing) -> Sending
     requires { now ≤ 2 ^ 48 }
     ensures { result ≡ begun_in now m.now }
 {
     Sending {
-        message: copied(m),
+        message: m.copied(),
         left: pieces_of(m),
         rounds: 1,
         due: round_after(now, m),
@@ -140,7 +127,7 @@ pub(crate) fn again(s: &Sending) -> Sending
     ensures { result ≡ s.now }
 {
     Sending {
-        message: copied(&s.message),
+        message: s.message.copied(),
         left: s.left.copied(),
         rounds: s.rounds,
         due: s.due,
@@ -151,7 +138,7 @@ pub(crate) fn again(s: &Sending) -> Sending
 /// acknowledged, to several all of them; none before the round is due, or where the message has had all its rounds.
 pub fn round_due(now: u64, s: &Sending) -> PieceList
     ensures value { result ≡ (if is_due_in now s.now && not (is_last_in s.now) then round_in s.now else []) }
-    ensures length { length result ≤ 32 }
+    ensures length { length result ≤ SEGMENTS }
 {
     if has_round(now, s) {
         round_of(s)
@@ -162,7 +149,7 @@ pub fn round_due(now: u64, s: &Sending) -> PieceList
 
 // Puts segments of a message behind the others.
 fn push_round(list: &mut DueList, s: &Sending, round: &[u8])
-    requires { length list.old + length round.now ≤ 128 }
+    requires { length list.old + length round.now ≤ DUE_SEGMENTS }
     ensures value { list.new ≡ list.old ++ map (λ i. (s.now.message.name, i)) round.now }
     ensures length { length list.new ≡ length list.old + length round.now }
 {
@@ -173,9 +160,9 @@ fn push_round(list: &mut DueList, s: &Sending, round: &[u8])
 
 /// Puts the segments of a message that are due behind the others.
 pub(crate) fn push_due(list: &mut DueList, now: u64, s: &Sending)
-    requires { length list.old + 32 ≤ 128 }
+    requires { length list.old + SEGMENTS ≤ DUE_SEGMENTS }
     ensures value { list.new ≡ list.old ++ segments_due now s.now }
-    ensures length { length list.new ≤ length list.old + 32 }
+    ensures length { length list.new ≤ length list.old + SEGMENTS }
 {
     push_round(list, s, round_due(now, s).as_slice());
 }

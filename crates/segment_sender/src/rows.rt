@@ -11,9 +11,10 @@ use crate::message::{again, has_round, leave, push_due, step};
 use arrayvec::ArrayVec;
 use layer_states::sending::{Acked, DueList, Sending};
 use mesh_base::address::Address;
+use node_limits::OWN_MESSAGES;
 
 /// The messages, in the order in which they began.
-pub(crate) type Rows = ArrayVec<Sending, 4>;
+pub(crate) type Rows = ArrayVec<Sending, OWN_MESSAGES>;
 
 // Whether an acknowledgment belongs to a message.
 fn belongs_to(from: Address, obo: bool, seq_zero: u16, s: &Sending) -> bool
@@ -67,7 +68,7 @@ pub(crate) fn acknowledge(
 
 /// The segments of all messages that are due.
 pub(crate) fn all_due(rows: &[Sending], now: u64) -> DueList
-    requires { length rows.now ≤ 4 }
+    requires { length rows.now ≤ OWN_MESSAGES }
     ensures { result ≡ all_due_in now rows.now }
 {
     let mut list = DueList::new();
@@ -87,7 +88,7 @@ pub(crate) fn step_all(rows: &mut Rows, now: u64)
 
 // Puts a message behind the others, if it sends a round.
 fn push_round(list: &mut Rows, now: u64, s: &Sending)
-    requires { length list.old.items < 4 }
+    requires { length list.old.items < OWN_MESSAGES }
     ensures value { list.new.items ≡ list.old.items ++ (if has_round_in now s.now then s.now ∷ [] else []) }
     ensures few { length list.new.items ≤ length list.old.items + 1 }
 {
@@ -98,7 +99,7 @@ fn push_round(list: &mut Rows, now: u64, s: &Sending)
 
 /// The messages that send a round.
 pub(crate) fn all_rounds(rows: &[Sending], now: u64) -> Rows
-    requires { length rows.now ≤ 4 }
+    requires { length rows.now ≤ OWN_MESSAGES }
     ensures { result.items ≡ filter (has_round_in now) rows.now }
 {
     let mut list = Rows::new();

@@ -9,8 +9,10 @@ ghost use Rattle.segment_sender.specs.Held.{IsHeldWell, IsOutgoing, has_round};
 use crate::message::begun;
 use crate::rows::{Rows, acknowledge, all_due, all_rounds, step_all};
 use arrayvec::ArrayVec;
-use layer_states::sending::{Acked, DueList, Outgoing, Sending};
+use layer_states::sending::{Acked, DueList, Sending};
 use mesh_base::address::Address;
+use mesh_types::events::Outgoing;
+use node_limits::OWN_MESSAGES;
 use std::marker::Model;
 use thiserror::Error;
 
@@ -23,9 +25,9 @@ pub struct SendFull {
 }
 
 /// Messages that send a round.
-pub type Rounds = ArrayVec<Sending, 4>;
+pub type Rounds = ArrayVec<Sending, OWN_MESSAGES>;
 
-/// At most 4 own segmented messages that aren't acknowledged. A clause sees it as the list of them, in the order in
+/// At most `OWN_MESSAGES` own segmented messages that aren't acknowledged. A clause sees it as the list of them, in the order in
 /// which they began.
 ///
 /// It stands for the calls on it so far: a new one for none, and after a call it is `after` of what it was and that
@@ -60,7 +62,7 @@ impl Senders {
 
     /// A message begins at `now`, in ticks of 10 ms, at most 2^48: its first round is sent at once. Its upper
     /// transport PDU has 5 to 384 octets, its SEQ 24 bits, its TTL 7, and its AID 6; under a device key AID is 0. What is sealed is so.
-    /// `SendFull` exactly where 4 are held.
+    /// `SendFull` exactly where so many are held.
     pub fn begin(&mut self, now: u64, m: &Outgoing) -> Result<(), SendFull>
         requires time { now ≤ 2 ^ 48 }
         requires outgoing { IsOutgoing m.now }
@@ -106,7 +108,7 @@ impl Senders {
         requires time { now ≤ 2 ^ 48 }
         ensures value { result.items ≡ filter (has_round now) self.old }
         ensures held { All IsHeldWell result.items }
-        ensures most { length result.items ≤ 4 }
+        ensures most { length result.items ≤ OWN_MESSAGES }
         ensures state { self.new ≡ after self.old (sending.due now) }
     {
         let list = all_rounds(self.rows.as_slice(), now);
@@ -118,7 +120,7 @@ impl Senders {
     pub fn messages(&self) -> &[Sending]
         ensures value { result.now ≡ self.now }
         ensures held { All IsHeldWell result.now }
-        ensures most { length result.now ≤ 4 }
+        ensures most { length result.now ≤ OWN_MESSAGES }
     {
         self.rows.as_slice()
     }

@@ -1,6 +1,7 @@
 -- A compaction: the other bank is erased, filled, and given the next generation.
 use Rattle.std.proofs.Common.{◌≡◌, ◌≢◌, ◌⊎◌, ℕ, ◌+◌, ◌*◌, ◌%◌, ◌<◌, ◌≤◌, List, length, Bool, true, false, Some, refl, sym, ap, ◌∙◌, subst, inl, inr, ⊎_elim, arith}
 use Rattle.std.proofs.lemmas.Bool.{cases_lt}
+use Rattle.node_limits.specs.declared.TheConstants.{BANK_RECORDS}
 use Rattle.mesh_base.specs.declared.slot.Slot.{Slot}
 use Rattle.flash_model.specs.Octets.{IsContent}
 use Rattle.flash_model.specs.Chip.{Chip, IsFresh, LeavesOnly}
@@ -81,7 +82,7 @@ module _ (old : List ℕ) (own other : ℕ) (items : List Slot) (sides : own + o
       (counts_alone c own other sides (sound_after c so.whole so.outside) (blank_unsound (text_at c (1024 * other)) so.header))
 
   -- while its header is written
-  module _ (chip : Chip) (few : length items ≤ 512) (so : IsBankFilled other items (length items) old chip) (g : ℕ) (next : g ≡ (generation_of (text_at old (1024 * own)) + 1) % 4294967296) (c : List ℕ) (write : IsSlotWrite (1024 * other) (text_of (header_of 2 g)) chip.now c) where
+  module _ (chip : Chip) (few : length items ≤ BANK_RECORDS) (so : IsBankFilled other items (length items) old chip) (g : ℕ) (next : g ≡ (generation_of (text_at old (1024 * own)) + 1) % 4294967296) (c : List ℕ) (write : IsSlotWrite (1024 * other) (text_of (header_of 2 g)) chip.now c) where
     other_low : other ≤ 1
     other_low = omega arith
 
@@ -142,7 +143,7 @@ module _ (old : Chip) (journal : JournalView) (items : List Slot) (tie : IsJourn
       fill_leaves = leaves_weaker old full (λ c. P c ⊎ IsBankBare other old.now c) P (leaves_join old mid full P (IsBankBare other old.now) erase_leaves fill)
           (λ c either. ⊎_elim (λ p. p) (bare_compacted old.now journal.bank other items sides tie.tidy tie.mounted.bank c) either)
 
-      module _ (few : length items ≤ 512) (so : IsBankFilled other items (length items) old.now full) (g : ℕ) (next : g ≡ (journal.generation + 1) % 4294967296) (new : Chip) where
+      module _ (few : length items ≤ BANK_RECORDS) (so : IsBankFilled other items (length items) old.now full) (g : ℕ) (next : g ≡ (journal.generation + 1) % 4294967296) (new : Chip) where
         said : g ≡ (generation_of (text_at old.now (1024 * journal.bank)) + 1) % 4294967296
         said = next ∙ ap (λ (n : ℕ). (n + 1) % 4294967296) (sym tie.mounted.generation)
 

@@ -4,6 +4,7 @@ use Rattle.std.specs.Prelude.{option_to_list}
 use Rattle.std.proofs.lemmas.Bool.{cases_lt}
 use Rattle.std.proofs.lemmas.List.{take_all}
 use Rattle.std.proofs.Math.Seq.{take-suc}
+use Rattle.node_limits.specs.declared.TheConstants.{BANK_RECORDS}
 use Rattle.mesh_base.specs.declared.slot.Slot.{Slot}
 use Rattle.flash_model.specs.Octets.{IsContent}
 use Rattle.flash_model.specs.Chip.{Chip, IsFresh, LeavesOnly}
@@ -21,7 +22,7 @@ same_default [] i d e lt = absurd (omega arith)
 same_default (x ∷ xs) zero d e lt = refl
 same_default (x ∷ xs) (suc i) d e lt = same_default xs i d e (omega arith)
 
-module _ (bank : ℕ) (items : List Slot) (k : ℕ) (base : List ℕ) (chip : Chip) (low : bank ≤ 1) (few : k < 512) (so : IsBankFilled bank items k base chip) where
+module _ (bank : ℕ) (items : List Slot) (k : ℕ) (base : List ℕ) (chip : Chip) (low : bank ≤ 1) (few : k < BANK_RECORDS) (so : IsBankFilled bank items k base chip) where
   -- the next slot, before it is written
   pub next_item : text_at chip.now (1024 * bank + (k + 1)) ≡ blank_text
   next_item = so.behind (k + 1) (omega arith) (omega arith)
@@ -62,7 +63,7 @@ pub none_leaves : (bank : ℕ) (items : List Slot) (base : List ℕ) (chip : Chi
 none_leaves bank items base chip only so = leaves_none chip (IsBankBare bank base) only (λ c image. subst (IsBankBare bank base) (sym (so.fresh.only c image)) (filled_bare bank items 0 base chip so))
 
 -- all items are written, and then at most the bank's header differs
-module _ (bank : ℕ) (items : List Slot) (base : List ℕ) (chip : Chip) (low : bank ≤ 1) (few : length items ≤ 512) (so : IsBankFilled bank items (length items) base chip) (c text : List ℕ) (write : IsSlotWrite (1024 * bank) text chip.now c) where
+module _ (bank : ℕ) (items : List Slot) (base : List ℕ) (chip : Chip) (low : bank ≤ 1) (few : length items ≤ BANK_RECORDS) (so : IsBankFilled bank items (length items) base chip) (c text : List ℕ) (write : IsSlotWrite (1024 * bank) text chip.now c) where
   some_slot : Slot
   some_slot = record { kind = 0; body = [] }
 

@@ -2,6 +2,7 @@
 use Rattle.std.proofs.Common.{◌≡◌, ◌≢◌, ◌⊎◌, ℕ, ◌+◌, ◌-◌, ◌*◌, ◌<◌, ◌≤◌, List, [], length, get_or, Some, None, true, false, refl, sym, ap, ◌∙◌, subst, inl, inr, ⊎_elim, arith}
 use Rattle.std.specs.Prelude.{option_map}
 use Rattle.std.proofs.lemmas.Bool.{cases_lt}
+use Rattle.node_limits.specs.declared.TheConstants.{BANK_RECORDS}
 use Rattle.mesh_base.specs.declared.slot.Slot.{Slot}
 use Rattle.flash_model.specs.Octets.{IsContent}
 use Rattle.flash_model.specs.Chip.{Chip, IsFresh, LeavesOnly, Stays}
@@ -82,7 +83,7 @@ module _ (format : ℕ) (items : List Slot) (known : (format ≡ 1) ⊎ (format 
   base_formatted = bare_formatted base (record { whole = whole; outside = λ n lt out. refl; header = erased_text base 0 whole erased (omega arith) })
 
   -- its header is written
-  module _ (chip : Chip) (few : length items ≤ 512) (so : IsBankFilled 0 items (length items) base chip) (c : List ℕ) (write : IsSlotWrite 0 (text_of (header_of format 1)) chip.now c) where
+  module _ (chip : Chip) (few : length items ≤ BANK_RECORDS) (so : IsBankFilled 0 items (length items) base chip) (c : List ℕ) (write : IsSlotWrite 0 (text_of (header_of format 1)) chip.now c) where
     second : text_at c 1024 ≡ blank_text
     second = second_blank c (header_outside 0 items base chip (omega arith) few so c (text_of (header_of format 1)) write 1024 (omega arith) (inr (omega arith)))
 
@@ -145,12 +146,12 @@ module _ (format : ℕ) (items : List Slot) (known : (format ≡ 1) ⊎ (format 
       items_leave = leaves_weaker old full (λ c. Q c ⊎ IsBankBare 0 old.now c) Q (leaves_join old mid full Q (IsBankBare 0 old.now) scan_leaves fill)
           (λ c either. ⊎_elim (λ q. q) (bare_formatted format items known old.now whole erased c) either)
 
-      pub header_leaves : (new : Chip) → length items ≤ 512 → IsBankFilled 0 items (length items) old.now full → LeavesOnly full new (IsSlotWrite 0 (text_of (header_of format 1)) full.now) → LeavesOnly old new Q
+      pub header_leaves : (new : Chip) → length items ≤ BANK_RECORDS → IsBankFilled 0 items (length items) old.now full → LeavesOnly full new (IsSlotWrite 0 (text_of (header_of format 1)) full.now) → LeavesOnly old new Q
       header_leaves new few so header = leaves_weaker old new (λ c. Q c ⊎ IsSlotWrite 0 (text_of (header_of format 1)) full.now c) Q
           (leaves_join old full new Q (IsSlotWrite 0 (text_of (header_of format 1)) full.now) items_leave header)
           (λ c either. ⊎_elim (λ q. q) (header_formatted format items known old.now whole erased full few so c) either)
 
-  module _ (full new : Chip) (few : length items ≤ 512) (so : IsBankFilled 0 items (length items) old.now full) (write : IsWritten 0 (text_of (header_of format 1)) full.now new.now) where
+  module _ (full new : Chip) (few : length items ≤ BANK_RECORDS) (so : IsBankFilled 0 items (length items) old.now full) (write : IsWritten 0 (text_of (header_of format 1)) full.now new.now) where
     pub durable : recovered new.now ≡ Some (record { format = format; slots = items })
     durable = first_recovered format items known old.now whole erased full few so new.now (whole_write 0 (text_of (header_of format 1)) full.now new.now write) write.here
 

@@ -9,10 +9,11 @@ ghost use Rattle.slot_journal.specs.Banks.{IsErasing, IsErasedTo};
 
 use crate::filling::fill_bank;
 use crate::header::{FORMAT, header};
-use crate::journal::{BANK_SLOTS, Journal};
+use crate::journal::Journal;
 use crate::text::write_slot;
 use flash_model::{Flash, FlashFailed};
 use mesh_base::slot::Slot;
+use node_limits::{BANK_RECORDS, BANK_SLOTS};
 use thiserror::Error;
 
 /// Sectors of a bank.
@@ -53,10 +54,10 @@ impl Journal {
     ///
     /// # Asks
     ///
-    /// At most 512 items; the snapshot of a node has at most 404 (`few` of `snapshot` in `node_snapshot`). The clauses on content are of a
+    /// At most as many items as a bank has room for; the snapshot of a node has fewer (`few` of `snapshot` in `node_snapshot`). The clauses on content are of a
     /// journal of this flash, as those of `append`.
     pub fn compact<F: Flash>(&mut self, flash: &mut F, items: &[Slot]) -> Result<(), CompactFault>
-        requires { length items.now ≤ 512 }
+        requires { length items.now ≤ BANK_RECORDS }
 
         ensures closed { self.old.closed ≡ true
             → (result ≡ Err CompactFault.Closed) × (self.new ≡ self.old) × (flash.new ≡ flash.old) }

@@ -4,15 +4,15 @@ ghost use Rattle.flash_model.specs.Arming.{Begins, BeginsAtMost};
 ghost use Rattle.flash_model.specs.Chip.{Keeps, LeavesOnly};
 ghost use Rattle.slot_journal.specs.Banks.{IsBankBare, IsBankFilled};
 
-use crate::journal::BANK_SLOTS;
 use crate::text::write_slot;
 use flash_model::{Flash, FlashFailed};
 use mesh_base::slot::Slot;
+use node_limits::{BANK_RECORDS, BANK_SLOTS};
 
-/// Writes items, at most 512, into the slots 1 on of a blank bank, 0 or 1.
+/// Writes items, at most as many as a bank has room for, into the slots 1 on of a blank bank, 0 or 1.
 pub fn fill_bank<F: Flash>(flash: &mut F, bank: u32, items: &[Slot]) -> Result<(), FlashFailed>
     requires low { bank ≤ 1 }
-    requires few { length items.now ≤ 512 }
+    requires few { length items.now ≤ BANK_RECORDS }
     ensures filled { (base : List ℕ) → IsBankFilled bank items.now 0 base (F.chip flash.old)
         → OnOk result (IsBankFilled bank items.now (length items.now) base (F.chip flash.new)) }
     ensures any_moment { (base : List ℕ) → IsBankFilled bank items.now 0 base (F.chip flash.old)

@@ -9,10 +9,11 @@ ghost use Rattle.slot_journal.specs.Causes.{IsFormatCause, IsNotErased};
 
 use crate::filling::fill_bank;
 use crate::header::header;
-use crate::journal::{BANK_SLOTS, Journal};
+use crate::journal::Journal;
 use crate::text::{SLOT_OCTETS, read_slot, write_slot};
 use flash_model::{Flash, FlashFailed};
 use mesh_base::slot::Slot;
+use node_limits::{BANK_RECORDS, BANK_SLOTS};
 use thiserror::Error;
 
 /// The generation of a journal that is made.
@@ -41,9 +42,9 @@ impl From<FlashFailed> for FormatFault {
 }
 
 impl Journal {
-    /// Writes a journal with these items, at most 512, onto an erased flash: into bank 0, in format 1 or 2, with generation 1.
+    /// Writes a journal with these items, at most as many as a bank has room for, onto an erased flash: into bank 0, in format 1 or 2, with generation 1.
     pub fn format<F: Flash>(flash: &mut F, items: &[Slot], format: u8) -> Result<Self, FormatFault>
-        requires few { length items.now ≤ 512 }
+        requires few { length items.now ≤ BANK_RECORDS }
         requires known { (format ≡ 1) ⊎ (format ≡ 2) }
 
         ensures cause { IfErr result (IsFormatCause (F.chip flash.old) (F.chip flash.new)) }

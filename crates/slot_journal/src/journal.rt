@@ -8,14 +8,9 @@ ghost use Rattle.slot_journal.specs.Tie.{IsJournalOf, IsAppended, with_last};
 use crate::text::{gated_slot, read_slot, write_slot};
 use flash_model::{Flash, FlashFailed};
 use mesh_base::slot::Slot;
+use node_limits::{BANK_RECORDS, BANK_SLOTS};
 use std::marker::Model;
 use thiserror::Error;
-
-/// Slots of a bank that hold records: all but its header.
-pub const ROOM: u32 = 1023;
-
-/// Slots of a bank.
-pub const BANK_SLOTS: u32 = 1024;
 
 /// Why a slot wasn't appended.
 #[derive(Clone, Copy, Debug, PartialEq, Eq, Error)]
@@ -161,7 +156,7 @@ impl Journal {
         if self.closed {
             return Err(AppendFault::Closed);
         }
-        if self.used == ROOM {
+        if self.used == BANK_RECORDS {
             return Err(AppendFault::Full { used: self.used });
         }
         self.closed = true;

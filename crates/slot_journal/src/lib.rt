@@ -48,7 +48,7 @@
 //! A cut in 1 leaves the gate ff, and one in 2 leaves any gate: so the slot is whole, or its gate isn't 00 (`IsSlotWrite`), and every image
 //! recovers what was held, or this with the slot last (`IsAppended`).
 //!
-//! A compaction of k items, at most 512, from bank b into bank c = 1 - b (`calls` of `compact`):
+//! A compaction of k items, at most as many as a bank has room for, from bank b into bank c = 1 - b (`calls` of `compact`):
 //!
 //! | Call | Writes |
 //! |---|---|
@@ -75,5 +75,5 @@ mod text;
 
 pub use compacting::CompactFault;
 pub use formatting::FormatFault;
-pub use journal::{AppendFault, Journal, ROOM};
+pub use journal::{AppendFault, Journal};
 pub use mounting::NoMount;

@@ -7,9 +7,10 @@ ghost use Rattle.slot_journal.specs.Tie.{IsJournalOf, IsMounted, IsUsed};
 ghost use Rattle.slot_journal.specs.Causes.{IsMountCause};
 
 use crate::header::choose;
-use crate::journal::{BANK_SLOTS, Journal};
+use crate::journal::Journal;
 use crate::text::{is_blank, read_slot};
 use flash_model::{Flash, FlashFailed};
+use node_limits::BANK_SLOTS;
 use thiserror::Error;
 
 /// Why no journal was mounted.

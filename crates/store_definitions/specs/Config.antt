@@ -2,6 +2,7 @@
 -- its rows by index, a set of bindings or subscriptions as the list of its members in the order in which they came.
 use Rattle.std.specs.Prelude.{ℕ, ◌+◌, ◌*◌, ◌/◌, ◌%◌, ◌==◌, ◌&&◌, ◌||◌, not, nat_lt, nat_le, bytes_eq, slice_set, Bool, true, false, if◌then◌else◌, List, [], ◌∷◌, ◌++◌, Some, None, unwrap_or, map, fold, filter, replicate}
 use Rattle.std.specs.List.{list_any}
+use Rattle.node_limits.specs.declared.TheConstants.{ELEMENTS}
 use Rattle.layer_definitions.specs.KeyRefresh.{net_index, app_index}
 use Rattle.layer_definitions.specs.Order.{put_by}
 use Rattle.mesh_base.specs.declared.address.Address.{Address}
@@ -57,8 +58,8 @@ no_config = record {
   subs = [];
   labels = [];
   publications = [];
-  onoffs = replicate 4 0;
-  levels = replicate 4 0;
+  onoffs = replicate ELEMENTS 0;
+  levels = replicate ELEMENTS 0;
   beacon = 0;
   ttl = 7;
   friend = 1;

@@ -2,6 +2,7 @@
 use Rattle.std.specs.Prelude.{ℕ, ◌==◌, ◌&&◌, not, nat_lt, Bool, if◌then◌else◌, List, [], ◌∷◌, length, Option, Some, None, is_some, fold, filter}
 use Rattle.std.specs.List.{list_any}
 use Rattle.std.specs.Option.{option_to_list}
+use Rattle.node_limits.specs.declared.TheConstants.{REPLAY_ENTRIES}
 use Rattle.mesh_base.specs.declared.pair.Name.{Name}
 use Rattle.mesh_base.specs.declared.pair.Pair.{Pair}
 use Rattle.record_types.specs.declared.records.StoreRecord.{StoreRecord}
@@ -55,6 +56,6 @@ sources_of records = fold sources_after [] records
 abbrev pub others_held : List StoreRecord → ℕ → ℕ
 others_held records src = length (filter (λ s. not (s == src) && is_some (entry_of records s)) (sources_of records))
 
--- A source without an entry has room where fewer than 512 others have one.
+-- A source without an entry has room where fewer others have one than the replay list has entries.
 abbrev pub has_room : List StoreRecord → ℕ → Bool
-has_room records src = nat_lt (others_held records src) 512
+has_room records src = nat_lt (others_held records src) REPLAY_ENTRIES

@@ -1,5 +1,6 @@
 -- Which record may come after others: the limits of a node's store, and the known IV Index, which never falls.
 use Rattle.std.specs.Prelude.{◌≡◌, ◌⊎◌, ℕ, ◌+◌, ◌<◌, ◌≤◌, ⊤, false, List, [], ◌∷◌, ◌++◌, length, None, IsSomeAnd}
+use Rattle.node_limits.specs.declared.TheConstants.{NETWORK_KEYS, APPLICATION_KEYS, BINDINGS, GROUP_SUBSCRIPTIONS, LABEL_SUBSCRIPTIONS, PUBLICATIONS}
 use Rattle.mesh_base.specs.declared.pair.Name.{Name}
 use Rattle.record_types.specs.declared.records.StoreRecord.{StoreRecord}
 use Rattle.record_types.specs.declared.records.StoreRecord.TheVariants as R
@@ -7,23 +8,24 @@ use Rattle.layer_definitions.specs.Order.{put_by}
 use Rattle.store_definitions.specs.Config.{config_of, nets_after, apps_after, binds_after, subs_after, labels_after, publication_index}
 use Rattle.store_definitions.specs.Entries.{entry_of, has_room}
 
--- a name has no place: its source has no entry, and 512 others have one
+-- a name has no place: its source has no entry, and so many others have one as the replay list has entries
 abbrev pub HasNoPlace : List StoreRecord → Name → Type 0
 HasNoPlace records name = (entry_of records name.src.0 ≡ None) × (has_room records name.src.0 ≡ false)
 
--- A record passes a limit: with its change there would be more than 4 network keys, 8 application keys, 32 bindings, 32 subscriptions to
--- groups, 32 to labels or 8 publications, or one of its names, in their order, has no place. Of a subscription that takes the place of all
--- of its model these are counted after they are gone.
+-- A record passes a limit: with its change there would be more network keys, application keys, bindings, subscriptions to groups or to
+-- labels, or publications than the node holds, or one of its names, in their order, has no place. Of a subscription that takes the place
+-- of all of its model these are counted after they are gone.
 abbrev pub PassesLimit : List StoreRecord → StoreRecord → Type 0
-PassesLimit records (R.NetKey op index key) = 4 < length (nets_after op index key (config_of records).nets)
-PassesLimit records (R.AppKey op net index key) = 8 < length (apps_after op net index key (config_of records).apps)
+PassesLimit records (R.NetKey op index key) = NETWORK_KEYS < length (nets_after op index key (config_of records).nets)
+PassesLimit records (R.AppKey op net index key) = APPLICATION_KEYS < length (apps_after op net index key (config_of records).apps)
 PassesLimit records (R.Bind op element model app) =
-    32 < length (binds_after op element model app (config_of records).binds)
+    BINDINGS < length (binds_after op element model app (config_of records).binds)
 PassesLimit records (R.Subscribe op element model address) =
-    32 < length (subs_after op element model address (config_of records).subs)
+    GROUP_SUBSCRIPTIONS < length (subs_after op element model address (config_of records).subs)
 PassesLimit records (R.Label op element model label) =
-    32 < length (labels_after op element model label (config_of records).labels)
-PassesLimit records (R.Publish row) = 8 < length (put_by publication_index row (config_of records).publications)
+    LABEL_SUBSCRIPTIONS < length (labels_after op element model label (config_of records).labels)
+PassesLimit records (R.Publish row) =
+    PUBLICATIONS < length (put_by publication_index row (config_of records).publications)
 PassesLimit records (R.Replay first second) =
     HasNoPlace records first ⊎ IsSomeAnd second (HasNoPlace (records ++ R.Replay first None ∷ []))
 PassesLimit records _ = ⊥

@@ -1,6 +1,7 @@
 -- What the records of a node that can be run say, and which records keep it.
 use Rattle.std.specs.Prelude.{◌≡◌, ◌≢◌, ℕ, ◌+◌, ◌≤◌, ◌^◌, ◌<◌, ◌==◌, ◌&&◌, not, nat_le, false, true, Bool, ⊤, IsTrue, List, [], ◌∷◌, ◌++◌, All, is_some, if◌then◌else◌}
 use Rattle.std.specs.List.{list_any}
+use Rattle.node_limits.specs.declared.TheConstants.{ELEMENTS}
 use Rattle.layer_definitions.specs.KeyRefresh.{net_row}
 use Rattle.mesh_base.specs.IvState.{HasTransmit}
 use Rattle.mesh_base.specs.declared.keys.AppKeyRow.{AppKeyRow}
@@ -23,7 +24,7 @@ is_held nets index = is_some (net_row nets index)
 -- application key.
 pub record IsWhole (c : Config) : Type 0 where
   pub some : 1 ≤ c.elements
-  pub few : c.elements ≤ 4
+  pub few : c.elements ≤ ELEMENTS
   pub unicast : 1 ≤ c.unicast.0
   pub last : c.unicast.0 + c.elements ≤ 2 ^ 15
   pub current : c.iv.current < 2 ^ 32

@@ -1,5 +1,6 @@
 -- The ranges of a record's fields: what a slot's octets count as a record with.
 use Rattle.std.specs.Prelude.{◌≡◌, ℕ, ◌+◌, ◌*◌, ◌%◌, ◌^◌, ◌<◌, ◌≤◌, ◌==◌, ◌&&◌, ◌||◌, nat_lt, nat_le, Bool, false, IsTrue, if◌then◌else◌, List, length, replicate, All, MatchBool, IfSome, ⊤, ◌⊎◌}
+use Rattle.node_limits.specs.declared.TheConstants.{ELEMENTS}
 use Rattle.mesh_base.specs.IvState.{HasTransmit, transmit_of}
 use Rattle.mesh_base.specs.declared.iv_state.IvState.{IvState}
 use Rattle.mesh_base.specs.declared.pair.Name.{Name}
@@ -44,7 +45,7 @@ is_zeros name = name.src.0 == 0 && name.pair.iv == 0 && name.pair.seq == 0
 
 abbrev pub IsInRange : StoreRecord → Type 0
 IsInRange (R.Identity unicast elements dev_key) =
-    (1 ≤ elements) × (elements ≤ 4) × (1 ≤ unicast.0) × (unicast.0 + elements ≤ 2 ^ 15) × IsKey dev_key
+    (1 ≤ elements) × (elements ≤ ELEMENTS) × (1 ≤ unicast.0) × (unicast.0 + elements ≤ 2 ^ 15) × IsKey dev_key
 IsInRange (R.Numbers current progress mark hours since) =
     (current < 2 ^ 32)
     × HasTransmit (record { current = current; progress = progress; hours = hours; since = since })
@@ -62,7 +63,7 @@ IsInRange (R.Subscribe op element model address) =
 IsInRange (R.Feature which value) = IsTrue (is_feature which value)
 IsInRange R.Reset = ⊤
 IsInRange (R.Model element model value) =
-    (element < 4) × (((model ≡ 0x1000) × (value < 2)) ⊎ ((model ≡ 0x1002) × (value < 2 ^ 16)))
+    (element < ELEMENTS) × (((model ≡ 0x1000) × (value < 2)) ⊎ ((model ≡ 0x1002) × (value < 2 ^ 16)))
 IsInRange (R.Label op element model label) =
     IsTrue (op == 1 || op == 2 || op == 4) × (element.0 < 2 ^ 16) × (model < 2 ^ 16) × IsKey label
 IsInRange (R.Publish row) =

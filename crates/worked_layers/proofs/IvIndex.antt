@@ -6,9 +6,9 @@ use Rattle.mesh_base.specs.IvState.{transmit_of}
 use Rattle.node_layers.specs.BuiltLayers.{built_layers}
 use Rattle.node_layers.specs.ConfiguredLayers.{configured_layers}
 use Rattle.node_layers.specs.NodeLayers.{node_layers}
-use Rattle.run_definitions.specs.Answers.{answer_of}
-use Rattle.run_definitions.specs.Jobs.{jobs_of}
-use Rattle.run_definitions.specs.Stores.{stores}
+use Rattle.event_definitions.specs.Answers.{answer_of}
+use Rattle.event_definitions.specs.Jobs.{jobs_of}
+use Rattle.event_definitions.specs.Stores.{stores}
 use Rattle.store_definitions.specs.Config.{changed}
 use Rattle.worked_layers.specs.IvIndex.{PdusAreReadUnder, UpdateEnds}
 

@@ -10,11 +10,12 @@ use Rattle.mesh_types.specs.declared.answers.Answer.{Answer}
 use Rattle.mesh_types.specs.declared.answers.Answer.TheVariants as A
 use Rattle.mesh_types.specs.declared.events.Event.{Event}
 use Rattle.mesh_types.specs.declared.events.Event.TheVariants as E
+use Rattle.mesh_types.specs.declared.events.Outgoing.{Outgoing}
 use Rattle.mesh_types.specs.declared.events.SendKey.TheVariants as K
 use Rattle.mesh_types.specs.declared.jobs.Job.{Job}
 use Rattle.mesh_types.specs.declared.jobs.Job.TheVariants as J
 use Rattle.record_types.specs.declared.records.StoreRecord.TheVariants as R
-use Rattle.run_definitions.specs.History.{Insight, OfNothing, OfPdu, Past}
+use Rattle.event_definitions.specs.History.{Insight, OfNothing, OfPdu, Past}
 use Rattle.worked_layers.specs.Walk.{address, handled, heard, iv, name, start, then_at}
 
 module _ (net_key dev_key pdu octets : List ℕ) where
@@ -93,6 +94,19 @@ module _ (net_key dev_key pdu octets : List ℕ) where
   abbrev send : List ℕ → Event
   send payload = E.Send 0 (address 0x0201) 7 K.Own payload
 
+  -- a message to the Low Power node that goes in segments
+  abbrev begun : Pair → List ℕ → Outgoing
+  begun pair upper =
+      record {
+        name = record { src = address 0x1201; pair = pair };
+        dst = address 0x0201;
+        ttl = 7;
+        net = 0;
+        akf = false;
+        aid = 0;
+        upper = upper;
+      }
+
   abbrev sent : Past
   sent = then_at befriended (send (0x7f ∷ [])) OfNothing A.Planned []
 
@@ -112,7 +126,7 @@ module _ (net_key dev_key pdu octets : List ℕ) where
           jobs = J.Sent 0 (master_material net_key) (U.Device dev_key) 7 (address 0x1201) (address 0x0201) ∷ [];
         }
     pub refuses : (pair : Pair) → pair.iv ≡ iv → (upper : List ℕ)
-        → handled (polled sent 5 0) (E.Begin pair (address 0x0201) (address 0x1201) 7 0 false 0 upper) OfNothing
+        → handled (polled sent 5 0) (E.Begin (begun pair upper)) OfNothing
         ≡ record { answer = A.Befriended; jobs = [] }
     -- what came under the friendship goes on under the master credentials
     pub relays : handled (polled sent 5 0) (E.Net pdu)

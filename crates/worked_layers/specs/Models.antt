@@ -13,8 +13,8 @@ use Rattle.mesh_types.specs.declared.jobs.Job.{Job}
 use Rattle.mesh_types.specs.declared.jobs.Job.TheVariants as J
 use Rattle.record_types.specs.declared.records.StoreRecord.{StoreRecord}
 use Rattle.record_types.specs.declared.records.StoreRecord.TheVariants as R
-use Rattle.run_definitions.specs.History.{Insight, OfNothing, OfPdu, Past}
-use Rattle.run_definitions.specs.Layers.{Layers}
+use Rattle.event_definitions.specs.History.{Insight, OfNothing, OfPdu, Past}
+use Rattle.event_definitions.specs.Layers.{Layers}
 use Rattle.worked_layers.specs.Walk.{Handled, address, handled_by, heard, iv, name, start, stored_by, then_at}
 
 module _ (layers : Layers) (net_key dev_key app_key pdu : List ℕ) (aid : ℕ) where

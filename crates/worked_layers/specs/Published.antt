@@ -10,7 +10,7 @@ use Rattle.mesh_types.specs.declared.answers.Answer.TheVariants as A
 use Rattle.mesh_types.specs.declared.events.Event.TheVariants as E
 use Rattle.mesh_types.specs.declared.jobs.Job.TheVariants as J
 use Rattle.record_types.specs.declared.records.StoreRecord.TheVariants as R
-use Rattle.run_definitions.specs.History.{Insight, OfNothing, OfPdu, Past}
+use Rattle.event_definitions.specs.History.{Insight, OfNothing, OfPdu, Past}
 use Rattle.worked_layers.specs.Walk.{address, handled, heard, iv, name, start, stored, then_at}
 
 -- a Label UUID; its virtual address is b529

@@ -12,7 +12,7 @@ use Rattle.mesh_types.specs.declared.jobs.Job.{Job}
 use Rattle.mesh_types.specs.declared.jobs.Job.TheVariants as J
 use Rattle.record_types.specs.declared.records.StoreRecord.{StoreRecord}
 use Rattle.record_types.specs.declared.records.StoreRecord.TheVariants as R
-use Rattle.run_definitions.specs.History.{Insight, OfNothing, OfPdu, Past}
+use Rattle.event_definitions.specs.History.{Insight, OfNothing, OfPdu, Past}
 use Rattle.worked_layers.specs.Walk.{Handled, address, handled, heard, iv, name, start, stored, then_at}
 
 -- 00, the indexes 456 and 123, and the application key

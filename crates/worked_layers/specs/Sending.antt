@@ -14,7 +14,7 @@ use Rattle.mesh_types.specs.declared.events.SendKey.TheVariants as K
 use Rattle.mesh_types.specs.declared.jobs.Job.{Job}
 use Rattle.mesh_types.specs.declared.jobs.Job.TheVariants as J
 use Rattle.record_types.specs.declared.records.StoreRecord.TheVariants as R
-use Rattle.run_definitions.specs.History.{Insight, OfBeacon, OfNothing, OfPdu, Past}
+use Rattle.event_definitions.specs.History.{Insight, OfBeacon, OfNothing, OfPdu, Past}
 use Rattle.worked_layers.specs.Walk.{address, handled, heard, iv, name, start, then_at}
 
 module _ (net_key dev_key pdu : List ℕ) where
@@ -88,12 +88,31 @@ module _ (net_key dev_key pdu : List ℕ) (u v : ℕ) where
   upper = replicate 12 u ++ replicate 4 v
 
   abbrev begin : ℕ → ℕ → Event
-  begin at seq = E.Begin (record { iv = at; seq = seq }) (address 3) (address 0x1201) 7 0 false 0 upper
+  begin at seq =
+      E.Begin
+      (record {
+        name = record { src = address 0x1201; pair = record { iv = at; seq = seq } };
+        dst = address 3;
+        ttl = 7;
+        net = 0;
+        akf = false;
+        aid = 0;
+        upper = upper;
+      })
 
   abbrev segment : ℕ → ℕ → List ℕ → Bool → Job
   segment at seg_o tpdu first =
-      J.Segment (master_material net_key) (record { src = address 0x1201; pair = record { iv = at; seq = 0 } }) 7
-      (address 0x1201) (address 3) seg_o 1 tpdu first
+      J.Segment
+      (record {
+        material = master_material net_key;
+        name = record { src = address 0x1201; pair = record { iv = at; seq = 0 } };
+        ttl = 7;
+        dst = address 3;
+        seg_o = seg_o;
+        seg_n = 1;
+        tpdu = tpdu;
+        first = first;
+      })
 
   -- SEG, then SeqZero 0, SegO and SegN, and the octets
   abbrev segments : ℕ → Bool → List Job

@@ -10,11 +10,11 @@ use Rattle.mesh_types.specs.declared.jobs.Job.{Job}
 use Rattle.node_layers.specs.NodeLayers.{node_layers}
 use Rattle.record_types.specs.declared.records.StoreRecord.{StoreRecord}
 use Rattle.record_types.specs.declared.records.StoreRecord.TheVariants as R
-use Rattle.run_definitions.specs.Answers.{answer_of}
-use Rattle.run_definitions.specs.History.{Insight, Past, Reading}
-use Rattle.run_definitions.specs.Jobs.{jobs_of}
-use Rattle.run_definitions.specs.Layers.{Layers}
-use Rattle.run_definitions.specs.Stores.{stores}
+use Rattle.event_definitions.specs.Answers.{answer_of}
+use Rattle.event_definitions.specs.History.{Insight, Past, Reading}
+use Rattle.event_definitions.specs.Jobs.{jobs_of}
+use Rattle.event_definitions.specs.Layers.{Layers}
+use Rattle.event_definitions.specs.Stores.{stores}
 use Rattle.store_definitions.specs.Config.{config_of}
 
 -- the answer and the jobs of an event

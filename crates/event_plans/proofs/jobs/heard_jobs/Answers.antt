@@ -10,8 +10,8 @@ use Rattle.mesh_reading.specs.Held.{opening_of}
 use Rattle.mesh_types.specs.declared.events.Event.TheVariants as E
 use Rattle.node_layers.specs.NodeLayers.{node_layers}
 use Rattle.node_records.specs.Tables.{config_in}
-use Rattle.run_definitions.specs.History.{Insight}
-use Rattle.run_definitions.specs.Jobs.{jobs_of}
+use Rattle.event_definitions.specs.History.{Insight}
+use Rattle.event_definitions.specs.Jobs.{jobs_of}
 use Rattle.event_plans.proofs.jobs.heard_jobs.Goals as goal
 
 pub returns-in-Beacon : goal.returns-in-Beacon

@@ -5,7 +5,7 @@ use Rattle.mesh_jobs.specs.Own.{IsBefriended}
 use Rattle.mesh_types.specs.declared.events.Event.{Event}
 use Rattle.node_layers.specs.NodeLayers.{node_layers}
 use Rattle.node_records.specs.Tables.{config_in}
-use Rattle.run_definitions.specs.Jobs.{jobs_of}
+use Rattle.event_definitions.specs.Jobs.{jobs_of}
 use Rattle.event_plans.proofs.jobs.plan_jobs.Goals as goal
 
 pub returns-in-Net : goal.returns-in-Net

@@ -1,8 +1,8 @@
 use Rattle.std.proofs.Common.{◌∙◌, refl}
 use Rattle.event_plans.proofs.Delivered.{models_stay, ticked_is, untold_apart, untold_leaves}
 use Rattle.event_plans.proofs.Friends.{friends_stay}
-use Rattle.run_definitions.specs.Answers.{config_before}
-use Rattle.run_definitions.specs.History.{OfNothing}
+use Rattle.event_definitions.specs.Answers.{config_before}
+use Rattle.event_definitions.specs.History.{OfNothing}
 use Rattle.event_plans.proofs.models.publish_due.Goals as goal
 
 pub returns-in-Ticked : goal.returns-in-Ticked

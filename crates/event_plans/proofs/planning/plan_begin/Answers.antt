@@ -17,7 +17,7 @@ returns-clause-planned c past h =
     let t : NodeTablesView = record { hearing = c.tables.inside.hearing; models = c.tables.inside.models; friends = c.tables.inside.friends } in
     let m = c.args.m.now in
     let befriended = c.is_befriended-befriended.result in
-    let event : Event = E.Begin m.name.pair m.dst m.name.src m.ttl m.net m.akf m.aid m.upper in
+    let event : Event = E.Begin m in
     let begun : Answer → TablesView = λ a. record t.hearing { own = fold after t.hearing.own (begin_calls t.hearing.ticks m a) } in
     let stands : IsStanding past c.args.p.now t = subst (λ (v : NodeTablesView). IsStanding past c.args.p.now v) (sym c.tables.view_is) h in
     subst (λ (u : TablesView). IsPlanned past event c.own_plan.result (record t { hearing = u }))

@@ -8,7 +8,6 @@ use Rattle.mesh_types.specs.declared.answers.Answer.{Answer}
 use Rattle.mesh_types.specs.declared.events.Event.{Event}
 use Rattle.mesh_types.specs.declared.events.Event.TheVariants as E
 use Rattle.node_records.specs.Tables.{config_in}
-use Rattle.segment_sender.specs.Held.{IsOutgoing}
 use Rattle.event_plans.proofs.planning.plan_event.Goals as goal
 
 pub returns-in-Raw-clause-planned : goal.returns-in-Raw-clause-planned
@@ -22,17 +21,11 @@ returns-in-Raw-clause-planned c past h =
 
 pub plan_begin-requires-clause-outgoing : goal.plan_begin-requires-clause-outgoing
 plan_begin-requires-clause-outgoing c =
-    let b = c.in-Begin in
-    subst (λ (octets : List ℕ). IsOutgoing (record { name = record { src = b.src; pair = b.pair }; dst = b.dst; ttl = b.ttl; net = b.net; akf = b.akf; aid = b.aid; upper = octets }))
-    (sym c.copied.ensures.value) (subst (λ (e : Event). IsSendable (config_in c.args.p.now) e) b.is c.requires.sendable)
+    subst (λ (e : Event). IsSendable (config_in c.args.p.now) e) c.in-Begin.is c.requires.sendable
 
 pub returns-in-Begin-clause-planned : goal.returns-in-Begin-clause-planned
 returns-in-Begin-clause-planned c past h =
-    let b = c.in-Begin in
-    let u = c.plan_begin.new.tables in
-    subst (λ (e : Event). IsPlanned past e c.plan_begin.result u) (sym b.is)
-    (subst (λ (octets : List ℕ). IsPlanned past (E.Begin b.pair b.dst b.src b.ttl b.net b.akf b.aid octets) c.plan_begin.result u) c.copied.ensures.value
-    (c.plan_begin.ensures.planned past h))
+    subst (λ (e : Event). IsPlanned past e c.plan_begin.result c.plan_begin.new.tables) (sym c.in-Begin.is) (c.plan_begin.ensures.planned past h)
 
 pub returns-in-Kept-clause-planned : goal.returns-in-Kept-clause-planned
 returns-in-Kept-clause-planned c past h =

@@ -7,8 +7,8 @@ use Rattle.mesh_types.specs.declared.answers.Answer.TheVariants as A
 use Rattle.node_layers.specs.NodeLayers.{node_layers}
 use Rattle.node_layers.specs.Reassembly.{messages}
 use Rattle.node_layers.specs.Sending as own
-use Rattle.run_definitions.specs.Answers.{config_before, later}
-use Rattle.run_definitions.specs.History.{OfNothing, now_of}
+use Rattle.event_definitions.specs.Answers.{config_before, later}
+use Rattle.event_definitions.specs.History.{OfNothing, now_of}
 use Rattle.segment_sender.specs.Held.{has_round}
 use Rattle.store_definitions.specs.Config.{Config}
 use Rattle.event_plans.proofs.planning.plan_tick.Goals as goal

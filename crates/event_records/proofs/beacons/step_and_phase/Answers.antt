@@ -4,7 +4,7 @@ use Rattle.event_records.specs.Putting.{AreMoves, ArePuttable}
 use Rattle.event_records.proofs.Puts.{phase_may, phase_moves}
 use Rattle.node_records.specs.Tables.{config_in}
 use Rattle.record_types.specs.declared.records.StoreRecord.{StoreRecord}
-use Rattle.run_definitions.specs.Stores.{phase_records}
+use Rattle.event_definitions.specs.Stores.{phase_records}
 use Rattle.event_records.proofs.beacons.step_and_phase.Goals as goal
 
 pub returns-clause-may : goal.returns-clause-may

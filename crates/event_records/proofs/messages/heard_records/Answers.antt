@@ -7,7 +7,7 @@ use Rattle.mesh_types.specs.declared.answers.Answer.{Answer}
 use Rattle.node_records.specs.Full.{IsFull}
 use Rattle.record_types.specs.declared.records.StoreRecord.{StoreRecord}
 use Rattle.record_types.specs.declared.records.StoreRecord.TheVariants as R
-use Rattle.run_definitions.specs.Uses.{accepted}
+use Rattle.event_definitions.specs.Answers.{accepted}
 use Rattle.event_records.proofs.messages.heard_records.Goals as goal
 
 pub returns-in-Delivered-clause-may : goal.returns-in-Delivered-clause-may

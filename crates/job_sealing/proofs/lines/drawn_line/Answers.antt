@@ -1,8 +1,6 @@
 use Rattle.std.proofs.Common.{ap, sym, ◌∙◌, length, arith}
 use Rattle.job_sealing.specs.declared.messages.Access.{Access}
-use Rattle.job_sealing.specs.declared.segments.Segment.{Segment}
 use Rattle.job_sealing.specs.Sealed.{long_outcome, short_outcome}
-use Rattle.mesh_types.specs.declared.jobs.Job.TheVariants as J
 use Rattle.run_definitions.specs.Lines.{is_drawing, shows_ctl, shows_long, shows_msg}
 use Rattle.job_sealing.proofs.Showing.{is_false, later_shows, shown}
 use Rattle.job_sealing.proofs.lines.drawn_line.Goals as goal
@@ -29,7 +27,4 @@ returns-else-as_slice-le-UNSEGMENTED-clause-shows c =
 pub returns-in-Segment-clause-shows : goal.returns-in-Segment-clause-shows
 returns-in-Segment-clause-shows c =
     let s = c.in-Segment in
-    let segment : Segment = record { material = s.material; name = s.name; ttl = s.ttl; src = s.src; dst = s.dst; seg_o = s.seg_o; seg_n = s.seg_n } in
-    let first = is_false s.first (ap is_drawing (sym s.is) ∙ c.requires.draws) in
-    shown _ _ _ _ _ (s.is ∙ ap (λ b. J.Segment s.material s.name s.ttl s.src s.dst s.seg_o s.seg_n s.tpdu b) first) c.later_segment.ensures.value
-    (later_shows _ segment c.args.pair s.tpdu)
+    shown _ _ _ _ _ s.is c.later_segment.ensures.value (later_shows _ s.segment c.args.pair (is_false s.segment.first (ap is_drawing (sym s.is) ∙ c.requires.draws)))

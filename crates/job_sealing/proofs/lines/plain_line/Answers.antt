@@ -1,5 +1,4 @@
 use Rattle.std.proofs.Common.{refl, ap, sym, ◌∙◌}
-use Rattle.mesh_types.specs.declared.jobs.Job.TheVariants as J
 use Rattle.mesh_types.specs.declared.lines.Outcome.TheVariants as O
 use Rattle.run_definitions.specs.Lines.{is_drawing, shows_bcn, shows_first, shows_relay, shows_rep}
 use Rattle.job_sealing.proofs.Showing.{is_true, shown}
@@ -11,8 +10,7 @@ returns-in-Relay-clause-shows c = shown _ _ _ _ _ c.in-Relay.is c.relayed.ensure
 pub returns-in-Segment-clause-shows : goal.returns-in-Segment-clause-shows
 returns-in-Segment-clause-shows c =
     let s = c.in-Segment in
-    let first = is_true s.first (ap is_drawing (sym s.is) ∙ c.requires.plain) in
-    shown _ _ _ _ _ (s.is ∙ ap (λ b. J.Segment s.material s.name s.ttl s.src s.dst s.seg_o s.seg_n s.tpdu b) first) c.segment_line.ensures.value shows_first
+    shown _ _ _ _ _ s.is c.segment_line.ensures.value (shows_first (is_true s.segment.first (ap is_drawing (sym s.is) ∙ c.requires.plain)))
 
 pub returns-in-Repeat-clause-shows : goal.returns-in-Repeat-clause-shows
 returns-in-Repeat-clause-shows c = shown _ _ _ _ _ c.in-Repeat.is (ap (λ x. O.Rep c.in-Repeat.name x) c.copied.ensures.value) shows_rep

@@ -1,5 +1,5 @@
 use Rattle.std.proofs.Common.{ap, sym, true, ◌∙◌}
-use Rattle.run_definitions.specs.Answers.{is_entry}
+use Rattle.event_definitions.specs.Answers.{is_entry}
 use Rattle.mesh_hearing.proofs.Named.{again_is}
 use Rattle.mesh_hearing.proofs.lower.is_again.Goals as goal
 

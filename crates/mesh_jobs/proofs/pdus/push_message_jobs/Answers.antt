@@ -18,8 +18,8 @@ use Rattle.node_layers.specs.Friendship.{friends, heard_calls}
 use Rattle.node_layers.specs.NodeLayers.{node_layers}
 use Rattle.node_models.specs.Replies.{replies_in}
 use Rattle.node_records.specs.Tables.{config_in}
-use Rattle.run_definitions.specs.History.{now_of}
-use Rattle.run_definitions.specs.Jobs.{message_jobs}
+use Rattle.event_definitions.specs.History.{now_of}
+use Rattle.event_definitions.specs.Jobs.{message_jobs}
 use Rattle.mesh_jobs.proofs.pdus.push_message_jobs.Goals as goal
 
 pub returns-in_default-clause-value : goal.returns-in_default-clause-value

@@ -2,7 +2,7 @@ use Rattle.std.proofs.Common.{◌≡◌, true, false}
 use Rattle.std.specs.List.{list_any}
 use Rattle.mesh_jobs.proofs.Phases.{any_changed_as}
 use Rattle.mesh_jobs.proofs.Rounds.{none_where, put_where}
-use Rattle.run_definitions.specs.Jobs.{is_refreshed}
+use Rattle.event_definitions.specs.Jobs.{is_refreshed}
 use Rattle.mesh_jobs.proofs.refresh.push_refresh.Goals as goal
 
 pub returns-then-any_changed-clause-value : goal.returns-then-any_changed-clause-value

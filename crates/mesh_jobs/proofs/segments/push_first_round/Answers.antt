@@ -6,21 +6,21 @@ use Rattle.layer_definitions.specs.KeyRefresh.{transmit_material}
 use Rattle.layer_definitions.specs.Lower.{last_segment}
 use Rattle.mesh_base.specs.declared.fields.NetMaterial.{NetMaterial}
 use Rattle.mesh_types.specs.declared.jobs.Job.{Job}
-use Rattle.run_definitions.specs.Jobs.{first_round_job}
+use Rattle.event_definitions.specs.Jobs.{first_round_job}
 use Rattle.mesh_jobs.proofs.Rounds.{none_put, one_put, under_none, under_some}
 use Rattle.mesh_jobs.proofs.segments.push_first_round.Goals as goal
 
 pub returns-in_default-clause-value : goal.returns-in_default-clause-value
 returns-in_default-clause-value c =
     let m = c.args.m.now in
-    let job : ℕ → NetMaterial → Job = first_round_job m.name.pair m.dst m.name.src m.ttl m.akf m.aid m.upper in
+    let job : ℕ → NetMaterial → Job = first_round_job m in
     let lacks : transmit_material c.args.p.now.nets m.net ≡ None = cc (c.transmit.ensures.value, c.in_default.is, c.requires.nets) in
     none_put _ _ (under_none job _ (range_with_len 0 (last_segment m.upper + 1)) lacks)
 
 pub loop-seg_o-preserved : goal.loop-seg_o-preserved
 loop-seg_o-preserved c =
     let m = c.args.m.now in
-    let job : ℕ → Job = λ i. first_round_job m.name.pair m.dst m.name.src m.ttl m.akf m.aid m.upper i c.in-Some.material in
+    let job : ℕ → Job = λ i. first_round_job m i c.in-Some.material in
     let i = c.loop-seg_o.seg_o in
     let same : 0 + i ≡ i = omega arith in
     let more : map job (range_with_len 0 (i + 1)) ≡ map job (range_with_len 0 i) ++ c.segment_job.result ∷ [] =
@@ -33,7 +33,7 @@ loop-seg_o-preserved c =
 pub returns-clause-value : goal.returns-clause-value
 returns-clause-value c =
     let m = c.args.m.now in
-    let job : ℕ → NetMaterial → Job = first_round_job m.name.pair m.dst m.name.src m.ttl m.akf m.aid m.upper in
+    let job : ℕ → NetMaterial → Job = first_round_job m in
     let held : transmit_material c.args.p.now.nets m.net ≡ Some c.in-Some.material = cc (c.transmit.ensures.value, c.in-Some.is, c.requires.nets) in
     let last : c.last_segment-seg_o-end.result ≡ last_segment m.upper = c.last_segment-seg_o-end.ensures.value ∙ ap (λ (upper : List ℕ). last_segment upper) c.as_slice.ensures.value in
     let all : c.loop-seg_o.seg_o ≡ last_segment m.upper + 1 = omega (arith, last, c.loop-seg_o-test.false, c.loop-seg_o.auto.seg_o-end) in

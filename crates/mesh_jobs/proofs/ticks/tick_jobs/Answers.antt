@@ -12,8 +12,8 @@ use Rattle.node_layers.specs.Reassembly.{due_jobs, messages}
 use Rattle.node_layers.specs.Sending.{round_jobs}
 use Rattle.node_layers.specs.Sending as own
 use Rattle.node_records.specs.Tables.{config_in}
-use Rattle.run_definitions.specs.Answers.{later}
-use Rattle.run_definitions.specs.Jobs.{beacons_due, jobs_of}
+use Rattle.event_definitions.specs.Answers.{later}
+use Rattle.event_definitions.specs.Jobs.{beacons_due, jobs_of}
 use Rattle.mesh_jobs.proofs.ticks.tick_jobs.Goals as goal
 
 pub returns-clause-value : goal.returns-clause-value

@@ -3,7 +3,7 @@ use Rattle.std.proofs.Common.{◌≡◌, length, map, take}
 use Rattle.element_models.specs.Models.{AreModelsOf}
 use Rattle.std.specs.Prelude.{All}
 use Rattle.node_models.specs.Due.{ShowsOctet, due_row}
-use Rattle.run_definitions.specs.History.{Past}
+use Rattle.event_definitions.specs.History.{Past}
 use Rattle.store_definitions.specs.Config.{Config}
 use Rattle.node_models.proofs.due.with_statuses.Given as goal
 

@@ -4,7 +4,7 @@ use Rattle.model_states.specs.Publication.{heartbeat_shown}
 use Rattle.node_layers.specs.Publishing.{published}
 use Rattle.node_models.proofs.Asked.{keeps_address}
 use Rattle.node_models.proofs.Published.{published_filled, stays}
-use Rattle.run_definitions.specs.Answers.{config_before}
+use Rattle.event_definitions.specs.Answers.{config_before}
 use Rattle.node_models.proofs.laws.node_models_law.Goals as goal
 
 pub returns-clause-more : goal.returns-clause-more

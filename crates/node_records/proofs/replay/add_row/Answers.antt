@@ -1,4 +1,5 @@
 use Rattle.std.proofs.Common.{◌<◌, length, ◌∙◌, arith, true≢false, sym}
+use Rattle.node_limits.specs.declared.TheConstants.{REPLAY_ENTRIES}
 use Rattle.node_records.proofs.Room.{lacks_all}
 use Rattle.node_records.proofs.Rows.{keeps_new, keeps_other}
 use Rattle.node_records.proofs.replay.add_row.Goals as goal
@@ -17,5 +18,5 @@ pub returns-in-None : goal.returns-in-None
 returns-in-None c = λ apart place.
     let seen = c.as_slice.ensures.value ∙ c.in-Err.ensures.unchanged in
     let live = rw seen at c.in-None.ensures.none in
-    let full : length c.args.rows.now < 512 → ⊥ = λ h. true≢false (sym (c.in-Err.ensures.variant.1 h)) in
+    let full : length c.args.rows.now < REPLAY_ENTRIES → ⊥ = λ h. true≢false (sym (c.in-Err.ensures.variant.1 h)) in
     absurd (place (lacks_all c.args.current c.args.rows.now c.args.name.now c.requires.none (omega (arith, full)) live))

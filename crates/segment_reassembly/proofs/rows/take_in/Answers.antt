@@ -2,6 +2,7 @@ use Rattle.std.proofs.Common.{◌≡◌, ◌∙◌, Some, None, false, ap, arith
 use Rattle.std.specs.Prelude.{length, nat_le, slice_index_or, slice_set}
 use Rattle.std.specs.List.{position}
 use Rattle.std.proofs.lemmas.Bool.Decides.{nat_tests}
+use Rattle.node_limits.specs.declared.TheConstants.{MESSAGES_IN_PROGRESS}
 use Rattle.layer_states.specs.Names.{is_name}
 use Rattle.layer_states.specs.Reassembly.{begun, judged, judged_after}
 use Rattle.segment_reassembly.proofs.Messages.{noted_held, refill_same, taken_held, taken_new}
@@ -30,12 +31,12 @@ pub returns-clause-value : goal.returns-clause-value
 returns-clause-value c =
     let lacks : position (λ a. is_name c.args.h.now.name a.name) c.args.rows.now.items ≡ None =
     rw c.as_slice.ensures.value at (sym c.place_of.ensures ∙ c.in-None.is) in
-    let room : nat_le 8 (length c.args.rows.now.items) ≡ false = grind (arith, nat_tests, c.is_full.ensures.value, c.is_full.ensures.fits) in
+    let room : nat_le MESSAGES_IN_PROGRESS (length c.args.rows.now.items) ≡ false = grind (arith, nat_tests, c.is_full.ensures.value, c.is_full.ensures.fits) in
     rw (c.judge-taken.ensures.value, c.begun-message.ensures) (sym (taken_new c.args.rows.now.items c.args.now c.args.h.now lacks room).0)
 
 pub returns-clause-state : goal.returns-clause-state
 returns-clause-state c =
     let lacks : position (λ a. is_name c.args.h.now.name a.name) c.args.rows.now.items ≡ None =
     rw c.as_slice.ensures.value at (sym c.place_of.ensures ∙ c.in-None.is) in
-    let room : nat_le 8 (length c.args.rows.now.items) ≡ false = grind (arith, nat_tests, c.is_full.ensures.value, c.is_full.ensures.fits) in
+    let room : nat_le MESSAGES_IN_PROGRESS (length c.args.rows.now.items) ≡ false = grind (arith, nat_tests, c.is_full.ensures.value, c.is_full.ensures.fits) in
     rw (c.push.ensures.items, c.judge-taken.ensures.state, c.begun-message.ensures) (sym (taken_new c.args.rows.now.items c.args.now c.args.h.now lacks room).1)

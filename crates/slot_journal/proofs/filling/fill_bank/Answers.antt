@@ -1,4 +1,5 @@
 use Rattle.std.proofs.Common.{arith, ℕ, ◌≡◌, ◌<◌, ◌+◌, ◌*◌, ◌∙◌, List, [], length, get_or, refl, subst}
+use Rattle.node_limits.specs.declared.TheConstants.{BANK_RECORDS}
 use Rattle.mesh_base.specs.declared.slot.Slot.{Slot}
 use Rattle.flash_model.proofs.Runs.{keeps_none, keeps_more, begins_none, begins_more}
 use Rattle.slot_definitions.specs.Slots.{text_of}
@@ -32,7 +33,7 @@ loop-k-preserved g c =
     let new = g.F.Flash.chip c.write_slot.new.flash in
     let none : Slot = record { kind = 0; body = [] } in
     let item : Slot = get_or items k none in
-    let few : k < 512 = omega (arith, c.requires.few) in
+    let few : k < BANK_RECORDS = omega (arith, c.requires.few) in
     record {
       keeps = keeps_more start mid new before.keeps wrote.frame;
       filled = λ base empty.
@@ -52,7 +53,7 @@ returns-in_err-write_slot-clause-any_moment g c base empty =
     let k = c.loop-k.k in
     let items = c.args.items.now in
     let none : Slot = record { kind = 0; body = [] } in
-    let few : k < 512 = omega (arith, c.requires.few) in
+    let few : k < BANK_RECORDS = omega (arith, c.requires.few) in
     let so = before.filled base empty in
     let mid = g.F.Flash.chip c.loop-k.flash in
     item_leaves c.args.bank items k base mid c.requires.low few so (g.F.Flash.chip c.args.flash.now) (g.F.Flash.chip c.write_slot.new.flash) (text_of (get_or items k none))

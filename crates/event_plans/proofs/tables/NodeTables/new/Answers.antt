@@ -1,7 +1,7 @@
 use Rattle.std.proofs.Common.{List, subst, sym}
 use Rattle.mesh_hearing.specs.Tables.{AreTablesOf}
 use Rattle.node_friends.specs.Steps.{AreFriendsOf}
-use Rattle.run_definitions.specs.History.{Told}
+use Rattle.event_definitions.specs.History.{Told}
 use Rattle.event_plans.proofs.tables.NodeTables.new.Goals as goal
 
 pub returns-clause-opened : goal.returns-clause-opened

@@ -7,7 +7,7 @@ use Rattle.locked_node.proofs.node.Node.known.Goals as goal
 pub returns-clause-known : goal.returns-clause-known
 returns-clause-known g c =
     let h = c.self.invariant in
-    subst (λ v. IsNode g.M.Machine.layers g.M.Machine.image g.F.Flash.chip v) c.self.view_is (record {
+    subst (λ v. IsNode g.M.Machine.role g.M.Machine.image g.F.Flash.chip v) c.self.view_is (record {
       over = h.over;
       read = h.read;
       life = c.tells.ensures.known c.self.inside.flash h.over c.self.inside.machine.value h.tie;

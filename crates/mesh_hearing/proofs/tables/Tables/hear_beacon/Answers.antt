@@ -8,7 +8,7 @@ use Rattle.mesh_hearing.specs.Below.{beacon_row}
 use Rattle.mesh_hearing.specs.Tables.{AreTablesOf, TablesView}
 use Rattle.mesh_hearing.proofs.Passing.{beacon_heard, beacon_more, beacon_reset, beacon_unread, quiet_more}
 use Rattle.node_records.specs.Tables.{config_in}
-use Rattle.run_definitions.specs.History.{OfBeacon, OfNothing}
+use Rattle.event_definitions.specs.History.{OfBeacon, OfNothing}
 use Rattle.mesh_hearing.proofs.tables.Tables.hear_beacon.Goals as goal
 
 pub returns-then-p : goal.returns-then-p

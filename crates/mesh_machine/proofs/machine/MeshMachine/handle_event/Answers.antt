@@ -23,10 +23,10 @@ use Rattle.node_models.specs.Models.{AreWithin, ModelsView}
 use Rattle.node_records.specs.Meaning.{IsMeaningOf}
 use Rattle.node_records.specs.Tables.{config_in}
 use Rattle.node_records.specs.declared.persist.Persist.{Persist}
-use Rattle.run_definitions.specs.Answers.{config_before}
-use Rattle.run_definitions.specs.History.{Insight, Past}
-use Rattle.run_definitions.specs.Jobs.{jobs_of}
-use Rattle.run_definitions.specs.Stores.{stores}
+use Rattle.event_definitions.specs.Answers.{config_before}
+use Rattle.event_definitions.specs.History.{Insight, Past}
+use Rattle.event_definitions.specs.Jobs.{jobs_of}
+use Rattle.event_definitions.specs.Stores.{stores}
 use Rattle.store_definitions.specs.Node.{IsWhole}
 use Rattle.store_world.specs.Standing.{IsWorldOf}
 use Rattle.mesh_machine.proofs.machine.MeshMachine.handle_event.Goals as goal

@@ -5,7 +5,7 @@ use Rattle.element_models.specs.Messages.{message_in}
 use Rattle.model_states.specs.Publication.{no_heartbeat}
 use Rattle.node_layers.specs.Configuration.{config_act}
 use Rattle.node_layers.specs.Publishing.{published_by_act, published_by_message}
-use Rattle.run_definitions.specs.History.{now_of}
+use Rattle.event_definitions.specs.History.{now_of}
 use Rattle.store_definitions.specs.Config.{config_of}
 use Rattle.node_models.proofs.Alike.{same_changes, same_published}
 use Rattle.node_models.proofs.Published.{by_message}

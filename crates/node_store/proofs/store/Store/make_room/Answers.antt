@@ -1,4 +1,5 @@
 use Rattle.std.proofs.Common.{◌≤◌, length, ap, sym, subst, arith}
+use Rattle.node_limits.specs.declared.TheConstants.{SNAPSHOT_RECORDS}
 use Rattle.node_snapshot.specs.Snapshot.{snapshot_of}
 use Rattle.node_store.specs.Tie.{IsStoreOf}
 use Rattle.node_store.specs.View.{StoreView}
@@ -7,14 +8,14 @@ use Rattle.node_store.proofs.Mounts.{on_ok}
 use Rattle.node_store.proofs.Rooms.{room_few}
 use Rattle.node_store.proofs.store.Store.make_room.Goals as goal
 
-pub returns-then-used-lt-ROOM-clause-any_moment : goal.returns-then-used-lt-ROOM-clause-any_moment
-returns-then-used-lt-ROOM-clause-any_moment g c records tie = held_unchanged (g.F.Flash.chip c.args.flash.now) c.args.self.now records tie (g.met.F.Flash.only_now c.args.flash.now)
+pub returns-then-used-lt-BANK_RECORDS-clause-any_moment : goal.returns-then-used-lt-BANK_RECORDS-clause-any_moment
+returns-then-used-lt-BANK_RECORDS-clause-any_moment g c records tie = held_unchanged (g.F.Flash.chip c.args.flash.now) c.args.self.now records tie (g.met.F.Flash.only_now c.args.flash.now)
 
-pub returns-then-used-lt-ROOM-clause-bounded : goal.returns-then-used-lt-ROOM-clause-bounded
-returns-then-used-lt-ROOM-clause-bounded g c = room_few c.args.self.now (λ full. let below = c.if-used-lt-ROOM.true in let is = ap (λ (v : StoreView). v.journal.used) c.self.view_is in let used = c.used.ensures.value in absurd (omega (arith, full, below, is, used)))
+pub returns-then-used-lt-BANK_RECORDS-clause-bounded : goal.returns-then-used-lt-BANK_RECORDS-clause-bounded
+returns-then-used-lt-BANK_RECORDS-clause-bounded g c = room_few c.args.self.now (λ full. let below = c.if-used-lt-BANK_RECORDS.true in let is = ap (λ (v : StoreView). v.journal.used) c.self.view_is in let used = c.used.ensures.value in absurd (omega (arith, full, below, is, used)))
 
 pub returns-clause-bounded : goal.returns-clause-bounded
-returns-clause-bounded g c = room_few c.args.self.now (λ full. subst (λ (v : StoreView). length (snapshot_of v.persist) ≤ 404) c.self.view_is c.compact.ensures.few)
+returns-clause-bounded g c = room_few c.args.self.now (λ full. subst (λ (v : StoreView). length (snapshot_of v.persist) ≤ SNAPSHOT_RECORDS) c.self.view_is c.compact.ensures.few)
 
 pub returns-clause-kept : goal.returns-clause-kept
 returns-clause-kept g c records tie =

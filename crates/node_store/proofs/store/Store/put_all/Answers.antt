@@ -1,4 +1,5 @@
 use Rattle.std.proofs.Common.{◌≡◌, ℕ, ◌+◌, ◌*◌, ◌<◌, ◌++◌, length, take, refl, sym, ◌∙◌, arith, true≢false}
+use Rattle.node_limits.specs.declared.TheConstants.{PUT_CALLS}
 use Rattle.flash_model.proofs.Runs.{at_most_more, begins_none, keeps_more, keeps_none}
 use Rattle.node_records.specs.Tables.{config_in}
 use Rattle.node_store.proofs.Mounts.{err_of, on_err_all, on_ok_none}
@@ -49,7 +50,7 @@ loop-item-preserved g c =
           let all = records ++ take i items in
           fronts_more items i _ less start first records mid store fronts new after may.1 put.puts.value (put.puts.kept all fronts.tie) (put.cut.any_moment all fronts.tie) (put.cut.mark all fronts.tie);
       calls = λ steady room. calls_more (length items) i start mid new first store less room (before.calls steady room) after (put.costs (before.keeps.steady ∙ steady)).calls put.used;
-      spent = λ steady. at_most_more (820 * i) 820 (820 * (i + 1)) start mid new (omega arith) (before.spent steady) (put.bounded (before.keeps.steady ∙ steady));
+      spent = λ steady. at_most_more (PUT_CALLS * i) PUT_CALLS (PUT_CALLS * (i + 1)) start mid new (omega arith) (before.spent steady) (put.bounded (before.keeps.steady ∙ steady));
       reads = put.leaves.reads ∙ before.reads;
       faults = put.leaves.no_fault ∙ before.faults;
     }
@@ -105,7 +106,7 @@ returns-in_err-put-clause-bounded g c steady =
     let i = c.loop-item.item-index in
     let n : ℕ = length c.args.items.now in
     let less : i < n = c.loop-item-test.true in
-    at_most_more (820 * i) 820 (820 * n) (g.F.Flash.chip c.args.flash.now) (g.F.Flash.chip c.loop-item.flash) (g.F.Flash.chip c.put.new.flash) (omega (arith, less)) (before.spent steady)
+    at_most_more (PUT_CALLS * i) PUT_CALLS (PUT_CALLS * n) (g.F.Flash.chip c.args.flash.now) (g.F.Flash.chip c.loop-item.flash) (g.F.Flash.chip c.put.new.flash) (omega (arith, less)) (before.spent steady)
     (c.in_err-put.ensures.bounded (before.keeps.steady ∙ steady))
 
 pub returns-clause-bounded : goal.returns-clause-bounded

@@ -1,5 +1,6 @@
 use Rattle.std.proofs.Common.{◌≡◌, ◌+◌, ◌*◌, ◌≤◌, List, ◌++◌, false}
 use Rattle.std.specs.Prelude.{length, take, drop, fold, IsTrue}
+use Rattle.node_limits.specs.declared.TheConstants.{PUT_CALLS}
 use Rattle.flash_model.specs.Arming.{Begins, BeginsAtMost}
 use Rattle.flash_model.specs.Chip.{Keeps}
 use Rattle.record_types.specs.declared.records.StoreRecord.{StoreRecord}
@@ -20,7 +21,7 @@ invariant-loop-item g l = record {
   value : (records : List StoreRecord) → IsMeaningOf records l.initial.self.persist → IsMeaningOf (records ++ take l.item-index l.items) l.self.persist;
   fronts : (records : List StoreRecord) → IsStoreOf (g.F.Flash.chip l.initial.flash) l.initial.self records → Fronts (g.F.Flash.chip l.initial.flash) l.initial.self records l.items l.item-index (g.F.Flash.chip l.flash) l.self;
   calls : IsTrue (g.F.Flash.chip l.initial.flash).steady → l.initial.self.journal.used + length l.items ≤ 1023 → Begins (2 * l.item-index) (g.F.Flash.chip l.initial.flash) (g.F.Flash.chip l.flash) × (l.self.journal.used ≡ l.initial.self.journal.used + l.item-index);
-  spent : IsTrue (g.F.Flash.chip l.initial.flash).steady → BeginsAtMost (820 * l.item-index) (g.F.Flash.chip l.initial.flash) (g.F.Flash.chip l.flash);
+  spent : IsTrue (g.F.Flash.chip l.initial.flash).steady → BeginsAtMost (PUT_CALLS * l.item-index) (g.F.Flash.chip l.initial.flash) (g.F.Flash.chip l.flash);
   reads : (g.F.Flash.chip l.flash).reads ≡ (g.F.Flash.chip l.initial.flash).reads;
   faults : (g.F.Flash.chip l.flash).faults ≡ (g.F.Flash.chip l.initial.flash).faults;
 }

@@ -1,0 +1,4 @@
+pub mod Each
+pub mod Accepting
+pub mod Events
+pub mod Handling

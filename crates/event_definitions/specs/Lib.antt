@@ -1,0 +1,10 @@
+pub mod History
+pub mod Layers
+pub mod Answers
+pub mod Readings
+pub mod Stores
+pub mod Jobs
+pub mod Role
+pub mod Handling
+pub mod Fit
+pub mod Safe

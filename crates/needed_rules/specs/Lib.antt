@@ -1,0 +1,2 @@
+pub mod WrittenRun
+pub mod Needed
