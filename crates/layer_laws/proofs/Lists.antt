@@ -4,7 +4,6 @@ use Rattle.std.specs.Prelude.{slice_index_or, slice_set}
 use Rattle.std.specs.Bool.{⊤}
 use Rattle.std.specs.List.{AllByRecursion as Every, cons_option, filter_map, flat_map, list_any, fold}
 use Rattle.std.specs.Option.{option_to_list}
-use Rattle.config_definitions.proofs.Cases.{Inside}
 pub use Rattle.config_definitions.proofs.Cases.{Inside, by_test, option_cases, result_cases, when}
 use Rattle.run_safety.proofs.Lists.{every_append}
 
