@@ -13,7 +13,7 @@ ghost use Rattle.app_keys.specs.Held.{pair_of, sends_new};
 
 use arrayvec::ArrayVec;
 use kept_keys::{BoundSchedule, UpperSchedule};
-use mesh_base::keys::{AppKeyRow, NetKeyRow, UpperKey};
+use mesh_base::keys::{AppKeyRow, NetKeyRow, UpperKey, app_row, net_row};
 use mesh_base::table::UpperKeys;
 use mesh_kdf::k4;
 use node_limits::{APPLICATION_KEYS, HEARD_APPLICATION_KEYS};
@@ -78,20 +78,6 @@ pub(crate) fn add(list: &mut UpperKeys, net: u16, aid: u8, value: &BoundSchedule
     }
 }
 
-// The row of this application key index.
-fn row_at(rows: &[AppKeyRow], index: u16) -> Option<&AppKeyRow>
-    ensures { option_copied result ≡ app_row rows.now index }
-{
-    rows.iter().find(|row| row.index == index)
-}
-
-// The row of this network key index.
-fn net_at(nets: &[NetKeyRow], index: u16) -> Option<&NetKeyRow>
-    ensures { option_copied result ≡ net_row nets.now index }
-{
-    nets.iter().find(|net| net.index == index)
-}
-
 // Whether what is sent goes under the new value: where the network key is in phase 2.
 fn sends_new(row: &AppKeyRow, net: &NetKeyRow) -> bool
     ensures { result ≡ sends_new row.now net.now }
@@ -125,8 +111,8 @@ pub(crate) fn sent_under<'a>(
     requires { bound.now ≡ bound_keys rows.now }
     ensures value { option_map pair_of (option_copied result) ≡ transmit_app rows.now nets.now index }
 {
-    let row = row_at(rows, index)?;
-    let net = net_at(nets, row.net)?;
+    let row = app_row(rows, index)?;
+    let net = net_row(nets, row.net)?;
     if sends_new(row, net) {
         new_at(bound, index)
     } else {

@@ -9,7 +9,6 @@ ghost use Rattle.layer_states.specs.declared.friends.QueueEntry.TheVariants as Q
 use crate::queue::{
     answer_again, answer_next, drop_answered, enqueue_heard, enqueue_own, queue_left,
 };
-use crate::request::is_unicast;
 use layer_states::friends::{AddressTable, Friendship, KeptPdu, OwnShort, PollAnswer};
 use mesh_base::address::Address;
 use mesh_base::fields::{Heard, NetFields};
@@ -79,7 +78,7 @@ pub(crate) fn poll_clear(s: &Friendship) -> Option<(Address, u16)>
     ensures { result ≡ poll_clear_in s.now }
 {
     let previous = s.request.previous;
-    if s.fsn.is_none() && is_unicast(previous) && previous.0 != s.own.0 {
+    if s.fsn.is_none() && previous.is_unicast() && previous.0 != s.own.0 {
         Some((previous, s.request.lpn_counter))
     } else {
         None
