@@ -2,7 +2,8 @@
 for each job; what they are is told under the pointer."""
 from typing import NamedTuple
 
-from .marks import CUT, GROUP_OF, NOT_SENT_FRAME, REFILL, SENT_FRAME, entry_title, job_title, seconds
+from .marks import (CUT, GROUP_OF, NOT_SENT_FRAME, REFILL, SENT_FRAME, entry_title, job_title,
+                    seconds)
 from .numbers import Range, refills
 from .report import Job
 from .runs import LifeRun, Step
@@ -10,6 +11,7 @@ from .svg import Drawing
 
 GUTTER, CELL, GAP = 118, 13, 2
 CELL_HEIGHT, JOBS_HEIGHT, LANE_GAP, ROW_GAP = 15, 13, 3, 7
+LANE = '#dfe3e8'
 MOST_STROKES = 5
 LETTERS = {'net': '', 'bcn': 'B', 'send': 'S', 'raw': 'R', 'tick': 'T', 'begin': 'b', 'kept': 'k'}
 LEGEND = 'cells: ' + ', '.join(f'{letter} {kind}' if letter else f'none {kind}'
@@ -17,12 +19,16 @@ LEGEND = 'cells: ' + ', '.join(f'{letter} {kind}' if letter else f'none {kind}'
 
 
 class CellRow(NamedTuple):
-    """Some entries of a life beside one another."""
+    """Some entries of a life beside one another, in the lanes of the bearers that have any."""
     life: int
     steps: list[Step]
-    bearers: list[int]
     filled: dict[tuple[int, int], Range]
     is_cut: bool
+
+    @property
+    def bearers(self) -> list[int]:
+        """The bearers whose lanes are here."""
+        return sorted({step.entry.bearer for step in self.steps})
 
     @property
     def height(self) -> float:
@@ -33,9 +39,8 @@ class CellRow(NamedTuple):
 def cell_rows_of(run: LifeRun, width: float) -> list[CellRow]:
     """The rows of a life that fit into a width."""
     count = max(1, int((width - GUTTER) / CELL))
-    bearers = sorted({step.entry.bearer for step in run.steps})
     filled = refills(run.life)
-    return [CellRow(run.life.number, run.steps[at:at + count], bearers, filled,
+    return [CellRow(run.life.number, run.steps[at:at + count], filled,
                     run.life.ending == 'cut' and at + count >= len(run.steps))
             for at in range(0, len(run.steps), count)]
 
@@ -72,6 +77,8 @@ def draw_cell_row(drawing: Drawing, row: CellRow, x: float, y: float) -> None:
     drawing.text(x, y + 23, seconds(first.at), 9, '#777')
     for bearer in row.bearers:
         drawing.text(x + GUTTER - 24, y + 11, f'b{bearer}', 10, '#444')
+        drawing.line(x + GUTTER, y + CELL_HEIGHT / 2, x + GUTTER + CELL * len(row.steps) - GAP,
+                     y + CELL_HEIGHT / 2, LANE)
         for place, step in enumerate(row.steps):
             if step.entry.bearer == bearer:
                 _draw_cell(drawing, row, step, x + GUTTER + CELL * place, y)

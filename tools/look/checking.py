@@ -1,8 +1,8 @@
 """Compares what tshark reads from a capture with what script and report tell of each PDU.
 
-Three things tshark 4.0 doesn't read, and so nothing of them is due: a network PDU under the
-credentials of a friendship, for which its tables have no place; one of fewer than 18 octets; and
-the payload under a device key to an address that isn't unicast.
+What tshark 4.0 doesn't read isn't due: a network PDU under the credentials of a friendship, for
+which its tables have no place; one of fewer than 18 octets; the payload under a device key to an
+address that isn't unicast, and one to a virtual address that was sealed without a label.
 """
 import shutil
 import subprocess
@@ -13,7 +13,7 @@ from typing import NamedTuple
 
 from .capturing import capture_of
 from .hearing import HEARD, octets_heard
-from .forms import is_unicast
+from .forms import is_unicast, is_virtual
 from .keys import Keys, keys_of
 from .report import Job, report_of
 from .runs import LifeRun, Step, run_of_file
@@ -58,8 +58,9 @@ def _network(iv: str, ctl: int, ttl: str, seq: str, src: str, dst: str | int) ->
 
 
 def _payload(key: str, fields: Fields, payload: str) -> Fields:
-    """The payload, where tshark tries the key."""
-    is_tried = key != 'dev' or is_unicast(fields['DST'])
+    """The payload of a message without a label, where tshark tries the key."""
+    dst = fields['DST']
+    is_tried = is_unicast(dst) or key != 'dev' and not is_virtual(dst)
     return {'payload': payload.lower()} if is_tried else {}
 
 
@@ -70,8 +71,11 @@ def _of_peer(words: tuple[str, ...]) -> Fields:
 
 def _of_talk(words: tuple[str, ...]) -> Fields:
     _, key, iv, ttl, auth, seq, src, dst, piece, payload = words
-    to = virtual_address(bytes.fromhex(dst[2:])) if dst.startswith('v:') else dst
+    has_label = dst.startswith('v:')
+    to = virtual_address(bytes.fromhex(dst[2:])) if has_label else dst
     fields = _network(iv, ACCESS, ttl, seq, src, to)
+    if piece == 'u' and has_label and key.startswith('app:'):
+        return fields | {'payload': payload.lower()}
     if piece == 'u':
         return fields | _payload(key[:3], fields, payload)
     return fields | {'SegO': int(piece), 'SeqZero': int(auth, 16) & SEQ_ZERO}

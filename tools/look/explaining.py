@@ -21,7 +21,8 @@ NUMBER = decimal('N', 2**32 - 1)
 
 
 def _shown(word: str) -> str:
-    """A word, or its front where it is long."""
+    """A word, or its front where it is long; octets that no line has are told by their number."""
+    word = re.sub('[^ -~]', lambda odd: f'\\x{ord(odd[0]):02x}', word)
     if len(word) <= LONGEST_WORD:
         return word or '(an empty word)'
     return f'{word[:LONGEST_WORD]}… ({len(word)} characters)'

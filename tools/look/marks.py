@@ -83,7 +83,7 @@ def details(step: Step) -> list[str]:
         src, dst, _, seq, opcode, params = words
         return [f'{src} → {dst}', f'SEQ {seq}', control_words(opcode, params)]
     if answer == 'replay':
-        return ['the list has', f'SEQ {words[1]}', f'IV {words[0]}']
+        return [*_of_script(step.event)[:2], f'the list has {words[1]}']
     if answer == 'waiting':
         pieces = 'piece is' if words[0] == '1' else 'pieces are'
         return [f'{words[0]} {pieces} missing', *_of_script(step.event)[:2]]

@@ -46,14 +46,17 @@ def refills(life: Life) -> dict[tuple[int, int], Range]:
     return found
 
 
-def passed_over(life: Life, after: Life | None) -> Range | None:
+def passed_over(life: Life, after: Life | None) -> list[Range]:
     """The numbers that no line of a life shows, though the next life begins above them. Nothing is
-    told where that one wasn't run, or transmits under another IV Index."""
+    told where that one wasn't run; numbers under an IV Index that is over aren't looked at."""
     if not (life.opening and after and after.opening):
-        return None
+        return []
     iv, end = after.opening.transmit, after.opening.next
-    shown = [seq for _, under, seq in drawn(life) if under == iv]
-    if not shown and life.opening.transmit != iv:
-        return None
-    first = max(shown) + 1 if shown else life.opening.next
-    return Range(iv, first, end - 1) if first < end else None
+    first = life.opening.next if life.opening.transmit == iv else 0
+    shown = sorted({seq for _, under, seq in drawn(life) if under == iv})
+    found = []
+    for seq in (*shown, end):
+        if first < seq:
+            found.append(Range(iv, first, seq - 1))
+        first = max(first, seq + 1)
+    return found

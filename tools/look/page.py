@@ -14,6 +14,8 @@ from .svg import GLYPH, Drawing
 MARGIN, HEAD, NOTE, BETWEEN = 14, 24, 20, 12
 LEGEND_LINE = 18
 WIDTH, CELLS_FROM = 960, 150
+MOST_TOLD = 3
+FAINT, PASSED_OVER = '#666', '#9a5b00'
 ENDINGS = {'end': 'the life ended', 'wasreset': 'not run: the node was reset',
            'cut': 'not run: the flash failed as it opened', None: 'the report ends here'}
 
@@ -85,15 +87,18 @@ class Picture:
             self._note(f'✂ power cut: {life.calls} program and erase calls were begun', CUT,
                        is_filled=True)
         else:
-            self._note(ENDINGS[life.ending], '#666')
-        for event in run.unanswered[:3]:
-            self._note(f'no entry: {event_words(event)}', '#666')
-        if len(run.unanswered) > 3:
-            self._note(f'no entry: {len(run.unanswered) - 3} lines more of the script', '#666')
+            self._note(ENDINGS[life.ending], FAINT)
+        for event in run.unanswered[:MOST_TOLD]:
+            self._note(f'no entry: {event_words(event)}', FAINT)
+        if len(run.unanswered) > MOST_TOLD:
+            self._note(f'no entry: {len(run.unanswered) - MOST_TOLD} lines more of the script',
+                       FAINT)
         passed = passed_over(life, after)
         if passed:
-            self._note(f'numbers passed over: {passed} ({passed.count}), reserved and shown by no '
-                       'line', '#9a5b00')
+            told = ', '.join(f'{it} ({it.count})' for it in passed[:MOST_TOLD])
+            more = f' and {len(passed) - MOST_TOLD} more' if len(passed) > MOST_TOLD else ''
+            self._note(f'numbers passed over: {told}{more}, reserved and shown by no line',
+                       PASSED_OVER)
         self.y += 4
 
 

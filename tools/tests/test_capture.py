@@ -6,6 +6,7 @@ import unittest
 from pathlib import Path
 
 from look.advertising import MESH_MESSAGE, advertisement
+from look.capturing import packets_of
 from look.cases import EXAMPLES, examples, with_octets
 from look.checking import compare, tshark
 from look.hearing import octets_heard
@@ -121,6 +122,23 @@ class Octets(unittest.TestCase):
         plain = ''.join(line.rsplit(' ', 1)[0] + '\n' if line[0] == 's' else f'{line}\n'
                         for line in report.splitlines())
         self.assertEqual(with_octets(script, plain), report)
+
+    def test_as_it_comes(self) -> None:
+        """A log that tells each entry with its jobs at once gives the same capture."""
+        case = next(case for case in examples() if case.name == 'dimmer.mesh')
+        opening, *lines, last = case.report.splitlines()
+        entries = [line for line in lines if line[0] == 'e']
+        jobs = [line for line in lines if line[0] == 's']
+        log = [opening]
+        for entry in entries:
+            number = entry.split()[1]
+            log += [entry, *(job for job in jobs if job.split()[2].startswith(f'{number}.'))]
+        self.assertNotEqual([opening, *lines], log)
+        script = read_script(case.script)
+        found = [packets_of(run_of(read_report('\n'.join([*text, last, ''])), script))
+                 for text in ([opening, *lines], log)]
+        self.assertEqual(*found)
+        self.assertEqual(len(found[0]), 15)
 
     @unittest.skipUnless(tshark(), 'no tshark here')
     def test_difference(self) -> None:

@@ -34,13 +34,21 @@ class Numbers(unittest.TestCase):
                          [{(2, 1): Range(0x12345678, 0, 0xff)}, {},
                           {(2, 1): Range(0x12345678, 0x100, 0x1ff)}])
         self.assertEqual([passed_over(*pair) for pair in zip(lives, [*lives[1:], None])],
-                         [Range(0x12345678, 4, 0xff), None, None])
+                         [[Range(0x12345678, 4, 0xff)], [], []])
 
     def test_iv_update(self) -> None:
         """Nothing is told of numbers under an IV Index that ended."""
         lives = lives_of('iv_update')
-        self.assertEqual(passed_over(lives[0], lives[1]), Range(5, 1, 0xff))
-        self.assertIsNone(passed_over(lives[1], lives[2]))
+        self.assertEqual(passed_over(lives[0], lives[1]), [Range(5, 1, 0xff)])
+        self.assertEqual(passed_over(lives[1], lives[2]), [])
+
+    def test_holes(self) -> None:
+        """Numbers between two that a cut life shows."""
+        lives = read_report('life 1 00000005 n 00000005 000000\ne 1 b0 1 tick ticked 1\n'
+                            's b0 1.1 late 00000005 000001\ns b0 1.2 late 00000005 000004\ncut 3\n'
+                            'life 2 00000005 n 00000005 000100\nend\n')
+        self.assertEqual(passed_over(*lives),
+                         [Range(5, 0, 0), Range(5, 2, 3), Range(5, 5, 0xff)])
 
     def test_many(self) -> None:
         """A refill before each number that is a multiple of 256, once."""

@@ -16,6 +16,7 @@ use kept_keys::{BoundSchedule, UpperSchedule};
 use mesh_base::keys::{AppKeyRow, NetKeyRow, UpperKey};
 use mesh_base::table::UpperKeys;
 use mesh_kdf::k4;
+use node_limits::{APPLICATION_KEYS, HEARD_APPLICATION_KEYS};
 
 // An application key with its AID (section 3.8.6.2).
 #[tactic(auto, unfolding(cipher_definitions::specs::Kdf::aid))]
@@ -42,8 +43,8 @@ fn kept(row: &AppKeyRow, fresh: bool, key: &[u8; 16]) -> BoundSchedule
 }
 
 // Puts the values of a row behind the others, the old one before the new.
-fn add_values(bound: &mut ArrayVec<BoundSchedule, 16>, row: &AppKeyRow)
-    requires room { array_vec_len bound.old + 2 ≤ 16 }
+fn add_values(bound: &mut ArrayVec<BoundSchedule, HEARD_APPLICATION_KEYS>, row: &AppKeyRow)
+    requires room { array_vec_len bound.old + 2 ≤ HEARD_APPLICATION_KEYS }
     ensures value { bound.new.items
         ≡ bound.old.items ++ keys_of (bound_key row.now.net row.now.index) row.now.key row.now.next }
     ensures length { array_vec_len bound.new ≤ array_vec_len bound.old + 2 }
@@ -55,8 +56,8 @@ fn add_values(bound: &mut ArrayVec<BoundSchedule, 16>, row: &AppKeyRow)
 }
 
 /// The values of these rows.
-pub(crate) fn keep(rows: &[AppKeyRow]) -> ArrayVec<BoundSchedule, 16>
-    requires room { length rows.now ≤ 8 }
+pub(crate) fn keep(rows: &[AppKeyRow]) -> ArrayVec<BoundSchedule, HEARD_APPLICATION_KEYS>
+    requires room { length rows.now ≤ APPLICATION_KEYS }
     ensures value { result.items ≡ bound_keys rows.now }
 {
     let mut bound = ArrayVec::new();
@@ -68,7 +69,7 @@ pub(crate) fn keep(rows: &[AppKeyRow]) -> ArrayVec<BoundSchedule, 16>
 
 /// Puts a value behind the others, if it is bound to this network key and has this AID.
 pub(crate) fn add(list: &mut UpperKeys, net: u16, aid: u8, value: &BoundSchedule)
-    requires room { length list.old < 16 }
+    requires room { length list.old < HEARD_APPLICATION_KEYS }
     ensures value { list.new ≡ list.old ++ fitting_keys net aid (value.now ∷ []) }
     ensures length { length list.new ≤ length list.old + 1 }
 {

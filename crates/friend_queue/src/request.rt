@@ -12,6 +12,7 @@ use mesh_base::control::{Offer, Request};
 use mesh_base::keys::NetKeyRow;
 use mesh_base::table::Table;
 use net_keys::friendship;
+use node_limits::{FRIEND_ADDRESSES, FRIEND_QUEUE, FRIEND_QUEUE_LOG};
 
 /// Whether an address is that of an element.
 pub(crate) fn is_unicast(a: Address) -> bool
@@ -34,7 +35,7 @@ pub(crate) fn field_outside(lpn: Address, r: &Request) -> Option<u8>
 {
     let r = *r;
     let queue_size_log = r.criteria % 8;
-    if !(1 <= queue_size_log && queue_size_log <= 4) {
+    if !(1 <= queue_size_log && queue_size_log <= FRIEND_QUEUE_LOG) {
         Some(1)
     } else if r.receive_delay < 0x0a {
         Some(2)
@@ -66,8 +67,8 @@ pub(crate) fn offer_of(counter: u16) -> Offer
 {
     Offer {
         receive_window: 0x64,
-        queue_size: 0x10,
-        subscription_list_size: 0x10,
+        queue_size: FRIEND_QUEUE as u8,
+        subscription_list_size: FRIEND_ADDRESSES as u8,
         rssi: 0x7f,
         friend_counter: counter,
     }

@@ -15,6 +15,7 @@ use mesh_base::address::Address;
 use mesh_base::fields::{Heard, NetFields};
 use mesh_base::octets::Octets;
 use mesh_base::pair::Name;
+use node_limits::FRIEND_ADDRESSES;
 
 /// Whether a Poll came.
 pub(crate) fn is_friendship(s: &Friendship) -> bool
@@ -190,7 +191,7 @@ pub(crate) fn put_own_of(s: &mut Friendship, m: &OwnShort)
 fn add(list: &mut AddressTable, a: Address)
     ensures { list.new ≡ with_address list.old a }
 {
-    if has(list.as_slice(), a) || list.len() >= 16 {
+    if has(list.as_slice(), a) || list.len() >= FRIEND_ADDRESSES {
         return;
     }
     let _ = list.push(a);

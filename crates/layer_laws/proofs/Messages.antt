@@ -16,7 +16,7 @@ use Rattle.model_states.specs.declared.publication.HeartbeatRow.{HeartbeatRow}
 use Rattle.node_layers.specs.Configuration.{config_act, is_for_server}
 use Rattle.record_types.specs.declared.records.StoreRecord.{StoreRecord}
 use Rattle.record_types.specs.declared.records.StoreRecord.TheVariants as R
-use Rattle.run_definitions.specs.Layers.{AccessMessage}
+use Rattle.event_definitions.specs.Layers.{AccessMessage}
 use Rattle.store_definitions.specs.Config.{Config}
 use Rattle.store_definitions.specs.Ranges.{IsInRange}
 use Rattle.layer_laws.proofs.Acts.{Acted, acted_pick, nothing}

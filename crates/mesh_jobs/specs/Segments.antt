@@ -3,7 +3,7 @@ use Rattle.std.specs.Prelude.{ℕ, List, map}
 use Rattle.mesh_types.specs.declared.events.Outgoing.{Outgoing}
 use Rattle.mesh_base.specs.declared.fields.NetMaterial.{NetMaterial}
 use Rattle.mesh_types.specs.declared.jobs.Job.{Job}
-use Rattle.run_definitions.specs.Jobs.{segment_job}
+use Rattle.event_definitions.specs.Jobs.{segment_job}
 
 -- the jobs of these pieces under one material
 abbrev pub segments_under : NetMaterial → Outgoing → List ℕ → List Job

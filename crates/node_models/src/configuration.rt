@@ -22,7 +22,7 @@ use model_publish::{HeartbeatRow, Publisher, rows_law};
 use node_records::{Persist, StoreRecord};
 
 /// The feature that is the Default TTL, by its number in records.
-const DEFAULT_TTL: u8 = 2;
+const DEFAULT_TTL_FEATURE: u8 = 2;
 
 /// Friend Set with 00.
 const NO_FRIEND: &[u8] = &[0x80, 0x10, 0x00];
@@ -65,7 +65,7 @@ fn ttl_after(p: &Persist, item: &StoreRecord) -> u8
     ensures short { p.now.ttl < 2 ^ 7 → result < 2 ^ 7 }
 {
     match item {
-        StoreRecord::Feature { which, value } if *which == DEFAULT_TTL => *value as u8,
+        StoreRecord::Feature { which, value } if *which == DEFAULT_TTL_FEATURE => *value as u8,
         _ => p.ttl,
     }
 }
