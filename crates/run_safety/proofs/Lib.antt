@@ -4,6 +4,7 @@ pub mod Handled
 pub mod Accepting
 pub mod Names
 pub mod Lives
+pub mod Opened
 pub mod Sending
 pub mod Walking
 pub mod LifeLines
