@@ -28,7 +28,7 @@ use Rattle.node_layers.specs.NodeLayers.{node_layers}
 use Rattle.event_definitions.specs.Answers.{config_before}
 use Rattle.event_definitions.specs.History.{Insight, OfNothing, OfPdu, Opening, Past, Reading}
 use Rattle.event_definitions.specs.Readings.{IsReading, Sees, keys_heard, keys_tried, sees_pdu}
-use Rattle.run_safety.proofs.Opened.{key_holds}
+use Rattle.event_definitions.proofs.Opened.{key_holds}
 use Rattle.store_definitions.specs.Config.{Config}
 
 -- The NID that octets were read under.

@@ -32,7 +32,7 @@ use Rattle.event_definitions.specs.Answers.{config_before}
 use Rattle.event_definitions.specs.History.{Opening, Past, Reading, now_of}
 use Rattle.event_definitions.specs.Layers.{AccessMessage}
 use Rattle.event_definitions.specs.Readings.{IsOpening, keys_tried}
-use Rattle.run_safety.proofs.Opened.{key_holds}
+use Rattle.event_definitions.proofs.Opened.{key_holds}
 use Rattle.store_definitions.specs.Config.{Config}
 
 -- The key that a message opened under: its AID is that of the key.

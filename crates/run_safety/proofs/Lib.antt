@@ -3,7 +3,6 @@ pub mod Rising
 pub mod Handled
 pub mod Names
 pub mod Lives
-pub mod Opened
 pub mod Sending
 pub mod Walking
 pub mod LifeLines

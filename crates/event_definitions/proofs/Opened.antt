@@ -10,10 +10,10 @@ use Rattle.mesh_base.specs.declared.lower.Lower.TheVariants.{Access, AccessPart,
 use Rattle.mesh_base.specs.declared.pair.Name.{Name}
 use Rattle.mesh_base.specs.declared.upper.UpperFields.{UpperFields}
 use Rattle.mesh_types.specs.declared.answers.Answer.{Answer}
-use Rattle.run_definitions.specs.Answers.{config_before, lower_answer, message_name}
-use Rattle.run_definitions.specs.History.{Opening, Past, Reading}
-use Rattle.run_definitions.specs.Layers.{Layers}
-use Rattle.run_definitions.specs.Readings.{IsOpened, IsOpenedByLabel, IsOpenedFor, IsOpenedUnder, IsOpening, IsOpeningOf, fields_heard, keys_tried, labels_tried}
+use Rattle.event_definitions.specs.Answers.{config_before, lower_answer, message_name}
+use Rattle.event_definitions.specs.History.{Opening, Past, Reading}
+use Rattle.event_definitions.specs.Layers.{Layers}
+use Rattle.event_definitions.specs.Readings.{IsOpened, IsOpenedByLabel, IsOpenedFor, IsOpenedUnder, IsOpening, IsOpeningOf, fields_heard, keys_tried, labels_tried}
 use Rattle.store_definitions.specs.Config.{Config}
 
 module _ (P : UpperKey → Type 0) (tried : (c : Config) (r : Reading) (akf : Bool) (id : ℕ) → Every P (keys_tried c r akf id)) (layers : Layers) where
