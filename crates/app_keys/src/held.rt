@@ -13,9 +13,10 @@ ghost use Rattle.app_keys.specs.Held.{pair_of, sends_new};
 
 use arrayvec::ArrayVec;
 use kept_keys::{BoundSchedule, UpperSchedule};
-use mesh_base::keys::{AppKeyRow, NetKeyRow, UpperKey};
+use mesh_base::keys::{AppKeyRow, NetKeyRow, UpperKey, app_row, net_row};
 use mesh_base::table::UpperKeys;
 use mesh_kdf::k4;
+use node_limits::{APPLICATION_KEYS, HEARD_APPLICATION_KEYS};
 
 // An application key with its AID (section 3.8.6.2).
 #[tactic(auto, unfolding(cipher_definitions::specs::Kdf::aid))]
@@ -42,8 +43,8 @@ fn kept(row: &AppKeyRow, fresh: bool, key: &[u8; 16]) -> BoundSchedule
 }
 
 // Puts the values of a row behind the others, the old one before the new.
-fn add_values(bound: &mut ArrayVec<BoundSchedule, 16>, row: &AppKeyRow)
-    requires room { array_vec_len bound.old + 2 ≤ 16 }
+fn add_values(bound: &mut ArrayVec<BoundSchedule, HEARD_APPLICATION_KEYS>, row: &AppKeyRow)
+    requires room { array_vec_len bound.old + 2 ≤ HEARD_APPLICATION_KEYS }
     ensures value { bound.new.items
         ≡ bound.old.items ++ keys_of (bound_key row.now.net row.now.index) row.now.key row.now.next }
     ensures length { array_vec_len bound.new ≤ array_vec_len bound.old + 2 }
@@ -55,8 +56,8 @@ fn add_values(bound: &mut ArrayVec<BoundSchedule, 16>, row: &AppKeyRow)
 }
 
 /// The values of these rows.
-pub(crate) fn keep(rows: &[AppKeyRow]) -> ArrayVec<BoundSchedule, 16>
-    requires room { length rows.now ≤ 8 }
+pub(crate) fn keep(rows: &[AppKeyRow]) -> ArrayVec<BoundSchedule, HEARD_APPLICATION_KEYS>
+    requires room { length rows.now ≤ APPLICATION_KEYS }
     ensures value { result.items ≡ bound_keys rows.now }
 {
     let mut bound = ArrayVec::new();
@@ -68,27 +69,13 @@ pub(crate) fn keep(rows: &[AppKeyRow]) -> ArrayVec<BoundSchedule, 16>
 
 /// Puts a value behind the others, if it is bound to this network key and has this AID.
 pub(crate) fn add(list: &mut UpperKeys, net: u16, aid: u8, value: &BoundSchedule)
-    requires room { length list.old < 16 }
+    requires room { length list.old < HEARD_APPLICATION_KEYS }
     ensures value { list.new ≡ list.old ++ fitting_keys net aid (value.now ∷ []) }
     ensures length { length list.new ≤ length list.old + 1 }
 {
     if value.fits(net, aid) {
         let _ = list.push(value.key.key());
     }
-}
-
-// The row of this application key index.
-fn row_at(rows: &[AppKeyRow], index: u16) -> Option<&AppKeyRow>
-    ensures { option_copied result ≡ app_row rows.now index }
-{
-    rows.iter().find(|row| row.index == index)
-}
-
-// The row of this network key index.
-fn net_at(nets: &[NetKeyRow], index: u16) -> Option<&NetKeyRow>
-    ensures { option_copied result ≡ net_row nets.now index }
-{
-    nets.iter().find(|net| net.index == index)
 }
 
 // Whether what is sent goes under the new value: where the network key is in phase 2.
@@ -124,8 +111,8 @@ pub(crate) fn sent_under<'a>(
     requires { bound.now ≡ bound_keys rows.now }
     ensures value { option_map pair_of (option_copied result) ≡ transmit_app rows.now nets.now index }
 {
-    let row = row_at(rows, index)?;
-    let net = net_at(nets, row.net)?;
+    let row = app_row(rows, index)?;
+    let net = net_row(nets, row.net)?;
     if sends_new(row, net) {
         new_at(bound, index)
     } else {

@@ -15,10 +15,8 @@ use config_definitions::acts::{ConfigAct, Outcome, Status};
 use config_definitions::messages::AppBinding;
 use mesh_base::address::Address;
 use mesh_base::octets::Octets;
+use node_limits::BINDINGS;
 use node_records::{Persist, StoreRecord};
-
-/// The bindings that a node has at most.
-const MOST: usize = 32;
 
 // Whether a binding is this one.
 fn is_bind(b: &(Address, u16, u16), element: Address, model: u16, app: u16) -> bool
@@ -45,7 +43,7 @@ fn bind(p: &Persist, element: Address, app: u16, model: u16) -> Outcome
         refused(Status::InvalidAppKey)
     } else if has_bind(p, element, model, app) {
         unchanged()
-    } else if p.binds.len() >= MOST {
+    } else if p.binds.len() >= BINDINGS {
         refused(Status::InsufficientResources)
     } else {
         stored(StoreRecord::Bind {

@@ -10,10 +10,8 @@ use config_definitions::acts::ConfigAct;
 use config_definitions::messages::RelayValue;
 use mesh_base::address::Address;
 use mesh_base::octets::Octets;
+use node_limits::{ELEMENTS, REPLAY_ENTRIES};
 use node_records::{Persist, StoreRecord};
-
-/// The number of entries of the replay list, CRPL.
-const REPLAY_ENTRIES: u16 = 512;
 
 // The record of a feature that changes.
 fn feature_record(which: u8, before: u16, value: u16) -> Option<StoreRecord>
@@ -95,12 +93,12 @@ pub fn relay_set(p: &Persist, relay: &RelayValue) -> ConfigAct
 
 /// Composition Data Status, of page 0.
 pub fn composition_shown(p: &Persist) -> ConfigAct
-    requires { p.now.elements ≤ 4 }
+    requires { p.now.elements ≤ ELEMENTS }
     ensures { result ≡ composition_shown (config_in p.now) }
 {
     let mut reply = Octets::new();
     reply.extend(&[0x02, 0x00]);
-    reply.extend(access_layer::composition(p.elements, REPLAY_ENTRIES).as_slice());
+    reply.extend(access_layer::composition(p.elements, REPLAY_ENTRIES as u16).as_slice());
     replied(reply)
 }
 

@@ -14,10 +14,8 @@ use config_definitions::acts::{ConfigAct, Outcome, Status};
 use config_definitions::messages::{ElementModel, GroupSubscription};
 use mesh_base::address::Address;
 use mesh_base::octets::Octets;
+use node_limits::SUBSCRIPTIONS;
 use node_records::{Persist, StoreRecord};
-
-/// The subscriptions that a node has at most, to groups and labels together.
-pub const MOST: usize = 32;
 
 // Whether it is a group, but for the one of all nodes.
 fn is_subscribed(a: Address) -> bool
@@ -53,7 +51,7 @@ fn has_sub(p: &Persist, element: Address, model: u16, group: Address) -> bool
 // How many groups a model subscribes to.
 fn count_of_groups(p: &Persist, element: Address, model: u16) -> usize
     ensures value { result ≡ length (groups_of (config_in p.now) element model) }
-    ensures most { result ≤ 32 }
+    ensures most { result ≤ SUBSCRIPTIONS }
 {
     p.subs
         .as_slice()
@@ -65,7 +63,7 @@ fn count_of_groups(p: &Persist, element: Address, model: u16) -> usize
 // How many labels a model subscribes to.
 fn count_of_labels(p: &Persist, element: Address, model: u16) -> usize
     ensures value { result ≡ length (labels_of (config_in p.now) element model) }
-    ensures most { result ≤ 32 }
+    ensures most { result ≤ SUBSCRIPTIONS }
 {
     p.labels
         .as_slice()
@@ -84,7 +82,7 @@ pub fn count_of_model(p: &Persist, element: Address, model: u16) -> usize
 // How many groups other models subscribe to.
 fn count_of_other_groups(p: &Persist, element: Address, model: u16) -> usize
     ensures value { result ≡ length (subs_without element model p.now.subs) }
-    ensures most { result ≤ 32 }
+    ensures most { result ≤ SUBSCRIPTIONS }
 {
     p.subs
         .as_slice()
@@ -96,7 +94,7 @@ fn count_of_other_groups(p: &Persist, element: Address, model: u16) -> usize
 // How many labels other models subscribe to.
 fn count_of_other_labels(p: &Persist, element: Address, model: u16) -> usize
     ensures value { result ≡ length (labels_without element model p.now.labels) }
-    ensures most { result ≤ 32 }
+    ensures most { result ≤ SUBSCRIPTIONS }
 {
     p.labels
         .as_slice()
@@ -109,7 +107,8 @@ fn count_of_other_labels(p: &Persist, element: Address, model: u16) -> usize
 pub fn is_full_of_others(p: &Persist, element: Address, model: u16) -> bool
     ensures { result ≡ is_full_of_others (config_in p.now) element model }
 {
-    count_of_other_groups(p, element, model) + count_of_other_labels(p, element, model) >= MOST
+    count_of_other_groups(p, element, model) + count_of_other_labels(p, element, model)
+        >= SUBSCRIPTIONS
 }
 
 // Subscription Add.
@@ -120,7 +119,7 @@ fn add_group(p: &Persist, element: Address, group: Address, model: u16) -> Outco
         refused(Status::InvalidAddress)
     } else if has_sub(p, element, model, group) {
         unchanged()
-    } else if p.subs.len() + p.labels.len() >= MOST {
+    } else if p.subs.len() + p.labels.len() >= SUBSCRIPTIONS {
         refused(Status::InsufficientResources)
     } else {
         stored(StoreRecord::Subscribe {

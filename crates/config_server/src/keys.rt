@@ -19,6 +19,7 @@ use config_definitions::messages::{AppKeyIndexes, AppKeyValue, NetKeyValue, Phas
 use mesh_base::keys::{AppKeyRow, NetKeyRow};
 use mesh_base::octets::Octets;
 use mesh_base::table::Table;
+use node_limits::{APPLICATION_KEYS, NETWORK_KEYS};
 use node_records::{Persist, StoreRecord};
 
 /// The key of a record that needs none.
@@ -98,7 +99,7 @@ fn add_app(p: &Persist, net: u16, app: u16, key: &[u8; 16]) -> Outcome
             }
         }
         None => {
-            if p.apps.len() >= 8 {
+            if p.apps.len() >= APPLICATION_KEYS {
                 refused(Status::InsufficientResources)
             } else {
                 stored(StoreRecord::AppKey {
@@ -197,8 +198,8 @@ pub fn app_key_delete(p: &Persist, key: &AppKeyIndexes) -> ConfigAct
 }
 
 // Puts an application key's index behind the others, if it is one of this network key.
-fn add_index(list: &mut Table<u16, 8>, net: u16, row: &AppKeyRow)
-    requires { length list.old + 1 ≤ 8 }
+fn add_index(list: &mut Table<u16, APPLICATION_KEYS>, net: u16, row: &AppKeyRow)
+    requires { length list.old + 1 ≤ APPLICATION_KEYS }
     ensures { list.new ≡ list.old ++ map (λ (r : AppKeyRow). r.index) (filter (λ r. r.net == net) (row.now ∷ [])) }
 {
     if row.net == net {
@@ -207,9 +208,9 @@ fn add_index(list: &mut Table<u16, 8>, net: u16, row: &AppKeyRow)
 }
 
 // The indexes of the application keys of a network key.
-fn app_indexes(p: &Persist, net: u16) -> Table<u16, 8>
+fn app_indexes(p: &Persist, net: u16) -> Table<u16, APPLICATION_KEYS>
     ensures value { result ≡ app_indexes (config_in p.now) net }
-    ensures few { length result ≤ 8 }
+    ensures few { length result ≤ APPLICATION_KEYS }
 {
     let mut list = Table::new();
     for row in p.apps.as_slice() {
@@ -247,7 +248,7 @@ fn add_net(p: &Persist, net: u16, key: &[u8; 16]) -> Outcome
             }
         }
         None => {
-            if p.nets.len() >= 4 {
+            if p.nets.len() >= NETWORK_KEYS {
                 refused(Status::InsufficientResources)
             } else {
                 stored(StoreRecord::NetKey {
@@ -331,9 +332,9 @@ pub fn net_key_delete(p: &Persist, under: u16, net: u16) -> ConfigAct
 }
 
 // The indexes of the network keys.
-fn net_indexes(p: &Persist) -> Table<u16, 4>
+fn net_indexes(p: &Persist) -> Table<u16, NETWORK_KEYS>
     ensures value { result ≡ map (λ (r : NetKeyRow). r.index) p.now.nets }
-    ensures few { length result ≤ 4 }
+    ensures few { length result ≤ NETWORK_KEYS }
 {
     let mut list = Table::new();
     for row in p.nets.as_slice() {

@@ -8,12 +8,13 @@ ghost use Rattle.config_definitions.specs.declared.acts.Status.TheVariants as S;
 ghost use Rattle.node_records.specs.Tables.{config_in};
 ghost use Rattle.store_definitions.specs.Config.{is_label};
 
-use crate::groups::{MOST, count_of_model, is_full_of_others, subscription_act};
+use crate::groups::{count_of_model, is_full_of_others, subscription_act};
 use crate::models::model_of;
 use crate::params::{is_same_key, refused, stored, unchanged};
 use config_definitions::acts::{ConfigAct, Outcome, Status};
 use config_definitions::messages::LabelSubscription;
 use mesh_base::address::Address;
+use node_limits::SUBSCRIPTIONS;
 use node_records::{Persist, StoreRecord};
 
 // Whether a subscription is this one.
@@ -39,7 +40,7 @@ fn add_label(p: &Persist, element: Address, label: &[u8; 16], model: u16) -> Out
 {
     if has_label(p, element, model, label) {
         unchanged()
-    } else if p.subs.len() + p.labels.len() >= MOST {
+    } else if p.subs.len() + p.labels.len() >= SUBSCRIPTIONS {
         refused(Status::InsufficientResources)
     } else {
         stored(StoreRecord::Label {

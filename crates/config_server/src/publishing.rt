@@ -17,10 +17,8 @@ use config_definitions::acts::{ConfigAct, Outcome, Status};
 use config_definitions::messages::{ElementModel, PublicationValue};
 use mesh_base::address::Address;
 use mesh_base::octets::Octets;
+use node_limits::PUBLICATIONS;
 use node_records::{Persist, PublishRow, StoreRecord};
-
-/// The models that publish at most.
-const MOST: usize = 8;
 
 /// Whether an address is virtual.
 pub fn is_virtual(a: Address) -> bool
@@ -80,7 +78,7 @@ fn set_row(p: &Persist, row: &PublishRow) -> Outcome
         refused(Status::InvalidAppKey)
     } else if publishes && !has_bind(p, row.element, row.model, row.app) {
         refused(Status::InvalidPublish)
-    } else if count_of_others(p, row) >= MOST {
+    } else if count_of_others(p, row) >= PUBLICATIONS {
         refused(Status::InsufficientResources)
     } else if has_row(p, row) {
         unchanged()

@@ -24,6 +24,7 @@ use config_definitions::acts::{ConfigAct, Status};
 use config_definitions::messages::ConfigMessage;
 use mesh_base::address::Address;
 use model_states::publication::HeartbeatRow;
+use node_limits::ELEMENTS;
 use node_records::Persist;
 use thiserror::Error;
 
@@ -41,7 +42,7 @@ fn message_act(
     beat: &HeartbeatRow,
     message: &ConfigMessage,
 ) -> ConfigAct
-    requires { p.now.elements ≤ 4 }
+    requires { p.now.elements ≤ ELEMENTS }
     ensures { result ≡ message_act (config_in p.now) under polls.now beat.now message.now }
 {
     match message {
@@ -90,7 +91,7 @@ fn message_act(
 /// friendships with their PollTimeouts, in units of 100 ms, 24 bits; `beat` is the node's heartbeat as a Status shows it. `Ignored` comes
 /// exactly where opcode, length or a value is that of no message. A reply begins with its opcode.
 ///
-/// The node has at most 4 elements.
+/// The node has at most `ELEMENTS` elements.
 pub fn take(
     p: &Persist,
     under: u16,
@@ -98,7 +99,7 @@ pub fn take(
     beat: &HeartbeatRow,
     payload: &[u8],
 ) -> Result<ConfigAct, Ignored>
-    requires { p.now.elements ≤ 4 }
+    requires { p.now.elements ≤ ELEMENTS }
     ensures ok { IfOk result (λ act. config_answer (config_in p.now) under polls.now beat.now payload.now ≡ Some act) }
     ensures reply { IfOk result (λ act. 1 ≤ length act.reply) }
     ensures ignored { OnErr result (config_answer (config_in p.now) under polls.now beat.now payload.now ≡ None) }

@@ -11,6 +11,7 @@ use Rattle.layer_definitions.specs.Lower.{seq_auth}
 use Rattle.layer_states.specs.Cache.{last_of}
 use Rattle.layer_states.specs.Names.{is_name, is_unicast}
 use Rattle.layer_states.specs.Reassembly.{is_segment}
+pub use Rattle.mesh_base.specs.Address.{is_group}
 use Rattle.mesh_base.specs.IvState.{transmit_of}
 use Rattle.mesh_base.specs.declared.address.Address.{Address}
 use Rattle.mesh_base.specs.declared.beacon.Beacon.{Beacon}
@@ -69,10 +70,6 @@ accepted A.Dropped = None
 accepted A.Reset = None
 
 -- The first group: what the network layer says of a PDU that reads.
-
--- a group address (Mesh Profile 1.0.1, section 3.4.2.4)
-abbrev pub is_group : Address → Bool
-is_group a = nat_le 0xc000 a.0
 
 -- The addresses of this node: its elements', all-nodes, all-friends and all-relays where it is one, the groups of subscriptions, and the
 -- virtual addresses of the labels held.

@@ -24,6 +24,7 @@ use Rattle.mesh_types.specs.declared.jobs.Job.{Job}
 use Rattle.mesh_types.specs.declared.jobs.Job.TheVariants as J
 use Rattle.layer_states.specs.Names.{is_unicast}
 use Rattle.event_definitions.specs.Answers.{config_before, is_before_cache, later}
+pub use Rattle.store_definitions.specs.Config.{element_address, reply_ttl}
 use Rattle.store_definitions.specs.Config.{Config, is_element}
 use Rattle.event_definitions.specs.History.{Insight, OfPdu, Past, Reading, now_of}
 use Rattle.event_definitions.specs.Layers.{Layers}
@@ -42,10 +43,6 @@ relay_jobs c r =
     if c.relay == 1 && nat_le 2 r.fields.ttl && not (is_element c r.fields.dst.0)
     then under c r.by.index (λ m. J.Relay m (record r.fields { ttl = r.fields.ttl - 1 }))
     else []
-
--- TTL of an acknowledgment or a reply: 0 to what was heard with 0, else the Default TTL
-abbrev pub reply_ttl : Config → ℕ → ℕ
-reply_ttl c heard = if heard == 0 then 0 else c.ttl
 
 -- SeqZero and SegN of a segment
 abbrev pub segment_numbers : Lower → Option (ℕ × ℕ)
@@ -127,10 +124,6 @@ tick_jobs layers past c ticks =
 -- the network key index of the lowest index held, under which goes what no other rule gives one
 abbrev pub first_net : Config → Option ℕ
 first_net c = option_map (λ r. r.index) (slice_get c.nets 0)
-
--- an element's address
-abbrev pub element_address : Config → ℕ → Address
-element_address c element = record { 0 = c.unicast.0 + element }
 
 -- the network key index and the key of an own access message: a device key goes under the first network key
 abbrev pub send_keys : Config → SendKey → Option (ℕ × UpperKey)

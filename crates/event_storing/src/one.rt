@@ -67,10 +67,8 @@ fn put_other<F: Flash>(
     // for the next call
     ensures published { IsPublished reserve.new.store reserve.new.keeper }
 {
-    match reserve.store.put(flash, item) {
-        Ok(()) => Ok(()),
-        Err(_) => Err(KeepFault::Flash),
-    }
+    reserve.store.put(flash, item)?;
+    Ok(())
 }
 
 /// Puts a record behind the others: that of a new IV state through the reserve, any other into the store alone. The store takes records, the

@@ -1,9 +1,10 @@
 -- Lists of friendships and offers.
-use Rattle.std.proofs.Common.{◌≡◌, ℕ, ◌+◌, ◌<◌, Bool, true, false, cond, List, [], ◌∷◌, ◌++◌, length, take, get_or, map, filter, set, drop, refl, sym, ap, ◌∙◌, arith, Option, Some, None}
+use Rattle.std.proofs.Common.{◌≡◌, ℕ, ◌+◌, ◌<◌, Bool, true, false, cond, List, [], ◌∷◌, ◌++◌, length, take, get_or, map, filter, set, drop, refl, sym, ap, ◌∙◌, Option, Some, None}
+use Rattle.std.proofs.lemmas.Bool.{or_parts}
 use Rattle.std.proofs.lemmas.List.Edits.{map_over_more}
 use Rattle.std.specs.Prelude.{◌&&◌, ◌||◌, ◌==◌, not, if◌then◌else◌, count_by, find, Result, Ok, Err}
-use Rattle.std.specs.List.{list_any, refill}
-use Rattle.std.proofs.lemmas.List.{take_more, drop_all, append-nil, take_all}
+use Rattle.std.specs.List.{list_any}
+use Rattle.std.proofs.lemmas.List.{map-append, take_more}
 use Rattle.std.proofs.lemmas.List.Elements.{filter-append}
 use Rattle.std.proofs.lemmas.List.Sums.{length-filter}
 use Rattle.std.specs.Option.{option_map_or}
@@ -66,30 +67,18 @@ lacks_any p (x ∷ xs) h =
 
 -- Where none passes a test nothing is changed, and nothing goes.
 
-or_left : (a b : Bool) → (a || b) ≡ false → a ≡ false
-or_left true b h = h
-or_left false b h = refl
-
-or_right : (a b : Bool) → (a || b) ≡ false → b ≡ false
-or_right true b h = cc
-or_right false b h = h
-
 pub change_none : (p : Friendship → Bool) (f : Friendship → Friendship) (xs : List Friendship) → list_any p xs ≡ false → change_where p f xs ≡ xs
 change_none p f [] h = refl
 change_none p f (x ∷ xs) h =
-    ap (λ b. cond b (f x) x ∷ change_where p f xs) (or_left (p x) (list_any p xs) h) ∙ ap (λ l. x ∷ l) (change_none p f xs (or_right (p x) (list_any p xs) h))
+    ap (λ b. cond b (f x) x ∷ change_where p f xs) (or_parts (p x) (list_any p xs) h).0 ∙ ap (λ l. x ∷ l) (change_none p f xs (or_parts (p x) (list_any p xs) h).1)
 
 pub drop_none : (p : Friendship → Bool) (xs : List Friendship) → list_any p xs ≡ false → filter (λ x. not (p x)) xs ≡ xs
 drop_none p [] h = refl
 drop_none p (x ∷ xs) h =
-    ap (λ b. cond (not b) (x ∷ filter (λ y. not (p y)) xs) (filter (λ y. not (p y)) xs)) (or_left (p x) (list_any p xs) h)
-    ∙ ap (λ l. x ∷ l) (drop_none p xs (or_right (p x) (list_any p xs) h))
+    ap (λ b. cond (not b) (x ∷ filter (λ y. not (p y)) xs) (filter (λ y. not (p y)) xs)) (or_parts (p x) (list_any p xs) h).0
+    ∙ ap (λ l. x ∷ l) (drop_none p xs (or_parts (p x) (list_any p xs) h).1)
 
 -- One friendship more.
-
-map_append : {X Y : Type 0} (f : X → Y) (xs ys : List X) → map f (xs ++ ys) ≡ map f xs ++ map f ys
-map_append f [] ys = refl
-map_append f (x ∷ xs) ys = ap (λ l. f x ∷ l) (map_append f xs ys)
 
 pub heard_more : (nid : ℕ) (slots : List Friendship) (i : ℕ) (d : Friendship) → i < length slots
     → filter (λ (h : Heard). h.material.nid == nid) (friend_keys (take i slots)) ++ filter (λ (h : Heard). h.material.nid == nid) (friend_keys (get_or slots i d ∷ []))
@@ -97,22 +86,15 @@ pub heard_more : (nid : ℕ) (slots : List Friendship) (i : ℕ) (d : Friendship
 heard_more nid slots i d l =
     let test : Heard → Bool = λ h. h.material.nid == nid in
     sym (filter-append test (friend_keys (take i slots)) (friend_keys (get_or slots i d ∷ [])))
-    ∙ ap (λ hs. filter test hs) (sym (map_append heard_of (take i slots) (get_or slots i d ∷ [])))
+    ∙ ap (λ hs. filter test hs) (sym (map-append heard_of (take i slots) (get_or slots i d ∷ [])))
     ∙ ap (λ s. filter test (friend_keys s)) (sym (take_more slots i d l))
 
 pub polls_more : (slots : List Friendship) (i : ℕ) (d : Friendship) → i < length slots
     → poll_timeouts (take i slots) ++ poll_timeouts (get_or slots i d ∷ []) ≡ poll_timeouts (take (i + 1) slots)
 polls_more slots i d l =
-    sym (map_append (λ (s : Friendship). (s.lpn, s.request.poll_timeout)) (filter is_friendship (take i slots)) (filter is_friendship (get_or slots i d ∷ [])))
+    sym (map-append (λ (s : Friendship). (s.lpn, s.request.poll_timeout)) (filter is_friendship (take i slots)) (filter is_friendship (get_or slots i d ∷ [])))
     ∙ ap (λ s. map (λ (s : Friendship). (s.lpn, s.request.poll_timeout)) s) (sym (filter-append is_friendship (take i slots) (get_or slots i d ∷ [])))
     ∙ ap (λ s. poll_timeouts s) (sym (take_more slots i d l))
-
--- a slice that keeps its length is filled up from itself
-pub refill_same : {X : Type 0} (xs ws : List X) → length ws ≡ length xs → refill (length xs) xs ws ≡ ws
-refill_same xs ws e =
-    ap (λ ys. take (length xs) (ws ++ ys)) (drop_all (length ws) xs (omega (arith, e)))
-    ∙ ap (λ ys. take (length xs) ys) (append-nil ws)
-    ∙ take_all (length xs) ws (omega (arith, e))
 
 -- One friendship more is changed.
 pub changed_more : (p : Friendship → Bool) (f : Friendship → Friendship) (slots now : List Friendship) (i : ℕ) (d y : Friendship) → i < length slots

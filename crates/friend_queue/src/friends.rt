@@ -22,9 +22,10 @@ use mesh_base::keys::NetKeyRow;
 use mesh_base::octets::Octets;
 use mesh_base::pair::Name;
 use mesh_base::table::HeardList;
+use node_limits::FRIENDSHIPS;
 use std::marker::Model;
 
-/// At most 2 friendships and offers, and the number of offers. A clause sees it as the list of them, in the order of
+/// At most `FRIENDSHIPS` friendships and offers, and the number of offers. A clause sees it as the list of them, in the order of
 /// the offers, with that number modulo 2^16.
 ///
 /// It stands for the calls on it so far: a new one for none, and after a call it is `after` of what it was and that
@@ -131,7 +132,7 @@ impl Friends {
         Ok(())
     }
 
-    /// Adds addresses to the list of a Low Power node, each once, as long as it has fewer than 16. `Stranger` exactly
+    /// Adds addresses to the list of a Low Power node, each once, as long as there is a place. `Stranger` exactly
     /// where no friendship with that node stands.
     pub fn list_add(&mut self, now: u64, lpn: Address, a: &[Address]) -> Result<(), FriendFault>
         requires { now ≤ 2 ^ 48 }
@@ -186,7 +187,7 @@ impl Friends {
     /// The credentials of all friendships and offers, in the order of the offers.
     pub fn credentials(&self) -> HeardList
         ensures value { result ≡ friend_keys self.now.slots }
-        ensures length { length result ≤ 2 }
+        ensures length { length result ≤ FRIENDSHIPS }
     {
         credentials(self.slots.as_slice())
     }
@@ -194,7 +195,7 @@ impl Friends {
     /// The friendship credentials with this NID, in the order of the offers.
     pub fn heard(&self, nid: u8) -> HeardList
         ensures value { result ≡ filter (λ (h : Heard). h.material.nid == nid) (friend_keys self.now.slots) }
-        ensures length { length result ≤ 2 }
+        ensures length { length result ≤ FRIENDSHIPS }
     {
         heard_all(self.slots.as_slice(), nid)
     }

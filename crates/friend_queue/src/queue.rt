@@ -82,7 +82,7 @@ pub(crate) fn drop_answered(s: &mut Friendship)
     }
 }
 
-// Puts a message into the queue, in place of the oldest where 16 wait.
+// Puts a message into the queue, in place of the oldest where the queue is full.
 fn enqueue(s: &mut Friendship, e: QueueEntry)
     ensures { s.new ≡ queued e s.old }
 {

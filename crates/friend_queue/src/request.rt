@@ -3,7 +3,6 @@
 
 ghost use Rattle.std.specs.Prelude.{◌≡◌, ◌^◌, ◌≤◌, ◌==◌, ◌||◌, ◌+◌, ◌-◌, not, nat_lt};
 ghost use Rattle.layer_definitions.specs.KeyRefresh.{transmit_key as transmit_key_in};
-ghost use Rattle.layer_states.specs.Names.{is_unicast as is_unicast_in};
 ghost use Rattle.layer_states.specs.Friends.{field_outside as field_outside_in, offer_of as offer_in, offer_slot as offer_slot_in};
 
 use layer_states::friends::{Friendship, Queue};
@@ -12,13 +11,7 @@ use mesh_base::control::{Offer, Request};
 use mesh_base::keys::NetKeyRow;
 use mesh_base::table::Table;
 use net_keys::friendship;
-
-/// Whether an address is that of an element.
-pub(crate) fn is_unicast(a: Address) -> bool
-    ensures { result ≡ is_unicast_in a }
-{
-    1 <= a.0 && a.0 < 0x8000
-}
+use node_limits::{FRIEND_ADDRESSES, FRIEND_QUEUE, FRIEND_QUEUE_LOG};
 
 // Whether there is an element, and each has a unicast address.
 fn has_unicast(first: Address, elements: u8) -> bool
@@ -34,13 +27,13 @@ pub(crate) fn field_outside(lpn: Address, r: &Request) -> Option<u8>
 {
     let r = *r;
     let queue_size_log = r.criteria % 8;
-    if !(1 <= queue_size_log && queue_size_log <= 4) {
+    if !(1 <= queue_size_log && queue_size_log <= FRIEND_QUEUE_LOG) {
         Some(1)
     } else if r.receive_delay < 0x0a {
         Some(2)
     } else if !(0x00000a <= r.poll_timeout && r.poll_timeout <= 0x34bbff) {
         Some(3)
-    } else if !(r.previous.0 == 0 || is_unicast(r.previous)) {
+    } else if !(r.previous.is_unassigned() || r.previous.is_unicast()) {
         Some(4)
     } else if !has_unicast(lpn, r.elements) {
         Some(5)
@@ -66,8 +59,8 @@ pub(crate) fn offer_of(counter: u16) -> Offer
 {
     Offer {
         receive_window: 0x64,
-        queue_size: 0x10,
-        subscription_list_size: 0x10,
+        queue_size: FRIEND_QUEUE as u8,
+        subscription_list_size: FRIEND_ADDRESSES as u8,
         rssi: 0x7f,
         friend_counter: counter,
     }

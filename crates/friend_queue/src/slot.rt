@@ -9,12 +9,12 @@ ghost use Rattle.layer_states.specs.declared.friends.QueueEntry.TheVariants as Q
 use crate::queue::{
     answer_again, answer_next, drop_answered, enqueue_heard, enqueue_own, queue_left,
 };
-use crate::request::is_unicast;
 use layer_states::friends::{AddressTable, Friendship, KeptPdu, OwnShort, PollAnswer};
 use mesh_base::address::Address;
 use mesh_base::fields::{Heard, NetFields};
 use mesh_base::octets::Octets;
 use mesh_base::pair::Name;
+use node_limits::FRIEND_ADDRESSES;
 
 /// Whether a Poll came.
 pub(crate) fn is_friendship(s: &Friendship) -> bool
@@ -78,7 +78,7 @@ pub(crate) fn poll_clear(s: &Friendship) -> Option<(Address, u16)>
     ensures { result ≡ poll_clear_in s.now }
 {
     let previous = s.request.previous;
-    if s.fsn.is_none() && is_unicast(previous) && previous.0 != s.own.0 {
+    if s.fsn.is_none() && previous.is_unicast() && previous.0 != s.own.0 {
         Some((previous, s.request.lpn_counter))
     } else {
         None
@@ -190,7 +190,7 @@ pub(crate) fn put_own_of(s: &mut Friendship, m: &OwnShort)
 fn add(list: &mut AddressTable, a: Address)
     ensures { list.new ≡ with_address list.old a }
 {
-    if has(list.as_slice(), a) || list.len() >= 16 {
+    if has(list.as_slice(), a) || list.len() >= FRIEND_ADDRESSES {
         return;
     }
     let _ = list.push(a);

@@ -21,9 +21,10 @@ use mesh_base::fields::NetFields;
 use mesh_base::octets::Octets;
 use mesh_base::pair::Name;
 use mesh_base::table::HeardList;
+use node_limits::FRIENDSHIPS;
 
 /// The friendships and offers, in the order of the offers.
-pub(crate) type Slots = ArrayVec<Friendship, 2>;
+pub(crate) type Slots = ArrayVec<Friendship, FRIENDSHIPS>;
 
 /// Drops those whose time is over.
 pub(crate) fn expire(slots: &mut Slots, now: u64)
@@ -76,11 +77,11 @@ pub(crate) fn request_fault(
     lpn: Address,
     r: &Request,
 ) -> Option<FriendFault>
-    requires { length slots.now ≤ 2 }
+    requires { length slots.now ≤ FRIENDSHIPS }
     ensures { result ≡ request_fault_in now slots.now lpn r.now }
 {
     let held = others_held(slots, now, lpn);
-    if held >= 2 {
+    if held >= FRIENDSHIPS {
         return Some(FriendFault::NoSlot { held: held as u32 });
     }
     match field_outside(lpn, r) {
@@ -240,9 +241,9 @@ fn push_credentials(list: &mut HeardList, s: &Friendship)
 
 /// The friendship credentials, whatever their NID.
 pub(crate) fn credentials(slots: &[Friendship]) -> HeardList
-    requires { length slots.now ≤ 2 }
+    requires { length slots.now ≤ FRIENDSHIPS }
     ensures value { result ≡ friend_keys slots.now }
-    ensures length { length result ≤ 2 }
+    ensures length { length result ≤ FRIENDSHIPS }
 {
     let mut list = HeardList::new();
     for s in slots {
@@ -264,9 +265,9 @@ fn push_heard(list: &mut HeardList, nid: u8, s: &Friendship)
 
 /// The friendship credentials with this NID.
 pub(crate) fn heard_all(slots: &[Friendship], nid: u8) -> HeardList
-    requires { length slots.now ≤ 2 }
+    requires { length slots.now ≤ FRIENDSHIPS }
     ensures value { result ≡ filter (λ (h : Heard). h.material.nid == nid) (friend_keys slots.now) }
-    ensures length { length result ≤ 2 }
+    ensures length { length result ≤ FRIENDSHIPS }
 {
     let mut list = HeardList::new();
     for s in slots {
@@ -277,7 +278,7 @@ pub(crate) fn heard_all(slots: &[Friendship], nid: u8) -> HeardList
 
 // Puts a friendship behind the others, with its PollTimeout.
 fn push_poll(list: &mut PollList, s: &Friendship)
-    requires { length list.old < 2 }
+    requires { length list.old < FRIENDSHIPS }
     ensures value { list.new ≡ list.old ++ poll_timeouts (s.now ∷ []) }
     ensures length { length list.new ≤ length list.old + 1 }
 {
@@ -288,7 +289,7 @@ fn push_poll(list: &mut PollList, s: &Friendship)
 
 /// The Low Power nodes of the friendships, with their PollTimeout.
 pub(crate) fn poll_list(slots: &[Friendship]) -> PollList
-    requires { length slots.now ≤ 2 }
+    requires { length slots.now ≤ FRIENDSHIPS }
     ensures { result ≡ poll_timeouts slots.now }
 {
     let mut list = PollList::new();

@@ -2,15 +2,12 @@
 use Rattle.std.proofs.Common.{◌≡◌, ℕ, ◌+◌, ◌<◌, ◌≤◌, ◌==◌, ◌&&◌, not, nat_lt, nat_le, Bool, true, false, cond, refl, arith}
 use Rattle.std.proofs.lemmas.Bool.{false≢true}
 use Rattle.std.proofs.lemmas.Bool.Decides.{nat_tests}
+use Rattle.mesh_base.proofs.IvStates.{transmit_known}
 use Rattle.mesh_base.specs.IvState.{HasTransmit, transmit_of}
 use Rattle.mesh_base.specs.declared.iv_state.IvState.{IvState}
 use Rattle.mesh_base.specs.declared.iv_state.IvStep.{IvStep}
 use Rattle.layer_definitions.specs.IvIndex.{aged, iv_due, iv_hours, iv_next}
 use Rattle.iv_update.specs.Steps.{IsLater, state_after}
-
-transmit_known : (s : IvState) → transmit_of s ≤ s.current
-unfolding transmit_of
-transmit_known s = omega arith
 
 stays : (s : IvState) → HasTransmit s → IsLater s s
 stays s h = record { has_transmit = h; transmit = omega arith; current = omega arith; within = omega arith }

@@ -4,3 +4,4 @@ pub mod OctetLaws
 pub mod UpperLaws
 pub mod OrderLaws
 pub mod KeyLaws
+pub mod PlaceLaws

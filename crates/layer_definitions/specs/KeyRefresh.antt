@@ -1,10 +1,11 @@
 -- Which keys a node hears and sends with, by the phase of the Key Refresh of each network key (Mesh Profile 1.0.1, section 3.10.4). The
 -- lists of rows are given by index.
 use Rattle.std.specs.Prelude.{ℕ, ◌+◌, ◌==◌, Bool, true, false, if◌then◌else◌, List, [], ◌∷◌, Option, Some, None, unwrap_or, option_and_then, map, filter, All, IsSome}
-use Rattle.std.specs.List.{flat_map, find}
+use Rattle.std.specs.List.{flat_map}
 use Rattle.std.specs.Option.{option_map}
 use Rattle.cipher_definitions.specs.Kdf.{master_credentials, friendship_credentials, aid}
 use Rattle.layer_definitions.specs.Beacon.{BeaconSource, beacon_text}
+pub use Rattle.mesh_base.specs.Keys.{app_row, net_row}
 use Rattle.mesh_base.specs.declared.fields.Heard.{Heard}
 use Rattle.mesh_base.specs.declared.fields.NetMaterial.{NetMaterial}
 use Rattle.mesh_base.specs.declared.iv_state.IvState.{IvState}
@@ -49,10 +50,6 @@ abbrev pub beacon_keys : List NetKeyRow → List BeaconSource
 beacon_keys rows =
     flat_map (λ r. keys_of (λ fresh key. record { index = r.index; fresh = fresh; key = key }) r.key r.next) rows
 
--- the row of a network key index
-abbrev pub net_row : List NetKeyRow → ℕ → Option NetKeyRow
-net_row rows index = find (λ r. r.index == index) rows
-
 -- what is sent goes under the new key in phase 2, and else under the old one
 abbrev pub transmit_key : NetKeyRow → List ℕ
 transmit_key r = if r.phase == 2 then unwrap_or r.next r.key else r.key
@@ -80,10 +77,6 @@ abbrev pub app_keys : List AppKeyRow → ℕ → ℕ → List UpperKey
 app_keys rows net id =
     flat_map (λ r. map (app_key r.index) (filter (λ key. aid key == id) (keys_of (λ fresh key. key) r.key r.next)))
     (filter (λ r. r.net == net) rows)
-
--- the row of an application key index
-abbrev pub app_row : List AppKeyRow → ℕ → Option AppKeyRow
-app_row rows index = find (λ r. r.index == index) rows
 
 -- an application key is sent with under its new value, if it has one, where its network key is in phase 2
 abbrev pub transmit_value : AppKeyRow → NetKeyRow → List ℕ

@@ -1,16 +1,12 @@
 -- Messages to virtual addresses (Mesh Profile 1.0.1, sections 3.4.2.3 and 3.8.7.1): the label that a virtual address stands for is the
 -- additional data of the seal.
-use Rattle.std.specs.Prelude.{◌≡◌, ℕ, ◌<◌, ◌&&◌, nat_le, nat_lt, Bool, List, Option, Some}
+use Rattle.std.specs.Prelude.{◌≡◌, ℕ, ◌<◌, List, Option, Some}
 use Rattle.std.specs.List.{slice_get}
 use Rattle.cipher_definitions.specs.Kdf.{virtual_address}
 use Rattle.layer_definitions.specs.Upper.{Opens, IsUnopened}
-use Rattle.mesh_base.specs.declared.address.Address.{Address}
+pub use Rattle.mesh_base.specs.Address.{is_virtual}
 use Rattle.mesh_base.specs.declared.keys.UpperKey.{UpperKey}
 use Rattle.mesh_base.specs.declared.upper.UpperFields.{UpperFields}
-
--- a virtual address begins with the bits 10
-abbrev pub is_virtual : Address → Bool
-is_virtual a = nat_le 0x8000 a.0 && nat_lt a.0 0xc000
 
 -- the fields with this label as additional data
 abbrev pub with_label : List ℕ → UpperFields → UpperFields

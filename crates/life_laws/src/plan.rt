@@ -24,7 +24,7 @@ pub enum PlanStep {
 /// What a life has to do. Each phase has a list of events for each bearer.
 #[derive(Drop)]
 pub struct LifePlan {
-    /// The number of bearers, at most 8.
+    /// The number of bearers, at most `BEARERS` of `node_limits`.
     pub bearers: u8,
     /// The steps, in their order.
     pub steps: Vec<PlanStep>,

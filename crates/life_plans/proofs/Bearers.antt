@@ -10,6 +10,7 @@ use Rattle.script_definitions.specs.Events.{Happening, event_on, events_on, happ
 use Rattle.script_definitions.specs.declared.line.ScriptLine.{ScriptLine}
 use Rattle.life_plans.specs.Drafts.{with_happening}
 use Rattle.std.specs.Prelude.{IfSome}
+use Rattle.node_limits.specs.declared.TheConstants.{BEARERS}
 
 -- where the list at b alone is changed, by one element behind it
 module _ {X : Type 0} (old new : ℕ → List X) (n b : ℕ) (x : X) (within : b < n)
@@ -48,26 +49,26 @@ map_agree f g same (x ∷ xs) = ap (λ y. y ∷ map f xs) (same x) ∙ ap (λ ys
 
 -- the events of each of eight bearers
 abbrev pub lists_of : List ScriptLine → List (List Event)
-lists_of lines = map (λ k. events_on k lines) (range_with_len 0 8)
+lists_of lines = map (λ k. events_on k lines) (range_with_len 0 BEARERS)
 
 one_or_none : {X : Type 0} (t : Bool) (x : X) → cons_option (if t then Some x else None) [] ≡ (if t then x ∷ [] else [])
 one_or_none true x = refl
 one_or_none false x = refl
 
 -- a line more, by what happens
-with_happened : (lines : List ScriptLine) (line : ScriptLine) (o : Option Happening) → happening_of line ≡ o → IfSome o (λ h. h.bearer < 8)
+with_happened : (lines : List ScriptLine) (line : ScriptLine) (o : Option Happening) → happening_of line ≡ o → IfSome o (λ h. h.bearer < BEARERS)
     → with_happening (lists_of lines) o ≡ lists_of (lines ++ line ∷ [])
 with_happened lines line None is few =
     map_agree (λ k. events_on k lines) (λ k. events_on k (lines ++ line ∷ []))
     (λ k. sym (filter_map-append (λ (l : ScriptLine). event_on k (happening_of l)) lines (line ∷ [])
     ∙ ap (λ (o : Option Happening). events_on k lines ++ cons_option (event_on k o) []) is ∙ append-nil (events_on k lines)))
-    (range_with_len 0 8)
+    (range_with_len 0 BEARERS)
 with_happened lines line (Some h) is few =
-    one_changed (λ k. events_on k lines) (λ k. events_on k (lines ++ line ∷ [])) 8 h.bearer h.event few
+    one_changed (λ k. events_on k lines) (λ k. events_on k (lines ++ line ∷ [])) BEARERS h.bearer h.event few
     (λ k. filter_map-append (λ (l : ScriptLine). event_on k (happening_of l)) lines (line ∷ [])
     ∙ ap (λ (o : Option Happening). events_on k lines ++ cons_option (event_on k o) []) is
     ∙ ap (λ (es : List Event). events_on k lines ++ es) (one_or_none (h.bearer == k) h.event))
 
-pub with_more : (lines : List ScriptLine) (line : ScriptLine) → IfSome (happening_of line) (λ h. h.bearer < 8)
+pub with_more : (lines : List ScriptLine) (line : ScriptLine) → IfSome (happening_of line) (λ h. h.bearer < BEARERS)
     → with_happening (lists_of lines) (happening_of line) ≡ lists_of (lines ++ line ∷ [])
 with_more lines line few = with_happened lines line (happening_of line) refl few

@@ -2,6 +2,7 @@
 use Rattle.std.proofs.Common.{◌≡◌, ℕ, ◌<◌, List, [], ◌∷◌, ◌++◌, map, ap, arith, ◌∙◌, sym, refl, Option, Some, None}
 use Rattle.std.proofs.lemmas.List.{append_assoc, map-append}
 use Rattle.std.specs.Prelude.{IfSome}
+use Rattle.node_limits.specs.declared.TheConstants.{BEARERS}
 use Rattle.life_plans.proofs.Bearers.{lists_of, with_more}
 use Rattle.life_plans.specs.Drafts.{Drafted, begun, ended, step_in, with_happening, with_line}
 use Rattle.life_plans.specs.Plans.{plan_of_lines, step_of}
@@ -47,7 +48,7 @@ ends d lines more shows =
     (ap (λ (steps : List Run.Step). steps ++ map step_of more) (ap step_in shows ∙ ended_phase lines) ∙ sym (map-append step_of (phase_of lines) more))
 
 -- the phase goes on
-goes_on : (d : Drafted) (lines : List ScriptLine) (line : ScriptLine) → d.events ≡ shown lines → IfSome (happening_of line) (λ h. h.bearer < 8)
+goes_on : (d : Drafted) (lines : List ScriptLine) (line : ScriptLine) → d.events ≡ shown lines → IfSome (happening_of line) (λ h. h.bearer < BEARERS)
     → Some (with_happening (begun d.events) (happening_of line)) ≡ shown (lines ++ line ∷ [])
 goes_on d lines line shows few =
     ap (λ (events : List (List Event)). Some events)
@@ -55,11 +56,11 @@ goes_on d lines line shows few =
     ∙ sym (shown_more lines line)
 
 -- a bearer of a grammar is one of eight
-within : (g : Grammar) (bearer : ℕ) → bearer < bearer_count g → bearer < 8
+within : (g : Grammar) (bearer : ℕ) → bearer < bearer_count g → bearer < BEARERS
 within G.Node bearer h = h
 within G.LowPower bearer h = omega arith
 
-pub bearer_of_eight : (line : ScriptLine) → IsRead line → IfSome (happening_of line) (λ h. h.bearer < 8)
+pub bearer_of_eight : (line : ScriptLine) → IsRead line → IfSome (happening_of line) (λ h. h.bearer < BEARERS)
 bearer_of_eight (L.Net bearer octets) r = within r.0 bearer r.2.0.0
 bearer_of_eight (L.Bcn bearer octets) r = within r.0 bearer r.2.0.0
 bearer_of_eight (L.Peer bearer peer) r = within r.0 bearer r.2.0.0

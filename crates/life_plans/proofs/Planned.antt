@@ -7,6 +7,7 @@ use Rattle.std.proofs.lemmas.List.Elements.{All-nil, All-cons, All-head, All-tai
 use Rattle.std.proofs.lemmas.Bool.Decides.{nat_tests}
 use Rattle.std.proofs.lemmas.List.Sums.{sum_by-cons}
 use Rattle.std.proofs.lemmas.List.FromFn.{length-map-range_with_len}
+use Rattle.node_limits.specs.declared.TheConstants.{BEARERS}
 use Rattle.life_plans.proofs.Bearers.{lists_of}
 use Rattle.life_plans.specs.Plans.{IsPlanFor, plan_of_lines, step_of}
 use Rattle.machine_contract.specs.Ranges.{IsEvent}
@@ -46,7 +47,7 @@ OneArm (phase events ∷ steps) = OneArm steps
 
 abbrev Fits : ℕ → Step → Type 0
 Fits elements (arm calls mask) = ⊤
-Fits elements (phase events) = (length events ≡ 8) × All (AreEvents elements) events
+Fits elements (phase events) = (length events ≡ BEARERS) × All (AreEvents elements) events
 
 -- what stands behind a phase
 
@@ -136,8 +137,8 @@ events_fit elements k (line ∷ lines) h =
 
 phase_fits : (elements : ℕ) (lines : List ScriptLine) → All (IsLine G.Node elements) lines → Fits elements (phase (lists_of lines))
 phase_fits elements lines h = (
-  length-map-range_with_len (λ k. events_on k lines) 0 8,
-  All-map (AreEvents elements) (λ k. events_on k lines) (range_with_len 0 8) (λ i d l. events_fit elements (get_or (range_with_len 0 8) i d) lines h),
+  length-map-range_with_len (λ k. events_on k lines) 0 BEARERS,
+  All-map (AreEvents elements) (λ k. events_on k lines) (range_with_len 0 BEARERS) (λ i d l. events_fit elements (get_or (range_with_len 0 BEARERS) i d) lines h),
 )
 
 last_fits : (elements : ℕ) (lines : List ScriptLine) → All (IsLine G.Node elements) lines → All (Fits elements) (map step_of (phase_of lines))
@@ -178,20 +179,20 @@ one_arm_of [] h = tt
 one_arm_of (P.Arm calls mask ∷ steps) h = unarmed_of steps h
 one_arm_of (P.Phase lists ∷ steps) h = one_arm_of steps h
 
-step_fits_of : (elements : ℕ) (step : PlanStep) → Fits elements (Plan.step_of step) → IsStep 8 elements step
+step_fits_of : (elements : ℕ) (step : PlanStep) → Fits elements (Plan.step_of step) → IsStep BEARERS elements step
 step_fits_of elements (P.Arm calls mask) h = tt
 step_fits_of elements (P.Phase lists) h = (
   sym (length-map lists.items (λ v. v.items)) ∙ h.0,
   λ k d l. subst (AreEvents elements) (get_or-map (λ v. v.items) lists.items k d d.items l) (h.1 k d.items (omega (arith, length-map lists.items (λ v. v.items)))),
 )
 
-steps_fit_of : (elements : ℕ) (steps : List PlanStep) → All (Fits elements) (steps_of steps) → All (IsStep 8 elements) steps
+steps_fit_of : (elements : ℕ) (steps : List PlanStep) → All (Fits elements) (steps_of steps) → All (IsStep BEARERS elements) steps
 steps_fit_of elements steps h k d l =
     step_fits_of elements (get_or steps k d)
     (subst (Fits elements) (get_or-map Plan.step_of steps k d (Plan.step_of d) l) (h k (Plan.step_of d) (omega (arith, length-map steps Plan.step_of))))
 
 pub planned : (elements : ℕ) (lines : List ScriptLine) (plan : LifePlan) → IsLife G.Node elements lines → steps_of plan.steps.items ≡ plan_of_lines lines
-    → plan.bearers ≡ 8 → IsPlanFor elements plan
+    → plan.bearers ≡ BEARERS → IsPlanFor elements plan
 planned elements lines plan life value bearers = record {
   arm = one_arm_of plan.steps.items (subst OneArm (sym value) (one_arm [] lines life.arms));
   steps =
@@ -201,6 +202,6 @@ planned elements lines plan life value bearers = record {
 }
 
 pub planned_if_ok : {E : Type 0} (elements : ℕ) (lines : List ScriptLine) (r : Result LifePlan E) → IsLife G.Node elements lines
-    → IfOk r (λ p. steps_of p.steps.items ≡ plan_of_lines lines) → IfOk r (λ p. p.bearers ≡ 8) → IfOk r (IsPlanFor elements)
+    → IfOk r (λ p. steps_of p.steps.items ≡ plan_of_lines lines) → IfOk r (λ p. p.bearers ≡ BEARERS) → IfOk r (IsPlanFor elements)
 planned_if_ok elements lines (Ok plan) life value bearers = planned elements lines plan life value bearers
 planned_if_ok elements lines (Err e) life value bearers = tt

@@ -1,5 +1,6 @@
 -- The plan of the lines so far.
 use Rattle.std.specs.Prelude.{ℕ, List, [], ◌∷◌, ◌++◌, replicate, slice_index_or, slice_set, Option, Some, None}
+use Rattle.node_limits.specs.declared.TheConstants.{BEARERS}
 use Rattle.mesh_types.specs.declared.events.Event.{Event}
 use Rattle.run_definitions.specs.Order.{Step, arm, phase}
 use Rattle.script_definitions.specs.Events.{Happening, happening_of}
@@ -21,7 +22,7 @@ ended d = d.steps ++ step_in d.events
 
 -- the events so far of a phase that goes on
 abbrev pub begun : Option (List (List Event)) → List (List Event)
-begun None = replicate 8 []
+begun None = replicate BEARERS []
 begun (Some events) = events
 
 -- an event more of a bearer

@@ -10,13 +10,11 @@ ghost use Rattle.std.specs.Option.{option_map};
 
 use life_laws::plan::{LifePlan, PlanStep};
 use mesh_types::events::Event;
+use node_limits::BEARERS;
 use script_definitions::line::{ArmLine, ScriptLine};
 use script_events::{Happening, OutsideNode};
 use std::alloc::{AllocError, Global};
 use std::marker::Model;
-
-/// The number of bearers.
-const BEARERS: u8 = 8;
 
 /// The plan of the lines so far.
 #[derive(Drop)]
@@ -32,6 +30,7 @@ impl Model for Draft {
     ghost use Rattle.std.specs.Option.{option_map};
     ghost use Rattle.life_plans.specs.Drafts.{Drafted};
     ghost use Rattle.life_laws.specs.Plan.{steps_of};
+    ghost use Rattle.node_limits.specs.declared.TheConstants.{BEARERS};
 
     ghost Value = { Drafted };
 
@@ -40,12 +39,12 @@ impl Model for Draft {
       events = option_map (λ events. map (λ v. v.items) events.items) d.events;
     } };
 
-    ghost invariant = { λ d. IfSome d.events (λ events. length events.items ≡ 8) };
+    ghost invariant = { λ d. IfSome d.events (λ events. length events.items ≡ BEARERS) };
 }
 
 /// No events of any bearer.
 fn no_events(alloc: Global) -> Result<Vec<Vec<Event>>, AllocError>
-    ensures value { IfOk result (λ events. map (λ v. v.items) events.items ≡ replicate 8 []) }
+    ensures value { IfOk result (λ events. map (λ v. v.items) events.items ≡ replicate BEARERS []) }
 {
     let mut events = Vec::new(alloc);
     for _ in 0..BEARERS {
@@ -128,7 +127,7 @@ impl Draft {
 
     /// Goes on with the phase by what happens, if anything does.
     fn go_on(&mut self, alloc: Global, happening: Option<Happening>) -> Result<(), AllocError>
-        requires bearer { IfSome happening (λ h. h.bearer < 8) }
+        requires bearer { IfSome happening (λ h. h.bearer < BEARERS) }
         ensures ok { OnOk result
             (self.new
             ≡ record {
@@ -162,12 +161,12 @@ impl Draft {
     /// The plan of all lines, of which there are no more.
     pub(crate) fn into_plan(mut self) -> Result<LifePlan, AllocError>
         ensures steps { IfOk result (λ p. steps_of p.steps.items ≡ ended self) }
-        ensures bearers { IfOk result (λ p. p.bearers ≡ 8) }
+        ensures bearers { IfOk result (λ p. p.bearers ≡ BEARERS) }
     {
         self.end_phase()?;
         let Draft { steps, .. } = self;
         Ok(LifePlan {
-            bearers: BEARERS,
+            bearers: BEARERS as u8,
             steps,
         })
     }

@@ -10,6 +10,7 @@ ghost use Rattle.script_events.specs.Happenings.{IsRead};
 
 use crate::draft::Draft;
 use life_laws::plan::LifePlan;
+use node_limits::BEARERS;
 use script_definitions::line::ScriptLine;
 use script_events::OutsideNode;
 use std::alloc::{AllocError, Global};
@@ -22,7 +23,7 @@ use std::alloc::{AllocError, Global};
 pub fn plan_of(alloc: Global, lines: &[ScriptLine]) -> Result<LifePlan, AllocError>
     requires ranges { All IsRead lines.now }
     ensures value { IfOk result (λ p. steps_of p.steps.items ≡ plan_of_lines lines.now) }
-    ensures bearers { IfOk result (λ p. p.bearers ≡ 8) }
+    ensures bearers { IfOk result (λ p. p.bearers ≡ BEARERS) }
     ensures planned { (elements : ℕ) → IsLife G.Node elements lines.now → IfOk result (IsPlanFor elements) }
 {
     let mut draft = Draft::new(alloc);

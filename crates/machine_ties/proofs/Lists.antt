@@ -3,6 +3,7 @@ use Rattle.std.proofs.Common.{ℕ, suc, zero, Bool, true, false, cond, List, [],
 use Rattle.std.specs.Bool.{⊤}
 use Rattle.std.specs.Prelude.{All, fold, slice_index_or, slice_set}
 use Rattle.std.specs.List.{AllByRecursion as Every, cons_option, filter_map, flat_map}
+pub use Rattle.config_definitions.proofs.Cases.{Inside}
 use Rattle.std.proofs.lemmas.List.Elements.{All-from_recursion, recursion_from_All}
 
 pub every_append : {X : Type 0} (P : X → Type 0) (xs ys : List X) → Every P xs → Every P ys → Every P (xs ++ ys)
@@ -28,11 +29,6 @@ every_map P Q f [] h = tt
 every_map P Q f (x ∷ xs) h = (f x h.0, every_map P Q f xs h.1)
 
 -- Through the calls that make lists.
-
--- of what stands in an option
-abbrev pub Inside : {X : Type 0} → (X → Type 0) → Option X → Type 0
-Inside P None = ⊤
-Inside P (Some x) = P x
 
 pub every_pick : {X : Type 0} (P : X → Type 0) (b : Bool) (xs ys : List X) → Every P xs → Every P ys → Every P (cond b xs ys)
 every_pick P true xs ys h k = h

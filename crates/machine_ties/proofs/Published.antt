@@ -1,12 +1,12 @@
 -- What is published, and the heartbeat, are within their ranges.
-use Rattle.std.proofs.Common.{◌≡◌, ℕ, ◌-◌, Bool, true, false, cond, eqb, leb, ◌&&◌, ◌||◌, List, [], ◌∷◌, filter, refl, subst, sym, arith, Option, Some, None}
+use Rattle.std.proofs.Common.{◌≡◌, ℕ, ◌-◌, Bool, true, false, cond, eqb, leb, ◌&&◌, ◌||◌, List, [], ◌∷◌, filter, refl, subst, sym, arith, Option, Some, None, ◌^◌, ◌<◌}
 use Rattle.std.specs.Bool.{⊤}
 use Rattle.std.specs.Prelude.{IsTrue}
 use Rattle.std.specs.List.{AllByRecursion as Every, flat_map, list_any}
 use Rattle.std.specs.Option.{option_map, option_map_or}
 use Rattle.std.proofs.lemmas.Bool.Decides.{nat_tests}
+use Rattle.config_definitions.proofs.Answered.{IsReplied}
 use Rattle.config_definitions.specs.declared.acts.ConfigAct.{ConfigAct}
-use Rattle.config_server.proofs.Replies.{IsShortBeat, SetsShortBeat}
 use Rattle.element_models.proofs.Filled.{IsFilled, level_filled, onoff_filled}
 use Rattle.layer_definitions.specs.KeyRefresh.{transmit_app}
 use Rattle.layer_laws.proofs.Lists.{and_true}
@@ -131,6 +131,9 @@ sendable past c ticks short rows =
 
 -- The heartbeat of a life has a TTL of 7 bits: so had each that was set.
 
+abbrev IsShortBeat : Option HeartbeatRow → Type 0
+IsShortBeat o = Inside (λ (row : HeartbeatRow). row.ttl < 2 ^ 7) o
+
 abbrev IsShortHeartbeat : Option Heartbeat → Type 0
 IsShortHeartbeat None = ⊤
 IsShortHeartbeat (Some h) = IsShort h.row.ttl
@@ -148,17 +151,17 @@ beat_beats : (p : Published) (now : ℕ) (o : Option HeartbeatRow) → IsShortBe
 beat_beats p now None h g = g
 beat_beats p now (Some row) h g = h
 
-act_beats : (p : Published) (now : ℕ) (o : Option ConfigAct) → SetsShortBeat o → IsBeating p
+act_beats : (p : Published) (now : ℕ) (o : Option ConfigAct) → Inside IsReplied o → IsBeating p
     → IsBeating (option_map_or (published_by_act p now) o p)
 act_beats p now None h g = g
 act_beats p now (Some act) h g =
-    beat_beats (option_map_or (row_set p now) (stored_row act.change) p) now act.beat h
+    beat_beats (option_map_or (row_set p now) (stored_row act.change) p) now act.beat h.beat
     (row_beats p now (stored_row act.change) g)
 
 message_beats : (p : Published) (now : ℕ) (c : Config) (o : Option AccessMessage) → IsBeating p
     → IsBeating (option_map_or (published_by_message p now c) o p)
 message_beats p now c None g = g
-message_beats p now c (Some m) g = act_beats p now (config_act c [] no_heartbeat m) (acts c [] no_heartbeat m).beat g
+message_beats p now c (Some m) g = act_beats p now (config_act c [] no_heartbeat m) (acts c [] no_heartbeat m) g
 
 after_beats : (rows : Published) (now : ℕ) (o : Option Heartbeat) → rows.heartbeat ≡ o → IsShortHeartbeat o
     → IsBeating (after_heartbeat rows now)

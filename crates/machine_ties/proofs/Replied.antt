@@ -4,10 +4,10 @@ use Rattle.std.specs.Prelude.{IfSome, MatchBool, MatchOption, fold}
 use Rattle.std.specs.List.{AllByRecursion as Every, slice_get}
 use Rattle.std.specs.Option.{option_to_list}
 use Rattle.cipher_definitions.specs.Kdf.{aid}
+use Rattle.config_definitions.proofs.Answered.{IsReplied, replied}
+use Rattle.config_definitions.proofs.Cases.{Inside}
 use Rattle.config_definitions.specs.Answers.{config_answer}
 use Rattle.config_definitions.specs.declared.acts.ConfigAct.{ConfigAct}
-use Rattle.config_server.proofs.Answered.{replies}
-use Rattle.config_server.proofs.Replies.{HasOctet, Replies, pick, silent}
 use Rattle.element_models.proofs.Filled.{IsFilled, level_replies, onoff_replies, taken}
 use Rattle.layer_definitions.proofs.KeyLaws.{aid_width}
 use Rattle.layer_definitions.specs.KeyRefresh.{app_key, keys_of}
@@ -105,14 +105,18 @@ IsReply reply = IsFilled reply.1
 
 -- where the Configuration Server answers, its reply has an octet, and a heartbeat that it sets a TTL of 7 bits
 pub acts : (c : Config) (polls : List (Address × ℕ)) (beat : HeartbeatRow) (m : AccessMessage)
-    → Replies (config_act c polls beat m)
+    → Inside IsReplied (config_act c polls beat m)
 acts c polls beat m =
-    pick (is_for_server c m) (config_answer c m.net polls beat m.payload) None (replies c m.net polls beat m.payload) silent
+    for_server (is_for_server c m) (config_answer c m.net polls beat m.payload) (replied c m.net polls beat m.payload)
+  where
+    for_server : (b : Bool) (o : Option ConfigAct) → Inside IsReplied o → Inside IsReplied (cond b o None)
+    for_server true o h = h
+    for_server false o h = tt
 
-act_replies : (o : Option ConfigAct) → HasOctet o
+act_replies : (o : Option ConfigAct) → Inside IsReplied o
     → Every IsReply (map (λ (act : ConfigAct). (0, act.reply)) (option_to_list o))
 act_replies None h = tt
-act_replies (Some act) h = (h, tt)
+act_replies (Some act) h = (h.octet, tt)
 
 listed : (o : Option (List ℕ)) → IfSome o IsFilled → Every IsFilled (option_to_list o)
 listed None h = tt
@@ -136,7 +140,7 @@ replies_filled past st m =
     let c : Config = config_before past in
     let act : Option ConfigAct = act_of past st m in
     every_append IsReply (map (λ (act : ConfigAct). (0, act.reply)) (option_to_list act)) (model_replies past m)
-    (act_replies act (acts c _ _ m).octet)
+    (act_replies act (acts c _ _ m))
     (every_flat_any IsReply (element_replies past c m) (element_filled past c m) (elements_of c))
 
 -- So each is a job within its ranges.

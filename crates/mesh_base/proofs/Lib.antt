@@ -1,2 +1,4 @@
+pub mod Every
+pub mod IvStates
 pub mod OutsideLemmas
 pub mod Pairs

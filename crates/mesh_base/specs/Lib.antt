@@ -1,5 +1,6 @@
 pub mod Address
 pub mod IvState
+pub mod Keys
 pub mod Memory
 pub mod Outside
 pub mod Pairs

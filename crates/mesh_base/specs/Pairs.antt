@@ -1,5 +1,6 @@
--- Pairs of an IV Index and a SEQ: their words, their order and their expiry.
+-- Pairs of an IV Index and a SEQ: their words, their order and their expiry; and names.
 use Rattle.std.specs.Prelude.{ℕ, ◌+◌, ◌*◌, ◌/◌, ◌%◌, ◌^◌, ◌<◌, ◌==◌, ◌&&◌, ◌||◌, nat_lt, Bool, if◌then◌else◌}
+use Rattle.mesh_base.specs.declared.pair.Name.{Name}
 use Rattle.mesh_base.specs.declared.pair.Pair.{Pair}
 
 -- A word stands for a pair: its IV Index, then 25 bits for SEQ. SEQ has 24 bits; the word behind the last SEQ of an IV Index says that
@@ -27,3 +28,7 @@ newer_of p q = if is_newer q p then q else p
 -- other (section 3.10.5); so a pair with an IV Index below these is never read again.
 abbrev pub is_expired : ℕ → Pair → Bool
 is_expired current p = nat_lt (p.iv + 1) current
+
+-- whether two names are the same: SRC, IV Index and SEQ
+abbrev pub is_name : Name → Name → Bool
+is_name m n = m.src.0 == n.src.0 && m.pair.iv == n.pair.iv && m.pair.seq == n.pair.seq

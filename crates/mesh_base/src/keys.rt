@@ -1,6 +1,10 @@
 //! Keys as a node holds them (Mesh Profile 1.0.1, sections 3.8.6 and 3.10.4).
 #![tactic(auto)]
 
+ghost use Rattle.std.specs.Prelude.{◌≡◌};
+ghost use Rattle.std.specs.Option.{option_copied};
+ghost use Rattle.mesh_base.specs.Keys.{app_row, net_row};
+
 /// A key of the upper transport layer. It can't be printed.
 #[derive(Clone, Copy, PartialEq, Eq)]
 pub enum UpperKey {
@@ -54,4 +58,18 @@ pub struct AppKeyRow {
     pub key: [u8; 16],
     /// The new key, while the network key is refreshed.
     pub next: Option<[u8; 16]>,
+}
+
+/// The first row of a network key index, if there is one.
+pub fn net_row(rows: &[NetKeyRow], index: u16) -> Option<&NetKeyRow>
+    ensures value { option_copied result ≡ net_row rows.now index }
+{
+    rows.iter().find(|row| row.index == index)
+}
+
+/// The first row of an application key index, if there is one.
+pub fn app_row(rows: &[AppKeyRow], index: u16) -> Option<&AppKeyRow>
+    ensures value { option_copied result ≡ app_row rows.now index }
+{
+    rows.iter().find(|row| row.index == index)
 }

@@ -3,7 +3,7 @@
 
 ghost use Rattle.std.specs.Prelude.{◌≡◌, ◌<◌, ◌≤◌, ◌↔◌, ◌⊎◌, true, false};
 ghost use Rattle.mesh_base.specs.declared.pair.Pair.{Pair};
-ghost use Rattle.mesh_base.specs.Pairs.{is_newer, word_of, IsPair};
+ghost use Rattle.mesh_base.specs.Pairs.{is_expired, is_name, is_newer, word_of, IsPair};
 
 use crate::address::Address;
 
@@ -24,6 +24,24 @@ pub struct Name {
     pub src: Address,
     /// The pair, or SeqAuth.
     pub pair: Pair,
+}
+
+impl Pair {
+    /// Whether no PDU of its IV Index is read any more under the known IV Index `current` (section 3.10.5).
+    pub fn is_expired(&self, current: u32) -> bool
+        ensures value { result ≡ is_expired current self.now }
+    {
+        u64::from(self.iv) + 1 < u64::from(current)
+    }
+}
+
+impl Name {
+    /// Whether this is the name of the same message: one SRC, IV Index and SEQ.
+    pub fn is_same(&self, other: &Name) -> bool
+        ensures value { result ≡ is_name self.now other.now }
+    {
+        self.src.0 == other.src.0 && self.pair.iv == other.pair.iv && self.pair.seq == other.pair.seq
+    }
 }
 
 /// The order of pairs is that of their words, as long as both are within their widths; what isn't newer is that pair or below it; and

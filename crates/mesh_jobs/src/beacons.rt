@@ -10,6 +10,7 @@ use mesh_base::iv_state::IvState;
 use mesh_base::keys::NetKeyRow;
 use mesh_types::jobs::{Job, JobDraft};
 use net_beacon::write;
+use node_limits::JOBS;
 use node_records::Persist;
 
 // The key that is sent under: in phase 2 the new one.
@@ -33,7 +34,7 @@ fn own_beacon(s: &IvState, row: &NetKeyRow) -> [u8; 22]
 
 /// Puts the node's beacons behind the others, one for each network key by index, where the Beacon feature is on.
 pub fn push_beacons(jobs: &mut JobDraft, p: &Persist)
-    requires room { length jobs.old + 4 ≤ 160 }
+    requires room { length jobs.old + 4 ≤ JOBS }
     ensures value { jobs.new ≡ jobs.old ++ beacon_jobs (config_in p.now) }
     ensures few { length jobs.new ≤ length jobs.old + 4 }
 {

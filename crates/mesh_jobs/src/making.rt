@@ -6,10 +6,11 @@ ghost use Rattle.std.specs.Option.{option_to_list};
 
 use mesh_base::octets::Octets;
 use mesh_types::jobs::{Job, JobDraft};
+use node_limits::JOBS;
 
 /// Puts a job behind the others, if it was made.
 pub(crate) fn push_made(jobs: &mut JobDraft, job: Option<Job>)
-    requires room { length jobs.old < 160 }
+    requires room { length jobs.old < JOBS }
     ensures value { jobs.new ≡ jobs.old ++ option_to_list job }
     ensures few { length jobs.new ≤ length jobs.old + 1 }
 {

@@ -40,6 +40,7 @@ use mesh_types::jobs::{Job, JobDraft, Jobs};
 use net_keys::NetKeys;
 use network_layer::NetReading;
 use node_friends::{FriendAct, push_friend_jobs};
+use node_limits::JOBS;
 use node_models::MessageReplies;
 use node_records::Persist;
 
@@ -83,7 +84,7 @@ fn relay_job(nets: &NetKeys, r: &NetReading) -> Option<Job>
 /// Puts the relay of a PDU behind the others, if it goes on: its own SRC, IV Index and SEQ with one TTL less, where
 /// Relay is on, TTL is 2 or more, and DST isn't an element of this node.
 pub fn push_relay(jobs: &mut JobDraft, p: &Persist, nets: &NetKeys, r: &NetReading)
-    requires room { length jobs.old < 160 }
+    requires room { length jobs.old < JOBS }
     requires nets { nets.now ≡ p.now.nets }
     ensures value { jobs.new ≡ jobs.old ++ relay_jobs (config_in p.now) (reading_of r.now) }
     ensures few { length jobs.new ≤ length jobs.old + 1 }
@@ -159,7 +160,7 @@ pub fn push_ack(
     low: &Lower,
     answer: &Answer,
 )
-    requires room { length jobs.old < 160 }
+    requires room { length jobs.old < JOBS }
     requires nets { nets.now ≡ p.now.nets }
     requires fits { Fits low.now }
     ensures value { jobs.new ≡ jobs.old ++ ack_jobs (config_in p.now) (reading_of r.now) (Some low.now) answer.now }
@@ -200,7 +201,7 @@ fn push_heard_ack(
     low: Option<&Lower>,
     answer: &Answer,
 )
-    requires room { length jobs.old < 160 }
+    requires room { length jobs.old < JOBS }
     requires nets { nets.now ≡ p.now.nets }
     requires fits { IfSome low (λ l. Fits l.now) }
     ensures value { jobs.new
@@ -222,7 +223,7 @@ fn push_delivered(
     to: Address,
     replies: &MessageReplies,
 )
-    requires room { length jobs.old + 9 ≤ 160 }
+    requires room { length jobs.old + 9 ≤ JOBS }
     requires nets { nets.now ≡ p.now.nets }
     requires unicast { p.now.unicast.0 < 2 ^ 15 }
     ensures value { jobs.new ≡ jobs.old
@@ -249,7 +250,7 @@ fn push_message_jobs(
     act: &FriendAct,
     answer: &Answer,
 )
-    requires room { length jobs.old + 9 ≤ 160 }
+    requires room { length jobs.old + 9 ≤ JOBS }
     requires nets { nets.now ≡ p.now.nets }
     requires unicast { p.now.unicast.0 < 2 ^ 15 }
     ensures value { (past : Past) (low : Option LowerPdu) (opening : Option Opening)

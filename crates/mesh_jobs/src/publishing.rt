@@ -21,12 +21,13 @@ use mesh_base::octets::Octets;
 use mesh_types::jobs::{Job, JobDraft};
 use model_states::publication::HeartbeatRow;
 use net_keys::NetKeys;
+use node_limits::JOBS;
 use node_models::{Due, DueRow, is_own_row};
 use node_records::Persist;
 use record_types::records::PublishRow;
 
 /// The publish TTL that stands for the Default TTL (section 4.2.2.5).
-const DEFAULT_TTL: u8 = 0xff;
+const PUBLISH_DEFAULT_TTL: u8 = 0xff;
 
 /// The opcode of a Heartbeat (section 3.6.5.10).
 const HEARTBEAT: u8 = 0x0a;
@@ -67,7 +68,7 @@ pub fn is_still_held(p: &Persist, row: &PublishRow) -> bool
 pub fn publish_ttl(p: &Persist, row: &PublishRow) -> u8
     ensures value { result ≡ (if row.now.ttl == 0xff then p.now.ttl else row.now.ttl) }
 {
-    if row.ttl == DEFAULT_TTL {
+    if row.ttl == PUBLISH_DEFAULT_TTL {
         p.ttl
     } else {
         row.ttl
@@ -99,7 +100,7 @@ fn publication_job(p: &Persist, nets: &NetKeys, apps: &AppKeys, due: &DueRow) ->
 
 // Puts what the rows publish behind the others.
 fn push_rows(jobs: &mut JobDraft, p: &Persist, nets: &NetKeys, apps: &AppKeys, rows: &[DueRow])
-    requires room { length jobs.old + 8 ≤ 160 }
+    requires room { length jobs.old + 8 ≤ JOBS }
     requires nets { nets.now ≡ p.now.nets }
     requires apps { apps.now ≡ record { apps = p.now.apps; nets = p.now.nets } }
     requires rows { length rows.now ≤ 8 }
@@ -148,7 +149,7 @@ fn heartbeat_job(p: &Persist, nets: &NetKeys, row: &HeartbeatRow) -> Option<Job>
 
 // Puts the heartbeat behind the others, if it is due.
 fn push_heartbeat(jobs: &mut JobDraft, p: &Persist, nets: &NetKeys, due: Option<HeartbeatRow>)
-    requires room { length jobs.old < 160 }
+    requires room { length jobs.old < JOBS }
     requires nets { nets.now ≡ p.now.nets }
     ensures value { jobs.new ≡ jobs.old
         ++ option_map_or
@@ -171,7 +172,7 @@ pub fn push_publications(
     apps: &AppKeys,
     due: &Due,
 )
-    requires room { length jobs.old + 9 ≤ 160 }
+    requires room { length jobs.old + 9 ≤ JOBS }
     requires nets { nets.now ≡ p.now.nets }
     requires apps { apps.now ≡ record { apps = p.now.apps; nets = p.now.nets } }
     ensures value { (past : Past) (ticks : ℕ) → IsDueSent past (config_in p.now) (later past ticks) due.now

@@ -14,6 +14,7 @@ use crate::beacons::push_beacons;
 use mesh_base::keys::NetKeyRow;
 use mesh_base::table::Table;
 use mesh_types::jobs::JobDraft;
+use node_limits::JOBS;
 use node_records::Persist;
 
 /// The phase of the Key Refresh of a network key.
@@ -76,7 +77,7 @@ fn any_changed(before: &[KeyPhase], rows: &[NetKeyRow]) -> bool
 
 /// Puts the node's beacons behind the others where the phase of a network key that is held isn't what it was before the event.
 pub fn push_refresh(jobs: &mut JobDraft, p: &Persist, before: &Phases)
-    requires room { length jobs.old + 4 ≤ 160 }
+    requires room { length jobs.old + 4 ≤ JOBS }
     ensures value { (c : Config) → before.now ≡ phases_of c.nets
         → jobs.new ≡ jobs.old ++ refresh_jobs c (config_in p.now) }
     ensures few { length jobs.new ≤ length jobs.old + 4 }

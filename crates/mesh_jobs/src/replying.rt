@@ -19,6 +19,7 @@ use mesh_base::octets::Octets;
 use mesh_types::jobs::{Job, JobDraft};
 use net_keys::NetKeys;
 use network_layer::NetReading;
+use node_limits::JOBS;
 use node_models::{MessageReplies, Replies};
 use node_records::Persist;
 
@@ -60,7 +61,7 @@ fn push_first_reply(
     to: Address,
     payload: Option<&Octets<48>>,
 )
-    requires room { length jobs.old < 160 }
+    requires room { length jobs.old < JOBS }
     requires nets { nets.now ≡ p.now.nets }
     requires unicast { p.now.unicast.0 < 2 ^ 15 }
     ensures value { jobs.new ≡ jobs.old
@@ -83,7 +84,7 @@ fn push_model_replies(
     to: Address,
     replies: &Replies,
 )
-    requires room { length jobs.old + 8 ≤ 160 }
+    requires room { length jobs.old + 8 ≤ JOBS }
     requires nets { nets.now ≡ p.now.nets }
     requires unicast { p.now.unicast.0 < 2 ^ 15 }
     ensures value { jobs.new ≡ jobs.old
@@ -108,7 +109,7 @@ pub fn push_replies(
     to: Address,
     replies: &MessageReplies,
 )
-    requires room { length jobs.old + 9 ≤ 160 }
+    requires room { length jobs.old + 9 ≤ JOBS }
     requires nets { nets.now ≡ p.now.nets }
     requires unicast { p.now.unicast.0 < 2 ^ 15 }
     ensures value { jobs.new ≡ jobs.old

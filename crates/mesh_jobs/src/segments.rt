@@ -20,6 +20,7 @@ use mesh_base::octets::Octets;
 use mesh_types::events::Outgoing;
 use mesh_types::jobs::{Job, JobDraft, Segment};
 use net_keys::NetKeys;
+use node_limits::JOBS;
 use node_records::Persist;
 use segment_sender::round_due;
 
@@ -95,7 +96,7 @@ fn segment_job(material: NetMaterial, m: &Outgoing, seg_o: u8, first: bool) -> J
 /// Puts all segments of a message that begins behind the others, where its network key is held. The first of all is the one that goes under
 /// the pair of SeqAuth.
 pub(crate) fn push_first_round(jobs: &mut JobDraft, p: &Persist, nets: &NetKeys, m: &Outgoing)
-    requires room { length jobs.old + 32 ≤ 160 }
+    requires room { length jobs.old + 32 ≤ JOBS }
     requires nets { nets.now ≡ p.now.nets }
     requires outgoing { IsOutgoing m.now }
     ensures value { jobs.new
@@ -112,7 +113,7 @@ pub(crate) fn push_first_round(jobs: &mut JobDraft, p: &Persist, nets: &NetKeys,
 
 // Puts segments of a message behind the others, each of which draws a pair of its own.
 fn push_again(jobs: &mut JobDraft, material: NetMaterial, m: &Outgoing, round: &[u8])
-    requires room { length jobs.old + length round.now ≤ 160 }
+    requires room { length jobs.old + length round.now ≤ JOBS }
     requires outgoing { IsOutgoing m.now }
     requires places { All (λ i. i ≤ last_segment_in m.now.upper) round.now }
     ensures value { jobs.new ≡ jobs.old ++ segments_under material m.now round.now }
@@ -125,7 +126,7 @@ fn push_again(jobs: &mut JobDraft, material: NetMaterial, m: &Outgoing, round: &
 
 // Puts the segments of one message that are due behind the others.
 fn push_round(jobs: &mut JobDraft, p: &Persist, nets: &NetKeys, now: u64, s: &Sending)
-    requires room { length jobs.old + 32 ≤ 160 }
+    requires room { length jobs.old + 32 ≤ JOBS }
     requires nets { nets.now ≡ p.now.nets }
     requires held { IsHeldWell s.now }
     ensures value { jobs.new ≡ jobs.old ++ round_jobs (config_in p.now) now s.now }
@@ -141,7 +142,7 @@ fn push_round(jobs: &mut JobDraft, p: &Persist, nets: &NetKeys, now: u64, s: &Se
 /// Puts the segments that are due at `now`, in ticks of 10 ms, behind the others, in the order in which their messages began: of each
 /// message at most one round. `rows` are the messages as they are held before the time is counted.
 pub fn push_rounds(jobs: &mut JobDraft, p: &Persist, nets: &NetKeys, now: u64, rows: &[Sending])
-    requires room { length jobs.old + 128 ≤ 160 }
+    requires room { length jobs.old + 128 ≤ JOBS }
     requires nets { nets.now ≡ p.now.nets }
     requires rows { length rows.now ≤ 4 }
     requires held { All IsHeldWell rows.now }

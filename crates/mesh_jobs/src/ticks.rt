@@ -30,6 +30,7 @@ use mesh_base::iv_state::IvState;
 use mesh_types::answers::Answer;
 use mesh_types::jobs::{Job, JobDraft, Jobs};
 use net_keys::NetKeys;
+use node_limits::JOBS;
 use node_models::Due;
 use node_records::Persist;
 
@@ -66,7 +67,7 @@ fn due_job(p: &Persist, nets: &NetKeys, a: &DueAck) -> Option<Job>
 
 /// Puts the acknowledgments that are due behind the others, in their order.
 pub fn push_acks(jobs: &mut JobDraft, p: &Persist, nets: &NetKeys, acks: &AckList)
-    requires room { length jobs.old + 8 ≤ 160 }
+    requires room { length jobs.old + 8 ≤ JOBS }
     requires nets { nets.now ≡ p.now.nets }
     ensures value { jobs.new ≡ jobs.old ++ flat_map (due_jobs (config_in p.now)) acks.now }
     ensures few { length jobs.new ≤ length jobs.old + 8 }
@@ -92,7 +93,7 @@ fn is_beacon_due(span: &Span, iv: &IvState) -> bool
 
 /// Puts the node's beacons behind the others where a multiple of 1000 ticks was passed or the IV state changed.
 pub fn push_beacons_due(jobs: &mut JobDraft, p: &Persist, span: &Span)
-    requires room { length jobs.old + 4 ≤ 160 }
+    requires room { length jobs.old + 4 ≤ JOBS }
     ensures value { (past : Past) (ticks : ℕ) → IsSpan past ticks span.now
         → jobs.new ≡ jobs.old ++ beacons_due past (config_in p.now) ticks }
     ensures few { length jobs.new ≤ length jobs.old + 4 }

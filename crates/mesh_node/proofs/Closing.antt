@@ -29,7 +29,7 @@ use Rattle.life_laws.specs.declared.plan.PlanStep.{PlanStep}
 use Rattle.life_laws.specs.Plan.{HasOneArm, life_of, steps_of}
 use Rattle.mesh_node.specs.Ran.{Ran}
 use Rattle.mesh_node.specs.Steps.{HasGiven, IsGiven, IsOfPlan}
-use Rattle.mesh_node.proofs.Drawn.{words_of}
+use Rattle.mesh_node.proofs.Drawn.{spent_of, words_of}
 use Rattle.mesh_node.proofs.Ending.{each_life}
 use Rattle.mesh_node.proofs.Giving.{given_one, reached_some}
 use Rattle.mesh_node.proofs.Printing.{idle_printable, sends_short}
@@ -42,7 +42,7 @@ module _ {F : Type 0} (role : Role) (image : List ℕ → Type 0) (chip : F → 
     (entries : log.history.entries.items ≡ node.machine.entries) (refills : log.history.refills ≡ node.machine.fills) (cut : is_cut log.end ≡ node.machine.closed)
     (next mark first : ℕ) (order : next ≤ mark) (marks : mark ≡ node.machine.mark) (firsts : first ≡ (config_of begun).mark)
     (from : All (λ x. first ≤ x) d.drawn) (below : All (λ x. x < next) d.drawn) (once : (x : ℕ) → times x d.drawn ≤ 1) (seen : All (IsWithin next mark) d.looks)
-    (closed : ClosedView) (drawn : log.drawn ≡ Some closed) (words : closed.drawn ≡ d.drawn) (apart : AllPairs (λ x y. x ≢ y) d.drawn)
+    (closed : ClosedView) (drawn : log.drawn ≡ Some closed) (words : closed.drawn ≡ d.drawn) (looked : closed.looks ≡ d.looks) (apart : AllPairs (λ x y. x ≢ y) d.drawn)
     (bearers : ℕ) (few : bearers ≤ 8) (many : length log.sends.items ≡ bearers)
     (explained : IsExplained (chip node.flash)) (given : node.stops ≡ 0 → HasGiven plan (chip node.flash).setting.arm)
     (arm : IsOfPlan plan (chip node.flash).setting.arm) (calls : IfSome (cut_calls log.end) (λ n. n ≡ (chip node.flash).changes)) where
@@ -53,6 +53,9 @@ module _ {F : Type 0} (role : Role) (image : List ℕ → Type 0) (chip : F → 
   all_lives = each_life role image chip plan node d (map (λ v. v.items) log.sends.items) (life_of log) h over entries refills refl cut
       (subst (λ o. (config_of o).reset ≡ false) begun_is runs) (subst (λ o. log.opened ≡ W.On (config_of o).iv (config_of o).mark) begun_is opened)
       next mark order marks (subst (λ o. All (λ x. (config_of o).mark ≤ x) d.drawn) begun_is (subst (λ m. All (λ x. m ≤ x) d.drawn) firsts from)) below once seen
+
+  pairs : PairsSo (life_of log).entries (life_of log).sends d
+  pairs = subst (λ es. PairsSo es (map (λ v. v.items) log.sends.items) d) (sym entries) over.pairs
 
   given_all : IsTrue (chip node.flash).steady → HasGiven plan (chip node.flash).setting.arm
   given_all steady = by_closed node.machine.closed refl where
@@ -75,7 +78,11 @@ module _ {F : Type 0} (role : Role) (image : List ℕ → Type 0) (chip : F → 
     cause = λ is. h.life.failed (sym cut ∙ is);
     arm = arm;
     calls = calls;
-    drawn = subst (TellsDrawn (life_of log)) (sym drawn) (ap is_on opened, words_of (life_of log) d closed.drawn words apart (subst (λ es. PairsSo es (map (λ v. v.items) log.sends.items) d) (sym entries) over.pairs));
+    drawn = subst (TellsDrawn (life_of log)) (sym drawn) (record {
+      ran = ap is_on opened;
+      words = words_of (life_of log) d closed.drawn words apart pairs;
+      spent = spent_of (life_of log) d closed.looks looked pairs;
+    });
     armed = given_all;
   }
 

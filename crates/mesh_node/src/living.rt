@@ -20,6 +20,7 @@ use life_laws::plan::{LifeLog, LifePlan, PlanStep};
 use locked_node::{Known, Node};
 use machine_contract::{History, Machine, StartFault, Started};
 use mesh_types::report::{End, Opened};
+use node_limits::BEARERS;
 use node_phase::Gate;
 use std::alloc::{AllocError, Global};
 use std::sync::Wait;
@@ -107,7 +108,7 @@ fn run_life<M: Machine, F: Bench, G: Gate, R: Threads + Wait + Sync>(
 ) -> Result<(LifeLog, F), AllocError>
     requires started { IsStarted M.view M.stands (F.chip start) (F.chip flash) started }
     requires kept { Keeps (F.chip start) (F.chip flash) }
-    requires few { plan.now.bearers ≤ 8 }
+    requires few { plan.now.bearers ≤ BEARERS }
     requires behind { steps.now ≡ behind_arm plan.now.steps.items }
     requires may { MayFollow steps.now (F.chip flash).setting.arm }
     requires order { IsOfPlan (steps_of plan.now.steps.items) (F.chip flash).setting.arm }

@@ -17,6 +17,7 @@ use locked_node::Node;
 use machine_contract::Machine;
 use mesh_types::events::Event;
 use mesh_types::history::Sent;
+use node_limits::BEARERS;
 use node_phase::{Gate, run_phase};
 use seq_word::{Drawer, Numbers};
 use std::alloc::{AllocError, Global};
@@ -52,7 +53,7 @@ fn do_phase<M: Machine, F: Bench, G: Gate, R: Threads + Wait + Sync>(
 ) -> Result<(Node<M, F>, bool), AllocError>
     requires made { node.machine.which ≡ n.now.which }
     requires draws { drawer.old.which ≡ n.now.which }
-    requires few { length counts.old.items ≤ 8 }
+    requires few { length counts.old.items ≤ BEARERS }
     requires lists { length lists.now ≡ length counts.old.items }
     requires sends { length sends.old.items ≡ length counts.old.items }
     requires events { All (λ v. AreEvents node.machine.elements v.items) lists.now }
@@ -94,7 +95,7 @@ pub fn do_step<M: Machine, F: Bench, G: Gate, R: Threads + Wait + Sync>(
 ) -> Result<(Node<M, F>, bool), AllocError>
     requires made { node.machine.which ≡ n.now.which }
     requires draws { drawer.old.which ≡ n.now.which }
-    requires few { length counts.old.items ≤ 8 }
+    requires few { length counts.old.items ≤ BEARERS }
     requires sends { length sends.old.items ≡ length counts.old.items }
     requires step { IsStep (length counts.old.items) node.machine.elements step.now }
     requires arm { MayArm step.now (F.chip node.flash) }
@@ -151,7 +152,7 @@ pub fn do_steps<M: Machine, F: Bench, G: Gate, R: Threads + Wait + Sync>(
     requires made { node.machine.which ≡ n.now.which }
     requires draws { drawer.old.which ≡ n.now.which }
     requires drawn { drawer.old.drawn ≡ [] }
-    requires few { bearers ≤ 8 }
+    requires few { bearers ≤ BEARERS }
     requires steps { All (IsStep bearers node.machine.elements) steps.now }
     requires may { MayFollow steps.now (F.chip node.flash).setting.arm }
     requires begins { (node.machine.entries ≡ []) × (node.stops ≡ 0) }

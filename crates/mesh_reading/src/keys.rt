@@ -12,6 +12,7 @@ use kept_keys::UpperSchedule;
 use mesh_base::address::Address;
 use mesh_base::keys::UpperKey;
 use net_keys::NetKeys;
+use node_limits::LABEL_SUBSCRIPTIONS;
 use node_records::Persist;
 use std::marker::Model;
 use virtual_labels::Labels;
@@ -41,7 +42,7 @@ impl Model for Keys {
 
 // The labels of these subscriptions, in their order.
 fn labels_of(rows: &[(Address, u16, [u8; 16])]) -> Labels
-    requires { length rows.now ≤ 32 }
+    requires { length rows.now ≤ LABEL_SUBSCRIPTIONS }
     ensures { result ≡ labels_of rows.now }
 {
     let mut labels = Labels::new();

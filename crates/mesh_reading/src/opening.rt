@@ -4,15 +4,13 @@
 ghost use Rattle.std.specs.Prelude.{◌≡◌, ◌≤◌, ℕ, [], ◌∷◌, length, if◌then◌else◌};
 ghost use Rattle.std.specs.Option.{option_map};
 ghost use Rattle.layer_definitions.specs.KeyRefresh.{app_keys};
-ghost use Rattle.layer_definitions.specs.Labels.{is_virtual};
+ghost use Rattle.mesh_base.specs.Address.{is_unicast};
 ghost use Rattle.mesh_base.specs.declared.keys.UpperKey.TheVariants.{Device};
 ghost use Rattle.mesh_reading.specs.Held.{held_in, opening_of, reading_of};
-ghost use Rattle.layer_states.specs.Names.{is_unicast};
 ghost use Rattle.event_definitions.specs.Readings.{IsOpenedByLabel, IsOpenedFor, IsOpenedUnder, fields_heard, keys_tried};
 ghost use Rattle.store_definitions.specs.Config.{Config};
 
 use crate::keys::Keys;
-use mesh_base::address::Address;
 use mesh_base::keys::UpperKey;
 use mesh_base::octets::Octets;
 use mesh_base::pair::Name;
@@ -40,20 +38,6 @@ pub struct Opened {
     pub label: Option<[u8; 16]>,
     /// The access payload, 1 to 380 octets.
     pub payload: Octets<380>,
-}
-
-// Whether an address is that of an element (section 3.4.2.2).
-fn is_unicast(a: Address) -> bool
-    ensures { result ≡ is_unicast a }
-{
-    a.0 >= 1 && a.0 < 0x8000
-}
-
-// Whether an address is virtual (section 3.4.2.3).
-fn is_virtual(a: Address) -> bool
-    ensures { result ≡ is_virtual a }
-{
-    a.0 >= 0x8000 && a.0 < 0xc000
 }
 
 impl Keys {
@@ -113,7 +97,7 @@ impl Keys {
         ensures value { (c : Config) → self.now ≡ held_in c
             → IsOpenedFor c (app_keys c.apps net aid) f.now upper.now (option_map opening_of result) }
     {
-        if is_virtual(f.dst) {
+        if f.dst.is_virtual() {
             self.open_labelled(net, aid, f, upper)
         } else {
             self.open_plain(net, aid, f, upper)
@@ -127,7 +111,7 @@ impl Keys {
             → IsOpenedFor c (if is_unicast f.now.dst then Device c.dev_key ∷ [] else []) f.now upper.now
             (option_map opening_of result) }
     {
-        if is_unicast(f.dst) {
+        if f.dst.is_unicast() {
             self.open_device(f, upper)
         } else {
             None

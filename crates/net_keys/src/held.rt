@@ -13,7 +13,7 @@ use crate::credentials::master;
 use arrayvec::ArrayVec;
 use kept_keys::HeardSchedules;
 use mesh_base::fields::Heard;
-use mesh_base::keys::NetKeyRow;
+use mesh_base::keys::{NetKeyRow, net_row};
 use mesh_base::table::HeardList;
 use node_limits::{HEARD_NETWORK_KEYS, NETWORK_KEYS};
 
@@ -64,13 +64,6 @@ pub(crate) fn add(list: &mut HeardList, nid: u8, heard: Heard)
     }
 }
 
-// The row of this index.
-fn row_at(rows: &[NetKeyRow], index: u16) -> Option<&NetKeyRow>
-    ensures { option_copied result ≡ net_row rows.now index }
-{
-    rows.iter().find(|row| row.index == index)
-}
-
 // Whether what is sent goes under the new key: in phase 2.
 fn sends_new(row: &NetKeyRow) -> bool
     ensures { result ≡ sends_new row.now }
@@ -103,7 +96,7 @@ pub(crate) fn sent_under<'a>(
     requires { heard.now ≡ heard_keys rows.now }
     ensures value { option_map (λ (h : Heard). h.material) (option_copied result) ≡ transmit_material rows.now index }
 {
-    let row = row_at(rows, index)?;
+    let row = net_row(rows, index)?;
     if sends_new(row) {
         new_at(heard, index)
     } else {

@@ -3,6 +3,7 @@ use Rattle.std.proofs.Common.{◌≡◌, ◌∙◌, ℕ, zero, suc, ◌-◌, ◌
 use Rattle.std.specs.Prelude.{◌&&◌, ◌||◌, not, nat_lt, find, is_some, All, Result, Ok, Err}
 use Rattle.std.specs.List.{AllByRecursion as Every, list_any}
 use Rattle.std.proofs.lemmas.List.Elements.{All-from_recursion}
+use Rattle.node_limits.specs.declared.TheConstants.{FRIEND_QUEUE}
 use Rattle.layer_definitions.specs.KeyRefresh.{transmit_key}
 use Rattle.layer_definitions.specs.Network.{HasPdu}
 use Rattle.layer_states.specs.Cache.{last_of}
@@ -46,7 +47,7 @@ sendable_left s h =
 -- One friendship or offer.
 
 sendable_queued : (e : QueueEntry) (s : Friendship) → AreSendable (e ∷ []) → HoldsSendable s → HoldsSendable (queued e s)
-sendable_queued e s k h = (h.0, sendable_last 16 (s.queue ++ e ∷ []) (sendable_more s.queue e h.1 k))
+sendable_queued e s k h = (h.0, sendable_last FRIEND_QUEUE (s.queue ++ e ∷ []) (sendable_more s.queue e h.1 k))
 
 sendable_polled : (now : ℕ) (fsn : Bool) (s : Friendship) → HoldsSendable s → HoldsSendable (polled now fsn s)
 sendable_polled now fsn s h =

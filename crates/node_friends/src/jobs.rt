@@ -26,6 +26,7 @@ use mesh_base::octets::Octets;
 use mesh_types::jobs::{Job, JobDraft};
 use net_keys::NetKeys;
 use network_layer::NetReading;
+use node_limits::JOBS;
 use node_records::Persist;
 use upper_transport::write_control;
 
@@ -73,7 +74,7 @@ fn push_under(
     dst: Address,
     m: &ControlMsg,
 )
-    requires room { length jobs.old < 160 }
+    requires room { length jobs.old < JOBS }
     requires nets { nets.now ≡ p.now.nets }
     requires fits { FitsControl m.now }
     ensures value { jobs.new
@@ -166,7 +167,7 @@ fn message_job(r: &NetReading, fsn: bool, m: &OwnShort) -> Job
 
 // Puts the answer to a Poll behind the others: it goes under the friendship credentials by which the Poll was heard.
 fn push_answer(jobs: &mut JobDraft, p: &Persist, r: &NetReading, fsn: bool, answer: &PollAnswer)
-    requires room { length jobs.old < 160 }
+    requires room { length jobs.old < JOBS }
     ensures value { jobs.new ≡ jobs.old ++ answer_jobs (config_in p.now) (reading_of r.now) fsn answer.now }
     ensures few { length jobs.new ≤ length jobs.old + 1 }
 {
@@ -190,7 +191,7 @@ fn push_clear(
     r: &NetReading,
     clear: &Option<(Address, u16)>,
 )
-    requires room { length jobs.old < 160 }
+    requires room { length jobs.old < JOBS }
     requires nets { nets.now ≡ p.now.nets }
     ensures value { jobs.new ≡ jobs.old ++ clear_jobs (config_in p.now) (reading_of r.now) clear.now }
     ensures few { length jobs.new ≤ length jobs.old + 1 }
@@ -206,7 +207,7 @@ fn push_clear(
 
 // Puts what an act asks for behind the others.
 fn push_act(jobs: &mut JobDraft, p: &Persist, nets: &NetKeys, r: &NetReading, act: &FriendAct)
-    requires room { length jobs.old + 2 ≤ 160 }
+    requires room { length jobs.old + 2 ≤ JOBS }
     requires nets { nets.now ≡ p.now.nets }
     ensures value { jobs.new ≡ jobs.old ++ jobs_of_act (config_in p.now) (reading_of r.now) act.now }
     ensures few { length jobs.new ≤ length jobs.old + 2 }
@@ -243,7 +244,7 @@ pub fn push_friend_jobs(
     r: &NetReading,
     act: &FriendAct,
 )
-    requires room { length jobs.old + 2 ≤ 160 }
+    requires room { length jobs.old + 2 ≤ JOBS }
     requires nets { nets.now ≡ p.now.nets }
     ensures value { (st : FriendsState) (now : ℕ) (m : Message)
         → IsActOf (config_in p.now) st now (reading_of r.now) m act.now

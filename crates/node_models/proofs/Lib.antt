@@ -1,6 +1,5 @@
 mod Alike
 mod Own
 mod Published
-mod Rows
 mod Statuses
 mod Asked

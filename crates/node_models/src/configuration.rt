@@ -6,7 +6,7 @@ ghost use Rattle.std.specs.Option.{option_map_or};
 ghost use Rattle.element_models.specs.Messages.{message_in};
 ghost use Rattle.model_publish.specs.Own.{AreRowsOf, IsOwnRow};
 ghost use Rattle.model_states.specs.Publication.{heartbeat_set, row_set};
-ghost use Rattle.node_layers.specs.Configuration.{config_act, ends_friendships, is_for_server};
+ghost use Rattle.node_layers.specs.Configuration.{config_act, is_for_server};
 ghost use Rattle.node_layers.specs.Friendship.{config_after};
 ghost use Rattle.node_layers.specs.Publishing.{published_by_act, stored_row};
 ghost use Rattle.node_models.specs.Acts.{AsksShort, IsShortTtl, StoresOwn};
@@ -22,10 +22,7 @@ use model_publish::{HeartbeatRow, Publisher, rows_law};
 use node_records::{Persist, StoreRecord};
 
 /// The feature that is the Default TTL, by its number in records.
-const DEFAULT_TTL: u8 = 2;
-
-/// Friend Set with 00.
-const NO_FRIEND: &[u8] = &[0x80, 0x10, 0x00];
+const DEFAULT_TTL_FEATURE: u8 = 2;
 
 // Whether the Configuration Server takes a message: it is sealed with the device key, and goes to the first element.
 fn is_for_server(p: &Persist, m: &Message<'_>) -> bool
@@ -65,7 +62,7 @@ fn ttl_after(p: &Persist, item: &StoreRecord) -> u8
     ensures short { p.now.ttl < 2 ^ 7 → result < 2 ^ 7 }
 {
     match item {
-        StoreRecord::Feature { which, value } if *which == DEFAULT_TTL => *value as u8,
+        StoreRecord::Feature { which, value } if *which == DEFAULT_TTL_FEATURE => *value as u8,
         _ => p.ttl,
     }
 }
@@ -85,13 +82,6 @@ pub(crate) fn ttl_behind(p: &Persist, act: &Option<ConfigAct>) -> u8
         ) => ttl_after(p, item),
         _ => p.ttl,
     }
-}
-
-/// Whether a message ends the friendships: Friend Set with 00.
-pub(crate) fn ends_friendships(p: &Persist, m: &Message<'_>) -> bool
-    ensures { result ≡ ends_friendships (config_in p.now) (message_in m.now) }
-{
-    is_for_server(p, m) && m.payload == NO_FRIEND
 }
 
 // A row that is stored is published by from this moment on.

@@ -22,7 +22,7 @@ ghost use Rattle.event_definitions.specs.Answers.{config_before};
 ghost use Rattle.event_definitions.specs.History.{Past, Told, now_of};
 ghost use Rattle.store_definitions.specs.Config.{Config, config_of};
 
-use crate::configuration::{config_act, ends_friendships, publish, ttl_behind};
+use crate::configuration::{config_act, publish, ttl_behind};
 use crate::due::{Due, with_statuses};
 use crate::taken::Taken;
 use element_models::{ElementModels, LEVEL_SERVER, Message, ONOFF_SERVER, models_law};
@@ -124,8 +124,7 @@ impl NodeModels {
         let act = config_act(p, polls, &self.publisher.heartbeat(), m);
         publish(&mut self.publisher, p, now, &act);
         let ttl = ttl_behind(p, &act);
-        let ends = ends_friendships(p, m);
-        Taken::of(act, ttl, ends, self.servers.take(p, now, m))
+        Taken::of(act, ttl, self.servers.take(p, now, m))
     }
 
     /// What is published at this moment of the life, in ticks of 10 ms, at most 2^48, over a store of this value. They then stand for an entry

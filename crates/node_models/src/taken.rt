@@ -4,6 +4,7 @@
 ghost use Rattle.std.specs.Prelude.{◌≡◌, ◌≤◌, ◌++◌, [], None, length};
 ghost use Rattle.std.specs.Option.{option_map, option_to_list};
 ghost use Rattle.config_definitions.specs.declared.acts.ConfigAct.{ConfigAct};
+ghost use Rattle.node_layers.specs.Configuration.{ends_in};
 ghost use Rattle.node_models.specs.Acts.{change_in};
 
 use config_definitions::acts::ConfigAct;
@@ -60,13 +61,13 @@ fn changes_of(change: Option<StoreRecord>, records: &Table<StoreRecord, 8>) -> T
 
 impl Taken {
     /// What the Configuration Server is asked for, and behind that what the models store and reply. `ttl` is the Default TTL behind the
-    /// message, and `ends` says whether it ends the friendships.
-    pub(crate) fn of(act: Option<ConfigAct>, ttl: u8, ends: bool, models: ModelsTaken) -> Taken
+    /// message.
+    pub(crate) fn of(act: Option<ConfigAct>, ttl: u8, models: ModelsTaken) -> Taken
         ensures changes { result.changes ≡ change_in act ++ models.records }
         ensures configuration { result.replies.configuration ≡ option_map (λ (a : ConfigAct). a.reply) act }
         ensures models { result.replies.models ≡ models.replies }
         ensures ttl { result.ttl ≡ ttl }
-        ensures ends { result.ends ≡ ends }
+        ensures ends { result.ends ≡ ends_in act }
     {
         match act {
             Some(act) => Taken {
@@ -76,7 +77,7 @@ impl Taken {
                     models: models.replies,
                 },
                 ttl,
-                ends,
+                ends: act.ends_friendships,
             },
             None => Taken {
                 changes: changes_of(None, &models.records),
@@ -85,7 +86,7 @@ impl Taken {
                     models: models.replies,
                 },
                 ttl,
-                ends,
+                ends: false,
             },
         }
     }

@@ -13,6 +13,7 @@ use locked_node::Node;
 use machine_contract::Machine;
 use mesh_types::events::Event;
 use node_bearer::Gate;
+use node_limits::BEARERS;
 use seq_word::{Drawer, Numbers};
 use std::alloc::{AllocError, Global};
 use std::sync::Wait;
@@ -22,7 +23,7 @@ use turn_lock::Turn;
 /// Has a bearer for each list of events do all that it has, all of them at once; and returns the node behind them, with what is left of
 /// each. `counts` has for each the number of its last entry so far.
 ///
-/// At most 8 bearers.
+/// At most `BEARERS` bearers.
 pub fn run_phase<M: Machine, F: Bench, G: Gate, R: Threads + Wait + Sync>(
     rt: &R,
     alloc: Global,
@@ -35,7 +36,7 @@ pub fn run_phase<M: Machine, F: Bench, G: Gate, R: Threads + Wait + Sync>(
 ) -> Result<(Node<M, F>, Vec<Done>), AllocError>
     requires made { node.machine.which ≡ n.now.which }
     requires draws { drawer.old.which ≡ n.now.which }
-    requires few { length counts.now ≤ 8 }
+    requires few { length counts.now ≤ BEARERS }
     requires plan { length plan.now ≡ length counts.now }
     requires events { All (λ v. AreEvents node.machine.elements v.items) plan.now }
     ensures which { drawer.new.which ≡ drawer.old.which }

@@ -10,6 +10,7 @@ use locked_node::Node;
 use machine_contract::Machine;
 use mesh_types::events::Event;
 use node_bearer::{Bearer, Gate, work};
+use node_limits::BEARERS;
 use seq_word::Numbers;
 use std::sync::Wait;
 use std::thread;
@@ -44,7 +45,7 @@ pub fn work_all<M: Machine, F: Bench, G: Gate, R: Threads + Wait + Sync>(
     plan: &[Vec<Event>],
     bearers: &mut [Bearer<Node<M, F>>],
 )
-    requires few { length bearers.old ≤ 8 }
+    requires few { length bearers.old ≤ BEARERS }
     requires plan { length plan.now ≡ length bearers.old }
     requires riders { All (IsRider n.now turn.now) bearers.old }
     requires fresh { All IsFresh bearers.old }
@@ -58,10 +59,10 @@ pub fn work_all<M: Machine, F: Bench, G: Gate, R: Threads + Wait + Sync>(
     thread::for_each_mut(
         rt,
         bearers,
-        8,
+        BEARERS,
         &|i, b: &mut Bearer<Node<M, F>>|
             requires at { i < length plan.now }
-            requires few { length plan.now ≤ 8 }
+            requires few { length plan.now ≤ BEARERS }
             requires rider { IsRider n.now turn.now b.now }
             requires fresh { IsFresh b.now }
             requires events { All (λ v. AreEvents turn.now.first.machine.elements v.items) plan.now }

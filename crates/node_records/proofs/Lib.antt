@@ -3,7 +3,6 @@ pub mod Changes
 pub mod Counts
 pub mod Entries
 pub mod Meanings
-pub mod Places
 pub mod Rising
 pub mod Room
 pub mod Rows

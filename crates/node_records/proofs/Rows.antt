@@ -1,6 +1,8 @@
 -- The rows of the replay list: one that is replaced, and one more.
-use Rattle.std.proofs.Common.{◌≡◌, ℕ, zero, suc, ◌<◌, Bool, true, false, List, [], ◌∷◌, ◌++◌, length, get_or, set, refl, ap, ◌∙◌, sym, subst, arith}
-use Rattle.std.specs.Prelude.{◌==◌, if◌then◌else◌, Option, Some, None}
+use Rattle.std.proofs.Common.{◌≡◌, ℕ, zero, suc, ◌<◌, Bool, true, false, cond, List, [], ◌∷◌, ◌++◌, length, get_or, set, refl, ap, ◌∙◌, sym, subst, arith}
+use Rattle.std.specs.Prelude.{◌==◌, ◌||◌, if◌then◌else◌, Option, Some, None, is_some}
+use Rattle.std.specs.List.{find, list_any}
+use Rattle.std.specs.Option.{option_map}
 use Rattle.std.proofs.lemmas.Bool.Decides.{nat_tests}
 use Rattle.mesh_base.specs.declared.pair.Pair.{Pair}
 use Rattle.mesh_base.specs.declared.pair.Name.{Name}
@@ -10,6 +12,19 @@ use Rattle.node_records.specs.Tables.{pair_of, IsApart}
 use Rattle.record_types.specs.declared.records.StoreRecord.TheVariants as R
 use Rattle.node_records.specs.Steps.{KeepsName, KeepsEntries}
 use Rattle.node_records.proofs.Entries.{gone, name_more}
+
+pub mapped_some : {A B : Type 0} (f : A → B) (o : Option A) → is_some (option_map f o) ≡ is_some o
+mapped_some f None = refl
+mapped_some f (Some x) = refl
+
+-- a row is found exactly where some row passes
+pub found_any : {A : Type 0} (test : A → Bool) (rows : List A) → is_some (find test rows) ≡ list_any test rows
+found_any test [] = refl
+found_any test (x ∷ xs) =
+    elim (test x) as (λ b. is_some (cond b (Some x) (find test xs)) ≡ (b || list_any test xs)) [
+      | true ↦ refl
+      | false ↦ found_any test xs
+    ]
 
 -- a source without a row has none at any place
 pub none_at : (rows : List Name) (k src : ℕ) (d : Name) → pair_of rows src ≡ None → k < length rows → (get_or rows k d).src.0 ≡ src → ⊥

@@ -4,7 +4,7 @@
 use crate::replay::entry_among;
 use mesh_base::address::Address;
 use mesh_base::iv_state::IvState;
-use mesh_base::keys::{AppKeyRow, NetKeyRow};
+use mesh_base::keys::{AppKeyRow, NetKeyRow, app_row};
 use mesh_base::pair::{Name, Pair};
 use mesh_base::table::Table;
 use node_limits::{
@@ -61,11 +61,15 @@ pub struct Persist {
 }
 
 impl Persist {
-    ghost use Rattle.std.specs.Prelude.{◌≡◌, List, []};
+    ghost use Rattle.std.specs.Prelude.{◌≡◌, ◌==◌, ◌+◌, ◌<◌, ◌^◌, List, [], is_some};
+    ghost use Rattle.std.specs.List.{list_any};
+    ghost use Rattle.mesh_base.specs.Keys.{app_row};
+    ghost use Rattle.mesh_base.specs.declared.keys.AppKeyRow.{AppKeyRow};
     ghost use Rattle.record_types.specs.declared.records.StoreRecord.{StoreRecord};
+    ghost use Rattle.store_definitions.specs.Config.{element_address, is_element, reply_ttl};
     ghost use Rattle.store_definitions.specs.Entries.{entry_of};
     ghost use Rattle.node_records.specs.Meaning.{IsMeaningOf, IsSaid};
-    ghost use Rattle.node_records.specs.Tables.{entry_in};
+    ghost use Rattle.node_records.specs.Tables.{config_in, entry_in};
 
     /// The value before any record: the features are those of a node that was just provisioned, all other numbers are 0,
     /// and the tables are empty.
@@ -111,5 +115,42 @@ impl Persist {
             → result ≡ entry_of records src.0 }
     {
         entry_among(self.replay.as_slice(), self.iv.current, src.0)
+    }
+
+    /// Whether an address is that of one of this node's elements.
+    pub fn is_element(&self, address: Address) -> bool
+        ensures value { result ≡ is_element (config_in self.now) address.0 }
+    {
+        self.unicast.0 <= address.0 && u32::from(address.0) < self.element_number(self.elements)
+    }
+
+    /// The number of an element's address, by the place of the element from 0 on: above 16 bits where no element has that place.
+    pub fn element_number(&self, place: u8) -> u32
+        ensures value { result ≡ (element_address (config_in self.now) place).0 }
+    {
+        u32::from(self.unicast.0) + u32::from(place)
+    }
+
+    /// The address of an element by its place, from 0 on. The place is that of an address, as each place of an element is.
+    pub fn element_address(&self, place: u8) -> Address
+        requires element { self.now.unicast.0 + place < 2 ^ 16 }
+        ensures value { result ≡ element_address (config_in self.now) place }
+    {
+        Address(self.unicast.0 + u16::from(place))
+    }
+
+    /// TTL of an acknowledgment of, or a reply to, a message that was heard with this TTL: 0 where that is 0, and else the Default TTL.
+    pub fn reply_ttl(&self, heard: u8) -> u8
+        ensures value { result ≡ reply_ttl (config_in self.now) heard }
+    {
+        if heard == 0 { 0 } else { self.ttl }
+    }
+
+    /// Whether the application key of an index is held.
+    pub fn has_app(&self, index: u16) -> bool
+        ensures value { result ≡ is_some (app_row self.now.apps index) }
+        ensures any { result ≡ list_any (λ (r : AppKeyRow). r.index == index) self.now.apps }
+    {
+        app_row(self.apps.as_slice(), index).is_some()
     }
 }

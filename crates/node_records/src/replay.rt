@@ -29,13 +29,6 @@ fn is_above(pair: &Pair, other: &Pair) -> bool
     other.iv < pair.iv || (other.iv == pair.iv && other.seq < pair.seq)
 }
 
-/// Whether no PDU of a pair's IV Index is read any more.
-fn is_old(current: u32, pair: &Pair) -> bool
-    ensures { result ≡ is_expired current pair.now }
-{
-    u64::from(pair.iv) + 1 < u64::from(current)
-}
-
 /// The place of a source's row.
 fn row_of(rows: &[Name], src: u16) -> Option<usize>
     ensures some { IfSome result
@@ -56,7 +49,7 @@ fn row_of(rows: &[Name], src: u16) -> Option<usize>
 fn live_pair(current: u32, pair: Pair) -> Option<Pair>
     ensures { result ≡ unexpired current (Some pair) }
 {
-    if is_old(current, &pair) {
+    if pair.is_expired(current) {
         None
     } else {
         Some(pair)
@@ -81,7 +74,7 @@ fn first_expired(rows: &[Name], current: u32) -> Option<usize>
         ((k : ℕ) (d : Name) → k < length rows.now → is_expired current (slice_index_or rows.now k d).pair ≡ false) }
 {
     for (place, row) in rows.iter().enumerate() {
-        if is_old(current, &row.pair) {
+        if row.pair.is_expired(current) {
             return Some(place);
         }
     }
@@ -153,7 +146,7 @@ fn count_live(rows: &[Name], current: u32) -> usize
     ensures most { result ≤ length rows.now }
 {
     rows.iter()
-        .filter(|row| !is_old(current, &row.pair))
+        .filter(|row| !row.pair.is_expired(current))
         .count()
 }
 
@@ -162,7 +155,7 @@ fn any_live(rows: &[Name], current: u32, src: u16) -> bool
     ensures { result ≡ list_any (λ row. row.src.0 == src && not (is_expired current row.pair)) rows.now }
 {
     rows.iter()
-        .any(|row| row.src.0 == src && !is_old(current, &row.pair))
+        .any(|row| row.src.0 == src && !row.pair.is_expired(current))
 }
 
 /// Whether a source has a row among those that aren't expired.
@@ -183,7 +176,7 @@ pub(crate) fn lacks_place(rows: &[Name], current: u32, name: &Name) -> bool
 fn is_added(rows: &[Name], current: u32, name: &Name) -> bool
     ensures { result ≡ adds_live current (live_of current rows.now) name.now }
 {
-    !has_live(rows, current, name.src.0) && !is_old(current, &name.pair)
+    !has_live(rows, current, name.src.0) && !name.pair.is_expired(current)
 }
 
 /// Whether a second name has no place after a first one.

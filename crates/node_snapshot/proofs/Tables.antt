@@ -1,6 +1,7 @@
 -- Tables: what holds of each row, rows of which no two are the same, and a row that comes last.
-use Rattle.std.proofs.Common.{◌≡◌, ℕ, zero, suc, ◌≤◌, Bool, true, false, not, List, [], ◌∷◌, ◌++◌, map, filter, set, refl, ap, sym, subst, ◌∙◌, arith, true≢false}
-use Rattle.std.specs.Prelude.{◌==◌, ◌||◌, nat_lt, if◌then◌else◌}
+use Rattle.std.proofs.Common.{◌≡◌, ℕ, zero, suc, ◌≤◌, Bool, true, false, not, List, [], ◌∷◌, ◌++◌, map, filter, set, refl, ap, sym, subst, ◌∙◌, arith}
+use Rattle.std.proofs.lemmas.Bool.{or_from, or_parts}
+use Rattle.std.specs.Prelude.{◌==◌, nat_lt, if◌then◌else◌}
 use Rattle.std.specs.List.{AllByRecursion, list_any}
 use Rattle.std.proofs.lemmas.Bool.Decides.{nat_tests}
 use Rattle.layer_definitions.specs.Order.{put_by}
@@ -58,33 +59,21 @@ abbrev pub Distinct : {A : Type 0} → (A → A → Bool) → List A → Type 0
 Distinct same [] = Unit {0}
 Distinct same (x ∷ xs) = (list_any (same x) xs ≡ false) × Distinct same xs
 
-or_left : (b c : Bool) → b || c ≡ false → b ≡ false
-or_left true c h = h
-or_left false c h = refl
-
-or_right : (b c : Bool) → b || c ≡ false → c ≡ false
-or_right true c h = absurd (true≢false h)
-or_right false c h = h
-
-both_false : (b c : Bool) → b ≡ false → c ≡ false → b || c ≡ false
-both_false true c h k = absurd (true≢false h)
-both_false false c h k = k
-
 any_filter : {A : Type 0} (q t : A → Bool) (xs : List A) → list_any q xs ≡ false → list_any q (filter t xs) ≡ false
 any_filter q t [] h = refl
-any_filter q t (x ∷ xs) h = by_test (t x) (any_filter q t xs (or_right (q x) (list_any q xs) h))
+any_filter q t (x ∷ xs) h = by_test (t x) (any_filter q t xs (or_parts (q x) (list_any q xs) h).1)
   where
     by_test : (b : Bool) → list_any q (filter t xs) ≡ false → list_any q (if b then x ∷ filter t xs else filter t xs) ≡ false
-    by_test true k = both_false (q x) (list_any q (filter t xs)) (or_left (q x) (list_any q xs) h) k
+    by_test true k = or_from (q x) (list_any q (filter t xs)) (or_parts (q x) (list_any q xs) h).0 k
     by_test false k = k
 
 any_at : {A : Type 0} (q : A → Bool) (xs : List A) (r : A) (rest : List A) → list_any q (xs ++ r ∷ rest) ≡ false → q r ≡ false
-any_at q [] r rest h = or_left (q r) (list_any q rest) h
-any_at q (x ∷ xs) r rest h = any_at q xs r rest (or_right (q x) (list_any q (xs ++ r ∷ rest)) h)
+any_at q [] r rest h = (or_parts (q r) (list_any q rest) h).0
+any_at q (x ∷ xs) r rest h = any_at q xs r rest (or_parts (q x) (list_any q (xs ++ r ∷ rest)) h).1
 
 any_push : {A : Type 0} (q : A → Bool) (xs : List A) (r : A) → list_any q xs ≡ false → q r ≡ false → list_any q (xs ++ r ∷ []) ≡ false
-any_push q [] r h k = both_false (q r) false k refl
-any_push q (x ∷ xs) r h k = both_false (q x) (list_any q (xs ++ r ∷ [])) (or_left (q x) (list_any q xs) h) (any_push q xs r (or_right (q x) (list_any q xs) h) k)
+any_push q [] r h k = or_from (q r) false k refl
+any_push q (x ∷ xs) r h k = or_from (q x) (list_any q (xs ++ r ∷ [])) (or_parts (q x) (list_any q xs) h).0 (any_push q xs r (or_parts (q x) (list_any q xs) h).1 k)
 
 -- rows that a test leaves out
 pub any_without : {A : Type 0} (q own : A → Bool) → ((x : A) → own x ≡ false → q x ≡ false) → (xs : List A) → list_any q (filter (λ x. not (own x)) xs) ≡ false
@@ -94,7 +83,7 @@ any_without q own h (x ∷ xs) = by_test (own x) refl (any_without q own h xs)
     by_test : (b : Bool) → own x ≡ b → list_any q (filter (λ y. not (own y)) xs) ≡ false
         → list_any q (if not b then x ∷ filter (λ y. not (own y)) xs else filter (λ y. not (own y)) xs) ≡ false
     by_test true e k = k
-    by_test false e k = both_false (q x) (list_any q (filter (λ y. not (own y)) xs)) (h x e) k
+    by_test false e k = or_from (q x) (list_any q (filter (λ y. not (own y)) xs)) (h x e) k
 
 module _ {A : Type 0} (same : A → A → Bool) (symmetric : (x y : A) → same x y ≡ same y x) where
   pub distinct_filter : (t : A → Bool) (xs : List A) → Distinct same xs → Distinct same (filter t xs)
@@ -108,7 +97,7 @@ module _ {A : Type 0} (same : A → A → Bool) (symmetric : (x y : A) → same 
   pub distinct_push : (xs : List A) (r : A) → Distinct same xs → list_any (same r) xs ≡ false → Distinct same (xs ++ r ∷ [])
   distinct_push [] r h k = (refl, tt)
   distinct_push (x ∷ xs) r h k =
-      (any_push (same x) xs r h.0 (symmetric x r ∙ or_left (same r x) (list_any (same r) xs) k), distinct_push xs r h.1 (or_right (same r x) (list_any (same r) xs) k))
+      (any_push (same x) xs r h.0 (symmetric x r ∙ (or_parts (same r x) (list_any (same r) xs) k).0), distinct_push xs r h.1 (or_parts (same r x) (list_any (same r) xs) k).1)
 
   pub distinct_pushed : (xs : List A) (r : A) → Distinct same xs → Distinct same (if list_any (same r) xs then xs else xs ++ r ∷ [])
   distinct_pushed xs r h = by_test (list_any (same r) xs) refl
@@ -123,7 +112,7 @@ module _ {A : Type 0} (same : A → A → Bool) (symmetric : (x y : A) → same 
 
   none_in : (done : List A) (r : A) (rest : List A) → Distinct same (done ++ r ∷ rest) → list_any (same r) done ≡ false
   none_in [] r rest h = refl
-  none_in (x ∷ done) r rest h = both_false (same r x) (list_any (same r) done) (symmetric r x ∙ any_at (same x) done r rest h.0) (none_in done r rest h.1)
+  none_in (x ∷ done) r rest h = or_from (same r x) (list_any (same r) done) (symmetric r x ∙ any_at (same x) done r rest h.0) (none_in done r rest h.1)
 
   -- a row that comes isn't there yet
   pub none_at : (all done : List A) (r : A) (rest : List A) → done ++ r ∷ rest ≡ all → Distinct same all → list_any (same r) done ≡ false

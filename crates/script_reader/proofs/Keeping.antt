@@ -6,6 +6,7 @@ use Rattle.std.proofs.lemmas.Bool.Decides.{nat_tests}
 use Rattle.std.proofs.lemmas.List.{length_push, length-set}
 use Rattle.std.proofs.lemmas.List.Elements.{All-nil, All-push, All-set}
 use Rattle.std.proofs.lemmas.List.Sums.{sum_by-append}
+use Rattle.node_limits.specs.declared.TheConstants.{LIVES, BEARER_LINES}
 use Rattle.script_definitions.specs.Lives.{last_life}
 use Rattle.script_definitions.specs.Reading.{is_arm, is_bearer_line, with_life, with_line, with_counted}
 use Rattle.script_definitions.specs.Ranges.{IsLine, IsLife, IsScriptOf, IsCounted}
@@ -69,25 +70,25 @@ empty_life g n = record { lines = All-nil (IsLine g n); events = omega arith; ar
 
 -- a life with one more line
 longer_life : (g : Grammar) (n : ℕ) (life : List ScriptLine) (line : ScriptLine) → IsLife g n life → IsLine g n line
-    → (is_arm line && list_any is_arm life) ≡ false → (is_bearer_line line && nat_le 4096 (count_by is_bearer_line life)) ≡ false
+    → (is_arm line && list_any is_arm life) ≡ false → (is_bearer_line line && nat_le BEARER_LINES (count_by is_bearer_line life)) ≡ false
     → IsLife g n (life ++ line ∷ [])
 longer_life g n life line h k e f = record {
   lines = All-push (IsLine g n) life line h.lines k;
-  events = fewer_more is_bearer_line life line 4096 h.events f;
+  events = fewer_more is_bearer_line life line BEARER_LINES h.events f;
   arms = one_more is_arm life line h.arms e;
 }
 
 with_life_keeps : (g : Grammar) (s : Script) → IsScriptOf g s → IfOk (with_life s) (IsScriptOf g)
 unfolding with_life
 with_life_keeps g s h =
-    elim (cases_eq (length s.lives) 64) [
-      | inl e ↦ rw (eq-eqb (length s.lives) 64 e) tt
+    elim (cases_eq (length s.lives) LIVES) [
+      | inl e ↦ rw (eq-eqb (length s.lives) LIVES e) tt
       | inr ne ↦
-          let t : (length s.lives == 64) ≡ false = grind (arith, nat_tests) in
+          let t : (length s.lives == LIVES) ≡ false = grind (arith, nat_tests) in
           rw t record {
             provision = h.provision;
             lives = All-push (IsLife g s.provision.elements) s.lives [] h.lives (empty_life g s.provision.elements);
-            count = let e : length s.lives ≤ 64 = h.count in omega (arith, length_push s.lives []);
+            count = let e : length s.lives ≤ LIVES = h.count in omega (arith, length_push s.lives []);
           }
     ]
 
@@ -105,7 +106,7 @@ with_line_keeps g s line h k =
     elim (cases_Bool ((length s.lives == 0) || (is_arm line && list_any is_arm (last_life s.lives)))) [
       | inl t ↦ rw t tt
       | inr e ↦
-          elim (cases_Bool (is_bearer_line line && nat_le 4096 (count_by is_bearer_line (last_life s.lives)))) [
+          elim (cases_Bool (is_bearer_line line && nat_le BEARER_LINES (count_by is_bearer_line (last_life s.lives)))) [
             | inl t ↦ rw (e, t) tt
             | inr f ↦
                 let lt : 0 < length s.lives = placed _ _ e in

@@ -8,17 +8,12 @@ ghost use Rattle.script_definitions.specs.Reading.{is_arm, is_bearer_line, with_
 ghost use Rattle.script_definitions.specs.Ranges.{IsCounted, IsLine, IsProvision, IsScriptOf};
 
 use crate::counted::Rule;
+use node_limits::{BEARER_LINES, LIVES};
 use script_definitions::kind::Grammar;
 use script_definitions::line::{CountedLine, ScriptLine};
 use script_definitions::script::{ProvisionLine, Script, ScriptLives};
 use std::alloc::{AllocError, Global};
 use std::marker::Model;
-
-/// The most lives of a script.
-const MOST_LIVES: usize = 64;
-
-/// The most lines of bearers in a life.
-const MOST_EVENTS: u32 = 4096;
 
 /// A script so far. A clause sees the script.
 #[derive(Drop)]
@@ -101,7 +96,7 @@ impl Draft {
         ensures value { IfOk result (λ r. r ≡ with_life self) }
     {
         let Draft { mut script, .. } = self;
-        if script.lives.as_slice().len() == MOST_LIVES {
+        if script.lives.as_slice().len() == LIVES {
             return Ok(Err(7));
         }
         script.lives.begin(alloc)?;
@@ -127,7 +122,7 @@ impl Draft {
         if script.lives.as_slice().len() == 0 || (arm && armed) {
             return Ok(Err(6));
         }
-        if event && events >= MOST_EVENTS {
+        if event && events as usize >= BEARER_LINES {
             return Ok(Err(7));
         }
         script.lives.push_line(line)?;

@@ -12,6 +12,7 @@ ghost use Rattle.script_reader.specs.Stops.{IsFault};
 use crate::counted::{Rule, counted_line};
 use crate::draft::Draft;
 use crate::words::{begins_with, cut_line, first_word, words_of};
+use node_limits::{LINE_OCTETS, SCRIPT_OCTETS};
 use script_definitions::kind::Grammar;
 use script_definitions::line::CountedLine;
 use script_definitions::script::Script;
@@ -19,10 +20,7 @@ use std::alloc::{AllocError, Global};
 use thiserror::Error;
 
 /// The longest script, in octets.
-pub const LONGEST_SCRIPT: usize = 4_194_304;
-
-/// The longest line, in octets.
-const LONGEST_LINE: usize = 1200;
+pub const LONGEST_SCRIPT: usize = SCRIPT_OCTETS;
 
 /// Why there is no script.
 #[derive(Clone, Copy, Debug, PartialEq, Eq, Error)]
@@ -52,7 +50,7 @@ fn is_printable(line: &[u8]) -> bool
 fn has_form(line: &[u8]) -> bool
     ensures value { result ≡ has_form line.now }
 {
-    line.len() <= LONGEST_LINE && is_printable(line)
+    line.len() <= LINE_OCTETS && is_printable(line)
 }
 
 /// Whether a line is neither empty nor a comment.

@@ -1,9 +1,9 @@
 -- Lists of messages.
-use Rattle.std.proofs.Common.{◌≡◌, ℕ, ◌+◌, ◌≤◌, ◌<◌, Bool, true, false, cond, List, [], ◌∷◌, ◌++◌, length, take, get_or, refl, sym, ap, ◌∙◌, arith, Option, Some, None, append-nil, take_all}
+use Rattle.std.proofs.Common.{◌≡◌, ℕ, ◌+◌, ◌≤◌, ◌<◌, Bool, true, false, cond, List, [], ◌∷◌, ◌++◌, length, take, get_or, refl, sym, ap, ◌∙◌, arith, Option, Some, None}
 use Rattle.std.specs.Prelude.{slice_set, slice_index_or, nat_lt, nat_le}
-use Rattle.std.specs.List.{cons_option, filter_map, position, refill}
+use Rattle.std.specs.List.{cons_option, filter_map, position}
 use Rattle.std.specs.Option.{option_to_list}
-use Rattle.std.proofs.lemmas.List.{take_more, drop_all, get_or_past}
+use Rattle.std.proofs.lemmas.List.{take_more, get_or_past}
 use Rattle.std.proofs.lemmas.List.Elements.{filter_map-append}
 use Rattle.layer_states.specs.Names.{is_name}
 use Rattle.layer_states.specs.Reassembly.{begun, judged, judged_after, names_of, noted, place_of, taken}
@@ -27,13 +27,6 @@ filter_map_more h xs i d l =
     ap (λ ys. filter_map h (take i xs) ++ ys) (sym (one_given h (get_or xs i d)))
     ∙ sym (filter_map-append h (take i xs) (get_or xs i d ∷ []))
     ∙ ap (λ ys. filter_map h ys) (sym (take_more xs i d l))
-
--- a slice that keeps its length is filled up from itself
-pub refill_same : {X : Type 0} (xs ws : List X) → length ws ≡ length xs → refill (length xs) xs ws ≡ ws
-refill_same xs ws e =
-    ap (λ ys. take (length xs) (ws ++ ys)) (drop_all (length ws) xs (omega (arith, e)))
-    ∙ ap (λ ys. take (length xs) ys) (append-nil ws)
-    ∙ take_all (length xs) ws (omega (arith, e))
 
 -- A segment of a message that is held, which stands at this place.
 module _ (rows : List Assembly) (now : ℕ) (h : PartHeard) where

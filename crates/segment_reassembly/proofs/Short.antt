@@ -1,6 +1,7 @@
 -- Control messages of pieces of at most 8 octets.
 use Rattle.std.proofs.Common.{◌≡◌, ℕ, ◌+◌, ◌*◌, ◌≤◌, ◌<◌, Bool, true, false, cond, List, [], ◌∷◌, ◌++◌, length, get_or, set, map, filter, refl, sym, ap, ◌∙◌, arith, Option, Some, None, zero, suc, length-append, length-set, ◌-◌, take}
-use Rattle.std.specs.Prelude.{◌&&◌, ◌||◌, ◌==◌, not, nat_lt, IsTrue, replicate, slice_set, is_some, unwrap_or}
+use Rattle.std.proofs.lemmas.Bool.{and_from, and_parts, not-false, or_parts}
+use Rattle.std.specs.Prelude.{◌==◌, nat_lt, IsTrue, replicate, slice_set, is_some, unwrap_or}
 use Rattle.std.specs.List.{list_all}
 use Rattle.std.proofs.lemmas.Bool.Decides.{nat_tests}
 use Rattle.node_limits.specs.declared.TheConstants.{MESSAGES_IN_PROGRESS}
@@ -14,60 +15,35 @@ use Rattle.mesh_base.specs.declared.lower.Lower.{Lower}
 use Rattle.mesh_base.specs.declared.lower.Lower.TheVariants.{Access, Control, AccessPart, ControlPart}
 use Rattle.segment_reassembly.specs.Short.{IsWithin, is_short, is_short_piece}
 
--- Tests joined.
-and_left : (a b : Bool) → (a && b) ≡ true → a ≡ true
-and_left true b h = refl
-and_left false b h = h
-
-and_right : (a b : Bool) → (a && b) ≡ true → b ≡ true
-and_right true b h = h
-and_right false b h = cc
-
-both : (a b : Bool) → a ≡ true → b ≡ true → (a && b) ≡ true
-both true b h k = k
-both false b h k = h
-
-or_left : (a b : Bool) → (a || b) ≡ false → a ≡ false
-or_left true b h = h
-or_left false b h = refl
-
-or_right : (a b : Bool) → (a || b) ≡ false → b ≡ false
-or_right true b h = cc
-or_right false b h = h
-
-not_false : (a : Bool) → not a ≡ false → a ≡ true
-not_false true h = refl
-not_false false h = cc
-
 -- A test of all items of a list, through changes of the list.
 all_filter : {X : Type 0} (p q : X → Bool) (xs : List X) → list_all p xs ≡ true → list_all p (filter q xs) ≡ true
 all_filter p q [] h = refl
 all_filter p q (x ∷ xs) h =
     (elim (q x) as (λ b. list_all p (cond b (x ∷ filter q xs) (filter q xs)) ≡ true) [
-      | true ↦ both (p x) (list_all p (filter q xs)) (and_left (p x) (list_all p xs) h) (all_filter p q xs (and_right (p x) (list_all p xs) h))
-      | false ↦ all_filter p q xs (and_right (p x) (list_all p xs) h)
+      | true ↦ and_from (p x) (list_all p (filter q xs)) (and_parts (p x) (list_all p xs) h).0 (all_filter p q xs (and_parts (p x) (list_all p xs) h).1)
+      | false ↦ all_filter p q xs (and_parts (p x) (list_all p xs) h).1
     ])
 
 all_map : {X : Type 0} (p : X → Bool) (f : X → X) → ((x : X) → p x ≡ true → p (f x) ≡ true) → (xs : List X) → list_all p xs ≡ true → list_all p (map f xs) ≡ true
 all_map p f keeps [] h = refl
 all_map p f keeps (x ∷ xs) h =
-    both (p (f x)) (list_all p (map f xs)) (keeps x (and_left (p x) (list_all p xs) h)) (all_map p f keeps xs (and_right (p x) (list_all p xs) h))
+    and_from (p (f x)) (list_all p (map f xs)) (keeps x (and_parts (p x) (list_all p xs) h).0) (all_map p f keeps xs (and_parts (p x) (list_all p xs) h).1)
 
 all_set : {X : Type 0} (p : X → Bool) (xs : List X) (i : ℕ) (y : X) → list_all p xs ≡ true → p y ≡ true → list_all p (set xs i y) ≡ true
 all_set p [] i y h k = refl
-all_set p (x ∷ xs) zero y h k = both (p y) (list_all p xs) k (and_right (p x) (list_all p xs) h)
+all_set p (x ∷ xs) zero y h k = and_from (p y) (list_all p xs) k (and_parts (p x) (list_all p xs) h).1
 all_set p (x ∷ xs) (suc i) y h k =
-    both (p x) (list_all p (set xs i y)) (and_left (p x) (list_all p xs) h) (all_set p xs i y (and_right (p x) (list_all p xs) h) k)
+    and_from (p x) (list_all p (set xs i y)) (and_parts (p x) (list_all p xs) h).0 (all_set p xs i y (and_parts (p x) (list_all p xs) h).1 k)
 
 all_push : {X : Type 0} (p : X → Bool) (xs : List X) (y : X) → list_all p xs ≡ true → p y ≡ true → list_all p (xs ++ y ∷ []) ≡ true
-all_push p [] y h k = both (p y) true k refl
+all_push p [] y h k = and_from (p y) true k refl
 all_push p (x ∷ xs) y h k =
-    both (p x) (list_all p (xs ++ y ∷ [])) (and_left (p x) (list_all p xs) h) (all_push p xs y (and_right (p x) (list_all p xs) h) k)
+    and_from (p x) (list_all p (xs ++ y ∷ [])) (and_parts (p x) (list_all p xs) h).0 (all_push p xs y (and_parts (p x) (list_all p xs) h).1 k)
 
 all_get : {X : Type 0} (p : X → Bool) (xs : List X) (i : ℕ) (d : X) → list_all p xs ≡ true → p d ≡ true → p (get_or xs i d) ≡ true
 all_get p [] i d h k = k
-all_get p (x ∷ xs) zero d h k = and_left (p x) (list_all p xs) h
-all_get p (x ∷ xs) (suc i) d h k = all_get p xs i d (and_right (p x) (list_all p xs) h) k
+all_get p (x ∷ xs) zero d h k = (and_parts (p x) (list_all p xs) h).0
+all_get p (x ∷ xs) (suc i) d h k = all_get p xs i d (and_parts (p x) (list_all p xs) h).1 k
 
 none_short : (n : ℕ) → list_all is_short_piece (replicate n None) ≡ true
 none_short zero = refl
@@ -77,8 +53,8 @@ none_short (suc n) = none_short n
 whole_short : (ps : List (Option (List ℕ))) → list_all is_short_piece ps ≡ true → length (whole_of ps) ≤ 8 * length ps
 whole_short [] h = omega arith
 whole_short (p ∷ ps) h =
-    let first : length (unwrap_or p []) ≤ 8 = grind (arith, nat_tests, and_left (is_short_piece p) (list_all is_short_piece ps) h) in
-    let rest = whole_short ps (and_right (is_short_piece p) (list_all is_short_piece ps) h) in
+    let first : length (unwrap_or p []) ≤ 8 = grind (arith, nat_tests, (and_parts (is_short_piece p) (list_all is_short_piece ps) h).0) in
+    let rest = whole_short ps (and_parts (is_short_piece p) (list_all is_short_piece ps) h).1 in
     omega (arith, first, rest, length-append (unwrap_or p []) (whole_of ps))
 
 -- a segment of a control message is short
@@ -91,9 +67,9 @@ part_short (ControlPart opcode seq_zero seg_o seg_n piece) fits h = grind (arith
 -- what a message and a segment that isn't at odds with it have in common
 one_form : (a : Assembly) (h : PartHeard) → is_at_odds a h ≡ false → is_form a.form (form_of h.part) ≡ true
 one_form a h e =
-    let pieces = or_left _ (is_other (piece_at a.pieces (seg_o_of h.part)) (piece_of h.part)) e in
-    let length = or_left _ _ pieces in
-    not_false (is_form a.form (form_of h.part)) (or_right _ _ length)
+    let pieces = (or_parts _ (is_other (piece_at a.pieces (seg_o_of h.part)) (piece_of h.part)) e).0 in
+    let length = (or_parts _ _ pieces).0 in
+    not-false (is_form a.form (form_of h.part)) (or_parts _ _ length).1
 
 same_bool : (a b : Bool) → is_same a b ≡ true → a ≡ b
 same_bool true b h = sym h
@@ -101,13 +77,13 @@ same_bool false true h = cc
 same_bool false false h = refl
 
 one_ctl : (a : Assembly) (h : PartHeard) → is_at_odds a h ≡ false → a.form.ctl ≡ (form_of h.part).ctl
-one_ctl a h e = same_bool a.form.ctl (form_of h.part).ctl (and_left _ _ (and_left _ _ (and_left _ _ (one_form a h e))))
+one_ctl a h e = same_bool a.form.ctl (form_of h.part).ctl (and_parts _ _ (and_parts _ _ (and_parts _ _ (one_form a h e)).0).0).0
 
 -- how many pieces they have
 as_many : (a : Assembly) (h : PartHeard) → is_at_odds a h ≡ false → length a.pieces ≡ seg_n_of h.part + 1
 as_many a h e =
-    let pieces = or_left _ (is_other (piece_at a.pieces (seg_o_of h.part)) (piece_of h.part)) e in
-    let many = not_false (length a.pieces == seg_n_of h.part + 1) (or_right _ _ pieces) in
+    let pieces = (or_parts _ (is_other (piece_at a.pieces (seg_o_of h.part)) (piece_of h.part)) e).0 in
+    let many = not-false (length a.pieces == seg_n_of h.part + 1) (or_parts _ _ pieces).1 in
     grind (arith, nat_tests, many)
 
 few_pieces : (part : Lower) → Fits part → seg_n_of part < 32

@@ -3,26 +3,17 @@
 
 ghost use Rattle.std.specs.Prelude.{◌≡◌, ◌^◌, ◌≤◌, ◌<◌, IsTrue, IsFalse, length};
 ghost use Rattle.layer_definitions.specs.Lower.{Fits};
-ghost use Rattle.layer_states.specs.Names.{is_unicast as is_unicast_in};
 ghost use Rattle.layer_states.specs.Reassembly.{begun as begun_in, due_ack as due_ack_in, heard_by, is_at_odds as is_at_odds_in, is_due as is_due_in, is_form as is_form_in, is_segment, judged, judged_after, rung, timer_after as timer_after_in};
 
 use crate::pieces::{block_of, is_other, no_pieces, outcome, set_piece};
 use crate::segment::{form_of, piece_of, seg_n_of, seg_o_of};
 use layer_states::reassembly::{Assembly, DueAck, Form, PartHeard, Taken, Timer};
-use mesh_base::address::Address;
 
 // Whether two segments may belong to one message.
 fn is_form(f: &Form, g: &Form) -> bool
     ensures { result ≡ is_form_in f.now g.now }
 {
     f.ctl == g.ctl && f.akf == g.akf && f.code == g.code && f.szmic == g.szmic
-}
-
-/// Whether an address is that of an element.
-fn is_unicast(a: Address) -> bool
-    ensures { result ≡ is_unicast_in a }
-{
-    1 <= a.0 && a.0 < 0x8000
 }
 
 /// A message of which no segment was heard before this one.
@@ -61,7 +52,7 @@ fn timer_after(now: u64, timer: Option<Timer>, h: &PartHeard) -> Option<Timer>
     requires { now ≤ 2 ^ 48 }
     ensures { result ≡ timer_after_in now timer h.now }
 {
-    if timer.is_some() || !is_unicast(h.dst) {
+    if timer.is_some() || !h.dst.is_unicast() {
         return timer;
     }
     let ttl = h.ack_ttl;

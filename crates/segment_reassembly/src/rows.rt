@@ -18,18 +18,11 @@ use node_limits::MESSAGES_IN_PROGRESS;
 /// The messages, in the order in which they began.
 pub(crate) type Rows = ArrayVec<Assembly, MESSAGES_IN_PROGRESS>;
 
-// Whether two names are the same.
-fn is_name(m: &Name, n: &Name) -> bool
-    ensures { result ≡ is_name_in m.now n.now }
-{
-    m.src.0 == n.src.0 && m.pair.iv == n.pair.iv && m.pair.seq == n.pair.seq
-}
-
 // The place of a message.
 fn place_of(rows: &[Assembly], name: &Name) -> Option<usize>
     ensures { result ≡ position (λ (a : Assembly). is_name_in name.now a.name) rows.now }
 {
-    rows.iter().position(|a| is_name(name, &a.name))
+    rows.iter().position(|a| name.is_same(&a.name))
 }
 
 // The names of so many messages as have a place.
@@ -55,7 +48,7 @@ pub(crate) fn expire(rows: &mut Rows, now: u64)
 pub(crate) fn drop_name(rows: &mut Rows, name: &Name)
     ensures { rows.new.items ≡ without name.now rows.old.items }
 {
-    rows.retain(|a| !is_name(name, &a.name));
+    rows.retain(|a| !name.is_same(&a.name));
 }
 
 // What becomes of a segment of the message at a place.

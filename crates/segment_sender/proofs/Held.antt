@@ -1,14 +1,14 @@
 -- The messages that are held stay as they are known to be, whatever call is made.
-use Rattle.std.proofs.Common.{◌≡◌, ℕ, zero, suc, ◌+◌, ◌≤◌, ◌<◌, Bool, true, false, cond, not, List, [], ◌∷◌, ◌++◌, take, drop, map, filter, remove, refl, sym, subst, arith, Option, Some, None}
+use Rattle.std.proofs.Common.{◌≡◌, ℕ, suc, ◌+◌, ◌≤◌, ◌<◌, Bool, true, false, cond, not, List, [], ◌∷◌, ◌++◌, take, drop, map, filter, remove, sym, subst, arith, Some, None}
 use Rattle.std.specs.Prelude.{All, slice_get, slice_set}
-use Rattle.std.specs.Bool.{⊤}
-use Rattle.std.specs.List.{AllByRecursion as Every, cons_option, filter_map, range_with_len}
+use Rattle.std.specs.List.{AllByRecursion as Every, filter_map, range_with_len}
 use Rattle.std.proofs.lemmas.List.Elements.{All-append, All-cons, All-drop, All-filter, All-from_get_or, All-from_recursion, All-nil, All-set, All-take, recursion_from_All}
 use Rattle.std.proofs.lemmas.List.FromFn.{get_or-range_with_len, length-range_with_len}
 use Rattle.layer_definitions.specs.Lower.{last_segment}
 use Rattle.layer_states.specs.Sending.{ack, ack_of, after, begun, due, ends, has_bit, is_due, is_last, left_after, place_of, rows_acked, stepped}
 use Rattle.mesh_types.specs.declared.events.Outgoing.{Outgoing}
 use Rattle.layer_states.specs.declared.sending.Sending.{Sending}
+use Rattle.mesh_base.proofs.Every.{Inside, every_consed, every_slot, option_cases}
 use Rattle.mesh_base.specs.declared.address.Address.{Address}
 use Rattle.segment_sender.specs.Held.{IsHeldWell, IsOutgoing, has_round}
 
@@ -35,16 +35,6 @@ begun_more rows more now m s k is e h =
 left_well : (block : ℕ) (s : Sending) → IsHeldWell s → IsHeldWell (record s { left = left_after block s })
 left_well block s h = record { message = h.message; left = All-filter (λ i. not (has_bit block i)) (λ i. i ≤ last_segment s.message.upper) s.left h.left }
 
--- of what stands in an option
-abbrev Inside : {X : Type 0} → (X → Type 0) → Option X → Type 0
-Inside P None = ⊤
-Inside P (Some x) = P x
-
-every_at : {X : Type 0} (P : X → Type 0) (xs : List X) (i : ℕ) → Every P xs → Inside P (slice_get xs i)
-every_at P [] i h = tt
-every_at P (x ∷ xs) zero h = h.0
-every_at P (x ∷ xs) (suc i) h = every_at P xs i h.1
-
 removed_well : (rows : List Sending) (place : ℕ) → All IsHeldWell rows → All IsHeldWell (remove rows place)
 removed_well rows place h = All-append IsHeldWell (take place rows) (drop (suc place) rows) (All-take IsHeldWell place rows h) (All-drop IsHeldWell (suc place) rows h)
 
@@ -54,15 +44,11 @@ at_well rows place block s k h =
     by_test (All IsHeldWell) (ends (ack_of block s)) (remove rows place) (slice_set rows place (record s { left = left_after block s })) (removed_well rows place h)
     (All-set IsHeldWell rows place (record s { left = left_after block s }) (left_well block s k) h)
 
-option_cases : {X : Type 0} (G : Type 0) (o : Option X) → (o ≡ None → G) → ((x : X) → o ≡ Some x → G) → G
-option_cases G None h k = h refl
-option_cases G (Some x) h k = k x refl
-
 pub ack_well : (rows : List Sending) (from : Address) (obo : Bool) (seq_zero block : ℕ) → All IsHeldWell rows → All IsHeldWell (after rows (ack from obo seq_zero block))
 ack_well rows from obo seq_zero block h =
     let place : ℕ = place_of from obo seq_zero rows in
     option_cases _ (slice_get rows place) (λ e. rw e h)
-    (λ s e. let one : IsHeldWell s = subst (Inside IsHeldWell) e (every_at IsHeldWell rows place (recursion_from_All IsHeldWell rows h)) in
+    (λ s e. let one : IsHeldWell s = subst (Inside IsHeldWell) e (every_slot IsHeldWell rows place (recursion_from_All IsHeldWell rows h)) in
     rw e (at_well rows place block s one h))
 
 -- Rounds.
@@ -71,10 +57,6 @@ stepped_well : (now : ℕ) (s : Sending) → IsHeldWell s → Inside IsHeldWell 
 stepped_well now s h =
     by_test (Inside IsHeldWell) (not (is_due now s)) (Some s) _ h
     (by_test (Inside IsHeldWell) (is_last s) None _ tt (record { message = h.message; left = h.left }))
-
-every_consed : {Y : Type 0} (Q : Y → Type 0) (o : Option Y) (ys : List Y) → Inside Q o → Every Q ys → Every Q (cons_option o ys)
-every_consed Q None ys h k = k
-every_consed Q (Some y) ys h k = (h, k)
 
 every_stepped : (now : ℕ) (rows : List Sending) → Every IsHeldWell rows → Every IsHeldWell (filter_map (stepped now) rows)
 every_stepped now [] h = tt

@@ -2,31 +2,14 @@
 #![tactic(auto)]
 
 ghost use Rattle.std.specs.Prelude.{◌≡◌, ◌+◌, ◌*◌, ◌^◌, ◌≤◌, ◌<◌, ◌++◌, ◌&&◌, not, [], ◌∷◌, Some, None, if◌then◌else◌, length, map};
-ghost use Rattle.layer_definitions.specs.Lower.{last_segment as last_segment_in};
-ghost use Rattle.layer_states.specs.Names.{is_unicast as is_unicast_in};
 ghost use Rattle.layer_states.specs.Sending.{begun as begun_in, has_bit as has_bit_in, is_due as is_due_in, is_last as is_last_in, left_after, pieces_of as pieces_in, round_after as round_after_in, round_of as round_in, segments_due, stepped};
 ghost use Rattle.segment_sender.specs.Held.{has_round as has_round_in};
 
 use layer_states::sending::{DueList, PieceList, Sending};
-use mesh_base::address::Address;
+use lower_transport::last_segment;
 use mesh_base::table::Table;
 use mesh_types::events::Outgoing;
 use node_limits::{DUE_SEGMENTS, SEGMENTS};
-
-// Whether an address is that of an element.
-fn is_unicast(a: Address) -> bool
-    ensures { result ≡ is_unicast_in a }
-{
-    1 <= a.0 && a.0 < 0x8000
-}
-
-// SegN: the number of the last segment.
-fn last_segment(m: &Outgoing) -> u8
-    ensures value { result ≡ last_segment_in m.now.upper }
-    ensures most { result < 32 }
-{
-    (m.upper.as_slice().len().saturating_sub(1) / 12) as u8
-}
 
 // Puts a SegO behind the others.
 fn push_piece(pieces: &mut PieceList, i: u8)
@@ -41,7 +24,7 @@ fn pieces_of(m: &Outgoing) -> PieceList
     ensures { result ≡ pieces_in m.now }
 {
     let mut pieces = Table::new();
-    for i in 0..last_segment(m) + 1 {
+    for i in 0..last_segment(m.upper.as_slice()) + 1 {
         push_piece(&mut pieces, i);
     }
     pieces
@@ -97,7 +80,7 @@ fn is_due(now: u64, s: &Sending) -> bool
 fn is_last(s: &Sending) -> bool
     ensures { result ≡ is_last_in s.now }
 {
-    if is_unicast(s.message.dst) {
+    if s.message.dst.is_unicast() {
         s.rounds >= 4
     } else {
         s.rounds >= 3
@@ -108,7 +91,7 @@ fn is_last(s: &Sending) -> bool
 fn round_of(s: &Sending) -> PieceList
     ensures { result ≡ round_in s.now }
 {
-    if is_unicast(s.message.dst) {
+    if s.message.dst.is_unicast() {
         s.left.copied()
     } else {
         pieces_of(&s.message)

@@ -1,8 +1,7 @@
--- The mark is durable, and the record of a call is the one that the records say.
+-- The mark is durable, and the record of a refill is the one that the records say.
 use Rattle.std.proofs.Common.{◌≡◌, ℕ, ◌≤◌, List, [], ◌∷◌, ◌++◌, refl, ap, subst, ◌∙◌, arith}
 use Rattle.flash_model.specs.Chip.{Chip, LeavesOnly}
 use Rattle.flash_model.proofs.Leaves.{IsOnlyNow, leaves_none}
-use Rattle.mesh_base.specs.declared.iv_state.IvState.{IvState}
 use Rattle.node_records.specs.declared.persist.Persist.{Persist}
 use Rattle.node_records.specs.Meaning.{IsMeaningOf}
 use Rattle.node_records.specs.Tables.{config_in}
@@ -13,7 +12,7 @@ use Rattle.node_store.proofs.Puts.{room_moment}
 use Rattle.record_types.specs.declared.records.StoreRecord.{StoreRecord}
 use Rattle.seq_reserve.specs.Reserving.{IsDurable}
 use Rattle.store_definitions.specs.Config.{Config, config_of}
-use Rattle.store_definitions.specs.Numbers.{fill_of, moved}
+use Rattle.store_definitions.specs.Numbers.{fill_of}
 
 -- of a store of this flash the mark that it says is durable
 module _ (chip : Chip) (store : StoreView) (records : List StoreRecord) (tie : IsStoreOf chip store records) where
@@ -37,12 +36,9 @@ pub durable_by : (old new : Chip) (mark : ℕ) → ((c : List ℕ) → old.momen
     → LeavesOnly old new (HasMarkFrom mark) → IsDurable new mark
 durable_by old new mark counts leaves c image = leaves.each c (counts c leaves.later image)
 
+-- the record of a refill, by the records
 pub fill_said : (records : List StoreRecord) (p : Persist) (item : StoreRecord) → item ≡ fill_of (config_in p) → IsMeaningOf records p → item ≡ fill_of (config_of records)
 fill_said records p item is h = is ∙ ap (λ (c : Config). fill_of c) h.config
-
-pub move_said : (records : List StoreRecord) (p : Persist) (to : IvState) (item : StoreRecord) → item ≡ moved (config_in p) to → IsMeaningOf records p
-    → item ≡ moved (config_of records) to
-move_said records p to item is h = is ∙ ap (λ (c : Config). moved c to) h.config
 
 -- so the records say with it what the value says after it
 pub fill_meaning : (records : List StoreRecord) (p q : Persist) → IsMeaningOf records p

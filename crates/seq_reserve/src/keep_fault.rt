@@ -1,9 +1,6 @@
 //! Why numbers weren't stored.
 #![tactic(auto)]
 
-ghost use Rattle.std.specs.Prelude.{◌≡◌};
-ghost use Rattle.seq_reserve.specs.Faults.{keep_fault_of};
-
 use node_store::PutFault;
 use thiserror::Error;
 
@@ -18,12 +15,17 @@ pub enum KeepFault {
     Flash,
 }
 
-/// The refusal of a Numbers record.
-pub(crate) fn keep_fault(fault: PutFault) -> KeepFault
-    ensures { result ≡ keep_fault_of fault }
-{
-    match fault {
-        PutFault::Closed => KeepFault::Closed,
-        _ => KeepFault::Flash,
+impl From<PutFault> for KeepFault {
+    ghost use Rattle.std.specs.Prelude.{◌≡◌};
+    ghost use Rattle.seq_reserve.specs.Faults.{keep_fault_of};
+
+    ghost from_gives = { λ fault e. e ≡ keep_fault_of fault };
+
+    /// No table refuses a Numbers record, so a limit is never told.
+    fn from(fault: PutFault) -> Self {
+        match fault {
+            PutFault::Closed => KeepFault::Closed,
+            PutFault::Limit { .. } | PutFault::Flash => KeepFault::Flash,
+        }
     }
 }

@@ -4,7 +4,7 @@
 ghost use Rattle.std.specs.Prelude.{◌≡◌, ℕ, ◌+◌, List, [], ◌∷◌, true, false, Err, IsTrue, OnOk, OnErr};
 ghost use Rattle.mesh_world.specs.World.{World};
 ghost use Rattle.mesh_world.specs.World.WorldStep.{Reserve};
-ghost use Rattle.node_records.specs.Meaning.{IsMeaningOf, IsSaid};
+ghost use Rattle.node_records.specs.Meaning.{IsSaid};
 ghost use Rattle.node_store.specs.Calls.{calls_of, used_with_room};
 ghost use Rattle.node_store.specs.Tie.{IsNotBelow, IsPut, IsStoreOf};
 ghost use Rattle.node_store.specs.Writing.{CostsCalls, CutLeaves, FailsAtFlash, LeavesFlash, OnlyAnswers, Puts};
@@ -14,7 +14,7 @@ ghost use Rattle.seq_reserve.specs.Reserving.{IsDurable, IsNumbers, numbers_step
 ghost use Rattle.store_definitions.specs.Ranges.{IsInRange};
 ghost use Rattle.store_world.specs.Standing.{GoesBy, IsWorldOf};
 
-use crate::keep_fault::{KeepFault, keep_fault};
+use crate::keep_fault::KeepFault;
 use flash_model::Flash;
 use node_store::Store;
 use record_types::records::StoreRecord;
@@ -48,8 +48,6 @@ pub(crate) fn put_numbers<F: Flash>(
         → CostsCalls (calls_of store.old) result (F.chip flash.old) (F.chip flash.new) }
     ensures leaves { LeavesFlash result (F.chip flash.old) (F.chip flash.new) }
 {
-    match store.put(flash, item) {
-        Ok(()) => Ok(()),
-        Err(fault) => Err(keep_fault(fault)),
-    }
+    store.put(flash, item)?;
+    Ok(())
 }

@@ -8,6 +8,7 @@ use Rattle.std.proofs.Math.Arith.{mod-mul}
 use Rattle.std.proofs.Math.Nat.{pow-succ', one-le-pow, mod-eq_of_lt}
 use Rattle.cipher_definitions.proofs.Octets.{bit_back, four_back, number_of-octets_of, three_back, two_back}
 use Rattle.cipher_definitions.specs.Octets.{four_at, number_of, octets_of, three_at, two_at}
+use Rattle.mesh_base.proofs.IvStates.{transmit_known}
 use Rattle.mesh_base.specs.declared.address.Address.{Address}
 use Rattle.mesh_base.specs.IvState.{transmit_of}
 use Rattle.mesh_base.specs.declared.iv_state.IvState.{IvState}
@@ -69,13 +70,9 @@ key_size false key k = ap length k
 wide : (n : ℕ) → n ≤ 0xfff → n < 2 ^ 16
 wide n h = omega arith
 
-transmit_below : (s : IvState) → transmit_of s ≤ s.current
-unfolding transmit_of
-transmit_below s = omega arith
-
 mark_back : (s : IvState) (mark : ℕ) → s.current < 2 ^ 32 → IsMark s mark → number_of (octets_of 8 mark) ≡ mark
 mark_back s mark c m =
-    let t : transmit_of s ≤ s.current = transmit_below s in
+    let t : transmit_of s ≤ s.current = transmit_known s in
     let w : mark < 256 ^ 8 = omega (arith, m.word, m.most) in
     number_of-octets_of 8 mark ∙ mod-eq_of_lt w
 

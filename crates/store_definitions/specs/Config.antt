@@ -243,3 +243,11 @@ config_of records = fold changed no_config records
 -- whether an address is an element's
 abbrev pub is_element : Config → ℕ → Bool
 is_element c address = nat_le c.unicast.0 address && nat_lt address (c.unicast.0 + c.elements)
+
+-- the address of the element with this place, from 0 on
+abbrev pub element_address : Config → ℕ → Address
+element_address c element = record { 0 = c.unicast.0 + element }
+
+-- TTL of an acknowledgment or a reply: 0 to what was heard with 0, else the Default TTL
+abbrev pub reply_ttl : Config → ℕ → ℕ
+reply_ttl c heard = if heard == 0 then 0 else c.ttl

@@ -15,15 +15,16 @@ use kept_keys::BoundSchedule;
 use mesh_base::address::Address;
 use mesh_base::table::Table;
 use mesh_base::upper::UpperFields;
+use node_limits::{HEARD_APPLICATION_KEYS, LABEL_SUBSCRIPTIONS};
 use std::marker::Model;
 use upper_transport::{Opened, unseal_bound};
 
-/// At most 32 labels with their virtual addresses. An address is derived when its label is put in, and not for each message. A clause sees
+/// At most `LABEL_SUBSCRIPTIONS` labels with their virtual addresses. An address is derived when its label is put in, and not for each message. A clause sees
 /// the list of the labels.
 #[derive(Drop)]
 pub struct Labels {
-    labels: Table<[u8; 16], 32>,
-    addresses: Table<Address, 32>,
+    labels: Table<[u8; 16], LABEL_SUBSCRIPTIONS>,
+    addresses: Table<Address, LABEL_SUBSCRIPTIONS>,
 }
 
 impl Model for Labels {
@@ -54,7 +55,7 @@ fn opened_by(
     f: &UpperFields,
     upper: &[u8],
 ) -> Option<Opened>
-    requires keys { length keys.now ≤ 16 }
+    requires keys { length keys.now ≤ HEARD_APPLICATION_KEYS }
     requires upper { length upper.now ≤ 384 }
     requires address { address.0 ≡ virtual_address label.now }
     ensures address { IfSome result (λ _. virtual_address label.now ≡ f.now.dst.0) }
@@ -85,7 +86,7 @@ impl Labels {
 
     /// Puts a label behind the others, for which there is room.
     pub fn push(&mut self, label: &[u8; 16])
-        requires room { length self.old < 32 }
+        requires room { length self.old < LABEL_SUBSCRIPTIONS }
         ensures value { self.new ≡ self.old ++ label.now ∷ [] }
     {
         let _ = self.labels.push(*label);
@@ -95,7 +96,7 @@ impl Labels {
     /// The labels, in the order in which they were put in.
     pub fn as_slice(&self) -> &[[u8; 16]]
         ensures value { result.now ≡ self.now }
-        ensures length { length result.now ≤ 32 }
+        ensures length { length result.now ≤ LABEL_SUBSCRIPTIONS }
     {
         self.labels.as_slice()
     }
@@ -111,7 +112,7 @@ impl Labels {
     /// key of this index and have this AID, that open the octets of an upper transport access PDU. The place of the key is that among those
     /// that fit. `NoLabel` comes exactly where no label and key open them. The label of the fields isn't read.
     ///
-    /// There are at most 384 octets and 16 keys.
+    /// There are at most 384 octets, and `HEARD_APPLICATION_KEYS` keys.
     pub fn unseal(
         &self,
         keys: &[BoundSchedule],
@@ -120,7 +121,7 @@ impl Labels {
         f: &UpperFields,
         upper: &[u8],
     ) -> Result<LabelOpened, NoLabel>
-        requires keys { length keys.now ≤ 16 }
+        requires keys { length keys.now ≤ HEARD_APPLICATION_KEYS }
         requires upper { length upper.now ≤ 384 }
         ensures ok { IfOk result
             (λ o. OpensLabel

@@ -8,6 +8,7 @@ ghost use Rattle.layer_definitions.specs.Upper.{IsUnopened, Opens};
 
 use mesh_base::keys::UpperKey;
 use mesh_base::upper::UpperFields;
+use node_limits::{HEARD_APPLICATION_KEYS, LABEL_SUBSCRIPTIONS};
 use thiserror::Error;
 use upper_transport::{Opened, unseal_access};
 
@@ -37,7 +38,7 @@ pub(crate) fn with(label: &[u8; 16], f: &UpperFields) -> UpperFields
 
 // What the octets open to with this label, if DST is its address.
 fn opened_with(keys: &[UpperKey], label: &[u8; 16], f: &UpperFields, upper: &[u8]) -> Option<Opened>
-    requires keys { length keys.now ≤ 16 }
+    requires keys { length keys.now ≤ HEARD_APPLICATION_KEYS }
     requires upper { length upper.now ≤ 384 }
     ensures address { IfSome result (λ _. virtual_address label.now ≡ f.now.dst.0) }
     ensures some { IfSome result (λ o. Opens keys.now (with_label label.now f.now) upper.now o.at o.payload) }
@@ -56,15 +57,15 @@ fn opened_with(keys: &[UpperKey], label: &[u8; 16], f: &UpperFields, upper: &[u8
 /// The first of the labels with DST as its address, and with it the first of the keys, that open the octets of an upper transport access
 /// PDU. `NoLabel` comes exactly where no label and key do. The label of the fields isn't read.
 ///
-/// There are at most 384 octets, 16 keys and 32 labels.
+/// There are at most 384 octets, `HEARD_APPLICATION_KEYS` keys and `LABEL_SUBSCRIPTIONS` labels.
 pub fn unseal(
     keys: &[UpperKey],
     labels: &[[u8; 16]],
     f: &UpperFields,
     upper: &[u8],
 ) -> Result<LabelOpened, NoLabel>
-    requires keys { length keys.now ≤ 16 }
-    requires labels { length labels.now ≤ 32 }
+    requires keys { length keys.now ≤ HEARD_APPLICATION_KEYS }
+    requires labels { length labels.now ≤ LABEL_SUBSCRIPTIONS }
     requires upper { length upper.now ≤ 384 }
     ensures ok { IfOk result
         (λ o. OpensLabel keys.now labels.now f.now upper.now o.label o.opened.at o.opened.payload) }

@@ -1,6 +1,7 @@
 -- By computation, the virtual address put in.
 use Rattle.std.proofs.Common.{refl}
-use Rattle.config_definitions.specs.Answers.{config_answer, first_answers, last_answers, middle_answers}
+use Rattle.config_definitions.specs.Answers.{message_act}
+use Rattle.config_definitions.specs.Messages.{binding_in, config_message, heartbeat_in, holder_in, label_in, message_of, model_in, publication_in}
 use Rattle.model_states.specs.Level.{level_message}
 use Rattle.model_states.specs.OnOff.{onoff_message}
 use Rattle.model_states.specs.Publication.{least_log, row_index}
@@ -15,9 +16,9 @@ use Rattle.store_definitions.specs.Config.{changed}
 use Rattle.worked_layers.specs.Published.{LabelsAreHeard, StatusIsPublished}
 
 pub labels_are_heard : LabelsAreHeard
-unfolding node_layers configured_layers built_layers answer_of jobs_of stores changed config_answer first_answers middle_answers last_answers onoff_message level_message
+unfolding node_layers configured_layers built_layers answer_of jobs_of stores changed message_act config_message message_of binding_in heartbeat_in holder_in label_in model_in publication_in onoff_message level_message
 labels_are_heard e net_key dev_key app_key pdu = record { adds = rw e refl; stores = refl; delivers = rw e refl; takes = rw e refl; passes = refl }
 
 pub status_is_published : StatusIsPublished
-unfolding node_layers configured_layers built_layers answer_of jobs_of stores changed config_answer first_answers middle_answers last_answers onoff_message level_message remaining_time row_index least_log
+unfolding node_layers configured_layers built_layers answer_of jobs_of stores changed message_act config_message message_of binding_in heartbeat_in holder_in label_in model_in publication_in onoff_message level_message remaining_time row_index least_log
 status_is_published net_key dev_key app_key pdu = record { sets = refl; waits = refl; publishes = refl }

@@ -13,7 +13,7 @@ returns-then-sends_new c = record {
   value =
       ap (λ o. option_map pair_of o) c.new_at.ensures
       ∙ ap (λ bs. option_map pair_of (find (λ (b : BoundSchedule). (b.index == c.args.index) && b.fresh) bs)) c.requires
-      ∙ sent_new c.args.rows.now c.args.nets.now c.args.index c.in_ok-row.row.now c.in_ok-net.net.now (sym c.in_ok-row.ensures) (sym c.in_ok-net.ensures) (sym c.if-sends_new.ensures);
+      ∙ sent_new c.args.rows.now c.args.nets.now c.args.index c.in_ok-row.row.now c.in_ok-net.net.now (sym c.in_ok-row.ensures.value) (sym c.in_ok-net.ensures.value) (sym c.if-sends_new.ensures);
 }
 
 pub returns-else-sends_new : goal.returns-else-sends_new
@@ -21,5 +21,5 @@ returns-else-sends_new c = record {
   value =
       ap (λ o. option_map pair_of o) c.old_at.ensures
       ∙ ap (λ bs. option_map pair_of (find (λ (b : BoundSchedule). b.index == c.args.index) bs)) c.requires
-      ∙ sent_old c.args.rows.now c.args.nets.now c.args.index c.in_ok-row.row.now c.in_ok-net.net.now (sym c.in_ok-row.ensures) (sym c.in_ok-net.ensures) (sym c.if-sends_new.ensures);
+      ∙ sent_old c.args.rows.now c.args.nets.now c.args.index c.in_ok-row.row.now c.in_ok-net.net.now (sym c.in_ok-row.ensures.value) (sym c.in_ok-net.ensures.value) (sym c.if-sends_new.ensures);
 }

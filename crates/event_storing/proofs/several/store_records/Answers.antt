@@ -1,6 +1,5 @@
 use Rattle.std.proofs.Common.{◌≡◌, ◌+◌, ◌*◌, ◌≤◌, List, [], sym, subst}
 use Rattle.std.specs.Prelude.{length, IsTrue, OnOk}
-use Rattle.flash_model.specs.Chip.{LeavesOnly}
 use Rattle.node_store.specs.Tie.{IsFront}
 use Rattle.node_store.specs.Writing.{CostsCalls, CutLeaves, Puts}
 use Rattle.node_store.proofs.Fronts.{fronts_none}

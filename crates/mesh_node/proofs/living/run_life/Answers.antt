@@ -67,6 +67,6 @@ returns g c =
     c.close-drawn.result.next c.close-drawn.result.mark started.numbers.opened c.close-drawn.ensures.order.1
     (c.close-drawn.ensures.mark ∙ c.finish-history.ensures.keeper.1 ∙ ap (λ m. m.mark) machine) s.opened
     c.close-drawn.ensures.since c.close-drawn.ensures.below c.close-drawn.ensures.once c.close-drawn.ensures.seen
-    c.close-drawn.result refl c.close-drawn.ensures.drawn c.close-drawn.ensures.distinct
+    c.close-drawn.result refl c.close-drawn.ensures.drawn c.close-drawn.ensures.looks c.close-drawn.ensures.distinct
     c.args.plan.now.bearers c.requires.few did.many ((g.met.F.Bench g.world.𝓛 g.world.𝓜 g.world.𝓡 ((λ s x. x), (λ x. x), (λ x. x), λ x. x)).explained node.flash) given order calls in
     record { ran = subst (λ f. Ran g.M.Machine.role g.M.Machine.image plan (chip start) log (chip f)) (sym c.into_parts-machine.ensures.flash) whole }

@@ -12,7 +12,7 @@ returns-then-sends_new c = record {
   value =
       ap (λ o. option_map (λ (h : Heard). h.material) o) c.new_at.ensures
       ∙ ap (λ hs. option_map (λ (h : Heard). h.material) (find (λ (h : Heard). (h.index == c.args.index) && h.fresh) hs)) c.requires
-      ∙ sent_new c.args.rows.now c.args.index c.in_ok-row.row.now (sym c.in_ok-row.ensures) (sym c.if-sends_new.ensures);
+      ∙ sent_new c.args.rows.now c.args.index c.in_ok-row.row.now (sym c.in_ok-row.ensures.value) (sym c.if-sends_new.ensures);
 }
 
 pub returns-else-sends_new : goal.returns-else-sends_new
@@ -20,5 +20,5 @@ returns-else-sends_new c = record {
   value =
       ap (λ o. option_map (λ (h : Heard). h.material) o) c.old_at.ensures
       ∙ ap (λ hs. option_map (λ (h : Heard). h.material) (find (λ (h : Heard). h.index == c.args.index) hs)) c.requires
-      ∙ sent_old c.args.rows.now c.args.index c.in_ok-row.row.now (sym c.in_ok-row.ensures) (sym c.if-sends_new.ensures);
+      ∙ sent_old c.args.rows.now c.args.index c.in_ok-row.row.now (sym c.in_ok-row.ensures.value) (sym c.if-sends_new.ensures);
 }

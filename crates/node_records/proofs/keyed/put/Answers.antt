@@ -2,7 +2,7 @@ use Rattle.std.proofs.Common.{◌≡◌, ◌+◌, length, insert, sym, ap, ◌�
 use Rattle.std.proofs.lemmas.List.Edits.{length-insert}
 use Rattle.layer_definitions.specs.Order.{put_by}
 use Rattle.node_records.proofs.Changes.{taken}
-use Rattle.node_records.proofs.Places.{put_set, put_insert}
+use Rattle.layer_definitions.proofs.PlaceLaws.{put_set, put_insert}
 use Rattle.node_records.proofs.keyed.put.Goals as goal
 
 pub returns-then-is_at : goal.returns-then-is_at

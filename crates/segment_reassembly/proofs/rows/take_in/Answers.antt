@@ -5,7 +5,8 @@ use Rattle.std.proofs.lemmas.Bool.Decides.{nat_tests}
 use Rattle.node_limits.specs.declared.TheConstants.{MESSAGES_IN_PROGRESS}
 use Rattle.layer_states.specs.Names.{is_name}
 use Rattle.layer_states.specs.Reassembly.{begun, judged, judged_after}
-use Rattle.segment_reassembly.proofs.Messages.{noted_held, refill_same, taken_held, taken_new}
+use Rattle.mesh_base.proofs.Every.{refill_same}
+use Rattle.segment_reassembly.proofs.Messages.{noted_held, taken_held, taken_new}
 use Rattle.segment_reassembly.proofs.rows.take_in.Goals as goal
 
 pub returns-in-Some-clause-value : goal.returns-in-Some-clause-value

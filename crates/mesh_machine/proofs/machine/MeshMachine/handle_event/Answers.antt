@@ -65,13 +65,13 @@ returns-in-Err-store_records-clause-kept g c over stands =
     let new = g.F.Flash.chip c.store_records.new.flash in
     let ready : IsReady m = c.self.invariant c.if-self.false in
     let cut : IsCutIn new past.records c.in-Ok.prepared.plan.records r.keeper.mark = record {
-      honest = c.store_records.ensures.frame.honest ∙ s.life.node.honest;
+      honest = c.store_records.ensures.leaves.frame.honest ∙ s.life.node.honest;
       fronts = c.store_records.ensures.fronts past.records h.store;
       durable = c.store_records.ensures.durable past.records h.store;
     } in
     let base : Stands new over (stopped m r c.prepare.new.tables (H.OfEvent c.args.event.now)) =
     event_stops c.ties_law.ensures.laws m c.args.event.now c.in-Ok.prepared.plan c.prepare.new.tables (g.F.Flash.chip c.args.flash.now) new over s c.if-self.false r c.prepare.new.tables planned may bounded cut
-    (c.in-Err-store_records.ensures.cause ready.usable).2 c.store_records.ensures.frame in
+    (c.in-Err-store_records.ensures.fails ready.usable).cause.rose c.store_records.ensures.leaves.frame in
     subst (λ (e : Event). Stands new over (record (stopped m r c.prepare.new.tables (H.OfEvent e)) { entries = c.prepare.new.history.items })) (sym c.copied.ensures.value)
     (subst (λ (l : List Entry). Stands new over (record (stopped m r c.prepare.new.tables (H.OfEvent c.args.event.now)) { entries = l })) (sym c.prepare.ensures.entries) base)
 
@@ -86,7 +86,7 @@ renew-requires-clause-held g c =
     let planned : IsPlanned ready.past c.args.event.now c.in-Ok.prepared.plan c.prepare.new.tables =
     c.in-Ok.ensures.planned ready.past (subst (λ (p : Persist). IsStanding ready.past p i.tables) (sym c.persist.ensures.value) ready.before.standing) in
     let q : Persist = c.store_records.new.reserve.store.persist in
-    let meaning : IsMeaningOf (ready.past.records ++ c.in-Ok.prepared.plan.records) q = c.in-Ok-store_records.ensures.meaning ready.past.records ready.before.standing.meaning in
+    let meaning : IsMeaningOf (ready.past.records ++ c.in-Ok.prepared.plan.records) q = (c.in-Ok-store_records.ensures.puts (c.self.invariant c.if-self.false).usable).value ready.past.records ready.before.standing.meaning in
     let after : IsAfter i.elements q = event_after c.ties_law.ensures.laws m c.args.event.now c.in-Ok.prepared.plan c.prepare.new.tables ready q planned may bounded meaning in
     subst (λ (p : Persist). AreHeldKeys (config_in p)) (sym c.persist-p.ensures.value)
     (subst AreHeldKeys (sym meaning.config)
@@ -115,7 +115,7 @@ enter-answered-requires-clause-unicast g c =
     let planned : IsPlanned ready.past c.args.event.now c.in-Ok.prepared.plan c.prepare.new.tables =
     c.in-Ok.ensures.planned ready.past (subst (λ (p : Persist). IsStanding ready.past p i.tables) (sym c.persist.ensures.value) ready.before.standing) in
     let q : Persist = c.store_records.new.reserve.store.persist in
-    let meaning : IsMeaningOf (ready.past.records ++ c.in-Ok.prepared.plan.records) q = c.in-Ok-store_records.ensures.meaning ready.past.records ready.before.standing.meaning in
+    let meaning : IsMeaningOf (ready.past.records ++ c.in-Ok.prepared.plan.records) q = (c.in-Ok-store_records.ensures.puts (c.self.invariant c.if-self.false).usable).value ready.past.records ready.before.standing.meaning in
     let after : IsAfter i.elements q = event_after c.ties_law.ensures.laws m c.args.event.now c.in-Ok.prepared.plan c.prepare.new.tables ready q planned may bounded meaning in
     subst (λ (p : Persist). p.unicast.0 < 2 ^ 15) (sym c.persist-p.ensures.value) (omega (arith, after.unicast, after.whole.some))
 
@@ -130,7 +130,7 @@ enter-answered-requires-clause-sendable g c =
     let planned : IsPlanned ready.past c.args.event.now c.in-Ok.prepared.plan c.prepare.new.tables =
     c.in-Ok.ensures.planned ready.past (subst (λ (p : Persist). IsStanding ready.past p i.tables) (sym c.persist.ensures.value) ready.before.standing) in
     let q : Persist = c.store_records.new.reserve.store.persist in
-    let meaning : IsMeaningOf (ready.past.records ++ c.in-Ok.prepared.plan.records) q = c.in-Ok-store_records.ensures.meaning ready.past.records ready.before.standing.meaning in
+    let meaning : IsMeaningOf (ready.past.records ++ c.in-Ok.prepared.plan.records) q = (c.in-Ok-store_records.ensures.puts (c.self.invariant c.if-self.false).usable).value ready.past.records ready.before.standing.meaning in
     let after : IsAfter i.elements q = event_after c.ties_law.ensures.laws m c.args.event.now c.in-Ok.prepared.plan c.prepare.new.tables ready q planned may bounded meaning in
     subst (λ (p : Persist). IsSendable (config_in p) c.args.event.now) (sym c.persist-p.ensures.value)
     (event_sendable i.elements c.args.event.now q after
@@ -147,7 +147,7 @@ invariant_of-self-2 g c e =
     let planned : IsPlanned ready.past c.args.event.now c.in-Ok.prepared.plan c.prepare.new.tables =
     c.in-Ok.ensures.planned ready.past (subst (λ (p : Persist). IsStanding ready.past p i.tables) (sym c.persist.ensures.value) ready.before.standing) in
     let q : Persist = c.store_records.new.reserve.store.persist in
-    let meaning : IsMeaningOf (ready.past.records ++ c.in-Ok.prepared.plan.records) q = c.in-Ok-store_records.ensures.meaning ready.past.records ready.before.standing.meaning in
+    let meaning : IsMeaningOf (ready.past.records ++ c.in-Ok.prepared.plan.records) q = (c.in-Ok-store_records.ensures.puts (c.self.invariant c.if-self.false).usable).value ready.past.records ready.before.standing.meaning in
     let after : IsAfter i.elements q = event_after c.ties_law.ensures.laws m c.args.event.now c.in-Ok.prepared.plan c.prepare.new.tables ready q planned may bounded meaning in
     let a = c.enter-answered.result in
     let entry : Entry = record { bearer = c.args.bearer; number = c.args.number; event = c.args.event.now; fills = i.fills; answer = a.answer; jobs = a.jobs } in
@@ -163,7 +163,7 @@ invariant_of-self-2 g c e =
     let base : IsReady (entered m r c.renew.new.tables entry) =
     event_ready c.ties_law.ensures.laws m c.args.event.now c.in-Ok.prepared.plan c.prepare.new.tables ready r c.renew.new.tables entry planned may bounded c.renew.ensures.tables refl c.enter-answered.ensures.answer
     meaning c.store_records.ensures.published (record { keys = keys; models = within })
-    (c.in-Ok-store_records.ensures.usable ∙ ready.usable) after.same in
+    (c.in-Ok-store_records.ensures.puts (c.self.invariant c.if-self.false).usable).usable after.same in
     subst (λ (l : List Entry). IsReady (record (entered m r c.renew.new.tables entry) { entries = l })) (sym items) base
 
 pub returns-clause-jobs : goal.returns-clause-jobs
@@ -177,7 +177,7 @@ returns-clause-jobs g c =
     let planned : IsPlanned ready.past c.args.event.now c.in-Ok.prepared.plan c.prepare.new.tables =
     c.in-Ok.ensures.planned ready.past (subst (λ (p : Persist). IsStanding ready.past p i.tables) (sym c.persist.ensures.value) ready.before.standing) in
     let q : Persist = c.store_records.new.reserve.store.persist in
-    let meaning : IsMeaningOf (ready.past.records ++ c.in-Ok.prepared.plan.records) q = c.in-Ok-store_records.ensures.meaning ready.past.records ready.before.standing.meaning in
+    let meaning : IsMeaningOf (ready.past.records ++ c.in-Ok.prepared.plan.records) q = (c.in-Ok-store_records.ensures.puts (c.self.invariant c.if-self.false).usable).value ready.past.records ready.before.standing.meaning in
     let after : IsAfter i.elements q = event_after c.ties_law.ensures.laws m c.args.event.now c.in-Ok.prepared.plan c.prepare.new.tables ready q planned may bounded meaning in
     let a = c.enter-answered.result in
     let meaning_p : IsMeaningOf (ready.past.records ++ c.in-Ok.prepared.plan.records) c.persist-p.result.now =
@@ -200,7 +200,7 @@ returns-clause-quiet g c outside =
     let planned : IsPlanned ready.past c.args.event.now c.in-Ok.prepared.plan c.prepare.new.tables =
     c.in-Ok.ensures.planned ready.past (subst (λ (p : Persist). IsStanding ready.past p i.tables) (sym c.persist.ensures.value) ready.before.standing) in
     let q : Persist = c.store_records.new.reserve.store.persist in
-    let meaning : IsMeaningOf (ready.past.records ++ c.in-Ok.prepared.plan.records) q = c.in-Ok-store_records.ensures.meaning ready.past.records ready.before.standing.meaning in
+    let meaning : IsMeaningOf (ready.past.records ++ c.in-Ok.prepared.plan.records) q = (c.in-Ok-store_records.ensures.puts (c.self.invariant c.if-self.false).usable).value ready.past.records ready.before.standing.meaning in
     let meaning_p : IsMeaningOf (ready.past.records ++ c.in-Ok.prepared.plan.records) c.persist-p.result.now =
     subst (λ (p : Persist). IsMeaningOf (ready.past.records ++ c.in-Ok.prepared.plan.records) p) (sym c.persist-p.ensures.value) meaning in
     let node : IsSameNode (config_before ready.past) (config_in c.persist-p.result.now) =
@@ -221,7 +221,7 @@ returns-clause-steps g c w world =
     let moves : AreMoves (config_in p) c.in-Ok.prepared.plan.records = subst (λ (v : Persist). AreMoves (config_in v) c.in-Ok.prepared.plan.records) c.persist.ensures.value c.in-Ok.ensures.moves in
     let planned : IsPlanned ready.past c.args.event.now c.in-Ok.prepared.plan c.prepare.new.tables =
     c.in-Ok.ensures.planned ready.past (subst (λ (v : Persist). IsStanding ready.past v i.tables) (sym c.persist.ensures.value) ready.before.standing) in
-    let meaning : IsMeaningOf (ready.past.records ++ c.in-Ok.prepared.plan.records) q = c.in-Ok-store_records.ensures.meaning ready.past.records ready.before.standing.meaning in
+    let meaning : IsMeaningOf (ready.past.records ++ c.in-Ok.prepared.plan.records) q = (c.in-Ok-store_records.ensures.puts (c.self.invariant c.if-self.false).usable).value ready.past.records ready.before.standing.meaning in
     let insight : Insight = insight_in c.in-Ok.prepared.plan.basis in
     let a = c.enter-answered.result in
     let is : a.answer ≡ c.in-Ok.prepared.plan.answer = c.enter-answered.ensures.answer in
@@ -257,7 +257,7 @@ returns-clause-kept g c over stands =
     let items : c.enter-answered.new.history.items ≡ i.history.items ++ entry ∷ [] = c.enter-answered.ensures.entry ∙ ap (λ l. l ++ entry ∷ []) c.prepare.ensures.entries in
     let r = c.store_records.new.reserve in
     let new = g.F.Flash.chip c.store_records.new.flash in
-    let meaning : IsMeaningOf (past.records ++ c.in-Ok.prepared.plan.records) r.store.persist = c.in-Ok-store_records.ensures.meaning past.records h.before.standing.meaning in
+    let meaning : IsMeaningOf (past.records ++ c.in-Ok.prepared.plan.records) r.store.persist = (c.in-Ok-store_records.ensures.puts (c.self.invariant c.if-self.false).usable).value past.records h.before.standing.meaning in
     let meaning_p : IsMeaningOf (past.records ++ c.in-Ok.prepared.plan.records) c.persist-p.result.now =
     subst (λ (p : Persist). IsMeaningOf (past.records ++ c.in-Ok.prepared.plan.records) p) (sym c.persist-p.ensures.value) meaning in
     let node : IsSameNode (config_before past) (config_in c.persist-p.result.now) =
@@ -273,7 +273,7 @@ returns-clause-kept g c over stands =
     event_stands c.ties_law.ensures.laws m c.args.event.now c.in-Ok.prepared.plan c.prepare.new.tables (g.F.Flash.chip c.args.flash.now) new over s c.if-self.false r c.renew.new.tables entry planned may bounded
     c.renew.ensures.tables is_entry refl
     (subst (λ (l : List Entry). length l + 1 < 2 ^ 32) c.prepare.ensures.entries c.enter-answered.ensures.few)
-    (c.in-Ok-store_records.ensures.kept past.records h.store)
+    ((c.in-Ok-store_records.ensures.puts (c.self.invariant c.if-self.false).usable).kept past.records h.store)
     meaning
-    c.store_records.ensures.published c.store_records.ensures.frame in
+    c.store_records.ensures.published c.store_records.ensures.leaves.frame in
     subst (λ (l : List Entry). Stands new over (record (entered m r c.renew.new.tables entry) { entries = l })) (sym items) base

@@ -1,4 +1,4 @@
-use Rattle.std.proofs.Common.{◌≡◌, [], ◌∷◌, ◌++◌, ◌<◌, ◌^◌, ap, sym, subst, ◌∙◌, arith}
+use Rattle.std.proofs.Common.{◌≡◌, [], ◌∷◌, ◌++◌, ◌<◌, ◌^◌, refl, ap, sym, subst, ◌∙◌, arith}
 use Rattle.std.proofs.lemmas.Bool.Decides.{nat_tests}
 use Rattle.machine_contract.specs.Standing.{past_now}
 use Rattle.machine_ties.proofs.Fronts.{IsSameNode}
@@ -12,8 +12,11 @@ use Rattle.node_layers.specs.NodeLayers.{node_layers}
 use Rattle.node_records.specs.Meaning.{IsMeaningOf}
 use Rattle.node_records.specs.Tables.{config_in}
 use Rattle.node_records.specs.declared.persist.Persist.{Persist}
+use Rattle.node_store.specs.Tie.{IsStoreOf}
+use Rattle.record_types.specs.declared.records.StoreRecord.{StoreRecord}
 use Rattle.event_definitions.specs.History.{Past}
 use Rattle.event_definitions.specs.Role.{node_role}
+use Rattle.seq_reserve.proofs.Keeping.{fill_meaning, fill_said}
 use Rattle.seq_word.specs.Word.{seq_of}
 use Rattle.store_definitions.specs.Config.{Config, changed, config_of}
 use Rattle.store_definitions.specs.Numbers.{fill_of}
@@ -28,12 +31,12 @@ invariant_of-self g c e =
     let seen : c.args.seen ≡ i.reserve.keeper.mark = stored ∙ ap (λ (p : Persist). p.mark) c.persist.ensures.value ∙ sym ready.published in
     let seq : seq_of i.reserve.keeper.mark < 2 ^ 24 = subst (λ n. seq_of n < 2 ^ 24) seen c.requires.seq in
     let r = c.refill.new.self in
-    let change : config_in r.store.persist ≡ changed (config_in i.reserve.store.persist) (fill_of (config_in i.reserve.store.persist)) = (c.in-Ok.ensures.filled seen).1 in
+    let change : config_in r.store.persist ≡ changed (config_in i.reserve.store.persist) (fill_of (config_in i.reserve.store.persist)) = (c.in-Ok.ensures.puts seen).change in
     let meaning : IsMeaningOf (ready.past.records ++ fill_of (config_of ready.past.records) ∷ []) r.store.persist =
-    c.in-Ok.ensures.meaning ready.past.records ready.before.standing.meaning seen in
+    fill_meaning ready.past.records i.reserve.store.persist r.store.persist ready.before.standing.meaning (c.in-Ok.ensures.puts seen).value in
     let node : IsSameNode (config_in i.reserve.store.persist) (config_in r.store.persist) =
     refill_node c.ties_law.ensures.laws m ready.past r.store.persist ready.before ready.published seq meaning in
-    refill_ready c.ties_law.ensures.laws m ready r seq meaning c.refill.ensures.published (c.in-Ok.ensures.usable seen)
+    refill_ready c.ties_law.ensures.laws m ready r seq meaning c.refill.ensures.published (c.in-Ok.ensures.puts seen).usable
     (record {
       keys = ready.fit.keys ∙ sym (ap held_in change ∙ fill_keys (config_in i.reserve.store.persist));
       models = within_refilled c.node_models_law.ensures.within i.tables.models i.reserve.store.persist r.store.persist node ready.fit.models;
@@ -53,8 +56,12 @@ returns-in-Ok-clause-kept g c over stands =
     let s : Stands old over m = subst (λ (v : NodeMachine). Stands old over v) (sym c.self.view_is) stands in
     let past : Past = past_now (node_role node_layers) over s.life.told i.fills in
     let h : IsOver old past m = s.usable c.if-self.false in
-    refill_stands c.ties_law.ensures.laws m old new over s c.if-self.false c.refill.new.self ready.published seq (c.in-Ok.ensures.kept past.records h.store seen)
-    (c.in-Ok.ensures.meaning past.records h.before.standing.meaning seen) c.refill.ensures.published c.refill.ensures.frame
+    let puts = c.in-Ok.ensures.puts seen in
+    let said = h.before.standing.meaning in
+    let kept : IsStoreOf new c.refill.new.self.store (past.records ++ fill_of (config_of past.records) ∷ []) =
+    subst (λ (item : StoreRecord). IsStoreOf new c.refill.new.self.store (past.records ++ item ∷ [])) (fill_said past.records i.reserve.store.persist (fill_of (config_in i.reserve.store.persist)) refl said) (puts.kept past.records h.store) in
+    refill_stands c.ties_law.ensures.laws m old new over s c.if-self.false c.refill.new.self ready.published seq kept
+    (fill_meaning past.records i.reserve.store.persist c.refill.new.self.store.persist said puts.value) c.refill.ensures.published c.refill.ensures.leaves.frame
 
 pub returns-in-Err-clause-kept : goal.returns-in-Err-clause-kept
 returns-in-Err-clause-kept g c over stands =
@@ -69,8 +76,9 @@ returns-in-Err-clause-kept g c over stands =
     let s : Stands old over m = subst (λ (v : NodeMachine). Stands old over v) (sym c.self.view_is) stands in
     let past : Past = past_now (node_role node_layers) over s.life.told i.fills in
     let h : IsOver old past m = s.usable c.if-self.false in
-    let leaves = c.refill.ensures.any_moment past.records h.store in
+    let leaves = c.refill.ensures.cut.any_moment past.records h.store in
     let cut : IsCutIn new past.records (fill_of (config_of past.records) ∷ []) c.refill.new.self.keeper.mark =
-    put_cut new past.records (fill_of (config_of past.records)) c.refill.new.self.keeper.mark (c.refill.ensures.frame.honest ∙ s.life.node.honest)
-    (λ image is. leaves.each image (g.met.F.Flash.counts_now c.refill.new.flash _ image leaves.later is)) (c.refill.ensures.durable past.records h.store) in
-    refill_stops c.ties_law.ensures.laws m old new over s c.if-self.false c.refill.new.self ready.published seq cut (c.in-Err.ensures.cause seen ready.usable).2 c.refill.ensures.frame
+    subst (λ (item : StoreRecord). IsCutIn new past.records (item ∷ []) c.refill.new.self.keeper.mark) (fill_said past.records i.reserve.store.persist (fill_of (config_in i.reserve.store.persist)) refl h.before.standing.meaning)
+    (put_cut new past.records (fill_of (config_in i.reserve.store.persist)) c.refill.new.self.keeper.mark (c.refill.ensures.leaves.frame.honest ∙ s.life.node.honest)
+    (λ image is. leaves.each image (g.met.F.Flash.counts_now c.refill.new.flash _ image leaves.later is)) (c.refill.ensures.durable past.records h.store)) in
+    refill_stops c.ties_law.ensures.laws m old new over s c.if-self.false c.refill.new.self ready.published seq cut (c.in-Err.ensures.fails seen ready.usable).cause.rose c.refill.ensures.leaves.frame

@@ -3,11 +3,11 @@ use Rattle.std.specs.Option.{option_map_or}
 use Rattle.config_definitions.specs.declared.acts.ConfigAct.{ConfigAct}
 use Rattle.element_models.specs.Messages.{message_in}
 use Rattle.model_states.specs.Publication.{no_heartbeat}
-use Rattle.node_layers.specs.Configuration.{config_act}
+use Rattle.node_layers.specs.Configuration.{config_act, ends_in}
 use Rattle.node_layers.specs.Publishing.{published_by_act, published_by_message}
 use Rattle.event_definitions.specs.History.{now_of}
 use Rattle.store_definitions.specs.Config.{config_of}
-use Rattle.node_models.proofs.Alike.{same_changes, same_published}
+use Rattle.node_models.proofs.Alike.{same_changes, same_ends, same_published}
 use Rattle.node_models.proofs.Published.{by_message}
 use Rattle.node_models.specs.Models.{AreNodeModelsOf, ModelsView}
 use Rattle.node_models.specs.Acts.{change_in}
@@ -23,6 +23,14 @@ returns-clause-changes c = λ past means are time.
     ∙ ap (λ items. items ++ c.take.result.records) (same_changes (config_of past.records) c.args.polls.now [] c.heartbeat.result no_heartbeat m)
     ∙ ap (λ items. change_in (config_act (config_of past.records) [] no_heartbeat m) ++ items)
     (c.take.ensures.records past means stands.servers time)
+
+pub returns-clause-ends : goal.returns-clause-ends
+returns-clause-ends c = λ past means.
+    let m = message_in c.args.m.now in
+    c.of.ensures.ends
+    ∙ ap ends_in c.config_act-act.ensures.value
+    ∙ ap (λ d. ends_in (config_act d c.args.polls.now c.heartbeat.result m)) means.config
+    ∙ same_ends (config_of past.records) c.args.polls.now [] c.heartbeat.result no_heartbeat m
 
 pub returns-clause-models : goal.returns-clause-models
 returns-clause-models c = λ past t records means are time same delivers elements.

@@ -4,7 +4,7 @@ use Rattle.std.specs.List.{list_all, refill}
 use Rattle.layer_states.specs.Reassembly.{live, rung}
 use Rattle.layer_states.specs.declared.reassembly.Assembly.{Assembly}
 use Rattle.segment_reassembly.specs.Short.{is_short}
-use Rattle.segment_reassembly.proofs.Messages.{refill_same}
+use Rattle.mesh_base.proofs.Every.{refill_same}
 use Rattle.segment_reassembly.proofs.Short.{all_rung_short, live_short}
 use Rattle.segment_reassembly.proofs.parts.Parts.tick.Goals as goal
 
