@@ -4,7 +4,7 @@ use Rattle.std.specs.Prelude.{All, is_some}
 use Rattle.std.specs.List.{AllByRecursion as Every}
 use Rattle.event_plans.proofs.Narrow.{IsIndexed, narrow_of}
 use Rattle.event_records.specs.Steps.{IsStepFrom}
-use Rattle.friend_steps.proofs.Readings.{every_at}
+use Rattle.mesh_base.proofs.Every.{every_at}
 use Rattle.iv_update.specs.Steps.{IsLater, state_after}
 use Rattle.layer_definitions.specs.Beacon.{BeaconSource}
 use Rattle.layer_definitions.specs.IvIndex.{iv_next}
