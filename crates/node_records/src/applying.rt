@@ -24,7 +24,7 @@ pub struct Limit {
 }
 
 /// The feature that is the Default TTL, by its number in records.
-const DEFAULT_TTL: u8 = 2;
+const DEFAULT_TTL_FEATURE: u8 = 2;
 
 impl Persist {
     ghost use Rattle.std.specs.Prelude.{◌≡◌, ◌⊎◌, ◌<◌, ◌^◌, ◌≤◌, ◌↔◌, List, [], ◌∷◌, ◌++◌, IsTrue, IsErr, IfErr, OnOk, OnErr};
@@ -210,7 +210,7 @@ impl Persist {
         ensures short { self.now.ttl < 2 ^ 7 → result < 2 ^ 7 }
     {
         match item {
-            StoreRecord::Feature { which, value } if *which == DEFAULT_TTL => *value as u8,
+            StoreRecord::Feature { which, value } if *which == DEFAULT_TTL_FEATURE => *value as u8,
             _ => self.ttl,
         }
     }
