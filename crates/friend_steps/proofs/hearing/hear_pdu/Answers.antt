@@ -13,10 +13,10 @@ returns-then-is_before_cache-clause-state c =
     let h = c.args.heard.now in
     step_before c.args.friends.now (insight_of h) h.answer (sym c.is_before_cache.ensures.value ∙ c.if-is_before_cache.true)
 
-pub heard-requires-clause-pdu : goal.heard-requires-clause-pdu
-heard-requires-clause-pdu c =
+pub heard-requires : goal.heard-requires
+heard-requires c =
     let read : reading_in c.args.heard.now.pdu ≡ Some c.in-Some.reading.now = sym c.reading.ensures.value ∙ ap option_copied c.in-Some.is in
-    (subst (λ (o : Option NetReading). IfSome o (λ (r : NetReading). HasPdu r.fields × (r.by.material.nid < 2 ^ 7))) read c.requires.read).0
+    record { pdu = (subst (λ (o : Option NetReading). IfSome o (λ (r : NetReading). HasPdu r.fields × (r.by.material.nid < 2 ^ 7))) read c.requires.read).0 }
 
 pub returns-in-Some-clause-state : goal.returns-in-Some-clause-state
 returns-in-Some-clause-state c =
