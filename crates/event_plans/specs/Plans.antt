@@ -1,5 +1,5 @@
 -- What the plan of an event is, by the definitions of a life.
-use Rattle.std.specs.Prelude.{◌≡◌, ℕ, ⊤, ⊥, false, if◌then◌else◌, All, List}
+use Rattle.std.specs.Prelude.{◌≡◌, ℕ, ⊤, false, if◌then◌else◌, All, List}
 use Rattle.event_plans.specs.declared.plan.Basis.{Basis}
 use Rattle.event_plans.specs.declared.plan.Basis.TheVariants as B
 use Rattle.event_plans.specs.declared.plan.Plan.{Plan}
