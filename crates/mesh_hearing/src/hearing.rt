@@ -63,7 +63,9 @@ impl Hearing {
         ensures opened { IfSome result (λ d. opened_in self.now.pdu ≡ Some d.opened.now) }
     {
         let HeardPdu::Opened {
-            reading, opened, ..
+            reading,
+            opened,
+            ..
         } = &self.pdu
         else {
             return None;

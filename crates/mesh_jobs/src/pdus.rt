@@ -276,7 +276,15 @@ fn push_message_jobs(
     match answer {
         Answer::Control { .. } => push_friend_jobs(jobs, p, nets, r, &basis.act),
         Answer::Delivered { name, .. } => {
-            push_delivered(jobs, p, nets, r, basis.heard.key(), name.src, &basis.replies);
+            push_delivered(
+                jobs,
+                p,
+                nets,
+                r,
+                basis.heard.key(),
+                name.src,
+                &basis.replies,
+            );
         }
         _ => {}
     }
