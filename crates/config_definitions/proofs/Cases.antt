@@ -1,19 +1,10 @@
 -- By what a test, an option or a result is.
 use Rattle.std.proofs.Common.{◌≡◌, Bool, true, false, cond, refl, Option, Some, None, Result, Ok, Err}
-use Rattle.std.specs.Bool.{⊤}
-
--- of what stands in an option
-abbrev pub Inside : {A : Type 0} → (A → Type 0) → Option A → Type 0
-Inside P None = ⊤
-Inside P (Some x) = P x
+pub use Rattle.mesh_base.proofs.Every.{Inside, option_cases}
 
 pub inside_weaker : {A : Type 0} (P Q : A → Type 0) → ((x : A) → P x → Q x) → (o : Option A) → Inside P o → Inside Q o
 inside_weaker P Q k None h = tt
 inside_weaker P Q k (Some x) h = k x h
-
-pub option_cases : {A : Type 0} (G : Type 0) (o : Option A) → (o ≡ None → G) → ((x : A) → o ≡ Some x → G) → G
-option_cases G None h k = h refl
-option_cases G (Some x) h k = k x refl
 
 pub result_cases : {A B : Type 0} (G : Type 0) (o : Result A B) → ((x : A) → o ≡ Ok x → G) → ((y : B) → o ≡ Err y → G) → G
 result_cases G (Ok x) h k = h x refl

@@ -1,7 +1,7 @@
 -- Lists by places.
 use Rattle.std.proofs.Common.{◌≡◌, ℕ, zero, suc, ◌+◌, ◌<◌, List, [], ◌∷◌, ◌++◌, length, take, drop, map, get_or, set, refl, sym, ap, ◌∙◌, arith, append_assoc, append-nil}
-use Rattle.std.specs.List.{flat_map, range_with_len, refill}
-use Rattle.std.proofs.lemmas.List.{drop_all, drop_more, get_or_at, length-take-le, set_at, take_all, take_more}
+use Rattle.std.specs.List.{flat_map, range_with_len}
+use Rattle.std.proofs.lemmas.List.{drop_more, get_or_at, length-take-le, set_at, take_more}
 use Rattle.element_models.specs.Places.{flat_from, map_from}
 
 -- One item more.
@@ -78,10 +78,3 @@ map_same f g xs same = let eq : f ≡ g = λ i e. same e i in ap (λ h. map h xs
 
 pub flat_map_same : {Y : Type 0} (f g : ℕ → List Y) (xs : List ℕ) → ((e : ℕ) → f e ≡ g e) → flat_map f xs ≡ flat_map g xs
 flat_map_same f g xs same = let eq : f ≡ g = λ i e. same e i in ap (λ h. flat_map h xs) eq
-
--- a slice that keeps its length is filled up from itself
-pub refill_same : {X : Type 0} (xs ws : List X) → length ws ≡ length xs → refill (length xs) xs ws ≡ ws
-refill_same xs ws e =
-    ap (λ ys. take (length xs) (ws ++ ys)) (drop_all (length ws) xs (omega (arith, e)))
-    ∙ ap (λ ys. take (length xs) ys) (append-nil ws)
-    ∙ take_all (length xs) ws (omega (arith, e))

@@ -4,36 +4,21 @@
 ghost use Rattle.std.specs.Prelude.{◌≡◌, ◌&&◌, ◌==◌, ◌||◌, ℕ, List, bytes_eq};
 ghost use Rattle.std.specs.List.{list_any};
 ghost use Rattle.element_models.specs.Messages.{message_in};
+ghost use Rattle.mesh_base.specs.Address.{is_group};
 ghost use Rattle.mesh_base.specs.declared.address.Address.{Address};
 ghost use Rattle.node_layers.specs.Models.{is_bound, is_fixed_group, is_to_element, is_to_group, is_to_label, takes};
 ghost use Rattle.node_records.specs.Tables.{config_in};
-ghost use Rattle.event_definitions.specs.Answers.{is_group};
-ghost use Rattle.event_definitions.specs.Jobs.{element_address};
 
 use crate::message::Message;
 use mesh_base::address::Address;
 use mesh_base::keys::UpperKey;
 use node_records::Persist;
 
-// The address of an element.
-fn element_address(p: &Persist, element: u8) -> u32
-    ensures { result ≡ (element_address (config_in p.now) element).0 }
-{
-    u32::from(p.unicast.0) + u32::from(element)
-}
-
-// Whether an address is a group's (section 3.4.2.4).
-fn is_group(a: Address) -> bool
-    ensures { result ≡ is_group a }
-{
-    0xc000 <= a.0
-}
-
 // Whether a subscription is one of this model to this group.
 fn is_group_of(s: &(Address, u16, Address), element: u32, model: u16, dst: Address) -> bool
     ensures { result ≡ (s.now.0.0 == element && s.now.1 == model && is_group s.now.2 && s.now.2.0 == dst.0) }
 {
-    u32::from(s.0.0) == element && s.1 == model && is_group(s.2) && s.2.0 == dst.0
+    u32::from(s.0.0) == element && s.1 == model && s.2.is_group() && s.2.0 == dst.0
 }
 
 // Whether a model subscribes to a group.
@@ -85,14 +70,14 @@ fn has_key(rows: &[(Address, u16, u16)], element: u32, model: u16, index: u16) -
 fn is_to_element(p: &Persist, element: u8, m: &Message<'_>) -> bool
     ensures { result ≡ is_to_element (config_in p.now) element (message_in m.now) }
 {
-    element_address(p, element) == u32::from(m.dst.0)
+    p.element_number(element) == u32::from(m.dst.0)
 }
 
 // Whether DST is a group that the model subscribes to.
 fn is_to_group(p: &Persist, element: u8, model: u16, m: &Message<'_>) -> bool
     ensures { result ≡ is_to_group (config_in p.now) element model (message_in m.now) }
 {
-    has_group(p.subs.as_slice(), element_address(p, element), model, m.dst)
+    has_group(p.subs.as_slice(), p.element_number(element), model, m.dst)
 }
 
 // Whether the model subscribes to the label that opened the message.
@@ -100,12 +85,7 @@ fn is_to_label(p: &Persist, element: u8, model: u16, m: &Message<'_>) -> bool
     ensures { result ≡ is_to_label (config_in p.now) element model (message_in m.now) }
 {
     match &m.label {
-        Some(label) => has_label(
-            p.labels.as_slice(),
-            element_address(p, element),
-            model,
-            label,
-        ),
+        Some(label) => has_label(p.labels.as_slice(), p.element_number(element), model, label),
         None => false,
     }
 }
@@ -124,12 +104,7 @@ fn is_bound(p: &Persist, element: u8, model: u16, key: &UpperKey) -> bool
     match key {
         UpperKey::Device(_) => false,
         UpperKey::App { index, .. } => {
-            has_key(
-                p.binds.as_slice(),
-                element_address(p, element),
-                model,
-                *index,
-            )
+            has_key(p.binds.as_slice(), p.element_number(element), model, *index)
         }
     }
 }

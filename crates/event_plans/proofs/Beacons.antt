@@ -1,14 +1,15 @@
 -- What is stored for a beacon: its index has 12 bits, and its step is one of the table.
-use Rattle.std.proofs.Common.{◌≡◌, ℕ, ◌≤◌, Bool, true, false, cond, List, [], ◌∷◌, ◌++◌, ap, sym, subst, Option, Some, None}
+use Rattle.std.proofs.Common.{◌≡◌, ℕ, ◌≤◌, Bool, true, false, cond, List, [], ◌∷◌, ap, sym, subst, Option, Some, None}
 use Rattle.std.specs.Prelude.{All, is_some}
 use Rattle.std.specs.List.{AllByRecursion as Every}
 use Rattle.event_plans.proofs.Narrow.{IsIndexed, narrow_of}
 use Rattle.event_records.specs.Steps.{IsStepFrom}
-use Rattle.friend_steps.proofs.Readings.{every_at}
+use Rattle.mesh_base.proofs.Every.{every_at}
 use Rattle.iv_update.specs.Steps.{IsLater, state_after}
 use Rattle.layer_definitions.specs.Beacon.{BeaconSource}
 use Rattle.layer_definitions.specs.IvIndex.{iv_next}
 use Rattle.layer_definitions.specs.KeyRefresh.{beacon_keys, keys_of, net_row}
+use Rattle.mesh_base.proofs.Every.{every_append}
 use Rattle.mesh_base.specs.IvState.{HasTransmit}
 use Rattle.mesh_base.specs.declared.beacon.Beacon.{Beacon}
 use Rattle.mesh_base.specs.declared.iv_state.IvState.{IvState}
@@ -24,10 +25,6 @@ use Rattle.event_definitions.specs.History.{Insight, OfBeacon, OfNothing, OfPdu,
 use Rattle.event_definitions.specs.Readings.{Sees, sees_beacon}
 use Rattle.store_definitions.specs.Config.{Config}
 use Rattle.store_definitions.specs.Ranges.{IsInRange}
-
-every_append : {X : Type 0} (P : X → Type 0) (xs ys : List X) → Every P xs → Every P ys → Every P (xs ++ ys)
-every_append P [] ys h k = k
-every_append P (x ∷ xs) ys h k = (h.0, every_append P xs ys h.1 k)
 
 abbrev IsSmall : BeaconSource → Type 0
 IsSmall s = s.index ≤ 0xfff

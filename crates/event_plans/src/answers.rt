@@ -1,27 +1,17 @@
 //! The answers to events that bring no octets and no time.
 #![tactic(auto)]
 
-ghost use Rattle.std.specs.Prelude.{◌≡◌, ◌==◌, fold};
-ghost use Rattle.std.specs.List.{list_any};
-ghost use Rattle.mesh_base.specs.declared.keys.AppKeyRow.{AppKeyRow};
+ghost use Rattle.std.specs.Prelude.{◌≡◌, fold};
 ghost use Rattle.mesh_base.specs.IvState.{HasTransmit};
 ghost use Rattle.event_plans.specs.Own.{asked_row, begin_calls, begin_row, raw_row, send_row};
 ghost use Rattle.layer_states.specs.Sending.{after};
 ghost use Rattle.node_records.specs.Tables.{config_in};
 ghost use Rattle.segment_sender.specs.Held.{IsOutgoing};
 
-use mesh_base::keys::AppKeyRow;
 use mesh_hearing::Tables;
 use mesh_types::answers::Answer;
 use mesh_types::events::{Event, Outgoing, SendKey};
 use node_records::Persist;
-
-// Whether an application key of this index is held.
-fn has_app(rows: &[AppKeyRow], index: u16) -> bool
-    ensures { result ≡ list_any (λ (r : AppKeyRow). r.index == index) rows.now }
-{
-    rows.iter().any(|row| row.index == index)
-}
 
 // The answer to a control PDU that the node is asked to send.
 fn raw_answer(p: &Persist) -> Answer
@@ -42,7 +32,7 @@ fn send_answer(p: &Persist, key: &SendKey) -> Answer
     }
     match key {
         SendKey::App(index) => {
-            if has_app(p.apps.as_slice(), *index) {
+            if p.has_app(*index) {
                 Answer::Planned
             } else {
                 Answer::NoAppKey { index: *index }

@@ -21,7 +21,7 @@ use app_keys::AppKeys;
 use mesh_base::address::Address;
 use mesh_base::octets::Octets;
 use mesh_base::pair::Name;
-use mesh_jobs::{element_address, send_keys};
+use mesh_jobs::send_keys;
 use mesh_types::answers::Answer;
 use mesh_types::events::{Event, SendKey};
 use node_friends::{NodeFriends, OwnShort, friends_law};
@@ -53,7 +53,7 @@ fn send_short(
         net,
         key: upper,
         ttl,
-        src: element_address(p, element),
+        src: p.element_address(element),
         dst,
         payload,
     });

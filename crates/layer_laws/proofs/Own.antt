@@ -1,5 +1,5 @@
 -- What the layers of this node send comes from an element.
-use Rattle.std.proofs.Common.{◌≡◌, ℕ, zero, suc, ◌+◌, ◌<◌, ◌≤◌, Bool, true, not, ◌&&◌, ltb, leb, List, [], ◌∷◌, ◌++◌, map, filter, remove, take, drop, sym, subst, ◌∙◌, arith, Option, Some, None}
+use Rattle.std.proofs.Common.{◌≡◌, ℕ, suc, ◌+◌, ◌<◌, ◌≤◌, Bool, true, not, ◌&&◌, ltb, leb, List, [], ◌∷◌, ◌++◌, map, filter, remove, take, drop, sym, subst, ◌∙◌, arith, Option, Some, None, false}
 use Rattle.std.specs.Prelude.{slice_get}
 use Rattle.std.specs.Bool.{⊤}
 use Rattle.std.specs.List.{AllByRecursion as Every, flat_map, fold}
@@ -15,6 +15,7 @@ use Rattle.layer_states.specs.Friends.{after as friends_after, tick as friend_ti
 use Rattle.layer_states.specs.Sending.{SendCall, ack, after, begin, clear, due, ends, ack_of, begun, is_due, is_full, is_last, place_of, round_of, rows_acked, stepped}
 use Rattle.layer_states.specs.declared.friends.OwnShort.{OwnShort}
 use Rattle.layer_states.specs.declared.sending.Sending.{Sending}
+use Rattle.mesh_base.proofs.Every.{every_slot, every_take}
 use Rattle.mesh_base.specs.declared.address.Address.{Address}
 use Rattle.mesh_base.specs.declared.control.ControlMsg.{ControlMsg}
 use Rattle.mesh_base.specs.declared.control.ControlMsg.TheVariants as C
@@ -64,24 +65,14 @@ abbrev IsOwnCall : Config → SendCall → Type 0
 IsOwnCall c (begin now m) = is_element c m.name.src.0 ≡ true
 IsOwnCall c _ = ⊤
 
-every_front : {A : Type 0} (P : A → Type 0) (n : ℕ) (xs : List A) → Every P xs → Every P (take n xs)
-every_front P zero xs h = tt
-every_front P (suc n) [] h = tt
-every_front P (suc n) (x ∷ xs) h = (h.0, every_front P n xs h.1)
-
 every_remove : {A : Type 0} (P : A → Type 0) (xs : List A) (i : ℕ) → Every P xs → Every P (remove xs i)
-every_remove P xs i h = every_append P (take i xs) (drop (suc i) xs) (every_front P i xs h) (every_drop P (suc i) xs h)
-
-every_at : {A : Type 0} (P : A → Type 0) (xs : List A) (i : ℕ) → Every P xs → Inside P (slice_get xs i)
-every_at P [] i h = tt
-every_at P (x ∷ xs) zero h = h.0
-every_at P (x ∷ xs) (suc i) h = every_at P xs i h.1
+every_remove P xs i h = every_append P (take i xs) (drop (suc i) xs) (every_take P i xs h) (every_drop P (suc i) xs h)
 
 acked_from : (c : Config) (rows : List Sending) (from : Address) (obo : Bool) (seq_zero block : ℕ) → Every (IsFrom c) rows → Every (IsFrom c) (rows_acked rows from obo seq_zero block)
 acked_from c rows from obo seq_zero block h =
     let place : ℕ = place_of from obo seq_zero rows in
     option_cases _ (slice_get rows place) (λ e. rw e h)
-    (λ s e. let one : IsFrom c s = subst (Inside (IsFrom c)) e (every_at (IsFrom c) rows place h) in
+    (λ s e. let one : IsFrom c s = subst (Inside (IsFrom c)) e (every_slot (IsFrom c) rows place h) in
     rw e (when _ (ends (ack_of block s)) (λ t. rw t (every_remove (IsFrom c) rows place h)) (λ t. rw t (every_set (IsFrom c) rows place _ one h))))
 
 stepped_from : (c : Config) (now : ℕ) (s : Sending) → IsFrom c s → Inside (IsFrom c) (stepped now s)

@@ -1,13 +1,12 @@
 -- What is published, and the heartbeat, are within their ranges.
-use Rattle.std.proofs.Common.{◌≡◌, ℕ, ◌-◌, Bool, true, false, cond, eqb, leb, ◌&&◌, ◌||◌, List, [], ◌∷◌, filter, refl, subst, sym, arith, Option, Some, None, ◌^◌, ◌<◌}
+use Rattle.std.proofs.Common.{◌≡◌, ℕ, ◌-◌, Bool, true, false, cond, eqb, List, [], ◌∷◌, filter, refl, arith, Option, Some, None, ◌^◌, ◌<◌}
 use Rattle.std.specs.Bool.{⊤}
-use Rattle.std.specs.Prelude.{IsTrue}
 use Rattle.std.specs.List.{AllByRecursion as Every, flat_map, list_any}
 use Rattle.std.specs.Option.{option_map, option_map_or}
-use Rattle.std.proofs.lemmas.Bool.Decides.{nat_tests}
 use Rattle.config_definitions.proofs.Answered.{IsReplied}
 use Rattle.config_definitions.specs.declared.acts.ConfigAct.{ConfigAct}
 use Rattle.element_models.proofs.Filled.{IsFilled, level_filled, onoff_filled}
+use Rattle.friend_steps.proofs.Ttls.{HasTtl, held_ttl, ttl_short}
 use Rattle.layer_definitions.specs.KeyRefresh.{transmit_app}
 use Rattle.layer_laws.proofs.Lists.{and_true}
 use Rattle.layer_states.specs.Friends.{FriendsState, after, tick}
@@ -38,43 +37,6 @@ use Rattle.event_definitions.specs.History.{Past, Told, ticks_after}
 use Rattle.event_definitions.specs.Jobs.{under}
 use Rattle.event_definitions.specs.Layers.{AccessMessage}
 use Rattle.store_definitions.specs.Config.{Config, config_of}
-
--- A row that the store still holds has a TTL of 7 bits, or stands for the Default TTL.
-
-abbrev pub HasTtl : ℕ → Type 0
-HasTtl ttl = IsTrue (leb ttl 0x7f || eqb ttl 0xff)
-
-third_last : (before w f g : Bool) → (before && w && f && g) ≡ true → w ≡ true
-third_last before w f g is = (and_true before w (and_true (before && w) f (and_true (before && w && f) g is).0).0).1
-
-same_ttl : (a b : PublishRow) → is_row a b ≡ true → a.ttl ≡ b.ttl
-same_ttl a b is = equal
-    (third_last (eqb a.element.0 b.element.0 && eqb a.model b.model && eqb a.address.0 b.address.0 && eqb a.app b.app)
-    (eqb a.ttl b.ttl) (eqb a.period b.period) (eqb a.retransmit b.retransmit) is)
-  where
-    equal : eqb a.ttl b.ttl ≡ true → a.ttl ≡ b.ttl
-    equal e = grind (arith, nat_tests)
-
-held_ttl : (row : PublishRow) (rows : List PublishRow) → list_any (is_row row) rows ≡ true → Every IsPublishRow rows
-    → HasTtl row.ttl
-held_ttl row [] e h = absurd cc
-held_ttl row (x ∷ xs) e h = pick_by (is_row row x) refl e (λ k. held_ttl row xs k h.1)
-  where
-    pick_by : (b : Bool) → is_row row x ≡ b → (b || list_any (is_row row) xs) ≡ true
-        → (list_any (is_row row) xs ≡ true → HasTtl row.ttl) → HasTtl row.ttl
-    pick_by true is e rest = subst HasTtl (sym (same_ttl row x is)) h.0.4
-    pick_by false is e rest = rest e
-
-ttl_short : (ttl default : ℕ) → HasTtl ttl → IsShort default → IsShort (cond (eqb ttl 0xff) default ttl)
-ttl_short ttl default h k = pick_by (eqb ttl 0xff) (leb ttl 0x7f) refl h
-  where
-    is_least : leb ttl 0x7f ≡ true → IsShort ttl
-    is_least e = grind (arith, nat_tests)
-
-    pick_by : (b d : Bool) → leb ttl 0x7f ≡ d → IsTrue (d || b) → IsShort (cond b default ttl)
-    pick_by true d e h = k
-    pick_by false true e h = is_least e
-    pick_by false false e h = absurd cc
 
 -- Publications.
 

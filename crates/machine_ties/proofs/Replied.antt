@@ -1,7 +1,7 @@
 -- The replies to an access message are within their ranges.
-use Rattle.std.proofs.Common.{◌≡◌, ℕ, zero, suc, Bool, true, false, cond, List, [], ◌∷◌, ◌++◌, map, filter, eqb, subst, Option, Some, None}
-use Rattle.std.specs.Prelude.{IfSome, MatchBool, MatchOption, fold}
-use Rattle.std.specs.List.{AllByRecursion as Every, slice_get}
+use Rattle.std.proofs.Common.{ℕ, Bool, true, false, cond, List, [], ◌∷◌, ◌++◌, map, filter, eqb, Option, Some, None}
+use Rattle.std.specs.Prelude.{IfSome, fold}
+use Rattle.std.specs.List.{AllByRecursion as Every}
 use Rattle.std.specs.Option.{option_to_list}
 use Rattle.cipher_definitions.specs.Kdf.{aid}
 use Rattle.config_definitions.proofs.Answered.{IsReplied, replied}
@@ -11,7 +11,6 @@ use Rattle.config_definitions.specs.declared.acts.ConfigAct.{ConfigAct}
 use Rattle.element_models.proofs.Filled.{IsFilled, level_replies, onoff_replies, taken}
 use Rattle.layer_definitions.proofs.KeyLaws.{aid_width}
 use Rattle.layer_definitions.specs.KeyRefresh.{app_key, keys_of}
-use Rattle.layer_definitions.specs.Labels.{is_virtual}
 use Rattle.layer_states.specs.Friends.{FriendsState, after}
 use Rattle.layer_states.specs.Names.{is_unicast}
 use Rattle.machine_contract.specs.Ranges.{IsJob, IsUpperKey}
@@ -20,13 +19,8 @@ use Rattle.machine_ties.proofs.Lists.{every_append, every_flat, every_flat_any, 
 use Rattle.machine_ties.proofs.Widths.{every_under}
 use Rattle.mesh_base.specs.declared.address.Address.{Address}
 use Rattle.mesh_base.specs.declared.keys.AppKeyRow.{AppKeyRow}
-use Rattle.mesh_base.specs.declared.keys.UpperKey.{UpperKey}
 use Rattle.mesh_base.specs.declared.keys.UpperKey.TheVariants as U
 use Rattle.mesh_base.specs.declared.lower.Lower.{Lower}
-use Rattle.mesh_base.specs.declared.lower.Lower.TheVariants.{Access, AccessPart, Control, ControlPart}
-use Rattle.mesh_base.specs.declared.pair.Name.{Name}
-use Rattle.mesh_base.specs.declared.upper.UpperFields.{UpperFields}
-use Rattle.mesh_types.specs.declared.answers.Answer.{Answer}
 use Rattle.mesh_types.specs.declared.events.Event.{Event}
 use Rattle.model_states.specs.declared.publication.HeartbeatRow.{HeartbeatRow}
 use Rattle.node_layers.specs.Configuration.{config_act, is_for_server}
@@ -34,19 +28,14 @@ use Rattle.node_layers.specs.ConfiguredLayers.{reply_job, sent_reply}
 use Rattle.node_layers.specs.Friendship.{act_of, ended_calls, friends, replies_to}
 use Rattle.node_layers.specs.Models.{element_replies, elements_of, level_answer, level_server, level_state, model_replies, onoff_answer, onoff_server, onoff_state, takes}
 use Rattle.node_layers.specs.NodeLayers.{node_layers, replies_of, reply_jobs}
-use Rattle.event_definitions.specs.Answers.{config_before, lower_answer, message_name}
+use Rattle.event_definitions.specs.Answers.{config_before}
 use Rattle.event_definitions.specs.History.{Opening, Past, Reading, now_of}
 use Rattle.event_definitions.specs.Layers.{AccessMessage}
-use Rattle.event_definitions.specs.Readings.{IsOpened, IsOpenedByLabel, IsOpenedFor, IsOpenedUnder, IsOpening, IsOpeningOf, fields_heard, keys_tried, labels_tried}
+use Rattle.event_definitions.specs.Readings.{IsOpening, keys_tried}
+use Rattle.event_definitions.proofs.Opened.{key_holds}
 use Rattle.store_definitions.specs.Config.{Config}
 
 -- The key that a message opened under: its AID is that of the key.
-
-pub every_at : {X : Type 0} (P : X → Type 0) (xs : List X) (i : ℕ) (x : X)
-    → slice_get xs i ≡ Some x → Every P xs → P x
-every_at P [] i x e h = absurd cc
-every_at P (y ∷ ys) zero x e h = subst P (cc) h.0
-every_at P (y ∷ ys) (suc i) x e h = every_at P ys i x e h.1
 
 tried_width : (c : Config) (r : Reading) (akf : Bool) (id : ℕ) → Every IsUpperKey (keys_tried c r akf id)
 tried_width c r true id =
@@ -60,43 +49,9 @@ tried_width c r false id = own (is_unicast r.fields.dst)
     own true = (tt, tt)
     own false = tt
 
-opened_for : (c : Config) (keys : List UpperKey) (f : UpperFields) (upper : List ℕ) (o : Opening)
-    → Every IsUpperKey keys → IsOpenedFor c keys f upper (Some o) → IsUpperKey o.key
-opened_for c keys f upper o h = pick_by (is_virtual f.dst)
-  where
-    pick_by : (b : Bool)
-        → MatchBool b (IsOpenedByLabel keys (labels_tried c) f upper (Some o)) (IsOpenedUnder keys f upper (Some o))
-        → IsUpperKey o.key
-    pick_by true s = every_at IsUpperKey keys s.1 o.key s.2 h
-    pick_by false s = every_at IsUpperKey keys s.0 o.key s.1 h
-
-opened_width : (past : Past) (r : Reading) (n : Name) (low : Lower) (o : Opening)
-    → IsOpened node_layers past r n low (Some o) → IsUpperKey o.key
-opened_width past r n (Access akf id upper) o s =
-    let c : Config = config_before past in
-    opened_for c (keys_tried c r akf id) (fields_heard r n false) upper o (tried_width c r akf id) s
-opened_width past r n (AccessPart akf id szmic seq_zero seg_o seg_n piece) o s =
-    let c : Config = config_before past in
-    let upper : List ℕ = node_layers.whole past n (AccessPart akf id szmic seq_zero seg_o seg_n piece) in
-    opened_for c (keys_tried c r akf id) (fields_heard r n szmic) upper o (tried_width c r akf id) s
-opened_width past r n (Control opcode params) o s = absurd cc
-opened_width past r n (ControlPart opcode seq_zero seg_o seg_n piece) o s = absurd cc
-
-named_width : (past : Past) (r : Reading) (low : Lower) (n : Option Name) (o : Opening)
-    → IsOpeningOf node_layers past r low n (Some o) → IsUpperKey o.key
-named_width past r low None o s = absurd cc
-named_width past r low (Some n) o s = pick_by (lower_answer node_layers past r low n) s
-  where
-    pick_by : (answer : Option Answer)
-        → MatchOption answer (IsOpened node_layers past r n low (Some o)) (λ answer. Some o ≡ None)
-        → IsUpperKey o.key
-    pick_by None s = opened_width past r n low o s
-    pick_by (Some answer) s = absurd cc
-
 pub key_width : (past : Past) (r : Reading) (low : Option Lower) (o : Opening)
     → IsOpening node_layers past (Some r) low (Some o) → IsUpperKey o.key
-key_width past r None o s = absurd cc
-key_width past r (Some low) o s = named_width past r low (message_name r.fields low) o s
+key_width past r low o s = key_holds IsUpperKey tried_width node_layers past (Some r) low o s
 
 -- Each reply has an octet.
 

@@ -1,5 +1,5 @@
 -- What holds of each element of a list, by recursion, through the calls that make lists.
-use Rattle.std.proofs.Common.{◌≡◌, ℕ, zero, suc, Bool, true, false, cond, List, [], ◌∷◌, ◌++◌, take, drop, map, filter, length, refl, sym, subst, ap, ◌∙◌, append-nil, arith, Option, Some, None}
+use Rattle.std.proofs.Common.{◌≡◌, ℕ, zero, suc, Bool, true, false, cond, List, [], ◌∷◌, ◌++◌, take, map, filter, length, refl, subst, ap, ◌∙◌, append-nil, arith, Option, Some, None}
 use Rattle.std.proofs.lemmas.List.{drop_all, take_all}
 use Rattle.std.specs.Bool.{⊤}
 use Rattle.std.specs.Prelude.{fold, slice_index_or, slice_set}

@@ -40,7 +40,9 @@ impl Name {
     pub fn is_same(&self, other: &Name) -> bool
         ensures value { result ≡ is_name self.now other.now }
     {
-        self.src.0 == other.src.0 && self.pair.iv == other.pair.iv && self.pair.seq == other.pair.seq
+        self.src.0 == other.src.0
+            && self.pair.iv == other.pair.iv
+            && self.pair.seq == other.pair.seq
     }
 }
 

@@ -3,7 +3,6 @@
 
 ghost use Rattle.std.specs.Prelude.{◌≡◌, ◌++◌, ◌∷◌, [], List};
 ghost use Rattle.std.specs.Option.{option_copied};
-ghost use Rattle.layer_definitions.specs.KeyRefresh.{net_row as net_row_in};
 ghost use Rattle.mesh_base.specs.IvState.{HasTransmit};
 ghost use Rattle.mesh_hearing.specs.Below.{beacon_row};
 ghost use Rattle.mesh_hearing.specs.Heard.{beacon_insight, IsBeaconHeard};
@@ -17,7 +16,7 @@ use crate::own::recover;
 use crate::tables::Tables;
 use iv_update::on_beacon;
 use mesh_base::beacon::Beacon;
-use mesh_base::keys::NetKeyRow;
+use mesh_base::keys::{NetKeyRow, net_row};
 use mesh_types::answers::{Answer, KeyStep};
 use net_beacon::read;
 use node_records::Persist;
@@ -31,13 +30,6 @@ pub struct BeaconHearing {
     pub beacon: Option<Beacon>,
     /// The answer.
     pub answer: Answer,
-}
-
-// The row of a network key index.
-fn net_row(rows: &[NetKeyRow], index: u16) -> Option<&NetKeyRow>
-    ensures { option_copied result ≡ net_row_in rows.now index }
-{
-    rows.iter().find(|row| row.index == index)
 }
 
 // What a beacon does to the Key Refresh phase of its network key.

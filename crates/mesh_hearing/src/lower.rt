@@ -21,7 +21,6 @@ ghost use Rattle.node_layers.specs.Steps.{segmented_name, segmented_names};
 ghost use Rattle.node_records.specs.Tables.{config_in, entry_in};
 ghost use Rattle.event_definitions.specs.Answers.{accepted as accepted_in, is_again as is_again_in, is_entry as is_entry_in, message_name as message_name_in, message_pair as message_pair_in, replayed as replayed_in};
 ghost use Rattle.event_definitions.specs.History.{Past};
-ghost use Rattle.event_definitions.specs.Jobs.{reply_ttl as reply_ttl_in};
 ghost use Rattle.store_definitions.specs.Entries.{entry_of};
 
 use crate::hearing::Hearing;
@@ -66,13 +65,6 @@ fn message_name(f: &NetFields, low: &Lower) -> Option<Name>
     Some(Name { src: f.src, pair })
 }
 
-// Whether two names are the same.
-fn is_name(m: &Name, n: &Name) -> bool
-    ensures { result ≡ is_name_in m.now n.now }
-{
-    m.src.0 == n.src.0 && m.pair.iv == n.pair.iv && m.pair.seq == n.pair.seq
-}
-
 // Whether a pair is the entry of its source.
 fn is_entry(kept: Option<Pair>, pair: Pair) -> bool
     ensures { result ≡ is_entry_in kept pair }
@@ -87,7 +79,7 @@ fn is_entry(kept: Option<Pair>, pair: Pair) -> bool
 fn has_name(names: &[Name], name: &Name) -> bool
     ensures { result ≡ list_any (is_name_in name.now) names.now }
 {
-    names.iter().any(|n| is_name(name, n))
+    names.iter().any(|n| name.is_same(n))
 }
 
 // Whether a message of this name was accepted from segments: then its pair is the entry of its source.
@@ -133,15 +125,8 @@ fn part_heard(p: &Persist, r: &NetReading, name: &Name, low: &Lower) -> PartHear
         net: r.by.index,
         ttl: r.fields.ttl,
         part: low.clone().unwrap(),
-        ack_ttl: reply_ttl(p, r.fields.ttl),
+        ack_ttl: p.reply_ttl(r.fields.ttl),
     }
-}
-
-// TTL of a reply to what was heard with this TTL.
-fn reply_ttl(p: &Persist, heard: u8) -> u8
-    ensures { result ≡ reply_ttl_in (config_in p.now) heard }
-{
-    if heard == 0 { 0 } else { p.ttl }
 }
 
 // The octets of a message that came in one PDU.

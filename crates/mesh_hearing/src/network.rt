@@ -10,10 +10,10 @@ ghost use Rattle.mesh_hearing.specs.Kinds.{is_early};
 ghost use Rattle.node_layers.specs.Steps.{cached_names};
 ghost use Rattle.mesh_reading.specs.Held.{held_in, reading_of};
 ghost use Rattle.node_records.specs.Tables.{config_in};
-ghost use Rattle.layer_states.specs.Names.{is_unicast};
-ghost use Rattle.event_definitions.specs.Answers.{is_group, is_mine, network_answer};
+ghost use Rattle.event_definitions.specs.Answers.{is_mine, network_answer};
 ghost use Rattle.event_definitions.specs.History.{Past};
-ghost use Rattle.store_definitions.specs.Config.{config_of, is_element};
+ghost use Rattle.store_definitions.specs.Config.{config_of};
+ghost use Rattle.mesh_base.specs.Address.{is_group};
 
 use mesh_base::address::Address;
 use mesh_base::fields::NetFields;
@@ -24,39 +24,18 @@ use node_records::Persist;
 use relay_cache::Cache;
 use std::alloc::AllocError;
 
-// Whether an address is that of an element (section 3.4.2.2).
-fn is_unicast(a: Address) -> bool
-    ensures { result ≡ is_unicast a }
-{
-    1 <= a.0 && a.0 < 0x8000
-}
-
-// Whether an address is a group's (section 3.4.2.4).
-fn is_group(a: Address) -> bool
-    ensures { result ≡ is_group a }
-{
-    0xc000 <= a.0
-}
-
-// Whether an address is that of one of this node's elements.
-fn is_element(p: &Persist, a: Address) -> bool
-    ensures { result ≡ is_element (config_in p.now) a.0 }
-{
-    p.unicast.0 <= a.0 && u32::from(a.0) < u32::from(p.unicast.0) + u32::from(p.elements)
-}
-
 // Whether a model subscribes to this group.
 fn is_subscribed(rows: &[(Address, u16, Address)], a: Address) -> bool
     ensures { result ≡ list_any (λ (s : Address × ℕ × Address). is_group s.2 && s.2.0 == a.0) rows.now }
 {
-    rows.iter().any(|s| is_group(s.2) && s.2.0 == a.0)
+    rows.iter().any(|s| s.2.is_group() && s.2.0 == a.0)
 }
 
 // Whether an address is that of an element, one that all nodes, all friends or all relays have, or a group subscribed to.
 fn is_own(p: &Persist, a: Address) -> bool
     ensures { result ≡ own_address (config_in p.now) a }
 {
-    is_element(p, a)
+    p.is_element(a)
         || a.0 == 0xffff
         || (a.0 == 0xfffd && p.friend == 1)
         || (a.0 == 0xfffe && p.relay == 1)
@@ -76,9 +55,9 @@ fn sender_row(p: &Persist, f: &NetFields) -> Option<Answer>
     ensures value { result ≡ sender_answer (config_in p.now) f.now }
     ensures early { IfSome result (λ a. is_early a ≡ true) }
 {
-    if !is_unicast(f.src) || f.dst.0 == 0 {
+    if !f.src.is_unicast() || f.dst.is_unassigned() {
         Some(Answer::BadAddress)
-    } else if is_element(p, f.src) {
+    } else if p.is_element(f.src) {
         Some(Answer::Own)
     } else {
         None

@@ -1,5 +1,5 @@
 -- Segments of an own message that are sent again.
-use Rattle.std.specs.Prelude.{ℕ, List, map}
+use Rattle.std.specs.Prelude.{ℕ, false, List, map}
 use Rattle.mesh_types.specs.declared.events.Outgoing.{Outgoing}
 use Rattle.mesh_base.specs.declared.fields.NetMaterial.{NetMaterial}
 use Rattle.mesh_types.specs.declared.jobs.Job.{Job}

@@ -10,13 +10,11 @@
 //! - `messages`: the node's own messages
 //! - `segments`: the segments of an own message
 //! - `acknowledgments`, `replying`, `beacons`, `refresh`, `publishing`: what these are made of
-//! - `replies`: the TTL of what answers a message, and what is stored instead of being sent
-//! - `elements`: the addresses of the node
+//! - `replies`: what is stored instead of being sent
 #![tactic(auto)]
 
 mod acknowledgments;
 mod beacons;
-mod elements;
 mod making;
 mod messages;
 mod pdus;
@@ -28,12 +26,11 @@ mod segments;
 mod ticks;
 
 pub use beacons::push_beacons;
-pub use elements::element_address;
 pub use messages::{begin_jobs, own_jobs, send_keys};
 pub use pdus::{is_before_cache, pdu_jobs, push_ack, push_relay};
 pub use publishing::{is_still_held, publish_ttl, push_publications};
 pub use refresh::{KeyPhase, Phases, held_phases, push_refresh};
-pub use replies::{is_stored, reply_ttl};
+pub use replies::is_stored;
 pub use replying::push_replies;
 pub use segments::push_rounds;
 pub use ticks::{Span, push_acks, push_beacons_due, tick_jobs};

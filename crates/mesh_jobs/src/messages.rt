@@ -14,7 +14,6 @@ ghost use Rattle.event_definitions.specs.Jobs.{first_net as first_net_in, jobs_o
 ghost use Rattle.event_definitions.specs.Layers.{Layers};
 ghost use Rattle.segment_sender.specs.Held.{IsOutgoing};
 
-use crate::elements::element_address;
 use crate::making::push_made;
 use crate::replies::is_stored;
 use crate::segments::push_first_round;
@@ -89,7 +88,7 @@ fn sent_job(
         material,
         key,
         ttl,
-        src: element_address(p, element),
+        src: p.element_address(element),
         dst,
     })
 }

@@ -26,10 +26,8 @@ ghost use Rattle.event_definitions.specs.Jobs.{ack_job as ack_job_in, ack_jobs, 
 ghost use Rattle.store_definitions.specs.Config.{is_element as is_element_in};
 
 use crate::acknowledgments::{acknowledgment, all_pieces};
-use crate::elements::{is_element, is_unicast};
 use crate::making::push_made;
 use crate::refresh::{Phases, push_refresh};
-use crate::replies::reply_ttl;
 use crate::replying::push_replies;
 use mesh_base::address::Address;
 use mesh_base::fields::NetFields;
@@ -48,7 +46,7 @@ use node_records::Persist;
 fn is_relayed(p: &Persist, f: &NetFields) -> bool
     ensures { result ≡ (p.now.relay == 1 && nat_le 2 f.now.ttl && not (is_element_in (config_in p.now) f.now.dst.0)) }
 {
-    p.relay == 1 && f.ttl >= 2 && !is_element(p, f.dst)
+    p.relay == 1 && f.ttl >= 2 && !p.is_element(f.dst)
 }
 
 // The fields with one TTL less.
@@ -141,7 +139,7 @@ fn ack_job(p: &Persist, nets: &NetKeys, r: &NetReading, seq_zero: u16, block: u3
     let material = nets.transmit(r.by.index)?;
     Some(Job::Control {
         material,
-        ttl: reply_ttl(p, r.fields.ttl),
+        ttl: p.reply_ttl(r.fields.ttl),
         src: r.fields.dst,
         dst: r.fields.src,
         tpdu: acknowledgment(seq_zero, block),
@@ -166,7 +164,7 @@ pub fn push_ack(
     ensures value { jobs.new ≡ jobs.old ++ ack_jobs (config_in p.now) (reading_of r.now) (Some low.now) answer.now }
     ensures few { length jobs.new ≤ length jobs.old + 1 }
 {
-    if !is_unicast(r.fields.dst) {
+    if !r.fields.dst.is_unicast() {
         return;
     }
     let Some((seq_zero, seg_n)) = segment_numbers(low) else {

@@ -1,22 +1,12 @@
-//! The rules that everything sent in answer to a message follows.
+//! The rule that all access messages of this node follow: what is stored instead of being sent.
 #![tactic(auto)]
 
 ghost use Rattle.std.specs.Prelude.{◌≡◌, if◌then◌else◌, List, []};
 ghost use Rattle.mesh_types.specs.declared.jobs.Job.{Job};
-ghost use Rattle.node_records.specs.Tables.{config_in};
-ghost use Rattle.event_definitions.specs.Jobs.{reply_ttl as reply_ttl_in, unless_stored};
-
-use node_records::Persist;
+ghost use Rattle.event_definitions.specs.Jobs.{unless_stored};
 
 /// The longest access payload that goes unsegmented, in octets (Mesh Profile 1.0.1, section 3.7.3).
 const UNSEGMENTED: usize = 11;
-
-/// TTL of an acknowledgment of, or a reply to, a message that was heard with this TTL: 0 where that is 0, and else the Default TTL.
-pub fn reply_ttl(p: &Persist, heard: u8) -> u8
-    ensures value { result ≡ reply_ttl_in (config_in p.now) heard }
-{
-    if heard == 0 { 0 } else { p.ttl }
-}
 
 /// Whether an access message of this node is stored for a Low Power node instead of being sent: it goes unsegmented, to an address of a
 /// friendship that stands. Messages that the node is asked to send, replies and publications follow this one rule.

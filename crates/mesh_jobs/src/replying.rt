@@ -10,9 +10,7 @@ ghost use Rattle.node_layers.specs.ConfiguredLayers.{sent_reply};
 ghost use Rattle.node_models.specs.Replies.{from_first, replies_in};
 ghost use Rattle.node_records.specs.Tables.{config_in};
 
-use crate::elements::element_address;
 use crate::making::{payload_of, push_made};
-use crate::replies::reply_ttl;
 use mesh_base::address::Address;
 use mesh_base::keys::UpperKey;
 use mesh_base::octets::Octets;
@@ -43,8 +41,8 @@ fn reply_job(
         net: r.by.index,
         material,
         key: *key,
-        ttl: reply_ttl(p, r.fields.ttl),
-        src: element_address(p, element),
+        ttl: p.reply_ttl(r.fields.ttl),
+        src: p.element_address(element),
         dst: to,
         payload: payload_of(payload),
         keep: None,

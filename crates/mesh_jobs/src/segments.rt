@@ -1,9 +1,9 @@
 //! The segments of an own message (Mesh Profile 1.0.1, section 3.5.3.2).
 #![tactic(auto)]
 
-ghost use Rattle.std.specs.Prelude.{◌≡◌, ℕ, ◌+◌, ◌*◌, ◌<◌, ◌≤◌, ◌^◌, ◌++◌, ◌==◌, Bool, All, length, take, drop};
+ghost use Rattle.std.specs.Prelude.{◌≡◌, ℕ, ◌+◌, ◌*◌, ◌≤◌, ◌++◌, ◌==◌, Bool, All, length};
 ghost use Rattle.std.specs.List.{flat_map};
-ghost use Rattle.layer_definitions.specs.Lower.{Fits, last_segment as last_segment_in, segment as segment_in};
+ghost use Rattle.layer_definitions.specs.Lower.{last_segment as last_segment_in, segment as segment_in};
 ghost use Rattle.layer_states.specs.Sending.{round_of};
 ghost use Rattle.mesh_base.specs.declared.fields.NetMaterial.{NetMaterial};
 ghost use Rattle.mesh_jobs.specs.Segments.{segments_under};
@@ -13,10 +13,8 @@ ghost use Rattle.event_definitions.specs.Jobs.{begin_jobs, segment_job};
 ghost use Rattle.segment_sender.specs.Held.{IsHeldWell, IsOutgoing};
 
 use layer_states::sending::Sending;
-use lower_transport::write;
+use lower_transport::{last_segment, segment, write};
 use mesh_base::fields::NetMaterial;
-use mesh_base::lower::Lower;
-use mesh_base::octets::Octets;
 use mesh_types::events::Outgoing;
 use mesh_types::jobs::{Job, JobDraft, Segment};
 use net_keys::NetKeys;
@@ -24,71 +22,21 @@ use node_limits::JOBS;
 use node_records::Persist;
 use segment_sender::round_due;
 
-/// The octets of an upper transport PDU in each segment but the last.
-const PIECE: usize = 12;
-
-// SegN: the number of the last segment.
-fn last_segment(upper: &[u8]) -> u8
-    requires { length upper.now ≤ 384 }
-    ensures value { result ≡ last_segment_in upper.now }
-    ensures most { result < 2 ^ 5 }
-{
-    (upper.len().saturating_sub(1) / PIECE) as u8
-}
-
-// The octets of one segment.
-fn piece(upper: &[u8], seg_o: u8) -> Octets<12>
-    ensures { result ≡ take 12 (drop (12 * seg_o) upper.now) }
-{
-    let start = usize::from(seg_o) * PIECE;
-    let rest = if start < upper.len() {
-        &upper[start..]
-    } else {
-        &upper[upper.len()..]
-    };
-    let piece = if rest.len() > PIECE {
-        &rest[..PIECE]
-    } else {
-        rest
-    };
-    let mut octets = Octets::new();
-    octets.extend(piece);
-    octets
-}
-
-// A segment of a message, as a lower transport PDU.
-fn segment(m: &Outgoing, seg_o: u8) -> Lower
-    requires outgoing { IsOutgoing m.now }
-    requires place { seg_o ≤ last_segment_in m.now.upper }
-    ensures value { result ≡ segment_in m.now.akf m.now.aid m.now.name.pair.seq m.now.upper seg_o }
-    ensures fits { Fits result }
-{
-    let upper = m.upper.as_slice();
-    Lower::AccessPart {
-        akf: m.akf,
-        aid: m.aid,
-        szmic: false,
-        seq_zero: (m.name.pair.seq % 0x2000) as u16,
-        seg_o,
-        seg_n: last_segment(upper),
-        piece: piece(upper, seg_o),
-    }
-}
-
 // The job of a segment, under this material.
 fn segment_job(material: NetMaterial, m: &Outgoing, seg_o: u8, first: bool) -> Job
     requires outgoing { IsOutgoing m.now }
     requires place { seg_o ≤ last_segment_in m.now.upper }
     ensures { result ≡ segment_job first m.now seg_o material }
 {
+    let upper = m.upper.as_slice();
     Job::Segment(Segment {
         material,
         name: m.name,
         ttl: m.ttl,
         dst: m.dst,
         seg_o,
-        seg_n: last_segment(m.upper.as_slice()),
-        tpdu: write(&segment(m, seg_o)),
+        seg_n: last_segment(upper),
+        tpdu: write(&segment(m.akf, m.aid, m.name.pair.seq, upper, seg_o)),
         first,
     })
 }

@@ -1,5 +1,6 @@
 -- Records that leave the keys as they are.
-use Rattle.std.proofs.Common.{◌≡◌, Bool, true, false, ◌||◌, List, [], ◌∷◌, refl, ap, sym, ◌∙◌}
+use Rattle.std.proofs.Common.{◌≡◌, Bool, false, List, [], ◌∷◌, refl, ap, sym, ◌∙◌}
+use Rattle.std.proofs.lemmas.Bool.{or_parts}
 use Rattle.std.specs.Prelude.{fold, if◌then◌else◌, map}
 use Rattle.std.specs.List.{list_any}
 use Rattle.event_plans.specs.Memory.{NodeTablesView}
@@ -22,14 +23,10 @@ one_same c (R.Subscribe op element model address) h =
     ap (λ (b : Bool). record (held_in c) { labels = map (λ l. l.2) (if b then labels_without element model c.labels else c.labels) }) h
 one_same c _ h = refl
 
-both : (a b : Bool) → (a || b) ≡ false → (a ≡ false) × (b ≡ false)
-both false b h = (refl, h)
-both true b h = absurd cc
-
 all_same : (c : Config) (items : List StoreRecord) → list_any changes_keys items ≡ false → held_in (fold changed c items) ≡ held_in c
 all_same c [] h = refl
 all_same c (item ∷ items) h =
-    let (one, rest) = both (changes_keys item) (list_any changes_keys items) h in
+    let (one, rest) = or_parts (changes_keys item) (list_any changes_keys items) h in
     all_same (changed c item) items rest ∙ one_same c item one
 
 pub still_fit : (t : NodeTablesView) (p : Persist) (items : List StoreRecord) → HadKeys t p items → list_any changes_keys items ≡ false → t.hearing.keys ≡ held_in (config_in p)

@@ -1,6 +1,7 @@
 -- Friendships and offers whose queues can be sent, through the calls on the table.
 use Rattle.std.proofs.Common.{◌≡◌, ◌∙◌, ℕ, zero, suc, ◌-◌, ◌<◌, ◌^◌, Bool, true, false, cond, List, [], ◌∷◌, ◌++◌, length, drop, filter, refl, sym, ap, arith, subst, Option, Some, None}
-use Rattle.std.specs.Prelude.{◌&&◌, ◌||◌, not, nat_lt, find, is_some, All, Result, Ok, Err}
+use Rattle.std.proofs.lemmas.Bool.{or_parts}
+use Rattle.std.specs.Prelude.{◌&&◌, not, nat_lt, find, is_some, All, Result, Ok, Err}
 use Rattle.std.specs.List.{AllByRecursion as Every, list_any}
 use Rattle.std.proofs.lemmas.List.Elements.{All-from_recursion}
 use Rattle.node_limits.specs.declared.TheConstants.{FRIEND_QUEUE}
@@ -190,19 +191,11 @@ all_within slots h = All-from_recursion (λ (h : Heard). h.material.nid < 2 ^ 7)
 
 -- Octets that may not be noted leave all as it was.
 
-or_left : (a b : Bool) → (a || b) ≡ false → a ≡ false
-or_left true b h = h
-or_left false b h = refl
-
-or_right : (a b : Bool) → (a || b) ≡ false → b ≡ false
-or_right true b h = cc
-or_right false b h = h
-
 pub change_none : (p : Friendship → Bool) (f : Friendship → Friendship) (slots : List Friendship) → list_any p slots ≡ false → change_where p f slots ≡ slots
 change_none p f [] h = refl
 change_none p f (s ∷ slots) h =
-    ap (λ b. cond b (f s) s ∷ change_where p f slots) (or_left (p s) (list_any p slots) h)
-    ∙ ap (λ l. s ∷ l) (change_none p f slots (or_right (p s) (list_any p slots) h))
+    ap (λ b. cond b (f s) s ∷ change_where p f slots) (or_parts (p s) (list_any p slots) h).0
+    ∙ ap (λ l. s ∷ l) (change_none p f slots (or_parts (p s) (list_any p slots) h).1)
 
 pub kept_none : (st : FriendsState) (lpn : Address) (fsn : Bool) (name : Name) (pdu : List ℕ) → list_any (is_noted lpn fsn) st.slots ≡ false
     → after st (keep lpn fsn name pdu) ≡ st

@@ -2,6 +2,7 @@
 use Rattle.std.proofs.Common.{◌≡◌, ◌∙◌, Bool, true, false, cond, List, [], ◌∷◌, ◌++◌, refl, sym, ap, Option, Some, None}
 use Rattle.std.specs.Prelude.{fold, map, filter}
 use Rattle.std.specs.Option.{option_map_or}
+use Rattle.std.proofs.lemmas.List.{map-append}
 use Rattle.std.proofs.lemmas.List.Elements.{filter-append}
 use Rattle.std.proofs.lemmas.List.Sums.{fold-append}
 use Rattle.layer_states.specs.Friends.{FriendCall, FriendsState, after, end_all, put_own}
@@ -105,14 +106,10 @@ none_stay st told e heard answer h =
 
 -- Messages in turn.
 
-map_append : {X Y : Type 0} (f : X → Y) (xs ys : List X) → map f (xs ++ ys) ≡ map f xs ++ map f ys
-map_append f [] ys = refl
-map_append f (x ∷ xs) ys = ap (λ l. f x ∷ l) (map_append f xs ys)
-
 pub stored_more : (xs ys : List OwnShort) → stored (xs ++ ys) ≡ stored xs ++ stored ys
 stored_more xs ys =
     let short : OwnShort → Bool = λ m. is_short m.payload in
-    ap (λ l. map put_own l) (filter-append short xs ys) ∙ map_append put_own (filter short xs) (filter short ys)
+    ap (λ l. map put_own l) (filter-append short xs ys) ∙ map-append put_own (filter short xs) (filter short ys)
 
 pub sent_in_turn : SentInTurn
 sent_in_turn st messages m =

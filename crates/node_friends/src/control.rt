@@ -16,10 +16,11 @@ ghost use Rattle.store_definitions.specs.Config.{Config};
 
 use crate::acts::FriendAct;
 use crate::friends::NodeFriends;
-use crate::heard::{is_by_friend, is_by_master, is_request, net_row};
+use crate::heard::{is_by_friend, is_by_master, is_request};
 use layer_states::friends::PollAnswer;
 use mesh_base::control::{Clear, ControlMsg, Request, SubscriptionList};
 use mesh_base::fields::NetFields;
+use mesh_base::keys::net_row;
 use mesh_base::pair::{Name, Pair};
 use network_layer::{NetReading, seal};
 use node_records::Persist;

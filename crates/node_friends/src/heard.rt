@@ -2,13 +2,10 @@
 #![tactic(auto)]
 
 ghost use Rattle.std.specs.Prelude.{◌≡◌};
-ghost use Rattle.std.specs.Option.{option_copied};
 ghost use Rattle.mesh_reading.specs.Held.{reading_of};
 ghost use Rattle.node_layers.specs.Friendship.{is_by_friend as is_by_friend_in, is_by_master as is_by_master_in, is_request as is_request_in};
 ghost use Rattle.node_records.specs.Tables.{config_in};
-ghost use Rattle.layer_definitions.specs.KeyRefresh.{net_row as net_row_in};
 
-use mesh_base::keys::NetKeyRow;
 use network_layer::NetReading;
 use node_records::Persist;
 
@@ -34,11 +31,4 @@ pub(crate) fn is_request(p: &Persist, r: &NetReading) -> bool
     ensures { result ≡ is_request_in (config_in p.now) (reading_of r.now) }
 {
     is_by_master(r) && r.fields.dst.0 == 0xfffd && r.fields.ttl == 0 && p.friend == 1
-}
-
-/// The row of a network key, if it is held.
-pub(crate) fn net_row(rows: &[NetKeyRow], index: u16) -> Option<&NetKeyRow>
-    ensures { option_copied result ≡ net_row_in rows.now index }
-{
-    rows.iter().find(|row| row.index == index)
 }

@@ -17,11 +17,11 @@ ghost use Rattle.node_records.specs.Tables.{config_in};
 ghost use Rattle.event_definitions.specs.Jobs.{under};
 
 use crate::acts::FriendAct;
-use crate::heard::net_row;
 use layer_states::friends::{OwnShort, PollAnswer};
 use mesh_base::address::Address;
 use mesh_base::control::{Clear, ControlMsg, Update};
 use mesh_base::fields::{NetFields, NetMaterial};
+use mesh_base::keys::net_row;
 use mesh_base::octets::Octets;
 use mesh_types::jobs::{Job, JobDraft};
 use net_keys::NetKeys;

@@ -4,7 +4,7 @@ use Rattle.std.specs.Bool.{⊤}
 use Rattle.std.specs.List.{AllByRecursion, AllPairs}
 use Rattle.std.proofs.lemmas.List.Elements.{All-from_recursion, recursion_from_All}
 use Rattle.std.proofs.lemmas.List.Kept.{AllPairs-cons}
-use Rattle.event_definitions.proofs.Each.{every_append, every_map}
+pub use Rattle.mesh_base.proofs.Every.{every_append, every_back, every_front, every_map}
 
 -- Each two, the earlier one first.
 

@@ -3,8 +3,8 @@ use Rattle.std.proofs.Common.{◌≡◌, ◌≢◌, ℕ, ◌+◌, ◌*◌, ◌^�
 use Rattle.std.specs.List.{AllByRecursion, flat_map}
 use Rattle.std.proofs.lemmas.Grind.{flat_map-append}
 use Rattle.std.proofs.lemmas.List.Elements.{recursion_from_All}
+use Rattle.mesh_base.proofs.IvStates.{transmit_known}
 use Rattle.mesh_base.specs.IvState.{transmit_of}
-use Rattle.mesh_base.specs.declared.iv_state.IvState.{IvState}
 use Rattle.mesh_base.specs.declared.pair.Pair.{Pair}
 use Rattle.record_types.specs.declared.records.StoreRecord.{StoreRecord}
 use Rattle.store_definitions.specs.Config.{Config, config_of}
@@ -31,10 +31,6 @@ life_draws x = draws (shown x.life)
 
 -- The pairs of a life are within their widths.
 
-transmit_up_to : (s : IvState) → transmit_of s ≤ s.current
-unfolding transmit_of
-transmit_up_to s = omega arith
-
 iv_below : (iv seq mark transmit current : ℕ) → iv * 2 ^ 25 + seq < mark → mark ≤ transmit * 2 ^ 25 + 2 ^ 24 → transmit ≤ current → current < 2 ^ 32 → iv < 2 ^ 32
 iv_below iv seq mark transmit current a b c d = omega arith
 
@@ -44,7 +40,7 @@ marked_kept c d e f m = record { mark = rw (e, f) m.mark; current = rw e m.curre
 wide_below : (c : Config) → Marked c → (ps : List Pair) → AllByRecursion (λ (p : Pair). p.seq < 2 ^ 24) ps → AllByRecursion (λ (p : Pair). word_of p < c.mark) ps → AllByRecursion Wide ps
 wide_below c m [] h k = tt
 wide_below c m (p ∷ ps) h k =
-    (record { seq = h.0; iv = iv_below p.iv p.seq c.mark (transmit_of c.iv) c.iv.current k.0 m.mark (transmit_up_to c.iv) m.current }, wide_below c m ps h.1 k.1)
+    (record { seq = h.0; iv = iv_below p.iv p.seq c.mark (transmit_of c.iv) c.iv.current k.0 m.mark (transmit_known c.iv) m.current }, wide_below c m ps h.1 k.1)
 
 module _ (role : Role) (safe : IsSafeRole role) (plan : List Step) (over : List StoreRecord) (l : Life) (next : List StoreRecord) (h : LifeBy enough_rules role plan over l next) where
   next_marked : Marked (config_of next)

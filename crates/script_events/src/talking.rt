@@ -1,14 +1,14 @@
 //! The transport PDUs of an outside node's access message (Mesh Profile 1.0.1, sections 3.5.2 and 3.6.2).
 #![tactic(auto)]
 
-ghost use Rattle.std.specs.Prelude.{◌≡◌, ◌+◌, ◌*◌, ◌<◌, ◌≤◌, ◌^◌, length, take, drop};
+ghost use Rattle.std.specs.Prelude.{◌≡◌, ◌+◌, ◌*◌, ◌<◌, ◌≤◌, length};
 ghost use Rattle.layer_definitions.specs.Lower.{Fits, last_segment as last_segment_in, lower_text, segment as segment_in};
 ghost use Rattle.mesh_base.specs.declared.lower.Lower.TheVariants.{Access};
 ghost use Rattle.script_definitions.specs.Events as Said;
 ghost use Rattle.script_definitions.specs.Ranges.{IsPayload, IsTalk};
 
 use crate::kept::KeptKey;
-use lower_transport::write;
+use lower_transport::{segment, write};
 use mesh_base::address::Address;
 use mesh_base::lower::Lower;
 use mesh_base::octets::Octets;
@@ -16,9 +16,6 @@ use mesh_base::pair::Pair;
 use mesh_base::upper::UpperFields;
 use script_definitions::line::{TalkDst, TalkLine, TalkPdu, TalkPiece};
 use upper_transport::seal_kept;
-
-/// The octets of an upper transport PDU in each segment but the last.
-const PIECE: usize = 12;
 
 /// The label that the seal adds, if there is one.
 fn label_of(dst: &TalkDst) -> Option<[u8; 16]>
@@ -79,28 +76,8 @@ fn whole(key: &KeptKey, upper: &[u8]) -> Lower
     }
 }
 
-/// SegN: the number of the last segment.
-fn last_segment(upper: &[u8]) -> u8
-    requires most { length upper.now ≤ 384 }
-    ensures value { result ≡ last_segment_in upper.now }
-    ensures width { result < 2 ^ 5 }
-{
-    (upper.len().saturating_sub(1) / PIECE) as u8
-}
-
-/// The octets of a segment.
-fn piece_of(upper: &[u8], seg_o: u8) -> Octets<12>
-    requires place { 12 * seg_o < length upper.now }
-    ensures value { result ≡ take 12 (drop (12 * seg_o) upper.now) }
-{
-    let rest = &upper[usize::from(seg_o) * PIECE..];
-    let mut octets = Octets::new();
-    octets.extend(&rest[..rest.len().min(PIECE)]);
-    octets
-}
-
 /// The segment with number `seg_o`, for SeqAuth with the SEQ `auth`.
-fn segment(key: &KeptKey, auth: u32, upper: &[u8], seg_o: u8) -> Lower
+fn part(key: &KeptKey, auth: u32, upper: &[u8], seg_o: u8) -> Lower
     requires least { 1 ≤ length upper.now }
     requires most { length upper.now ≤ 384 }
     requires place { seg_o ≤ last_segment_in upper.now }
@@ -108,15 +85,7 @@ fn segment(key: &KeptKey, auth: u32, upper: &[u8], seg_o: u8) -> Lower
     ensures fits { Fits result }
 {
     let (akf, aid) = key.bits();
-    Lower::AccessPart {
-        akf,
-        aid,
-        szmic: false,
-        seq_zero: (auth % 0x2000) as u16,
-        seg_o,
-        seg_n: last_segment(upper),
-        piece: piece_of(upper, seg_o),
-    }
+    segment(akf, aid, auth, upper, seg_o)
 }
 
 /// The lower transport PDU of the line, under its key and to its destination: the whole message, or one of its segments.
@@ -131,7 +100,7 @@ pub(crate) fn lower_of(key: &KeptKey, dst: Address, talk: &TalkLine) -> Lower
     let upper = upper_of(key, dst, talk);
     match talk.pdu.piece {
         TalkPiece::Whole => whole(key, upper.as_slice()),
-        TalkPiece::Segment(seg_o) => segment(key, talk.pdu.auth, upper.as_slice(), seg_o),
+        TalkPiece::Segment(seg_o) => part(key, talk.pdu.auth, upper.as_slice(), seg_o),
     }
 }
 

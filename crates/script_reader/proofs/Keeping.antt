@@ -1,5 +1,6 @@
 -- A line more keeps a script's ranges.
 use Rattle.std.proofs.Common.{◌≡◌, ℕ, ◌+◌, ◌-◌, ◌<◌, ◌≤◌, ◌==◌, ◌&&◌, ◌||◌, nat_le, Bool, true, false, cond, List, [], ◌∷◌, ◌++◌, length, Result, Ok, Err, IfOk, refl, inl, inr, arith, eq-eqb}
+use Rattle.std.proofs.lemmas.Bool.{or_parts}
 use Rattle.std.specs.List.{count_by, list_any}
 use Rattle.std.proofs.lemmas.Bool.{cases_Bool, cases_eq}
 use Rattle.std.proofs.lemmas.Bool.Decides.{nat_tests}
@@ -95,10 +96,6 @@ with_life_keeps g s h =
 placed : (n : ℕ) (b : Bool) → ((n == 0) || b) ≡ false → 0 < n
 placed n b e = grind (arith, nat_tests)
 
-not_both : (a b : Bool) → (a || b) ≡ false → b ≡ false
-not_both true b e = cc
-not_both false b e = e
-
 with_line_keeps : (g : Grammar) (s : Script) (line : ScriptLine) → IsScriptOf g s → IsLine g s.provision.elements line
     → IfOk (with_line s line) (IsScriptOf g)
 unfolding with_line
@@ -114,7 +111,7 @@ with_line_keeps g s line h k =
                 rw (e, f) record {
                   provision = h.provision;
                   lives = All-set (IsLife g s.provision.elements) s.lives (length s.lives - 1) (last_life s.lives ++ line ∷ [])
-                      (longer_life g s.provision.elements (last_life s.lives) line last k (not_both _ _ e) f) h.lives;
+                      (longer_life g s.provision.elements (last_life s.lives) line last k (or_parts _ _ e).1 f) h.lives;
                   count = omega (arith, length-set s.lives (length s.lives - 1) (last_life s.lives ++ line ∷ []), h.count);
                 }
           ]

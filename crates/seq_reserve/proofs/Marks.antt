@@ -2,6 +2,7 @@
 use Rattle.std.proofs.Common.{◌≡◌, ℕ, ◌+◌, ◌*◌, ◌%◌, ◌^◌, ◌<◌, ◌≤◌, Bool, true, false, refl, ap, ◌∙◌, sym, arith, true≢false}
 use Rattle.std.specs.Prelude.{nat_lt, if◌then◌else◌}
 use Rattle.std.proofs.lemmas.Bool.Decides.{nat_tests}
+use Rattle.mesh_base.proofs.IvStates.{transmit_known}
 use Rattle.mesh_base.specs.IvState.{transmit_of}
 use Rattle.mesh_base.specs.declared.iv_state.IvState.{IvState}
 use Rattle.node_records.specs.declared.persist.Persist.{Persist}
@@ -29,15 +30,11 @@ mark_more s mark h left = record {
   block = block_more h.seq h.block;
 }
 
-transmit_least : (s : IvState) → transmit_of s ≤ s.current
-unfolding transmit_of
-transmit_least s = omega arith
-
 word_parts : (transmit mark seq : ℕ) → mark ≡ transmit * 2 ^ 25 + seq → seq ≤ 2 ^ 24 → transmit < 2 ^ 32 → IsWord mark
 word_parts transmit mark seq word most least = (omega arith, omega arith)
 
 pub mark_word : (p : Persist) → HasNumbers p → IsWord p.mark
-mark_word p h = word_parts (transmit_of p.iv) p.mark h.mark.seq h.mark.word h.mark.most (omega (arith, transmit_least p.iv, h.current))
+mark_word p h = word_parts (transmit_of p.iv) p.mark h.mark.seq h.mark.word h.mark.most (omega (arith, transmit_known p.iv, h.current))
 
 -- the mark after a refill
 pub mark_filled : (p q : Persist) (item : StoreRecord) → item ≡ fill_of (config_in p) → config_in q ≡ changed (config_in p) item → q.mark ≡ p.mark + 256

@@ -1,4 +1,4 @@
-use Rattle.std.proofs.Common.{◌≡◌, ◌∙◌, ◌++◌, ap, sym, None, Some, cond, []}
+use Rattle.std.proofs.Common.{◌≡◌, ◌∙◌, ◌++◌, ap, sym, None, Some, cond, false, []}
 use Rattle.std.specs.Prelude.{◌&&◌, not}
 use Rattle.layer_definitions.specs.KeyRefresh.{transmit_material}
 use Rattle.layer_states.specs.Sending.{is_due, is_last, round_of}

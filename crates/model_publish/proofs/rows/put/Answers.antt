@@ -2,7 +2,8 @@
 use Rattle.std.proofs.Common.{◌≡◌, ◌<◌, sym, ◌∙◌, length, insert}
 use Rattle.layer_definitions.specs.Order.{put_by}
 use Rattle.model_states.specs.Publication.{row_index}
-use Rattle.model_publish.proofs.Places.{put_set, put_new, room_for_new}
+use Rattle.layer_definitions.proofs.PlaceLaws.{put_set}
+use Rattle.model_publish.proofs.Places.{put_new, room_for_new}
 use Rattle.model_publish.proofs.rows.put.Goals as goal
 use Rattle.model_publish.proofs.rows.put.Goals.{After-insert}
 

@@ -2,7 +2,8 @@ use Rattle.std.proofs.Common.{◌≡◌, ℕ, List, ap, length, subst, sym, ◌�
 use Rattle.std.specs.Prelude.{All}
 use Rattle.std.specs.List.{refill}
 use Rattle.element_models.proofs.Filled.{all_filled}
-use Rattle.element_models.proofs.Lists.{length-map_from, refill_same}
+use Rattle.element_models.proofs.Lists.{length-map_from}
+use Rattle.mesh_base.proofs.Every.{refill_same}
 use Rattle.element_models.proofs.Lives.{models_more, records_are, replies_are}
 use Rattle.element_models.specs.Messages.{HasOctet, message_in}
 use Rattle.element_models.specs.Models.{AreModelsOf}
