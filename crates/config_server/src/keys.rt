@@ -179,7 +179,10 @@ pub fn app_key_add(p: &Persist, k: &AppKeyValue) -> ConfigAct
     ensures { result
         ≡ app_key_act (app_key_add (config_in p.now) k.now.indexes.net k.now.indexes.app k.now.key) k.now.indexes }
 {
-    app_key_act(&add_app(p, k.indexes.net, k.indexes.app, &k.key), &k.indexes)
+    app_key_act(
+        &add_app(p, k.indexes.net, k.indexes.app, &k.key),
+        &k.indexes,
+    )
 }
 
 /// AppKey Update.
@@ -187,7 +190,10 @@ pub fn app_key_update(p: &Persist, k: &AppKeyValue) -> ConfigAct
     ensures { result
         ≡ app_key_act (app_key_update (config_in p.now) k.now.indexes.net k.now.indexes.app k.now.key) k.now.indexes }
 {
-    app_key_act(&update_app(p, k.indexes.net, k.indexes.app, &k.key), &k.indexes)
+    app_key_act(
+        &update_app(p, k.indexes.net, k.indexes.app, &k.key),
+        &k.indexes,
+    )
 }
 
 /// AppKey Delete.

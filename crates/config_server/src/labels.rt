@@ -149,5 +149,9 @@ fn label_overwritten(p: &Persist, s: &LabelSubscription) -> Outcome
 pub fn label_overwrite(p: &Persist, s: &LabelSubscription) -> ConfigAct
     ensures { result ≡ label_act (config_in p.now) (label_overwrite (config_in p.now)) s.now }
 {
-    subscription_act(&label_overwritten(p, s), &s.holder, mesh_kdf::address(&s.label))
+    subscription_act(
+        &label_overwritten(p, s),
+        &s.holder,
+        mesh_kdf::address(&s.label),
+    )
 }

@@ -8,7 +8,7 @@ use Rattle.flash_model.specs.declared.armed.Armed.{Armed}
 use Rattle.flash_model.specs.declared.armed.Course.TheVariants.{Whole, Torn}
 use Rattle.flash_model.specs.declared.past.Past.{Past}
 use Rattle.flash_model.specs.Octets.{IsContent, IsMixed, IsTorn}
-use Rattle.flash_model.specs.Chip.{Cut, Elapses, IsCut, IsDone, Stays}
+use Rattle.flash_model.specs.Chip.{Cut, Elapses, IsCut, IsDone, Remembers, Stays}
 use Rattle.flash_model.specs.Arming.{Follows, mask_of}
 use Rattle.flash_model.specs.Course.{course_of, nearer_arm}
 use Rattle.flash_model.specs.Past.{HadBeen}
@@ -48,6 +48,9 @@ module _ (past past' : Past) (old new : List ℕ) (changes changes' reads reads'
     where
       pushed : (t : ℕ) → t ≤ length past.contents → drop t past'.contents ≡ drop t past.contents ++ old ∷ []
       pushed t le = ap (drop t) is ∙ drop-append-le t past.contents (old ∷ []) le
+
+  pub past_note : Remembers (mem_chip past old changes reads arm) (mem_chip past' new changes' reads' arm')
+  past_note = let time = time_note (λ c. c ≡ new) refl in record { later = time.later; keeps = time.keeps }
 
   pub cut_note : (change : List ℕ → List ℕ) → IsTorn old (change old) new → IsCut change (mem_chip past old changes reads arm) (mem_chip past' new changes' reads' arm')
   cut_note change torn = record {

@@ -1,10 +1,19 @@
 -- Several calls that leave the content, and the identity of a flash, over all of them.
 use Rattle.std.proofs.Common.{◌≡◌, ℕ, ◌+◌, ◌≤◌, refl, ◌∙◌, inl, inr, ⊎_elim, arith}
-use Rattle.flash_model.specs.Chip.{Chip, Keeps, Stays}
+use Rattle.flash_model.specs.Chip.{Chip, Keeps, Remembers, Stays}
 use Rattle.flash_model.specs.Arming.{Begins, BeginsAtMost}
 
+pub past_none : (chip : Chip) → Remembers chip chip
+past_none chip = record { later = omega arith; keeps = λ t c le since. since }
+
+pub past_more : (a b c : Chip) → Remembers a b → Remembers b c → Remembers a c
+past_more a b c first second = record {
+  later = omega (arith, first.later, second.later);
+  keeps = λ t d le since. second.keeps t d (omega (arith, le, first.later)) (first.keeps t d le since);
+}
+
 pub keeps_none : (chip : Chip) → Keeps chip chip
-keeps_none chip = record { honest = refl; steady = refl; setting = refl; later = omega arith; sure = λ h. (h, refl) }
+keeps_none chip = record { honest = refl; steady = refl; setting = refl; later = omega arith; sure = λ h. (h, refl); past = past_none chip }
 
 pub keeps_more : (a b c : Chip) → Keeps a b → Keeps b c → Keeps a c
 keeps_more a b c first second = record {
@@ -13,6 +22,7 @@ keeps_more a b c first second = record {
   setting = second.setting ∙ first.setting;
   later = omega (arith, first.later, second.later);
   sure = λ h. let one = first.sure h in let two = second.sure one.0 in (two.0, two.1 ∙ one.1);
+  past = past_more a b c first.past second.past;
 }
 
 pub stays_none : (chip : Chip) → Stays chip chip

@@ -71,6 +71,11 @@ pub record Stays (old new : Chip) : Type 0 where
   pub images : (c : List ℕ) → new.images c → old.images c
   pub time : Elapses old new old.images
 
+-- The past stays: what a cut at some earlier moment might have left, it might still have left.
+pub record Remembers (old new : Chip) : Type 0 where
+  pub later : old.moment ≤ new.moment
+  pub keeps : (t : ℕ) (c : List ℕ) → t ≤ old.moment → old.since t c → new.since t c
+
 -- What a call leaves of every flash, honest or not. A sure one stays sure, and doesn't fail.
 pub record Keeps (old new : Chip) : Type 0 where
   pub honest : new.honest ≡ old.honest
@@ -78,12 +83,14 @@ pub record Keeps (old new : Chip) : Type 0 where
   pub setting : new.setting ≡ old.setting
   pub later : old.faults ≤ new.faults
   pub sure : IsTrue old.sure → IsTrue new.sure × (new.faults ≡ old.faults)
+  pub past : Remembers old new
 
 -- what a bench leaves of every flash when it arms it or cycles its power
 pub record KeepsCount (old new : Chip) : Type 0 where
   pub honest : new.honest ≡ old.honest
   pub steady : new.steady ≡ old.steady
   pub faults : new.faults ≡ old.faults
+  pub past : Remembers old new
 
 -- an honest flash whose only image is what is read
 pub record IsFresh (chip : Chip) : Type 0 where

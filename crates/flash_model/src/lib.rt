@@ -38,8 +38,9 @@
 //! 6. Any call may fail, as often as it likes; the answer is then `FlashFailed`, and the count of faults rose in that call (`cause`). An Ok
 //!    leaves the count (`no_fault`), and it never falls (`frame`; `Keeps`). It has no top, so a word that stops at one isn't it: [`MemFlash`]
 //!    has it in what contracts alone see (`past`).
-//! 7. Read calls are counted, and no other call counts as one, up to ffffffff (`reads`).
-//! 8. A flash that is `sure` never fails, and one that is `steady` counts its program and erase calls and fails only as an arm says (`sure`,
+//! 7. The past stays: what a cut at an earlier moment might have left, it might still have left, whatever a call does (`frame`; `Remembers`).
+//! 8. Read calls are counted, and no other call counts as one, up to ffffffff (`reads`).
+//! 9. A flash that is `sure` never fails, and one that is `steady` counts its program and erase calls and fails only as an arm says (`sure`,
 //!    `by_arm`). An adapter to a chip says that it is neither, and owes nothing for it but a count that stays below 2^32 (`counted`).
 //!
 //! In words, on a chip whose pages are smaller than a sector, and of which 65,536 octets from `base` on are nobody else's:

@@ -1,6 +1,6 @@
 -- What holds of the value behind the lock whenever the lock is free.
 use Rattle.std.specs.Prelude.{◌≡◌, ℕ, ◌<◌, ◌≤◌, ◌^◌, true, false, List}
-use Rattle.flash_model.specs.Chip.{Chip}
+use Rattle.flash_model.specs.Chip.{Chip, Remembers}
 use Rattle.machine_contract.specs.Standing.{IsLifeSoFar}
 use Rattle.machine_contract.specs.View.{MachineView}
 use Rattle.record_types.specs.declared.records.StoreRecord.{StoreRecord}
@@ -13,6 +13,7 @@ pub record IsLater (start now : Chip) : Type 0 where
   pub faults : start.faults ≤ now.faults
   pub steady : now.steady ≡ start.steady
   pub began : now.setting.faults ≡ start.setting.faults
+  pub past : Remembers start now
 
 -- the machine stands over this flash and the records that the life found, and bearers have stopped exactly if it is closed
 pub record Holds {M F : Type 0} (stands : Chip → List StoreRecord → M → Type 0) (view : M → MachineView)

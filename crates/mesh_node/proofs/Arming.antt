@@ -3,6 +3,7 @@ use Rattle.std.proofs.Common.{◌≡◌, ◌∙◌, inl, inr, ℕ, suc, List, []
 use Rattle.std.specs.Prelude.{All, IsTrue}
 use Rattle.std.specs.List.{Contains}
 use Rattle.std.proofs.lemmas.List.Elements.{All-tail}
+use Rattle.flash_model.proofs.Runs.{past_more, past_none}
 use Rattle.flash_model.specs.Chip.{Arm, Chip, IsFresh, KeepsCount, Setting, Stays}
 use Rattle.machine_contract.specs.Opening.{IsNodeFlash}
 use Rattle.run_definitions.specs.Order.{Step, arm, phases_of}
@@ -61,11 +62,12 @@ pub armed_by_first : (old new : Chip) (calls mask : ℕ) (xs : List PlanStep)
 armed_by_first old new calls mask xs setting count stays = record {
   order = ap (λ (s : Setting). s.arm) setting;
   steady = count.steady;
+  past = count.past;
   same = λ honest. record { honest = count.honest; stays = (stays honest).images; now = (stays honest).now; faults = count.faults; began = ap (λ (s : Setting). s.faults) setting };
 }
 
 pub armed_by_none : (chip : Chip) (xs : List PlanStep) → chip.setting.arm ≡ first_order xs chip.changes → IsArmedFirst xs chip chip
-armed_by_none chip xs none = record { order = none; steady = refl; same = λ honest. record { honest = refl; stays = λ image among. among; now = refl; faults = refl; began = refl } }
+armed_by_none chip xs none = record { order = none; steady = refl; past = past_none chip; same = λ honest. record { honest = refl; stays = λ image among. among; now = refl; faults = refl; began = refl } }
 
 -- a flash that a life finds, where power was cycled and an order that stands first was given
 pub record Powered (image : List ℕ → Type 0) (steps : List PlanStep) (old start : Chip) : Type 0 where
@@ -90,7 +92,7 @@ powered image steps old cycled start h count fresh is setting armed =
       fresh = record { honest = subst IsTrue (sym same.honest) cold.honest; only = λ c among. only c among ∙ sym same.now };
       node = record { honest = subst IsTrue (sym same.honest) cold.honest; each = λ c among. subst image (sym (only c among)) (h.each cycled.now was) };
       began = same.began ∙ ap (λ (s : Setting). s.faults) setting;
-      count = record { honest = same.honest ∙ count.honest; steady = armed.steady ∙ count.steady; faults = same.faults ∙ count.faults };
+      count = record { honest = same.honest ∙ count.honest; steady = armed.steady ∙ count.steady; faults = same.faults ∙ count.faults; past = past_more old cycled start count.past armed.past };
       order = subst (IsOfPlan (steps_of steps)) (sym armed.order) (first_of steps cycled.changes);
       first = subst (IsFirstGiven steps) (sym armed.order) (first_given steps cycled.changes);
       may = λ one. subst (MayFollow (behind_arm steps)) (sym armed.order) (first_may steps cycled.changes one);

@@ -3,6 +3,7 @@ use Rattle.std.proofs.Common.{◌≡◌, ◌≢◌, ◌∙◌, ℕ, ◌<◌, ◌
 use Rattle.std.specs.Prelude.{◌^◌, All, AllPairs, IfSome, IsTrue}
 use Rattle.std.proofs.lemmas.List.{length-map}
 use Rattle.flash_model.specs.Arming.{IsExplained}
+use Rattle.flash_model.proofs.Runs.{past_more}
 use Rattle.flash_model.specs.Chip.{Chip, Keeps, KeepsCount, Setting}
 use Rattle.machine_contract.specs.Opening.{EachRecovered}
 use Rattle.machine_contract.specs.Refused.{IsUntouched}
@@ -99,6 +100,7 @@ module _ (role : Role) (image : List ℕ → Type 0) (items : List PlanStep) (si
         image = start.now;
         is_image = is;
         recovered = r.recovered;
+        past = past_more old start new count.past r.later.past;
         life = r.life;
         node = r.node;
         printable = r.printable;
@@ -121,6 +123,7 @@ module _ (role : Role) (image : List ℕ → Type 0) (items : List PlanStep) (si
         image = start.now;
         is_image = is;
         recovered = u.read;
+        past = past_more old start new count.past keeps.past;
         life = λ content next among recovers. idle_life role plan u.over next (life_of log) off entries refills (ap (map (λ (v : Vec Sent Global). v.items)) sends) opening (u.left content next among recovers);
         node = u.node;
         printable = idle_printable (life_of log) entries (ap (map (λ (v : Vec Sent Global). v.items)) sends);

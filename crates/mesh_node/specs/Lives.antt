@@ -1,6 +1,6 @@
 -- A life between a flash and the flash.
 use Rattle.std.specs.Prelude.{◌≡◌, ℕ, ◌+◌, ◌^◌, ◌<◌, ◌≤◌, ◌≢◌, length, true, IsTrue, List, Option, None, IfSome}
-use Rattle.flash_model.specs.Chip.{Chip}
+use Rattle.flash_model.specs.Chip.{Chip, Remembers}
 use Rattle.machine_contract.specs.Opening.{EachRecovered, IsNodeFlash}
 use Rattle.mesh_types.specs.declared.history.Sent.{Sent}
 use Rattle.mesh_types.specs.declared.report.End.{End}
@@ -46,6 +46,8 @@ pub record Lives (role : Role) (IsNodeImage : List ℕ → Type 0) (plan : List 
   pub image : List ℕ
   pub is_image : old.images image
   pub recovered : IsRecovered image over
+  -- it is the flash that was given: what a cut might have left of it earlier, it might still have left
+  pub past : Remembers old new
   pub life : EachRecovered new (λ next. LifeOf role plan over (life_of log) next)
   pub node : IsNodeFlash IsNodeImage new
   pub printable : IsPrintable (life_of log)

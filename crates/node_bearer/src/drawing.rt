@@ -6,6 +6,7 @@ ghost use Rattle.run_definitions.specs.Order.{Task};
 ghost use Rattle.seq_word.specs.Word.{seq_of};
 ghost use Rattle.locked_node.specs.Node.{OnStop};
 ghost use Rattle.node_bearer.specs.Did.{Broke, DidBy, DrewBy, GoesOn, IsRider, IsUnspent};
+ghost use Rattle.node_bearer.specs.Tries.{DrawsUntil};
 
 use crate::acting::refill;
 use crate::bearer::{Bearer, Drawn};
@@ -33,7 +34,7 @@ fn raise<M: Machine, F: Bench>(
     requires rider { IsRider n.now turn.now b.old }
     ensures rider { IsRider n.now turn.now b.new }
     ensures on { GoesOn b.old b.new }
-    ensures frame { b.new.lines ≡ b.old.lines }
+    ensures frame { (b.new.lines ≡ b.old.lines) × (b.new.drawer ≡ b.old.drawer) }
     ensures did { (k first : ℕ) (tasks rest : List Task) → DidBy k first tasks rest b.old
         → OnOk result (DidBy k first tasks rest b.new) }
     ensures stopped { (k first : ℕ) (tasks rest : List Task) → DidBy k first tasks rest b.old
@@ -47,7 +48,7 @@ fn raise<M: Machine, F: Bench>(
     }
 }
 
-/// Draws a pair. Where the counter has reached the mark, it has a refill stored and draws again.
+/// Draws a pair. Where the counter has reached the mark, it has a refill stored and draws again, and for no other cause.
 pub fn draw<M: Machine, F: Bench>(
     rt: &impl Wait,
     n: &Numbers,
@@ -59,6 +60,7 @@ pub fn draw<M: Machine, F: Bench>(
     ensures on { GoesOn b.old b.new }
     ensures frame { b.new.lines ≡ b.old.lines }
     ensures seq { IfOk result IsUnspent }
+    ensures tries { IfOk result (λ r. DrawsUntil r b.old.drawer b.new.drawer) }
     ensures did { (k first : ℕ) (tasks rest : List Task) → DidBy k first tasks rest b.old
         → IfOk result (λ r. DrewBy r k first tasks rest b.new) }
     ensures stopped { (k first : ℕ) (tasks rest : List Task) → DidBy k first tasks rest b.old

@@ -19,7 +19,8 @@ use Rattle.model_states.specs.declared.publication.HeartbeatRow.{HeartbeatRow}
 use Rattle.node_layers.specs.Configuration.{config_act, is_for_server}
 use Rattle.node_layers.specs.Friendship.{config_after}
 use Rattle.node_layers.specs.Publishing.{stored_row}
-use Rattle.node_models.specs.Acts.{AsksShort, IsShortTtl, StoresOwn, row_in}
+use Rattle.node_models.specs.Acts.{AsksShort, StoresOwn, row_in}
+use Rattle.node_records.specs.Steps.{IsShortTtl}
 use Rattle.node_records.specs.Tables.{config_in}
 use Rattle.node_records.specs.declared.persist.Persist.{Persist}
 use Rattle.record_types.specs.declared.records.PublishRow.{PublishRow}

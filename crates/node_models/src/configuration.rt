@@ -9,10 +9,9 @@ ghost use Rattle.model_states.specs.Publication.{heartbeat_set, row_set};
 ghost use Rattle.node_layers.specs.Configuration.{config_act, is_for_server};
 ghost use Rattle.node_layers.specs.Friendship.{config_after};
 ghost use Rattle.node_layers.specs.Publishing.{published_by_act, stored_row};
-ghost use Rattle.node_models.specs.Acts.{AsksShort, IsShortTtl, StoresOwn};
+ghost use Rattle.node_models.specs.Acts.{AsksShort, StoresOwn};
 ghost use Rattle.node_records.specs.Tables.{config_in};
 ghost use Rattle.record_types.specs.declared.records.PublishRow.{PublishRow};
-ghost use Rattle.store_definitions.specs.Config.{changed};
 
 use config_definitions::acts::ConfigAct;
 use element_models::Message;
@@ -20,9 +19,6 @@ use mesh_base::address::Address;
 use mesh_base::keys::UpperKey;
 use model_publish::{HeartbeatRow, Publisher, rows_law};
 use node_records::{Persist, StoreRecord};
-
-/// The feature that is the Default TTL, by its number in records.
-const DEFAULT_TTL_FEATURE: u8 = 2;
 
 // Whether the Configuration Server takes a message: it is sealed with the device key, and goes to the first element.
 fn is_for_server(p: &Persist, m: &Message<'_>) -> bool
@@ -54,19 +50,6 @@ pub(crate) fn config_act(
     config_server::take(p, m.net, polls, beat, m.payload).ok()
 }
 
-// The Default TTL behind a record.
-#[tactic(auto, unfolding(store_definitions::specs::Config::changed))]
-fn ttl_after(p: &Persist, item: &StoreRecord) -> u8
-    requires short { IsShortTtl item.now }
-    ensures value { result ≡ (changed (config_in p.now) item.now).ttl }
-    ensures short { p.now.ttl < 2 ^ 7 → result < 2 ^ 7 }
-{
-    match item {
-        StoreRecord::Feature { which, value } if *which == DEFAULT_TTL_FEATURE => *value as u8,
-        _ => p.ttl,
-    }
-}
-
 /// The Default TTL that the records say behind what a message asks for.
 pub(crate) fn ttl_behind(p: &Persist, act: &Option<ConfigAct>) -> u8
     requires short { AsksShort act.now }
@@ -79,7 +62,7 @@ pub(crate) fn ttl_behind(p: &Persist, act: &Option<ConfigAct>) -> u8
                 change: Some(item),
                 ..
             },
-        ) => ttl_after(p, item),
+        ) => p.ttl_after(item),
         _ => p.ttl,
     }
 }

@@ -1,5 +1,5 @@
 -- What one record changes in a value, apart from the records before it.
-use Rattle.std.specs.Prelude.{◌≡◌, ℕ, ⊤, List}
+use Rattle.std.specs.Prelude.{◌≡◌, ◌<◌, ◌^◌, ℕ, ⊤, List}
 use Rattle.mesh_base.specs.declared.pair.Name.{Name}
 use Rattle.record_types.specs.declared.records.StoreRecord.{StoreRecord}
 use Rattle.record_types.specs.declared.records.StoreRecord.TheVariants as R
@@ -24,6 +24,11 @@ pub record KeepsEntries (current : ℕ) (old new : List Name) (item : StoreRecor
 pub record IsStep (old : Persist) (item : StoreRecord) (new : Persist) : Type 0 where
   pub config : config_in new ≡ changed (config_in old) item
   pub replay : IsApart old.replay → KeepsEntries old.iv.current old.replay new.replay item
+
+-- A Default TTL that it sets has 7 bits (Mesh Profile 1.0.1, section 4.2.7).
+abbrev pub IsShortTtl : StoreRecord → Type 0
+IsShortTtl (R.Feature which value) = which ≡ 2 → value < 2 ^ 7
+IsShortTtl item = ⊤
 
 -- a record that changes a table
 abbrev pub IsOfTable : StoreRecord → Type 0

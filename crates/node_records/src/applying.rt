@@ -23,8 +23,11 @@ pub struct Limit {
     pub held: u32,
 }
 
+/// The feature that is the Default TTL, by its number in records.
+const DEFAULT_TTL_FEATURE: u8 = 2;
+
 impl Persist {
-    ghost use Rattle.std.specs.Prelude.{◌≡◌, ◌⊎◌, ◌<◌, ◌≤◌, ◌↔◌, List, [], ◌∷◌, ◌++◌, IsTrue, IsErr, IfErr, OnOk, OnErr};
+    ghost use Rattle.std.specs.Prelude.{◌≡◌, ◌⊎◌, ◌<◌, ◌^◌, ◌≤◌, ◌↔◌, List, [], ◌∷◌, ◌++◌, IsTrue, IsErr, IfErr, OnOk, OnErr};
     ghost use Rattle.record_types.specs.declared.records.StoreRecord.{StoreRecord};
     ghost use Rattle.record_types.specs.declared.records.StoreRecord.TheVariants as R;
     ghost use Rattle.store_definitions.specs.Config.{changed};
@@ -32,7 +35,7 @@ impl Persist {
     ghost use Rattle.store_definitions.specs.Ranges.{IsInRange, is_feature};
     ghost use Rattle.node_records.specs.Full.{IsFull, held_for, IsHeldByOthers};
     ghost use Rattle.node_records.specs.Meaning.{IsMeaningOf, IsSaid, DoesNotFall};
-    ghost use Rattle.node_records.specs.Steps.{IsStep, IsOfTable};
+    ghost use Rattle.node_records.specs.Steps.{IsStep, IsOfTable, IsShortTtl};
     ghost use Rattle.node_records.specs.Tables.{config_in};
 
     /// A NetKey record, for which there is a place.
@@ -196,6 +199,19 @@ impl Persist {
                 value,
             } => self.apply_model(*element, *model, *value),
             _ => self.step_table(item),
+        }
+    }
+
+    /// The Default TTL that the value says with this record more. A Default TTL that it sets has 7 bits.
+    #[tactic(auto, unfolding(store_definitions::specs::Config::changed))]
+    pub fn ttl_after(&self, item: &StoreRecord) -> u8
+        requires short { IsShortTtl item.now }
+        ensures value { result ≡ (changed (config_in self.now) item.now).ttl }
+        ensures short { self.now.ttl < 2 ^ 7 → result < 2 ^ 7 }
+    {
+        match item {
+            StoreRecord::Feature { which, value } if *which == DEFAULT_TTL_FEATURE => *value as u8,
+            _ => self.ttl,
         }
     }
 

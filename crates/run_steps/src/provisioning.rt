@@ -2,12 +2,13 @@
 #![tactic(auto)]
 
 ghost use Rattle.std.specs.Prelude.{◌≡◌, IsTrue, IfErr, OnOk};
-ghost use Rattle.flash_model.specs.Chip.{IsFresh, Keeps, Stays};
+ghost use Rattle.flash_model.specs.Chip.{IsFresh, Keeps, LeavesOnly, Stays};
 ghost use Rattle.node_store.specs.Provisioning.{IsProvision, provisioning};
+ghost use Rattle.node_store.specs.Tie.{IsMade};
 ghost use Rattle.slot_journal.specs.Causes.{IsFormatCause, IsNotErased};
 ghost use Rattle.slot_journal.specs.Format.{IsErased};
 ghost use Rattle.store_definitions.specs.Provisioning.{provisioned};
-ghost use Rattle.run_steps.specs.Provisioned.{IsProvisioned};
+ghost use Rattle.run_steps.specs.Provisioned.{IsInFormat, IsProvisioned, format_by};
 
 use flash_model::Flash;
 use node_store::{Provision, Store};
@@ -23,6 +24,9 @@ fn provision_now<F: Flash>(flash: &mut F, p: &Provision) -> Result<(), FormatFau
         → Stays (F.chip flash.old) (F.chip flash.new) }
     ensures provisioned { IsFresh (F.chip flash.old)
         → OnOk result (IsProvisioned (F.chip flash.new) (provisioned (provisioning p.now))) }
+    ensures format { IsFresh (F.chip flash.old) → OnOk result (IsInFormat 2 (F.chip flash.new)) }
+    ensures any_moment { IsFresh (F.chip flash.old) → IsErased (F.chip flash.old).now
+        → LeavesOnly (F.chip flash.old) (F.chip flash.new) (IsMade (provisioned (provisioning p.now))) }
     ensures no_fault { OnOk result ((F.chip flash.new).faults ≡ (F.chip flash.old).faults) }
     ensures sure { IsTrue (F.chip flash.old).sure → IfErr result IsNotErased }
     ensures frame { Keeps (F.chip flash.old) (F.chip flash.new) }
@@ -44,6 +48,9 @@ pub fn provision<F: Flash>(flash: &mut F, old: bool, p: &Provision) -> Result<()
         → Stays (F.chip flash.old) (F.chip flash.new) }
     ensures provisioned { IsFresh (F.chip flash.old)
         → OnOk result (IsProvisioned (F.chip flash.new) (provisioned (provisioning p.now))) }
+    ensures format { IsFresh (F.chip flash.old) → OnOk result (IsInFormat (format_by old) (F.chip flash.new)) }
+    ensures any_moment { IsFresh (F.chip flash.old) → IsErased (F.chip flash.old).now
+        → LeavesOnly (F.chip flash.old) (F.chip flash.new) (IsMade (provisioned (provisioning p.now))) }
     ensures no_fault { OnOk result ((F.chip flash.new).faults ≡ (F.chip flash.old).faults) }
     ensures sure { IsTrue (F.chip flash.old).sure → IfErr result IsNotErased }
     ensures frame { Keeps (F.chip flash.old) (F.chip flash.new) }

@@ -18,7 +18,7 @@ use Rattle.mesh_node.proofs.living.run_life.Goals as goal
 pub new-requires-clause-later : goal.new-requires-clause-later
 new-requires-clause-later g c κs lives =
     let kept = c.requires.kept in
-    record { faults = kept.later; steady = kept.steady; began = ap (λ (s : Setting). s.faults) kept.setting }
+    record { faults = kept.later; steady = kept.steady; began = ap (λ (s : Setting). s.faults) kept.setting; past = kept.past }
 
 -- the elements of the node are those that the records say
 pub do_steps-requires-clause-steps : goal.do_steps-requires-clause-steps

@@ -1,4 +1,6 @@
-use Rattle.std.proofs.Common.{◌∙◌, ◌++◌, ap, append_assoc}
+use Rattle.std.proofs.Common.{◌∙◌, ◌++◌, ◌∷◌, ap, append_assoc, subst, sym}
+use Rattle.seq_word.specs.Seen.{AfterLost, DrawerView, HasCause}
+use Rattle.seq_word.specs.declared.miss.Miss.TheVariants as missed
 use Rattle.node_bearer.proofs.Doing.{did_looked}
 use Rattle.node_bearer.proofs.Turning.{contains_spent}
 use Rattle.node_bearer.proofs.drawing.draw.Goals as goal
@@ -12,11 +14,20 @@ returns-in-Err-Spent-clause-did g c = λ k first tasks rest h.
       contains_spent c.draw.new.d.looks cause.1.looks cause.3.0 _ cause.3.1,
     )
 
+pub returns-in-Err-Spent-clause-tries : goal.returns-in-Err-Spent-clause-tries
+returns-in-Err-Spent-clause-tries g c =
+    let cause = rw c.in-Err-Spent.field-0-is at c.in-Err-Spent.ensures.cause in
+    (c.loop.invariant.dry.0, c.loop.b.drawer, c.loop.invariant.dry.1, cause)
+
+pub returns-in-Ok-clause-tries : goal.returns-in-Ok-clause-tries
+returns-in-Ok-clause-tries g c = (c.loop.invariant.dry.0, c.loop.b.drawer, c.loop.invariant.dry.1, c.in-Ok.ensures.found)
+
 pub loop-preserved : goal.loop-preserved
 loop-preserved g c =
     let b = c.loop.b in
     let e = c.in-Err-Dry.ensures in
     let was = c.loop.invariant in
+    let cause = rw c.in-Err-Dry.field-0-is at e.cause in
     record {
       can_next = tt;
       is_finite = tt;
@@ -27,7 +38,8 @@ loop-preserved g c =
         noted = c.raise.ensures.on.noted ∙ e.err.noted ∙ was.on.noted;
         stop = c.raise.ensures.on.stop ∙ was.on.stop;
       };
-      frame = c.raise.ensures.frame ∙ was.frame;
+      dry = ((c.in-Err-Dry.field-0-0, c.in-Err-Dry.mark) ∷ was.dry.0, (b.drawer, was.dry.1, subst (λ (d : DrawerView). AfterLost (HasCause (missed.Dry c.in-Err-Dry.field-0-0 c.in-Err-Dry.mark)) b.drawer d) (sym c.raise.ensures.frame.1) cause));
+      frame = c.raise.ensures.frame.0 ∙ was.frame;
       did = λ k first tasks rest h. c.in-Ok-raise.ensures.did k first tasks rest
           (did_looked k first tasks rest b.pass.own b.pass.seen b.lines.items b.number b.drawer c.draw.new.d e.err.drawn e.err.noted e.looks (was.did k first tasks rest h));
     }

@@ -2,6 +2,7 @@
 use Rattle.std.proofs.Common.{◌≡◌, ℕ, List}
 use Rattle.run_definitions.specs.Order.{Task}
 use Rattle.node_bearer.specs.Did.{DidBy, GoesOn, IsRider}
+use Rattle.node_bearer.specs.Tries.{DryDraws}
 use Rattle.node_bearer.proofs.drawing.draw.Given as goal
 
 abbrev pub invariant-loop : goal.invariant-loop
@@ -10,6 +11,7 @@ invariant-loop g l = record {
   is_finite : (goal.iterator-loop g).is_finite l.iterator';
   rider : IsRider l.n l.turn l.b;
   on : GoesOn l.initial.b l.b;
+  dry : (tries : List (ℕ × ℕ)) × DryDraws tries l.initial.b.drawer l.b.drawer;
   frame : l.b.lines ≡ l.initial.b.lines;
   did : (k first : ℕ) (tasks rest : List Task) → DidBy k first tasks rest l.initial.b → DidBy k first tasks rest l.b;
 }

@@ -1,6 +1,5 @@
 use Rattle.std.proofs.Common.{subst, sym}
 use Rattle.node_models.proofs.Asked.{answer_own, answer_short}
-
 use Rattle.node_models.specs.Acts.{AsksShort, StoresOwn}
 use Rattle.node_records.specs.Tables.{config_in}
 use Rattle.node_models.proofs.configuration.config_act.Goals as goal

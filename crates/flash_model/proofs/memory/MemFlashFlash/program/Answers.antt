@@ -1,10 +1,10 @@
-use Rattle.std.proofs.Common.{◌∙◌, ap, sym, subst, List, ℕ}
+use Rattle.std.proofs.Common.{◌∙◌, ap, refl, rules, sym, subst, List, ℕ}
 use Rattle.flash_model.specs.declared.past.Past.{Past}
 use Rattle.flash_model.specs.declared.flash.FlashFailed.{FlashFailed}
 use Rattle.flash_model.specs.Octets.{IsTorn, programmed}
 use Rattle.flash_model.specs.Memory.{left_of}
 use Rattle.flash_model.proofs.Mixed.{mixed_whole, mixed_torn, programmed_content, torn_content, torn_none}
-use Rattle.flash_model.proofs.Moments.{wrote, done_note, cut_note, torn_follows, left_nearer}
+use Rattle.flash_model.proofs.Moments.{wrote, done_note, cut_note, past_note, torn_follows, left_nearer}
 use Rattle.flash_model.proofs.memory.MemFlashFlash.program.Goals as goal
 
 pub invariant_of-self : goal.invariant_of-self
@@ -74,3 +74,39 @@ returns-in-Dead-clause-any_moment c honest =
     let change = programmed c.args.at c.args.bytes.now in
     cut_note c.args.self.now.past c.begin.new.self.past old c.begin.new.self.octets.items c.args.self.now.changes c.begin.new.self.changes c.args.self.now.reads c.begin.new.self.reads c.args.self.now.arm c.begin.new.self.arm (ap (λ (p : Past). p.contents) c.begin.ensures.past) change
     (subst (λ (l : List ℕ). IsTorn old (change old) l) (sym (ap (λ v. v.items) c.begin.ensures.octets)) (torn_none old (change old)))
+
+pub returns-in-Whole-clause-frame : goal.returns-in-Whole-clause-frame
+returns-in-Whole-clause-frame c =
+    record {
+      honest = refl;
+      steady = refl;
+      setting = search rules;
+      later = search rules;
+      sure = search rules;
+      past = past_note c.args.self.now.past c.begin.new.self.past c.args.self.now.octets.items _ c.args.self.now.changes c.begin.new.self.changes c.args.self.now.reads c.begin.new.self.reads c.args.self.now.arm c.begin.new.self.arm
+          (ap (λ (p : Past). p.contents) c.begin.ensures.past);
+    }
+
+pub returns-in-Torn-clause-frame : goal.returns-in-Torn-clause-frame
+returns-in-Torn-clause-frame c =
+    record {
+      honest = refl;
+      steady = refl;
+      setting = search rules;
+      later = search rules;
+      sure = search rules;
+      past = past_note c.args.self.now.past c.begin.new.self.past c.args.self.now.octets.items _ c.args.self.now.changes c.begin.new.self.changes c.args.self.now.reads c.begin.new.self.reads c.args.self.now.arm c.begin.new.self.arm
+          (ap (λ (p : Past). p.contents) c.begin.ensures.past);
+    }
+
+pub returns-in-Dead-clause-frame : goal.returns-in-Dead-clause-frame
+returns-in-Dead-clause-frame c =
+    record {
+      honest = refl;
+      steady = refl;
+      setting = search rules;
+      later = search rules;
+      sure = search rules;
+      past = past_note c.args.self.now.past c.begin.new.self.past c.args.self.now.octets.items _ c.args.self.now.changes c.begin.new.self.changes c.args.self.now.reads c.begin.new.self.reads c.args.self.now.arm c.begin.new.self.arm
+          (ap (λ (p : Past). p.contents) c.begin.ensures.past);
+    }

@@ -1,6 +1,6 @@
-use Rattle.std.proofs.Common.{◌<◌, ◌∙◌, ◌++◌, ◌∷◌, [], List, ℕ, ap, sym, refl, subst, arith, true≢false}
+use Rattle.std.proofs.Common.{◌<◌, ◌∙◌, ◌++◌, ◌∷◌, [], List, ℕ, ap, sym, refl, rules, subst, arith, true≢false}
 use Rattle.flash_model.specs.declared.past.Past.{Past}
-use Rattle.flash_model.proofs.Moments.{contents_more, stays_note}
+use Rattle.flash_model.proofs.Moments.{contents_more, past_note, stays_note}
 use Rattle.flash_model.proofs.memory.MemFlashFlash.read.Goals as goal
 
 pub invariant_of-self : goal.invariant_of-self
@@ -20,3 +20,14 @@ pub returns-then-self-clause-stays : goal.returns-then-self-clause-stays
 returns-then-self-clause-stays c honest =
     stays_note c.args.self.now.past c.note.new.self c.args.self.now.octets.items c.args.self.now.octets.items c.args.self.now.changes c.args.self.now.changes c.args.self.now.reads c.saturating_add-self.result c.args.self.now.arm c.args.self.now.arm
     (ap (λ (p : Past). p.contents) c.note.ensures ∙ ap (λ (l : List ℕ). c.args.self.now.past.contents ++ l ∷ []) c.deref.ensures.value) refl
+
+pub returns-then-self-clause-frame : goal.returns-then-self-clause-frame
+returns-then-self-clause-frame c = record {
+  honest = refl;
+  steady = refl;
+  setting = search rules;
+  later = search rules;
+  sure = search rules;
+  past = past_note c.args.self.now.past c.note.new.self c.args.self.now.octets.items c.args.self.now.octets.items c.args.self.now.changes c.args.self.now.changes c.args.self.now.reads c.saturating_add-self.result c.args.self.now.arm c.args.self.now.arm
+      (ap (λ (p : Past). p.contents) c.note.ensures ∙ ap (λ (l : List ℕ). c.args.self.now.past.contents ++ l ∷ []) c.deref.ensures.value);
+}

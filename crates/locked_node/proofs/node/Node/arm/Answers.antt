@@ -1,4 +1,5 @@
 use Rattle.std.proofs.Common.{◌≤◌, ap, subst, sym, ◌∙◌}
+use Rattle.flash_model.proofs.Runs.{past_more}
 use Rattle.locked_node.proofs.node.Node.arm.Goals as goal
 
 pub invariant_of-self : goal.invariant_of-self
@@ -25,5 +26,6 @@ invariant_of-self g c =
         faults = subst (λ n. (g.F.Flash.chip c.self.inside.start).faults ≤ n) (sym kept.faults) h.later.faults;
         steady = kept.steady ∙ h.later.steady;
         began = began ∙ h.later.began;
+        past = past_more (g.F.Flash.chip c.self.inside.start) (g.F.Flash.chip c.self.inside.flash) (g.F.Flash.chip c.arm.new.self) h.later.past kept.past;
       };
     }

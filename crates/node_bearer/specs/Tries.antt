@@ -1,0 +1,20 @@
+-- The draws of a job: each before the last found the counter at the mark.
+use Rattle.std.specs.Prelude.{◌≡◌, ℕ, List, [], ◌∷◌}
+use Rattle.seq_word.specs.Seen.{AfterLost, DrawerView, Finds, HasCause}
+use Rattle.seq_word.specs.declared.miss.Miss.TheVariants as missed
+use Rattle.node_bearer.specs.declared.bearer.Drawn.{Drawn}
+use Rattle.node_bearer.specs.declared.bearer.Drawn.TheVariants as D
+
+-- between v and w each of these draws, the latest first, found this word in the counter at or above this mark, and nothing else was done
+abbrev pub DryDraws : List (ℕ × ℕ) → DrawerView → DrawerView → Type 0
+DryDraws [] v w = w ≡ v
+DryDraws (t ∷ tries) v w = (u : DrawerView) × DryDraws tries v u × AfterLost (HasCause (missed.Dry t.0 t.1)) u w
+
+-- the draw that ended them gave this pair, or found that the IV Index is spent
+abbrev pub EndsIn : Drawn → DrawerView → DrawerView → Type 0
+EndsIn (D.Pair p) v w = AfterLost (Finds p) v w
+EndsIn (D.Spent iv) v w = AfterLost (HasCause (missed.Spent iv)) v w
+
+-- some draws found the counter at the mark, and the next ended them
+abbrev pub DrawsUntil : Drawn → DrawerView → DrawerView → Type 0
+DrawsUntil drawn v w = (tries : List (ℕ × ℕ)) × (u : DrawerView) × DryDraws tries v u × EndsIn drawn u w
