@@ -7,7 +7,8 @@ use Rattle.std.specs.List.{list_any}
 use Rattle.std.specs.Option.{is_none, option_map_or, option_or, unwrap_or}
 use Rattle.event_records.specs.Asked.{AreAskedFor}
 use Rattle.friend_steps.proofs.Delivered.{delivered_is}
-use Rattle.friend_steps.specs.Hearing.{AreTaken, AreTakenBy, delivered_from}
+use Rattle.mesh_hearing.specs.Heard.{delivered_from}
+use Rattle.friend_steps.specs.Hearing.{AreTaken, AreTakenBy}
 use Rattle.friend_steps.specs.Others.{changes_friends, has_reading}
 use Rattle.layer_states.specs.Names.{is_name, is_unicast}
 use Rattle.layer_states.specs.Reassembly.{is_segment}

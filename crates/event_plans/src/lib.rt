@@ -22,6 +22,8 @@ mod tables;
 pub use bounds::{are_octets, are_within};
 pub use event_records::Records;
 pub use jobs::plan_jobs;
+pub use mesh_jobs::{PduBasis, TimeBasis};
+pub use mesh_reading::HeardPdu;
 pub use plan::{Basis, Plan};
 pub use planning::plan_event;
 pub use tables::NodeTables;

@@ -9,9 +9,9 @@ ghost use Rattle.element_models.specs.Messages.{HasOctet, message_in};
 ghost use Rattle.event_plans.specs.Delivered.{StandsFor};
 ghost use Rattle.event_records.specs.Asked.{AreAskedFor};
 ghost use Rattle.event_records.specs.Putting.{AreMoves, ArePuttable};
-ghost use Rattle.friend_steps.specs.Hearing.{AreTakenBy, delivered_from};
+ghost use Rattle.friend_steps.specs.Hearing.{AreTakenBy};
 ghost use Rattle.layer_states.specs.Friends.{poll_timeouts};
-ghost use Rattle.mesh_hearing.specs.Heard.{insight_of};
+ghost use Rattle.mesh_hearing.specs.Heard.{delivered_from, insight_of, message_delivered};
 ghost use Rattle.mesh_jobs.specs.Publishing.{IsDueSent};
 ghost use Rattle.mesh_types.specs.declared.answers.Answer.TheVariants as A;
 ghost use Rattle.node_friends.specs.Steps.{AreFriendsOf};
@@ -35,33 +35,25 @@ use event_records::{Changes, changes_law};
 use friend_steps::{friend_steps_law, store_publications};
 use layer_laws::laws::node_law;
 use mesh_base::address::Address;
-use mesh_hearing::Hearing;
+use mesh_hearing::{Delivered, Hearing};
 use mesh_types::answers::Answer;
 use node_friends::NodeFriends;
 use node_models::{Due, Message, MessageReplies, NodeModels, Taken, node_models_law};
 use node_records::Persist;
 
-// The access message that a network PDU delivered, as it opened.
-fn delivered(heard: &Hearing) -> Option<Message<'_>>
-    ensures value { option_map message_in result ≡ delivered_from (insight_of heard.now) heard.now.answer }
+// A message that was delivered, as the models take it.
+fn message_of<'a>(d: &Delivered<'a>) -> Message<'a>
+    ensures value { message_in result ≡ message_delivered d.now }
 {
-    if heard.reset {
-        return None;
+    Message {
+        name: d.name,
+        dst: d.dst,
+        net: d.reading.by.index,
+        ttl: d.reading.fields.ttl,
+        key: d.opened.key,
+        label: d.opened.label,
+        payload: d.opened.payload.as_slice(),
     }
-    let Answer::Delivered { name, dst, .. } = &heard.answer else {
-        return None;
-    };
-    let reading = heard.reading.as_ref()?;
-    let opened = heard.opened.as_ref()?;
-    Some(Message {
-        name: *name,
-        dst: *dst,
-        net: reading.by.index,
-        ttl: reading.fields.ttl,
-        key: opened.key,
-        label: opened.label,
-        payload: opened.payload.as_slice(),
-    })
 }
 
 /// What the message that a network PDU delivered stores, and what is replied to it; without such a message there is
@@ -99,8 +91,9 @@ pub(crate) fn take_heard(
     changes_law();
     node_models_law();
     are_within(p);
-    match delivered(heard) {
-        Some(message) => {
+    match heard.delivered() {
+        Some(delivered) => {
+            let message = message_of(&delivered);
             are_octets(message.payload);
             models.take(p, now, polls, &message)
         }

@@ -26,7 +26,7 @@ use mesh_base::address::Address;
 use mesh_base::octets::Octets;
 use mesh_base::pair::Name;
 use mesh_hearing::tables_law;
-use mesh_jobs::{Span, held_phases};
+use mesh_jobs::{PduBasis, Span, TimeBasis, held_phases};
 use mesh_types::answers::Answer;
 use mesh_types::events::{Event, Outgoing};
 use node_models::node_models_law;
@@ -55,27 +55,16 @@ fn plan_pdu(tables: &mut NodeTables, p: &Persist, octets: &[u8]) -> Result<Plan,
     let heard = tables.hearing.hear(p, keys.as_slice(), octets)?;
     let taken = take_heard(&mut tables.models, p, now, polls.as_slice(), &heard);
     let records = heard_records(&heard.answer, &taken.changes);
-    let left = hear_friends(
-        &mut tables.friends,
-        p,
-        now,
-        &heard,
-        taken.ttl,
-        taken.ends,
-        taken.replies,
-    );
+    let left = hear_friends(&mut tables.friends, p, now, &heard, taken);
     Ok(Plan {
         answer: heard.answer,
         records,
-        basis: Basis::Pdu {
-            reset: heard.reset,
-            reading: heard.reading,
-            low: heard.low,
-            opened: heard.opened,
+        basis: Basis::Pdu(PduBasis {
+            heard: heard.pdu,
             phases,
             replies: left.replies,
             act: left.act,
-        },
+        }),
     })
 }
 
@@ -142,12 +131,12 @@ fn plan_tick(tables: &mut NodeTables, p: &Persist, ticks: u32) -> Plan
     Plan {
         answer: passed.answer,
         records,
-        basis: Basis::Time {
+        basis: Basis::Time(TimeBasis {
             acks: passed.acks,
             rounds: passed.rounds,
             due,
             span: Span { from, to, iv: p.iv },
-        },
+        }),
     }
 }
 

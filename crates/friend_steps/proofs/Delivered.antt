@@ -1,6 +1,6 @@
 -- The message of an entry is that of its answer.
 use Rattle.std.proofs.Common.{◌≡◌, ◌∙◌, refl, ap}
-use Rattle.friend_steps.specs.Hearing.{delivered_from}
+use Rattle.mesh_hearing.specs.Heard.{delivered_from}
 use Rattle.mesh_types.specs.declared.answers.Answer.{Answer}
 use Rattle.mesh_types.specs.declared.answers.Answer.TheVariants as A
 use Rattle.node_layers.specs.Models.{delivered_by}

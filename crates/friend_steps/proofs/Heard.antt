@@ -2,7 +2,8 @@
 use Rattle.std.proofs.Common.{◌≡◌, ◌∙◌, ℕ, Bool, true, false, cond, List, [], ◌∷◌, ◌++◌, map, fold, refl, sym, ap, subst, Option, Some, None}
 use Rattle.std.specs.Option.{option_map_or, option_to_list}
 use Rattle.friend_steps.proofs.Delivered.{delivered_is}
-use Rattle.friend_steps.specs.Hearing.{AreTaken, AreTakenBy, FriendsStandFor, IsActBy, control_left, delivered_from, message_left, replies_left}
+use Rattle.friend_steps.specs.Hearing.{AreTaken, AreTakenBy, FriendsStandFor, IsActBy, control_left, message_left, replies_left}
+use Rattle.mesh_hearing.specs.Heard.{delivered_from}
 use Rattle.mesh_jobs.specs.Acting.{IsActIn}
 use Rattle.mesh_jobs.specs.Replying.{AreRepliesTo, is_source_befriended, replies_sent}
 use Rattle.friend_steps.specs.Replying.{ended, replied_left, reply_short}

@@ -20,7 +20,7 @@ use Rattle.event_definitions.specs.Answers.{config_before}
 use Rattle.event_definitions.specs.Handling.{past_of}
 use Rattle.event_definitions.specs.History.{Insight, OfBeacon, OfNothing, OfPdu, Past, Told}
 use Rattle.friend_steps.proofs.Delivered.{delivered_is}
-use Rattle.friend_steps.specs.Hearing.{delivered_from}
+use Rattle.mesh_hearing.specs.Heard.{delivered_from}
 use Rattle.store_definitions.specs.Config.{Config}
 use Rattle.std.specs.Option.{option_map_or}
 use Rattle.layer_definitions.specs.ControlReading.{control_of}

@@ -18,8 +18,9 @@ use Rattle.mesh_base.specs.declared.keys.UpperKey.TheVariants as U
 use Rattle.mesh_base.specs.declared.lower.Lower.{Lower}
 use Rattle.mesh_hearing.specs.Heard.{insight_of}
 use Rattle.mesh_hearing.specs.declared.hearing.Hearing.{Hearing}
-use Rattle.mesh_reading.specs.Held.{opening_of, reading_of}
-use Rattle.mesh_reading.specs.declared.opening.Opened.{Opened}
+use Rattle.mesh_reading.specs.Held.{opening_of, reading_of, opened_in, pdu_insight, reading_in}
+use Rattle.mesh_reading.specs.declared.heard.HeardPdu.{HeardPdu}
+use Rattle.mesh_reading.specs.declared.heard.HeardPdu.TheVariants as H
 use Rattle.mesh_types.specs.declared.events.Event.TheVariants as E
 use Rattle.network_layer.specs.declared.reading.NetReading.{NetReading}
 use Rattle.node_layers.proofs.FriendKeys.{friend_nids}
@@ -77,28 +78,32 @@ tried_width c r false id = own (is_unicast r.fields.dst)
 
 -- So of what was heard.
 
-seen_with : (past : Past) (octets : List ℕ) (h : Hearing) → Sees node_layers past (E.Net octets) (insight_of h) → h.reset ≡ false
-    → Sees node_layers past (E.Net octets) (OfPdu (option_map reading_of h.reading) h.low (option_map opening_of h.opened))
-seen_with past octets h sees off =
-    subst (λ (i : Insight). Sees node_layers past (E.Net octets) i)
-    (ap (λ b. cond b OfNothing (OfPdu (option_map reading_of h.reading) h.low (option_map opening_of h.opened))) off) sees
+read_by : (past : Past) (octets : List ℕ) (r : Reading) (low : Option Lower) (opening : Option Opening)
+    → Sees node_layers past (E.Net octets) (OfPdu (Some r) low opening) → HasPdu r.fields × (r.by.material.nid < 2 ^ 7)
+read_by past octets r low opening (sees_pdu reset reads lower opens) = reading_well past octets r reads
 
-read_by : (past : Past) (octets : List ℕ) (reading : Option NetReading) (low : Option Lower) (opening : Option Opening)
-    → Sees node_layers past (E.Net octets) (OfPdu (option_map reading_of reading) low opening)
-    → IfSome reading (λ r. HasPdu r.fields × (r.by.material.nid < 2 ^ 7))
-read_by past octets None low opening sees = tt
-read_by past octets (Some r) low opening (sees_pdu reset reads lower opens) = reading_well past octets (reading_of r) reads
+opened_by : (past : Past) (octets : List ℕ) (reading : Option Reading) (low : Option Lower) (o : Opening)
+    → Sees node_layers past (E.Net octets) (OfPdu reading low (Some o)) → HasAidWidth o.key
+opened_by past octets reading low o (sees_pdu reset reads lower opens) = key_holds HasAidWidth tried_width node_layers past reading low o opens
 
-opened_by : (past : Past) (octets : List ℕ) (reading : Option Reading) (low : Option Lower) (opened : Option Opened)
-    → Sees node_layers past (E.Net octets) (OfPdu reading low (option_map opening_of opened))
-    → IfSome opened (λ o. HasAidWidth o.key)
-opened_by past octets reading low None sees = tt
-opened_by past octets reading low (Some o) (sees_pdu reset reads lower opens) = key_holds HasAidWidth tried_width node_layers past reading low (opening_of o) opens
+pdu_read : (pdu : HeardPdu) (past : Past) (octets : List ℕ) → Sees node_layers past (E.Net octets) (pdu_insight pdu)
+    → IfSome (reading_in pdu) (λ r. HasPdu r.fields × (r.by.material.nid < 2 ^ 7))
+pdu_read H.Reset past octets sees = tt
+pdu_read H.Unread past octets sees = tt
+pdu_read (H.Network r) past octets sees = read_by past octets (reading_of r) None None sees
+pdu_read (H.Lower r low) past octets sees = read_by past octets (reading_of r) (Some low) None sees
+pdu_read (H.Opened r low o) past octets sees = read_by past octets (reading_of r) (Some low) (Some (opening_of o)) sees
+
+pdu_opened : (pdu : HeardPdu) (past : Past) (octets : List ℕ) → Sees node_layers past (E.Net octets) (pdu_insight pdu)
+    → IfSome (opened_in pdu) (λ o. HasAidWidth o.key)
+pdu_opened H.Reset past octets sees = tt
+pdu_opened H.Unread past octets sees = tt
+pdu_opened (H.Network r) past octets sees = tt
+pdu_opened (H.Lower r low) past octets sees = tt
+pdu_opened (H.Opened r low o) past octets sees = opened_by past octets (Some (reading_of r)) (Some low) (opening_of o) sees
 
 pub read_well : (h : Hearing) (past : Past) (octets : List ℕ) → Sees node_layers past (E.Net octets) (insight_of h) → IsReadWell h
-read_well h past octets sees = λ off.
-    read_by past octets h.reading h.low (option_map opening_of h.opened) (seen_with past octets h sees off)
+read_well h past octets sees = pdu_read h.pdu past octets sees
 
 pub opened_well : (h : Hearing) (past : Past) (octets : List ℕ) → Sees node_layers past (E.Net octets) (insight_of h) → IsOpenedWell h
-opened_well h past octets sees = λ off.
-    opened_by past octets (option_map reading_of h.reading) h.low h.opened (seen_with past octets h sees off)
+opened_well h past octets sees = pdu_opened h.pdu past octets sees

@@ -8,7 +8,9 @@ use Rattle.layer_definitions.specs.ControlReading.{control_of}
 use Rattle.layer_definitions.specs.Network.{HasPdu}
 use Rattle.layer_states.specs.Friends.{FriendsState, is_befriended}
 use Rattle.mesh_base.specs.declared.address.Address.{Address}
+use Rattle.mesh_hearing.specs.Heard.{delivered_from}
 use Rattle.mesh_hearing.specs.declared.hearing.Hearing.{Hearing}
+use Rattle.mesh_reading.specs.Held.{opened_in, reading_in}
 use Rattle.mesh_types.specs.declared.answers.Answer.{Answer}
 use Rattle.mesh_types.specs.declared.answers.Answer.TheVariants as A
 use Rattle.mesh_types.specs.declared.events.Event.TheVariants as E
@@ -26,13 +28,7 @@ use Rattle.event_definitions.specs.Answers.{config_before}
 use Rattle.event_definitions.specs.History.{Insight, OfPdu, Past, now_of}
 use Rattle.event_definitions.specs.Layers.{AccessMessage}
 use Rattle.event_definitions.specs.Readings.{Sees}
-use Rattle.event_definitions.specs.Stores.{message_of}
 use Rattle.store_definitions.specs.Config.{Config}
-
--- the message that an answer delivered, as its octets opened
-abbrev pub delivered_from : Insight → Answer → Option AccessMessage
-delivered_from insight (A.Delivered name dst key payload) = message_of insight name dst
-delivered_from insight _ = None
 
 -- What the models made of a message in a node with friendships: its replies, the Default TTL behind it, and whether it ends the friendships.
 pub record AreTaken (past : Past) (m : AccessMessage) (default : ℕ) (over : Bool) (sent : MessageReplies) : Type 0 where
@@ -59,10 +55,10 @@ IsSomeReading st insight =
 -- Octets that were read have fields of which there is a PDU, under a NID of 7 bits; and an application key that opens a message has an AID of
 -- 6 bits.
 abbrev pub IsReadWell : Hearing → Type 0
-IsReadWell h = h.reset ≡ false → IfSome h.reading (λ r. HasPdu r.fields × (r.by.material.nid < 2 ^ 7))
+IsReadWell h = IfSome (reading_in h.pdu) (λ r. HasPdu r.fields × (r.by.material.nid < 2 ^ 7))
 
 abbrev pub IsOpenedWell : Hearing → Type 0
-IsOpenedWell h = h.reset ≡ false → IfSome h.opened (λ o. HasAidWidth o.key)
+IsOpenedWell h = IfSome (opened_in h.pdu) (λ o. HasAidWidth o.key)
 
 -- What a control message leaves, where the records say `c`, and what it leads to.
 

@@ -22,7 +22,7 @@ use mesh_hearing::Hearing;
 use mesh_jobs::is_before_cache;
 use mesh_types::answers::Answer;
 use node_friends::{FriendAct, NodeFriends, friends_law};
-use node_models::{MessageReplies, node_models_law};
+use node_models::{MessageReplies, Taken, node_models_law};
 use node_records::Persist;
 use upper_transport::read_control;
 
@@ -42,10 +42,10 @@ fn hear_pdu(friends: &mut NodeFriends, heard: &Hearing)
     ensures befriended { (a : At) → is_befriended_in friends.new.slots a ≡ is_befriended_in friends.old.slots a }
     ensures polls { poll_timeouts friends.new.slots ≡ poll_timeouts friends.old.slots }
 {
-    if heard.reset || is_before_cache(&heard.answer) {
+    if is_before_cache(&heard.answer) {
         return;
     }
-    if let Some(reading) = &heard.reading {
+    if let Some(reading) = heard.pdu.reading() {
         friends.heard(reading);
     }
 }
@@ -59,10 +59,7 @@ fn hear_control(friends: &mut NodeFriends, p: &Persist, now: u64, heard: &Hearin
     ensures act { IsActBy friends.old (config_in p.now) now (insight_of heard.now) heard.now.answer result }
     ensures sendable { IsSendableAct result }
 {
-    if heard.reset {
-        return FriendAct::Nothing;
-    }
-    let Some(reading) = &heard.reading else {
+    let Some(reading) = heard.pdu.reading() else {
         return FriendAct::Nothing;
     };
     let Answer::Control { opcode, params, .. } = &heard.answer else {
@@ -77,69 +74,55 @@ fn hear_replies(
     friends: &mut NodeFriends,
     p: &Persist,
     heard: &Hearing,
-    ttl: u8,
-    ends: bool,
-    replies: MessageReplies,
+    taken: Taken,
 ) -> MessageReplies
     requires unicast { p.now.unicast.0 < 2 ^ 15 }
     requires opened { IsOpenedWell heard.now }
-    requires short { ttl < 2 ^ 7 }
-    requires octets { All HasOctet (replies_in replies) }
+    requires short { taken.ttl < 2 ^ 7 }
+    requires octets { All HasOctet (replies_in taken.replies) }
     ensures state { friends.new
-        ≡ message_left friends.old p.now.unicast ttl ends (replies_in replies) (insight_of heard.now)
+        ≡ message_left friends.old p.now.unicast taken.ttl taken.ends (replies_in taken.replies) (insight_of heard.now)
         heard.now.answer }
     ensures left { replies_in result
-        ≡ replies_left friends.old ends (replies_in replies) (insight_of heard.now) heard.now.answer }
+        ≡ replies_left friends.old taken.ends (replies_in taken.replies) (insight_of heard.now) heard.now.answer }
 {
-    if heard.reset {
-        return replies;
-    }
-    let Answer::Delivered { name, .. } = &heard.answer else {
-        return replies;
-    };
-    let Some(reading) = &heard.reading else {
-        return replies;
-    };
-    let Some(opened) = &heard.opened else {
-        return replies;
+    let Some(delivered) = heard.delivered() else {
+        return taken.replies;
     };
     let to = ReplyTo {
-        reading,
-        key: &opened.key,
-        src: name.src,
+        reading: delivered.reading,
+        key: &delivered.opened.key,
+        src: delivered.name.src,
         unicast: p.unicast,
-        ttl,
+        ttl: taken.ttl,
     };
-    store_replies(friends, &to, ends, replies)
+    store_replies(friends, &to, taken.ends, taken.replies)
 }
 
 /// What the friendships make of a network PDU heard at this moment of the life, in ticks of 10 ms, at most 2^48. It is stored first, for each
 /// Low Power node that it is for; then what a control message asks for is done; or an access message may end the friendships, and its replies
-/// that go unsegmented to an address of a friendship are stored. `p` is what the records before the event say, and `ttl`, `ends` and `replies`
-/// are what `take` of `node_models` made of the message; without one there are no replies. The friendships then stand for the entry of the PDU
-/// too.
+/// that go unsegmented to an address of a friendship are stored. `p` is what the records before the event say, and `taken` is what `take` of
+/// `node_models` made of the message; without one there are no replies. The friendships then stand for the entry of the PDU too.
 pub fn hear_friends(
     friends: &mut NodeFriends,
     p: &Persist,
     now: u64,
     heard: &Hearing,
-    ttl: u8,
-    ends: bool,
-    replies: MessageReplies,
+    taken: Taken,
 ) -> FriendsHeard
     requires time { now ≤ 2 ^ 48 }
     requires unicast { p.now.unicast.0 < 2 ^ 15 }
     requires read { IsSomeReading friends.old (insight_of heard.now) }
-    requires short { ttl < 2 ^ 7 }
-    requires octets { All HasOctet (replies_in replies) }
+    requires short { taken.ttl < 2 ^ 7 }
+    requires octets { All HasOctet (replies_in taken.replies) }
     ensures act { (past : Past) → FriendsStandFor past p.now friends.old now
         → IsActIn past (config_in p.now) (insight_of heard.now) heard.now.answer result.act }
     ensures sendable { IsSendableAct result.act }
     ensures replies { (past : Past) → FriendsStandFor past p.now friends.old now
-        → AreTakenBy past (insight_of heard.now) heard.now.answer ttl ends replies
+        → AreTakenBy past (insight_of heard.now) heard.now.answer taken.ttl taken.ends taken.replies
         → AreRepliesTo past (insight_of heard.now) heard.now.answer result.replies }
     ensures friends { (past : Past) (e : Told) (octets : List ℕ) → FriendsStandFor past p.now friends.old now
-        → AreTakenBy past (insight_of heard.now) heard.now.answer ttl ends replies
+        → AreTakenBy past (insight_of heard.now) heard.now.answer taken.ttl taken.ends taken.replies
         → is_ticked heard.now.answer ≡ false
         → e.entry.event ≡ E.Net octets → e.insight ≡ insight_of heard.now → e.entry.answer ≡ heard.now.answer
         → e.records ≡ past.records → AreFriendsOf friends.new (past.told ++ e ∷ []) }
@@ -149,6 +132,6 @@ pub fn hear_friends(
     node_models_law();
     hear_pdu(friends, heard);
     let act = hear_control(friends, p, now, heard);
-    let replies = hear_replies(friends, p, heard, ttl, ends, replies);
+    let replies = hear_replies(friends, p, heard, taken);
     FriendsHeard { act, replies }
 }

@@ -132,10 +132,10 @@ told_running past ticks now i e = pick (config_before past).reset refl e
 -- what sends a round is what the plan says
 rounds_held : (past : Past) (event : Event) (basis : Basis) (a : Answer) → IsBasisOf past event a basis → a ≡ answer_of node_layers past event (insight_in basis)
     → HasRounds past event a
-rounds_held past (E.Tick ticks) (B.Time acks rounds due span) (A.Ticked now) b is =
+rounds_held past (E.Tick ticks) (B.Time t) (A.Ticked now) b is =
     let running = told_running past ticks now OfNothing is in
-    recursion_from_All IsHeldWell _ (subst (All IsHeldWell) (b.1.rounds running) b.1.held)
-rounds_held past (E.Tick ticks) (B.Pdu reset reading low opened phases replies act) a b is = absurd b
+    recursion_from_All IsHeldWell _ (subst (All IsHeldWell) (b.1.due running (config_before past) refl).rounds b.1.held)
+rounds_held past (E.Tick ticks) (B.Pdu heard) a b is = absurd b
 rounds_held past (E.Tick ticks) (B.Beacon reset beacon) a b is = absurd b
 rounds_held past (E.Tick ticks) (B.Own befriended) a b is = absurd b
 rounds_held past _ basis a b is = tt
@@ -156,10 +156,10 @@ plan_leaves past event plan t p planned meaning =
 -- what a network PDU asks for is what the plan says that its control message led to
 act_held : (past : Past) (event : Event) (basis : Basis) (a : Answer) (c : Config) → IsBasisOf past event a basis → LeavesConfig a (config_before past) c
     → HasActs past c event (insight_in basis) a
-act_held past (E.Net octets) (B.Pdu reset reading low opened phases replies act) a c b leaves =
-    has_act past c (insight_in (B.Pdu reset reading low opened phases replies act)) a act b.2 b.3 leaves
+act_held past (E.Net octets) (B.Pdu heard) a c b leaves =
+    has_act past c (insight_in (B.Pdu heard)) a heard.act b.2 b.3 leaves
 act_held past (E.Net octets) (B.Beacon reset beacon) a c b leaves = absurd b
-act_held past (E.Net octets) (B.Time acks rounds due span) a c b leaves = absurd b
+act_held past (E.Net octets) (B.Time t) a c b leaves = absurd b
 act_held past (E.Net octets) (B.Own befriended) a c b leaves = absurd b
 act_held past _ basis a c b leaves = tt
 

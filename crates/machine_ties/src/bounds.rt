@@ -4,19 +4,17 @@
 ghost use Rattle.event_plans.specs.Plans.{insight_in};
 ghost use Rattle.machine_ties.specs.Kept.{HasOctets, IsBounded};
 
-use event_plans::{Basis, Plan, are_octets, are_within};
+use event_plans::{Basis, HeardPdu, Plan, are_octets, are_within};
 use node_records::Persist;
 
 // The octets of a payload that was opened are below 2^8.
 fn has_octets(plan: &Plan)
     ensures octets { HasOctets (insight_in plan.now.basis) }
 {
-    if let Basis::Pdu {
-        opened: Some(opened),
-        ..
-    } = &plan.basis
-    {
-        are_octets(opened.payload.as_slice());
+    if let Basis::Pdu(basis) = &plan.basis {
+        if let HeardPdu::Opened { opened, .. } = &basis.heard {
+            are_octets(opened.payload.as_slice());
+        }
     }
 }
 

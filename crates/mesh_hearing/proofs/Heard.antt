@@ -7,6 +7,7 @@ use Rattle.layer_definitions.specs.Network.{IsUnread, Reads}
 use Rattle.layer_states.specs.Reassembly.{after}
 use Rattle.layer_states.specs.Sending as sending
 use Rattle.layer_states.specs.declared.reassembly.Assembly.{Assembly}
+use Rattle.mesh_base.specs.declared.address.Address.{Address}
 use Rattle.mesh_base.specs.declared.fields.Heard.{Heard}
 use Rattle.mesh_base.specs.declared.fields.NetFields.{NetFields}
 use Rattle.mesh_base.specs.declared.lower.Lower.{Lower}
@@ -14,15 +15,21 @@ use Rattle.mesh_base.specs.declared.pair.Name.{Name}
 use Rattle.mesh_hearing.proofs.Entries.{goes_on}
 use Rattle.mesh_hearing.proofs.Groups.{early_ticks, late_cached, late_ticks}
 use Rattle.mesh_hearing.specs.Below.{IsNamedAs, IsReadAs, IsTransportAs, cache_after_row}
-use Rattle.mesh_hearing.specs.Heard.{IsHeard, insight_of}
+use Rattle.mesh_hearing.specs.Heard.{IsHeard, delivered_from, insight_of}
 use Rattle.mesh_hearing.specs.Kinds.{is_early, is_late}
 use Rattle.mesh_hearing.specs.Tables.{AreTablesOf, TablesView, again_after, cache_after, tables_after}
 use Rattle.mesh_hearing.specs.declared.hearing.Hearing.{Hearing}
 use Rattle.mesh_hearing.specs.declared.whole.Judged.{Judged}
-use Rattle.mesh_reading.specs.Held.{held_in, opening_of, reading_of}
+use Rattle.mesh_reading.specs.Held.{held_in, opening_of, pdu_insight, reading_in, reading_of}
+use Rattle.mesh_reading.specs.declared.heard.HeardPdu.{HeardPdu}
+use Rattle.mesh_reading.specs.declared.heard.HeardPdu.TheVariants as H
+use Rattle.mesh_reading.specs.declared.opening.Opened.{Opened}
+use Rattle.event_definitions.proofs.Accepting.{some_is}
+use Rattle.event_definitions.specs.Stores.{message_of}
 use Rattle.mesh_reading.specs.Keys.{HeldKeys}
 use Rattle.mesh_types.specs.declared.answers.Answer.{Answer}
 use Rattle.mesh_types.specs.declared.answers.Answer.TheVariants as A
+use Rattle.mesh_types.specs.declared.answers.KeyName.{KeyName}
 use Rattle.mesh_types.specs.declared.events.Event.TheVariants as E
 use Rattle.network_layer.specs.declared.reading.NetReading.{NetReading}
 use Rattle.node_layers.specs.Friendship.{friend_keys}
@@ -85,7 +92,7 @@ no_reset : (past : Past) → (config_before past).reset ≡ false → IsFalse (c
 no_reset past e = e
 
 pub heard_unread : (past : Past) (p : Persist) (octets : List ℕ) → IsMeaningOf past.records p → p.reset ≡ false → IsReading node_layers past octets None
-    → IsReadAs past octets (record { reset = false; reading = None; low = None; opened = None; answer = A.Unread })
+    → IsReadAs past octets (record { pdu = H.Unread; answer = A.Unread })
 heard_unread past p octets m e none =
     let reset = before_reset past p m e in
     record {
@@ -95,7 +102,7 @@ heard_unread past p octets m e none =
 
 pub heard_early : (past : Past) (p : Persist) (octets : List ℕ) (r : NetReading) (a : Answer) → IsMeaningOf past.records p → p.reset ≡ false
     → IsReading node_layers past octets (Some (reading_of r)) → Some a ≡ network_answer past (reading_of r)
-    → IsReadAs past octets (record { reset = false; reading = Some r; low = None; opened = None; answer = a })
+    → IsReadAs past octets (record { pdu = H.Network r; answer = a })
 heard_early past p octets r a m e reading row =
     let reset = before_reset past p m e in
     record {
@@ -105,37 +112,49 @@ heard_early past p octets r a m e reading row =
           (ap (λ o. unwrap_or o (transport_answer node_layers past (reading_of r) None None)) row);
     }
 
-insight_is : (r : NetReading) (h : Hearing) → h.reset ≡ false → h.reading ≡ Some r
-    → insight_of h ≡ OfPdu (Some (reading_of r)) h.low (option_map opening_of h.opened)
-insight_is r h e g =
-    ap (λ b. cond b OfNothing (OfPdu (option_map reading_of h.reading) h.low (option_map opening_of h.opened))) e
-    ∙ ap (λ o. OfPdu (option_map reading_of o) h.low (option_map opening_of h.opened)) g
-
 pub heard_late : (past : Past) (p : Persist) (octets : List ℕ) (r : NetReading) (h : Hearing) → IsMeaningOf past.records p → p.reset ≡ false
     → IsReading node_layers past octets (Some (reading_of r)) → None ≡ network_answer past (reading_of r)
-    → h.reset ≡ false → h.reading ≡ Some r → IsTransportAs past (reading_of r) h → IsReadAs past octets h
-heard_late past p octets r h m e reading row unreset is t =
+    → IsTransportAs past (reading_of r) h → IsReadAs past octets h
+heard_late past p octets r h m e reading row t =
     let reset = before_reset past p m e in
-    let i = insight_is r h unreset is in
     record {
-      sees = subst (λ x. Sees node_layers past (E.Net octets) x) (sym i)
-          (sees_pdu {octets = octets} {reading = Some (reading_of r)} {low = h.low} {opening = option_map opening_of h.opened} (no_reset past reset) reading
-          (subst (λ o. MatchOption o (IsLowerPdu r.fields h.low) (λ answer. h.low ≡ None)) row t.lower) t.opens);
-      answer = answered past octets (OfPdu (Some (reading_of r)) h.low (option_map opening_of h.opened)) h.answer reset
-          (t.answer ∙ ap (λ o. unwrap_or o (transport_answer node_layers past (reading_of r) h.low (option_map opening_of h.opened))) row)
-          ∙ ap (λ x. answer_of node_layers past (E.Net octets) x) (sym i);
+      sees = subst (λ x. Sees node_layers past (E.Net octets) x) (sym t.read)
+          (sees_pdu {octets = octets} {reading = Some (reading_of r)} {low = t.low} {opening = t.opening} (no_reset past reset) reading
+          (subst (λ o. MatchOption o (IsLowerPdu r.fields t.low) (λ answer. t.low ≡ None)) row t.lower) t.opens);
+      answer = answered past octets (OfPdu (Some (reading_of r)) t.low t.opening) h.answer reset
+          (t.answer ∙ ap (λ o. unwrap_or o (transport_answer node_layers past (reading_of r) t.low t.opening)) row)
+          ∙ ap (λ x. answer_of node_layers past (E.Net octets) x) (sym t.read);
     }
 
 -- The lower transport layer.
 
-pub transport_named : (past : Past) (r : Reading) (reading : Option NetReading) (low : Lower) (j : Judged) → IsLowerPdu r.fields (Some low)
-    → IsNamedAs past r low (message_name r.fields low) j
-    → IsTransportAs past r (record { reset = false; reading = reading; low = Some low; opened = j.opened; answer = j.answer })
-transport_named past r reading low j is n = record { lower = is; opens = n.opens; answer = n.answer }
+pub transport_named : (past : Past) (r : Reading) (low : Lower) (j : Judged) (pdu : HeardPdu) → IsLowerPdu r.fields (Some low)
+    → IsNamedAs past r low (message_name r.fields low) j → pdu_insight pdu ≡ OfPdu (Some r) (Some low) (option_map opening_of j.opened)
+    → IsTransportAs past r (record { pdu = pdu; answer = j.answer })
+transport_named past r low j pdu is n read =
+    record { low = Some low; opening = option_map opening_of j.opened; read = read; lower = is; opens = n.opens; answer = n.answer }
 
-pub transport_none : (past : Past) (r : Reading) (reading : Option NetReading) → IsLowerPdu r.fields None
-    → IsTransportAs past r (record { reset = false; reading = reading; low = None; opened = None; answer = A.Malformed })
-transport_none past r reading none = record { lower = none; opens = refl; answer = refl }
+pub transport_none : (past : Past) (r : NetReading) → IsLowerPdu r.fields None → IsTransportAs past (reading_of r) (record { pdu = H.Network r; answer = A.Malformed })
+transport_none past r none = record { low = None; opening = None; read = refl; lower = none; opens = refl; answer = refl }
+
+-- A message that was delivered.
+
+pub none_opened : (h : HeardPdu) (a : Answer) → ((r : NetReading) (low : Lower) (o : Opened) → h ≡ H.Opened r low o → ⊥) → delivered_from (pdu_insight h) a ≡ None
+none_opened H.Reset (A.Delivered name dst key payload) other = refl
+none_opened H.Unread (A.Delivered name dst key payload) other = refl
+none_opened (H.Network r) (A.Delivered name dst key payload) other = refl
+none_opened (H.Lower r low) (A.Delivered name dst key payload) other = refl
+none_opened (H.Opened r low o) (A.Delivered name dst key payload) other = absurd (other r low o refl)
+none_opened h _ other = refl
+
+pub none_delivered : (i : Insight) (a : Answer)
+    → ((name : Name) (dst : Address) (key : KeyName) (payload : List ℕ) → a ≡ A.Delivered name dst key payload → ⊥) → delivered_from i a ≡ None
+none_delivered i (A.Delivered name dst key payload) other = absurd (other name dst key payload refl)
+none_delivered i _ other = refl
+
+pub some_delivered : (h : HeardPdu) (a : Answer) (r : NetReading) (low : Lower) (o : Opened) (name : Name) (dst : Address) (key : KeyName) (payload : List ℕ)
+    → h ≡ H.Opened r low o → a ≡ A.Delivered name dst key payload → delivered_from (pdu_insight h) a ≡ message_of (OfPdu (Some (reading_of r)) (Some low) (Some (opening_of o))) name dst
+some_delivered h a r low o name dst key payload is answer = ap (λ x. delivered_from (pdu_insight h) x) answer ∙ ap (λ x. message_of (pdu_insight x) name dst) is
 
 -- The tables.
 
@@ -147,11 +166,19 @@ pub cache_early : (r : NetReading) (names : List Name) (a : Answer)
     → cache_after_row names r.fields (Some a) ≡ cache_after names (cached_name (OfPdu (Some (reading_of r)) None None) (is_before_cache a))
 cache_early r names a = ap (λ n. cache_after names n) (row_cached (reading_of r) (is_before_cache a))
 
-pub cache_late : (r : NetReading) (names : List Name) (h : Hearing) → h.reset ≡ false → h.reading ≡ Some r → is_late h.answer ≡ true
+-- the name of a PDU that read, as it is cached
+name_read : (pdu : HeardPdu) (r : NetReading) → reading_in pdu ≡ Some r → Some (name_of r.fields) ≡ cached_name (pdu_insight pdu) false
+name_read H.Reset r e = absurd cc
+name_read H.Unread r e = absurd cc
+name_read (H.Network x) r e = ap (λ (y : NetReading). Some (name_of y.fields)) (sym (some_is e))
+name_read (H.Lower x low) r e = ap (λ (y : NetReading). Some (name_of y.fields)) (sym (some_is e))
+name_read (H.Opened x low o) r e = ap (λ (y : NetReading). Some (name_of y.fields)) (sym (some_is e))
+
+pub cache_late : (r : NetReading) (names : List Name) (h : Hearing) → reading_in h.pdu ≡ Some r → is_late h.answer ≡ true
     → cache_after_row names r.fields None ≡ cache_after names (cached_name (insight_of h) (is_before_cache h.answer))
-cache_late r names h e g late =
-    ap (λ b. cache_after names (cached_name (OfPdu (Some (reading_of r)) h.low (option_map opening_of h.opened)) b)) (sym (late_cached h.answer late))
-    ∙ ap (λ i. cache_after names (cached_name i (is_before_cache h.answer))) (sym (insight_is r h e g))
+cache_late r names h e late =
+    ap (λ n. cache_after names n) (name_read h.pdu r e)
+    ∙ ap (λ b. cache_after names (cached_name (insight_of h) b)) (sym (late_cached h.answer late))
 
 pub parts_early : (parts : List Assembly) (a : Answer) → is_early a ≡ true → parts ≡ fold after parts ([] ++ tick_calls a)
 parts_early parts a e = ap (λ cs. fold after parts ([] ++ cs)) (sym (early_ticks a e))
@@ -178,7 +205,7 @@ unfolding answer_of
 reset_answer past octets e = ap (λ b. cond b A.Reset (pdu_answer node_layers past OfNothing)) (sym e)
 
 pub heard_reset : (past : Past) (p : Persist) (octets : List ℕ) (t : TablesView) → IsMeaningOf past.records p → p.reset ≡ true → AreTablesOf t past.told
-    → IsHeard past octets (record { reset = true; reading = None; low = None; opened = None; answer = A.Reset }) t
+    → IsHeard past octets (record { pdu = H.Reset; answer = A.Reset }) t
 heard_reset past p octets t m e h =
     let reset : (config_before past).reset ≡ true = ap (λ (c : Config). c.reset) (sym m.config) ∙ e in
     record {

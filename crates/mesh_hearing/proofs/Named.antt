@@ -19,7 +19,9 @@ use Rattle.mesh_hearing.specs.Kinds.{is_known, is_of_part, is_of_whole}
 use Rattle.mesh_hearing.specs.declared.whole.Judged.{Judged}
 use Rattle.mesh_hearing.specs.Heard.{insight_of}
 use Rattle.mesh_hearing.specs.declared.hearing.Hearing.{Hearing}
-use Rattle.mesh_reading.specs.Held.{opening_of, reading_of}
+use Rattle.mesh_reading.specs.Held.{low_in, opening_of, pdu_insight, reading_of}
+use Rattle.mesh_reading.specs.declared.heard.HeardPdu.{HeardPdu}
+use Rattle.mesh_reading.specs.declared.heard.HeardPdu.TheVariants as H
 use Rattle.mesh_types.specs.declared.answers.Answer.{Answer}
 use Rattle.mesh_types.specs.declared.answers.Answer.TheVariants as A
 use Rattle.node_layers.proofs.Segments.{node_answers, node_whole}
@@ -169,11 +171,18 @@ named_whole past r low n j e f w =
     }
 
 -- the name of a message that was accepted from segments
-pub accepted_is : (h : Hearing) (low : Lower) (o : Option Name) → h.reset ≡ false → h.low ≡ Some low → is_segment low ≡ true → o ≡ accepted h.answer
+abbrev segmented_of : Option Lower → Answer → Option Name
+segmented_of None a = None
+segmented_of (Some low) a = cond (is_segment low) (accepted a) None
+
+pub segmented_by : (pdu : HeardPdu) (a : Answer) → segmented_name (pdu_insight pdu) a ≡ segmented_of (low_in pdu) a
+segmented_by H.Reset a = refl
+segmented_by H.Unread a = refl
+segmented_by (H.Network r) a = refl
+segmented_by (H.Lower r low) a = refl
+segmented_by (H.Opened r low o) a = refl
+
+pub accepted_is : (h : Hearing) (low : Lower) (o : Option Name) → low_in h.pdu ≡ Some low → is_segment low ≡ true → o ≡ accepted h.answer
     → o ≡ segmented_name (insight_of h) h.answer
-accepted_is h low o e g s is =
-    let reading = option_map reading_of h.reading in
-    let opening = option_map opening_of h.opened in
-    is ∙ ap (λ b. cond b (accepted h.answer) None) (sym s)
-    ∙ ap (λ l. segmented_name (OfPdu reading l opening) h.answer) (sym g)
-    ∙ ap (λ b. segmented_name (cond b OfNothing (OfPdu reading h.low opening)) h.answer) (sym e)
+accepted_is h low o g s is =
+    is ∙ ap (λ b. cond b (accepted h.answer) None) (sym s) ∙ ap (λ l. segmented_of l h.answer) (sym g) ∙ sym (segmented_by h.pdu h.answer)

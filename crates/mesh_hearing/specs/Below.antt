@@ -31,7 +31,7 @@ use Rattle.node_records.specs.Meaning.{IsMeaningOf}
 use Rattle.node_records.specs.declared.persist.Persist.{Persist}
 use Rattle.layer_states.specs.Names.{is_unicast}
 use Rattle.event_definitions.specs.Answers.{answer_of, config_before, is_again, is_before_cache, is_group, key_step, name_of, named_answer, opened_answer, replayed, segment_answer, transport_answer, whole_answer}
-use Rattle.event_definitions.specs.History.{Past, Reading, now_of}
+use Rattle.event_definitions.specs.History.{Past, Reading, now_of, OfPdu, Opening}
 use Rattle.event_definitions.specs.Readings.{IsLowerPdu, IsOpened, IsOpenedFor, IsOpening, IsOpeningOf, Sees, fields_heard, keys_tried}
 use Rattle.store_definitions.specs.Config.{Config, is_element}
 use Rattle.store_definitions.specs.Entries.{entry_of}
@@ -130,9 +130,12 @@ pub record IsReadAs (past : Past) (octets : List ℕ) (h : Hearing) : Type 0 whe
 
 -- from the lower transport layer on
 pub record IsTransportAs (past : Past) (r : Reading) (h : Hearing) : Type 0 where
-  pub lower : IsLowerPdu r.fields h.low
-  pub opens : IsOpening node_layers past (Some r) h.low (option_map opening_of h.opened)
-  pub answer : h.answer ≡ transport_answer node_layers past r h.low (option_map opening_of h.opened)
+  pub low : Option Lower
+  pub opening : Option Opening
+  pub read : insight_of h ≡ OfPdu (Some r) low opening
+  pub lower : IsLowerPdu r.fields low
+  pub opens : IsOpening node_layers past (Some r) low opening
+  pub answer : h.answer ≡ transport_answer node_layers past r low opening
 
 -- Beacons.
 

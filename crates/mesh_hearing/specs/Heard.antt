@@ -1,25 +1,45 @@
 -- What a node answers to what it hears and to time, by the definitions of a life.
-use Rattle.std.specs.Prelude.{◌≡◌, ℕ, if◌then◌else◌, List, [], ◌∷◌, ◌++◌, filter}
-use Rattle.std.specs.Option.{option_map}
+use Rattle.std.specs.Prelude.{◌≡◌, ℕ, if◌then◌else◌, List, [], ◌∷◌, ◌++◌, filter, Option, None}
 use Rattle.layer_states.specs.Reassembly.{acks_due}
 use Rattle.mesh_hearing.specs.Tables.{AreTablesOf, TablesView}
 use Rattle.mesh_hearing.specs.declared.beacons.BeaconHearing.{BeaconHearing}
+use Rattle.mesh_hearing.specs.declared.hearing.Delivered.{Delivered}
 use Rattle.mesh_hearing.specs.declared.hearing.Hearing.{Hearing}
 use Rattle.mesh_hearing.specs.declared.ticks.Passed.{Passed}
-use Rattle.mesh_reading.specs.Held.{opening_of, reading_of}
+use Rattle.mesh_reading.specs.Held.{pdu_insight}
+use Rattle.mesh_types.specs.declared.answers.Answer.{Answer}
+use Rattle.mesh_types.specs.declared.answers.Answer.TheVariants as A
 use Rattle.mesh_types.specs.declared.events.Event.TheVariants as E
 use Rattle.node_layers.specs.NodeLayers.{node_layers}
 use Rattle.node_layers.specs.Reassembly.{messages}
 use Rattle.node_layers.specs.Sending as own
 use Rattle.event_definitions.specs.Answers.{answer_of, config_before, later}
-use Rattle.event_definitions.specs.History.{Insight, OfPdu, OfBeacon, OfNothing, Past, Told}
+use Rattle.event_definitions.specs.History.{Insight, OfBeacon, OfNothing, Past, Told}
 use Rattle.event_definitions.specs.Readings.{Sees}
+use Rattle.event_definitions.specs.Layers.{AccessMessage}
+use Rattle.event_definitions.specs.Stores.{message_of}
 use Rattle.segment_sender.specs.Held.{has_round}
 
 -- what the octets of a network PDU were read as
 abbrev pub insight_of : Hearing → Insight
-insight_of h =
-    if h.reset then OfNothing else OfPdu (option_map reading_of h.reading) h.low (option_map opening_of h.opened)
+insight_of h = pdu_insight h.pdu
+
+-- the message that an answer delivered, as its octets opened
+abbrev pub delivered_from : Insight → Answer → Option AccessMessage
+delivered_from insight (A.Delivered name dst key payload) = message_of insight name dst
+delivered_from insight _ = None
+
+-- a message that was delivered, as the definitions of a life have it
+abbrev pub message_delivered : Delivered → AccessMessage
+message_delivered d = record {
+  name = d.name;
+  dst = d.dst;
+  net = d.reading.now.by.index;
+  ttl = d.reading.now.fields.ttl;
+  key = d.opened.now.key;
+  label = d.opened.now.label;
+  payload = d.opened.now.payload;
+}
 
 -- After a past, octets heard as a network PDU were read and answered so, and the tables stand for the entries with this one.
 pub record IsHeard (past : Past) (octets : List ℕ) (h : Hearing) (t : TablesView) : Type 0 where

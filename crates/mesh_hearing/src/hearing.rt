@@ -1,21 +1,21 @@
 //! A network PDU heard: from its octets to the answer, and what the tables become.
 #![tactic(auto)]
 
-ghost use Rattle.std.specs.Prelude.{◌≡◌, ℕ, ◌≤◌, ◌<◌, ◌^◌, ◌++◌, true, false, IsFalse, Some, None, fold, IfOk, OnErr, vec_len, vec_capacity};
+ghost use Rattle.std.specs.Prelude.{◌≡◌, ℕ, ◌≤◌, ◌<◌, ◌^◌, ◌++◌, true, IsFalse, Some, fold, IfOk, IfSome, OnErr, vec_len, vec_capacity};
+ghost use Rattle.std.specs.Option.{option_map};
 ghost use Rattle.layer_states.specs.Cache.{last_of};
 ghost use Rattle.layer_states.specs.Reassembly.{after};
 ghost use Rattle.mesh_hearing.specs.Below.{IsReadAs, IsTransportAs, StandsBelow, heard_calls};
-ghost use Rattle.mesh_hearing.specs.Heard.{insight_of, IsHeard};
+ghost use Rattle.mesh_hearing.specs.Heard.{IsHeard, delivered_from, insight_of, message_delivered};
 ghost use Rattle.mesh_hearing.specs.Kinds.{is_late};
 ghost use Rattle.mesh_hearing.specs.Tables.{again_after, cache_after, AreTablesOf, IsFit};
-ghost use Rattle.mesh_reading.specs.Held.{held_in, reading_of};
+ghost use Rattle.mesh_reading.specs.Held.{held_in, opened_in, reading_in, reading_of};
 ghost use Rattle.node_layers.specs.Friendship.{friend_keys};
 ghost use Rattle.node_layers.specs.Reassembly.{message_calls, tick_calls};
 ghost use Rattle.node_layers.specs.Sending.{own_calls};
 ghost use Rattle.node_layers.specs.Steps.{cached_names};
 ghost use Rattle.node_records.specs.Meaning.{IsMeaningOf};
 ghost use Rattle.node_records.specs.Tables.{config_in};
-ghost use Rattle.mesh_types.specs.declared.answers.Answer.TheVariants as A;
 ghost use Rattle.mesh_types.specs.declared.events.Event.{Event};
 ghost use Rattle.event_definitions.specs.Answers.{cached_name, is_before_cache};
 ghost use Rattle.event_definitions.specs.History.{Past, ticks_after};
@@ -24,54 +24,61 @@ use crate::lower::{accepted_part, hear_low};
 use crate::network::network_row;
 use crate::own::acknowledge;
 use crate::tables::Tables;
-use lower_transport::Lower;
+use mesh_base::address::Address;
 use mesh_base::fields::Heard;
 use mesh_base::pair::Name;
-use mesh_reading::{Keys, NetReading, Opened};
+use mesh_reading::{HeardPdu, Keys, NetReading, Opened};
 use mesh_types::answers::Answer;
 use node_records::Persist;
 use relay_cache::Cache;
 use segment_reassembly::Parts;
 use std::alloc::AllocError;
 
-/// What octets heard as a network PDU were read as, as far as a layer came to them, and the answer.
+/// What octets heard as a network PDU were read as, and the answer.
 #[derive(Drop)]
 pub struct Hearing {
-    /// Whether a Node Reset came before in this life, after which nothing is read.
-    pub reset: bool,
-    /// The network PDU, if the octets read as one.
-    pub reading: Option<NetReading>,
-    /// The lower transport PDU, if the network layer had no answer and there is one.
-    pub low: Option<Lower>,
-    /// What a whole access message opened to, if it did.
-    pub opened: Option<Opened>,
+    /// How far the octets were read.
+    pub pdu: HeardPdu,
     /// The answer.
     pub answer: Answer,
 }
 
-// After a Node Reset.
-fn unheard() -> Hearing
-    ensures { result ≡ record { reset = true; reading = None; low = None; opened = None; answer = A.Reset } }
-{
-    Hearing {
-        reset: true,
-        reading: None,
-        low: None,
-        opened: None,
-        answer: Answer::Reset,
-    }
+/// An access message that was delivered.
+#[derive(Drop)]
+pub struct Delivered<'a> {
+    /// Its name.
+    pub name: Name,
+    /// DST.
+    pub dst: Address,
+    /// The network PDU that completed it.
+    pub reading: &'a NetReading,
+    /// What it opened to.
+    pub opened: &'a Opened,
 }
 
-// Of a PDU to which the network layer has the answer.
-fn early(reading: Option<NetReading>, answer: Answer) -> Hearing
-    ensures { result ≡ record { reset = false; reading = reading; low = None; opened = None; answer = answer } }
-{
-    Hearing {
-        reset: false,
-        reading,
-        low: None,
-        opened: None,
-        answer,
+impl Hearing {
+    /// The access message that was delivered, if there is one.
+    pub fn delivered(&self) -> Option<Delivered<'_>>
+        ensures value { option_map message_delivered result ≡ delivered_from (insight_of self.now) self.now.answer }
+        ensures opened { IfSome result (λ d. opened_in self.now.pdu ≡ Some d.opened.now) }
+    {
+        let HeardPdu::Opened {
+            reading,
+            opened,
+            ..
+        } = &self.pdu
+        else {
+            return None;
+        };
+        let Answer::Delivered { name, dst, .. } = &self.answer else {
+            return None;
+        };
+        Some(Delivered {
+            name: *name,
+            dst: *dst,
+            reading,
+            opened,
+        })
     }
 }
 
@@ -88,8 +95,7 @@ fn hear_transport(
     requires time { now ≤ 2 ^ 48 }
     ensures value { (past : Past) → StandsBelow past p.now parts.old again.now now
         → IsTransportAs past (reading_of reading) result }
-    ensures reading { result.reading ≡ Some reading }
-    ensures reset { result.reset ≡ false }
+    ensures reading { reading_in result.pdu ≡ Some reading }
     ensures late { is_late result.answer ≡ true }
     ensures parts { parts.new
         ≡ fold after parts.old (message_calls now (config_in p.now) (insight_of result) result.answer) }
@@ -98,14 +104,14 @@ fn hear_transport(
         Ok(low) => {
             let judged = hear_low(keys, p, again, parts, now, &reading, &low);
             Hearing {
-                reset: false,
-                reading: Some(reading),
-                low: Some(low),
-                opened: judged.opened,
+                pdu: HeardPdu::lower(reading, low, judged.opened),
                 answer: judged.answer,
             }
         }
-        Err(_) => early(Some(reading), Answer::Malformed),
+        Err(_) => Hearing {
+            pdu: HeardPdu::Network(reading),
+            answer: Answer::Malformed,
+        },
     }
 }
 
@@ -135,7 +141,6 @@ fn hear_octets(
     ensures heard { (past : Past) → IsFalse p.now.reset → cache.old ≡ last_of 128 (cached_names past.told)
         → StandsBelow past p.now parts.old again.now now → more.now ≡ friend_keys past
         → IfOk result (IsReadAs past octets.now) }
-    ensures reset { IfOk result (λ h. h.reset ≡ false) }
     ensures cache { IfOk result
         (λ h. cache.new ≡ cache_after cache.old (cached_name (insight_of h) (is_before_cache h.answer))) }
     ensures parts { IfOk result
@@ -145,12 +150,17 @@ fn hear_octets(
     ensures time { IfOk result (λ h. ticks_after now h.answer ≡ now) }
     ensures unchanged { OnErr result ((cache.new ≡ cache.old) × (parts.new ≡ parts.old)) }
 {
-    let reading = match keys.read(more, p.iv.current, octets) {
-        Some(reading) => reading,
-        None => return Ok(early(None, Answer::Unread)),
+    let Some(reading) = keys.read(more, p.iv.current, octets) else {
+        return Ok(Hearing {
+            pdu: HeardPdu::Unread,
+            answer: Answer::Unread,
+        });
     };
     match network_row(keys, p, cache, &reading)? {
-        Some(answer) => Ok(early(Some(reading), answer)),
+        Some(answer) => Ok(Hearing {
+            pdu: HeardPdu::Network(reading),
+            answer,
+        }),
         None => Ok(hear_transport(keys, p, again, parts, now, reading)),
     }
 }
@@ -173,7 +183,10 @@ impl Tables {
         ensures unchanged { OnErr result (self.new ≡ self.old) }
     {
         if p.reset {
-            return Ok(unheard());
+            return Ok(Hearing {
+                pdu: HeardPdu::Reset,
+                answer: Answer::Reset,
+            });
         }
         self.again.reserve(1)?;
         let hearing = hear_octets(

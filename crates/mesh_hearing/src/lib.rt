@@ -24,10 +24,10 @@ mod ticks;
 mod whole;
 
 pub use beacons::BeaconHearing;
-pub use hearing::Hearing;
+pub use hearing::{Delivered, Hearing};
 pub use laws::tables_law;
 pub use layer_states::reassembly::{AckList, DueAck};
-pub use mesh_reading::{Keys, NetReading, Opened};
+pub use mesh_reading::{HeardPdu, Keys, NetReading, Opened};
 pub use segment_sender::{Rounds, SendFull};
 pub use tables::Tables;
 pub use ticks::Passed;

@@ -256,10 +256,9 @@ fn accepted(answer: &Answer) -> Option<Name>
 
 /// The name of a message that was accepted from segments.
 pub(crate) fn accepted_part(h: &Hearing) -> Option<Name>
-    requires { h.now.reset ≡ false }
     ensures { result ≡ segmented_name (insight_of h.now) h.now.answer }
 {
-    match &h.low {
+    match h.pdu.low() {
         Some(low) if is_segment(low) => accepted(&h.answer),
         _ => None,
     }

@@ -9,6 +9,7 @@ use Rattle.layer_states.specs.Names.{is_unicast}
 use Rattle.layer_states.specs.Sending.{pieces_of, round_of}
 use Rattle.layer_states.specs.declared.sending.Sending.{Sending}
 use Rattle.mesh_base.specs.declared.fields.NetMaterial.{NetMaterial}
+use Rattle.mesh_types.specs.declared.answers.Answer.{Answer}
 use Rattle.mesh_types.specs.declared.answers.Answer.TheVariants as A
 use Rattle.mesh_types.specs.declared.events.Event.TheVariants as E
 use Rattle.mesh_types.specs.declared.jobs.Job.{Job}
@@ -71,6 +72,12 @@ pub jobs_are : (past : Past) (c : Config) (ticks now : ℕ) (insight : Insight)
     ≡ jobs_of node_layers past c (E.Tick ticks) insight (A.Ticked now)
 unfolding built_layers configured_layers node_layers jobs_of
 jobs_are past c ticks now insight = refl
+
+-- where no time is told there are none
+pub no_time_jobs : (past : Past) (c : Config) (ticks : ℕ) (i : Insight) (a : Answer) → ((now : ℕ) → a ≡ A.Ticked now → ⊥) → [] ≡ jobs_of node_layers past c (E.Tick ticks) i a
+unfolding jobs_of
+no_time_jobs past c ticks i (A.Ticked now) h = absurd (h now refl)
+no_time_jobs past c ticks i _ h = refl
 
 -- Jobs put behind others.
 pub none_put : (xs ys : List Job) → ys ≡ [] → xs ≡ xs ++ ys

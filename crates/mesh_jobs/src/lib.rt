@@ -27,10 +27,10 @@ mod ticks;
 
 pub use beacons::push_beacons;
 pub use messages::{begin_jobs, own_jobs, send_keys};
-pub use pdus::{is_before_cache, pdu_jobs, push_ack, push_relay};
+pub use pdus::{PduBasis, is_before_cache, pdu_jobs, push_ack, push_relay};
 pub use publishing::{is_still_held, publish_ttl, push_publications};
 pub use refresh::{KeyPhase, Phases, held_phases, push_refresh};
 pub use replies::is_stored;
 pub use replying::push_replies;
 pub use segments::push_rounds;
-pub use ticks::{Span, push_acks, push_beacons_due, tick_jobs};
+pub use ticks::{Span, TimeBasis, push_acks, push_beacons_due, tick_jobs};

@@ -10,10 +10,10 @@ ghost use Rattle.mesh_base.specs.declared.fields.NetMaterial.{NetMaterial};
 ghost use Rattle.mesh_base.specs.declared.keys.UpperKey.{UpperKey as Key};
 ghost use Rattle.mesh_base.specs.declared.lower.Lower.{Lower as LowerPdu};
 ghost use Rattle.mesh_jobs.specs.Acting.{IsActIn};
-ghost use Rattle.mesh_jobs.specs.Hearing.{insight_of};
+ghost use Rattle.mesh_jobs.specs.Hearing.{insight_of, insight_read, read_jobs};
 ghost use Rattle.mesh_jobs.specs.Phases.{phases_of};
 ghost use Rattle.mesh_jobs.specs.Replying.{AreRepliesTo, heard_as};
-ghost use Rattle.mesh_reading.specs.Held.{reading_of};
+ghost use Rattle.mesh_reading.specs.Held.{low_in, opened_in, opening_of, pdu_insight, reading_of};
 ghost use Rattle.mesh_types.specs.declared.events.Event.TheVariants as E;
 ghost use Rattle.mesh_types.specs.declared.jobs.Job.TheVariants as J;
 ghost use Rattle.node_layers.specs.ConfiguredLayers.{sent_reply};
@@ -33,6 +33,7 @@ use mesh_base::address::Address;
 use mesh_base::fields::NetFields;
 use mesh_base::keys::UpperKey;
 use mesh_base::lower::Lower;
+use mesh_reading::HeardPdu;
 use mesh_types::answers::Answer;
 use mesh_types::jobs::{Job, JobDraft, Jobs};
 use net_keys::NetKeys;
@@ -235,82 +236,111 @@ fn push_delivered(
     }
 }
 
+/// What the jobs of a network PDU heard are made of.
+#[derive(Drop)]
+pub struct PduBasis {
+    /// How far its octets were read.
+    pub heard: HeardPdu,
+    /// The Key Refresh phases before the records.
+    pub phases: Phases,
+    /// The replies to the message that it delivered, but for those that are stored.
+    pub replies: MessageReplies,
+    /// What a control message led to.
+    pub act: FriendAct,
+}
+
 // Puts what the message that an answer accepted asks for behind the others: what a control message led to, or the replies to an access
-// message.
+// message. `r` is the network PDU that it came in.
 #[tactic(auto, unfolding(node_layers::specs::ConfiguredLayers::configured_layers, node_layers::specs::NodeLayers::node_layers))]
 fn push_message_jobs(
     jobs: &mut JobDraft,
     p: &Persist,
     nets: &NetKeys,
     r: &NetReading,
-    key: Option<&UpperKey>,
-    replies: &MessageReplies,
-    act: &FriendAct,
+    basis: &PduBasis,
     answer: &Answer,
 )
     requires room { length jobs.old + 9 ≤ JOBS }
     requires nets { nets.now ≡ p.now.nets }
     requires unicast { p.now.unicast.0 < 2 ^ 15 }
     ensures value { (past : Past) (low : Option LowerPdu) (opening : Option Opening)
-        → option_copied key.entry ≡ option_map (λ (o : Opening). o.key) opening
-        → AreRepliesTo past (insight_of (Some r.now) low opening) answer.now replies.now
-        → IsActIn past (config_in p.now) (insight_of (Some r.now) low opening) answer.now act.now
+        → option_map opening_of (opened_in basis.now.heard) ≡ opening
+        → AreRepliesTo past (insight_of (Some r.now) low opening) answer.now basis.now.replies
+        → IsActIn past (config_in p.now) (insight_of (Some r.now) low opening) answer.now basis.now.act
         → jobs.new ≡ jobs.old
         ++ message_jobs node_layers past (config_in p.now) (reading_of r.now) (insight_of (Some r.now) low opening)
         answer.now }
     ensures few { length jobs.new ≤ length jobs.old + 9 }
 {
     match answer {
-        Answer::Control { .. } => push_friend_jobs(jobs, p, nets, r, act),
+        Answer::Control { .. } => push_friend_jobs(jobs, p, nets, r, &basis.act),
         Answer::Delivered { name, .. } => {
-            push_delivered(jobs, p, nets, r, key, name.src, replies);
+            push_delivered(
+                jobs,
+                p,
+                nets,
+                r,
+                basis.heard.key(),
+                name.src,
+                &basis.replies,
+            );
         }
         _ => {}
     }
 }
 
+// Puts the jobs of a network PDU that got past the message cache behind the others. `r` is that PDU.
+fn push_read_jobs(
+    jobs: &mut JobDraft,
+    p: &Persist,
+    nets: &NetKeys,
+    r: &NetReading,
+    basis: &PduBasis,
+    answer: &Answer,
+)
+    requires room { length jobs.old + 15 ≤ 160 }
+    requires nets { nets.now ≡ p.now.nets }
+    requires fits { IfSome (low_in basis.now.heard) Fits }
+    requires unicast { p.now.unicast.0 < 2 ^ 15 }
+    ensures value { (past : Past) → basis.now.phases ≡ phases_of (config_before past).nets
+        → AreRepliesTo past (insight_read r.now basis.now.heard) answer.now basis.now.replies
+        → IsActIn past (config_in p.now) (insight_read r.now basis.now.heard) answer.now basis.now.act
+        → jobs.new ≡ jobs.old ++ read_jobs past (config_in p.now) r.now basis.now.heard answer.now }
+    ensures few { length jobs.new ≤ length jobs.old + 15 }
+{
+    push_relay(jobs, p, nets, r);
+    push_heard_ack(jobs, p, nets, r, basis.heard.low(), answer);
+    push_message_jobs(jobs, p, nets, r, basis, answer);
+    push_refresh(jobs, p, &basis.phases);
+}
+
 /// The jobs of a network PDU heard: it goes on, it is acknowledged, a delivered message is replied to or a control message of a Low Power node
-/// is answered, and where a Key Refresh phase isn't what it was the node's beacons follow. `reading` and `low` are what its octets read as, and
-/// `low` is within its widths; `key` is the key that opened it, `replies` are those that are sent to the message that it delivered, without
-/// those that are stored, and `act` is what its control message led to. `p` is what the records after the event say, `nets` are its keys, and
-/// `before` the phases before the event. The jobs are made in `draft`, which has none.
-#[tactic(auto, unfolding(node_layers::specs::ConfiguredLayers::configured_layers, node_layers::specs::NodeLayers::node_layers, event_definitions::specs::Jobs::jobs_of))]
+/// is answered, and where a Key Refresh phase isn't what it was the node's beacons follow. A lower transport PDU of `basis` is within its
+/// widths. `p` is what the records after the event say, and `nets` are its keys. The jobs are made in `draft`, which has none.
 pub fn pdu_jobs(
     mut draft: JobDraft,
     p: &Persist,
     nets: &NetKeys,
-    before: &Phases,
-    reading: Option<&NetReading>,
-    low: Option<&Lower>,
-    key: Option<&UpperKey>,
-    replies: &MessageReplies,
-    act: &FriendAct,
+    basis: &PduBasis,
     answer: &Answer,
 ) -> Jobs
     requires empty { draft ≡ [] }
     requires nets { nets.now ≡ p.now.nets }
-    requires fits { IfSome low (λ l. Fits l.now) }
+    requires fits { IfSome (low_in basis.now.heard) Fits }
     requires unicast { p.now.unicast.0 < 2 ^ 15 }
-    ensures value { (past : Past) (octets : List ℕ) (opening : Option Opening)
-        → before.now ≡ phases_of (config_before past).nets
-        → option_copied key.entry ≡ option_map (λ (o : Opening). o.key) opening
-        → AreRepliesTo past (insight_of (option_copied reading.entry) (option_copied low.entry) opening)
-        answer.now replies.now
-        → IsActIn past (config_in p.now) (insight_of (option_copied reading.entry) (option_copied low.entry) opening)
-        answer.now act.now
-        → result ≡ jobs_of node_layers past (config_in p.now) (E.Net octets)
-        (insight_of (option_copied reading.entry) (option_copied low.entry) opening) answer.now }
+    ensures value { (past : Past) (octets : List ℕ)
+        → basis.now.phases ≡ phases_of (config_before past).nets
+        → AreRepliesTo past (pdu_insight basis.now.heard) answer.now basis.now.replies
+        → IsActIn past (config_in p.now) (pdu_insight basis.now.heard) answer.now basis.now.act
+        → result ≡ jobs_of node_layers past (config_in p.now) (E.Net octets) (pdu_insight basis.now.heard) answer.now }
     ensures few { length result ≤ 15 }
 {
-    let Some(r) = reading else {
+    let Some(r) = basis.heard.reading() else {
         return draft.finish();
     };
     if is_before_cache(answer) {
         return draft.finish();
     }
-    push_relay(&mut draft, p, nets, r);
-    push_heard_ack(&mut draft, p, nets, r, low, answer);
-    push_message_jobs(&mut draft, p, nets, r, key, replies, act, answer);
-    push_refresh(&mut draft, p, before);
+    push_read_jobs(&mut draft, p, nets, r, basis, answer);
     draft.finish()
 }

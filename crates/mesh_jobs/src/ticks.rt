@@ -1,22 +1,19 @@
 //! What is due when time passed.
 #![tactic(auto)]
 
-ghost use Rattle.std.specs.Prelude.{◌≡◌, ℕ, ◌+◌, ◌<◌, ◌≤◌, ◌^◌, ◌++◌, if◌then◌else◌, [], filter, length, All};
+ghost use Rattle.std.specs.Prelude.{◌≡◌, ℕ, ◌+◌, ◌<◌, ◌≤◌, ◌^◌, ◌++◌, [], length, All};
 ghost use Rattle.std.specs.List.{flat_map};
 ghost use Rattle.std.specs.Option.{option_to_list};
 ghost use Rattle.app_keys.specs.AppRows.{AppRows};
-ghost use Rattle.layer_states.specs.Reassembly.{acks_due};
-ghost use Rattle.mesh_jobs.specs.Publishing.{IsDueSent};
-ghost use Rattle.mesh_jobs.specs.Ticks.{IsSpan, is_beacon_due as is_beacon_due_in};
+ghost use Rattle.mesh_jobs.specs.Ticks.{AreDue, IsSpan, is_beacon_due as is_beacon_due_in};
+ghost use Rattle.mesh_types.specs.declared.answers.Answer.TheVariants as A;
 ghost use Rattle.mesh_types.specs.declared.events.Event.TheVariants as E;
 ghost use Rattle.node_layers.specs.NodeLayers.{node_layers};
-ghost use Rattle.node_layers.specs.Reassembly.{due_jobs, messages};
-ghost use Rattle.node_layers.specs.Sending as own;
+ghost use Rattle.node_layers.specs.Reassembly.{due_jobs};
 ghost use Rattle.node_records.specs.Tables.{config_in};
-ghost use Rattle.event_definitions.specs.Answers.{later};
 ghost use Rattle.event_definitions.specs.History.{Insight, Past};
 ghost use Rattle.event_definitions.specs.Jobs.{beacon_jobs, beacons_due, is_moved as is_moved_in, jobs_of};
-ghost use Rattle.segment_sender.specs.Held.{IsHeldWell, has_round};
+ghost use Rattle.segment_sender.specs.Held.{IsHeldWell};
 
 use crate::acknowledgments::acknowledgment;
 use crate::beacons::push_beacons;
@@ -25,7 +22,6 @@ use crate::publishing::push_publications;
 use crate::segments::push_rounds;
 use app_keys::AppKeys;
 use layer_states::reassembly::{AckList, DueAck};
-use layer_states::sending::Sending;
 use mesh_base::iv_state::IvState;
 use mesh_types::answers::Answer;
 use mesh_types::jobs::{Job, JobDraft, Jobs};
@@ -33,6 +29,7 @@ use net_keys::NetKeys;
 use node_limits::JOBS;
 use node_models::Due;
 use node_records::Persist;
+use segment_sender::Rounds;
 
 /// Between two multiples of so many ticks the node's beacons are sent once.
 const BEACON_TICKS: u64 = 1000;
@@ -46,6 +43,19 @@ pub struct Span {
     pub to: u64,
     /// The IV state before it.
     pub iv: IvState,
+}
+
+/// What the jobs of a tick event are made of.
+#[derive(Drop)]
+pub struct TimeBasis {
+    /// The acknowledgments that are due.
+    pub acks: AckList,
+    /// The own segmented messages that send a round, as they are before the time is counted.
+    pub rounds: Rounds,
+    /// What is published then, but for what is stored, and the heartbeat.
+    pub due: Due,
+    /// The time before and after, and the IV state before.
+    pub span: Span,
 }
 
 // An acknowledgment that is due. Its SeqZero is the low 13 bits of SeqAuth.
@@ -104,40 +114,33 @@ pub fn push_beacons_due(jobs: &mut JobDraft, p: &Persist, span: &Span)
 }
 
 /// The jobs of a tick event: the acknowledgments that are due, the rounds of own messages, the node's beacons, if they
-/// are due, and then what is published. `rounds` are the messages that send one, as they are before the time is
-/// counted, and `due` is what is due of the models, without what is stored, and of the heartbeat. `p` is what the records after the event say,
-/// and `nets` and `apps` are its keys. The jobs are made in `draft`, which has none.
+/// are due, and then what is published. `p` is what the records after the event say, and `nets` and `apps` are its keys. The jobs are made in
+/// `draft`, which has none.
 #[tactic(auto, unfolding(node_layers::specs::ConfiguredLayers::configured_layers, node_layers::specs::NodeLayers::node_layers, event_definitions::specs::Jobs::jobs_of))]
 pub fn tick_jobs(
     mut draft: JobDraft,
     p: &Persist,
     nets: &NetKeys,
     apps: &AppKeys,
-    acks: &AckList,
-    rounds: &[Sending],
-    due: &Due,
-    span: &Span,
+    basis: &TimeBasis,
     answer: &Answer,
 ) -> Jobs
     requires empty { draft ≡ [] }
     requires nets { nets.now ≡ p.now.nets }
     requires apps { apps.now ≡ record { apps = p.now.apps; nets = p.now.nets } }
-    requires few { length rounds.now ≤ 4 }
-    requires held { All IsHeldWell rounds.now }
+    requires held { All IsHeldWell basis.now.rounds.items }
     requires unicast { p.now.unicast.0 < 2 ^ 15 }
-    ensures value { (past : Past) (ticks : ℕ) (insight : Insight) → IsSpan past ticks span.now
-        → acks.now ≡ acks_due (later past ticks) (messages past)
-        → rounds.now ≡ filter (has_round (later past ticks)) (own.messages past)
-        → IsDueSent past (config_in p.now) (later past ticks) due.now
+    ensures value { (past : Past) (ticks : ℕ) (insight : Insight) → IsSpan past ticks basis.now.span
+        → ((now : ℕ) → answer.now ≡ A.Ticked now → AreDue past ticks (config_in p.now) basis.now)
         → result ≡ jobs_of node_layers past (config_in p.now) (E.Tick ticks) insight answer.now }
     ensures few { length result ≤ 149 }
 {
     let Answer::Ticked { .. } = answer else {
         return draft.finish();
     };
-    push_acks(&mut draft, p, nets, acks);
-    push_rounds(&mut draft, p, nets, span.to, rounds);
-    push_beacons_due(&mut draft, p, span);
-    push_publications(&mut draft, p, nets, apps, due);
+    push_acks(&mut draft, p, nets, &basis.acks);
+    push_rounds(&mut draft, p, nets, basis.span.to, basis.rounds.as_slice());
+    push_beacons_due(&mut draft, p, &basis.span);
+    push_publications(&mut draft, p, nets, apps, &basis.due);
     draft.finish()
 }

@@ -1,4 +1,4 @@
-use Rattle.std.proofs.Common.{List, [], ◌∷◌, ◌++◌, ap, sym, subst, ◌∙◌, None, false, arith}
+use Rattle.std.proofs.Common.{List, [], ◌∷◌, ◌++◌, ap, sym, subst, ◌∙◌, Some, None, false, arith}
 use Rattle.std.specs.Prelude.{All}
 use Rattle.element_models.specs.Messages.{HasOctet, message_in}
 use Rattle.event_plans.proofs.Delivered.{all_changes, all_storable, config_named, none_asked, none_taken, some_asked, some_taken}
@@ -14,15 +14,16 @@ use Rattle.node_models.specs.Replies.{replies_in}
 use Rattle.node_models.specs.declared.taken.MessageReplies.{MessageReplies}
 use Rattle.node_records.specs.Tables.{config_in}
 use Rattle.record_types.specs.declared.records.StoreRecord.{StoreRecord}
+use Rattle.event_definitions.specs.Layers.{AccessMessage}
 use Rattle.record_types.specs.declared.records.StoreRecord.TheVariants as R
 use Rattle.event_plans.proofs.models.take_heard.Goals as goal
 
 pub returns-in-Some : goal.returns-in-Some
 returns-in-Some c =
-    let m = message_in c.in-Some.message in
+    let m = message_in c.message_of-message.result in
     let i = insight_of c.args.heard.now in
     let a = c.args.heard.now.answer in
-    let is = sym (c.in-Some.ensures.value) in
+    let is = sym (c.in-Some.ensures.value) ∙ ap (λ (m : AccessMessage). Some m) (sym c.message_of-message.ensures.value) in
     record {
       asked = λ past s. some_asked past i a m c.take.result.changes is (c.take.ensures.changes past s.meaning s.models s.time);
       taken = λ past s polls.

@@ -35,14 +35,15 @@ returns-clause-planned c past h =
       basis = (
         record { from = from; to = to; iv = ap (λ (c : Config). c.iv) h.meaning.config },
         record {
-          acks_are = λ reset. x.acks ∙ ap (λ b. cond b [] (acks_due (later past c.args.ticks) (messages past))) reset;
-          rounds = λ reset. x.rounds ∙ ap (λ b. cond b [] (filter (has_round (later past c.args.ticks)) (own.messages past))) reset;
-          published = λ reset d unicast.
-              subst (λ n. IsDueSent past d n c.publish_due-due.result) to
-              (c.publish_due-due.ensures.due past d h.meaning tables.models tables.friends
-              (told ∙ ap (λ b. cond b A.Reset (A.Ticked c.later-to.result)) reset) unicast);
+          due = λ reset d unicast. record {
+            acks = x.acks ∙ ap (λ b. cond b [] (acks_due (later past c.args.ticks) (messages past))) reset;
+            rounds = x.rounds ∙ ap (λ b. cond b [] (filter (has_round (later past c.args.ticks)) (own.messages past))) reset;
+            published =
+                subst (λ n. IsDueSent past d n c.publish_due-due.result) to
+                (c.publish_due-due.ensures.due past d h.meaning tables.models tables.friends
+                (told ∙ ap (λ b. cond b A.Reset (A.Ticked c.later-to.result)) reset) unicast);
+          };
           held = c.pass-passed.ensures.held;
-          few = c.pass-passed.ensures.few;
         },
       );
     }

@@ -20,18 +20,18 @@ hear_replies-replies-requires-clause-opened c = opened_well c.args.heard.now c.r
 pub returns-clause-replies : goal.returns-clause-replies
 returns-clause-replies c = λ past stand taken.
     let h = c.args.heard.now in
-    replies_are past c.args.friends.now c.args.ttl c.args.ends c.args.replies c.hear_replies-replies.result (insight_of h) stand.friends
+    replies_are past c.args.friends.now c.args.taken.ttl c.args.taken.ends c.args.taken.replies c.hear_replies-replies.result (insight_of h) stand.friends
     (config_in c.args.p.now) c.args.now h.answer c.hear_pdu.new.friends c.hear_pdu.ensures.befriended
     (c.hear_replies-replies.ensures.left
-    ∙ ap (λ (st : FriendsState). replies_left st c.args.ends (replies_in c.args.replies) (insight_of h) h.answer) c.hear_control-act.ensures.state)
+    ∙ ap (λ (st : FriendsState). replies_left st c.args.taken.ends (replies_in c.args.taken.replies) (insight_of h) h.answer) c.hear_control-act.ensures.state)
     taken
 
 pub returns-clause-friends : goal.returns-clause-friends
 returns-clause-friends c = λ past e octets stand taken still event same answered records.
     let h = c.args.heard.now in
-    friends_are c.node_models_law.ensures.unicast past c.args.p.now c.args.friends.now c.args.now stand c.args.ttl c.args.ends c.args.replies
+    friends_are c.node_models_law.ensures.unicast past c.args.p.now c.args.friends.now c.args.now stand c.args.taken.ttl c.args.taken.ends c.args.taken.replies
     (insight_of h) c.friends_law.ensures.more e octets h.answer c.hear_pdu.new.friends c.hear_replies-replies.new.friends same answered event records
     c.hear_pdu.ensures.state c.hear_pdu.ensures.polls taken still
     (c.hear_replies-replies.ensures.state
-    ∙ ap (λ (st : FriendsState). message_left st c.args.p.now.unicast c.args.ttl c.args.ends (replies_in c.args.replies) (insight_of h) h.answer)
+    ∙ ap (λ (st : FriendsState). message_left st c.args.p.now.unicast c.args.taken.ttl c.args.taken.ends (replies_in c.args.taken.replies) (insight_of h) h.answer)
     c.hear_control-act.ensures.state)

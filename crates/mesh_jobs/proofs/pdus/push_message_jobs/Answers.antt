@@ -1,7 +1,7 @@
 use Rattle.std.proofs.Common.{◌∙◌, ◌++◌, List, Option, Some, ap, subst, sym}
 use Rattle.std.specs.Prelude.{[], fold}
 use Rattle.std.specs.List.{flat_map}
-use Rattle.std.specs.Option.{option_map_or}
+use Rattle.std.specs.Option.{option_map, option_map_or}
 use Rattle.layer_definitions.specs.ControlReading.{control_of}
 use Rattle.layer_states.specs.Friends.{after}
 use Rattle.mesh_base.specs.declared.keys.UpperKey.{UpperKey}
@@ -18,7 +18,7 @@ use Rattle.node_layers.specs.Friendship.{friends, heard_calls}
 use Rattle.node_layers.specs.NodeLayers.{node_layers}
 use Rattle.node_models.specs.Replies.{replies_in}
 use Rattle.node_records.specs.Tables.{config_in}
-use Rattle.event_definitions.specs.History.{now_of}
+use Rattle.event_definitions.specs.History.{now_of, Opening}
 use Rattle.event_definitions.specs.Jobs.{message_jobs}
 use Rattle.mesh_jobs.proofs.pdus.push_message_jobs.Goals as goal
 
@@ -35,7 +35,7 @@ returns-in-Control-clause-value c past low opening key replies act =
     let d = c.in-Control in
     let insight = insight_of (Some r) low opening in
     c.push_friend_jobs.ensures.value (fold after (friends past) (heard_calls (reading_of r))) (now_of past.told) (control_of d.opcode d.params)
-    (subst (λ (a : Answer). IsActIn past n insight a c.args.act.now) d.is act)
+    (subst (λ (a : Answer). IsActIn past n insight a c.args.basis.now.act) d.is act)
     ∙ ap (λ (a : Answer). c.args.jobs.now ++ message_jobs node_layers past n (reading_of r) insight a) (sym d.is)
 
 pub returns-in-Delivered-clause-value : goal.returns-in-Delivered-clause-value
@@ -45,8 +45,8 @@ returns-in-Delivered-clause-value c past low opening key replies act =
     let d = c.in-Delivered in
     let insight = insight_of (Some r) low opening in
     c.push_delivered.ensures.value
-    ∙ ap (λ (k : Option UpperKey). c.args.jobs.now ++ option_map_or (λ (k : UpperKey). flat_map (sent_reply n (heard_as r k d.name.src)) (replies_in c.args.replies.now)) k []) key
+    ∙ ap (λ (k : Option UpperKey). c.args.jobs.now ++ option_map_or (λ (k : UpperKey). flat_map (sent_reply n (heard_as r k d.name.src)) (replies_in c.args.basis.now.replies)) k []) (c.key.ensures.value ∙ ap (λ (o : Option Opening). option_map (λ (p : Opening). p.key) o) key)
     ∙ ap (λ (js : List Job). c.args.jobs.now ++ js)
-    (replies_are past n r low opening d.name d.dst d.key d.payload c.args.replies.now
-    (subst (λ (a : Answer). AreRepliesTo past insight a c.args.replies.now) d.is replies)
+    (replies_are past n r low opening d.name d.dst d.key d.payload c.args.basis.now.replies
+    (subst (λ (a : Answer). AreRepliesTo past insight a c.args.basis.now.replies) d.is replies)
     ∙ ap (λ (a : Answer). message_jobs node_layers past n (reading_of r) insight a) (sym d.is))

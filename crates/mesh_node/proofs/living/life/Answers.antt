@@ -1,4 +1,5 @@
-use Rattle.std.proofs.Common.{◌≡◌, ◌∙◌, true, ap, subst, arith}
+use Rattle.std.proofs.Common.{◌≡◌, ◌∙◌, true, ap, subst, sym, arith}
+use Rattle.flash_model.specs.Chip.{Setting}
 use Rattle.std.specs.Prelude.{IfOk}
 use Rattle.std.proofs.lemmas.Result.{IfOk-weaker}
 use Rattle.machine_contract.specs.Refused.{IsStartCause}
@@ -7,7 +8,7 @@ use Rattle.store_definitions.specs.Config.{config_of}
 use Rattle.store_definitions.specs.Recovered.{IsRecovered}
 use Rattle.life_laws.specs.Plan.{steps_of}
 use Rattle.mesh_node.specs.Ran.{Ran}
-use Rattle.mesh_node.specs.Steps.{IsArmedFirst}
+use Rattle.mesh_node.specs.Steps.{IsArmedFirst, IsOfPlan}
 use Rattle.mesh_node.proofs.Arming.{powered}
 use Rattle.mesh_node.proofs.Closing.{lives_cut, lives_ran, lives_reset}
 use Rattle.mesh_node.proofs.living.life.Goals as goal
@@ -46,6 +47,16 @@ run_life-requires-clause-steps g c κs lives =
     let armed = subst (λ xs. IsArmedFirst xs (chip c.power_cycle.new.self) start) c.as_slice.ensures.value c.arm_first-steps.ensures.armed in
     let p = powered g.M.Machine.image items (chip c.args.flash) (chip c.power_cycle.new.self) start c.requires.node cycle.frame cycle.fresh cycle.image cycle.setting armed in
     λ over read. c.requires.plan.steps start.now over p.is (subst (λ f. IsRecovered (chip f).now over) c.in_ok-start.ensures.value read)
+
+pub run_life-requires-clause-order : goal.run_life-requires-clause-order
+run_life-requires-clause-order g c κs lives =
+    let chip = g.B.Flash.chip in
+    let cycle = c.power_cycle.ensures in
+    let items = c.args.plan.now.steps.items in
+    let start = chip c.arm_first-steps.new.flash in
+    let armed = subst (λ xs. IsArmedFirst xs (chip c.power_cycle.new.self) start) c.as_slice.ensures.value c.arm_first-steps.ensures.armed in
+    let p = powered g.M.Machine.image items (chip c.args.flash) (chip c.power_cycle.new.self) start c.requires.node cycle.frame cycle.fresh cycle.image cycle.setting armed in
+    subst (λ (s : Setting). IsOfPlan (steps_of items) s.arm) (sym c.start.ensures.frame.setting) p.order
 
 pub returns-in-Ok : goal.returns-in-Ok
 returns-in-Ok g c =

@@ -11,8 +11,7 @@ use Rattle.mesh_hearing.proofs.tables.Tables.hear.Goals as goal
 
 pub returns-then-p-clause-heard : goal.returns-then-p-clause-heard
 returns-then-p-clause-heard c = λ past m h k.
-    subst (λ x. IsHeard past c.args.octets.now x c.args.self.now) (sym c.unheard.ensures)
-    (heard_reset past c.args.p.now c.args.octets.now c.args.self.now m c.if-p.true h)
+    heard_reset past c.args.p.now c.args.octets.now c.args.self.now m c.if-p.true h
 
 pub returns-clause-heard : goal.returns-clause-heard
 returns-clause-heard c = λ past m h k.
