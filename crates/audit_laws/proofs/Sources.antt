@@ -16,7 +16,6 @@ use Rattle.mesh_base.specs.declared.lower.Lower.{Lower}
 use Rattle.mesh_types.specs.declared.answers.Answer.{Answer}
 use Rattle.mesh_types.specs.declared.answers.Answer.TheVariants as A
 use Rattle.mesh_types.specs.declared.events.Event.{Event}
-use Rattle.mesh_types.specs.declared.events.Outgoing.{Outgoing}
 use Rattle.mesh_types.specs.declared.events.Event.TheVariants as E
 use Rattle.mesh_types.specs.declared.events.Outgoing.{Outgoing}
 use Rattle.mesh_types.specs.declared.events.SendKey.{SendKey}
