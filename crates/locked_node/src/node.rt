@@ -1,7 +1,7 @@
 //! The value behind the lock.
 #![tactic(auto)]
 
-ghost use Rattle.std.specs.Prelude.{◌≡◌, ℕ, ◌<◌, ◌^◌, List, [], ◌∷◌, ◌++◌, length, All, true, false, None, Some, IfOk, OnOk, IfErr, IsTrue};
+ghost use Rattle.std.specs.Prelude.{◌≡◌, ◌≢◌, ℕ, ◌+◌, ◌<◌, ◌^◌, List, [], ◌∷◌, ◌++◌, length, All, true, false, None, Some, Ok, Err, IfOk, OnOk, IfErr, IsTrue};
 ghost use Rattle.flash_model.specs.Chip.{Chip, KeepsCount};
 ghost use Rattle.record_types.specs.declared.records.StoreRecord.{StoreRecord};
 ghost use Rattle.run_definitions.specs.Order.{is_outside};
@@ -131,10 +131,25 @@ impl<M: Machine, F: Bench> Node<M, F> {
         }
     }
 
-    /// Stores a refill where `seen` is the mark that was published last. Where the flash failed, the bearer's mark is put.
+    /// Stores a refill where `seen` is the mark that was published last (`filled`); else one came between, and nothing changes (`nothing`).
+    /// Returns the mark that is published then, which is another one than `seen`. Where the flash failed, the bearer's mark is put.
+    ///
+    /// It is refused for want of memory only where 2^32 - 1 bearers have stopped.
     pub fn refill(&mut self, n: &Numbers, seen: u64) -> Result<u64, Stop>
         requires made { self.old.machine.which ≡ n.now.which }
         requires seq { seq_of seen < 2 ^ 24 }
+        ensures filled { seen ≡ self.old.machine.mark
+            → OnOk result
+            (self.new.machine
+            ≡ record self.old.machine { fills = self.old.machine.fills + 1; mark = seen + 256 }) }
+        ensures nothing { seen ≢ self.old.machine.mark → self.old.machine.closed ≡ false
+            → (result ≡ Ok self.old.machine.mark) × (self.new ≡ self.old) }
+        ensures value { IfOk result (λ mark. mark ≡ self.new.machine.mark) }
+        ensures raised { IfOk result (λ mark. mark ≢ seen) }
+        ensures usable { OnOk result (self.old.machine.closed ≡ false) }
+        ensures closed { self.old.machine.closed ≡ true → self.old.stops + 1 < 2 ^ 32
+            → result ≡ Err Stop.Closed }
+        ensures memory { self.old.stops + 1 < 2 ^ 32 → result ≢ Err Stop.Memory }
         ensures origin { origin_of F.chip self.new ≡ origin_of F.chip self.old }
         ensures front { IsPrefix (node_marks self.old) (node_marks self.new) }
         ensures ok { OnOk result (node_marks self.new ≡ node_marks self.old) }
