@@ -1,4 +1,4 @@
-use Rattle.std.proofs.Common.{◌≡◌, true, [], ◌∷◌, ◌++◌, ◌<◌, ◌^◌, refl, ap, sym, subst, ◌∙◌, arith}
+use Rattle.std.proofs.Common.{◌≡◌, true, [], ◌∷◌, ◌++◌, ◌+◌, ◌<◌, ◌^◌, refl, ap, sym, subst, ◌∙◌, arith}
 use Rattle.std.proofs.lemmas.Bool.Decides.{nat_tests}
 use Rattle.machine_contract.specs.Refused.{Closes}
 use Rattle.machine_contract.specs.Standing.{past_now}
@@ -19,6 +19,7 @@ use Rattle.record_types.specs.declared.records.StoreRecord.{StoreRecord}
 use Rattle.event_definitions.specs.History.{Past}
 use Rattle.event_definitions.specs.Role.{node_role}
 use Rattle.seq_reserve.proofs.Keeping.{fill_meaning, fill_said}
+use Rattle.seq_word.specs.Seen.{KeeperView}
 use Rattle.seq_word.specs.Word.{seq_of}
 use Rattle.store_definitions.specs.Config.{Config, changed, config_of}
 use Rattle.store_definitions.specs.Numbers.{fill_of}
@@ -44,6 +45,7 @@ invariant_of-self g c e =
       models = within_refilled c.node_models_law.ensures.within i.tables.models i.reserve.store.persist r.store.persist node ready.fit.models;
     })
     (ready.elements ∙ sym (ap (λ (x : Config). x.elements) change ∙ fill_elements (config_in i.reserve.store.persist)))
+    (ap (λ (k : KeeperView). k.mark) (c.in-Ok.ensures.filled seen) ∙ ap (λ n. n + 256) seen)
 
 pub returns-in-Ok-clause-kept : goal.returns-in-Ok-clause-kept
 returns-in-Ok-clause-kept g c over stands =
