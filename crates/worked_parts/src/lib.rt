@@ -2,6 +2,7 @@
 //!
 //! - `streams`: sources and sinks, in memory and over readers and writers of std
 //! - `flaws`: flashes in memory whose reads fail where they are told to
+//! - `files`: a flash over a place in memory: what is read, and what whoever comes next finds, also where the place refused a write
 //! - `journals`: a journal, its header, and what a cut leaves of it
 //! - `bearers`: threads that draw numbers and take a lock in turn
 //! - `records`: the octets of records with what they say, those beside that are no record, and the size of each table

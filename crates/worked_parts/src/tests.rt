@@ -1,6 +1,7 @@
 //! Sources and sinks, a flash and what stands on it, what threads share, and scripts that the program doesn't run, each by itself.
 
 mod bearers;
+mod files;
 mod flaws;
 mod journals;
 mod low_power;

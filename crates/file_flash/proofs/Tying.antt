@@ -1,0 +1,106 @@
+-- What the place holds behind a call.
+use Rattle.std.proofs.Common.{◌≡◌, ◌∙◌, ℕ, zero, suc, ◌+◌, ◌-◌, ◌≤◌, Bool, true, false, List, [], ◌∷◌, ◌++◌, length, take, drop, Some, None, refl, sym, ap, subst, ⊎_elim, arith, true≢false, append_assoc}
+use Rattle.std.proofs.lemmas.Slice.{drop-put_mid, take-put_mid}
+use borrow.Rule.Slice.PartMut.{put_mid}
+use Rattle.std.specs.Prelude.{Option, Result, Ok, Err, IsOk, OnOk, replicate, bit_and, slice_range}
+use Rattle.flash_model.specs.Chip.{Chip}
+use Rattle.flash_model.specs.Octets.{IsTorn, programmed, blanked}
+use Rattle.file_flash.specs.Backed.{IsKept, IsTied}
+use Rattle.file_flash.specs.Backing.{WasPut, WasTorn, put_at}
+
+-- what is put is what is to be
+pub put_programmed : (at : ℕ) (bytes old : List ℕ) → put_at at (take (length bytes) (drop at (programmed at bytes old))) old ≡ programmed at bytes old
+put_programmed at bytes [] = refl
+put_programmed (suc at) bytes (x ∷ old) = ap (λ l. x ∷ l) (put_programmed at bytes old)
+put_programmed zero [] (x ∷ old) = refl
+put_programmed zero (b ∷ bytes) (x ∷ old) = ap (λ l. bit_and x b ∷ l) (put_programmed zero bytes old)
+
+pub put_blanked : (at n : ℕ) (old : List ℕ) → put_at at (replicate n 255) old ≡ blanked at n old
+put_blanked at n [] = refl
+put_blanked (suc at) n (x ∷ old) = ap (λ l. x ∷ l) (put_blanked at n old)
+put_blanked zero zero (x ∷ old) = refl
+put_blanked zero (suc n) (x ∷ old) = ap (λ l. 255 ∷ l) (put_blanked zero n old)
+
+kept_of : (old new octets : List ℕ) → IsTorn old new octets → IsKept old new octets
+kept_of old new octets torn = record { size = torn.size; each = λ o j same. ⊎_elim (λ e. e) (λ e. e ∙ sym same) (torn.each o j) }
+
+kept_all : (old new : List ℕ) → IsKept old new old
+kept_all old new = record { size = refl; each = λ o j same. refl }
+
+-- a call that left both
+pub tied_same : (failed : Bool) (m g m' : Chip) (held : Option (List ℕ)) → m'.now ≡ m.now → IsTied failed m g held → IsTied failed m' g held
+tied_same failed m g m' held same t = record {
+  told = λ c is off. t.told c is off ∙ sym same;
+  torn = λ c is. subst (λ (l : List ℕ). IsKept l g.now c) (sym same) (t.torn c is);
+}
+
+was_put : (at : ℕ) (bytes : List ℕ) (old new : Option (List ℕ)) (c : List ℕ) → WasPut at bytes old new → new ≡ Some c → (d : List ℕ) × (old ≡ Some d) × (c ≡ put_at at bytes d)
+was_put at bytes None None c h is = absurd (cc)
+was_put at bytes None (Some e) c h is = absurd (cc)
+was_put at bytes (Some d) None c h is = absurd (cc)
+was_put at bytes (Some d) (Some e) c h is = (d, refl, (let same : e ≡ c = cc in sym same ∙ h))
+
+was_torn : (at : ℕ) (bytes : List ℕ) (old new : Option (List ℕ)) (c : List ℕ) → WasTorn at bytes old new → new ≡ Some c → (d : List ℕ) × (old ≡ Some d) × IsTorn d (put_at at bytes d) c
+was_torn at bytes None None c h is = absurd (cc)
+was_torn at bytes None (Some e) c h is = absurd (cc)
+was_torn at bytes (Some d) None c h is = absurd (cc)
+was_torn at bytes (Some d) (Some e) c h is = (d, refl, (let same : e ≡ c = cc in subst (λ (l : List ℕ). IsTorn d (put_at at bytes d) l) same h))
+
+-- a call that the place took
+pub tied_put : (at : ℕ) (bytes : List ℕ) (change : List ℕ → List ℕ) (failed : Bool) (m g m' g' : Chip) (old new : Option (List ℕ)) → failed ≡ false → IsTied failed m g old
+    → WasPut at bytes old new → put_at at bytes m.now ≡ change m.now → m'.now ≡ change m.now → IsTied failed m' g' new
+tied_put at bytes change failed m g m' g' old new off t put is now = record {
+  told = λ c some _. whole c some;
+  torn = λ c some. subst (λ (l : List ℕ). IsKept m'.now g'.now l) (sym (whole c some)) (kept_all m'.now g'.now);
+}
+  where
+    whole : (c : List ℕ) → new ≡ Some c → c ≡ m'.now
+    whole c some =
+        let was = was_put at bytes old new c put some in
+        was.2 ∙ ap (put_at at bytes) (t.told was.0 was.1 off) ∙ is ∙ sym now
+
+-- a call that it refused
+pub tied_torn : (at : ℕ) (bytes : List ℕ) (change : List ℕ → List ℕ) (failed : Bool) (m g m' g' : Chip) (old new : Option (List ℕ)) → failed ≡ false → IsTied failed m g old
+    → WasTorn at bytes old new → put_at at bytes m.now ≡ change m.now → m'.now ≡ m.now → g'.now ≡ change m.now → IsTied true m' g' new
+tied_torn at bytes change failed m g m' g' old new off t torn is now goal = record {
+  told = λ c some no. absurd (true≢false no);
+  torn = λ c some.
+      let was = was_torn at bytes old new c torn some in
+      let base = subst (λ (d : List ℕ). IsTorn d (put_at at bytes d) c) (t.told was.0 was.1 off) was.2 in
+      subst (λ (l : List ℕ). IsKept l g'.now c) (sym now) (subst (λ (l : List ℕ). IsKept m.now l c) (sym goal) (kept_of m.now (change m.now) c (subst (λ (l : List ℕ). IsTorn m.now l c) is base)));
+}
+
+pub on_ok : {T E : Type 0} (P : Type 0) (r : Result T E) → IsOk r → OnOk r P → P
+on_ok P (Ok x) is h = h
+on_ok P (Err e) is h = absurd (true≢false (sym is))
+
+-- what the range holds that was programmed
+pub put_range : (at : ℕ) (bytes old : List ℕ) → put_at at (slice_range (programmed at bytes old) at (at + length bytes)) old ≡ programmed at bytes old
+put_range at bytes old =
+    let n : at + length bytes - at ≡ length bytes = omega arith in
+    subst (λ (k : ℕ). put_at at (take k (drop at (programmed at bytes old))) old ≡ programmed at bytes old) (sym n) (put_programmed at bytes old)
+
+pub put_whole : (at e : ℕ) (bytes old : List ℕ) → e ≡ at + length bytes → e ≤ length old → take at old ++ (bytes ++ drop e old) ≡ put_at at bytes old
+put_whole zero zero [] [] is h = refl
+put_whole zero zero [] (x ∷ old) is h = refl
+put_whole zero zero (b ∷ bytes) old is h = absurd (omega (arith, is))
+put_whole zero (suc e) [] old is h = absurd (omega (arith, is))
+put_whole zero (suc e) (b ∷ bytes) [] is h = absurd (omega (arith, h))
+put_whole zero (suc e) (b ∷ bytes) (x ∷ old) is h = ap (λ l. b ∷ l) (put_whole zero e bytes old (omega (arith, is)) (omega (arith, h)))
+put_whole (suc at) zero bytes old is h = absurd (omega (arith, is))
+put_whole (suc at) (suc e) bytes [] is h = absurd (omega (arith, h))
+put_whole (suc at) (suc e) bytes (x ∷ old) is h = ap (λ l. x ∷ l) (put_whole at e bytes old (omega (arith, is)) (omega (arith, h)))
+
+take_drop : (i : ℕ) (xs : List ℕ) → take i xs ++ drop i xs ≡ xs
+take_drop zero xs = refl
+take_drop (suc i) [] = refl
+take_drop (suc i) (x ∷ xs) = ap (λ l. x ∷ l) (take_drop i xs)
+
+pub put_part : (at k : ℕ) (bytes old : List ℕ) → k ≡ length bytes → at + length bytes ≤ length old → put_mid at k old bytes ≡ put_at at bytes old
+put_part at k bytes old is h =
+    let e : ℕ = at + length bytes in
+    let low : at ≤ length old = omega (arith, h) in
+    let front = take-put_mid at k old bytes e refl low in
+    let back = drop-put_mid at k old bytes e (omega (arith, is)) low (sym is) in
+    sym (take_drop e (put_mid at k old bytes)) ∙ ap (λ l. l ++ drop e (put_mid at k old bytes)) front ∙ ap (λ l. (take at old ++ bytes) ++ l) back
+    ∙ append_assoc (take at old) bytes (drop e old) ∙ put_whole at e bytes old refl h

@@ -1,0 +1,48 @@
+-- A flash over a mirror in memory and a place: what it shows as a chip.
+use Rattle.std.specs.Prelude.{◌≡◌, ◌⊎◌, ℕ, ◌<◌, ◌≤◌, Bool, true, false, IsTrue, List, Option, Some, None, length, slice_index}
+use Rattle.std.specs.Int.{bit_at}
+use Rattle.flash_model.specs.Chip.{Chip}
+use Rattle.flash_model.specs.Octets.{IsTorn}
+
+-- Where a write to the place was refused, any mixture of what was there (the mirror's content) and what was to be (the goal's); no more calls
+-- change the place then.
+abbrev pub IsRest : Bool → Chip → Chip → List ℕ → Type 0
+IsRest failed mirror goal c = IsTrue failed × IsTorn mirror.now goal.now c
+
+abbrev pub backed_chip : Chip → Chip → Bool → Chip
+backed_chip mirror goal failed = record {
+  now = mirror.now;
+  images = λ c. mirror.images c ⊎ IsRest failed mirror goal c;
+  moment = mirror.moment;
+  since = λ t c. mirror.since t c ⊎ IsRest failed mirror goal c;
+  honest = mirror.honest;
+  sure = false;
+  faults = mirror.faults;
+  steady = false;
+  setting = record { faults = mirror.setting.faults; arm = None };
+  changes = mirror.changes;
+  left = 0;
+  reads = mirror.reads;
+}
+
+-- What holds between two calls. The mirror fails only once it was cut, which is where the place refused.
+pub record IsMirrored (mirror goal : Chip) (failed : Bool) : Type 0 where
+  pub steady : IsTrue mirror.steady
+  pub honest : IsTrue mirror.honest
+  pub sound : IsTrue goal.honest
+  pub sure : IsTrue goal.sure
+  pub began : mirror.setting.faults ≤ mirror.faults
+  pub alive : failed ≡ false → IsTrue mirror.sure × (mirror.setting.arm ≡ None)
+  pub same : failed ≡ false → goal.now ≡ mirror.now
+  pub dead : failed ≡ true → mirror.setting.faults < mirror.faults
+
+-- each bit that is to stay stays: as `IsTorn` says it, but a fact in one way only
+pub record IsKept (old new octets : List ℕ) : Type 0 where
+  pub size : length octets ≡ length old
+  pub each : (o j : ℕ) → bit_at (slice_index old o) j ≡ bit_at (slice_index new o) j
+      → bit_at (slice_index octets o) j ≡ bit_at (slice_index old o) j
+
+-- What the place holds, where it is told: what is read; or after a refused write, any mixture of that and of what was to be.
+pub record IsTied (failed : Bool) (mirror goal : Chip) (held : Option (List ℕ)) : Type 0 where
+  pub told : (c : List ℕ) → held ≡ Some c → failed ≡ false → c ≡ mirror.now
+  pub torn : (c : List ℕ) → held ≡ Some c → IsKept mirror.now goal.now c

@@ -1,0 +1,3 @@
+pub mod Backing
+pub mod Backed
+pub mod Laws

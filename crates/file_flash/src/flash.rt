@@ -1,0 +1,172 @@
+// A flash over a mirror in memory and a place.
+//
+// A program or erase call is done on the goal first, in memory: that is what the place is to hold. Then the place takes the range. Where it does,
+// the mirror is done so too, and is what the place holds. Where it refuses, the mirror stays and fails from then on, and the place holds each
+// bit of the mirror's or of the goal's.
+ghost use Rattle.std.specs.Prelude.{◌≡◌, ◌+◌, ◌≤◌, ℕ, List, length, replicate, true, false, IfOk, IsOk, IsTrue, None, Some, slice_range};
+ghost use Rattle.std.proofs.Common.{inl};
+ghost use Rattle.std.proofs.Math.Nat.{le_refl};
+ghost use Rattle.flash_model.specs.Chip.{IsFresh, Keeps, Stays};
+ghost use Rattle.file_flash.specs.Backing.{WasPut, WasTorn};
+ghost use Rattle.file_flash.specs.Backed.{IsMirrored, IsTied, backed_chip};
+ghost use Rattle.file_flash.specs.Laws.{content_law, counts_now_law, only_now_law};
+
+use crate::backing::Backing;
+use flash_model::{Bench, FLASH_OCTETS, Flash, FlashFailed, MemFlash, SECTOR_OCTETS, SECTORS};
+use std::alloc::{AllocError, Global};
+
+/// Octets of a sector.
+const SECTOR: usize = SECTOR_OCTETS as usize;
+
+/// A flash over a place. What is read comes from a mirror in memory. Each program and erase call is durable on the place before it answers. Once
+/// the place refused a write each call fails, until the place is opened anew.
+#[derive(Drop)]
+pub struct FileFlash<F: Bench, B: Backing> {
+    mirror: F,
+    /// What the place is to hold after the call that is under way.
+    goal: F,
+    backing: B,
+    /// Whether the place refused a write.
+    failed: bool,
+    ghost mirrored: { IsMirrored (F.chip mirror) (F.chip goal) failed },
+    ghost tied: { IsTied failed (F.chip mirror) (F.chip goal) (B.held backing) },
+}
+
+impl<B: Backing> FileFlash<MemFlash, B> {
+    /// A flash over a place, with the image of 65,536 octets that was read of it (`told`). A new one's are all ff.
+    pub fn new(alloc: Global, backing: B, image: &[u8]) -> Result<Self, AllocError>
+        requires size { length image.now ≡ FLASH_OCTETS }
+        requires told { (c : List ℕ) → B.held backing ≡ Some c → c ≡ image.now }
+
+        ensures now { IfOk result (λ f. (⟦<FileFlash<MemFlash, B> as Flash>⟧.chip f).now ≡ image.now) }
+        ensures fresh { IfOk result (λ f. IsFresh (⟦<FileFlash<MemFlash, B> as Flash>⟧.chip f)) }
+        ensures setting { IfOk result
+            (λ f. (⟦<FileFlash<MemFlash, B> as Flash>⟧.chip f).setting
+            ≡ record { faults = (⟦<FileFlash<MemFlash, B> as Flash>⟧.chip f).faults; arm = None }) }
+        ensures changes { IfOk result (λ f. (⟦<FileFlash<MemFlash, B> as Flash>⟧.chip f).changes ≡ 0) }
+        ensures reads { IfOk result (λ f. (⟦<FileFlash<MemFlash, B> as Flash>⟧.chip f).reads ≡ 0) }
+    {
+        let mut mirror = MemFlash::new(alloc)?;
+        fill(&mut mirror, image);
+        let mut goal = MemFlash::new(alloc)?;
+        fill(&mut goal, image);
+        Ok(FileFlash {
+            mirror,
+            goal,
+            backing,
+            failed: false,
+        })
+    }
+}
+
+impl<F: Bench, B: Backing> FileFlash<F, B> {
+    /// The place. Whoever comes next finds an image of this flash there (`image`).
+    pub fn backing(&self) -> &B
+        ensures image { (c : List ℕ) → B.held result.now ≡ Some c → (⟦<FileFlash<F, B> as Flash>⟧.chip self.now).images c }
+    {
+        &self.backing
+    }
+}
+
+/// Programs an image into an erased flash that doesn't fail, and cycles its power, so that none of it is counted.
+fn fill<F: Bench>(flash: &mut F, image: &[u8])
+    requires size { length image.now ≡ FLASH_OCTETS }
+    requires erased { (F.chip flash.old).now ≡ replicate 65536 255 }
+    requires fresh { IsFresh (F.chip flash.old) }
+    requires sure { IsTrue (F.chip flash.old).sure }
+    requires steady { IsTrue (F.chip flash.old).steady }
+
+    ensures now { (F.chip flash.new).now ≡ image.now }
+    ensures fresh { IsFresh (F.chip flash.new) }
+    ensures sure { IsTrue (F.chip flash.new).sure }
+    ensures steady { IsTrue (F.chip flash.new).steady }
+    ensures setting { (F.chip flash.new).setting ≡ record { faults = (F.chip flash.new).faults; arm = None } }
+    ensures changes { (F.chip flash.new).changes ≡ 0 }
+    ensures reads { (F.chip flash.new).reads ≡ 0 }
+{
+    for sector in 0..SECTORS {
+        let at = SECTOR * sector as usize;
+        // it is sure, so this is Ok
+        let _ = flash.program(SECTOR_OCTETS * sector, &image[at..at + SECTOR]);
+    }
+    flash.power_cycle();
+}
+
+/// Puts on the place what a range of a flash holds. Whether the place took it.
+fn put_range<F: Flash, B: Backing>(
+    goal: &mut F,
+    backing: &mut B,
+    at: u32,
+    len: usize,
+    range: &mut [u8],
+) -> Result<bool, FlashFailed>
+    requires len { length range.old ≡ len }
+    requires within { at + len ≤ FLASH_OCTETS }
+    ensures taken { IfOk result
+        (λ taken. taken ≡ true
+        → WasPut at (slice_range (F.chip goal.old).now at (at + len)) (B.held backing.old) (B.held backing.new)) }
+    ensures refused { IfOk result
+        (λ taken. taken ≡ false
+        → WasTorn at (slice_range (F.chip goal.old).now at (at + len)) (B.held backing.old) (B.held backing.new)) }
+    ensures stays { IsTrue (F.chip goal.old).honest → Stays (F.chip goal.old) (F.chip goal.new) }
+    ensures sure { IsTrue (F.chip goal.old).sure → IsOk result }
+    ensures frame { Keeps (F.chip goal.old) (F.chip goal.new) }
+{
+    goal.read(at, range)?;
+    Ok(backing.put(at, range).is_ok())
+}
+
+impl<F: Bench, B: Backing> Flash for FileFlash<F, B> {
+    ghost chip = { λ f. backed_chip (F.chip f.mirror) (F.chip f.goal) f.failed };
+
+    ghost reads_image = { λ f honest. inl (F.reads_image f.mirror honest) };
+
+    ghost content = { λ f t c honest. content_law (F.chip f.mirror) (F.chip f.goal) f.failed t c
+        (λ d since. F.content f.mirror t d honest since)
+        (F.content f.mirror (F.chip f.mirror).moment (F.chip f.mirror).now honest
+        (F.counts_now f.mirror (F.chip f.mirror).moment (F.chip f.mirror).now (le_refl (F.chip f.mirror).moment) (F.reads_image f.mirror honest)))
+        (F.content f.goal (F.chip f.goal).moment (F.chip f.goal).now f.mirrored.sound
+        (F.counts_now f.goal (F.chip f.goal).moment (F.chip f.goal).now (le_refl (F.chip f.goal).moment) (F.reads_image f.goal f.mirrored.sound))) };
+
+    ghost counts_now = { λ f t c le image. counts_now_law (F.chip f.mirror) (F.chip f.goal) f.failed t c
+        (λ is. F.counts_now f.mirror t c le is) image };
+
+    ghost counted = { λ f. F.counted f.mirror };
+
+    ghost only_now = { λ f c. only_now_law (F.chip f.mirror) (F.chip f.goal) f.failed c (F.only_now f.mirror c) };
+
+    fn read(&mut self, at: u32, buf: &mut [u8]) -> Result<(), FlashFailed> {
+        self.mirror.read(at, buf)
+    }
+
+    fn program(&mut self, at: u32, bytes: &[u8]) -> Result<(), FlashFailed> {
+        if self.failed {
+            return self.mirror.program(at, bytes);
+        }
+        let mut range = [0u8; SECTOR];
+        let range = &mut range[..bytes.len()];
+        self.goal.program(at, bytes)?;
+        if put_range(&mut self.goal, &mut self.backing, at, bytes.len(), range)? {
+            self.mirror.program(at, bytes)
+        } else {
+            self.failed = true;
+            self.mirror.arm(0, 0);
+            self.mirror.program(at, bytes)
+        }
+    }
+
+    fn erase(&mut self, sector: u32) -> Result<(), FlashFailed> {
+        if self.failed {
+            return self.mirror.erase(sector);
+        }
+        self.goal.erase(sector)?;
+        match self.backing.put(SECTOR_OCTETS * sector, &[0xff; SECTOR]) {
+            Ok(()) => self.mirror.erase(sector),
+            Err(_) => {
+                self.failed = true;
+                self.mirror.arm(0, 0);
+                self.mirror.erase(sector)
+            }
+        }
+    }
+}

@@ -1,0 +1,42 @@
+//! A flash in a file: each program and erase call is durable on a place that outlives the process before it answers.
+//!
+//! - `backing`: the place, as the trait [`Backing`]; one over a file of the system, and one in memory for tests
+//! - `flash`: [`FileFlash`], which is proved to be a flash over any place
+//!
+//! A caller to begin with: `all_taken` in `crates/worked_parts/src/tests/files.rt`.
+//!
+//! # What a place must give
+//!
+//! A place is a type with `impl Backing`: one call, `put`, and a meaning, `held`, that nobody runs: the 65,536 octets that whoever comes after
+//! this process finds there, or `None` where contracts can't know.
+//!
+//! It may count on a range that lies within the 65,536 octets (`within`).
+//!
+//! 1. After Ok the octets of the range are those that were put, and no other octet changed: for whoever reads them now, and for whoever
+//!    comes next, also after power failed (`ok`; `WasPut`).
+//! 2. After a refusal each bit of the range is as it was or as it was to be, in any mixture, and all else is as it was (`err`; `WasTorn`).
+//! 3. A place may refuse any call. A [`FileFlash`] writes nothing to it after that.
+//!
+//! [`StdBacking`] answers `None`, since no contract can say what a file holds, so these three are trusted of it and not proved: that a write at
+//! an offset (`pwrite`) and then `fdatasync` that both answer Ok are durable, and that else each bit of that range is old or new, and all
+//! else as it was, now and after power came. What is read of the file when it is opened is trusted too: a disk that gives other octets than
+//! it took, or a sector that can't be read after a power cut, is outside the model.
+//!
+//! Of a process that dies within a call no clause speaks; what it leaves there is what a refused write may leave.
+//!
+//! # What the caller must see to
+//!
+//! - That one process at a time has the file, and that it is the same file the next time: a lock, no link, no second name.
+//! - That the file has its 65,536 octets, and the folder its name, durably, before the flash is made: a file for a new node is written whole,
+//!   synced, renamed, and its folder synced.
+//! - That the image given to [`FileFlash::new`] is what the file holds. Behind a sync that failed, memory and disk may differ, and a later sync
+//!   may answer Ok: so the file is opened anew after a refusal.
+//!
+//! None of it is in this crate; it belongs to the program that opens the file. No program does yet.
+#![tactic(auto)]
+
+mod backing;
+mod flash;
+
+pub use backing::{Backing, MemBacking, Refused, StdBacking};
+pub use flash::FileFlash;
