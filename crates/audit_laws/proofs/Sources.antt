@@ -1,5 +1,5 @@
 -- SRC of the jobs of an event is an element's.
-use Rattle.std.proofs.Common.{◌≡◌, ℕ, ◌-◌, ◌/◌, ◌<◌, ◌≤◌, Bool, true, not, ◌&&◌, ◌||◌, eqb, ltb, leb, length, List, [], ◌∷◌, map, sym, ◌∙◌, arith, Option, Some, None}
+use Rattle.std.proofs.Common.{◌≡◌, ℕ, ◌-◌, ◌/◌, ◌<◌, ◌≤◌, true, not, ◌&&◌, ◌||◌, eqb, ltb, leb, length, List, [], ◌∷◌, map, sym, ◌∙◌, arith, Option, Some, None}
 use Rattle.std.specs.List.{AllByRecursion as Every, list_any}
 use Rattle.std.specs.Option.{option_map_or}
 use Rattle.std.proofs.lemmas.List.Elements.{recursion_from_All}
@@ -13,12 +13,11 @@ use Rattle.layer_states.specs.Names.{is_unicast}
 use Rattle.mesh_base.specs.declared.address.Address.{Address}
 use Rattle.mesh_base.specs.declared.keys.NetKeyRow.{NetKeyRow}
 use Rattle.mesh_base.specs.declared.lower.Lower.{Lower}
-use Rattle.mesh_base.specs.declared.pair.Pair.{Pair}
 use Rattle.mesh_types.specs.declared.answers.Answer.{Answer}
 use Rattle.mesh_types.specs.declared.answers.Answer.TheVariants as A
 use Rattle.mesh_types.specs.declared.events.Event.{Event}
-use Rattle.mesh_types.specs.declared.events.Outgoing.{Outgoing}
 use Rattle.mesh_types.specs.declared.events.Event.TheVariants as E
+use Rattle.mesh_types.specs.declared.events.Outgoing.{Outgoing}
 use Rattle.mesh_types.specs.declared.events.SendKey.{SendKey}
 use Rattle.mesh_types.specs.declared.jobs.Job.{Job}
 use Rattle.mesh_types.specs.declared.jobs.Job.TheVariants as J

@@ -3,7 +3,7 @@
 use Rattle.std.specs.Prelude.{ℕ, ◌+◌, ◌^◌, ◌==◌, ◌&&◌, ◌||◌, not, nat_lt, nat_le, min, Bool, true, false, if◌then◌else◌, length, take, Option, Some, None, is_some, is_none, unwrap_or}
 use Rattle.std.specs.List.{list_any, filter_map}
 use Rattle.std.specs.Option.{option_map, option_or, option_to_list}
-use Rattle.node_limits.specs.declared.TheConstants.{MESSAGES_IN_PROGRESS, OWN_MESSAGES}
+use Rattle.node_limits.specs.declared.TheConstants.{MESSAGES_IN_PROGRESS, OWN_MESSAGES, MESSAGE_CACHE}
 use Rattle.cipher_definitions.specs.Kdf.{virtual_address}
 use Rattle.layer_definitions.specs.IvIndex.{iv_next}
 use Rattle.layer_definitions.specs.KeyRefresh.{net_row, app_row}
@@ -103,11 +103,11 @@ abbrev pub cached_name : Insight → Bool → Option Name
 cached_name (OfPdu (Some r) lower opening) false = Some (name_of r.fields)
 cached_name _ _ = None
 
--- whether a PDU is among the last 128 of this life that got into the message cache
+-- whether a PDU is among the last of this life that got into the message cache, as many as it holds
 abbrev pub is_cached : Past → NetFields → Bool
 is_cached past f =
     list_any (is_name (name_of f))
-    (last_of 128 (filter_map (λ t. cached_name t.insight (is_before_cache t.entry.answer)) past.told))
+    (last_of MESSAGE_CACHE (filter_map (λ t. cached_name t.insight (is_before_cache t.entry.answer)) past.told))
 
 abbrev pub network_answer : Past → Reading → Option Answer
 network_answer past r =

@@ -21,6 +21,11 @@ pub record NodeView (F : Type 0) : Type 0 where
   pub flash : F
   pub stops : ℕ
 
+-- a mark that was seen, and the one that was published instead when the lock was taken
+pub record Rise : Type 0 where
+  pub seen : ℕ
+  pub mark : ℕ
+
 abbrev pub event_in : Hand → Option Event
 event_in H.Nothing = None
 event_in (H.OfEvent event) = Some event

@@ -2,13 +2,16 @@
 //!
 //! - `known`: a value of the past that is known to proofs, and takes no place
 //! - `marks`: the entries of the lock, and the origin of the value
+//! - `raised`: what a refill answers
 //! - `node`: the value, with its calls
 #![tactic(auto)]
 
 mod known;
 mod marks;
 mod node;
+mod raised;
 
 pub use known::Known;
 pub use marks::{Armed, Mark, Origin};
 pub use node::Node;
+pub use raised::Raised;

@@ -1,7 +1,7 @@
 //! The value behind the lock.
 #![tactic(auto)]
 
-ghost use Rattle.std.specs.Prelude.{◌≡◌, ℕ, ◌<◌, ◌^◌, List, [], ◌∷◌, ◌++◌, length, All, true, false, None, Some, IfOk, OnOk, IfErr, IsTrue};
+ghost use Rattle.std.specs.Prelude.{◌≡◌, ◌≢◌, ℕ, ◌+◌, ◌<◌, ◌^◌, List, [], ◌∷◌, ◌++◌, length, All, true, false, None, Some, Ok, Err, IfOk, OnOk, IfErr, IsTrue};
 ghost use Rattle.flash_model.specs.Chip.{Chip, KeepsCount};
 ghost use Rattle.record_types.specs.declared.records.StoreRecord.{StoreRecord};
 ghost use Rattle.run_definitions.specs.Order.{is_outside};
@@ -16,6 +16,7 @@ ghost use Rattle.locked_node.specs.Stands.{Holds, IsLater, IsNode};
 
 use crate::known::Known;
 use crate::marks::{Mark, Origin};
+use crate::raised::Raised;
 use flash_model::Bench;
 use machine_contract::{Answered, Machine, Stop};
 use mesh_types::events::Event;
@@ -131,10 +132,25 @@ impl<M: Machine, F: Bench> Node<M, F> {
         }
     }
 
-    /// Stores a refill where `seen` is the mark that was published last. Where the flash failed, the bearer's mark is put.
-    pub fn refill(&mut self, n: &Numbers, seen: u64) -> Result<u64, Stop>
+    /// Stores a refill where `seen` is the mark that was published last (`filled`); else one came between, and nothing changes (`nothing`).
+    /// It answers the mark that is published then, which is another one than `seen`. Where the flash failed, the bearer's mark is put.
+    ///
+    /// It is refused for want of memory only where 2^32 - 1 bearers have stopped.
+    pub fn refill(&mut self, n: &Numbers, seen: u64) -> Result<Raised, Stop>
         requires made { self.old.machine.which ≡ n.now.which }
         requires seq { seq_of seen < 2 ^ 24 }
+        ensures filled { seen ≡ self.old.machine.mark
+            → OnOk result
+            (self.new.machine
+            ≡ record self.old.machine { fills = self.old.machine.fills + 1; mark = seen + 256 }) }
+        ensures nothing { seen ≢ self.old.machine.mark → self.old.machine.closed ≡ false
+            → (result ≡ Ok (record { seen = seen; mark = self.old.machine.mark })) × (self.new ≡ self.old) }
+        ensures value { IfOk result (λ r. r ≡ record { seen = seen; mark = self.new.machine.mark }) }
+        ensures raised { IfOk result (λ r. r.mark ≢ r.seen) }
+        ensures usable { OnOk result (self.old.machine.closed ≡ false) }
+        ensures closed { self.old.machine.closed ≡ true → self.old.stops + 1 < 2 ^ 32
+            → result ≡ Err Stop.Closed }
+        ensures memory { self.old.stops + 1 < 2 ^ 32 → result ≢ Err Stop.Memory }
         ensures origin { origin_of F.chip self.new ≡ origin_of F.chip self.old }
         ensures front { IsPrefix (node_marks self.old) (node_marks self.new) }
         ensures ok { OnOk result (node_marks self.new ≡ node_marks self.old) }
@@ -144,7 +160,7 @@ impl<M: Machine, F: Bench> Node<M, F> {
             return Err(Stop::Memory);
         }
         match self.machine.refill(n, &mut self.flash, seen) {
-            Ok(mark) => Ok(mark),
+            Ok(mark) => Ok(Raised { seen, mark }),
             Err(Stop::Memory) => Err(Stop::Memory),
             Err(Stop::Closed) => {
                 self.stops += 1;

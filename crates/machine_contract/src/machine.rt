@@ -1,7 +1,7 @@
 //! The machine of a node.
 #![tactic(auto)]
 
-ghost use Rattle.std.specs.Prelude.{◌≡◌, ℕ, ◌+◌, ◌<◌, ◌≤◌, ◌^◌, List, [], ◌∷◌, ◌++◌, length, All, true, false, Ok, Err, IsErr, IfOk, OnOk, IfErr};
+ghost use Rattle.std.specs.Prelude.{◌≡◌, ◌≢◌, ℕ, ◌+◌, ◌<◌, ◌≤◌, ◌^◌, List, [], ◌∷◌, ◌++◌, length, All, true, false, Ok, Err, IsErr, IfOk, OnOk, IfErr};
 ghost use Rattle.flash_model.specs.Chip.{Chip, IsFresh, Keeps};
 ghost use Rattle.record_types.specs.declared.records.StoreRecord.{StoreRecord};
 ghost use Rattle.event_definitions.specs.Role.{Role};
@@ -80,18 +80,26 @@ pub trait Machine: Send + Drop {
             → stands (F.chip flash.new) over self.new }
         ensures frame { Keeps (F.chip flash.old) (F.chip flash.new) };
 
-    /// Stores a refill, and publishes its mark, where `seen` is the mark published last; else nothing changes. Returns the mark that is
-    /// published then.
+    /// Stores a refill, and publishes its mark, 256 higher, where `seen` is the mark published last (`filled`); else a refill came between,
+    /// and nothing changes (`nothing`). Returns the mark that is published then. It takes no memory.
     fn refill<F: Flash>(&mut self, n: &Numbers, flash: &mut F, seen: u64) -> Result<u64, Stop>
         requires made { (view self.old).which ≡ n.now.which }
         requires seq { seq_of seen < 2 ^ 24 }
 
+        ensures filled { seen ≡ (view self.old).mark
+            → OnOk result
+            (view self.new ≡ record (view self.old) { fills = (view self.old).fills + 1; mark = seen + 256 }) }
+        ensures nothing { seen ≢ (view self.old).mark → (view self.old).closed ≡ false
+            → (result ≡ Ok (view self.old).mark) × (view self.new ≡ view self.old) × (flash.new ≡ flash.old) }
+        ensures value { IfOk result (λ mark. mark ≡ (view self.new).mark) }
         ensures ok { OnOk result
             (view self.new ≡ record (view self.old) { fills = (view self.new).fills; mark = (view self.new).mark }) }
-        ensures value { IfOk result (λ mark. mark ≡ (view self.new).mark) }
+        ensures usable { OnOk result ((view self.old).closed ≡ false) }
 
         ensures refused { IfErr result
             (IsRefused F.chip Hand.OfRefill (view self.old) (view self.new) flash.old flash.new) }
+        ensures closed { (view self.old).closed ≡ true → result ≡ Err Stop.Closed }
+        ensures memory { result ≢ Err Stop.Memory }
 
         ensures kept { (over : List StoreRecord) → stands (F.chip flash.old) over self.old
             → stands (F.chip flash.new) over self.new }

@@ -26,7 +26,6 @@ use Rattle.mesh_base.specs.declared.keys.NetKeyRow.{NetKeyRow}
 use Rattle.mesh_base.specs.declared.keys.UpperKey.{UpperKey}
 use Rattle.mesh_base.specs.declared.keys.UpperKey.TheVariants as U
 use Rattle.mesh_base.specs.declared.lower.Lower.{Lower}
-use Rattle.mesh_base.specs.declared.pair.Pair.{Pair}
 use Rattle.mesh_types.specs.declared.answers.Answer.{Answer}
 use Rattle.mesh_types.specs.declared.answers.Answer.TheVariants as A
 use Rattle.mesh_types.specs.declared.events.Event.{Event}

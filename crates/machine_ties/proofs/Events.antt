@@ -226,6 +226,7 @@ module _ (laws : AreKeeping) (m : NodeMachine) (event : Event) (plan : Plan) (pl
         fit = fit;
         usable = usable;
         elements = elements;
+        paid = omega arith;
       }
 
   short_told : (t : Told) → All IsInRange t.records → IsShortTold t

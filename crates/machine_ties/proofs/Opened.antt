@@ -67,6 +67,7 @@ opened_ready over r t elements meaning ranges whole tables published fit usable 
   fit = fit;
   usable = usable;
   elements = is;
+  paid = omega arith;
 }
 
 -- A mount whose every image holds the records leaves the node.

@@ -1,5 +1,5 @@
 -- What a refill leaves, whether its record was stored or not.
-use Rattle.std.proofs.Common.{◌≡◌, ℕ, ◌<◌, ◌^◌, ⊎_elim, false, List, [], ◌∷◌, ◌++◌, append-nil, ap, sym, subst, ◌∙◌, arith}
+use Rattle.std.proofs.Common.{◌≡◌, ℕ, ◌+◌, ◌*◌, ◌≤◌, ◌<◌, ◌^◌, ⊎_elim, false, List, [], ◌∷◌, ◌++◌, append-nil, ap, sym, subst, ◌∙◌, arith}
 use Rattle.std.specs.Prelude.{All, IsTrue}
 use Rattle.event_plans.specs.Memory.{IsFitFor}
 use Rattle.flash_model.specs.Chip.{Chip, Keeps, Setting}
@@ -48,6 +48,10 @@ put_cut chip records item mark honest puts durable = record {
   durable = durable;
 }
 
+-- a refill more is paid for by its block
+pub paid_more : (fills mark next : ℕ) → 256 * fills ≤ seq_of mark → next ≡ mark + 256 → seq_of mark < 2 ^ 24 → 256 * (fills + 1) ≤ seq_of next
+paid_more fills mark next paid is left = omega arith
+
 module _ (laws : AreKeeping) (m : NodeMachine) where
   seq_now : (past : Past) → IsBefore past m → m.reserve.keeper.mark ≡ m.reserve.store.persist.mark → seq_of m.reserve.keeper.mark < 2 ^ 24 → seq_of (config_of past.records).mark < 2 ^ 24
   seq_now past h published seq =
@@ -86,9 +90,9 @@ module _ (laws : AreKeeping) (m : NodeMachine) where
 
   pub refill_ready : (ready : IsReady m) (r : Reserve) → seq_of m.reserve.keeper.mark < 2 ^ 24
       → IsMeaningOf (ready.past.records ++ fill_of (config_of ready.past.records) ∷ []) r.store.persist → IsPublished r.store r.keeper → r.store.journal.closed ≡ false
-      → IsFitFor m.tables r.store.persist → m.elements ≡ r.store.persist.elements
+      → IsFitFor m.tables r.store.persist → m.elements ≡ r.store.persist.elements → r.keeper.mark ≡ m.reserve.keeper.mark + 256
       → IsReady (refilled m r)
-  refill_ready ready r seq meaning published usable fit elements =
+  refill_ready ready r seq meaning published usable fit elements rises =
       let past : Past = ready.past in
       let h : IsBefore past m = ready.before in
       let kept : AreKept (config_of past.records) (fill_of (config_of past.records) ∷ []) = fill_kept past.records h.standing.ranges (seq_now past h ready.published seq) in
@@ -102,4 +106,5 @@ module _ (laws : AreKeeping) (m : NodeMachine) where
         fit = fit;
         usable = usable;
         elements = elements;
+        paid = paid_more m.fills m.reserve.keeper.mark r.keeper.mark ready.paid rises seq;
       }

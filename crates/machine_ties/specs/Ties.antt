@@ -1,5 +1,5 @@
 -- What holds of a machine, its flash and the records that its life opened over, between two calls.
-use Rattle.std.specs.Prelude.{◌≡◌, ℕ, ◌+◌, ◌≤◌, true, false, IsTrue, All, List, [], ◌∷◌, ◌++◌}
+use Rattle.std.specs.Prelude.{◌≡◌, ℕ, ◌+◌, ◌*◌, ◌≤◌, true, false, IsTrue, All, List, [], ◌∷◌, ◌++◌}
 use Rattle.event_plans.specs.Memory.{IsFitFor, NodeTablesView}
 use Rattle.event_plans.specs.Plans.{IsStanding}
 use Rattle.flash_model.specs.Chip.{Chip}
@@ -17,6 +17,7 @@ use Rattle.event_definitions.specs.History.{Past, Told}
 use Rattle.event_definitions.specs.Role.{node_role}
 use Rattle.seq_reserve.specs.Reserving.{IsDurable, IsPublished}
 use Rattle.seq_reserve.specs.declared.reserve.Reserve.{Reserve}
+use Rattle.seq_word.specs.Word.{seq_of}
 use Rattle.store_definitions.specs.Config.{config_of}
 use Rattle.store_definitions.specs.Node.{IsWhole}
 use Rattle.store_definitions.specs.Ranges.{IsInRange}
@@ -28,7 +29,7 @@ pub record IsBefore (past : Past) (m : NodeMachine) : Type 0 where
   pub told : All (λ (t : Told). All IsInRange t.records) past.told
 
 -- The store takes records, its mark is the keeper's, the keys are those that it says, the models are within its bounds,
--- and the elements are those that it says.
+-- and the elements are those that it says. The refills since the last entry lie under one IV Index, so there are at most 65,536.
 pub record IsReady (m : NodeMachine) : Type 0 where
   pub past : Past
   pub before : IsBefore past m
@@ -36,6 +37,7 @@ pub record IsReady (m : NodeMachine) : Type 0 where
   pub fit : IsFitFor m.tables m.reserve.store.persist
   pub usable : m.reserve.store.journal.closed ≡ false
   pub elements : m.elements ≡ m.reserve.store.persist.elements
+  pub paid : 256 * m.fills ≤ seq_of m.reserve.keeper.mark
 
 -- the invariant of a machine
 abbrev pub IsSound : NodeMachine → Type 0

@@ -18,6 +18,7 @@ use Rattle.node_records.specs.declared.persist.Persist.{Persist}
 use Rattle.event_definitions.specs.Answers.{cached_name, is_before_cache}
 use Rattle.event_definitions.specs.History.{Insight, Told, now_of, ticks_after}
 use Rattle.store_definitions.specs.Config.{Config, config_of}
+use Rattle.node_limits.specs.declared.TheConstants.{MESSAGE_CACHE}
 
 -- The keys that are derived from the store; the message cache, the oldest name first; the messages in progress, in the order in which they
 -- began; the names that were accepted from segments in this life; the own segmented messages that are held, in the order in which they began;
@@ -36,7 +37,7 @@ IsFit t p = t.keys ≡ held_in (config_in p)
 
 -- The tables are those of a life with these entries so far.
 pub record AreTablesOf (t : TablesView) (told : List Told) : Type 0 where
-  pub cache : t.cache ≡ last_of 128 (cached_names told)
+  pub cache : t.cache ≡ last_of MESSAGE_CACHE (cached_names told)
   pub parts : t.parts ≡ messages (record { told = told; records = [] })
   pub again : t.again ≡ segmented_names told
   pub own : t.own ≡ own.messages (record { told = told; records = [] })

@@ -29,6 +29,7 @@ use mesh_base::fields::Heard;
 use mesh_base::pair::Name;
 use mesh_reading::{HeardPdu, Keys, NetReading, Opened};
 use mesh_types::answers::Answer;
+use node_limits::MESSAGE_CACHE;
 use node_records::Persist;
 use relay_cache::Cache;
 use segment_reassembly::Parts;
@@ -138,7 +139,7 @@ fn hear_octets(
 ) -> Result<Hearing, AllocError>
     requires fit { keys.now ≡ held_in (config_in p.now) }
     requires time { now ≤ 2 ^ 48 }
-    ensures heard { (past : Past) → IsFalse p.now.reset → cache.old ≡ last_of 128 (cached_names past.told)
+    ensures heard { (past : Past) → IsFalse p.now.reset → cache.old ≡ last_of MESSAGE_CACHE (cached_names past.told)
         → StandsBelow past p.now parts.old again.now now → more.now ≡ friend_keys past
         → IfOk result (IsReadAs past octets.now) }
     ensures cache { IfOk result

@@ -20,6 +20,7 @@ use mesh_base::fields::NetFields;
 use mesh_base::pair::Pair;
 use mesh_reading::{Keys, NetReading};
 use mesh_types::answers::Answer;
+use node_limits::MESSAGE_CACHE;
 use node_records::Persist;
 use relay_cache::Cache;
 use std::alloc::AllocError;
@@ -73,7 +74,7 @@ pub(crate) fn network_row(
 ) -> Result<Option<Answer>, AllocError>
     requires { keys.now ≡ held_in (config_in p.now) }
     ensures value { (past : Past) → config_in p.now ≡ config_of past.records
-        → cache.old ≡ last_of 128 (cached_names past.told)
+        → cache.old ≡ last_of MESSAGE_CACHE (cached_names past.told)
         → IfOk result (λ row. row ≡ network_answer past (reading_of r.now)) }
     ensures early { IfOk result (λ row. IfSome row (λ a. is_early a ≡ true)) }
     ensures state { IfOk result (λ row. cache.new ≡ cache_after_row cache.old r.now.fields row) }

@@ -1,7 +1,7 @@
 //! The machine.
 #![tactic(auto)]
 
-ghost use Rattle.std.specs.Prelude.{◌≡◌, ◌<◌, ◌^◌, List, All, length, true, false, Err, IfOk, OnOk, IfErr};
+ghost use Rattle.std.specs.Prelude.{◌≡◌, ◌≢◌, ◌+◌, ◌<◌, ◌^◌, List, All, length, true, false, Ok, Err, IfOk, OnOk, IfErr};
 ghost use Rattle.event_world.specs.Stepping.{HasStepped};
 ghost use Rattle.flash_model.specs.Chip.{Keeps};
 ghost use Rattle.machine_contract.specs.Ranges.{IsEvent, IsJob, IsQuiet};
@@ -145,8 +145,8 @@ impl MeshMachine {
         Ok(answered)
     }
 
-    /// Stores a refill, and publishes its mark, where `seen` is the mark published last; else nothing changes. Returns the mark that is
-    /// published then.
+    /// Stores a refill, and publishes its mark, 256 higher, where `seen` is the mark published last; else nothing changes. Returns the mark
+    /// that is published then. It takes no memory: the refills behind one entry lie under one IV Index, so they are at most 65,536.
     pub(crate) fn refill_numbers<F: Flash>(
         &mut self,
         n: &Numbers,
@@ -156,10 +156,18 @@ impl MeshMachine {
         requires made { (shown self.old).which ≡ n.now.which }
         requires seq { seq_of seen < 2 ^ 24 }
 
+        ensures filled { seen ≡ (shown self.old).mark
+            → OnOk result
+            (shown self.new ≡ record (shown self.old) { fills = (shown self.old).fills + 1; mark = seen + 256 }) }
+        ensures nothing { seen ≢ (shown self.old).mark → (shown self.old).closed ≡ false
+            → (result ≡ Ok (shown self.old).mark) × (shown self.new ≡ shown self.old) × (flash.new ≡ flash.old) }
+        ensures value { IfOk result (λ mark. mark ≡ (shown self.new).mark) }
         ensures ok { OnOk result
             (shown self.new
             ≡ record (shown self.old) { fills = (shown self.new).fills; mark = (shown self.new).mark }) }
-        ensures value { IfOk result (λ mark. mark ≡ (shown self.new).mark) }
+        ensures usable { OnOk result ((shown self.old).closed ≡ false) }
+        ensures closed { (shown self.old).closed ≡ true → result ≡ Err Stop.Closed }
+        ensures memory { result ≢ Err Stop.Memory }
         ensures refused { IfErr result
             (IsRefused F.chip Hand.OfRefill (shown self.old) (shown self.new) flash.old flash.new) }
         ensures kept { (over : List StoreRecord) → Stands (F.chip flash.old) over self.old
@@ -172,9 +180,6 @@ impl MeshMachine {
         let mark = self.reserve.store.persist().mark;
         if seen != mark {
             return Ok(mark);
-        }
-        if self.fills == u32::MAX {
-            return Err(Stop::Memory);
         }
         // They do nothing when they run: the proof uses what they say.
         ties_law();

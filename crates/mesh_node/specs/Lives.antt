@@ -19,10 +19,11 @@ use Rattle.life_laws.specs.declared.plan.LifePlan.{LifePlan}
 use Rattle.mesh_node.specs.Drawn.{TellsDrawn}
 use Rattle.life_laws.specs.Plan.{HasOneArm, IsStep, life_of}
 use Rattle.mesh_node.specs.Steps.{IsGiven, IsOfPlan}
+use Rattle.node_limits.specs.declared.TheConstants.{BEARERS}
 
--- A plan for a node that any image of the flash recovers: at most 8 bearers, at most one order to tear a call, and events that the node may have.
+-- A plan for a node that any image of the flash recovers: at most `BEARERS` bearers, at most one order to tear a call, and events that the node may have.
 pub record IsPlanned (chip : Chip) (plan : LifePlan) : Type 0 where
-  pub few : plan.bearers ≤ 8
+  pub few : plan.bearers ≤ BEARERS
   pub arm : HasOneArm plan.steps.items
   pub steps : EachRecovered chip (λ records. All (IsStep plan.bearers (config_of records).elements) plan.steps.items)
 
@@ -36,7 +37,7 @@ IsShort s = (s.entry + 1 < 2 ^ 32) × (s.job + 1 < 2 ^ 8)
 
 pub record IsPrintable (life : Life) : Type 0 where
   pub entries : length life.entries < 2 ^ 32
-  pub bearers : length life.sends ≤ 8
+  pub bearers : length life.sends ≤ BEARERS
   pub lines : All (All IsShort) life.sends
 
 -- The life opened over what one image of the flash recovers. Whatever an image recovers now, it is a life of its plan that leaves this.

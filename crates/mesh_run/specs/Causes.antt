@@ -1,6 +1,6 @@
 -- Where each status of a run comes.
 use Rattle.std.specs.Prelude.{◌≡◌, ◌⊎◌, ℕ, ◌≤◌, nat_lt, Bool, true, false, IsTrue, List, length, ⊤}
-use Rattle.flash_model.specs.Chip.{Chip}
+use Rattle.flash_model.specs.Chip.{Chip, Remembers}
 use Rattle.script_definitions.specs.Reading.{Reading, reading}
 use Rattle.script_definitions.specs.Reading.Reading.{Fails, IsScript}
 use Rattle.script_definitions.specs.declared.kind.Grammar.TheVariants as G
@@ -82,3 +82,4 @@ pub record IsSameFlash (old new : Chip) : Type 0 where
   pub honest : IsTrue new.honest
   pub steady : new.steady ≡ old.steady
   pub later : old.faults ≤ new.faults
+  pub past : Remembers old new

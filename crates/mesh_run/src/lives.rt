@@ -104,11 +104,11 @@ pub(crate) fn live_all<R: Threads + Wait + Sync, B: Bench, K: Sink, G: Gate>(
         (λ f. Ran (node_role node_layers) (script_of script.now) hex (B.chip flash) (view_of K.held K.pieces sink.old)
         (B.chip f) (view_of K.held K.pieces sink.new)) }
     ensures front { OnErr result
-        (RanFront (node_role node_layers) (script_of script.now) hex (view_of K.held K.pieces sink.old)
-        (view_of K.held K.pieces sink.new)) }
+        (RanFront B.chip (node_role node_layers) (script_of script.now) hex (B.chip flash) (flash_left result)
+        (view_of K.held K.pieces sink.old) (view_of K.held K.pieces sink.new)) }
     ensures whole { IsMemory result
-        → RanFirst (node_role node_layers) (script_of script.now) hex (view_of K.held K.pieces sink.old)
-        (view_of K.held K.pieces sink.new) }
+        → RanFirst B.chip (node_role node_layers) (script_of script.now) hex (B.chip flash) (flash_left result)
+        (view_of K.held K.pieces sink.old) (view_of K.held K.pieces sink.new) }
     ensures cause { IsFault result → Rose (K.faults sink.old) (K.faults sink.new) }
     ensures no_fault { ¬ IsFault result → K.faults sink.new ≡ K.faults sink.old }
     ensures later { K.faults sink.old ≤ K.faults sink.new }

@@ -17,8 +17,10 @@ ghost use Rattle.command_words.specs.declared.commands.Command.TheVariants as C;
 ghost use Rattle.command_words.specs.declared.commands.RunFlags.{RunFlags as Flags};
 ghost use Rattle.audit_definitions.specs.Input.{IsFirstOther};
 ghost use Rattle.mesh_run.specs.Ran.{Ran, RanFirst, RanFront};
+ghost use Rattle.run_steps.specs.Provisioned.{FailsEarly, WasProvisioned, format_by};
 ghost use Rattle.run_steps.specs.Reads.{ReadsMoreThan};
 ghost use Rattle.event_definitions.specs.Role.{node_role};
+ghost use Rattle.store_definitions.specs.Provisioning.{provisioned};
 
 use crate::scripts::run_text;
 use command_words::{Command, command_of};
@@ -37,6 +39,10 @@ use std::thread::Threads;
 /// node of the script is provisioned on it, and the lives are run one after another; the report of a life is written once it is over, each
 /// line as one piece, and nothing of the life but its flash is kept. `rt` starts the threads of the bearers, and `gate` is handed to each
 /// life; it is there for tests.
+///
+/// Each life opens over what an image of this very flash recovers, and so can the next one, over the flash that is handed back. `FlashFault`
+/// is a fault before the first life: the flash then recovers nothing, or what the node is provisioned with. With `--old` the node is
+/// provisioned in format 01, else in format 02.
 ///
 /// `audit` reads a log, and writes the line of its verdict.
 ///
@@ -62,6 +68,11 @@ pub fn run<R: Threads + Wait + Sync, S: Source, K: Sink, B: Bench, G: Gate>(
         → IfSome (S.left source.old) (λ text. reading Grammars.Node text ≡ Fails line rule) }
     ensures flash_fault { result.status ≡ Status.FlashFault
         → IsSomeAnd result.flash (λ f. (B.chip flash).faults < (B.chip f).faults) × (IsTrue (B.chip flash).steady → ⊥) }
+    ensures early { (flags : Flags) → command_of (map (λ w. w.now) words.now) ≡ Some (C.Run flags)
+        → result.status ≡ Status.FlashFault
+        → IfSome (S.left source.old)
+        (λ text. IsScriptAnd (reading Grammars.Node text)
+        (λ s. IsSomeAnd result.flash (λ f. FailsEarly (provisioned (script_of s).node) (B.chip flash) (B.chip f)))) }
     ensures not_erased { (at : ℕ) → result.status ≡ Status.NotErased at
         → IsSomeAnd result.flash (λ f. IsWrittenAt at (B.chip flash) (B.chip f)) }
     ensures erased { (flags : Flags) → command_of (map (λ w. w.now) words.now) ≡ Some (C.Run flags)
@@ -89,26 +100,32 @@ pub fn run<R: Threads + Wait + Sync, S: Source, K: Sink, B: Bench, G: Gate>(
         (λ s. IsSomeAnd result.flash
         (λ f. Ran (node_role node_layers) (script_of s) flags.hex (B.chip flash) (view_of K.held K.pieces sink.old) (B.chip f)
         (view_of K.held K.pieces sink.new)))) }
+    ensures format { (flags : Flags) → command_of (map (λ w. w.now) words.now) ≡ Some (C.Run flags)
+        → (result.status ≡ Status.Done) ⊎ (result.status ≡ Status.WriteFault)
+        → IfSome (S.left source.old)
+        (λ text. IsScriptAnd (reading Grammars.Node text)
+        (λ s. IsSomeAnd result.flash
+        (λ f. WasProvisioned (format_by flags.old) (provisioned (script_of s).node) (B.chip flash) (B.chip f)))) }
     ensures front { (flags : Flags) → command_of (map (λ w. w.now) words.now) ≡ Some (C.Run flags)
         → result.status ≡ Status.WriteFault
         → IfSome (S.left source.old)
         (λ text. IsScriptAnd (reading Grammars.Node text)
-        (λ s. RanFront (node_role node_layers) (script_of s) flags.hex (view_of K.held K.pieces sink.old)
-        (view_of K.held K.pieces sink.new))) }
+        (λ s. RanFront B.chip (node_role node_layers) (script_of s) flags.hex (B.chip flash) result.flash
+        (view_of K.held K.pieces sink.old) (view_of K.held K.pieces sink.new))) }
     ensures memory { (flags : Flags) → command_of (map (λ w. w.now) words.now) ≡ Some (C.Run flags)
         → result.status ≡ Status.Memory
         → (sink.new ≡ sink.old)
         ⊎ IfSome (S.left source.old)
         (λ text. IsScriptAnd (reading Grammars.Node text)
-        (λ s. RanFront (node_role node_layers) (script_of s) flags.hex (view_of K.held K.pieces sink.old)
-        (view_of K.held K.pieces sink.new))) }
+        (λ s. RanFront B.chip (node_role node_layers) (script_of s) flags.hex (B.chip flash) result.flash
+        (view_of K.held K.pieces sink.old) (view_of K.held K.pieces sink.new))) }
     ensures whole { (flags : Flags) → command_of (map (λ w. w.now) words.now) ≡ Some (C.Run flags)
         → result.status ≡ Status.Memory
         → (sink.new ≡ sink.old)
         ⊎ IfSome (S.left source.old)
         (λ text. IsScriptAnd (reading Grammars.Node text)
-        (λ s. RanFirst (node_role node_layers) (script_of s) flags.hex (view_of K.held K.pieces sink.old)
-        (view_of K.held K.pieces sink.new))) }
+        (λ s. RanFirst B.chip (node_role node_layers) (script_of s) flags.hex (B.chip flash) result.flash
+        (view_of K.held K.pieces sink.old) (view_of K.held K.pieces sink.new))) }
     ensures nothing_written { IsBeforeLives result.status → sink.new ≡ sink.old }
 
     // An audit writes the line of the verdict on what is read, or a front of it, and leaves the flash.

@@ -12,7 +12,9 @@ ghost use Rattle.script_definitions.specs.Reading.Reading.{Fails};
 ghost use Rattle.script_definitions.specs.declared.kind.Grammar.TheVariants as Grammars;
 ghost use Rattle.mesh_run.specs.Causes.{IfScript, IsBeforeFlash, IsBeforeLives, IsDueBy, IsErasedFlash, IsFromFlash, IsSameFlash, IsScriptAnd, IsWrittenAt, WasErased};
 ghost use Rattle.mesh_run.specs.Ran.{Ran, RanFirst, RanFront};
+ghost use Rattle.run_steps.specs.Provisioned.{FailsEarly, WasProvisioned, format_by};
 ghost use Rattle.event_definitions.specs.Role.{node_role};
+ghost use Rattle.store_definitions.specs.Provisioning.{provisioned};
 
 use crate::lives::{Stopped, live_all};
 use command_words::RunFlags;
@@ -48,6 +50,9 @@ fn run_script<R: Threads + Wait + Sync, B: Bench, K: Sink, G: Gate>(
         → IsSomeAnd result.flash (λ f. IsWrittenAt at (B.chip flash) (B.chip f)) }
     ensures flash_fault { result.status ≡ Status.FlashFault
         → IsSomeAnd result.flash (λ f. (B.chip flash).faults < (B.chip f).faults) × (IsTrue (B.chip flash).steady → ⊥) }
+    ensures early { result.status ≡ Status.FlashFault
+        → IsSomeAnd result.flash
+        (λ f. FailsEarly (provisioned (script_of script.now).node) (B.chip flash) (B.chip f)) }
     ensures erased { (result.status ≡ Status.Done) ⊎ (result.status ≡ Status.WriteFault) → WasErased (B.chip flash) }
     ensures complete { ¬ Rose (K.faults sink.old) (K.faults sink.new) → IsErasedFlash (B.chip flash)
         → (result.status ≡ Status.Done) ⊎ (result.status ≡ Status.Memory) ⊎ (result.status ≡ Status.FlashFault) }
@@ -57,12 +62,15 @@ fn run_script<R: Threads + Wait + Sync, B: Bench, K: Sink, G: Gate>(
         → IsSomeAnd result.flash
         (λ f. Ran (node_role node_layers) (script_of script.now) flags.hex (B.chip flash) (view_of K.held K.pieces sink.old)
         (B.chip f) (view_of K.held K.pieces sink.new)) }
+    ensures format { (result.status ≡ Status.Done) ⊎ (result.status ≡ Status.WriteFault)
+        → IsSomeAnd result.flash
+        (λ f. WasProvisioned (format_by flags.old) (provisioned (script_of script.now).node) (B.chip flash) (B.chip f)) }
     ensures front { (result.status ≡ Status.WriteFault) ⊎ (result.status ≡ Status.Memory)
-        → RanFront (node_role node_layers) (script_of script.now) flags.hex (view_of K.held K.pieces sink.old)
-        (view_of K.held K.pieces sink.new) }
+        → RanFront B.chip (node_role node_layers) (script_of script.now) flags.hex (B.chip flash) result.flash
+        (view_of K.held K.pieces sink.old) (view_of K.held K.pieces sink.new) }
     ensures whole { result.status ≡ Status.Memory
-        → RanFirst (node_role node_layers) (script_of script.now) flags.hex (view_of K.held K.pieces sink.old)
-        (view_of K.held K.pieces sink.new) }
+        → RanFirst B.chip (node_role node_layers) (script_of script.now) flags.hex (B.chip flash) result.flash
+        (view_of K.held K.pieces sink.old) (view_of K.held K.pieces sink.new) }
     ensures nothing_written { IsBeforeLives result.status → sink.new ≡ sink.old }
 
     // What becomes of the flash, and of the sink's count of faults.
@@ -115,6 +123,9 @@ pub(crate) fn run_text<R: Threads + Wait + Sync, B: Bench, K: Sink, G: Gate>(
         → IsSomeAnd result.flash (λ f. IsWrittenAt at (B.chip flash) (B.chip f)) }
     ensures flash_fault { result.status ≡ Status.FlashFault
         → IsSomeAnd result.flash (λ f. (B.chip flash).faults < (B.chip f).faults) × (IsTrue (B.chip flash).steady → ⊥) }
+    ensures early { result.status ≡ Status.FlashFault
+        → IsScriptAnd (reading Grammars.Node text.now)
+        (λ s. IsSomeAnd result.flash (λ f. FailsEarly (provisioned (script_of s).node) (B.chip flash) (B.chip f))) }
     ensures erased { (result.status ≡ Status.Done) ⊎ (result.status ≡ Status.WriteFault) → WasErased (B.chip flash) }
     ensures complete { ¬ Rose (K.faults sink.old) (K.faults sink.new) → IsErasedFlash (B.chip flash)
         → IfScript (reading Grammars.Node text.now)
@@ -126,20 +137,24 @@ pub(crate) fn run_text<R: Threads + Wait + Sync, B: Bench, K: Sink, G: Gate>(
         (λ s. IsSomeAnd result.flash
         (λ f. Ran (node_role node_layers) (script_of s) flags.hex (B.chip flash) (view_of K.held K.pieces sink.old) (B.chip f)
         (view_of K.held K.pieces sink.new))) }
+    ensures format { (result.status ≡ Status.Done) ⊎ (result.status ≡ Status.WriteFault)
+        → IsScriptAnd (reading Grammars.Node text.now)
+        (λ s. IsSomeAnd result.flash
+        (λ f. WasProvisioned (format_by flags.old) (provisioned (script_of s).node) (B.chip flash) (B.chip f))) }
     ensures front { result.status ≡ Status.WriteFault
         → IsScriptAnd (reading Grammars.Node text.now)
-        (λ s. RanFront (node_role node_layers) (script_of s) flags.hex (view_of K.held K.pieces sink.old)
-        (view_of K.held K.pieces sink.new)) }
+        (λ s. RanFront B.chip (node_role node_layers) (script_of s) flags.hex (B.chip flash) result.flash
+        (view_of K.held K.pieces sink.old) (view_of K.held K.pieces sink.new)) }
     ensures memory { result.status ≡ Status.Memory
         → (sink.new ≡ sink.old)
         ⊎ IsScriptAnd (reading Grammars.Node text.now)
-        (λ s. RanFront (node_role node_layers) (script_of s) flags.hex (view_of K.held K.pieces sink.old)
-        (view_of K.held K.pieces sink.new)) }
+        (λ s. RanFront B.chip (node_role node_layers) (script_of s) flags.hex (B.chip flash) result.flash
+        (view_of K.held K.pieces sink.old) (view_of K.held K.pieces sink.new)) }
     ensures whole { result.status ≡ Status.Memory
         → (sink.new ≡ sink.old)
         ⊎ IsScriptAnd (reading Grammars.Node text.now)
-        (λ s. RanFirst (node_role node_layers) (script_of s) flags.hex (view_of K.held K.pieces sink.old)
-        (view_of K.held K.pieces sink.new)) }
+        (λ s. RanFirst B.chip (node_role node_layers) (script_of s) flags.hex (B.chip flash) result.flash
+        (view_of K.held K.pieces sink.old) (view_of K.held K.pieces sink.new)) }
     ensures nothing_written { IsBeforeLives result.status → sink.new ≡ sink.old }
 
     // What becomes of the flash, and of the sink's count of faults.

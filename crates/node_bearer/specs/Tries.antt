@@ -1,5 +1,6 @@
--- The draws of a job: each before the last found the counter at the mark.
-use Rattle.std.specs.Prelude.{◌≡◌, ℕ, List, [], ◌∷◌}
+-- The draws of a job: each before the last found the counter at the mark, and what became of that mark.
+use Rattle.std.specs.Prelude.{◌≡◌, ℕ, List, [], ◌∷◌, Option, Some, None}
+use Rattle.locked_node.specs.Node.{Rise}
 use Rattle.seq_word.specs.Seen.{AfterLost, DrawerView, Finds, HasCause}
 use Rattle.seq_word.specs.declared.miss.Miss.TheVariants as missed
 use Rattle.node_bearer.specs.declared.bearer.Drawn.{Drawn}
@@ -18,3 +19,8 @@ EndsIn (D.Spent iv) v w = AfterLost (HasCause (missed.Spent iv)) v w
 -- some draws found the counter at the mark, and the next ended them
 abbrev pub DrawsUntil : Drawn → DrawerView → DrawerView → Type 0
 DrawsUntil drawn v w = (tries : List (ℕ × ℕ)) × (u : DrawerView) × DryDraws tries v u × EndsIn drawn u w
+
+-- a refill was asked for where this mark was seen
+abbrev pub IsRaised : ℕ → Option Rise → Type 0
+IsRaised mark (Some r) = r.seen ≡ mark
+IsRaised mark None = ⊥

@@ -11,7 +11,7 @@ ghost use Rattle.node_bearer.specs.Marked.{HasEntry};
 
 use crate::bearer::Bearer;
 use flash_model::Bench;
-use locked_node::Node;
+use locked_node::{Node, Raised};
 use machine_contract::{Answered, Machine, Stop};
 use mesh_types::events::Event;
 use seq_word::Numbers;
@@ -58,19 +58,20 @@ pub fn act<M: Machine, F: Bench>(
     }
 }
 
-/// Has a refill stored, where `mark` is still the mark that was published last, and can be raised.
+/// Has a refill stored, where `mark` is still the mark that was published last, and can be raised. Then another mark is published.
 pub fn refill<M: Machine, F: Bench>(
     rt: &impl Wait,
     n: &Numbers,
     turn: &Turn<Node<M, F>>,
     b: &mut Bearer<Node<M, F>>,
     mark: u64,
-) -> Result<(), Stop>
+) -> Result<Raised, Stop>
     requires rider { IsRider n.now turn.now b.old }
     requires seq { seq_of mark < 2 ^ 24 }
     ensures rider { IsRider n.now turn.now b.new }
     ensures on { GoesOn b.old b.new }
     ensures frame { (b.new.lines ≡ b.old.lines) × (b.new.drawer ≡ b.old.drawer) }
+    ensures raised { IfOk result (λ r. r.seen ≡ mark) }
     ensures did { (k first : ℕ) (tasks rest : List Task) → DidBy k first tasks rest b.old
         → OnOk result (DidBy k first tasks rest b.new) }
     ensures stopped { (k first : ℕ) (tasks rest : List Task) → DidBy k first tasks rest b.old
@@ -81,7 +82,7 @@ pub fn refill<M: Machine, F: Bench>(
     node.known();
     turn.leave(&mut b.pass, node);
     match result {
-        Ok(_) => Ok(()),
+        Ok(raised) => Ok(raised),
         Err(stop) => Err(stop),
     }
 }

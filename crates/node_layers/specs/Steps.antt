@@ -18,6 +18,7 @@ use Rattle.layer_states.specs.Reassembly.{is_segment}
 use Rattle.event_definitions.specs.Answers.{accepted, cached_name, is_accepted_segmented, is_before_cache}
 use Rattle.event_definitions.specs.Handling.{past_of}
 use Rattle.event_definitions.specs.History.{Insight, OfPdu, Past, Told, now_of, ticks_after}
+use Rattle.node_limits.specs.declared.TheConstants.{MESSAGE_CACHE}
 
 -- what stands before the event after an entry, over some records
 abbrev pub with_entry : List Told → Told → List StoreRecord → Past
@@ -64,7 +65,7 @@ PublishedGoesOn =
     (told : List Told) (t : Told) (records : List StoreRecord)
     → published (with_entry told t records) ≡ published_with (published (past_of told t)) (now_of told) t
 
--- The message cache needs the last 128 names alone.
+-- The message cache needs the last names alone, as many as it holds.
 
 -- the names of the PDUs that got into it
 abbrev pub cached_names : List Told → List Name
@@ -73,9 +74,9 @@ cached_names told = filter_map (λ t. cached_name t.insight (is_before_cache t.e
 abbrev pub CacheGoesOn : Type 0
 CacheGoesOn =
     (told : List Told) (t : Told)
-    → last_of 128 (cached_names (told ++ t ∷ []))
-    ≡ last_of 128
-    (last_of 128 (cached_names told) ++ option_to_list (cached_name t.insight (is_before_cache t.entry.answer)))
+    → last_of MESSAGE_CACHE (cached_names (told ++ t ∷ []))
+    ≡ last_of MESSAGE_CACHE
+    (last_of MESSAGE_CACHE (cached_names told) ++ option_to_list (cached_name t.insight (is_before_cache t.entry.answer)))
 
 -- The names of the messages that were accepted from segments.
 

@@ -28,13 +28,13 @@ pub const HEARD_APPLICATION_KEYS: usize = 2 * APPLICATION_KEYS;
 /// Bindings of application keys to models.
 pub const BINDINGS: usize = 32;
 
-/// Subscriptions of models to groups. Those to virtual addresses may be as many; together they are at most `SUBSCRIPTIONS`.
+/// Subscriptions of models to groups.
 pub const GROUP_SUBSCRIPTIONS: usize = 32;
 
 /// Subscriptions of models to virtual addresses.
 pub const LABEL_SUBSCRIPTIONS: usize = 32;
 
-/// Subscriptions of both kinds together, as a configuration message may bring them.
+/// Subscriptions of both kinds together, which configuration messages keep to. The records alone could say as many as both tables hold.
 pub const SUBSCRIPTIONS: usize = 32;
 
 /// Models that publish.

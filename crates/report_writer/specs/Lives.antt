@@ -3,6 +3,7 @@ use Rattle.std.specs.Prelude.{◌+◌, ◌^◌, ◌<◌, ◌≤◌, length, map,
 use Rattle.mesh_types.specs.declared.history.Sent.{Sent}
 use Rattle.report_definitions.specs.Record.{Life}
 use Rattle.report_writer.specs.declared.lives.EndedLife.{EndedLife}
+use Rattle.node_limits.specs.declared.TheConstants.{BEARERS}
 
 abbrev pub life_of : EndedLife → Life
 life_of l =
@@ -21,5 +22,5 @@ HasRoom s = (s.entry + 1 < 2 ^ 32) × (s.job + 1 < 2 ^ 8)
 -- the lines of a life have room for the places of its entries and jobs, and for its bearers
 pub record FitsLines (l : Life) : Type 0 where
   pub entries : length l.entries < 2 ^ 32
-  pub bearers : length l.sends ≤ 8
+  pub bearers : length l.sends ≤ BEARERS
   pub jobs : All (All HasRoom) l.sends

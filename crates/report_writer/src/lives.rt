@@ -15,6 +15,7 @@ use crate::printing::write_texts;
 use mesh_base::outside::Sink;
 use mesh_types::history::{Entry, Sent};
 use mesh_types::report::{End, Opened, ReportLine};
+use node_limits::BEARERS;
 use report_lines::{LineText, write_line};
 use std::alloc::{AllocError, Global};
 
@@ -135,7 +136,7 @@ fn push_sends(
     hex: bool,
     sends: &[Vec<Sent>],
 ) -> Result<(), AllocError>
-    requires few { length sends.now ≤ 8 }
+    requires few { length sends.now ≤ BEARERS }
     requires room { All (All HasRoom) (map (λ v. v.items) sends.now) }
     ensures ok { OnOk result
         (texts.new.items ≡ texts.old.items ++ map line_text (send_lines hex 0 (map (λ v. v.items) sends.now))) }

@@ -1,17 +1,18 @@
-use Rattle.std.proofs.Common.{◌≡◌, ◌++◌, [], ◌∷◌, ◌<◌, ◌+◌, ◌^◌, List, length, refl, ap, sym, subst, ◌∙◌, arith}
+use Rattle.std.proofs.Common.{◌≡◌, true, ◌++◌, [], ◌∷◌, ◌<◌, ◌+◌, ◌^◌, List, length, refl, ap, sym, subst, ◌∙◌, arith}
 use Rattle.event_plans.specs.Memory.{NodeTablesView}
 use Rattle.event_plans.specs.Plans.{IsPlanned, IsStanding, insight_in}
 use Rattle.event_plans.specs.Sending.{IsSendable}
 use Rattle.event_records.specs.Putting.{AreMoves, ArePuttable}
 use Rattle.event_world.specs.Stepping.{HasStepped}
 use Rattle.machine_contract.specs.Ranges.{IsEvent}
+use Rattle.machine_contract.specs.Refused.{Closes}
 use Rattle.machine_contract.specs.Standing.{past_now}
 use Rattle.machine_contract.specs.declared.answers.Hand.TheVariants as H
 use Rattle.machine_ties.proofs.Fronts.{IsSameNode}
 use Rattle.machine_ties.proofs.Events.{IsAfter, IsEntryOf, event_after, event_jobs, event_node_over, event_quiet, event_ready, event_sendable, event_stands, event_stops, plan_leaves, ready_after}
 use Rattle.machine_ties.specs.Kept.{IsBounded}
 use Rattle.machine_ties.specs.Ties.{IsCutIn, IsOver, IsReady, Stands, entered, stopped}
-use Rattle.machine_ties.specs.Views.{NodeMachine}
+use Rattle.machine_ties.specs.Views.{NodeMachine, shown}
 use Rattle.mesh_hearing.specs.Tables.{IsFit}
 use Rattle.mesh_machine.proofs.Within.{within_after}
 use Rattle.mesh_reading.specs.Held.{AreHeldKeys}
@@ -48,6 +49,27 @@ returns-in-Err-clause-kept g c over stands =
     let same : record m { tables = c.prepare.new.tables; entries = c.prepare.new.history.items } ≡ m =
     ap (λ (t : NodeTablesView). record m { tables = t; entries = c.prepare.new.history.items }) c.in-Err.ensures.unchanged ∙ ap (λ (l : List Entry). record m { entries = l }) c.prepare.ensures.entries in
     subst (λ (v : NodeMachine). Stands (g.F.Flash.chip c.args.flash.now) over v) (sym (same ∙ c.self.view_is)) stands
+
+pub returns-in-Err-store_records-clause-refused : goal.returns-in-Err-store_records-clause-refused
+returns-in-Err-store_records-clause-refused g c =
+    let i = c.self.inside in
+    let m : NodeMachine = record { reserve = i.reserve; tables = i.tables; entries = i.history.items; fills = i.fills; closed = i.closed; hand = i.hand; elements = i.elements } in
+    let ready : IsReady m = c.self.invariant c.if-self.false in
+    let old = g.F.Flash.chip c.args.flash.now in
+    let new = g.F.Flash.chip c.store_records.new.flash in
+    let r = c.store_records.new.reserve in
+    let tables : NodeTablesView = c.prepare.new.tables in
+    let event : Event = c.args.event.now in
+    let base : Closes (H.OfEvent event) (shown m) (shown (stopped m r tables (H.OfEvent event))) old new = record {
+      usable = c.if-self.false;
+      now = ap (λ which. record (shown m) { which = which; closed = true; hand = H.OfEvent event; mark = r.keeper.mark }) c.store_records.ensures.made;
+      faults = (c.in-Err-store_records.ensures.fails ready.usable).cause.rose;
+    } in
+    let named : Closes (H.OfEvent event) (shown m) (shown (stopped m r tables (H.OfEvent c.copied.result))) old new =
+    subst (λ (e : Event). Closes (H.OfEvent event) (shown m) (shown (stopped m r tables (H.OfEvent e))) old new) (sym c.copied.ensures.value) base in
+    let closes : Closes (H.OfEvent event) (shown m) (shown (record (stopped m r tables (H.OfEvent c.copied.result)) { entries = c.prepare.new.history.items })) old new =
+    subst (λ (l : List Entry). Closes (H.OfEvent event) (shown m) (shown (record (stopped m r tables (H.OfEvent c.copied.result)) { entries = l })) old new) (sym c.prepare.ensures.entries) named in
+    subst (λ (v : NodeMachine). Closes (H.OfEvent event) (shown v) (shown (record (stopped m r tables (H.OfEvent c.copied.result)) { entries = c.prepare.new.history.items })) old new) c.self.view_is closes
 
 pub returns-in-Err-store_records-clause-kept : goal.returns-in-Err-store_records-clause-kept
 returns-in-Err-store_records-clause-kept g c over stands =

@@ -1,10 +1,12 @@
-use Rattle.std.proofs.Common.{◌≡◌, [], ◌∷◌, ◌++◌, ◌<◌, ◌^◌, refl, ap, sym, subst, ◌∙◌, arith}
+use Rattle.std.proofs.Common.{◌≡◌, true, [], ◌∷◌, ◌++◌, ◌+◌, ◌<◌, ◌^◌, refl, ap, sym, subst, ◌∙◌, arith}
 use Rattle.std.proofs.lemmas.Bool.Decides.{nat_tests}
+use Rattle.machine_contract.specs.Refused.{Closes}
 use Rattle.machine_contract.specs.Standing.{past_now}
+use Rattle.machine_contract.specs.declared.answers.Hand.TheVariants as H
 use Rattle.machine_ties.proofs.Fronts.{IsSameNode}
 use Rattle.machine_ties.proofs.Refills.{put_cut, refill_node, refill_ready, refill_stands, refill_stops}
-use Rattle.machine_ties.specs.Ties.{IsCutIn, IsOver, IsReady, Stands}
-use Rattle.machine_ties.specs.Views.{NodeMachine}
+use Rattle.machine_ties.specs.Ties.{IsCutIn, IsOver, IsReady, Stands, stopped}
+use Rattle.machine_ties.specs.Views.{NodeMachine, shown}
 use Rattle.mesh_machine.proofs.Same.{fill_elements, fill_keys}
 use Rattle.mesh_machine.proofs.Within.{within_refilled}
 use Rattle.mesh_reading.specs.Held.{held_in}
@@ -17,6 +19,7 @@ use Rattle.record_types.specs.declared.records.StoreRecord.{StoreRecord}
 use Rattle.event_definitions.specs.History.{Past}
 use Rattle.event_definitions.specs.Role.{node_role}
 use Rattle.seq_reserve.proofs.Keeping.{fill_meaning, fill_said}
+use Rattle.seq_word.specs.Seen.{KeeperView}
 use Rattle.seq_word.specs.Word.{seq_of}
 use Rattle.store_definitions.specs.Config.{Config, changed, config_of}
 use Rattle.store_definitions.specs.Numbers.{fill_of}
@@ -42,6 +45,7 @@ invariant_of-self g c e =
       models = within_refilled c.node_models_law.ensures.within i.tables.models i.reserve.store.persist r.store.persist node ready.fit.models;
     })
     (ready.elements ∙ sym (ap (λ (x : Config). x.elements) change ∙ fill_elements (config_in i.reserve.store.persist)))
+    (ap (λ (k : KeeperView). k.mark) (c.in-Ok.ensures.filled seen) ∙ ap (λ n. n + 256) seen)
 
 pub returns-in-Ok-clause-kept : goal.returns-in-Ok-clause-kept
 returns-in-Ok-clause-kept g c over stands =
@@ -62,6 +66,23 @@ returns-in-Ok-clause-kept g c over stands =
     subst (λ (item : StoreRecord). IsStoreOf new c.refill.new.self.store (past.records ++ item ∷ [])) (fill_said past.records i.reserve.store.persist (fill_of (config_in i.reserve.store.persist)) refl said) (puts.kept past.records h.store) in
     refill_stands c.ties_law.ensures.laws m old new over s c.if-self.false c.refill.new.self ready.published seq kept
     (fill_meaning past.records i.reserve.store.persist c.refill.new.self.store.persist said puts.value) c.refill.ensures.published c.refill.ensures.leaves.frame
+
+pub returns-in-Err-clause-refused : goal.returns-in-Err-clause-refused
+returns-in-Err-clause-refused g c =
+    let i = c.self.inside in
+    let m : NodeMachine = record { reserve = i.reserve; tables = i.tables; entries = i.history.items; fills = i.fills; closed = i.closed; hand = i.hand; elements = i.elements } in
+    let ready : IsReady m = c.self.invariant c.if-self.false in
+    let stored : c.args.seen ≡ c.persist.result.now.mark = grind (arith, nat_tests, c.if-seen-mark.false) in
+    let seen : c.args.seen ≡ i.reserve.keeper.mark = stored ∙ ap (λ (p : Persist). p.mark) c.persist.ensures.value ∙ sym ready.published in
+    let old = g.F.Flash.chip c.args.flash.now in
+    let new = g.F.Flash.chip c.refill.new.flash in
+    let r = c.refill.new.self in
+    let closes : Closes H.OfRefill (shown m) (shown (stopped m r m.tables H.OfRefill)) old new = record {
+      usable = c.if-self.false;
+      now = ap (λ which. record (shown m) { which = which; closed = true; hand = H.OfRefill; mark = r.keeper.mark }) c.refill.ensures.made;
+      faults = (c.in-Err.ensures.fails seen ready.usable).cause.rose;
+    } in
+    subst (λ (v : NodeMachine). Closes H.OfRefill (shown v) (shown (stopped m r m.tables H.OfRefill)) old new) c.self.view_is closes
 
 pub returns-in-Err-clause-kept : goal.returns-in-Err-clause-kept
 returns-in-Err-clause-kept g c over stands =
