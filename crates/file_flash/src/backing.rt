@@ -65,6 +65,7 @@ impl MemBacking {
     pub fn new(octets: Vec<u8>, calls: u32) -> Self
         requires size { length octets.items ≡ FLASH_OCTETS }
         ensures held { ⟦<MemBacking as Backing>⟧.held result ≡ Some octets.items }
+        ensures calls { result.calls ≡ calls }
     {
         MemBacking { octets, calls }
     }
@@ -80,7 +81,14 @@ impl MemBacking {
 impl Backing for MemBacking {
     ghost held = { λ b. Some b.octets.items };
 
-    fn put(&mut self, at: u32, bytes: &[u8]) -> Result<(), Refused> {
+    fn put(&mut self, at: u32, bytes: &[u8]) -> Result<(), Refused>
+        requires within { at + length bytes.now ≤ FLASH_OCTETS }
+        ensures ok { OnOk result (WasPut at bytes.now (Some self.old.octets.items) (Some self.new.octets.items)) }
+        ensures err { OnErr result (WasTorn at bytes.now (Some self.old.octets.items) (Some self.new.octets.items)) }
+        ensures cause { OnErr result (self.old.calls ≡ 0) }
+        ensures left { OnOk result (self.new.calls + 1 ≡ self.old.calls) }
+        ensures none { self.old.calls ≡ 0 → self.new.calls ≡ 0 }
+    {
         if self.calls == 0 {
             put_octets(&mut self.octets, at as usize, &bytes[..bytes.len() / 2]);
             return Err(Refused);
