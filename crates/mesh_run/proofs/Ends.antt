@@ -3,7 +3,7 @@ use Rattle.std.proofs.Common.{◌≡◌, ◌<◌, ◌≤◌, ◌+◌, ℕ, Bool,
 use Rattle.std.specs.Prelude.{IfSome}
 use Rattle.std.specs.Io.KnownBytes.{Consumes, IsAtEnd}
 use Rattle.flash_model.proofs.Runs.{past_more}
-use Rattle.flash_model.specs.Chip.{Chip, IsFresh, Keeps, KeepsCount, LeavesOnly, Setting, Stays}
+use Rattle.flash_model.specs.Chip.{Chip, IsFresh, Keeps, KeepsCount, LeavesOnly, Stays}
 use Rattle.slot_journal.specs.Format.{IsErased, IsFirstWritten}
 use Rattle.node_store.specs.Tie.{IsMade}
 use Rattle.record_types.specs.declared.records.StoreRecord.{StoreRecord}
