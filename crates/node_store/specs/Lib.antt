@@ -1,6 +1,7 @@
 pub mod Calls
 pub mod Causes
 pub mod Faults
+pub mod Images
 pub mod Mounted
 pub mod Numbers
 pub mod Provisioning

@@ -82,6 +82,7 @@
 //! `what_is_a_record`, `the_size_of_each_table`).
 #![tactic(auto)]
 
+mod images;
 pub mod laws;
 mod mounting;
 mod provision;
@@ -89,6 +90,7 @@ mod room;
 mod several;
 mod store;
 
+pub use images::{ImageFault, read_image};
 pub use mounting::StoreFault;
 pub use node_records::Persist;
 pub use provision::Provision;

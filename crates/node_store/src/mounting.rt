@@ -170,7 +170,10 @@ fn migrated<F: Flash>(
 }
 
 /// What the records of the gated slots of a journal say, up to its last used slot.
-fn read_records<F: Flash>(journal: &Journal, flash: &mut F) -> Result<Persist, StoreFault>
+pub(crate) fn read_records<F: Flash>(
+    journal: &Journal,
+    flash: &mut F,
+) -> Result<Persist, StoreFault>
     ensures cause { IfErr result (IsReadCause (F.chip flash.old) (F.chip flash.new) journal.now) }
     ensures value { IsTrue (F.chip flash.old).honest
         → IfOk result (AreSaid (F.chip flash.old).now journal.now.bank journal.now.version journal.now.used) }

@@ -6,7 +6,7 @@ use Rattle.mesh_base.specs.declared.slot.Slot.{Slot}
 use Rattle.flash_model.specs.Octets.{IsContent}
 use Rattle.flash_model.specs.Chip.{Chip, IsFresh, LeavesOnly}
 use Rattle.flash_model.proofs.Leaves.{IsOnlyNow, leaves_none, leaves_join, leaves_weaker}
-use Rattle.slot_definitions.specs.Slots.{text_at, text_of, gate_of, format_of, generation_of, is_sound, header_of, counting, slots_of, held_by, recovered}
+use Rattle.slot_definitions.specs.Slots.{text_at, text_of, gate_of, format_of, generation_of, is_sound, header_of, counting, slots_of, recovered}
 use Rattle.slot_definitions.proofs.SlotLaws.{slots_same, recovered_at}
 use Rattle.slot_journal.specs.Slots.{IsWritten, IsSlotWrite}
 use Rattle.slot_journal.specs.Banks.{StaysOutside, IsErasing, IsBankBare, IsBankFilled}

@@ -3,7 +3,6 @@ use Rattle.std.proofs.Common.{◌≡◌, ℕ, zero, suc, ◌+◌, ◌*◌, ◌%�
 use Rattle.std.specs.Prelude.{◌==◌, nat_lt, if◌then◌else◌}
 use Rattle.std.proofs.lemmas.Bool.{eq-eqb, ne_eqb}
 use Rattle.slot_definitions.specs.Slots.{text_at, is_sound, generation_of, counting, counting_by, newer}
-use Rattle.slot_journal.specs.Headers.{IsSteady}
 
 some_same : (m n : ℕ) → Some m ≡ Some n → m ≡ n
 some_same m n h = cc

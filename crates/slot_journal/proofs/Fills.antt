@@ -6,7 +6,6 @@ use Rattle.std.proofs.lemmas.List.{take_all}
 use Rattle.std.proofs.Math.Seq.{take-suc}
 use Rattle.node_limits.specs.declared.TheConstants.{BANK_RECORDS}
 use Rattle.mesh_base.specs.declared.slot.Slot.{Slot}
-use Rattle.flash_model.specs.Octets.{IsContent}
 use Rattle.flash_model.specs.Chip.{Chip, IsFresh, LeavesOnly}
 use Rattle.flash_model.proofs.Leaves.{IsOnlyNow, leaves_none, leaves_join, leaves_weaker}
 use Rattle.slot_definitions.specs.Slots.{text_at, text_of, blank_text, gated, slots_to, slots_of}

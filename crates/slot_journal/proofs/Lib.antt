@@ -8,4 +8,5 @@ pub mod Formats
 pub mod Steady
 pub mod Texts
 pub mod Ties
+pub mod Unsteady
 pub mod Writes

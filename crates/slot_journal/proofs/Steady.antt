@@ -8,7 +8,7 @@ use Rattle.std.proofs.lemmas.Nat.{and_le_r, from_be_bytes-to_be_bytes_4}
 use Rattle.std.proofs.lemmas.Nat.Bits.{bit_at_and, bit_at_above, bit_at_ones, bit_at-lt, same_from_bits}
 use Rattle.flash_model.specs.Octets.{IsBetween, IsContent, IsTorn}
 use Rattle.slot_definitions.specs.Slots.{text_at, text_of, blank_text, gate_of, format_of, is_sound, header_of, number_at, generation_of}
-use Rattle.slot_journal.specs.Headers.{IsAsBefore, IsSteady}
+use Rattle.slot_journal.specs.Headers.{IsSteady}
 use Rattle.slot_journal.proofs.Texts.{get_text, length_text}
 
 -- an octet between one and ff has all its bits

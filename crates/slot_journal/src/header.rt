@@ -1,7 +1,7 @@
 // The headers of both banks, and which bank counts.
-ghost use Rattle.std.specs.Prelude.{◌≡◌, ℕ, ◌⊎◌, ◌≤◌, true, if◌then◌else◌, IfSome, option_map};
+ghost use Rattle.std.specs.Prelude.{◌≡◌, ◌↔◌, ℕ, ◌⊎◌, ◌≤◌, true, false, IsTrue, if◌then◌else◌, IfSome, option_map};
 ghost use Rattle.slot_definitions.specs.Slots.{is_sound, header_of, number_at, generation_of, format_of, newer, counting_by};
-ghost use Rattle.slot_journal.specs.Headers.{IsSaid};
+ghost use Rattle.slot_journal.specs.Headers.{AreApart, IsSaid, IsSteady};
 
 use crate::text::SLOT_OCTETS;
 use mesh_base::slot::Slot;
@@ -43,6 +43,31 @@ fn sound(text: &[u8; SLOT_OCTETS]) -> bool
     ensures { result ≡ is_sound text.now }
 {
     text[31] == 0 && (text[1] == 1 || text[1] == 2) && number(text, 2) == !number(text, 6)
+}
+
+/// Whether no bit is set both in the generation and in its complement.
+fn is_apart(text: &[u8; SLOT_OCTETS]) -> bool
+    ensures { IsTrue result ↔ AreApart text.now }
+{
+    text[2] & text[6] == 0
+        && text[3] & text[7] == 0
+        && text[4] & text[8] == 0
+        && text[5] & text[9] == 0
+}
+
+/// Whether an erase that is cut can make a header count that doesn't. (An erase only sets bits: it is so exactly where the gate is 00, the
+/// format has no bits but those of 01 or of 02, and no bit is set both in the generation and in its complement.)
+pub fn can_count(text: &[u8; SLOT_OCTETS]) -> bool
+    ensures steady { result ≡ false → IsSteady text.now }
+    ensures unsteady { result ≡ true → IsSteady text.now → ⊥ }
+{
+    if text[31] != 0 || text[1] > FORMAT {
+        return false;
+    }
+    if !is_apart(text) {
+        return false;
+    }
+    !sound(text)
 }
 
 /// A bank with what its header says.

@@ -72,8 +72,10 @@ mod header;
 mod journal;
 mod mounting;
 mod text;
+mod tidying;
 
 pub use compacting::CompactFault;
 pub use formatting::FormatFault;
 pub use journal::{AppendFault, Journal};
 pub use mounting::NoMount;
+pub use tidying::{Untidy, check_tidy};

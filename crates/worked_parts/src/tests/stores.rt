@@ -7,7 +7,7 @@ use flash_model::{Flash, MemFlash};
 use mesh_base::address::Address;
 use mesh_base::pair::{Name, Pair};
 use mesh_base::slot::Slot;
-use node_store::{Provision, Store, StoreFault};
+use node_store::{ImageFault, Provision, Store, StoreFault, read_image};
 use rpl_journal::accept;
 use seq_reserve::Reserve;
 use slot_journal::Journal;
@@ -243,4 +243,45 @@ fn what_is_mounted(rt: HostRuntime) {
     for (format, texts, want) in BANKS {
         assert!(rt; refusal(rt.alloc(), *format, texts) == *want);
     }
+}
+
+/// Where bank 1 begins.
+const OTHER_BANK: u32 = 0x8000;
+
+/// An erased header.
+const BLANK: [u8; 32] = [0xff; 32];
+
+/// A header with gate 00 that isn't sound: each of its octets may rise to what a sound one has.
+const HOLLOW: [u8; 32] = [0; 32];
+
+/// What is read of a flash of these slots, in format 02, whose other bank has this header.
+fn read_of(alloc: Global, texts: &[Text], header: &[u8; 32]) -> Result<bool, ImageFault> {
+    let mut flash = MemFlash::new(alloc).map_err(|_| ImageFault::NotWhole)?;
+    let formatted = Journal::format(&mut flash, &slots_of(texts), 2);
+    let written = flash.program(OTHER_BANK, header);
+    if formatted.is_err() || written.is_err() {
+        return Err(ImageFault::Store(StoreFault::Flash));
+    }
+    Ok(read_image(&mut flash)?.reset)
+}
+
+/// What is read of a flash on which a node was provisioned, and of one that is erased.
+fn read_provisioned(alloc: Global) -> Option<bool> {
+    let mut flash = MemFlash::new(alloc).ok()?;
+    if read_image(&mut flash).err() != Some(ImageFault::Store(StoreFault::NoNode)) {
+        return None;
+    }
+    Store::provision(&mut flash, &provisioned_with()).ok()?;
+    Some(read_image(&mut flash).ok()?.reset)
+}
+
+#[test]
+fn what_is_read_of_an_image(rt: HostRuntime) {
+    let alloc = rt.alloc();
+    assert!(rt; read_provisioned(alloc) == Some(false));
+    assert!(rt; read_of(alloc, &[FIRST, NET, RESET], &BLANK) == Ok(true));
+    assert!(rt; read_of(alloc, &[FIRST, NET, NAME], &BLANK) == Err(ImageFault::NotWhole));
+    assert!(rt; read_of(alloc, &[FIRST, NET, NAME], &HOLLOW) == Err(ImageFault::Header { bank: 1 }));
+    let damaged = ImageFault::Store(StoreFault::Damaged { slot: 2 });
+    assert!(rt; read_of(alloc, &[FIRST, KIND, NAME], &BLANK) == Err(damaged));
 }

@@ -1,4 +1,4 @@
-use Rattle.std.proofs.Common.{arith, ◌<◌, ◌+◌, ◌∙◌, refl}
+use Rattle.std.proofs.Common.{◌+◌, ◌∙◌, refl}
 use Rattle.flash_model.proofs.Runs.{keeps_none, keeps_more, begins_none, begins_more}
 use Rattle.slot_journal.proofs.Erases.{erased_none, none_erased, erased_more, erase_fresh, erase_leaves}
 use Rattle.slot_journal.proofs.compacting.erase_bank.Goals as goal

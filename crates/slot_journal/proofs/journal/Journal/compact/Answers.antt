@@ -1,4 +1,4 @@
-use Rattle.std.proofs.Common.{arith, ℕ, ◌≡◌, ◌+◌, ◌-◌, ◌*◌, ◌%◌, ◌<◌, ◌≤◌, List, refl, sym, subst}
+use Rattle.std.proofs.Common.{arith, ℕ, ◌≡◌, ◌+◌, ◌-◌, ◌*◌, ◌%◌, refl, sym, subst}
 use Rattle.mesh_base.specs.declared.slot.Slot.{Slot}
 use Rattle.flash_model.specs.Chip.{LeavesOnly}
 use Rattle.slot_definitions.specs.Slots.{text_of, header_of}
