@@ -1,5 +1,5 @@
 -- Each kind of step keeps the rule.
-use Rattle.std.proofs.Common.{◌≡◌, ℕ, zero, suc, ◌+◌, ◌%◌, ◌^◌, ◌<◌, ◌≤◌, ◌≢◌, ⊎_elim, inl, inr, Bool, true, false, cond, ◌&&◌, eqb, List, [], ◌∷◌, ◌++◌, length, set, drop, Some, Option, refl, sym, ap, ◌∙◌, arith, subst, length-drop}
+use Rattle.std.proofs.Common.{◌≡◌, ℕ, zero, suc, ◌+◌, ◌%◌, ◌^◌, ◌<◌, ◌≤◌, ◌≢◌, ⊎_elim, inl, inr, Bool, true, false, cond, ◌&&◌, List, [], ◌∷◌, ◌++◌, length, set, drop, Some, Option, refl, sym, ap, ◌∙◌, arith, subst, length-drop}
 use Rattle.std.specs.Prelude.{◌==◌, slice_index, slice_set}
 use Rattle.std.specs.List.{enumerate_from}
 use Rattle.std.proofs.lemmas.Bool.Decides.{nat_tests}
@@ -8,17 +8,16 @@ use mathlib.Core.Option.{some, none, some-injective, some-ne-none}
 use mathlib.Core.Option as maybe
 use mathlib.Core.Logic.{dite}
 use native.Mathlib.Decide.{ℕ_discrete}
-use prog.Atomic.{either}
 use lib.ListN.{get_elem?}
 use Rattle.atomic_table.specs.Table.{Me, Act, keeps, takes, gives, Valid, carried_after, homes_after, put_back, stepped, step, Allows, Splits, Joins, opening}
-use Rattle.atomic_table.proofs.Lists.{set_else, set_again, exchanged, at_longer, at_snoc}
+use Rattle.atomic_table.proofs.Lists.{set_else, set_again, at_longer, at_snoc}
 use Rattle.turn_lock.specs.declared.view.View.{View}
 use Rattle.turn_lock.specs.Entries.{IsPrefix, IsLongerOf, StandFrom, added, entries_of, times_at, one_below}
 use Rattle.turn_lock.specs.Views.{starting, queueing, entering, adding, leaving, keeping, fresh, both, nobody, informed}
 use Rattle.turn_lock.specs.Rule.{has_ticket, Fits, IsHome, Stands, Ruled}
 use Rattle.turn_lock.specs.Plays.{TakesTicket, LooksAtServing, Counts, in_hand, PassesOn, IsTold}
 use Rattle.turn_lock.proofs.Places.{prefix_refl, prefix_trans, prefix_length, longer, stand_prefix, stand_added, times_append, times_placed, times_merge, stand_merge, whole_places, whole_list}
-use Rattle.turn_lock.proofs.Totals.{total_set, total_has, total_two, total_whole, each_set, each_snoc}
+use Rattle.turn_lock.proofs.Totals.{total_set, total_has, total_two, total_most, total_whole, each_set, each_snoc}
 
 -- 1 where the test is true, as `count_by` adds it
 abbrev one_if : Bool → ℕ
@@ -32,6 +31,9 @@ one_same n = grind (arith, nat_tests)
 
 below_from : (n m : ℕ) → 1 ≤ one_below n m → n < m
 below_from n m h = grind (arith, nat_tests)
+
+not_below : (n m : ℕ) → one_below n m ≡ 0 → m ≤ n
+not_below n m h = grind (arith, nat_tests)
 
 below_one : (n m : ℕ) → one_below n m ≤ 1
 below_one n m = grind (arith, nat_tests)
@@ -48,6 +50,10 @@ module _ {V : Type 0} where
   set_there [] i a b e = absurd (some-ne-none a (sym e))
   set_there (x ∷ xs) zero a b e = refl
   set_there (x ∷ xs) (suc i) a b e = set_there xs i a b e
+
+-- what the words hold
+abbrev words_of : {E : Type 0} → ℕ → ℕ → List E → List ℕ
+words_of t s log = t % 2 ^ 64 ∷ s % 2 ^ 64 ∷ length log ∷ []
 
 module _ {T E : Type 0} where
   -- nobody is inside
@@ -93,10 +99,25 @@ module _ {T E O : Type 0} (entries : T → List E) (origin : T → O) where
       let b = (h.each j w bt).inside wi in
       one_pass first t s log homes views h s i j v w apart at bt a.0 a.1 b.0 b.1
 
+  -- A pass that waits has a ticket from the serving word on and below the ticket word.
+  ticket_within : (first : T) (t s : ℕ) (log : List E) (homes : List (maybe.Option (Option T))) (views : List (View T E)) → Stands entries origin first t s log homes views → (id : ℕ) (v : View T E) → get_elem? views id ≡ some v → v.waits ≡ true
+      → (s ≤ v.ticket) × (v.ticket < t)
+  ticket_within first t s log homes views h id v at waits =
+      let has = has_it v.ticket v waits refl in
+      let some_has = total_has (λ u. one_if (has_ticket v.ticket u)) views id v at in
+      (not_below v.ticket s (omega (arith, has, some_has, h.tickets v.ticket, below_one v.ticket t)), below_from v.ticket t (omega (arith, has, some_has, h.tickets v.ticket)))
+
+  -- As many wait at most as there are parts.
+  few_wait : (first : T) (t s : ℕ) (log : List E) (homes : List (maybe.Option (Option T))) (views : List (View T E)) → Stands entries origin first t s log homes views → t ≤ s + 1024
+  few_wait first t s log homes views h = omega (arith, h.queue, h.parts, total_most (λ u. one_if u.waits) (λ u. u.parts) views (λ by u bt. waiting u (h.each by u bt) u.waits refl)) where
+    waiting : (u : View T E) → Fits first s log u → (b : Bool) → u.waits ≡ b → one_if u.waits ≤ u.parts
+    waiting u f true e = let here = some_part first s log u f e in omega (arith, here, ap one_if e)
+    waiting u f false e = omega (arith, ap one_if e)
+
   -- One view changes.
   moves : (first : T) (t s : ℕ) (log : List E) (homes : List (maybe.Option (Option T))) (views : List (View T E)) (id : ℕ) (v : View T E) → Stands entries origin first t s log homes views → get_elem? views id ≡ some v
       → (t' s' : ℕ) (log' : List E) (homes' : List (maybe.Option (Option T))) (w : View T E)
-      → t' < 2 ^ 64 → length log' < 2 ^ 64 → IsPrefix log log'
+      → length log' < 2 ^ 64 → IsPrefix log log'
       → one_if w.waits + (s' + t) ≡ one_if v.waits + (s + t')
       → ((k : ℕ) → one_if (has_ticket k w) + one_below k s' + one_below k t ≡ one_if (has_ticket k v) + one_below k s + one_below k t')
       → ((p : ℕ) → times_at p w.own + one_below p (length log) ≡ times_at p v.own + one_below p (length log'))
@@ -105,8 +126,7 @@ module _ {T E O : Type 0} (entries : T → List E) (origin : T → O) where
       → ((by : ℕ) (u : View T E) → by ≢ id → get_elem? views by ≡ some u → Fits first s log u → Fits first s' log' u)
       → (Free (set views id w) → IsHome entries origin first log' homes')
       → Stands entries origin first t' s' log' homes' (set views id w)
-  moves first t s log homes views id v h at t' s' log' homes' w bt bl grows queue tickets places parts fits others home = record {
-    ticket_word = bt;
+  moves first t s log homes views id v h at t' s' log' homes' w bl grows queue tickets places parts fits others home = record {
     count_word = bl;
     begins = prefix_trans (entries first) log log' h.begins grows;
     queue = omega (arith, queue, h.queue, total_set (λ u. one_if u.waits) views id v w at);
@@ -125,13 +145,13 @@ module _ {T E O : Type 0} (entries : T → List E) (origin : T → O) where
     serving : ℕ
     log : List E
     valid : Valid homes me.1 act
-    words : slice_set before word new ≡ ticket ∷ serving ∷ length log ∷ []
+    words : slice_set before word new ≡ words_of ticket serving log
     stands : Stands entries origin first ticket serving log (homes_after homes me.1 act) (slice_set views id view)
     tells : then (view, carried_after me.1 act)
 
   goes : (first : T) (slots id word : ℕ) (me : Me (Option T) (View T E)) (f : ℕ → ℕ) (then : ℕ → Me (Option T) (View T E) → Type 0)
       → ((t s : ℕ) (log : List E) (homes : List (maybe.Option (Option T))) (views : List (View T E)) → Stands entries origin first t s log homes views → length homes ≡ slots → get_elem? views id ≡ some me.0
-      → Goes first id word (f (slice_index (t ∷ s ∷ length log ∷ []) word)) me (t ∷ s ∷ length log ∷ []) homes views (then (slice_index (t ∷ s ∷ length log ∷ []) word)))
+      → Goes first id word (f (slice_index (words_of t s log) word)) me (words_of t s log) homes views (then (slice_index (words_of t s log) word)))
       → Allows (Ruled entries origin first) slots id me word f then
   goes first slots id word me f then go s h len at fits =
       let g = go h.ticket h.serving h.log s.homes s.views h.stands len at in
@@ -140,7 +160,7 @@ module _ {T E O : Type 0} (entries : T → List E) (origin : T → O) where
 
   -- a step by which nothing changes
   stays : (first : T) (id word new : ℕ) (me : Me (Option T) (View T E)) (t s : ℕ) (log : List E) (homes : List (maybe.Option (Option T))) (views : List (View T E)) (then : Me (Option T) (View T E) → Type 0) → Stands entries origin first t s log homes views → get_elem? views id ≡ some me.0
-      → slice_set (t ∷ s ∷ length log ∷ []) word new ≡ t ∷ s ∷ length log ∷ [] → then me → Goes first id word new me (t ∷ s ∷ length log ∷ []) homes views then
+      → slice_set (words_of t s log) word new ≡ words_of t s log → then me → Goes first id word new me (words_of t s log) homes views then
   stays first id word new me t s log homes views then h at words tells = record {
     view = me.0;
     act = keeps;
@@ -154,33 +174,32 @@ module _ {T E O : Type 0} (entries : T → List E) (origin : T → O) where
   }
 
   -- take a ticket
-  pub takes_ticket : (first : T) (slots id : ℕ) (me : Me (Option T) (View T E)) (old : ℕ) → me.0.waits ≡ false → 0 < me.0.parts → old + 1 < 2 ^ 64
-      → Allows (Ruled entries origin first) slots id me 0 (λ n. either (eqb n old) (old + 1) n) (TakesTicket (step slots 0 old (old + 1) none) me)
-  takes_ticket first slots id me old waits parts room =
-      goes first slots id 0 me (λ n. either (eqb n old) (old + 1) n) (TakesTicket (step slots 0 old (old + 1) none) me) (λ t s log homes views h len at.
+  pub takes_ticket : (first : T) (slots id : ℕ) (me : Me (Option T) (View T E)) → me.0.waits ≡ false → 0 < me.0.parts
+      → Allows (Ruled entries origin first) slots id me 0 (λ n. (n + 1) % 2 ^ 64) (TakesTicket (step slots 0 1 0 none) me)
+  takes_ticket first slots id me waits parts =
+      goes first slots id 0 me (λ n. (n + 1) % 2 ^ 64) (TakesTicket (step slots 0 1 0 none) me) (λ t s log homes views h len at.
       let v = me.0 in
       let f = h.each id v at in
       let out = waits_inside first s log v f waits in
-      exchanged t old (old + 1) (λ n. Goes first id 0 n me (t ∷ s ∷ length log ∷ []) homes views (TakesTicket (step slots 0 old (old + 1) none) me t))
-      (λ e. record {
+      let next : (t % 2 ^ 64 + 1) % 2 ^ 64 ≡ (t + 1) % 2 ^ 64 = omega arith in
+      record {
         view = queueing v t;
         act = keeps;
-        ticket = old + 1;
+        ticket = t + 1;
         serving = s;
         log = log;
         valid = tt;
-        words = refl;
-        stands = moves first t s log homes views id v h at (old + 1) s log homes (queueing v t) room h.count_word (prefix_refl log)
-            (omega (arith, e, ap one_if waits))
-            (λ k. omega (arith, no_ticket k v waits, one_next k t, ap (λ (n : ℕ). one_below k (n + 1)) e))
+        words = ap (λ n. n ∷ s % 2 ^ 64 ∷ length log ∷ []) next;
+        stands = moves first t s log homes views id v h at (t + 1) s log homes (queueing v t) h.count_word (prefix_refl log)
+            (omega (arith, ap one_if waits))
+            (λ k. omega (arith, no_ticket k v waits, one_next k t))
             (λ p. refl)
             refl
             (record { seen = f.seen; told = f.told; own = f.own; inside = λ i. absurd (not_both v.inside i out); starts = f.starts; gone = λ z. absurd (omega arith) })
             (λ by u ne bt fu. fu)
             (λ free. h.home (free_before views id v (queueing v t) at out free));
-        tells = ((λ _. refl), (λ ne. absurd (ne e)));
+        tells = (t, refl, refl);
       })
-      (λ ne. stays first id 0 t me t s log homes views (TakesTicket (step slots 0 old (old + 1) none) me t) h at refl ((λ e. absurd (ne e)), (λ _. refl))))
 
   -- a pass with all parts finds the entries of `start`, and then its own
   whole : (first : T) (t s : ℕ) (log : List E) (homes : List (maybe.Option (Option T))) (views : List (View T E)) (id : ℕ) (v : View T E) → Stands entries origin first t s log homes views → get_elem? views id ≡ some v
@@ -202,8 +221,15 @@ module _ {T E O : Type 0} (entries : T → List E) (origin : T → O) where
       let f = h.each id v at in
       let some_here = some_part first s log v f waits in
       let starts = f.starts some_here in
-      dite (ℕ_discrete s v.ticket)
-      (λ e.
+      let within = ticket_within first t s log homes views h id v at waits in
+      let near = few_wait first t s log homes views h in
+      let alone : v.parts ≡ 1024 → s % 2 ^ 64 ≡ v.ticket % 2 ^ 64 = λ all.
+      let one = total_whole (λ u. one_if u.waits) (λ u. u.parts) views id v at (all ∙ sym h.parts) (λ by u bt z. ap one_if ((h.each by u bt).gone z).0) in
+      let same : s ≡ v.ticket = omega (arith, one, ap one_if waits, h.queue, within.0, within.1) in
+      ap (λ n. n % 2 ^ 64) same in
+      dite (ℕ_discrete (s % 2 ^ 64) (v.ticket % 2 ^ 64))
+      (λ found.
+      let e : s ≡ v.ticket = omega (arith, found, within.0, within.1, near) in
       let nobody_in : Free views = λ by u bt. not_true u.inside (λ i.
       dite (ℕ_discrete by id)
       (λ same. not_both u.inside i (ap (λ z. z.inside) (some-injective u v (sym bt ∙ ap (λ k. get_elem? views k) same ∙ at)) ∙ out))
@@ -219,7 +245,7 @@ module _ {T E O : Type 0} (entries : T → List E) (origin : T → O) where
         log = log;
         valid = subst (λ hs. get_elem? hs 0 ≡ some (some (Some x))) (sym home.home) refl;
         words = refl;
-        stands = moves first t s log homes views id v h at t s log (slice_set homes 0 none) w h.ticket_word h.count_word (prefix_refl log)
+        stands = moves first t s log homes views id v h at t s log (slice_set homes 0 none) w h.count_word (prefix_refl log)
             refl
             (λ k. refl)
             (λ p. refl)
@@ -240,10 +266,11 @@ module _ {T E O : Type 0} (entries : T → List E) (origin : T → O) where
               places = λ all. let same : first ≡ y = cc in (whole first t s log homes views id v h at all).0 ∙ ap (λ z. added (entries z) log) same ∙ ap (added (entries y)) (sym home.all);
             },
           )),
-          (λ ne. absurd (ne e)),
+          (λ ne. absurd (ne found)),
+          (λ _. found),
         );
       })
-      (λ ne. stays first id 1 s me t s log homes views (LooksAtServing entries origin (step slots 1 0 0 none) me s) h at refl ((λ e. absurd (ne e)), (λ _. refl))))
+      (λ ne. stays first id 1 (s % 2 ^ 64) me t s log homes views (LooksAtServing entries origin (step slots 1 0 0 none) me (s % 2 ^ 64)) h at refl ((λ e. absurd (ne e)), (λ _. refl), (λ all. absurd (ne (alone all))))))
 
   -- count the entries added: those of the value in hand behind those that were seen
   counts_in_hand : (first : T) (slots id : ℕ) (me : Me (Option T) (View T E)) (k : ℕ) → me.0.inside ≡ true → IsPrefix me.0.seen (in_hand entries me.1) → length (in_hand entries me.1) < 2 ^ 64
@@ -270,8 +297,8 @@ module _ {T E O : Type 0} (entries : T → List E) (origin : T → O) where
         serving = s;
         log = es;
         valid = tt;
-        words = ap (λ c. t ∷ s ∷ c ∷ []) total;
-        stands = moves first t s log homes views id v h at t s es homes w h.ticket_word few longer_log
+        words = ap (λ c. t % 2 ^ 64 ∷ s % 2 ^ 64 ∷ c ∷ []) total;
+        stands = moves first t s log homes views id v h at t s es homes w few longer_log
             refl
             (λ p. refl)
             (λ p. omega (arith, times_append p v.own (enumerate_from n more), times_placed p n more, ap (λ (c : ℕ). one_below p c) now_length, ap (λ (c : ℕ). one_below p c) more_length))
@@ -304,8 +331,7 @@ module _ {T E O : Type 0} (entries : T → List E) (origin : T → O) where
       let f = h.each id v at in
       let within = f.inside inside in
       let waits : v.waits ≡ true = within.0 in
-      let given : s < t = below_from s t (omega (arith, h.tickets s, has_it s v waits within.1, total_has (λ u. one_if (has_ticket s u)) views id v at)) in
-      let next : (s + 1) % 2 ^ 64 ≡ s + 1 = omega (arith, h.ticket_word) in
+      let next : (s % 2 ^ 64 + 1) % 2 ^ 64 ≡ (s + 1) % 2 ^ 64 = omega arith in
       let w = leaving v in
       record {
         view = w;
@@ -314,8 +340,8 @@ module _ {T E O : Type 0} (entries : T → List E) (origin : T → O) where
         serving = s + 1;
         log = log;
         valid = tt;
-        words = ap (λ n. t ∷ n ∷ length log ∷ []) next;
-        stands = moves first t s log homes views id v h at t (s + 1) log (put_back homes me.1) w h.ticket_word h.count_word (prefix_refl log)
+        words = ap (λ n. t % 2 ^ 64 ∷ n ∷ length log ∷ []) next;
+        stands = moves first t s log homes views id v h at t (s + 1) log (put_back homes me.1) w h.count_word (prefix_refl log)
             (omega (arith, ap one_if waits))
             (λ k. omega (arith, its_ticket k v waits, ap (λ n. one_if (n == k)) within.1, one_next k s))
             (λ p. refl)
@@ -349,7 +375,7 @@ module _ {T E O : Type 0} (entries : T → List E) (origin : T → O) where
       goes first slots id 0 me (λ n. n) (IsTold (step slots 0 0 0 none) me) (λ t s log homes views h len at.
       let v = me.0 in
       let f = h.each id v at in
-      let sees : (seen : List E) → IsPrefix seen log → IsLongerOf v.seen v.told seen → Goes first id 0 t me (t ∷ s ∷ length log ∷ []) homes views (IsTold (step slots 0 0 0 none) me t) = λ seen front tells. record {
+      let sees : (seen : List E) → IsPrefix seen log → IsLongerOf v.seen v.told seen → Goes first id 0 (t % 2 ^ 64) me (words_of t s log) homes views (IsTold (step slots 0 0 0 none) me (t % 2 ^ 64)) = λ seen front tells. record {
         view = informed v seen;
         act = keeps;
         ticket = t;
@@ -357,7 +383,7 @@ module _ {T E O : Type 0} (entries : T → List E) (origin : T → O) where
         log = log;
         valid = tt;
         words = refl;
-        stands = moves first t s log homes views id v h at t s log homes (informed v seen) h.ticket_word h.count_word (prefix_refl log)
+        stands = moves first t s log homes views id v h at t s log homes (informed v seen) h.count_word (prefix_refl log)
             refl
             (λ k. refl)
             (λ p. refl)
@@ -386,7 +412,6 @@ module _ {T E O : Type 0} (entries : T → List E) (origin : T → O) where
         log = h.log;
         words = h.words;
         stands = record {
-          ticket_word = st.ticket_word;
           count_word = st.count_word;
           begins = st.begins;
           queue = omega (arith, st.queue, total_set (λ u. one_if u.waits) views id v (keeping v) at, sum_by_push (λ u. one_if u.waits) rest (fresh v));
@@ -422,7 +447,6 @@ module _ {T E O : Type 0} (entries : T → List E) (origin : T → O) where
         log = h.log;
         words = h.words;
         stands = record {
-          ticket_word = st.ticket_word;
           count_word = st.count_word;
           begins = st.begins;
           queue = omega (arith, st.queue, ap one_if w_waits, total_set (λ u. one_if u.waits) views id v (both v w) at, total_set (λ u. one_if u.waits) merged other w nobody bt');
@@ -450,7 +474,6 @@ module _ {T E O : Type 0} (entries : T → List E) (origin : T → O) where
         log = entries value;
         words = refl;
         stands = record {
-          ticket_word = omega arith;
           count_word = few;
           begins = prefix_refl (entries value);
           queue = refl;

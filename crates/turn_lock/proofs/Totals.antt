@@ -25,6 +25,14 @@ module _ {V : Type 0} where
   total_two f (x ∷ xs) (suc i) zero v w apart at bt = let e = ap f (some-injective x w bt) in let rest = total_has f xs i v at in omega (arith, sum_by-cons f x xs)
   total_two f (x ∷ xs) (suc i) (suc j) v w apart at bt = let rest = total_two f xs i j v w (λ e. apart (ap suc e)) at bt in omega (arith, sum_by-cons f x xs)
 
+  -- where each view has as much of g as of f at least, all views have
+  pub total_most : (f g : V → ℕ) (views : List V) → ((id : ℕ) (v : V) → get_elem? views id ≡ some v → f v ≤ g v) → sum_by f views ≤ sum_by g views
+  total_most f g [] most = omega arith
+  total_most f g (x ∷ xs) most =
+      let first : f x ≤ g x = most zero x refl in
+      let rest = total_most f g xs (λ id v at. most (suc id) v at) in
+      omega (arith, sum_by-cons f x xs, sum_by-cons g x xs)
+
   -- where no view has any of f, there is none in all
   total_none : (f : V → ℕ) (views : List V) → ((id : ℕ) (v : V) → get_elem? views id ≡ some v → f v ≡ 0) → sum_by f views ≡ 0
   total_none f [] none = refl

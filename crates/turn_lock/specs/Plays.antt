@@ -1,17 +1,16 @@
 -- What each step tells the pass that takes it: of the step, the pass before, the number found and the pass after.
 -- A pass before or after is what it knows, with the value's slot where it has that.
-use Rattle.std.specs.Prelude.{◌≡◌, ◌≢◌, ℕ, ◌<◌, ◌^◌, List, [], ◌∷◌, ◌++◌, length, Option, Some, None}
+use Rattle.std.specs.Prelude.{◌≡◌, ◌≢◌, ℕ, ◌%◌, ◌<◌, ◌^◌, List, [], ◌∷◌, ◌++◌, length, Option, Some, None}
 use Rattle.atomic_table.specs.Table.{Me, Step, rest}
 use Rattle.turn_lock.specs.declared.view.View.{View}
 use Rattle.turn_lock.specs.Entries.{IsPrefix, IsLongerOf, StandFrom, added, entries_of}
 use Rattle.turn_lock.specs.Views.{queueing, entering, adding, leaving, informed}
 
 module _ {T E : Type 0} where
-  -- a ticket is taken where the word was the number expected
+  -- a ticket is taken, which the word found is modulo 2^64
   abbrev pub TakesTicket : Step (Option T) → Me (Option T) (View T E) → ℕ → Me (Option T) (View T E) → Type 0
   TakesTicket step before found after =
-      (found ≡ step.first → after ≡ (queueing before.0 found, before.1))
-      × (found ≢ step.first → after ≡ before)
+      (ticket : ℕ) × (found ≡ ticket % 2 ^ 64) × (after ≡ (queueing before.0 ticket, before.1))
 
   -- the turn is passed on, and the value is home
   abbrev pub PassesOn : Step (Option T) → Me (Option T) (View T E) → ℕ → Me (Option T) (View T E) → Type 0
@@ -47,9 +46,11 @@ module _ {T E O : Type 0} (entries : T → List E) (origin : T → O) where
     pub whole : v.parts ≡ 1024 → entries value ≡ entries first ++ entries_of v.own
     pub places : v.parts ≡ 1024 → v.own ≡ added (entries first) (entries value)
 
-  -- the pass is inside where its ticket is served, and then it has the value
+  -- The pass is inside where its ticket is served, and then it has the value. The ticket of a pass with all parts is served.
   abbrev pub LooksAtServing : Step (Option T) → Me (Option T) (View T E) → ℕ → Me (Option T) (View T E) → Type 0
   LooksAtServing step before found after =
-      (found ≡ before.0.ticket → (value : T) × (after ≡ (entering before.0 (entries value), (0, Some value) ∷ before.1))
+      (found ≡ before.0.ticket % 2 ^ 64 → (value : T)
+      × (after ≡ (entering before.0 (entries value), (0, Some value) ∷ before.1))
       × ((first : T) → before.0.first ≡ Some first → Finds before.0 first value))
-      × (found ≢ before.0.ticket → after ≡ before)
+      × (found ≢ before.0.ticket % 2 ^ 64 → after ≡ before)
+      × (before.0.parts ≡ 1024 → found ≡ before.0.ticket % 2 ^ 64)

@@ -1,11 +1,11 @@
 -- The rule of the lock: what is true between any two steps of any threads.
 --
--- Word 0 is the ticket word, the next ticket to be given. Word 1 is the serving word, the ticket whose turn it is. Word 2 is
--- the count of the value's entries. Slot 0 is the value's home.
+-- Word 0 is the ticket word, the next ticket to be given. Word 1 is the serving word, the ticket whose turn it is. Both are numbers
+-- without bound, of which the words hold what is left modulo 2^64. At most 1,024 passes wait, so two tickets that are waited for
+-- differ there too. Word 2 is the count of the value's entries. Slot 0 is the value's home.
 --
 -- A pass takes steps of eight kinds, and each keeps the rule:
---   take a ticket          a compare-exchange on the ticket word, from the number expected to the next one; where it is lost,
---                          the pass tries again with the number found
+--   take a ticket          a fetch_add of 1 on the ticket word; the ticket is the number found
 --   look at serving        a load of the serving word; where the number is the pass's ticket, the pass is inside, and the slot is its own
 --   take the value out     an exchange of the slot, which changes no word and no view
 --   bring the value home   an exchange of the slot, likewise
@@ -14,7 +14,7 @@
 --   split                  a load of the ticket word; a new pass has one of the parts, and has seen what the pass has seen
 --   join                   two loads of the ticket word; the pass has the parts and the own entries of both, and by the second
 --                          load it has seen what either has seen
-use Rattle.std.specs.Prelude.{◌≡◌, ℕ, ◌+◌, ◌^◌, ◌<◌, Bool, true, false, ◌&&◌, ◌==◌, List, [], ◌∷◌, length, Option, Some}
+use Rattle.std.specs.Prelude.{◌≡◌, ℕ, ◌+◌, ◌%◌, ◌^◌, ◌<◌, Bool, true, false, ◌&&◌, ◌==◌, List, [], ◌∷◌, length, Option, Some}
 use Rattle.std.specs.List.{sum_by, count_by}
 use mathlib.Core.Option.{some}
 use mathlib.Core.Option as maybe
@@ -48,7 +48,6 @@ module _ {T E O : Type 0} (entries : T → List E) (origin : T → O) where
   -- `log` is the list of all entries: of those that were counted, where a pass is inside
   pub record Stands (first : T) (ticket serving : ℕ) (log : List E) (homes : List (maybe.Option (Option T)))
       (views : List (View T E)) : Type 0 where
-    pub ticket_word : ticket < 2 ^ 64
     pub count_word : length log < 2 ^ 64
     pub begins : IsPrefix (entries first) log
     -- the ticket word is the serving word and as many more as passes have a ticket
@@ -66,5 +65,5 @@ module _ {T E O : Type 0} (entries : T → List E) (origin : T → O) where
     pub ticket : ℕ
     pub serving : ℕ
     pub log : List E
-    pub words : s.words ≡ ticket ∷ serving ∷ length log ∷ []
+    pub words : s.words ≡ ticket % 2 ^ 64 ∷ serving % 2 ^ 64 ∷ length log ∷ []
     pub stands : Stands first ticket serving log s.homes s.views

@@ -3,6 +3,7 @@
 //! A value that is `Logged` keeps a list of entries, and an origin that is set when it is made. `Turn::start` makes a lock
 //! for it, and a `Pass` that has all 1,024 parts of the lock. A thread takes turns by a pass of its own, which `split`
 //! makes: `enter` waits and hands the value out, and `leave` takes it back with entries added behind those that it had.
+//! A pass with all parts has no other beside it: `enter_alone` hands the value out to it at once, and waits for nobody.
 //! Nothing is kept of the list but its length. What was done is known by the passes, and for contracts alone: each knows
 //! the entries that it has seen, and those that it added, its own, with their places. `join` puts two passes together.
 //!

@@ -1,5 +1,5 @@
 //! The lock and its passes.
-ghost use Rattle.std.specs.Prelude.{◌≡◌, ◌≢◌, ℕ, ◌+◌, ◌-◌, ◌<◌, ◌^◌, true, false, [], ◌∷◌, ◌++◌, length, Some, None, IfOk};
+ghost use Rattle.std.specs.Prelude.{◌≡◌, ◌≢◌, ℕ, ◌+◌, ◌-◌, ◌%◌, ◌<◌, ◌^◌, true, false, [], ◌∷◌, ◌++◌, length, Some, None, IfOk, IfSome, IfNone, IsSome};
 ghost use Rattle.atomic_table.specs.Table.{rest};
 ghost use Rattle.turn_lock.specs.Entries.{IsPrefix, IsLongerOf, StandFrom, added, entries_of, merge};
 ghost use Rattle.turn_lock.specs.Views.{IsPassOf, queueing, entering, adding, leaving};
@@ -14,7 +14,7 @@ use std::snapshot::Snapshot;
 use std::sync::Wait;
 use std::thread;
 
-/// The ticket word: the next ticket to be given.
+/// The ticket word: the next ticket to be given. Tickets are counted on without end, and the words hold them modulo 2^64.
 const TICKET: usize = 0;
 
 /// The serving word: the ticket whose turn it is.
@@ -95,60 +95,62 @@ impl<T: Logged + Send + Drop> Turn<T> {
         Ok((Turn { table }, Pass { seat, found: 0 }))
     }
 
-    // Takes a ticket. Where none is left, it waits for ever.
-    fn queue(&self, rt: &impl Wait, seat: &mut Seat<Option<T>, View<T, T::Entry>>) -> u64
+    // Takes a ticket.
+    fn queue(&self, seat: &mut Seat<Option<T>, View<T, T::Entry>>) -> u64
         requires table { seat.old.table_id ≡ self.now.which }
         requires outside { seat.old.me.0.waits ≡ false }
         requires parts { 0 < seat.old.me.0.parts }
         ensures table { seat.new.table_id ≡ seat.old.table_id }
-        ensures ticket { seat.new.me ≡ (queueing seat.old.me.0 result, seat.old.me.1) }
+        ensures ticket { (ticket : ℕ) × (result ≡ ticket % 2 ^ 64)
+            × (seat.new.me ≡ (queueing seat.old.me.0 ticket, seat.old.me.1)) }
+    {
+        self.table.shared.fetch_add::<TakeTicket>(seat, TICKET, 1)
+    }
+
+    // Looks once whether its ticket is served, and takes the value out if it is.
+    fn look(&self, seat: &mut Seat<Option<T>, View<T, T::Entry>>, ticket: u64) -> Option<T>
+        requires table { seat.old.table_id ≡ self.now.which }
+        requires waits { (seat.old.me.0.waits ≡ true) × (seat.old.me.0.inside ≡ false) × (seat.old.me.1 ≡ []) }
+        requires ticket { ticket ≡ seat.old.me.0.ticket % 2 ^ 64 }
+        requires first { seat.old.me.0.first ≡ Some self.now.first }
+        ensures table { seat.new.table_id ≡ seat.old.table_id }
+        ensures inside { IfSome result
+            (λ value. seat.new.me ≡ (entering seat.old.me.0 (T.entries value), (0, None) ∷ [])) }
+        ensures finds { IfSome result (λ value. Finds T.entries T.origin seat.old.me.0 self.now.first value) }
+        ensures none { IfNone result (seat.new.me ≡ seat.old.me) }
+        ensures alone { seat.old.me.0.parts ≡ 1024 → IsSome result }
     {
         let table = &self.table.shared;
-        let mut expected = table.peek(TICKET);
-        for _ in rt.forever() {
-            if expected < u64::MAX {
-                let found = table.compare_exchange::<TakeTicket>(
-                    seat,
-                    TICKET,
-                    expected,
-                    expected + 1,
-                );
-                if found == expected {
-                    return found;
-                }
-                expected = found;
-            } else {
-                thread::yield_now();
-            }
+        if table.load::<LookAtServing>(seat, SERVING) != ticket {
+            return None;
         }
-        unreachable!()
+        let Some(value) = table.exchange(seat, HOME, None) else {
+            unreachable!()
+        };
+        Some(value)
     }
 
     // Waits until its ticket is served, and takes the value out.
     fn take(&self, rt: &impl Wait, seat: &mut Seat<Option<T>, View<T, T::Entry>>, ticket: u64) -> T
         requires table { seat.old.table_id ≡ self.now.which }
         requires waits { (seat.old.me.0.waits ≡ true) × (seat.old.me.0.inside ≡ false) × (seat.old.me.1 ≡ []) }
-        requires ticket { seat.old.me.0.ticket ≡ ticket }
+        requires ticket { ticket ≡ seat.old.me.0.ticket % 2 ^ 64 }
         requires first { seat.old.me.0.first ≡ Some self.now.first }
         ensures table { seat.new.table_id ≡ seat.old.table_id }
         ensures inside { seat.new.me ≡ (entering seat.old.me.0 (T.entries result), (0, None) ∷ []) }
         ensures finds { Finds T.entries T.origin seat.old.me.0 self.now.first result }
     {
-        let table = &self.table.shared;
         for _ in rt.forever() {
-            if table.load::<LookAtServing>(seat, SERVING) == ticket {
-                let Some(value) = table.exchange(seat, HOME, None) else {
-                    unreachable!()
-                };
+            if let Some(value) = self.look(seat, ticket) {
                 return value;
             }
-            // Else the thread whose turn it is might not run for long.
+            // The thread whose turn it is might not run for long.
             thread::yield_now();
         }
         unreachable!()
     }
 
-    /// Takes a ticket, waits for its turn, and hands the value out. Once 2^64 - 1 tickets were taken, it waits for ever.
+    /// Takes a ticket, waits for its turn, and hands the value out. Where its ticket is served at once, it doesn't wait.
     pub fn enter(&self, rt: &impl Wait, p: &mut Pass<T>) -> T
         requires pass { IsPassOf self.now p.old }
         requires outside { p.old.inside ≡ false }
@@ -160,8 +162,29 @@ impl<T: Logged + Send + Drop> Turn<T> {
         ensures places { p.old.parts ≡ 1024 → p.old.own ≡ added (T.entries self.now.first) (T.entries result) }
         ensures frame { p.new ≡ record p.old { inside = true; seen = T.entries result } }
     {
-        let ticket = self.queue(rt, &mut p.seat);
+        let ticket = self.queue(&mut p.seat);
         let value = self.take(rt, &mut p.seat, ticket);
+        p.found = value.count();
+        value
+    }
+
+    /// Hands the value out to a pass that has all parts of the lock. It waits for nobody, since no other pass can have a turn.
+    pub fn enter_alone(&self, p: &mut Pass<T>) -> T
+        requires pass { IsPassOf self.now p.old }
+        requires outside { p.old.inside ≡ false }
+        requires alone { p.old.parts ≡ 1024 }
+        ensures origin { T.origin result ≡ T.origin self.now.first }
+        ensures few { length (T.entries result) < 2 ^ 64 }
+        ensures seen { IsPrefix p.old.seen (T.entries result) }
+        ensures stands { StandFrom 0 (T.entries result) p.old.own }
+        ensures whole { T.entries result ≡ T.entries self.now.first ++ entries_of p.old.own }
+        ensures places { p.old.own ≡ added (T.entries self.now.first) (T.entries result) }
+        ensures frame { p.new ≡ record p.old { inside = true; seen = T.entries result } }
+    {
+        let ticket = self.queue(&mut p.seat);
+        let Some(value) = self.look(&mut p.seat, ticket) else {
+            unreachable!()
+        };
         p.found = value.count();
         value
     }

@@ -10,6 +10,7 @@ pub struct View<T, E> {
     pub parts: u64,
     /// It has a ticket.
     pub waits: bool,
+    /// The ticket, a number without bound: the words hold it modulo 2^64.
     pub ticket: u64,
     /// It has the value.
     pub inside: bool,
@@ -35,7 +36,7 @@ impl<E, T: Logged<Entry = E>> TableRule<Option<T>, View<T, E>, Snapshot<T>> for 
     ghost first = { λ key. starting key.value (T.entries key.value) };
 }
 
-/// Take a ticket: a compare-exchange on the ticket word.
+/// Take a ticket: a `fetch_add` on the ticket word.
 pub struct TakeTicket;
 
 impl<T, E> Play<Option<T>, View<T, E>> for TakeTicket {
