@@ -191,7 +191,7 @@ impl<M: Machine, F: Flash + Send + Drop> Node<M, F> {
         ensures frame { self.new
             ≡ record self.old { machine = record self.old.machine { taken = length self.old.machine.entries } } }
     {
-        self.machine.take_entries()
+        self.machine.take_entries::<F>()
     }
 
     /// Whether the flash failed.

@@ -107,11 +107,12 @@ pub trait Machine: Send + Drop {
         ensures frame { Keeps (F.chip flash.old) (F.chip flash.new) };
 
     /// The entries since this was called last, or since the life began, in their order. The history keeps them, but the machine doesn't: it
-    /// keeps in memory only those that weren't taken. It takes no memory, and a closed machine gives them too.
-    fn take_entries(&mut self) -> Vec<Entry>
+    /// keeps in memory only those that weren't taken. It takes no memory, and a closed machine gives them too. `F` is the type of the flash
+    /// that it stands over, which isn't called.
+    fn take_entries<F: Flash>(&mut self) -> Vec<Entry>
         ensures entries { result.items ≡ drop (view self.old).taken (view self.old).entries }
         ensures view { view self.new ≡ record (view self.old) { taken = length (view self.old).entries } }
-        ensures kept { (chip : Chip) (over : List StoreRecord) → stands chip over self.old → stands chip over self.new };
+        ensures kept { (f : F) (over : List StoreRecord) → stands (F.chip f) over self.old → stands (F.chip f) over self.new };
 
     /// Whether an earlier call failed at the flash.
     fn is_closed(&self) -> bool
