@@ -232,13 +232,8 @@ fn go_on<
             }
         };
         let done = one_phase(rt, alloc, gate, node, &mut seats, lists.as_slice())?;
-        let PhaseDone {
-            node: next,
-            log,
-            closed,
-        } = done;
-        node = next;
-        match sink.tell(log) {
+        node = done.node;
+        match sink.tell(done.log) {
             Ok(()) => {}
             Err(_) => {
                 return Ok(Gone {
@@ -248,7 +243,7 @@ fn go_on<
                 });
             }
         }
-        if closed {
+        if done.closed {
             return Ok(Gone {
                 node,
                 seats,
@@ -327,7 +322,8 @@ pub fn live_on<
         bearers,
         elements,
     };
-    let Gone { node, seats, last } = go_on(rt, alloc, gate, life, source, sink)?;
+    let gone = go_on(rt, alloc, gate, life, source, sink)?;
+    let Gone { node, seats, last } = gone;
     node.known();
     let (machine, flash) = node.into_parts();
     let closed = machine.is_closed();

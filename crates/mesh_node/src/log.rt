@@ -71,7 +71,11 @@ pub fn has_stopped(dones: &[Done]) -> Result<bool, AllocError>
 }
 
 /// Takes the lines of bearers, and their numbers.
-pub fn take_lines(alloc: Global, counts: &mut [u32], dones: Vec<Done>) -> Result<Vec<Vec<Sent>>, AllocError>
+pub fn take_lines(
+    alloc: Global,
+    counts: &mut [u32],
+    dones: Vec<Done>,
+) -> Result<Vec<Vec<Sent>>, AllocError>
     requires counts { length counts.old ≡ length dones.items }
     ensures lines { IfOk result (λ r. map (λ v. v.items) r.items ≡ map lines_of dones.items) }
     ensures numbers { OnOk result (counts.new ≡ map (λ x. x.number) dones.items) }

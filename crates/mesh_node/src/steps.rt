@@ -9,7 +9,7 @@ ghost use Rattle.mesh_node.specs.Going.{AreTold, IsBetween, IsGoing, IsOver};
 ghost use Rattle.life_laws.specs.Plan.{IsStep, behind_arm, step_of, steps_of};
 ghost use Rattle.mesh_node.specs.Steps.{HasGiven, IsArmedBy, IsArmedFirst, IsSameNode, IsSameOrOf, MayArm, MayFollow};
 
-use crate::going::{PhaseDone, Seats, one_phase};
+use crate::going::{Seats, one_phase};
 use crate::told::PhaseLog;
 use flash_model::Bench;
 use life_laws::plan::PlanStep;
@@ -74,13 +74,9 @@ fn do_phase<M: Machine, F: Bench, G: Gate, R: Threads + Wait + Sync>(
     ensures between { IfOk result (λ r. r.1 ≡ false → IsBetween seats.new r.0) }
     ensures stopped { IfOk result (λ r. r.1 ≡ true → 0 < r.0.stops) }
 {
-    let PhaseDone {
-        node,
-        log: more,
-        closed,
-    } = one_phase(rt, alloc, gate, node, seats, lists)?;
-    log.add(more)?;
-    Ok((node, closed))
+    let done = one_phase(rt, alloc, gate, node, seats, lists)?;
+    log.add(done.log)?;
+    Ok((done.node, done.closed))
 }
 
 /// One step. Returns the node behind it, and whether the flash failed in it.

@@ -11,7 +11,7 @@ invariant-loop-phase g l = record {
   which : l.seats.drawer.which ≡ l.fn.life.seats.drawer.which;
   same : IsSameNode l.fn.life.node l.node;
   between : IsBetween l.seats l.node;
-  counts : length l.seats.counts.items ≡ l.bearers;
+  counts : length l.seats.counts.items ≡ l.fn.life.bearers;
   usable : l.node.machine.closed ≡ false;
-  goes : GoesOn g.S.PhaseSource.steps g.T.PhaseSink.steps l.initial.source l.source l.initial.sink l.sink l.bearers l.node l.seats.drawer l.seats.counts.items;
+  goes : GoesOn g.S.PhaseSource.steps g.T.PhaseSink.steps l.initial.source l.source l.initial.sink l.sink l.fn.life.bearers l.node l.seats.drawer l.seats.counts.items;
 }
