@@ -1,6 +1,6 @@
 -- A turn at the lock: what was added is the bearer's own, and it has seen all that stands there.
 use Rattle.std.proofs.Common.{◌≡◌, ◌∙◌, ℕ, ◌+◌, true, false, List, [], ◌∷◌, ◌++◌, length, Option, Some, None, refl, sym, ap, subst, append_assoc, append-nil, arith}
-use Rattle.std.specs.Prelude.{slice_get}
+use Rattle.std.specs.Prelude.{Result, Ok, Err, IfErr, IsErrAnd, OnOk, slice_get}
 use Rattle.std.specs.List.{Contains}
 use Rattle.std.proofs.lemmas.List.Elements.{Contains-append_right}
 use Rattle.machine_contract.specs.declared.answers.Stop.{Stop}
@@ -22,6 +22,19 @@ use Rattle.node_bearer.specs.Did.{BearerOf, Did, GoesOn, IsFor, IsNext}
 use Rattle.node_bearer.specs.Marked.{HasEntry, HasJob}
 use Rattle.node_bearer.proofs.Lists.{added_none, added_one, get_last, get_longer}
 use Rattle.node_bearer.proofs.Doing.{did_acted, did_seen}
+
+pub on_ok : {A E P Q : Type 0} (r : Result A E) → (P → Q) → OnOk r P → OnOk r Q
+on_ok (Ok a) f h = f h
+on_ok (Err e) f h = tt
+
+pub if_err : {A E : Type 0} {P Q : E → Type 0} (r : Result A E) → ((e : E) → P e → Q e) → IfErr r P → IfErr r Q
+if_err (Ok a) f h = tt
+if_err (Err e) f h = f e h
+
+-- what a `?` hands on
+pub stops : {A : Type 0} (Q : Type 0) (r : Result A Stop) (e : Stop) → IsErrAnd r (λ x. x ≡ e) → OnStop e Q → IfErr r (λ x. OnStop x Q)
+stops Q (Ok a) e is h = tt
+stops Q (Err x) e is h = subst (λ y. OnStop y Q) (sym is) h
 
 pub on_stop : (e : Stop) {P Q : Type 0} → (P → Q) → OnStop e P → OnStop e Q
 on_stop S.Closed f h = f h

@@ -88,13 +88,14 @@ abbrev pub IsUnspent : Drawn → Type 0
 IsUnspent (D.Pair p) = p.seq < 2 ^ 24
 IsUnspent (D.Spent iv) = ⊤
 
--- a bearer of this lock, which is outside, and draws at these words; the machine behind the lock publishes at them
-pub record IsRider {F : Type 0} (n : NumbersView) (turn : TurnView (NodeView F)) (b : BearerOf F) : Type 0 where
+-- A bearer of this lock, which is outside, has so many parts of it, and draws at these words; the machine behind the lock publishes at
+-- them.
+pub record IsRider {F : Type 0} (all : ℕ) (n : NumbersView) (turn : TurnView (NodeView F)) (b : BearerOf F) : Type 0 where
   pub made : turn.first.machine.which ≡ n.which
   pub draws : b.drawer.which ≡ n.which
   pub pass : IsPassOf turn b.pass
   pub outside : b.pass.inside ≡ false
-  pub parts : b.pass.parts ≡ 1
+  pub parts : b.pass.parts ≡ all
 
 -- between two calls a bearer has seen more, and has not stopped
 pub record GoesOn {F : Type 0} (old new : BearerOf F) : Type 0 where

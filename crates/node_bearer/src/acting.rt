@@ -10,26 +10,26 @@ ghost use Rattle.node_bearer.specs.Did.{Broke, DidBy, GoesOn, IsFor, IsRider};
 ghost use Rattle.node_bearer.specs.Marked.{HasEntry};
 
 use crate::bearer::Bearer;
-use flash_model::Bench;
+use crate::sharing::Sharing;
+use flash_model::Flash;
 use locked_node::{Node, Raised};
 use machine_contract::{Answered, Machine, Stop};
 use mesh_types::events::Event;
 use seq_word::Numbers;
-use std::sync::Wait;
 use turn_lock::Turn;
 
 /// Has an event handled. The bearer is the one of this place, `k`.
-pub fn act<M: Machine, F: Bench>(
-    rt: &impl Wait,
+pub fn act<M: Machine, F: Flash + Send + Drop, S: Sharing>(
+    sharing: &S,
     n: &Numbers,
     turn: &Turn<Node<M, F>>,
     k: u8,
     b: &mut Bearer<Node<M, F>>,
     event: &Event,
 ) -> Result<Answered, Stop>
-    requires rider { IsRider n.now turn.now b.old }
+    requires rider { IsRider S.parts n.now turn.now b.old }
     requires event { IsEvent turn.now.first.machine.elements event.now }
-    ensures rider { IsRider n.now turn.now b.new }
+    ensures rider { IsRider S.parts n.now turn.now b.new }
     ensures on { GoesOn b.old b.new }
     ensures frame { (b.new.lines ≡ b.old.lines) × (b.new.drawer ≡ b.old.drawer) }
     ensures did { (first : ℕ) (tasks rest : List Task) (task : Task) → IsFor event.now task
@@ -45,30 +45,26 @@ pub fn act<M: Machine, F: Bench>(
     if b.number == u32::MAX {
         return Err(Stop::Memory);
     }
-    let mut node = turn.enter(rt, &mut b.pass);
+    let mut node = sharing.enter(turn, &mut b.pass);
     let result = node.handle(n, k, b.number + 1, event);
     node.known();
     turn.leave(&mut b.pass, node);
-    match result {
-        Ok(answered) => {
-            b.number += 1;
-            Ok(answered)
-        }
-        Err(stop) => Err(stop),
-    }
+    let answered = result?;
+    b.number += 1;
+    Ok(answered)
 }
 
 /// Has a refill stored, where `mark` is still the mark that was published last, and can be raised. Then another mark is published.
-pub fn refill<M: Machine, F: Bench>(
-    rt: &impl Wait,
+pub fn refill<M: Machine, F: Flash + Send + Drop, S: Sharing>(
+    sharing: &S,
     n: &Numbers,
     turn: &Turn<Node<M, F>>,
     b: &mut Bearer<Node<M, F>>,
     mark: u64,
 ) -> Result<Raised, Stop>
-    requires rider { IsRider n.now turn.now b.old }
+    requires rider { IsRider S.parts n.now turn.now b.old }
     requires seq { seq_of mark < 2 ^ 24 }
-    ensures rider { IsRider n.now turn.now b.new }
+    ensures rider { IsRider S.parts n.now turn.now b.new }
     ensures on { GoesOn b.old b.new }
     ensures frame { (b.new.lines ≡ b.old.lines) × (b.new.drawer ≡ b.old.drawer) }
     ensures raised { IfOk result (λ r. r.seen ≡ mark) }
@@ -77,12 +73,9 @@ pub fn refill<M: Machine, F: Bench>(
     ensures stopped { (k first : ℕ) (tasks rest : List Task) → DidBy k first tasks rest b.old
         → IfErr result (λ e. OnStop e (Broke k first tasks b.new)) }
 {
-    let mut node = turn.enter(rt, &mut b.pass);
+    let mut node = sharing.enter(turn, &mut b.pass);
     let result = node.refill(n, mark);
     node.known();
     turn.leave(&mut b.pass, node);
-    match result {
-        Ok(raised) => Ok(raised),
-        Err(stop) => Err(stop),
-    }
+    result
 }

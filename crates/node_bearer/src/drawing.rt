@@ -1,8 +1,10 @@
 //! What a bearer draws, without the lock.
 #![tactic(auto)]
 
-ghost use Rattle.std.specs.Prelude.{◌≡◌, ℕ, ◌<◌, ◌≤◌, ◌^◌, List, None, Ok, IfOk, OnOk, IfErr};
+ghost use Rattle.std.specs.Prelude.{◌≡◌, ℕ, ◌<◌, ◌≤◌, ◌^◌, List, [], ◌∷◌, ◌++◌, None, Ok, IfOk, OnOk, IfErr, IfSome, OnErr};
+ghost use Rattle.mesh_base.specs.Pairs.{word_of};
 ghost use Rattle.run_definitions.specs.Order.{Task};
+ghost use Rattle.seq_word.specs.Seen.{AfterLost, Finds, HasCause, IsAbove, IsPrefix, SameDrawn, miss_of};
 ghost use Rattle.seq_word.specs.Word.{seq_of};
 ghost use Rattle.locked_node.specs.Node.{OnStop};
 ghost use Rattle.node_bearer.specs.Did.{Broke, DidBy, DrewBy, GoesOn, IsRider, IsUnspent};
@@ -10,11 +12,12 @@ ghost use Rattle.node_bearer.specs.Tries.{DrawsUntil, IsRaised};
 
 use crate::acting::refill;
 use crate::bearer::{Bearer, Drawn};
-use flash_model::Bench;
+use crate::sharing::Sharing;
+use flash_model::Flash;
 use locked_node::{Node, Raised};
 use machine_contract::{Machine, Stop};
-use seq_word::{DrawStop, Numbers};
-use std::sync::Wait;
+use mesh_base::pair::Pair;
+use seq_word::{DrawStop, Drawer, Miss, Numbers};
 use turn_lock::Turn;
 
 /// The SEQ at which an IV Index has no number left.
@@ -23,16 +26,20 @@ const SPENT_SEQ: u64 = 0x100_0000;
 /// From a word to the word of the same SEQ under the next IV Index.
 const WORDS_PER_IV: u64 = 0x200_0000;
 
+/// How often a draw is tried, and for how many refills it asks. A try is lost where another seat came between, and a mark is reached again
+/// where others drew all numbers below it: so no run comes to so many.
+const MOST_TRIES: u32 = u32::MAX;
+
 /// Has a mark raised that the counter has reached, where SEQ of the mark is below 2^24 (`raised`); else it does nothing (`last`).
-fn raise<M: Machine, F: Bench>(
-    rt: &impl Wait,
+fn raise<M: Machine, F: Flash + Send + Drop, S: Sharing>(
+    sharing: &S,
     n: &Numbers,
     turn: &Turn<Node<M, F>>,
     b: &mut Bearer<Node<M, F>>,
     mark: u64,
 ) -> Result<Option<Raised>, Stop>
-    requires rider { IsRider n.now turn.now b.old }
-    ensures rider { IsRider n.now turn.now b.new }
+    requires rider { IsRider S.parts n.now turn.now b.old }
+    ensures rider { IsRider S.parts n.now turn.now b.new }
     ensures on { GoesOn b.old b.new }
     ensures frame { (b.new.lines ≡ b.old.lines) × (b.new.drawer ≡ b.old.drawer) }
     ensures raised { seq_of mark < 2 ^ 24 → IfOk result (IsRaised mark) }
@@ -44,24 +51,46 @@ fn raise<M: Machine, F: Bench>(
 {
     // Else the mark is at the end of its IV Index, and the counter under the next one: its mark was published since.
     if mark % WORDS_PER_IV < SPENT_SEQ {
-        match refill(rt, n, turn, b, mark) {
-            Ok(raised) => Ok(Some(raised)),
-            Err(stop) => Err(stop),
-        }
+        Ok(Some(refill(sharing, n, turn, b, mark)?))
     } else {
         Ok(None)
     }
 }
 
-/// Draws a pair. Where the counter has reached the mark, it has a refill stored and draws again, and for no other cause.
-pub fn draw<M: Machine, F: Bench>(
-    rt: &impl Wait,
+/// Draws a pair below the mark. It tries again where another seat came between, and for no other cause. Where each try was lost, it tells no
+/// cause.
+fn draw_below(n: &Numbers, d: &mut Drawer) -> Result<Pair, Option<DrawStop>>
+    requires made { d.old.which ≡ n.now.which }
+    ensures looks { IsPrefix d.old.looks d.new.looks }
+    ensures frame { (d.new.which ≡ d.old.which) × (d.new.noted ≡ d.old.noted) × (d.new.parts ≡ d.old.parts) }
+    ensures drawn { IfOk result (λ p. d.new.drawn ≡ d.old.drawn ++ word_of p ∷ []) }
+    ensures above { IfOk result (λ p. IsAbove d.old (word_of p)) }
+    ensures unspent { IfOk result (λ p. p.seq < 2 ^ 24) }
+    ensures found { IfOk result (λ p. AfterLost (Finds p) d.old d.new) }
+    ensures err { OnErr result (SameDrawn d.old d.new) }
+    ensures cause { IfErr result (λ e. IfSome e (λ s. AfterLost (HasCause (miss_of s)) d.old d.new)) }
+{
+    for _ in 0..MOST_TRIES {
+        match n.try_draw(d) {
+            Ok(pair) => return Ok(pair),
+            Err(Miss::Spent { iv }) => return Err(Some(DrawStop::Spent { iv })),
+            Err(Miss::Dry { next, mark }) => return Err(Some(DrawStop::Dry { next, mark })),
+            Err(Miss::Lost { .. }) => {}
+        }
+    }
+    Err(None)
+}
+
+/// Draws a pair. Where the counter has reached the mark, it has a refill stored and draws again, and for no other cause. It waits for
+/// nobody but for its turn to have a refill stored; after 2^32 - 1 tries it gives up, as for want of memory.
+pub fn draw<M: Machine, F: Flash + Send + Drop, S: Sharing>(
+    sharing: &S,
     n: &Numbers,
     turn: &Turn<Node<M, F>>,
     b: &mut Bearer<Node<M, F>>,
 ) -> Result<Drawn, Stop>
-    requires rider { IsRider n.now turn.now b.old }
-    ensures rider { IsRider n.now turn.now b.new }
+    requires rider { IsRider S.parts n.now turn.now b.old }
+    ensures rider { IsRider S.parts n.now turn.now b.new }
     ensures on { GoesOn b.old b.new }
     ensures frame { b.new.lines ≡ b.old.lines }
     ensures seq { IfOk result IsUnspent }
@@ -71,15 +100,15 @@ pub fn draw<M: Machine, F: Bench>(
     ensures stopped { (k first : ℕ) (tasks rest : List Task) → DidBy k first tasks rest b.old
         → IfErr result (λ e. OnStop e (Broke k first tasks b.new)) }
 {
-    for _ in rt.forever() {
-        match n.draw(rt, &mut b.drawer) {
+    for _ in 0..MOST_TRIES {
+        match draw_below(n, &mut b.drawer) {
             Ok(pair) => return Ok(Drawn::Pair(pair)),
-            Err(DrawStop::Spent { iv }) => return Ok(Drawn::Spent(iv)),
-            Err(DrawStop::Dry { next: _, mark }) => match raise(rt, n, turn, b, mark) {
-                Ok(_) => {}
-                Err(stop) => return Err(stop),
-            },
+            Err(Some(DrawStop::Spent { iv })) => return Ok(Drawn::Spent(iv)),
+            Err(Some(DrawStop::Dry { next: _, mark })) => {
+                raise(sharing, n, turn, b, mark)?;
+            }
+            Err(None) => return Err(Stop::Memory),
         }
     }
-    unreachable!()
+    Err(Stop::Memory)
 }

@@ -13,7 +13,8 @@ ghost use Rattle.node_bearer.specs.Marked.{HasEntry, HasJob};
 use crate::acting::act;
 use crate::bearer::{Bearer, Drawn};
 use crate::drawing::draw;
-use flash_model::Bench;
+use crate::sharing::Sharing;
+use flash_model::Flash;
 use job_sealing::{drawn_line, draws, plain_line};
 use locked_node::Node;
 use machine_contract::{Machine, Stop};
@@ -23,11 +24,10 @@ use mesh_types::history::Sent;
 use mesh_types::jobs::Job;
 use mesh_types::lines::Outcome;
 use seq_word::Numbers;
-use std::sync::Wait;
 use turn_lock::Turn;
 
 /// Does a job that draws no pair: job `j` of the entry at place `at`, which is of this event.
-fn plain_job<M: Machine, F: Bench>(
+fn plain_job<M: Machine, F: Flash + Send + Drop>(
     b: &mut Bearer<Node<M, F>>,
     at: u32,
     j: u8,
@@ -56,7 +56,7 @@ fn plain_job<M: Machine, F: Bench>(
 }
 
 /// Notes that no number was left for a job.
-fn spent_job<M: Machine, F: Bench>(
+fn spent_job<M: Machine, F: Flash + Send + Drop>(
     b: &mut Bearer<Node<M, F>>,
     at: u32,
     j: u8,
@@ -84,7 +84,7 @@ fn spent_job<M: Machine, F: Bench>(
 }
 
 /// Does a job with the pair drawn for it.
-fn drawn_job<M: Machine, F: Bench>(
+fn drawn_job<M: Machine, F: Flash + Send + Drop>(
     b: &mut Bearer<Node<M, F>>,
     at: u32,
     j: u8,
@@ -117,8 +117,8 @@ fn drawn_job<M: Machine, F: Bench>(
 }
 
 /// Does a job: draws for it if it is one that draws, seals it, and notes its line. Returns the node's own event that is to be handled next.
-fn do_job<M: Machine, F: Bench>(
-    rt: &impl Wait,
+fn do_job<M: Machine, F: Flash + Send + Drop, S: Sharing>(
+    sharing: &S,
     n: &Numbers,
     turn: &Turn<Node<M, F>>,
     b: &mut Bearer<Node<M, F>>,
@@ -127,10 +127,10 @@ fn do_job<M: Machine, F: Bench>(
     event: &Event,
     job: &Job,
 ) -> Result<Option<Event>, Stop>
-    requires rider { IsRider n.now turn.now b.old }
+    requires rider { IsRider S.parts n.now turn.now b.old }
     requires job { IsJob event.now job.now }
     requires there { HasJob b.old.pass.seen at j event.now job.now }
-    ensures rider { IsRider n.now turn.now b.new }
+    ensures rider { IsRider S.parts n.now turn.now b.new }
     ensures on { GoesOn b.old b.new }
     ensures did { (k first : ℕ) (tasks rest : List Task)
         → DidBy k first tasks (write at j event.now job.now ∷ rest) b.old
@@ -145,16 +145,15 @@ fn do_job<M: Machine, F: Bench>(
     if !draws(job) {
         return plain_job(b, at, j, event, job);
     }
-    match draw(rt, n, turn, b) {
-        Ok(Drawn::Pair(pair)) => drawn_job(b, at, j, event, job, pair),
-        Ok(Drawn::Spent(iv)) => spent_job(b, at, j, event, job, iv),
-        Err(stop) => Err(stop),
+    match draw(sharing, n, turn, b)? {
+        Drawn::Pair(pair) => drawn_job(b, at, j, event, job, pair),
+        Drawn::Spent(iv) => spent_job(b, at, j, event, job, iv),
     }
 }
 
 /// Does the jobs of an entry after whose lines nothing is handled.
-fn do_quiet_jobs<M: Machine, F: Bench>(
-    rt: &impl Wait,
+fn do_quiet_jobs<M: Machine, F: Flash + Send + Drop, S: Sharing>(
+    sharing: &S,
     n: &Numbers,
     turn: &Turn<Node<M, F>>,
     b: &mut Bearer<Node<M, F>>,
@@ -162,12 +161,12 @@ fn do_quiet_jobs<M: Machine, F: Bench>(
     event: &Event,
     jobs: &[Job],
 ) -> Result<(), Stop>
-    requires rider { IsRider n.now turn.now b.old }
+    requires rider { IsRider S.parts n.now turn.now b.old }
     requires entry { HasEntry b.old.pass.seen at event.now jobs.now }
     requires few { length jobs.now ≤ 160 }
     requires jobs { All (IsJob event.now) jobs.now }
     requires quiet { All IsQuiet jobs.now }
-    ensures rider { IsRider n.now turn.now b.new }
+    ensures rider { IsRider S.parts n.now turn.now b.new }
     ensures on { GoesOn b.old b.new }
     ensures did { (k first : ℕ) (tasks rest : List Task)
         → DidBy k first tasks (write_tasks at 0 event.now jobs.now ++ rest) b.old
@@ -177,42 +176,37 @@ fn do_quiet_jobs<M: Machine, F: Bench>(
         → IfErr result (λ e. OnStop e (Broke k first tasks b.new)) }
 {
     for j in 0..jobs.len() {
-        match do_job(rt, n, turn, b, at, j as u8, event, &jobs[j]) {
-            Ok(_) => {}
-            Err(stop) => return Err(stop),
-        }
+        do_job(sharing, n, turn, b, at, j as u8, event, &jobs[j])?;
     }
     Ok(())
 }
 
 /// Has an event of the node's own handled, and does its jobs.
-fn do_next<M: Machine, F: Bench>(
-    rt: &impl Wait,
+fn do_next<M: Machine, F: Flash + Send + Drop, S: Sharing>(
+    sharing: &S,
     n: &Numbers,
     turn: &Turn<Node<M, F>>,
     k: u8,
     b: &mut Bearer<Node<M, F>>,
     event: &Event,
 ) -> Result<(), Stop>
-    requires rider { IsRider n.now turn.now b.old }
+    requires rider { IsRider S.parts n.now turn.now b.old }
     requires event { IsEvent turn.now.first.machine.elements event.now }
     requires own { is_outside event.now ≡ false }
-    ensures rider { IsRider n.now turn.now b.new }
+    ensures rider { IsRider S.parts n.now turn.now b.new }
     ensures on { GoesOn b.old b.new }
     ensures did { (first : ℕ) (tasks rest : List Task) → DidBy k first tasks (follow event.now ∷ rest) b.old
         → OnOk result (DidBy k first tasks rest b.new) }
     ensures stopped { (first : ℕ) (tasks rest : List Task) → DidBy k first tasks (follow event.now ∷ rest) b.old
         → IfErr result (λ e. OnStop e (Broke k first tasks b.new)) }
 {
-    match act(rt, n, turn, k, b, event) {
-        Ok(answered) => do_quiet_jobs(rt, n, turn, b, answered.at, event, answered.jobs.as_slice()),
-        Err(stop) => Err(stop),
-    }
+    let answered = act(sharing, n, turn, k, b, event)?;
+    do_quiet_jobs(sharing, n, turn, b, answered.at, event, answered.jobs.as_slice())
 }
 
 /// Does a job, and has handled what follows its line.
-fn do_whole_job<M: Machine, F: Bench>(
-    rt: &impl Wait,
+fn do_whole_job<M: Machine, F: Flash + Send + Drop, S: Sharing>(
+    sharing: &S,
     n: &Numbers,
     turn: &Turn<Node<M, F>>,
     k: u8,
@@ -222,10 +216,10 @@ fn do_whole_job<M: Machine, F: Bench>(
     event: &Event,
     job: &Job,
 ) -> Result<(), Stop>
-    requires rider { IsRider n.now turn.now b.old }
+    requires rider { IsRider S.parts n.now turn.now b.old }
     requires job { IsJob event.now job.now }
     requires there { HasJob b.old.pass.seen at j event.now job.now }
-    ensures rider { IsRider n.now turn.now b.new }
+    ensures rider { IsRider S.parts n.now turn.now b.new }
     ensures on { GoesOn b.old b.new }
     ensures did { (first : ℕ) (tasks rest : List Task) → DidBy k first tasks (write at j event.now job.now ∷ rest) b.old
         → OnOk result (DidBy k first tasks rest b.new) }
@@ -233,16 +227,15 @@ fn do_whole_job<M: Machine, F: Bench>(
         → DidBy k first tasks (write at j event.now job.now ∷ rest) b.old
         → IfErr result (λ e. OnStop e (Broke k first tasks b.new)) }
 {
-    match do_job(rt, n, turn, b, at, j, event, job) {
-        Ok(None) => Ok(()),
-        Ok(Some(next)) => do_next(rt, n, turn, k, b, &next),
-        Err(stop) => Err(stop),
+    match do_job(sharing, n, turn, b, at, j, event, job)? {
+        None => Ok(()),
+        Some(next) => do_next(sharing, n, turn, k, b, &next),
     }
 }
 
 /// Does the jobs of an entry, and has handled what follows their lines.
-pub fn do_jobs<M: Machine, F: Bench>(
-    rt: &impl Wait,
+pub fn do_jobs<M: Machine, F: Flash + Send + Drop, S: Sharing>(
+    sharing: &S,
     n: &Numbers,
     turn: &Turn<Node<M, F>>,
     k: u8,
@@ -251,11 +244,11 @@ pub fn do_jobs<M: Machine, F: Bench>(
     event: &Event,
     jobs: &[Job],
 ) -> Result<(), Stop>
-    requires rider { IsRider n.now turn.now b.old }
+    requires rider { IsRider S.parts n.now turn.now b.old }
     requires entry { HasEntry b.old.pass.seen at event.now jobs.now }
     requires few { length jobs.now ≤ 160 }
     requires jobs { All (IsJob event.now) jobs.now }
-    ensures rider { IsRider n.now turn.now b.new }
+    ensures rider { IsRider S.parts n.now turn.now b.new }
     ensures on { GoesOn b.old b.new }
     ensures did { (first : ℕ) (tasks rest : List Task)
         → DidBy k first tasks (write_tasks at 0 event.now jobs.now ++ rest) b.old
@@ -265,10 +258,7 @@ pub fn do_jobs<M: Machine, F: Bench>(
         → IfErr result (λ e. OnStop e (Broke k first tasks b.new)) }
 {
     for j in 0..jobs.len() {
-        match do_whole_job(rt, n, turn, k, b, at, j as u8, event, &jobs[j]) {
-            Ok(()) => {}
-            Err(stop) => return Err(stop),
-        }
+        do_whole_job(sharing, n, turn, k, b, at, j as u8, event, &jobs[j])?;
     }
     Ok(())
 }

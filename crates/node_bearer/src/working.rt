@@ -11,17 +11,17 @@ use crate::acting::act;
 use crate::bearer::Bearer;
 use crate::gate::Gate;
 use crate::jobs::do_jobs;
-use flash_model::Bench;
+use crate::sharing::Sharing;
+use flash_model::Flash;
 use locked_node::Node;
 use machine_contract::{Machine, Stop};
 use mesh_types::events::Event;
 use seq_word::Numbers;
-use std::sync::Wait;
 use turn_lock::Turn;
 
 /// Has an event from outside handled, and does all that follows from it.
-fn do_event<M: Machine, F: Bench, G: Gate>(
-    rt: &impl Wait,
+fn do_event<M: Machine, F: Flash + Send + Drop, G: Gate, S: Sharing>(
+    sharing: &S,
     n: &Numbers,
     turn: &Turn<Node<M, F>>,
     gate: &G,
@@ -29,10 +29,10 @@ fn do_event<M: Machine, F: Bench, G: Gate>(
     b: &mut Bearer<Node<M, F>>,
     event: &Event,
 ) -> Result<(), Stop>
-    requires rider { IsRider n.now turn.now b.old }
+    requires rider { IsRider S.parts n.now turn.now b.old }
     requires event { IsEvent turn.now.first.machine.elements event.now }
     requires outside { IsTrue (is_outside event.now) }
-    ensures rider { IsRider n.now turn.now b.new }
+    ensures rider { IsRider S.parts n.now turn.now b.new }
     ensures on { GoesOn b.old b.new }
     ensures did { (first : ℕ) (tasks rest : List Task) → DidBy k first tasks (handle event.now ∷ rest) b.old
         → OnOk result (DidBy k first tasks rest b.new) }
@@ -41,30 +41,18 @@ fn do_event<M: Machine, F: Bench, G: Gate>(
 {
     let number = b.number.saturating_add(1);
     gate.before(k, number);
-    match act(rt, n, turn, k, b, event) {
-        Ok(answered) => {
-            gate.between(k, number);
-            let done = do_jobs(
-                rt,
-                n,
-                turn,
-                k,
-                b,
-                answered.at,
-                event,
-                answered.jobs.as_slice(),
-            );
-            gate.after(k, number);
-            done
-        }
-        Err(stop) => Err(stop),
-    }
+    let answered = act(sharing, n, turn, k, b, event)?;
+    gate.between(k, number);
+    let jobs = answered.jobs.as_slice();
+    let done = do_jobs(sharing, n, turn, k, b, answered.at, event, jobs);
+    gate.after(k, number);
+    done
 }
 
 /// Has all events of a bearer handled, in their order, and does all that follows from each before it comes to the next. It stops at the
 /// first refusal.
-pub fn work<M: Machine, F: Bench, G: Gate>(
-    rt: &impl Wait,
+pub fn work<M: Machine, F: Flash + Send + Drop, G: Gate, S: Sharing>(
+    sharing: &S,
     n: &Numbers,
     turn: &Turn<Node<M, F>>,
     gate: &G,
@@ -72,9 +60,9 @@ pub fn work<M: Machine, F: Bench, G: Gate>(
     b: &mut Bearer<Node<M, F>>,
     events: &[Event],
 ) -> Result<(), Stop>
-    requires rider { IsRider n.now turn.now b.old }
+    requires rider { IsRider S.parts n.now turn.now b.old }
     requires events { AreEvents turn.now.first.machine.elements events.now }
-    ensures rider { IsRider n.now turn.now b.new }
+    ensures rider { IsRider S.parts n.now turn.now b.new }
     ensures on { GoesOn b.old b.new }
     ensures did { (first : ℕ) (tasks : List Task) → DidBy k first tasks (map handle events.now) b.old
         → OnOk result (DidBy k first tasks [] b.new) }
@@ -82,10 +70,7 @@ pub fn work<M: Machine, F: Bench, G: Gate>(
         → IfErr result (λ e. OnStop e (Broke k first tasks b.new)) }
 {
     for event in events {
-        match do_event(rt, n, turn, gate, k, b, event) {
-            Ok(()) => {}
-            Err(stop) => return Err(stop),
-        }
+        do_event(sharing, n, turn, gate, k, b, event)?;
     }
     Ok(())
 }

@@ -1,9 +1,11 @@
 -- A bearer at the beginning of a phase, and behind it.
-use Rattle.std.proofs.Common.{◌≡◌, ◌∙◌, ℕ, ◌+◌, ◌<◌, List, [], ◌∷◌, ◌++◌, length, map, take, drop, Option, Some, None, Result, Ok, Err, refl, sym, ap, subst, arith, append-nil, length-append}
+use Rattle.std.proofs.Common.{◌≡◌, ◌∙◌, ⊎_elim, Bool, ℕ, ◌+◌, ◌<◌, List, [], ◌∷◌, ◌++◌, length, map, take, drop, Option, Some, None, Result, Ok, Err, refl, sym, ap, subst, arith, append-nil, length-append}
 use Rattle.std.proofs.lemmas.List.{drop_all, map-append, take_all, take_more}
 use Rattle.std.proofs.Common.{get_or}
+use Rattle.turn_lock.specs.Entries.{KeptOf}
 use Rattle.turn_lock.specs.Views.{PassView}
 use Rattle.std.specs.Prelude.{◌^◌, All, AllPairs, OnOk, IfErr}
+use Rattle.std.specs.List.{filter}
 use Rattle.std.specs.Result.{result_err}
 use Rattle.std.proofs.lemmas.List.Elements.{All-nil}
 use Rattle.machine_contract.specs.declared.answers.Stop.{Stop}
@@ -88,3 +90,9 @@ module _ {F : Type 0} (k : ℕ) (events : List Event) (old b : BearerOf F) where
   } where
     again : (e : Stop) → OnStop e (Broke k old.number (map handle events) b) → OnStop e (Broke k old.number (map handle events) (record b { stop = stop }))
     again e h = on_stop e (λ x. record { left = x.left; before = x.before; at = x.at; hand = x.hand; own = x.own; did = x.did; next = x.next }) h
+
+-- what a test keeps of one bearer's own entries, where they are the only ones
+pub kept_one : (keep : ℕ × Mark → Bool) (own ys : List (ℕ × Mark)) → KeptOf keep ([] ∷ own ∷ []) ys → filter keep own ≡ ys
+kept_one keep own ys h =
+    ⊎_elim (λ first. first.1 0 own (omega arith) ∙ first.0)
+    (λ second. ⊎_elim (λ mine. mine.0) (λ none. none.0 ∙ sym none.1) second.1) h

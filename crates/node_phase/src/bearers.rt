@@ -9,7 +9,7 @@ ghost use Rattle.locked_node.specs.declared.marks.Mark.{Mark};
 ghost use Rattle.node_bearer.specs.Did.{IsRider};
 ghost use Rattle.node_phase.specs.Worked.{IsFresh, done_of, drawn_by, looks_by, own_of};
 
-use flash_model::Bench;
+use flash_model::Flash;
 use locked_node::{Mark, Node};
 use machine_contract::{Machine, Stop};
 use mesh_types::history::Sent;
@@ -31,7 +31,7 @@ pub struct Done {
 }
 
 /// A bearer for each of these numbers, which is that of its last entry so far.
-pub fn split_all<M: Machine, F: Bench>(
+pub fn split_all<M: Machine, F: Flash + Send + Drop>(
     alloc: Global,
     n: &Numbers,
     turn: &Turn<Node<M, F>>,
@@ -47,7 +47,7 @@ pub fn split_all<M: Machine, F: Bench>(
     ensures pass { pass.new ≡ record pass.old { parts = pass.new.parts } }
     ensures parts { IfOk result (λ v. pass.new.parts + length v.items ≡ pass.old.parts) }
     ensures numbers { IfOk result (λ v. map (λ b. b.number) v.items ≡ counts.now) }
-    ensures riders { IfOk result (λ v. All (IsRider n.now turn.now) v.items) }
+    ensures riders { IfOk result (λ v. All (IsRider 1 n.now turn.now) v.items) }
     ensures fresh { IfOk result (λ v. All IsFresh v.items) }
     ensures noted { IfOk result (λ v. All (λ b. b.drawer.noted ≡ drawer.old.noted ++ drawer.old.drawn) v.items) }
 {
@@ -67,7 +67,7 @@ pub fn split_all<M: Machine, F: Bench>(
 }
 
 /// Takes all bearers in: what they drew and saw goes to the drawer, and their entries to the pass.
-pub fn join_all<M: Machine, F: Bench>(
+pub fn join_all<M: Machine, F: Flash + Send + Drop>(
     alloc: Global,
     n: &Numbers,
     turn: &Turn<Node<M, F>>,
@@ -77,7 +77,7 @@ pub fn join_all<M: Machine, F: Bench>(
 ) -> Result<Vec<Done>, AllocError>
     requires draws { drawer.old.which ≡ n.now.which }
     requires pass { IsPassOf turn.now pass.old × (pass.old.inside ≡ false) }
-    requires riders { All (IsRider n.now turn.now) bearers.items }
+    requires riders { All (IsRider 1 n.now turn.now) bearers.items }
     ensures which { drawer.new.which ≡ drawer.old.which }
     ensures pass { IfOk result (λ v. IsPassOf turn.now pass.new × (pass.new.inside ≡ false)) }
     ensures parts { IfOk result (λ v. pass.new.parts ≡ pass.old.parts + length bearers.items) }

@@ -8,7 +8,7 @@ ghost use Rattle.node_phase.specs.Worked.{WasPhase};
 
 use crate::bearers::{Done, join_all, split_all};
 use crate::threads::work_all;
-use flash_model::Bench;
+use flash_model::Flash;
 use locked_node::Node;
 use machine_contract::Machine;
 use mesh_types::events::Event;
@@ -24,7 +24,7 @@ use turn_lock::Turn;
 /// each. `counts` has for each the number of its last entry so far.
 ///
 /// At most `BEARERS` bearers.
-pub fn run_phase<M: Machine, F: Bench, G: Gate, R: Threads + Wait + Sync>(
+pub fn run_phase<M: Machine, F: Flash + Send + Drop, G: Gate, R: Threads + Wait + Sync>(
     rt: &R,
     alloc: Global,
     n: &Numbers,

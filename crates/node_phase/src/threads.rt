@@ -5,11 +5,11 @@ ghost use Rattle.std.specs.Prelude.{◌≡◌, ℕ, ◌<◌, ◌≤◌, length, 
 ghost use Rattle.node_bearer.specs.Did.{AreEvents, IsRider};
 ghost use Rattle.node_phase.specs.Worked.{IsFresh, Worked};
 
-use flash_model::Bench;
+use flash_model::Flash;
 use locked_node::Node;
 use machine_contract::Machine;
 use mesh_types::events::Event;
-use node_bearer::{Bearer, Gate, work};
+use node_bearer::{Bearer, Gate, Sharing, work};
 use node_limits::BEARERS;
 use seq_word::Numbers;
 use std::sync::Wait;
@@ -18,8 +18,8 @@ use std::thread::Threads;
 use turn_lock::Turn;
 
 /// One bearer, at all its events.
-fn work_phase<M: Machine, F: Bench, G: Gate>(
-    rt: &impl Wait,
+pub fn work_phase<M: Machine, F: Flash + Send + Drop, G: Gate, S: Sharing>(
+    sharing: &S,
     n: &Numbers,
     turn: &Turn<Node<M, F>>,
     gate: &G,
@@ -27,17 +27,17 @@ fn work_phase<M: Machine, F: Bench, G: Gate>(
     b: &mut Bearer<Node<M, F>>,
     events: &[Event],
 )
-    requires rider { IsRider n.now turn.now b.old }
+    requires rider { IsRider S.parts n.now turn.now b.old }
     requires fresh { IsFresh b.old }
     requires events { AreEvents turn.now.first.machine.elements events.now }
-    ensures rider { IsRider n.now turn.now b.new }
+    ensures rider { IsRider S.parts n.now turn.now b.new }
     ensures worked { Worked k events.now b.old b.new }
 {
-    b.stop = work(rt, n, turn, gate, k, b, events).err();
+    b.stop = work(sharing, n, turn, gate, k, b, events).err();
 }
 
 /// All bearers at once: bearer `k` at the events of place `k`.
-pub fn work_all<M: Machine, F: Bench, G: Gate, R: Threads + Wait + Sync>(
+pub fn work_all<M: Machine, F: Flash + Send + Drop, G: Gate, R: Threads + Wait + Sync>(
     rt: &R,
     n: &Numbers,
     turn: &Turn<Node<M, F>>,
@@ -47,10 +47,10 @@ pub fn work_all<M: Machine, F: Bench, G: Gate, R: Threads + Wait + Sync>(
 )
     requires few { length bearers.old ≤ BEARERS }
     requires plan { length plan.now ≡ length bearers.old }
-    requires riders { All (IsRider n.now turn.now) bearers.old }
+    requires riders { All (IsRider 1 n.now turn.now) bearers.old }
     requires fresh { All IsFresh bearers.old }
     requires events { All (λ v. AreEvents turn.now.first.machine.elements v.items) plan.now }
-    ensures riders { All (IsRider n.now turn.now) bearers.new }
+    ensures riders { All (IsRider 1 n.now turn.now) bearers.new }
     ensures count { length bearers.new ≡ length bearers.old }
     ensures worked { (k : ℕ) (p : _) (b : _) → k < length bearers.old
         → Worked k (slice_index_or plan.now k p).items (slice_index_or bearers.old k b)
@@ -63,10 +63,10 @@ pub fn work_all<M: Machine, F: Bench, G: Gate, R: Threads + Wait + Sync>(
         &|i, b: &mut Bearer<Node<M, F>>|
             requires at { i < length plan.now }
             requires few { length plan.now ≤ BEARERS }
-            requires rider { IsRider n.now turn.now b.now }
+            requires rider { IsRider 1 n.now turn.now b.now }
             requires fresh { IsFresh b.now }
             requires events { All (λ v. AreEvents turn.now.first.machine.elements v.items) plan.now }
-            ensures rider { IsRider n.entry.now turn.entry.now b.exit.now }
+            ensures rider { IsRider 1 n.entry.now turn.entry.now b.exit.now }
             ensures worked { (p : _) → Worked i (slice_index_or plan.entry.now i p).items b.entry.now b.exit.now }
         {
             work_phase(rt, n, turn, gate, i as u8, b, &plan[i]);

@@ -10,7 +10,7 @@ use crate::turn::{Pass, Turn};
 use std::sync::Wait;
 
 /// Joins the passes, which have all parts of the lock between them, ends the lock, and returns its value.
-pub fn gather<T: Logged + Send + Drop>(
+pub fn gather<T: Logged + Drop>(
     rt: &impl Wait,
     turn: Turn<T>,
     first: Pass<T>,
@@ -39,7 +39,7 @@ pub fn gather<T: Logged + Send + Drop>(
 }
 
 // Joins passes to one.
-fn join_all<T: Logged + Send + Drop>(turn: &Turn<T>, all: &mut Pass<T>, others: Vec<Pass<T>>)
+fn join_all<T: Logged + Drop>(turn: &Turn<T>, all: &mut Pass<T>, others: Vec<Pass<T>>)
     requires pass { IsPassOf turn.now all.old × (all.old.inside ≡ false) }
     requires others { All (λ p. IsPassOf turn.now p × (p.inside ≡ false)) others.items }
     ensures pass { IsPassOf turn.now all.new × (all.new.inside ≡ false) }

@@ -73,7 +73,7 @@ impl<T: Logged> Model for Pass<T> {
     ghost invariant = { λ p. IsAtRest p.seat.me p.found };
 }
 
-impl<T: Logged + Send + Drop> Turn<T> {
+impl<T: Logged + Drop> Turn<T> {
     /// Makes a lock for the value, and the pass that has all 1,024 parts of it. For want of memory the value is dropped.
     pub fn start(alloc: Global, value: T) -> Result<(Turn<T>, Pass<T>), AllocError>
         requires few { length (T.entries value) < 2 ^ 64 }

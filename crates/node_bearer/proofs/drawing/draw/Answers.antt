@@ -2,21 +2,21 @@ use Rattle.std.proofs.Common.{◌∙◌, ◌++◌, ◌∷◌, ap, append_assoc, 
 use Rattle.seq_word.specs.Seen.{AfterLost, DrawerView, HasCause}
 use Rattle.seq_word.specs.declared.miss.Miss.TheVariants as missed
 use Rattle.node_bearer.proofs.Doing.{did_looked}
-use Rattle.node_bearer.proofs.Turning.{contains_spent}
+use Rattle.node_bearer.proofs.Turning.{contains_spent, stops}
 use Rattle.node_bearer.proofs.drawing.draw.Goals as goal
 
-pub returns-in-Err-Spent-clause-did : goal.returns-in-Err-Spent-clause-did
-returns-in-Err-Spent-clause-did g c = λ k first tasks rest h.
+pub returns-in-Err-Some-Spent-clause-did : goal.returns-in-Err-Some-Spent-clause-did
+returns-in-Err-Some-Spent-clause-did g c = λ k first tasks rest h.
     let b = c.loop.b in
-    let e = c.in-Err-Spent.ensures in
-    let cause = rw c.in-Err-Spent.field-0-is at e.cause in (
-      did_looked k first tasks rest b.pass.own b.pass.seen b.lines.items b.number b.drawer c.draw.new.d e.err.drawn e.err.noted e.looks (c.loop.invariant.did k first tasks rest h),
-      contains_spent c.draw.new.d.looks cause.1.looks cause.3.0 _ cause.3.1,
+    let e = c.in-Err-Some-Spent.ensures in
+    let cause = rw c.in-Err-Some-Spent.field-0-0-is at rw c.in-Err-Some-Spent.field-0-is at e.cause in (
+      did_looked k first tasks rest b.pass.own b.pass.seen b.lines.items b.number b.drawer c.draw_below.new.d e.err.drawn e.err.noted e.looks (c.loop.invariant.did k first tasks rest h),
+      contains_spent c.draw_below.new.d.looks cause.1.looks cause.3.0 _ cause.3.1,
     )
 
-pub returns-in-Err-Spent-clause-tries : goal.returns-in-Err-Spent-clause-tries
-returns-in-Err-Spent-clause-tries g c =
-    let cause = rw c.in-Err-Spent.field-0-is at c.in-Err-Spent.ensures.cause in
+pub returns-in-Err-Some-Spent-clause-tries : goal.returns-in-Err-Some-Spent-clause-tries
+returns-in-Err-Some-Spent-clause-tries g c =
+    let cause = rw c.in-Err-Some-Spent.field-0-0-is at rw c.in-Err-Some-Spent.field-0-is at c.in-Err-Some-Spent.ensures.cause in
     (c.loop.invariant.dry.0, c.loop.b.drawer, c.loop.invariant.dry.1, cause)
 
 pub returns-in-Ok-clause-tries : goal.returns-in-Ok-clause-tries
@@ -25,12 +25,10 @@ returns-in-Ok-clause-tries g c = (c.loop.invariant.dry.0, c.loop.b.drawer, c.loo
 pub loop-preserved : goal.loop-preserved
 loop-preserved g c =
     let b = c.loop.b in
-    let e = c.in-Err-Dry.ensures in
+    let e = c.in-Err-Some-Dry.ensures in
     let was = c.loop.invariant in
-    let cause = rw c.in-Err-Dry.field-0-is at e.cause in
+    let cause = rw c.in-Err-Some-Dry.field-0-0-is at rw c.in-Err-Some-Dry.field-0-is at e.cause in
     record {
-      can_next = tt;
-      is_finite = tt;
       rider = c.raise.ensures.rider;
       on = record {
         rest = was.on.rest ++ c.raise.ensures.on.rest;
@@ -38,15 +36,15 @@ loop-preserved g c =
         noted = c.raise.ensures.on.noted ∙ e.err.noted ∙ was.on.noted;
         stop = c.raise.ensures.on.stop ∙ was.on.stop;
       };
-      dry = ((c.in-Err-Dry.field-0-0, c.in-Err-Dry.mark) ∷ was.dry.0, (b.drawer, was.dry.1, subst (λ (d : DrawerView). AfterLost (HasCause (missed.Dry c.in-Err-Dry.field-0-0 c.in-Err-Dry.mark)) b.drawer d) (sym c.raise.ensures.frame.1) cause));
+      dry = ((c.in-Err-Some-Dry.field-0-0-0, c.in-Err-Some-Dry.mark) ∷ was.dry.0, (b.drawer, was.dry.1, subst (λ (d : DrawerView). AfterLost (HasCause (missed.Dry c.in-Err-Some-Dry.field-0-0-0 c.in-Err-Some-Dry.mark)) b.drawer d) (sym c.raise.ensures.frame.1) cause));
       frame = c.raise.ensures.frame.0 ∙ was.frame;
-      did = λ k first tasks rest h. c.in-Ok-raise.ensures.did k first tasks rest
-          (did_looked k first tasks rest b.pass.own b.pass.seen b.lines.items b.number b.drawer c.draw.new.d e.err.drawn e.err.noted e.looks (was.did k first tasks rest h));
+      did = λ k first tasks rest h. c.in_ok-raise-in-Err-Some-Dry.ensures.did k first tasks rest
+          (did_looked k first tasks rest b.pass.own b.pass.seen b.lines.items b.number b.drawer c.draw_below.new.d e.err.drawn e.err.noted e.looks (was.did k first tasks rest h));
     }
 
-pub returns-in-Err-clause-stopped : goal.returns-in-Err-clause-stopped
-returns-in-Err-clause-stopped g c = λ k first tasks rest h.
+pub returns-in_err-raise-in-Err-Some-Dry-clause-stopped : goal.returns-in_err-raise-in-Err-Some-Dry-clause-stopped
+returns-in_err-raise-in-Err-Some-Dry-clause-stopped g c = λ k first tasks rest h.
     let b = c.loop.b in
-    let e = c.in-Err-Dry.ensures in
-    c.in-Err.ensures.stopped k first tasks rest
-    (did_looked k first tasks rest b.pass.own b.pass.seen b.lines.items b.number b.drawer c.draw.new.d e.err.drawn e.err.noted e.looks (c.loop.invariant.did k first tasks rest h))
+    let e = c.in-Err-Some-Dry.ensures in
+    stops _ c.from_residual.result c.in_err-raise-in-Err-Some-Dry.field-0.0 c.from_residual.ensures.1 (c.in_err-raise-in-Err-Some-Dry.ensures.stopped k first tasks rest
+    (did_looked k first tasks rest b.pass.own b.pass.seen b.lines.items b.number b.drawer c.draw_below.new.d e.err.drawn e.err.noted e.looks (c.loop.invariant.did k first tasks rest h)))

@@ -7,9 +7,7 @@ use Rattle.node_bearer.proofs.drawing.draw.Given as goal
 
 abbrev pub invariant-loop : goal.invariant-loop
 invariant-loop g l = record {
-  can_next : (goal.iterator-loop g).can_next l.iterator';
-  is_finite : (goal.iterator-loop g).is_finite l.iterator';
-  rider : IsRider l.n l.turn l.b;
+  rider : IsRider g.S.Sharing.parts l.n l.turn l.b;
   on : GoesOn l.initial.b l.b;
   dry : (tries : List (ℕ × ℕ)) × DryDraws tries l.initial.b.drawer l.b.drawer;
   frame : l.b.lines ≡ l.initial.b.lines;

@@ -15,7 +15,7 @@ invariant-loop-bearer g l = record {
   len : into_iter_len l.bearer-iterator ≡ length (into_iter_items l.bearer-iterator);
   which : l.drawer.which ≡ l.initial.drawer.which;
   pass : IsPassOf l.turn l.pass × (l.pass.inside ≡ false);
-  rest : All (IsRider l.n l.turn) (into_iter_items l.bearer-iterator);
+  rest : All (IsRider 1 l.n l.turn) (into_iter_items l.bearer-iterator);
   parts : l.pass.parts + length (into_iter_items l.bearer-iterator) ≡ l.initial.pass.parts + length l.fn.bearers.items;
   drawn : l.drawer.drawn ++ flat_map drawn_by (into_iter_items l.bearer-iterator) ≡ l.initial.drawer.drawn ++ flat_map drawn_by l.fn.bearers.items;
   looks : l.drawer.looks ++ flat_map looks_by (into_iter_items l.bearer-iterator) ≡ l.initial.drawer.looks ++ flat_map looks_by l.fn.bearers.items;

@@ -1,0 +1,6 @@
+use Rattle.node_bearer.proofs.Turning.{stops}
+use Rattle.node_bearer.proofs.drawing.raise.Goals as goal
+
+pub returns-in_err-refill-clause-stopped : goal.returns-in_err-refill-clause-stopped
+returns-in_err-refill-clause-stopped g c = λ k first tasks rest h.
+    stops _ c.from_residual.result c.in_err-refill.field-0.0 c.from_residual.ensures.1 (c.in_err-refill.ensures.stopped k first tasks rest h)

@@ -1,0 +1,45 @@
+//! How a bearer comes to its turn at the lock: beside others, or alone.
+#![tactic(auto)]
+
+ghost use Rattle.std.specs.Prelude.{◌≡◌, ℕ, ◌<◌, ◌^◌, true, false, length};
+ghost use Rattle.turn_lock.specs.Entries.{IsPrefix, StandFrom};
+ghost use Rattle.turn_lock.specs.Views.{IsPassOf};
+
+use std::sync::Wait;
+use turn_lock::{Logged, Pass, Turn};
+
+/// How bearers share what the lock hands out. Whoever may wait, shares it with the bearers of other threads; `Alone` with nobody.
+pub trait Sharing {
+    /// How many parts of the lock a bearer's pass has.
+    ghost parts: { ℕ };
+
+    /// Has the value handed out.
+    fn enter<T: Logged + Drop>(&self, turn: &Turn<T>, p: &mut Pass<T>) -> T
+        requires pass { IsPassOf turn.now p.old }
+        requires outside { p.old.inside ≡ false }
+        requires parts { p.old.parts ≡ parts }
+        ensures origin { T.origin result ≡ T.origin turn.now.first }
+        ensures few { length (T.entries result) < 2 ^ 64 }
+        ensures seen { IsPrefix p.old.seen (T.entries result) }
+        ensures stands { StandFrom 0 (T.entries result) p.old.own }
+        ensures frame { p.new ≡ record p.old { inside = true; seen = T.entries result } };
+}
+
+impl<R: Wait> Sharing for R {
+    ghost parts = { 1 };
+
+    fn enter<T: Logged + Drop>(&self, turn: &Turn<T>, p: &mut Pass<T>) -> T {
+        turn.enter(self, p)
+    }
+}
+
+/// A bearer that has the whole lock, so that it waits for nobody, and needs no handle.
+pub struct Alone;
+
+impl Sharing for Alone {
+    ghost parts = { 1024 };
+
+    fn enter<T: Logged + Drop>(&self, turn: &Turn<T>, p: &mut Pass<T>) -> T {
+        turn.enter_alone(p)
+    }
+}

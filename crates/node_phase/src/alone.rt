@@ -1,0 +1,67 @@
+//! A phase of one bearer, in the thread that calls.
+#![tactic(auto)]
+
+ghost use Rattle.std.specs.Prelude.{◌≡◌, [], ◌∷◌, IfOk};
+ghost use Rattle.locked_node.specs.Node.{origin_of};
+ghost use Rattle.node_bearer.specs.Did.{AreEvents};
+ghost use Rattle.node_phase.specs.Worked.{WasPhase};
+
+use crate::bearers::Done;
+use crate::threads::work_phase;
+use flash_model::Flash;
+use locked_node::Node;
+use machine_contract::Machine;
+use mesh_types::events::Event;
+use node_bearer::{Alone, Bearer, FreeGate};
+use seq_word::{Drawer, Numbers};
+use std::alloc::{AllocError, Global};
+use turn_lock::Turn;
+
+/// Has the one bearer of a phase do all these events; and returns the node behind them, with what is left of the bearer. `number` is that of
+/// its last entry so far.
+///
+/// It is the phase that `run_phase` is for one list of events. It starts no thread and waits for none, so it asks for no handle.
+pub fn run_alone<M: Machine, F: Flash + Send + Drop>(
+    alloc: Global,
+    n: &Numbers,
+    drawer: &mut Drawer,
+    node: Node<M, F>,
+    events: &[Event],
+    number: u32,
+) -> Result<(Node<M, F>, Done), AllocError>
+    requires made { node.machine.which ≡ n.now.which }
+    requires draws { drawer.old.which ≡ n.now.which }
+    requires events { AreEvents node.machine.elements events.now }
+    ensures which { drawer.new.which ≡ drawer.old.which }
+    ensures origin { IfOk result (λ r. origin_of F.chip r.0 ≡ origin_of F.chip node) }
+    ensures was { IfOk result
+        (λ r. WasPhase node r.0 drawer.old drawer.new (events.now ∷ []) (number ∷ []) (r.1 ∷ [])) }
+{
+    // It does nothing when it runs: the proof uses what it says.
+    node.known();
+    let (turn, pass) = Turn::start(alloc, node)?;
+    let mut bearer = Bearer {
+        drawer: n.split(drawer),
+        pass,
+        lines: Vec::new(alloc),
+        number,
+        stop: None,
+    };
+    work_phase(&Alone, n, &turn, &FreeGate, 0, &mut bearer, events);
+    let Bearer {
+        drawer: seat,
+        mut pass,
+        lines,
+        number,
+        stop,
+    } = bearer;
+    n.join(drawer, seat);
+    let node = turn.enter_alone(&mut pass);
+    turn.close(pass);
+    let done = Done {
+        lines,
+        number,
+        stop,
+    };
+    Ok((node, done))
+}
