@@ -16,13 +16,14 @@ use Rattle.event_definitions.specs.Handling.{AreHandled}
 use Rattle.event_definitions.specs.History.{Past, Told}
 use Rattle.event_definitions.specs.Role.{Role}
 use Rattle.run_definitions.specs.Order.{Step, is_cut, is_outside, phases_of}
-use Rattle.run_definitions.specs.RunOf.{IsDrawn, IsNumbered, IsSpentRight, Leaves, LifeOf, Opens, draws, is_on, no_record, of_event, of_refill, opens, past_at_end, plan_events}
+use Rattle.run_definitions.specs.RunOf.{IsDrawn, IsNumbered, IsSpentRight, Leaves, LifeOf, Opens, cut_at_start, draws, is_on, no_record, of_event, of_refill, opens, past_at_end, plan_events, was_reset}
 use Rattle.store_definitions.specs.Config.{config_of}
 use Rattle.machine_contract.specs.declared.answers.Hand.{Hand}
 use Rattle.machine_contract.specs.declared.answers.Hand.TheVariants as H
 use Rattle.machine_contract.specs.Opening.{IsLeft}
 use Rattle.machine_contract.specs.Standing.{IsFrontLeft, IsLeftBy, past_now}
 use Rattle.life_laws.specs.Hands.{IsNextIn, outs}
+use Rattle.life_laws.specs.Living.{CutLife, ResetLife, RunLife}
 use Rattle.life_laws.specs.Phases.{AreOrdered, entries_by}
 
 outs_length : (es : List Entry) → length (outs es) ≡ length (filter (λ e. is_outside e.event) es)
@@ -112,3 +113,13 @@ module _ (role : Role) (plan : List Step) (over next : List StoreRecord) (l : Li
     drawn = nothing_drawn;
     spent = subst (All (λ s. IsSpentRight (config_of next).mark s.outcome)) (sym nothing_shown) (All-nil (λ (s : Shown). IsSpentRight (config_of next).mark s.outcome));
   }
+
+pub run_life : (role : Role) → RunLife role
+run_life role plan over next told l hand runs opened entries handled numbers ordered left cut next_in drawn spent =
+    life_of role plan over next told l hand runs opened entries handled numbers ordered left cut next_in drawn spent
+
+pub reset_life : (role : Role) → ResetLife role
+reset_life role plan over next reset left = idle_life role plan over next _ refl refl refl refl (was_reset reset) left
+
+pub cut_life : (role : Role) → CutLife role
+cut_life role plan over next calls left = idle_life role plan over next _ refl refl refl refl cut_at_start left

@@ -3,3 +3,4 @@ pub mod Phases
 pub mod Stopped
 pub mod Pairs
 pub mod Hands
+pub mod Living

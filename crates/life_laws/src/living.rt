@@ -1,46 +1,23 @@
 //! A life as one of its plan.
 #![tactic(auto)]
 
-ghost use Rattle.std.specs.Prelude.{◌≡◌, ◌⊎◌, ℕ, true, false, List, [], All, map};
-ghost use Rattle.mesh_types.specs.declared.events.Event.{Event};
-ghost use Rattle.mesh_types.specs.declared.report.End.TheVariants as Ends;
-ghost use Rattle.mesh_types.specs.declared.report.Opened.TheVariants as Opens;
-ghost use Rattle.record_types.specs.declared.records.StoreRecord.{StoreRecord};
-ghost use Rattle.report_definitions.specs.Record.{Life, shown};
-ghost use Rattle.event_definitions.specs.Handling.{AreHandled};
-ghost use Rattle.event_definitions.specs.History.{Told};
-ghost use Rattle.run_definitions.specs.Order.{Step, is_cut, is_outside, phases_of};
-ghost use Rattle.run_definitions.specs.RunOf.{IsDrawn, IsNumbered, IsSpentRight, LifeOf};
-ghost use Rattle.store_definitions.specs.Config.{config_of};
-ghost use Rattle.machine_contract.specs.declared.answers.Hand.{Hand};
-ghost use Rattle.machine_contract.specs.declared.answers.Hand.TheVariants as Hands;
-ghost use Rattle.machine_contract.specs.Opening.{IsLeft};
-ghost use Rattle.machine_contract.specs.Standing.{IsLeftBy, past_now};
-ghost use Rattle.life_laws.specs.Hands.{IsNextIn};
-ghost use Rattle.life_laws.specs.Phases.{AreOrdered};
+ghost use Rattle.event_definitions.specs.Layers.{Layers};
+ghost use Rattle.event_definitions.specs.Role.{node_role};
+ghost use Rattle.life_laws.specs.Living.{CutLife, ResetLife, RunLife};
 
 use machine_contract::Machine;
 
-/// When a life is one of its plan that opened over the one list of records and leaves the other.
+/// When a life of a machine's role is one of its plan that opened over the one list of records and leaves the other: one that was run, one
+/// that wasn't since there was a Node Reset, and one that was cut while it opened.
 pub fn life_law<M: Machine>()
-    // a life that was run
-    ensures run { (plan : List Step) (over next : List StoreRecord) (told : List Told) (l : Life)
-        (hand : Hand)
-        → (config_of over).reset ≡ false → l.opened ≡ Opens.On (config_of over).iv (config_of over).mark
-        → map (λ t. t.entry) told ≡ l.entries → AreHandled M.role over [] told → ((k : ℕ) → IsNumbered l k)
-        → AreOrdered (is_cut l.end) (phases_of plan) l.entries l.sends
-        → IsLeftBy M.role (past_now M.role over told l.refills) hand next
-        → ((hand ≡ Hands.Nothing) ⊎ (is_cut l.end ≡ true))
-        → ((event : Event) → hand ≡ Hands.OfEvent event → is_outside event ≡ true
-        → IsNextIn (phases_of plan) l.entries event)
-        → IsDrawn over next l → All (λ s. IsSpentRight (config_of next).mark s.outcome) (shown l)
-        → LifeOf M.role plan over l next }
-    // a life that wasn't run since there was a Node Reset, and one that was cut while it opened
-    ensures reset { (plan : List Step) (over next : List StoreRecord) → (config_of over).reset ≡ true
-        → IsLeft over [] next
-        → LifeOf M.role plan over
-        (record { opened = Opens.WasReset; entries = []; refills = 0; sends = []; end = Ends.Ended }) next }
-    ensures cut { (plan : List Step) (over next : List StoreRecord) (calls : ℕ) → IsLeft over [] next
-        → LifeOf M.role plan over
-        (record { opened = Opens.CutAtStart; entries = []; refills = 0; sends = []; end = Ends.Cut calls }) next }
+    ensures run { RunLife M.role }
+    ensures reset { ResetLife M.role }
+    ensures cut { CutLife M.role }
+{}
+
+/// The same of a node with any layers above the lower transport layer, whatever machine it has.
+pub fn layers_life_law()
+    ensures run { (layers : Layers) → RunLife (node_role layers) }
+    ensures reset { (layers : Layers) → ResetLife (node_role layers) }
+    ensures cut { (layers : Layers) → CutLife (node_role layers) }
 {}

@@ -7,3 +7,5 @@ pub mod Giving
 pub mod Printing
 pub mod Drawn
 pub mod Closing
+pub mod Telling
+pub mod Whole

@@ -5,6 +5,7 @@ use Rattle.flash_model.specs.Chip.{Arm, Chip}
 use Rattle.locked_node.specs.declared.marks.Armed.{Armed}
 use Rattle.std.proofs.lemmas.List.{length-map}
 use Rattle.mesh_types.specs.declared.events.Event.{Event}
+use Rattle.mesh_types.specs.declared.history.Entry.{Entry}
 use Rattle.mesh_types.specs.declared.history.Sent.{Sent}
 use Rattle.seq_word.specs.Seen.{DrawerView}
 use Rattle.locked_node.specs.Node.{NodeView, armed_by, origin_of}
@@ -17,10 +18,11 @@ use Rattle.life_laws.proofs.Ordering.{broken_off, done_more, numbered_more}
 use Rattle.life_laws.proofs.Pairing.{pairs_more}
 use Rattle.life_laws.proofs.Handing.{handled_more, next_by_stops}
 use Rattle.life_laws.proofs.Stopping.{none_stopped, some_stopped}
-use Rattle.mesh_node.specs.Going.{IsGoing, IsOver}
+use Rattle.mesh_node.specs.Going.{AreTold, IsBetween, IsGoing, IsOver}
+use Rattle.mesh_node.specs.declared.going.Seats.{Seats}
 use Rattle.mesh_node.specs.Steps.{IsSameNode}
 
-length_both : {A : Type 0} (xs ys : List (List A)) → length xs ≡ length ys → length (both_of xs ys) ≡ length xs
+pub length_both : {A : Type 0} (xs ys : List (List A)) → length xs ≡ length ys → length (both_of xs ys) ≡ length xs
 length_both [] [] e = refl
 length_both [] (y ∷ ys) e = absurd (omega (arith, e))
 length_both (x ∷ xs) [] e = refl
@@ -31,7 +33,7 @@ module _ {F : Type 0} (phases : List (List (List Event))) (old new : NodeView F)
   at_most : length events ≤ length counts
   at_most = omega (arith, few)
 
-  dones_long : length dones ≡ length counts
+  pub dones_long : length dones ≡ length counts
   dones_long = ap length w.left ∙ length-map w.bearers done_of ∙ w.long ∙ sym (length-map w.before (λ b. b.number)) ∙ ap length w.numbers
 
   pub going_more : AreThrough dones → IsGoing (phases ++ events ∷ []) new e (both_of sends (map lines_of dones)) (map (λ x. x.number) dones)
@@ -79,3 +81,9 @@ pub going_with : {F : Type 0} (phases : List (List (List Event))) (node : NodeVi
     → IsGoing (phases ++ []) (record node { flash = flash }) d sends counts
 going_with phases node flash d sends counts h =
     subst (λ ps. IsGoing ps (record node { flash = flash }) d sends counts) (sym (append-nil phases)) (record { done = h.done; pairs = h.pairs; handled = h.handled; live = h.live; many = h.many })
+
+pub told_with : {F : Type 0} (entries : List Entry) (node : NodeView F) (flash : F) → AreTold entries node → AreTold entries (record node { flash = flash })
+told_with entries node flash h = record { entries_are = h.entries_are; taken = h.taken }
+
+pub between_with : {F : Type 0} (seats : Seats) (node : NodeView F) (flash : F) → IsBetween seats node → IsBetween seats (record node { flash = flash })
+between_with seats node flash h = record { made = h.made; draws = h.draws; few = h.few; live = h.live; taken = h.taken; count = h.count }

@@ -1,13 +1,16 @@
 -- A life as far as it is.
-use Rattle.std.specs.Prelude.{◌≡◌, ℕ, ◌<◌, Bool, true, List, length, map, Some}
+use Rattle.std.specs.Prelude.{◌≡◌, ℕ, ◌<◌, ◌≤◌, Bool, true, List, length, map, Some}
 use Rattle.std.specs.List.{range_with_len}
 use Rattle.mesh_types.specs.declared.events.Event.{Event}
+use Rattle.mesh_types.specs.declared.history.Entry.{Entry}
 use Rattle.mesh_types.specs.declared.history.Sent.{Sent}
 use Rattle.run_definitions.specs.Order.{is_outside}
 use Rattle.seq_word.specs.Seen.{DrawerView}
 use Rattle.locked_node.specs.Node.{NodeView, event_in}
 use Rattle.life_laws.specs.Hands.{AreHandledAll, IsNextIn}
 use Rattle.life_laws.specs.Pairs.{PairsSo}
+use Rattle.node_limits.specs.declared.TheConstants.{BEARERS}
+use Rattle.mesh_node.specs.declared.going.Seats.{Seats}
 use Rattle.life_laws.specs.Phases.{AreDone, AreOrdered, entries_by}
 
 -- These phases are through, and no bearer stopped.
@@ -29,3 +32,17 @@ pub record IsOver {F : Type 0} (phases : List (List (List Event))) (node : NodeV
   pub pairs : PairsSo node.machine.entries sends d
   pub next : 0 < node.stops → (event : Event) → event_in node.machine.hand ≡ Some event → is_outside event ≡ true
       → IsNextIn phases node.machine.entries event
+
+-- All entries of the node were taken, and these are they.
+pub record AreTold {F : Type 0} (entries : List Entry) (node : NodeView F) : Type 0 where
+  pub entries_are : node.machine.entries ≡ entries
+  pub taken : node.machine.taken ≡ length node.machine.entries
+
+-- A node and the seats of its bearers between two phases of a life that isn't over, where all entries were taken.
+pub record IsBetween {F : Type 0} (seats : Seats) (node : NodeView F) : Type 0 where
+  pub made : node.machine.which ≡ seats.numbers.which
+  pub draws : seats.drawer.which ≡ seats.numbers.which
+  pub few : length seats.counts.items ≤ BEARERS
+  pub live : node.stops ≡ 0
+  pub taken : node.machine.taken ≡ length node.machine.entries
+  pub count : seats.entries ≡ length node.machine.entries

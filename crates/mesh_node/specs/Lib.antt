@@ -3,3 +3,5 @@ pub mod Steps
 pub mod Drawn
 pub mod Lives
 pub mod Ran
+pub mod Told
+pub mod Lived

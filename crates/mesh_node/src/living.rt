@@ -14,6 +14,7 @@ ghost use Rattle.life_laws.specs.Plan.{IsStep, behind_arm, steps_of};
 ghost use Rattle.mesh_node.specs.Ran.{Ran};
 ghost use Rattle.mesh_node.specs.Steps.{IsFirstGiven, IsOfPlan, MayFollow};
 
+use crate::going::Seats;
 use crate::steps::{arm_first, do_steps};
 use flash_model::Bench;
 use life_laws::plan::{LifeLog, LifePlan, PlanStep};
@@ -124,30 +125,32 @@ fn run_life<M: Machine, F: Bench, G: Gate, R: Threads + Wait + Sync>(
     let Started {
         machine,
         numbers,
-        mut drawer,
+        drawer,
         state,
         mark,
     } = started;
     let opened = Node::new(alloc, machine, flash, start)?;
-    let (node, sends) = do_steps(
-        rt,
-        alloc,
-        &numbers,
-        &mut drawer,
-        opened,
-        gate,
-        plan.bearers,
-        steps,
-    )?;
+    let mut seats = Seats::new(alloc, numbers, drawer, plan.bearers)?;
+    let (node, told) = do_steps(rt, alloc, gate, opened, &mut seats, plan.bearers, steps)?;
     node.known();
     let (machine, flash) = node.into_parts();
     let end = end_of(machine.is_closed(), flash.changes());
-    let (history, keeper) = machine.finish();
+    // All its entries were taken.
+    let (left, keeper) = machine.finish();
+    let Seats {
+        numbers,
+        drawer,
+        counts: _,
+        entries: _,
+    } = seats;
     let drawn = numbers.close(keeper, drawer);
     let log = LifeLog {
         opened: Opened::On(state, mark),
-        history,
-        sends,
+        history: History {
+            entries: told.entries,
+            refills: left.refills,
+        },
+        sends: told.sends,
         drawn: Some(drawn),
         end,
     };

@@ -70,27 +70,41 @@ pub fn has_stopped(dones: &[Done]) -> Result<bool, AllocError>
     Ok(stopped)
 }
 
-/// Puts the lines of bearers behind those of before, and takes their numbers.
+/// Takes the lines of bearers, and their numbers.
 pub fn take_lines(
-    sends: &mut [Vec<Sent>],
+    alloc: Global,
     counts: &mut [u32],
     dones: Vec<Done>,
-) -> Result<(), AllocError>
-    requires sends { length sends.old ≡ length dones.items }
+) -> Result<Vec<Vec<Sent>>, AllocError>
     requires counts { length counts.old ≡ length dones.items }
-    ensures lines { OnOk result
-        (map (λ x. x.items) sends.new ≡ both_of (map (λ x. x.items) sends.old) (map lines_of dones.items)) }
+    ensures lines { IfOk result (λ r. map (λ v. v.items) r.items ≡ map lines_of dones.items) }
     ensures numbers { OnOk result (counts.new ≡ map (λ x. x.number) dones.items) }
 {
+    let mut sends = Vec::new(alloc);
     let mut k = 0;
     for done in dones {
         let Done {
-            mut lines,
+            lines,
             number,
             stop: _,
         } = done;
-        sends[k].append(&mut lines)?;
+        sends.push(lines)?;
         counts[k] = number;
+        k += 1;
+    }
+    Ok(sends)
+}
+
+/// Puts lines of bearers behind those of before, bearer by bearer.
+pub fn append_lines(sends: &mut [Vec<Sent>], more: Vec<Vec<Sent>>) -> Result<(), AllocError>
+    requires bearers { length sends.old ≡ length more.items }
+    ensures lines { OnOk result
+        (map (λ x. x.items) sends.new ≡ both_of (map (λ x. x.items) sends.old) (map (λ x. x.items) more.items)) }
+{
+    let mut k = 0;
+    for lines in more {
+        let mut lines = lines;
+        sends[k].append(&mut lines)?;
         k += 1;
     }
     Ok(())

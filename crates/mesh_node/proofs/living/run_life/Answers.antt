@@ -47,25 +47,26 @@ returns g c =
     let items = c.args.plan.now.steps.items in
     let plan = steps_of items in
     let did = c.in_ok-node.ensures in
-    let lines = map (λ v. v.items) c.in_ok-node.sends.items in
+    let lines = map (λ v. v.items) c.in_ok-node.told.sends.items in
     let phases = ap (λ xs. phases_of (steps_of xs)) c.requires.behind ∙ behind_phases items in
-    let over = subst (λ ps. IsOver ps node c.do_steps.new.drawer lines) phases did.over in
+    let over = subst (λ ps. IsOver ps node c.do_steps.new.seats.drawer lines) phases did.over in
     let before = (chip c.args.flash).setting.arm in
     let order = order_whole items before (chip node.flash).setting.arm c.requires.order
     (subst (λ xs. IsSameOrOf (steps_of xs) before (chip node.flash).setting.arm) c.requires.behind
     (subst (λ n. IsSameOrOf (steps_of c.args.steps.now) (chip n.flash).setting.arm (chip node.flash).setting.arm) c.in_ok-opened.ensures.value did.arm)) in
-    let log : LifeLog = record { opened = W.On started.state started.mark; history = c.finish-history.result.0; sends = c.in_ok-node.sends; drawn = Some c.close-drawn.result; end = c.end_of-end.result } in
+    let log : LifeLog = record { opened = W.On started.state started.mark; history = record { entries = c.in_ok-node.told.entries; refills = c.finish-left.result.0.refills }; sends = c.in_ok-node.told.sends; drawn = Some c.close-drawn.result; end = c.end_of-end.result } in
     let opened : log.opened ≡ W.On (config_of s.over).iv (config_of s.over).mark = ap (λ v. W.On v started.mark) s.state ∙ ap (W.On (config_of s.over).iv) s.mark in
     let held = subst (λ n. (chip n.flash).setting.arm ≢ None → (chip node.flash).setting.arm ≢ None) c.in_ok-opened.ensures.value did.held in
     let given : node.stops ≡ 0 → HasGiven plan (chip node.flash).setting.arm =
     λ live. given_whole items before (chip node.flash).setting.arm c.requires.first held (subst (λ xs. HasGiven (steps_of xs) (chip node.flash).setting.arm) c.requires.behind (did.given live)) in
     let calls = subst (λ k. IfSome (cut_calls c.end_of-end.result) (λ n. n ≡ k)) (c.changes.ensures ∙ ap (λ f. (chip f).changes) c.into_parts-machine.ensures.flash) c.end_of-end.ensures.calls in
-    let whole = ran g.M.Machine.role g.M.Machine.image chip plan start node c.do_steps.new.drawer log c.one_list_is_recovered.ensures.one_list
+    let whole = ran g.M.Machine.role g.M.Machine.image chip plan start node c.do_steps.new.seats.drawer log c.one_list_is_recovered.ensures.one_list
     s.over s.read s.runs opened c.known.ensures.known (did.frame.start ∙ ap (λ n. n.start) c.in_ok-opened.ensures.value) over
-    (c.finish-history.ensures.entries ∙ ap (λ m. m.entries) machine) (c.finish-history.ensures.refills ∙ ap (λ m. m.fills) machine)
+    (sym did.told.entries_are) (c.finish-left.ensures.refills ∙ ap (λ m. m.fills) machine)
     (c.end_of-end.ensures.cut ∙ c.is_closed.ensures.value ∙ ap (λ m. m.closed) machine)
-    c.close-drawn.result.next c.close-drawn.result.mark started.numbers.opened c.close-drawn.ensures.order.1
-    (c.close-drawn.ensures.mark ∙ c.finish-history.ensures.keeper.1 ∙ ap (λ m. m.mark) machine) s.opened
+    c.close-drawn.result.next c.close-drawn.result.mark c.do_steps.new.seats.numbers.opened c.close-drawn.ensures.order.1
+    (c.close-drawn.ensures.mark ∙ c.finish-left.ensures.keeper.1 ∙ ap (λ m. m.mark) machine)
+    (ap (λ n. n.opened) (c.do_steps.ensures.numbers ∙ c.in_ok-seats.ensures.words.0) ∙ s.opened)
     c.close-drawn.ensures.since c.close-drawn.ensures.below c.close-drawn.ensures.once c.close-drawn.ensures.seen
     c.close-drawn.result refl c.close-drawn.ensures.drawn c.close-drawn.ensures.looks c.close-drawn.ensures.distinct
     c.args.plan.now.bearers c.requires.few did.many ((g.met.F.Bench g.world.𝓛 g.world.𝓜 g.world.𝓡 ((λ s x. x), (λ x. x), (λ x. x), λ x. x)).explained node.flash) given order calls in

@@ -1,21 +1,20 @@
 use Rattle.std.proofs.Common.{◌≡◌, ◌∙◌, ◌++◌, ◌∷◌, [], List, Vec, Global, true, false, true≢false, length, map, ap, sym, subst}
 use Rattle.std.specs.Prelude.{All, IfOk}
-use Rattle.std.proofs.lemmas.Result.{IfOk-weaker}
 use Rattle.mesh_types.specs.declared.events.Event.{Event}
 use Rattle.node_bearer.specs.Did.{AreEvents}
 use Rattle.run_definitions.specs.Order.{phases_of}
-use Rattle.mesh_node.specs.Going.{IsGoing, IsOver}
+use Rattle.mesh_node.specs.Going.{AreTold, IsBetween, IsGoing, IsOver}
 use Rattle.life_laws.specs.Plan.{IsStep, step_of}
 use Rattle.mesh_node.specs.Steps.{IsArmedBy}
-use Rattle.mesh_node.proofs.Stepping.{going_with, other_flash, same_arm, same_node}
+use Rattle.mesh_node.proofs.Stepping.{going_with, other_flash, told_with, between_with}
 use Rattle.mesh_node.proofs.steps.do_step.Goals as goal
 
 pub do_phase-requires-clause-lists : goal.do_phase-requires-clause-lists
-do_phase-requires-clause-lists g c κs lives = ap length c.as_slice.ensures.value ∙ (subst (IsStep (length c.args.counts.now.items) c.args.node.machine.elements) c.in-Phase.is c.requires.step).0
+do_phase-requires-clause-lists g c κs lives = ap length c.as_slice.ensures.value ∙ (subst (IsStep (length c.args.seats.now.counts.items) c.args.node.machine.elements) c.in-Phase.is c.requires.step).0
 
 pub do_phase-requires-clause-events : goal.do_phase-requires-clause-events
 do_phase-requires-clause-events g c κs lives =
-    subst (All (λ v. AreEvents c.args.node.machine.elements v.items)) (sym c.as_slice.ensures.value) (subst (IsStep (length c.args.counts.now.items) c.args.node.machine.elements) c.in-Phase.is c.requires.step).1
+    subst (All (λ v. AreEvents c.args.node.machine.elements v.items)) (sym c.as_slice.ensures.value) (subst (IsStep (length c.args.seats.now.counts.items) c.args.node.machine.elements) c.in-Phase.is c.requires.step).1
 
 pub returns-in-Arm-clause-arm : goal.returns-in-Arm-clause-arm
 returns-in-Arm-clause-arm g c = subst (λ s. IsArmedBy s (g.F.Flash.chip c.args.node.flash) (g.F.Flash.chip c.arm.new.self.flash)) (sym c.in-Arm.is) c.arm.ensures.arm
@@ -26,9 +25,9 @@ returns-in-Arm-clause-frame g c = other_flash c.args.node c.arm.new.self c.arm.n
 pub returns-in-Arm-clause-going : goal.returns-in-Arm-clause-going
 returns-in-Arm-clause-going g c = λ phases h off.
     let node = c.args.node in
-    let d = c.args.drawer.now in
-    let sends = map (λ v. v.items) c.args.sends.now.items in
-    let counts = c.args.counts.now.items in
+    let d = c.args.seats.now.drawer in
+    let sends = map (λ v. v.items) c.args.log.now.sends.items in
+    let counts = c.args.seats.now.counts.items in
     subst (λ s. IsGoing (phases ++ phases_of (step_of s ∷ [])) c.arm.new.self d sends counts) (sym c.in-Arm.is)
     (subst (λ v. IsGoing (phases ++ []) v d sends counts) (sym c.arm.ensures.frame) (going_with phases node c.arm.new.self.flash d sends counts h))
 
@@ -36,29 +35,37 @@ pub returns-in-Arm-clause-over : goal.returns-in-Arm-clause-over
 returns-in-Arm-clause-over g c = λ phases rest h on. absurd (true≢false (sym on))
 
 pub returns-in-Phase-clause-frame : goal.returns-in-Phase-clause-frame
-returns-in-Phase-clause-frame g c = IfOk-weaker c.do_phase.result _ _ (λ r h. same_node g.F.Flash.chip c.args.node r.0 h) c.do_phase.ensures.origin
+returns-in-Phase-clause-frame g c = c.do_phase.ensures.frame
 
 pub returns-in-Phase-clause-arm : goal.returns-in-Phase-clause-arm
 returns-in-Phase-clause-arm g c =
     subst (λ s. IfOk c.do_phase.result (λ r. IsArmedBy s (g.F.Flash.chip c.args.node.flash) (g.F.Flash.chip r.0.flash))) (sym c.in-Phase.is)
-    (IfOk-weaker c.do_phase.result _ _ (λ r h. same_arm g.F.Flash.chip c.args.node r.0 h) c.do_phase.ensures.origin)
+    c.do_phase.ensures.arm
 
 pub returns-in-Phase-clause-going : goal.returns-in-Phase-clause-going
 returns-in-Phase-clause-going g c = λ phases h.
-    let d = c.do_phase.new.drawer in
-    let sends = map (λ v. v.items) c.do_phase.new.sends.items in
-    let counts = c.do_phase.new.counts.items in
+    let d = c.do_phase.new.seats.drawer in
+    let sends = map (λ v. v.items) c.do_phase.new.log.sends.items in
+    let counts = c.do_phase.new.seats.counts.items in
     subst (λ s. IfOk c.do_phase.result (λ r. r.1 ≡ false → IsGoing (phases ++ phases_of (step_of s ∷ [])) r.0 d sends counts)) (sym c.in-Phase.is)
     (subst (λ (ls : List (Vec Event Global)). IfOk c.do_phase.result (λ r. r.1 ≡ false → IsGoing (phases ++ map (λ v. v.items) ls ∷ []) r.0 d sends counts)) c.as_slice.ensures.value
     (c.do_phase.ensures.going phases h))
 
 pub returns-in-Phase-clause-over : goal.returns-in-Phase-clause-over
 returns-in-Phase-clause-over g c = λ phases rest h.
-    let d = c.do_phase.new.drawer in
-    let sends = map (λ v. v.items) c.do_phase.new.sends.items in
+    let d = c.do_phase.new.seats.drawer in
+    let sends = map (λ v. v.items) c.do_phase.new.log.sends.items in
     subst (λ s. IfOk c.do_phase.result (λ r. r.1 ≡ true → IsOver (phases ++ (phases_of (step_of s ∷ []) ++ rest)) r.0 d sends)) (sym c.in-Phase.is)
     (subst (λ (ls : List (Vec Event Global)). IfOk c.do_phase.result (λ r. r.1 ≡ true → IsOver (phases ++ map (λ v. v.items) ls ∷ rest) r.0 d sends)) c.as_slice.ensures.value
     (c.do_phase.ensures.over phases rest h))
 
 pub returns-in-Arm-clause-stopped : goal.returns-in-Arm-clause-stopped
-returns-in-Arm-clause-stopped g c = λ live on. absurd (true≢false (sym on))
+returns-in-Arm-clause-stopped g c = λ on. absurd (true≢false (sym on))
+
+pub returns-in-Arm-clause-told : goal.returns-in-Arm-clause-told
+returns-in-Arm-clause-told g c = λ told.
+    subst (AreTold c.args.log.now.entries.items) (sym c.arm.ensures.frame) (told_with c.args.log.now.entries.items c.args.node c.arm.new.self.flash told)
+
+pub returns-in-Arm-clause-between : goal.returns-in-Arm-clause-between
+returns-in-Arm-clause-between g c = λ off.
+    subst (IsBetween c.args.seats.now) (sym c.arm.ensures.frame) (between_with c.args.seats.now c.args.node c.arm.new.self.flash c.requires.between)

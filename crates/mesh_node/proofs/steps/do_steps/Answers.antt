@@ -13,16 +13,19 @@ use Rattle.mesh_node.proofs.steps.do_steps.Goals as goal
 pub loop-step-init : goal.loop-step-init
 loop-step-init g c =
     let node = c.args.node in
-    let sends = c.in_ok-sends.sends.items in
-    let counts = c.in_ok-counts.counts.items in
-    let no_sends = c.in_ok-sends.ensures.ok in
-    let no_counts = c.in_ok-counts.ensures.ok in
+    let sends = c.in_ok-log.log.sends.items in
+    let counts = c.args.seats.now.counts.items in
+    let no_sends = c.in_ok-log.ensures.sends in
+    let no_counts = c.requires.counts in
     record {
+      between = c.requires.between;
       which = refl;
+      numbers = refl;
       same = record { start = refl; which = refl; elements = refl };
       counts = ap length no_counts ∙ length-replicate c.args.bearers 0;
       sends = sym (length-map sends (λ v. v.items)) ∙ ap length no_sends ∙ length-replicate c.args.bearers [];
-      going = going_first node c.args.drawer.now c.args.bearers (map (λ v. v.items) sends) counts c.requires.begins.0 c.requires.begins.1 c.requires.drawn no_sends no_counts;
+      going = going_first node c.args.seats.now.drawer c.args.bearers (map (λ v. v.items) sends) counts c.requires.begins c.requires.between.live c.requires.drawn no_sends no_counts;
+      told = record { entries_are = c.requires.begins ∙ sym c.in_ok-log.ensures.entries; taken = c.requires.between.taken };
       order = inl refl;
       held = λ some. some;
       given = given_none (g.F.Flash.chip node.flash).setting.arm;
@@ -60,12 +63,15 @@ loop-step-preserved g c =
     let first = (g.F.Flash.chip c.args.node.flash).setting.arm in
     let did = c.in_ok-next.ensures in
     record {
+      between = did.between c.if-closed.false;
       which = c.do_step.ensures.which ∙ inv.which;
+      numbers = c.do_step.ensures.numbers ∙ inv.numbers;
       same = same_more c.args.node l.node next inv.same did.frame;
       counts = did.many.0 ∙ inv.counts;
       sends = did.many.1 ∙ inv.sends;
-      going = subst (λ ps. IsGoing ps next c.do_step.new.drawer (map (λ v. v.items) c.do_step.new.sends.items) c.do_step.new.counts.items) (sym (phases_taken steps i x lt is))
-          (did.going (phases_of (steps_of (take i steps))) inv.going c.if-stopped.false);
+      going = subst (λ ps. IsGoing ps next c.do_step.new.seats.drawer (map (λ v. v.items) c.do_step.new.log.sends.items) c.do_step.new.seats.counts.items) (sym (phases_taken steps i x lt is))
+          (did.going (phases_of (steps_of (take i steps))) inv.going c.if-closed.false);
+      told = did.told inv.told;
       order = order_more (steps_of steps) x first old new (among_steps steps i x lt is) inv.order did.arm;
       held = λ some. held_more x old new did.arm (inv.held some);
       given = subst (λ ss. HasGiven (steps_of ss) new.setting.arm) (sym (taken steps i x lt is)) (given_more (take i steps) x old new did.arm inv.given);
@@ -76,9 +82,9 @@ pub returns-clause-over : goal.returns-clause-over
 returns-clause-over g c =
     let l = c.loop-step in
     let steps = c.args.steps.now in
-    let sends = map (λ v. v.items) l.sends.items in
-    let done = over_whole (phases_of (steps_of (take l.step-index steps))) l.node l.drawer sends l.counts.items l.invariant.going in
-    subst (λ ss. IsOver (phases_of (steps_of ss)) l.node l.drawer sends) (take_all l.step-index steps (omega arith)) done
+    let sends = map (λ v. v.items) l.log.sends.items in
+    let done = over_whole (phases_of (steps_of (take l.step-index steps))) l.node l.seats.drawer sends l.seats.counts.items l.invariant.going in
+    subst (λ ss. IsOver (phases_of (steps_of ss)) l.node l.seats.drawer sends) (take_all l.step-index steps (omega arith)) done
 
 pub returns-clause-given : goal.returns-clause-given
 returns-clause-given g c = λ live.
@@ -95,17 +101,17 @@ returns-clause-arm g c = c.loop-step.invariant.order
 pub returns-clause-frame : goal.returns-clause-frame
 returns-clause-frame g c = c.loop-step.invariant.same
 
-pub returns-then-stopped-clause-held : goal.returns-then-stopped-clause-held
-returns-then-stopped-clause-held g c = λ some.
+pub returns-then-closed-clause-held : goal.returns-then-closed-clause-held
+returns-then-closed-clause-held g c = λ some.
     held_more c.step-item.result (g.F.Flash.chip c.loop-step.node.flash) (g.F.Flash.chip c.in_ok-next.next.flash) c.in_ok-next.ensures.arm (c.loop-step.invariant.held some)
 
-pub returns-then-stopped-clause-given : goal.returns-then-stopped-clause-given
-returns-then-stopped-clause-given g c = λ live.
-    let some = c.in_ok-next.ensures.stopped c.loop-step.invariant.going.live c.if-stopped.true in
+pub returns-then-closed-clause-given : goal.returns-then-closed-clause-given
+returns-then-closed-clause-given g c = λ live.
+    let some = c.in_ok-next.ensures.stopped c.if-closed.true in
     absurd (omega (arith, some, live))
 
-pub returns-then-stopped-clause-arm : goal.returns-then-stopped-clause-arm
-returns-then-stopped-clause-arm g c =
+pub returns-then-closed-clause-arm : goal.returns-then-closed-clause-arm
+returns-then-closed-clause-arm g c =
     let l = c.loop-step in
     let steps = c.args.steps.now in
     let x = c.step-item.result in
@@ -114,12 +120,18 @@ returns-then-stopped-clause-arm g c =
     let first = (g.F.Flash.chip c.args.node.flash).setting.arm in
     order_more (steps_of steps) x first old new (among_steps steps l.step-index x c.loop-step-test.true c.step-item.is) l.invariant.order c.in_ok-next.ensures.arm
 
-pub returns-then-stopped-clause-over : goal.returns-then-stopped-clause-over
-returns-then-stopped-clause-over g c =
+pub returns-clause-told : goal.returns-clause-told
+returns-clause-told g c = c.loop-step.invariant.told
+
+pub returns-then-closed-clause-told : goal.returns-then-closed-clause-told
+returns-then-closed-clause-told g c = c.in_ok-next.ensures.told c.loop-step.invariant.told
+
+pub returns-then-closed-clause-over : goal.returns-then-closed-clause-over
+returns-then-closed-clause-over g c =
     let l = c.loop-step in
     let steps = c.args.steps.now in
     let i = l.step-index in
     let x = c.step-item.result in
-    let sends = map (λ v. v.items) c.do_step.new.sends.items in
-    subst (λ ps. IsOver ps c.in_ok-next.next c.do_step.new.drawer sends) (phases_around steps i x c.loop-step-test.true c.step-item.is)
-    (c.in_ok-next.ensures.over (phases_of (steps_of (take i steps))) (phases_of (steps_of (drop (i + 1) steps))) l.invariant.going c.if-stopped.true)
+    let sends = map (λ v. v.items) c.do_step.new.log.sends.items in
+    subst (λ ps. IsOver ps c.in_ok-next.next c.do_step.new.seats.drawer sends) (phases_around steps i x c.loop-step-test.true c.step-item.is)
+    (c.in_ok-next.ensures.over (phases_of (steps_of (take i steps))) (phases_of (steps_of (drop (i + 1) steps))) l.invariant.going c.if-closed.true)

@@ -1,18 +1,21 @@
 -- The steps so far.
 use Rattle.std.proofs.Common.{◌≡◌, ◌≢◌, None, length, map, take, drop}
 use Rattle.run_definitions.specs.Order.{phases_of}
-use Rattle.mesh_node.specs.Going.{IsGoing}
+use Rattle.mesh_node.specs.Going.{AreTold, IsBetween, IsGoing}
 use Rattle.life_laws.specs.Plan.{steps_of}
 use Rattle.mesh_node.specs.Steps.{HasGiven, IsSameNode, IsSameOrOf, MayFollow}
 use Rattle.mesh_node.proofs.steps.do_steps.Given as goal
 
 abbrev pub invariant-loop-step : goal.invariant-loop-step
 invariant-loop-step g l = record {
-  which : l.drawer.which ≡ l.initial.drawer.which;
+  between : IsBetween l.seats l.node;
+  which : l.seats.drawer.which ≡ l.initial.seats.drawer.which;
+  numbers : l.seats.numbers ≡ l.initial.seats.numbers;
   same : IsSameNode l.fn.node l.node;
-  counts : length l.counts.items ≡ l.bearers;
-  sends : length l.sends.items ≡ l.bearers;
-  going : IsGoing (phases_of (steps_of (take l.step-index l.steps))) l.node l.drawer (map (λ v. v.items) l.sends.items) l.counts.items;
+  counts : length l.seats.counts.items ≡ l.bearers;
+  sends : length l.log.sends.items ≡ l.bearers;
+  going : IsGoing (phases_of (steps_of (take l.step-index l.steps))) l.node l.seats.drawer (map (λ v. v.items) l.log.sends.items) l.seats.counts.items;
+  told : AreTold l.log.entries.items l.node;
   order : IsSameOrOf (steps_of l.steps) (g.F.Flash.chip l.fn.node.flash).setting.arm (g.F.Flash.chip l.node.flash).setting.arm;
   held : (g.F.Flash.chip l.fn.node.flash).setting.arm ≢ None → (g.F.Flash.chip l.node.flash).setting.arm ≢ None;
   given : HasGiven (steps_of (take l.step-index l.steps)) (g.F.Flash.chip l.node.flash).setting.arm;

@@ -1,0 +1,195 @@
+-- One phase more of a life that goes on.
+use Rattle.std.proofs.Common.{◌≡◌, ◌∙◌, ℕ, ◌+◌, ◌<◌, ◌≤◌, Bool, true, false, List, [], ◌∷◌, ◌++◌, length, map, drop, refl, sym, ap, subst, append-nil, length-append, arith}
+use Rattle.std.specs.Prelude.{◌^◌, All, replicate}
+use Rattle.std.proofs.lemmas.List.Elements.{All-cons, All-head, All-nil, All-tail}
+use Rattle.std.proofs.lemmas.Grind.{flat_map-append}
+use Rattle.flash_model.specs.Chip.{Chip}
+use Rattle.event_definitions.specs.Role.{Role}
+use Rattle.locked_node.specs.Stands.{IsNode}
+use Rattle.mesh_types.specs.declared.events.Event.{Event}
+use Rattle.mesh_types.specs.declared.history.Entry.{Entry}
+use Rattle.mesh_types.specs.declared.history.Sent.{Sent}
+use Rattle.run_definitions.specs.Order.{phase, phases_of}
+use Rattle.seq_word.specs.Seen.{DrawerView}
+use Rattle.locked_node.specs.Node.{NodeView}
+use Rattle.life_laws.specs.Phases.{both_of}
+use Rattle.life_laws.proofs.Placing.{CameTo}
+use Rattle.mesh_node.specs.Going.{AreTold, IsGoing, IsOver}
+use Rattle.mesh_node.specs.Lived.{GoesOn, WentOn}
+use Rattle.mesh_node.specs.Told.{ArePlaced, BySteps, PhaseDid, SinkSteps, SourceSteps, entries_told, more_sends, sends_told}
+use Rattle.mesh_node.specs.Lives.{IsShort}
+use Rattle.mesh_node.specs.declared.told.LastStep.TheVariants as L
+use Rattle.mesh_node.proofs.Printing.{sends_short}
+use Rattle.mesh_node.proofs.Stepping.{length_both}
+use Rattle.seq_word.specs.declared.looks.Look.{Look}
+use Rattle.life_laws.specs.Pairs.{AreShownBy}
+use Rattle.mesh_node.proofs.Following.{going_first, over_whole}
+
+pub steps_more : {S A : Type 0} (step : S → A → S → Type 0) (old : S) (xs : List A) (mid : S) (x : A) (new : S) → BySteps step old xs mid → step mid x new → BySteps step old (xs ++ x ∷ []) new
+steps_more step old [] mid x new h s = (new, subst (λ m. step m x new) h s, refl)
+steps_more step old (y ∷ xs) mid x new h s = (h.0, h.1, steps_more step h.0 xs mid x new h.2 s)
+
+pub sends_more : (sends : List (List Sent)) (did : List PhaseDid) (d : PhaseDid) → more_sends sends (did ++ d ∷ []) ≡ both_of (more_sends sends did) d.sends
+sends_more sends [] d = refl
+sends_more sends (x ∷ did) d = sends_more (both_of sends x.sends) did d
+
+pub entries_more : (did : List PhaseDid) (d : PhaseDid) → entries_told (did ++ d ∷ []) ≡ entries_told did ++ d.entries
+entries_more did d = flat_map-append (λ (x : PhaseDid). x.entries) did (d ∷ []) ∙ ap (λ l. entries_told did ++ l) (append-nil d.entries)
+
+pub phases_are : (phases : List (List (List Event))) → phases_of (map phase phases) ≡ phases
+phases_are [] = refl
+phases_are (p ∷ ps) = ap (λ l. p ∷ l) (phases_are ps)
+
+drop_front : {A : Type 0} (xs ys : List A) → drop (length xs) (xs ++ ys) ≡ ys
+drop_front [] ys = refl
+drop_front (x ∷ xs) ys = drop_front xs ys
+
+-- all entries were taken of it
+abbrev pub taken_of : {F : Type 0} → NodeView F → NodeView F
+taken_of n = record n { machine = record n.machine { taken = length n.machine.entries } }
+
+pub going_taken : {F : Type 0} (phases : List (List (List Event))) (n : NodeView F) (d : DrawerView) (sends : List (List Sent)) (counts : List ℕ) → IsGoing phases n d sends counts → IsGoing phases (taken_of n) d sends counts
+going_taken phases n d sends counts h = record { done = h.done; pairs = h.pairs; handled = h.handled; live = h.live; many = h.many }
+
+pub over_taken : {F : Type 0} (phases : List (List (List Event))) (n : NodeView F) (d : DrawerView) (sends : List (List Sent)) → IsOver phases n d sends → IsOver phases (taken_of n) d sends
+over_taken phases n d sends h = record { ordered = h.ordered; numbers = h.numbers; pairs = h.pairs; next = h.next }
+
+-- what was taken of it are the entries that came to those of before
+pub told_more : {F : Type 0} (entries : List Entry) (old new : NodeView F) → AreTold entries old → CameTo old new → new.machine.taken ≡ old.machine.taken
+    → AreTold (entries ++ drop new.machine.taken new.machine.entries) (taken_of new)
+told_more entries old new h came same =
+    let more : drop new.machine.taken new.machine.entries ≡ came.more =
+    ap (λ n. drop n new.machine.entries) (same ∙ h.taken) ∙ ap (drop (length old.machine.entries)) came.is ∙ drop_front old.machine.entries came.more in
+    record { entries_are = came.is ∙ ap (λ l. l ++ came.more) h.entries_are ∙ ap (λ l. entries ++ l) (sym more); taken = refl }
+
+-- the flash failed exactly where a bearer stopped
+pub closed_by : {F : Type 0} {role : Role} {image : List ℕ → Type 0} {chip : F → Chip} (n : NodeView F) (known : IsNode role image chip n) (closed : Bool) → (closed ≡ false → n.stops ≡ 0) → (closed ≡ true → 0 < n.stops) → closed ≡ n.machine.closed
+closed_by n known closed none some = by_both closed n.machine.closed refl refl where
+  by_both : (a b : Bool) → closed ≡ a → n.machine.closed ≡ b → closed ≡ n.machine.closed
+  by_both true true a b = a ∙ sym b
+  by_both false false a b = a ∙ sym b
+  by_both true false a b = absurd (omega (arith, some a, known.live b))
+  by_both false true a b = absurd (omega (arith, none a, known.stopped b))
+
+-- phases with their places, and one more
+pub placed_more : (n : ℕ) (did : List PhaseDid) (d : PhaseDid) → ArePlaced n did → d.first ≡ n + length (entries_told did) → ArePlaced n (did ++ d ∷ [])
+placed_more n [] d h at = (at ∙ omega arith, tt)
+placed_more n (x ∷ did) d h at =
+    (h.0, placed_more (n + length x.entries) did d h.1 (at ∙ (let long : length (x.entries ++ entries_told did) ≡ length x.entries + length (entries_told did) = length-append x.entries (entries_told did) in omega (arith, long))))
+
+all_behind : {A : Type 0} (P : A → Type 0) (xs ys : List A) → All P (xs ++ ys) → All P ys
+all_behind P [] ys h = h
+all_behind P (x ∷ xs) ys h = all_behind P xs ys (All-tail P x (xs ++ ys) h)
+
+-- the lines of one phase among those of each bearer
+both_short : (xs ys : List (List Sent)) → All (All IsShort) (both_of xs ys) → length ys ≤ length xs → All (All IsShort) ys
+both_short [] ys h few = h
+both_short (x ∷ xs) [] h few = All-nil (All IsShort)
+both_short (x ∷ xs) (y ∷ ys) h few =
+    All-cons (All IsShort) y ys (all_behind IsShort x y (All-head (All IsShort) (x ++ y) (both_of xs ys) h)) (both_short xs ys (All-tail (All IsShort) (x ++ y) (both_of xs ys) h) (omega (arith, few)))
+
+pub phase_short : (es : List Entry) (sends lines : List (List Sent)) (drawns : List (List ℕ)) (looks : List Look) → length es < 2 ^ 32 → AreShownBy es (both_of sends lines) drawns looks → length lines ≤ length sends → All (All IsShort) lines
+phase_short es sends lines drawns looks few h long = both_short sends lines (sends_short es (both_of sends lines) drawns looks few h) long
+
+module _ {F S T : Type 0} (source : SourceSteps S) (sink : SinkSteps T) (from to : S) (began now : T) (bearers : ℕ) (node : NodeView F) (d : DrawerView) (counts : List ℕ) (long : length counts ≡ bearers) where
+  -- where the source gave no phase more
+  module _ (h : GoesOn source sink from to began now bearers node d counts) (usable : node.machine.closed ≡ false) (after : S) where
+    over_here : IsOver h.phases node d (sends_told bearers h.did)
+    over_here = over_whole h.phases node d (sends_told bearers h.did) counts h.going
+
+    pub went_ended : source.ends to after → WentOn source sink from after began now bearers node d L.Ended node.machine.closed
+    went_ended end = record {
+      phases = h.phases;
+      did = h.did;
+      gave = (to, h.gave, end);
+      took = h.took;
+      over = over_here;
+      told = h.told;
+      placed = h.placed;
+      many = h.going.many ∙ long;
+      end = usable;
+    }
+
+    pub went_unread : source.fails to after → WentOn source sink from after began now bearers node d L.Unread node.machine.closed
+    went_unread end = record {
+      phases = h.phases;
+      did = h.did;
+      gave = (to, h.gave, end);
+      took = h.took;
+      over = over_here;
+      told = h.told;
+      placed = h.placed;
+      many = h.going.many ∙ long;
+      end = usable;
+    }
+
+  -- behind one phase more
+  module _ (h : GoesOn source sink from to began now bearers node d counts) (events : List (List Event)) (did : PhaseDid) (next : NodeView F) (e : DrawerView) (later : List ℕ) (closed : Bool) (after : S) (then : T)
+      (gave : source.gives to events after) (first : did.first ≡ length node.machine.entries) (size : length did.sends ≡ length counts) (told : AreTold (entries_told h.did ++ did.entries) next)
+      (going : closed ≡ false → IsGoing (h.phases ++ events ∷ []) next e (both_of (sends_told bearers h.did) did.sends) later)
+      (over : closed ≡ true → IsOver (h.phases ++ events ∷ []) next e (both_of (sends_told bearers h.did) did.sends)) (is : closed ≡ next.machine.closed) where
+    sends_are : both_of (sends_told bearers h.did) did.sends ≡ sends_told bearers (h.did ++ did ∷ [])
+    sends_are = sym (sends_more (replicate bearers []) h.did did)
+
+    told_all : AreTold (entries_told (h.did ++ did ∷ [])) next
+    told_all = subst (λ es. AreTold es next) (sym (entries_more h.did did)) told
+
+    placed_all : ArePlaced 0 (h.did ++ did ∷ [])
+    placed_all = placed_more 0 h.did did h.placed (first ∙ ap length h.told.entries_are ∙ omega arith)
+
+    many_all : length (sends_told bearers (h.did ++ did ∷ [])) ≡ bearers
+    many_all = ap length (sym sends_are) ∙ length_both (sends_told bearers h.did) did.sends (h.going.many ∙ sym size) ∙ h.going.many ∙ long
+
+    pub goes_more : closed ≡ false → sink.takes now did then → GoesOn source sink from after began then bearers next e later
+    goes_more off took = record {
+      phases = h.phases ++ events ∷ [];
+      did = h.did ++ did ∷ [];
+      gave = steps_more source.gives from h.phases to events after h.gave gave;
+      took = steps_more sink.takes began h.did now did then h.took took;
+      going = subst (λ ss. IsGoing (h.phases ++ events ∷ []) next e ss later) sends_are (going off);
+      told = told_all;
+      placed = placed_all;
+    }
+
+    over_all : (b : Bool) → closed ≡ b → IsOver (h.phases ++ events ∷ []) next e (sends_told bearers (h.did ++ did ∷ []))
+    over_all true on = subst (IsOver (h.phases ++ events ∷ []) next e) sends_are (over on)
+    over_all false off = subst (IsOver (h.phases ++ events ∷ []) next e) sends_are (over_whole (h.phases ++ events ∷ []) next e (both_of (sends_told bearers h.did) did.sends) later (going off))
+
+    pub went_cut : closed ≡ true → sink.takes now did then → WentOn source sink from after began then bearers next e L.Cut next.machine.closed
+    went_cut on took = record {
+      phases = h.phases ++ events ∷ [];
+      did = h.did ++ did ∷ [];
+      gave = steps_more source.gives from h.phases to events after h.gave gave;
+      took = steps_more sink.takes began h.did now did then h.took took;
+      over = over_all true on;
+      told = told_all;
+      placed = placed_all;
+      many = many_all;
+      end = sym is ∙ on;
+    }
+
+    pub went_untold : sink.fails now did then → WentOn source sink from after began then bearers next e L.Untold next.machine.closed
+    went_untold failed = record {
+      phases = h.phases ++ events ∷ [];
+      did = h.did ++ did ∷ [];
+      gave = steps_more source.gives from h.phases to events after h.gave gave;
+      took = record { before = h.did; last = did; is = refl; mid = now; took = h.took; failed = failed };
+      over = over_all closed refl;
+      told = told_all;
+      placed = placed_all;
+      many = many_all;
+      end = tt;
+    }
+
+-- before the first phase
+pub first_goes : {F S T : Type 0} (source : SourceSteps S) (sink : SinkSteps T) (from : S) (began : T) (bearers : ℕ) (node : NodeView F) (d : DrawerView) (counts : List ℕ)
+    → node.machine.entries ≡ [] → node.machine.taken ≡ length node.machine.entries → node.stops ≡ 0 → d.drawn ≡ [] → counts ≡ replicate bearers 0 → GoesOn source sink from from began began bearers node d counts
+first_goes source sink from began bearers node d counts none taken live drawn zeros = record {
+  phases = [];
+  did = [];
+  gave = refl;
+  took = refl;
+  going = going_first node d bearers (replicate bearers []) counts none live drawn refl zeros;
+  told = record { entries_are = none; taken = taken };
+  placed = tt;
+}

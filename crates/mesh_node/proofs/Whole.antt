@@ -1,0 +1,81 @@
+-- A life that went on is one of the phases that came, with what was told of them.
+use Rattle.std.proofs.Common.{◌≡◌, ◌≢◌, ◌∙◌, ℕ, ◌<◌, ◌≤◌, Bool, true, false, List, [], length, map, refl, sym, ap, subst, arith}
+use Rattle.std.specs.Prelude.{◌^◌, All, AllPairs}
+use Rattle.flash_model.specs.Chip.{Chip}
+use Rattle.mesh_types.specs.declared.events.Event.{Event}
+use Rattle.mesh_types.specs.declared.history.Entry.{Entry}
+use Rattle.mesh_types.specs.declared.report.End.{End}
+use Rattle.machine_contract.specs.Opening.{EachRecovered}
+use Rattle.record_types.specs.declared.records.StoreRecord.{StoreRecord}
+use Rattle.report_definitions.specs.Record.{Life}
+use Rattle.event_definitions.specs.Role.{Role}
+use Rattle.run_definitions.specs.Order.{Step, is_cut, phase, phases_of}
+use Rattle.run_definitions.specs.RunOf.{LifeOf}
+use Rattle.seq_word.specs.Rule.{IsWithin, times}
+use Rattle.seq_word.specs.Seen.{ClosedView, DrawerView}
+use Rattle.store_definitions.specs.Config.{config_of}
+use Rattle.store_definitions.specs.Recovered.{IsRecovered}
+use Rattle.locked_node.specs.Node.{NodeView}
+use Rattle.locked_node.specs.Stands.{IsLater, IsNode}
+use Rattle.life_laws.specs.Pairs.{PairsSo}
+use Rattle.mesh_node.specs.Going.{IsOver}
+use Rattle.mesh_node.specs.Lived.{IsLifeTold, LivedOn, WentOn, life_told}
+use Rattle.mesh_node.specs.Told.{SinkSteps, SourceSteps, entries_told, sends_told}
+use Rattle.mesh_node.specs.declared.told.LastStep.{LastStep}
+use Rattle.mesh_node.proofs.Drawn.{spent_of, words_of}
+use Rattle.mesh_node.proofs.Ending.{each_life}
+use Rattle.mesh_node.proofs.Printing.{sends_short}
+use Rattle.mesh_node.proofs.Telling.{phases_are}
+
+module _ {F S T : Type 0} (role : Role) (image : List ℕ → Type 0) (chip : F → Chip) (source : SourceSteps S) (sink : SinkSteps T) (from to : S) (began now : T) (bearers : ℕ) (few : bearers ≤ 8)
+    (start : F) (node : NodeView F) (d : DrawerView) (last : LastStep) (went : WentOn source sink from to began now bearers node d last node.machine.closed)
+    (one : (content : List ℕ) (rs ss : List StoreRecord) → IsRecovered content rs → IsRecovered content ss → rs ≡ ss)
+    (begun : List StoreRecord) (read : IsRecovered (chip start).now begun) (runs : (config_of begun).reset ≡ false)
+    (h : IsNode role image chip node) (is_start : node.start ≡ start) (closed : ClosedView) (first : ℕ) (order : closed.next ≤ closed.mark) (marks : closed.mark ≡ node.machine.mark) (firsts : first ≡ (config_of begun).mark)
+    (since : All (λ x. first ≤ x) d.drawn) (below : All (λ x. x < closed.next) d.drawn) (once : (x : ℕ) → times x d.drawn ≤ 1) (seen : All (IsWithin closed.next closed.mark) d.looks)
+    (words : closed.drawn ≡ d.drawn) (looked : closed.looks ≡ d.looks) (apart : AllPairs (λ x y. x ≢ y) d.drawn) where
+  begun_is : begun ≡ h.over
+  begun_is = one (chip start).now begun h.over read (subst (λ s. IsRecovered (chip s).now h.over) is_start h.read)
+
+  plan : List Step
+  plan = map phase went.phases
+
+  over : IsOver (phases_of (map phase went.phases)) node d (sends_told bearers went.did)
+  over = subst (λ ps. IsOver ps node d (sends_told bearers went.did)) (sym (phases_are went.phases)) went.over
+
+  one_life : (end : End) → is_cut end ≡ node.machine.closed → IsLifeTold role went.phases h.over (life_told h.over bearers node.machine.fills went.did end) (chip node.flash) closed
+  one_life end cut =
+      let l = life_told h.over bearers node.machine.fills went.did end in
+      let entries : l.entries ≡ node.machine.entries = sym went.told.entries_are in
+      let pairs : PairsSo l.entries l.sends d = subst (λ es. PairsSo es (sends_told bearers went.did) d) (sym entries) went.over.pairs in
+      record {
+        life = each_life role image chip (map phase went.phases) node d (sends_told bearers went.did) l h over entries refl refl cut
+            (subst (λ o. (config_of o).reset ≡ false) begun_is runs) refl closed.next closed.mark order marks
+            (subst (λ o. All (λ x. (config_of o).mark ≤ x) d.drawn) begun_is (subst (λ m. All (λ x. m ≤ x) d.drawn) firsts since)) below once seen;
+        printable = record {
+          entries = subst (λ (es : List Entry). length es < 2 ^ 32) (sym entries) h.life.few;
+          bearers = omega (arith, went.many, few);
+          lines = sends_short node.machine.entries (sends_told bearers went.did) went.over.pairs.drawns d.looks h.life.few went.over.pairs.shown;
+        };
+        drawn = record {
+          ran = refl;
+          words = words_of l d closed.drawn words apart pairs;
+          spent = spent_of l d closed.looks looked pairs;
+        };
+      }
+
+  pub lived : LivedOn role image source sink from to began now bearers (chip start) (chip node.flash) node.machine.fills closed node.machine.closed last
+  lived = record {
+    phases = went.phases;
+    did = went.did;
+    gave = went.gave;
+    took = went.took;
+    placed = went.placed;
+    end = went.end;
+    over = h.over;
+    recovered = subst (λ o. IsRecovered (chip start).now o) begun_is read;
+    life = one_life;
+    node = h.life.node;
+    later = subst (λ s. IsLater (chip s) (chip node.flash)) is_start h.later;
+    cause = λ is. h.life.failed is;
+  }

@@ -1,0 +1,78 @@
+-- A life whose phases came from a source and were told to a sink, phase by phase.
+use Rattle.std.specs.Prelude.{◌≡◌, ℕ, ◌<◌, Bool, true, List, length, map}
+use Rattle.flash_model.specs.Chip.{Chip}
+use Rattle.mesh_types.specs.declared.events.Event.{Event}
+use Rattle.mesh_types.specs.declared.report.End.{End}
+use Rattle.mesh_types.specs.declared.report.Opened.TheVariants as W
+use Rattle.machine_contract.specs.Opening.{EachRecovered, IsNodeFlash}
+use Rattle.record_types.specs.declared.records.StoreRecord.{StoreRecord}
+use Rattle.report_definitions.specs.Record.{Life}
+use Rattle.event_definitions.specs.Role.{Role}
+use Rattle.run_definitions.specs.Order.{is_cut, phase}
+use Rattle.run_definitions.specs.RunOf.{LifeOf}
+use Rattle.seq_word.specs.Seen.{ClosedView, DrawerView}
+use Rattle.store_definitions.specs.Config.{config_of}
+use Rattle.store_definitions.specs.Recovered.{IsRecovered}
+use Rattle.locked_node.specs.Node.{NodeView}
+use Rattle.locked_node.specs.Stands.{IsLater}
+use Rattle.mesh_node.specs.Drawn.{TellsWords}
+use Rattle.mesh_node.specs.Going.{AreTold, IsGoing, IsOver}
+use Rattle.mesh_node.specs.Lives.{IsPrintable}
+use Rattle.mesh_node.specs.declared.told.LastStep.{LastStep}
+use Rattle.mesh_node.specs.Told.{ArePlaced, BySteps, HasGiven, HasTaken, IsClosedAt, PhaseDid, SinkSteps, SourceSteps, entries_told, sends_told}
+
+module _ {F S T : Type 0} (source : SourceSteps S) (sink : SinkSteps T) (from to : S) (began now : T) (bearers : ℕ) (node : NodeView F) (d : DrawerView) where
+  -- a life as far as it is: its phases came from the source, and the sink took what they did
+  pub record GoesOn (counts : List ℕ) : Type 0 where
+    pub phases : List (List (List Event))
+    pub did : List PhaseDid
+    pub gave : BySteps source.gives from phases to
+    pub took : BySteps sink.takes began did now
+    pub going : IsGoing phases node d (sends_told bearers did) counts
+    pub told : AreTold (entries_told did) node
+    pub placed : ArePlaced 0 did
+
+  -- all that became of it, up to its last step
+  pub record WentOn (last : LastStep) (closed : Bool) : Type 0 where
+    pub phases : List (List (List Event))
+    pub did : List PhaseDid
+    pub gave : HasGiven source last from phases to
+    pub took : HasTaken sink last began did now
+    pub over : IsOver phases node d (sends_told bearers did)
+    pub told : AreTold (entries_told did) node
+    pub placed : ArePlaced 0 did
+    pub many : length (sends_told bearers did) ≡ bearers
+    pub end : IsClosedAt last closed
+
+-- the life in which these phases did this
+abbrev pub life_told : List StoreRecord → ℕ → ℕ → List PhaseDid → End → Life
+life_told over bearers refills did end = record {
+  opened = W.On (config_of over).iv (config_of over).mark;
+  entries = entries_told did;
+  refills = refills;
+  sends = sends_told bearers did;
+  end = end;
+}
+
+-- a life of these phases, over these records: it leaves this, whatever an image of the flash recovers
+pub record IsLifeTold (role : Role) (phases : List (List (List Event))) (over : List StoreRecord) (l : Life) (new : Chip) (words : ClosedView) : Type 0 where
+  pub life : EachRecovered new (λ next. LifeOf role (map phase phases) over l next)
+  pub printable : IsPrintable l
+  pub drawn : TellsWords l words
+
+module _ {S T : Type 0} (role : Role) (image : List ℕ → Type 0) (source : SourceSteps S) (sink : SinkSteps T) (from to : S) (began now : T) (bearers : ℕ) where
+  -- The life that opened over what the flash recovered at its beginning. It is cut exactly where the flash failed.
+  pub record LivedOn (start new : Chip) (refills : ℕ) (drawn : ClosedView) (closed : Bool) (last : LastStep) : Type 0 where
+    pub phases : List (List (List Event))
+    pub did : List PhaseDid
+    pub gave : HasGiven source last from phases to
+    pub took : HasTaken sink last began did now
+    pub placed : ArePlaced 0 did
+    pub end : IsClosedAt last closed
+    pub over : List StoreRecord
+    pub recovered : IsRecovered start.now over
+    pub life : (end : End) → is_cut end ≡ closed
+        → IsLifeTold role phases over (life_told over bearers refills did end) new drawn
+    pub node : IsNodeFlash image new
+    pub later : IsLater start new
+    pub cause : closed ≡ true → new.setting.faults < new.faults

@@ -1,0 +1,90 @@
+-- Where the phases of a life come from, and who is told of them.
+use Rattle.std.specs.Prelude.{◌≡◌, ℕ, ◌+◌, ◌<◌, ◌≤◌, ◌^◌, true, false, Bool, List, [], ◌∷◌, ◌++◌, length, map, replicate, All, ⊤}
+use Rattle.std.specs.List.{flat_map}
+use Rattle.mesh_types.specs.declared.events.Event.{Event}
+use Rattle.mesh_types.specs.declared.history.Entry.{Entry}
+use Rattle.mesh_types.specs.declared.history.Sent.{Sent}
+use Rattle.life_laws.specs.Phases.{both_of}
+use Rattle.node_limits.specs.declared.TheConstants.{BEARERS}
+use Rattle.mesh_node.specs.Lives.{IsShort}
+use Rattle.mesh_node.specs.declared.told.PhaseLog.{PhaseLog}
+use Rattle.mesh_node.specs.declared.told.LastStep.{LastStep}
+use Rattle.mesh_node.specs.declared.told.LastStep.TheVariants as L
+
+-- what a phase did: how many entries came before it, its entries in their order, and the lines of each bearer
+pub record PhaseDid : Type 0 where
+  pub first : ℕ
+  pub entries : List Entry
+  pub sends : List (List Sent)
+
+abbrev pub did_of : PhaseLog → PhaseDid
+did_of log = record { first = log.first; entries = log.entries.items; sends = map (λ v. v.items) log.sends.items }
+
+-- all entries of phases, behind one another; and all lines, bearer by bearer
+abbrev pub entries_told : List PhaseDid → List Entry
+entries_told did = flat_map (λ d. d.entries) did
+
+-- each phase with the number of entries before it, where so many came before all
+abbrev pub ArePlaced : ℕ → List PhaseDid → Type 0
+ArePlaced n [] = ⊤
+ArePlaced n (d ∷ did) = (d.first ≡ n) × ArePlaced (n + length d.entries) did
+
+-- a report has room for it
+pub record IsPrintablePhase (d : PhaseDid) : Type 0 where
+  pub entries : d.first + length d.entries < 2 ^ 32
+  pub bearers : length d.sends ≤ BEARERS
+  pub lines : All (All IsShort) d.sends
+
+abbrev pub more_sends : List (List Sent) → List PhaseDid → List (List Sent)
+more_sends sends [] = sends
+more_sends sends (d ∷ did) = more_sends (both_of sends d.sends) did
+
+abbrev pub sends_told : ℕ → List PhaseDid → List (List Sent)
+sends_told bearers did = more_sends (replicate bearers []) did
+
+-- How a source of phases comes from the one state to the other: by giving a phase; by saying that there is none more; by failing.
+pub record SourceSteps (S : Type 0) : Type 1 where
+  pub gives : S → List (List Event) → S → Type 0
+  pub ends : S → S → Type 0
+  pub fails : S → S → Type 0
+
+-- How a sink comes from the one state to the other: by taking what a phase did; by failing at it.
+pub record SinkSteps (S : Type 0) : Type 1 where
+  pub takes : S → PhaseDid → S → Type 0
+  pub fails : S → PhaseDid → S → Type 0
+
+module _ {S : Type 0} where
+  -- from the one state to the other by a step for each of these, in their order
+  abbrev pub BySteps : {A : Type 0} → (S → A → S → Type 0) → S → List A → S → Type 0
+  BySteps step old [] new = new ≡ old
+  BySteps step old (x ∷ xs) new = (mid : S) × step old x mid × BySteps step mid xs new
+
+  -- The source gave these phases, and where the life asked for one more, it had none, or failed.
+  abbrev pub HasGiven : SourceSteps S → LastStep → S → List (List (List Event)) → S → Type 0
+  HasGiven steps L.Ended old phases new = (mid : S) × BySteps steps.gives old phases mid × steps.ends mid new
+  HasGiven steps L.Unread old phases new = (mid : S) × BySteps steps.gives old phases mid × steps.fails mid new
+  HasGiven steps L.Cut old phases new = BySteps steps.gives old phases new
+  HasGiven steps L.Untold old phases new = BySteps steps.gives old phases new
+
+  -- the sink took what all phases but the last did, and failed at that
+  pub record FailedAtLast (steps : SinkSteps S) (old : S) (did : List PhaseDid) (new : S) : Type 0 where
+    pub before : List PhaseDid
+    pub last : PhaseDid
+    pub is : did ≡ before ++ last ∷ []
+    pub mid : S
+    pub took : BySteps steps.takes old before mid
+    pub failed : steps.fails mid last new
+
+  -- the sink took what each phase did, but where it failed at the last
+  abbrev pub HasTaken : SinkSteps S → LastStep → S → List PhaseDid → S → Type 0
+  HasTaken steps L.Ended old did new = BySteps steps.takes old did new
+  HasTaken steps L.Unread old did new = BySteps steps.takes old did new
+  HasTaken steps L.Cut old did new = BySteps steps.takes old did new
+  HasTaken steps L.Untold old did new = FailedAtLast steps old did new
+
+-- whether the flash failed
+abbrev pub IsClosedAt : LastStep → Bool → Type 0
+IsClosedAt L.Ended closed = closed ≡ false
+IsClosedAt L.Unread closed = closed ≡ false
+IsClosedAt L.Cut closed = closed ≡ true
+IsClosedAt L.Untold closed = ⊤
