@@ -9,8 +9,9 @@ use Rattle.event_plans.proofs.Friends.{friends_stay}
 use Rattle.event_plans.specs.Memory.{AreNodeTablesOf, NodeTablesView}
 use Rattle.event_plans.specs.Own.{asked_row, begin_calls, begin_row, keyed_row}
 use Rattle.event_plans.specs.Plans.{IsBasisOf, IsPlanned, IsStanding}
-use Rattle.event_plans.specs.declared.plan.Basis.TheVariants as B
-use Rattle.event_plans.specs.declared.plan.Plan.{Plan}
+use Rattle.event_plans.specs.Basis as B
+use Rattle.event_plans.specs.Basis.{Plan}
+use Rattle.event_plans.specs.Sending.{IsOwn}
 use Rattle.friend_steps.specs.Others.{LeaveFriends, changes_friends}
 use Rattle.friend_steps.specs.Sending.{IsSend}
 use Rattle.layer_definitions.specs.KeyRefresh.{app_row}
@@ -307,3 +308,19 @@ pub kept_planned : Laws → (past : Past) (t : NodeTablesView) (lpn : Address) (
 kept_planned laws past t lpn fsn name pdu a st h is friends =
     own_planned laws past (E.Kept lpn fsn name pdu) a false t st h refl (is ∙ kept_is past lpn fsn name pdu) (kept_stores past lpn fsn name pdu a)
     (subst IsIdle (sym is) (kept_idle (is_to_be_kept past lpn fsn))) friends tt
+
+-- Which event it is.
+
+-- one that is none of the others is a control PDU
+pub raw_left : (event : Event) → IsOwn event
+    → ((element : ℕ) (dst : Address) (ttl : ℕ) (key : SendKey) (payload : List ℕ) → event ≡ E.Send element dst ttl key payload → ⊥)
+    → ((m : Outgoing) → event ≡ E.Begin m → ⊥)
+    → ((lpn : Address) (fsn : Bool) (name : Name) (pdu : List ℕ) → event ≡ E.Kept lpn fsn name pdu → ⊥)
+    → (P : Event → Type 0) → ((dst : Address) (ttl : ℕ) (tpdu : List ℕ) → P (E.Raw dst ttl tpdu)) → P event
+raw_left (E.Net octets) own send begin kept P f = absurd own
+raw_left (E.Bcn octets) own send begin kept P f = absurd own
+raw_left (E.Tick ticks) own send begin kept P f = absurd own
+raw_left (E.Send element dst ttl key payload) own send begin kept P f = absurd (send element dst ttl key payload refl)
+raw_left (E.Begin m) own send begin kept P f = absurd (begin m refl)
+raw_left (E.Kept lpn fsn name pdu) own send begin kept P f = absurd (kept lpn fsn name pdu refl)
+raw_left (E.Raw dst ttl tpdu) own send begin kept P f = f dst ttl tpdu

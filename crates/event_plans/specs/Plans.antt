@@ -1,9 +1,12 @@
 -- What the plan of an event is, by the definitions of a life.
-use Rattle.std.specs.Prelude.{◌≡◌, ℕ, ⊤, false, if◌then◌else◌, All, List}
-use Rattle.event_plans.specs.declared.plan.Basis.{Basis}
-use Rattle.event_plans.specs.declared.plan.Basis.TheVariants as B
-use Rattle.event_plans.specs.declared.plan.Plan.{Plan}
+use Rattle.std.specs.Prelude.{◌≡◌, ℕ, ⊤, false, if◌then◌else◌, All, List, []}
+use Rattle.event_plans.specs.Basis as B
+use Rattle.event_plans.specs.Basis.{Basis, Plan}
 use Rattle.event_plans.specs.Memory.{AreNodeTablesOf, NodeTablesView}
+use Rattle.event_plans.specs.declared.plan.BeaconPlan.{BeaconPlan}
+use Rattle.event_plans.specs.declared.plan.OwnPlan.{OwnPlan}
+use Rattle.event_plans.specs.declared.plan.PduPlan.{PduPlan}
+use Rattle.event_plans.specs.declared.plan.TickPlan.{TickPlan}
 use Rattle.mesh_jobs.specs.Acting.{IsActIn}
 use Rattle.mesh_jobs.specs.Phases.{phases_of}
 use Rattle.mesh_jobs.specs.Replying.{AreRepliesTo}
@@ -40,6 +43,20 @@ pub record IsStanding (past : Past) (p : Persist) (t : NodeTablesView) : Type 0 
 
 abbrev pub IsSomePast : Persist → NodeTablesView → Type 0
 IsSomePast p t = (past : Past) × IsStanding past p t
+
+-- The plans by kind: of a network PDU, of a beacon, of time, and of an event that brings neither octets heard nor time.
+
+abbrev pub of_pdu : PduPlan → Plan
+of_pdu x = record { answer = x.answer; records = x.records; basis = B.Pdu x.basis }
+
+abbrev pub of_beacon : BeaconPlan → Plan
+of_beacon x = record { answer = x.heard.answer; records = x.records; basis = B.Beacon x.heard.reset x.heard.beacon }
+
+abbrev pub of_tick : TickPlan → Plan
+of_tick x = record { answer = x.answer; records = x.records; basis = B.Time x.basis }
+
+abbrev pub of_own : OwnPlan → Plan
+of_own x = record { answer = x.answer; records = []; basis = B.Own x.befriended }
 
 -- what the octets of an event were read as
 abbrev pub insight_in : Basis → Insight

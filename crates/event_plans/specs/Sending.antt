@@ -1,4 +1,4 @@
--- What the node can send.
+-- What the node can send, and what it is asked to send.
 use Rattle.std.specs.Prelude.{◌+◌, ◌<◌, ◌≤◌, ◌^◌, ⊤, length}
 use Rattle.mesh_types.specs.declared.events.Event.{Event}
 use Rattle.mesh_types.specs.declared.events.Event.TheVariants as E
@@ -12,3 +12,10 @@ IsSendable c (E.Send element dst ttl key payload) =
     (c.unicast.0 + element < 2 ^ 16) × (ttl < 2 ^ 7) × (1 ≤ length payload)
 IsSendable c (E.Begin m) = IsOutgoing m
 IsSendable c _ = ⊤
+
+-- an event that brings neither octets heard nor time
+abbrev pub IsOwn : Event → Type 0
+IsOwn (E.Net octets) = ⊥
+IsOwn (E.Bcn octets) = ⊥
+IsOwn (E.Tick ticks) = ⊥
+IsOwn _ = ⊤

@@ -1,39 +1,47 @@
-//! What an event is answered, and what it stores.
+//! What an event is answered, what it stores, and what its jobs need, by the kind of the event.
 #![tactic(auto)]
 
 use event_records::Records;
-use mesh_base::beacon::Beacon;
+use mesh_hearing::BeaconHearing;
 use mesh_jobs::{PduBasis, TimeBasis};
 use mesh_types::answers::Answer;
 
-/// What the octets of an event were read as, and what its jobs need of the time before its records.
+/// Of a network PDU heard.
 #[derive(Drop)]
-pub enum Basis {
-    /// A network PDU was heard.
-    Pdu(PduBasis),
-    /// A beacon was heard.
-    Beacon {
-        /// Whether a Node Reset came before in this life, after which nothing is read.
-        reset: bool,
-        /// The beacon, if the octets are those of one.
-        beacon: Option<Beacon>,
-    },
-    /// Time passed.
-    Time(TimeBasis),
-    /// No octets were heard, and no time passed.
-    Own {
-        /// Whether a message that the node was asked to send goes to an address of a friendship.
-        befriended: bool,
-    },
-}
-
-/// The answer to an event, and its records.
-#[derive(Drop)]
-pub struct Plan {
+pub struct PduPlan {
     /// The answer.
     pub answer: Answer,
     /// The records, in the order in which they are stored.
     pub records: Records,
-    /// What the jobs need.
-    pub basis: Basis,
+    /// What the jobs need: how far the octets were read, and what is known of the time before the records.
+    pub basis: PduBasis,
+}
+
+/// Of a beacon heard, which asks for no jobs.
+#[derive(Drop)]
+pub struct BeaconPlan {
+    /// What the octets were read as, and the answer.
+    pub heard: BeaconHearing,
+    /// The records, in the order in which they are stored.
+    pub records: Records,
+}
+
+/// Of time that passed.
+#[derive(Drop)]
+pub struct TickPlan {
+    /// The answer.
+    pub answer: Answer,
+    /// The records, in the order in which they are stored.
+    pub records: Records,
+    /// What the jobs need: what is due, and what is known of the time before the records.
+    pub basis: TimeBasis,
+}
+
+/// Of an event that brings neither octets heard nor time. It stores nothing.
+#[derive(Drop)]
+pub struct OwnPlan {
+    /// The answer.
+    pub answer: Answer,
+    /// Whether a message that the node was asked to send goes to an address of a friendship.
+    pub befriended: bool,
 }

@@ -1,11 +1,10 @@
-//! The plan of an event.
+//! The plan of an event, by its kind.
 #![tactic(auto)]
 
-ghost use Rattle.std.specs.Prelude.{◌≡◌, ◌+◌, ◌≤◌, ◌^◌, min, [], IfOk, OnErr};
+ghost use Rattle.std.specs.Prelude.{◌≡◌, ◌+◌, ◌≤◌, ◌^◌, min, IfOk, OnErr};
 ghost use Rattle.event_plans.specs.Memory.{IsFitFor};
-ghost use Rattle.event_plans.specs.Plans.{IsPlanned, IsSomePast, IsStanding};
-ghost use Rattle.event_plans.specs.Sending.{IsSendable};
-ghost use Rattle.event_plans.specs.declared.plan.Basis.TheVariants as B;
+ghost use Rattle.event_plans.specs.Plans.{IsPlanned, IsSomePast, IsStanding, of_beacon, of_own, of_pdu, of_tick};
+ghost use Rattle.event_plans.specs.Sending.{IsOwn, IsSendable};
 ghost use Rattle.event_records.specs.Putting.{AreMoves, ArePuttable};
 ghost use Rattle.friend_steps.specs.Sending.{IsSend};
 ghost use Rattle.mesh_types.specs.declared.events.Event.TheVariants as E;
@@ -17,9 +16,9 @@ ghost use Rattle.segment_sender.specs.Held.{IsOutgoing};
 
 use crate::answers::{asked_answer, begin_answer};
 use crate::models::{publish_due, take_heard};
-use crate::plan::{Basis, Plan};
+use crate::plan::{BeaconPlan, OwnPlan, PduPlan, TickPlan};
 use crate::tables::NodeTables;
-use event_records::{Records, beacon_records, heard_records, tick_records};
+use event_records::{beacon_records, heard_records, tick_records};
 use friend_steps::{friend_steps_law, hear_friends, keep_octets, store_send};
 use iv_update::steps_law;
 use mesh_base::address::Address;
@@ -37,12 +36,16 @@ use std::alloc::AllocError;
 /// The ticks of a life stop here.
 const MOST_TICKS: u64 = 1 << 48;
 
-// Of a network PDU heard.
-fn plan_pdu(tables: &mut NodeTables, p: &Persist, octets: &[u8]) -> Result<Plan, AllocError>
+/// The plan of a network PDU heard, where the records before it say `p`, and what is kept in memory with it. An error says
+/// that memory ran out, and then all is as before.
+///
+/// `p` and what is kept stand for some past of a node that is whole. Each record of the plan may be put behind those before
+/// it, and each Numbers record is a move to an IV state that may follow.
+pub fn plan_pdu(tables: &mut NodeTables, p: &Persist, octets: &[u8]) -> Result<PduPlan, AllocError>
     requires standing { IsSomePast p.now tables.old }
     requires fit { IsFitFor tables.old p.now }
     ensures planned { (past : Past) → IsStanding past p.now tables.old
-        → IfOk result (λ plan. IsPlanned past (E.Net octets.now) plan tables.new) }
+        → IfOk result (λ plan. IsPlanned past (E.Net octets.now) (of_pdu plan) tables.new) }
     ensures may { IfOk result (λ plan. ArePuttable p.now plan.records) }
     ensures moves { IfOk result (λ plan. AreMoves (config_in p.now) plan.records) }
     ensures fit { IsFitFor tables.new p.now }
@@ -56,25 +59,28 @@ fn plan_pdu(tables: &mut NodeTables, p: &Persist, octets: &[u8]) -> Result<Plan,
     let taken = take_heard(&mut tables.models, p, now, polls.as_slice(), &heard);
     let records = heard_records(&heard.answer, &taken.changes);
     let left = hear_friends(&mut tables.friends, p, now, &heard, taken);
-    Ok(Plan {
+    Ok(PduPlan {
         answer: heard.answer,
         records,
-        basis: Basis::Pdu(PduBasis {
+        basis: PduBasis {
             heard: heard.pdu,
             phases,
             replies: left.replies,
             act: left.act,
-        }),
+        },
     })
 }
 
-// Of a beacon heard.
-fn plan_beacon(tables: &mut NodeTables, p: &Persist, octets: &[u8]) -> Plan
+/// The plan of a beacon heard, where the records before it say `p`, and what is kept in memory with it.
+///
+/// `p` and what is kept stand for some past of a node that is whole. Each record of the plan may be put behind those before
+/// it, and each Numbers record is a move to an IV state that may follow.
+pub fn plan_beacon(tables: &mut NodeTables, p: &Persist, octets: &[u8]) -> BeaconPlan
     requires standing { IsSomePast p.now tables.old }
     requires fit { IsFitFor tables.old p.now }
     requires said { IsSaid p.now }
     ensures planned { (past : Past) → IsStanding past p.now tables.old
-        → IsPlanned past (E.Bcn octets.now) result tables.new }
+        → IsPlanned past (E.Bcn octets.now) (of_beacon result) tables.new }
     ensures may { ArePuttable p.now result.records }
     ensures moves { AreMoves (config_in p.now) result.records }
     ensures fit { IsFitFor tables.new p.now }
@@ -86,14 +92,7 @@ fn plan_beacon(tables: &mut NodeTables, p: &Persist, octets: &[u8]) -> Plan
     friend_steps_law();
     let heard = tables.hearing.hear_beacon(p, octets);
     let records = beacon_records(p, &heard.answer);
-    Plan {
-        answer: heard.answer,
-        records,
-        basis: Basis::Beacon {
-            reset: heard.reset,
-            beacon: heard.beacon,
-        },
-    }
+    BeaconPlan { heard, records }
 }
 
 // The ticks of a life when so many more have passed.
@@ -105,12 +104,14 @@ fn later(from: u64, ticks: u32) -> u64
     (from + u64::from(ticks)).min(MOST_TICKS)
 }
 
-// Of time that passed.
-fn plan_tick(tables: &mut NodeTables, p: &Persist, ticks: u32) -> Plan
+/// The plan of time that passed, so many ticks of 10 ms, where the records before it say `p`, and what is kept in memory
+/// with it. Each record of the plan may be put behind those before it, and each Numbers record is a move to an IV state
+/// that may follow.
+pub fn plan_tick(tables: &mut NodeTables, p: &Persist, ticks: u32) -> TickPlan
     requires fit { IsFitFor tables.old p.now }
     requires said { IsSaid p.now }
     ensures planned { (past : Past) → IsStanding past p.now tables.old
-        → IsPlanned past (E.Tick ticks) result tables.new }
+        → IsPlanned past (E.Tick ticks) (of_tick result) tables.new }
     ensures may { ArePuttable p.now result.records }
     ensures moves { AreMoves (config_in p.now) result.records }
     ensures fit { IsFitFor tables.new p.now }
@@ -128,35 +129,23 @@ fn plan_tick(tables: &mut NodeTables, p: &Persist, ticks: u32) -> Plan
         &passed.answer,
     );
     let records = tick_records(p, from, to, busy, &passed.answer);
-    Plan {
+    TickPlan {
         answer: passed.answer,
         records,
-        basis: Basis::Time(TimeBasis {
+        basis: TimeBasis {
             acks: passed.acks,
             rounds: passed.rounds,
             due,
             span: Span { from, to, iv: p.iv },
-        }),
-    }
-}
-
-// Of an event that stores nothing.
-fn own_plan(answer: Answer, befriended: bool) -> Plan
-    ensures { result ≡ record { answer = answer; records = []; basis = B.Own befriended } }
-{
-    Plan {
-        answer,
-        records: Records::new(),
-        basis: Basis::Own { befriended },
+        },
     }
 }
 
 // Of a message that the node is asked to send.
-fn plan_send(tables: &mut NodeTables, p: &Persist, event: &Event) -> Plan
+fn plan_send(tables: &mut NodeTables, p: &Persist, event: &Event) -> OwnPlan
     requires fit { IsFitFor tables.old p.now }
     requires send { IsSend (config_in p.now) event.now }
-    ensures planned { (past : Past) → IsStanding past p.now tables.old → IsPlanned past event.now result tables.new }
-    ensures records { result.records ≡ [] }
+    ensures planned { (past : Past) → IsStanding past p.now tables.old → IsPlanned past event.now (of_own result) tables.new }
     ensures fit { IsFitFor tables.new p.now }
 {
     // They do nothing when they run: the proof uses what they say.
@@ -165,17 +154,16 @@ fn plan_send(tables: &mut NodeTables, p: &Persist, event: &Event) -> Plan
     let answer = asked_answer(p, event);
     let apps = tables.hearing.keys().apps();
     let befriended = store_send(&mut tables.friends, p, apps, event, &answer);
-    own_plan(answer, befriended)
+    OwnPlan { answer, befriended }
 }
 
 // Of an own segmented message that begins.
-fn plan_begin(tables: &mut NodeTables, p: &Persist, m: &Outgoing) -> Plan
+fn plan_begin(tables: &mut NodeTables, p: &Persist, m: &Outgoing) -> OwnPlan
     requires fit { IsFitFor tables.old p.now }
     requires said { IsSaid p.now }
     requires outgoing { IsOutgoing m.now }
     ensures planned { (past : Past) → IsStanding past p.now tables.old
-        → IsPlanned past (E.Begin m.now) result tables.new }
-    ensures records { result.records ≡ [] }
+        → IsPlanned past (E.Begin m.now) (of_own result) tables.new }
     ensures fit { IsFitFor tables.new p.now }
 {
     value_law();
@@ -184,7 +172,10 @@ fn plan_begin(tables: &mut NodeTables, p: &Persist, m: &Outgoing) -> Plan
     node_models_law();
     friend_steps_law();
     let befriended = tables.friends.is_befriended(m.dst);
-    own_plan(begin_answer(&mut tables.hearing, p, befriended, m), false)
+    OwnPlan {
+        answer: begin_answer(&mut tables.hearing, p, befriended, m),
+        befriended: false,
+    }
 }
 
 // Of octets that answered a Poll.
@@ -194,53 +185,49 @@ fn plan_kept(
     fsn: bool,
     name: &Name,
     pdu: &Octets<29>,
-) -> Plan
+) -> OwnPlan
     ensures planned { (past : Past) (p : PersistValue) → IsStanding past p tables.old
-        → IsPlanned past (E.Kept lpn fsn name.now pdu.now) result tables.new }
-    ensures records { result.records ≡ [] }
+        → IsPlanned past (E.Kept lpn fsn name.now pdu.now) (of_own result) tables.new }
     ensures fit { (p : PersistValue) → IsFitFor tables.old p → IsFitFor tables.new p }
 {
     // They do nothing when they run: the proof uses what they say.
     tables_law();
     node_models_law();
-    let answer = keep_octets(&mut tables.friends, lpn, fsn, name, pdu);
-    own_plan(answer, false)
+    OwnPlan {
+        answer: keep_octets(&mut tables.friends, lpn, fsn, name, pdu),
+        befriended: false,
+    }
 }
 
-/// The plan of an event, where the records before it say `p`, and what is kept in memory with this event. An error says
-/// that memory ran out, and then all is as before.
+/// The plan of an event that brings neither octets heard nor time, where the records before it say `p`, and what is kept in
+/// memory with it. It stores nothing, and takes no memory.
 ///
-/// `p` and what is kept stand for some past of a node that is whole, and the event is one that the node can send. Each
-/// record of the plan may be put behind those before it, and each Numbers record is a move to an IV state that may follow.
-pub fn plan_event(tables: &mut NodeTables, p: &Persist, event: &Event) -> Result<Plan, AllocError>
-    requires standing { IsSomePast p.now tables.old }
+/// `p` and what is kept stand for some past of a node that is whole, and the event is one that the node can send.
+pub fn plan_own(tables: &mut NodeTables, p: &Persist, event: &Event) -> OwnPlan
     requires fit { IsFitFor tables.old p.now }
     requires said { IsSaid p.now }
+    requires own { IsOwn event.now }
     requires sendable { IsSendable (config_in p.now) event.now }
     ensures planned { (past : Past) → IsStanding past p.now tables.old
-        → IfOk result (λ plan. IsPlanned past event.now plan tables.new) }
-    ensures may { IfOk result (λ plan. ArePuttable p.now plan.records) }
-    ensures moves { IfOk result (λ plan. AreMoves (config_in p.now) plan.records) }
+        → IsPlanned past event.now (of_own result) tables.new }
     ensures fit { IsFitFor tables.new p.now }
-    ensures unchanged { OnErr result (tables.new ≡ tables.old) }
 {
-    value_law();
     // They do nothing when they run: the proof uses what they say.
     tables_law();
     node_models_law();
     friend_steps_law();
     match event {
-        Event::Net(octets) => plan_pdu(tables, p, octets.as_slice()),
-        Event::Bcn(octets) => Ok(plan_beacon(tables, p, octets.as_slice())),
-        Event::Tick(ticks) => Ok(plan_tick(tables, p, *ticks)),
-        Event::Send { .. } => Ok(plan_send(tables, p, event)),
-        Event::Raw { .. } => Ok(own_plan(asked_answer(p, event), false)),
-        Event::Begin(message) => Ok(plan_begin(tables, p, message)),
+        Event::Send { .. } => plan_send(tables, p, event),
+        Event::Begin(message) => plan_begin(tables, p, message),
         Event::Kept {
             lpn,
             fsn,
             name,
             pdu,
-        } => Ok(plan_kept(tables, *lpn, *fsn, name, pdu)),
+        } => plan_kept(tables, *lpn, *fsn, name, pdu),
+        _ => OwnPlan {
+            answer: asked_answer(p, event),
+            befriended: false,
+        },
     }
 }

@@ -27,7 +27,7 @@ use layer_laws::laws::node_law;
 
 /// From a world of a store that says the records of a past, and whose mark is published, an event that was read and answered by the
 /// definitions goes by its steps to a world of the store that says these records with those of the event behind them; its mark is published
-/// then. Each Numbers record among them is a move to an IV state that may follow, as `plan_event` of `event_plans` makes them.
+/// then. Each Numbers record among them is a move to an IV state that may follow, as the plans of `event_plans` have them.
 pub fn event_law()
     ensures steps { (w : World) (past : Past) (p q : Persist) (event : Event) (insight : Insight) (answer : Answer)
         → IsWorldOf w p p.mark → IsMeaningOf past.records p → All IsInRange past.records

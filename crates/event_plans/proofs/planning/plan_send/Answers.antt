@@ -3,7 +3,6 @@ use Rattle.event_plans.proofs.Own.{AreWith, asked_idle, idle_untimed, own_plan, 
 use Rattle.event_plans.specs.Memory.{NodeTablesView}
 use Rattle.event_plans.specs.Own.{asked_row}
 use Rattle.event_plans.specs.Plans.{IsPlanned, IsStanding}
-use Rattle.event_plans.specs.declared.plan.Plan.{Plan}
 use Rattle.mesh_types.specs.declared.answers.Answer.{Answer}
 use Rattle.node_models.specs.Models.{is_ticked}
 use Rattle.node_records.specs.Tables.{config_in}
@@ -20,8 +19,8 @@ returns-clause-planned c past h =
     let friends : AreWith c.store_send-befriended.new.friends past event a =
     λ e is insight answer same. c.store_send-befriended.ensures.friends past e stands.meaning stands.tables.friends untimed is insight
     (answer ∙ sym c.asked_answer-answer.ensures.value) same in
-    subst (λ (plan : Plan). IsPlanned past event plan (record t { friends = c.store_send-befriended.new.friends }))
-    (sym (c.own_plan.ensures ∙ ap (λ (x : Answer). own_plan x befriended) c.asked_answer-answer.ensures.value))
+    subst (λ (x : Answer). IsPlanned past event (own_plan x befriended) (record t { friends = c.store_send-befriended.new.friends }))
+    (sym c.asked_answer-answer.ensures.value)
     (send_planned (record { tables = c.tables_law.ensures.more; models = c.node_models_law.ensures.more }) past c.args.p.now t event befriended
     c.store_send-befriended.new.friends c.requires.send stands
     (c.store_send-befriended.ensures.befriended past stands.tables.friends) friends)
