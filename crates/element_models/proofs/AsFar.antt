@@ -1,5 +1,5 @@
 -- The servers in memory are those of the elements of a life, and so are their changes.
-use Rattle.std.proofs.Common.{◌≡◌, ◌↔◌, ◌∙◌, ℕ, ◌<◌, List, get_or, length, map, refl, sym, subst, arith}
+use Rattle.std.proofs.Common.{◌↔◌, ℕ, ◌<◌, List, map, sym, subst, arith}
 use Rattle.std.specs.Prelude.{All}
 use Rattle.std.specs.List.{range_with_len}
 use Rattle.std.proofs.lemmas.List.Elements.{All-from_get_or, All-get_or}
@@ -12,12 +12,13 @@ use Rattle.event_definitions.specs.History.{Past}
 
 -- a fact of each place is one of all of them
 pub each_place : {A : Type 0} (Holds : A → Type 0) (at : ℕ → A) (n : ℕ) → ((i : ℕ) → i < n → Holds (at i)) ↔ All Holds (map at (range_with_len 0 n))
-each_place Holds at n =
-    (λ each. All-from_get_or Holds (map at (range_with_len 0 n)) (at 0) (λ i l.
-    let within : i < n = omega (arith, l, length-map-range_with_len at 0 n) in
-    subst Holds (sym (get_or-map-range_with_len at 0 n i i (at 0) within (omega arith))) (each i within)),
-    λ all i l. subst Holds (get_or-map-range_with_len at 0 n i i (at 0) l (omega arith))
-    (All-get_or Holds (map at (range_with_len 0 n)) i (at 0) (omega (arith, l, length-map-range_with_len at 0 n)) all))
+each_place Holds at n = (
+  λ each. All-from_get_or Holds (map at (range_with_len 0 n)) (at 0) (λ i l.
+      let within : i < n = omega (arith, l, length-map-range_with_len at 0 n) in
+      subst Holds (sym (get_or-map-range_with_len at 0 n i i (at 0) within (omega arith))) (each i within)),
+  λ all i l. subst Holds (get_or-map-range_with_len at 0 n i i (at 0) l (omega arith))
+      (All-get_or Holds (map at (range_with_len 0 n)) i (at 0) (omega (arith, l, length-map-range_with_len at 0 n)) all),
+)
 
 pub stay_where : (servers : List Servers) (past : Past) (now later : ℕ) → AreModelsOf servers past
     → StayAsFar past now later ↔ All (AreAsFar now later) servers

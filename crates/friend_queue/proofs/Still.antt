@@ -1,5 +1,5 @@
 -- Time leaves friendships and offers as they are exactly where the time of none is over.
-use Rattle.std.proofs.Common.{◌≡◌, ◌↔◌, ℕ, ◌+◌, ◌≤◌, Bool, true, false, cond, not, List, [], ◌∷◌, length, filter, refl, sym, ap, arith}
+use Rattle.std.proofs.Common.{◌≡◌, ◌↔◌, ℕ, ◌≤◌, Bool, true, false, cond, not, List, [], ◌∷◌, length, refl, sym, ap, arith}
 use Rattle.std.proofs.lemmas.Bool.{or_parts}
 use Rattle.std.specs.Prelude.{nat_lt}
 use Rattle.std.specs.List.{list_any}
@@ -39,6 +39,7 @@ none_over now (s ∷ slots) h =
     one_left false h few = absurd (omega (arith, few, ap (λ (l : List Friendship). length l) h))
 
 pub still_where : (now : ℕ) (st : FriendsState) → after st (tick now) ≡ st ↔ list_any (is_over now) st.slots ≡ false
-still_where now st =
-    (λ h. none_over now st.slots (ap (λ (t : FriendsState). t.slots) h),
-    λ h. ap (λ (slots : List Friendship). record st { slots = slots }) (all_stand now st.slots h))
+still_where now st = (
+  λ h. none_over now st.slots (ap (λ (t : FriendsState). t.slots) h),
+  λ h. ap (λ (slots : List Friendship). record st { slots = slots }) (all_stand now st.slots h),
+)

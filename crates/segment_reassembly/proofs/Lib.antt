@@ -1,3 +1,3 @@
 mod Messages
 mod Short
-mod Still
+pub mod Still

@@ -1,9 +1,9 @@
 -- Time leaves the messages as they are exactly where no timer of theirs ends.
-use Rattle.std.proofs.Common.{◌≡◌, ◌↔◌, ℕ, ◌+◌, ◌-◌, ◌≤◌, Bool, true, false, cond, not, List, [], ◌∷◌, length, map, filter, refl, sym, ap, ◌∙◌, arith, Option, Some, None}
+use Rattle.std.proofs.Common.{◌≡◌, ◌↔◌, ℕ, ◌-◌, ◌≤◌, Bool, true, false, cond, not, List, [], ◌∷◌, length, map, refl, sym, ap, ◌∙◌, arith, Option, Some, None}
 use Rattle.std.proofs.lemmas.Bool.{or_parts}
 use Rattle.std.specs.Prelude.{nat_lt, ◌||◌}
 use Rattle.std.specs.List.{list_any}
-use Rattle.layer_states.specs.Reassembly.{after, is_due, live, rung, tick}
+use Rattle.layer_states.specs.Reassembly.{after, live, rung, tick}
 use Rattle.layer_states.specs.declared.reassembly.Assembly.{Assembly}
 use Rattle.layer_states.specs.declared.reassembly.Timer.{Timer}
 use Rattle.segment_reassembly.specs.Ends.{is_ending, is_timer_over}
@@ -45,7 +45,7 @@ one_left now a rows true true o h r =
     let same : rung now a ≡ a = cc in
     absurd (stopped now a.timer o (ap (λ (b : Assembly). b.timer) (sym r ∙ same)))
 
-none_ends : (now : ℕ) (rows : List Assembly) → after rows (tick now) ≡ rows → list_any (is_ending now) rows ≡ false
+pub none_ends : (now : ℕ) (rows : List Assembly) → after rows (tick now) ≡ rows → list_any (is_ending now) rows ≡ false
 none_ends now [] h = refl
 none_ends now (a ∷ rows) h =
     let left = one_left now a rows (nat_lt (now - a.renewed) 1000) (is_timer_over now a.timer) refl h refl in

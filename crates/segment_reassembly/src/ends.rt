@@ -26,10 +26,7 @@ fn timer_end(timer: Option<Timer>) -> Option<u64>
 fn end_of(a: &Assembly) -> Option<u64>
     ensures { (now : ℕ) → now ≤ 2 ^ 48 → is_ending now a.now ≡ false ↔ IsBefore now result }
 {
-    sooner(
-        Some(end_after(a.renewed, INCOMPLETE)),
-        timer_end(a.timer),
-    )
+    sooner(Some(end_after(a.renewed, INCOMPLETE)), timer_end(a.timer))
 }
 
 // When the first timer of these messages ends.

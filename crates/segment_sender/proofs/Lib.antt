@@ -1,3 +1,3 @@
 pub mod Held
 mod Messages
-mod Still
+pub mod Still

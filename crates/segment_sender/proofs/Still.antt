@@ -29,12 +29,12 @@ one_left true false s later rest rows more few h =
     let same : later ≡ s = cc in
     absurd (omega (arith, more, ap (λ (x : Sending). x.rounds) same))
 
-none_due : (now : ℕ) (rows : List Sending) → filter_map (stepped now) rows ≡ rows → list_any (is_due now) rows ≡ false
+pub none_due : (now : ℕ) (rows : List Sending) → filter_map (stepped now) rows ≡ rows → list_any (is_due now) rows ≡ false
 none_due now [] h = refl
 none_due now (s ∷ rows) h =
     let left =
     one_left (is_due now s) (is_last s) s (record s { rounds = s.rounds + 1; due = round_after now s.message }) (filter_map (stepped now) rows) rows
-        refl (fewer (stepped now) rows) h in
+    refl (fewer (stepped now) rows) h in
     rw left.0 (none_due now rows left.1)
 
 pub still_where : (now : ℕ) (rows : List Sending) → after rows (due now) ≡ rows ↔ list_any (is_due now) rows ≡ false

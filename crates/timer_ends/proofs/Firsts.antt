@@ -16,9 +16,10 @@ all_of h k z = (λ x. z.1 (h.0 x.0, k.0 x.1), λ w. let both = z.0 w in (h.1 bot
 
 -- of two tests none passes
 pub none_of : (a b : Bool) {P Q Z : Type 0} → (a ≡ false) ↔ P → (b ≡ false) ↔ Q → Z ↔ (P × Q) → ((a || b) ≡ false) ↔ Z
-none_of a b {P = P} {Q = Q} {Z = Z} h k z =
-    (λ e. let parts = or_parts a b e in z.1 (h.0 parts.0, k.0 parts.1),
-    λ w. let both = z.0 w in ap (λ t. t || b) (h.1 both.0) ∙ k.1 both.1)
+none_of a b {P = P} {Q = Q} {Z = Z} h k z = (
+  λ e. let parts = or_parts a b e in z.1 (h.0 parts.0, k.0 parts.1),
+  λ w. let both = z.0 w in ap (λ t. t || b) (h.1 both.0) ∙ k.1 both.1,
+)
 
 -- and of the items so far with one more
 pub none_more : {A : Type 0} (test : A → Bool) (xs : List A) (i : ℕ) (d : A) {P Q Z : Type 0} → i < length xs
@@ -37,8 +38,9 @@ split_last Holds (y ∷ ys) x h = let rest = split_last Holds ys x h.1 in ((h.0,
 
 pub all_more : {A : Type 0} (Holds : A → Type 0) (xs : List A) (i : ℕ) (d : A) {P Q Z : Type 0} → i < length xs
     → All Holds (take i xs) ↔ P → Holds (get_or xs i d) ↔ Q → Z ↔ (P × Q) → All Holds (take (i + 1) xs) ↔ Z
-all_more Holds xs i d l h k z =
-    (λ all. let every = recursion_from_All Holds (take i xs ++ get_or xs i d ∷ []) (subst (All Holds) (take_more xs i d l) all) in
-    let ends = split_last Holds (take i xs) (get_or xs i d) every in
-    z.1 (h.0 (All-from_recursion Holds (take i xs) ends.0), k.0 ends.1),
-    λ w. let both = z.0 w in All-more Holds xs i d l (h.1 both.0) (k.1 both.1))
+all_more Holds xs i d l h k z = (
+  λ all. let every = recursion_from_All Holds (take i xs ++ get_or xs i d ∷ []) (subst (All Holds) (take_more xs i d l) all) in
+      let ends = split_last Holds (take i xs) (get_or xs i d) every in
+      z.1 (h.0 (All-from_recursion Holds (take i xs) ends.0), k.0 ends.1),
+  λ w. let both = z.0 w in All-more Holds xs i d l (h.1 both.0) (k.1 both.1),
+)

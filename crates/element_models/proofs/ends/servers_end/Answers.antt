@@ -1,7 +1,4 @@
-use Rattle.std.proofs.Common.{◌↔◌, ◌-◌, arith}
-use Rattle.element_models.specs.Ends.{AreAsFar}
-use Rattle.onoff_level_models.specs.Ends.{IsAsFar}
-use Rattle.timer_ends.proofs.Firsts.{all_of, through}
+use Rattle.timer_ends.proofs.Firsts.{all_of}
 use Rattle.element_models.proofs.ends.servers_end.Goals as goal
 
 pub returns : goal.returns

@@ -2,7 +2,7 @@ use Rattle.std.proofs.Common.{◌≡◌, ◌↔◌, ◌-◌, Some, arith, false}
 use Rattle.std.specs.Prelude.{not, nat_lt}
 use Rattle.std.proofs.lemmas.Bool.Decides.{nat_tests}
 use Rattle.segment_reassembly.specs.Ends.{is_timer_over}
-use Rattle.timer_ends.proofs.Firsts.{none_of, through}
+use Rattle.timer_ends.proofs.Firsts.{none_of}
 use Rattle.timer_ends.specs.Ends.{IsBefore}
 use Rattle.segment_reassembly.proofs.ends.end_of.Goals as goal
 

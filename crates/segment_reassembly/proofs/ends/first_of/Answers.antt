@@ -1,4 +1,4 @@
-use Rattle.std.proofs.Common.{◌≡◌, ◌↔◌, ◌+◌, false, get_or, subst}
+use Rattle.std.proofs.Common.{◌≡◌, ◌↔◌, false, subst}
 use Rattle.segment_reassembly.specs.Ends.{is_ending}
 use Rattle.layer_states.specs.declared.reassembly.Assembly.{Assembly}
 use Rattle.timer_ends.proofs.Firsts.{none_more}

@@ -1,4 +1,4 @@
-use Rattle.std.proofs.Common.{◌≡◌, ◌↔◌, ◌≤◌, Some, arith, false, subst}
+use Rattle.std.proofs.Common.{◌≡◌, ◌↔◌, Some, arith, false, subst}
 use Rattle.std.proofs.lemmas.Bool.Decides.{nat_tests}
 use Rattle.layer_states.specs.Sending.{is_due}
 use Rattle.layer_states.specs.declared.sending.Sending.{Sending}

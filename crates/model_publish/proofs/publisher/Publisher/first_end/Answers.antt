@@ -1,4 +1,4 @@
-use Rattle.std.proofs.Common.{◌≡◌, ◌↔◌, ◌∙◌, List, Option, ap, false, subst}
+use Rattle.std.proofs.Common.{◌≡◌, ◌↔◌, List, false, subst}
 use Rattle.std.specs.List.{list_any}
 use Rattle.model_publish.proofs.Still.{beat_where, rows_where}
 use Rattle.model_publish.specs.Ends.{is_beat_due}

@@ -1,4 +1,4 @@
-use Rattle.std.proofs.Common.{◌≡◌, ◌↔◌, ◌∙◌, List, false, subst}
+use Rattle.std.proofs.Common.{◌≡◌, ◌↔◌, List, false, subst}
 use Rattle.std.specs.List.{list_any}
 use Rattle.layer_states.specs.Sending.{is_due}
 use Rattle.layer_states.specs.declared.sending.Sending.{Sending}

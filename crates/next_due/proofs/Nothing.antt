@@ -1,0 +1,94 @@
+-- Lists of jobs and of records that are empty, and what a tick event does by its answer.
+use Rattle.std.proofs.Common.{◌≡◌, ℕ, ◌+◌, ◌-◌, ◌/◌, ◌≤◌, Bool, true, false, cond, not, List, [], ◌∷◌, ◌++◌, refl, ap, arith}
+use Rattle.std.specs.Prelude.{◌==◌, ◌||◌, nat_lt, if◌then◌else◌, ◌⊎◌}
+use Rattle.std.specs.List.{flat_map}
+use Rattle.std.proofs.lemmas.Bool.Decides.{nat_tests}
+use Rattle.mesh_base.specs.declared.iv_state.IvState.{IvState}
+use Rattle.mesh_types.specs.declared.answers.Answer.TheVariants as A
+use Rattle.mesh_types.specs.declared.events.Event.TheVariants as E
+use Rattle.mesh_types.specs.declared.jobs.Job.{Job}
+use Rattle.node_layers.specs.BuiltLayers.{built_layers}
+use Rattle.node_layers.specs.ConfiguredLayers.{configured_layers}
+use Rattle.node_layers.specs.NodeLayers.{node_layers, published_at}
+use Rattle.node_layers.specs.Reassembly.{acks_at}
+use Rattle.node_layers.specs.Sending.{segments_at}
+use Rattle.event_definitions.specs.Answers.{answer_of, config_before, later}
+use Rattle.event_definitions.specs.History.{OfNothing, Past, now_of}
+use Rattle.event_definitions.specs.Jobs.{beacon_jobs, beacons_due, is_moved, jobs_of}
+use Rattle.event_definitions.specs.Stores.{hours_passed, stores, tick_records}
+use Rattle.next_due.specs.Quiet.{tick_answer}
+use Rattle.next_due.specs.Still.{AreNoBeacons, IsNoHour}
+use Rattle.store_definitions.specs.Config.{Config}
+
+pub told : (past : Past) (ticks : ℕ) → tick_answer past ticks ≡ cond (config_before past).reset A.Reset (A.Ticked (later past ticks))
+unfolding answer_of
+told past ticks = refl
+
+pub stores_are : (past : Past) (ticks now : ℕ) → stores node_layers past (E.Tick ticks) OfNothing (A.Ticked now) ≡ tick_records node_layers past ticks
+unfolding stores
+stores_are past ticks now = refl
+
+pub reset_stores : (past : Past) (ticks : ℕ) → stores node_layers past (E.Tick ticks) OfNothing A.Reset ≡ []
+unfolding stores
+reset_stores past ticks = refl
+
+pub jobs_are : (past : Past) (c : Config) (ticks now : ℕ)
+    → jobs_of node_layers past c (E.Tick ticks) OfNothing (A.Ticked now)
+    ≡ acks_at past c ticks ++ segments_at past c ticks ++ beacons_due past c ticks ++ published_at past c ticks
+unfolding built_layers configured_layers node_layers jobs_of
+jobs_are past c ticks now = refl
+
+pub reset_jobs : (past : Past) (c : Config) (ticks : ℕ) → jobs_of node_layers past c (E.Tick ticks) OfNothing A.Reset ≡ []
+unfolding jobs_of
+reset_jobs past c ticks = refl
+
+-- what is empty as a whole is so in each part
+pub empty_parts : {A : Type 0} (xs ys : List A) → xs ++ ys ≡ [] → (xs ≡ []) × (ys ≡ [])
+empty_parts [] ys h = (refl, h)
+empty_parts (x ∷ xs) ys h = absurd cc
+
+-- Records: none exactly where no hour ended.
+
+pub no_records : (past : Past) (ticks : ℕ) → IsNoHour (now_of past.told) (later past ticks) → tick_records node_layers past ticks ≡ []
+no_records past ticks h =
+    let none : (hours_passed past ticks == 0) ≡ true = grind (arith, nat_tests, h) in
+    rw none refl
+
+pub no_hour : (past : Past) (ticks : ℕ) → tick_records node_layers past ticks ≡ [] → IsNoHour (now_of past.told) (later past ticks)
+no_hour past ticks h = by_test (hours_passed past ticks == 0) refl
+  where
+    by_test : (b : Bool) → (hours_passed past ticks == 0) ≡ b → IsNoHour (now_of past.told) (later past ticks)
+    by_test true e = grind (arith, nat_tests, e)
+    by_test false e = absurd (by_records e h)
+    by_records : (hours_passed past ticks == 0) ≡ false → tick_records node_layers past ticks ≡ [] → ⊥
+    by_records e k = let f = rw e at k in cc
+
+-- Beacons, where the IV state stays.
+
+same_bits : (b : Bool) → (if b then not b else b) ≡ false
+same_bits true = refl
+same_bits false = refl
+
+stays : (s : IvState) → is_moved s s ≡ false
+stays s = let same : (s.current == s.current) ≡ true = grind (arith, nat_tests) in rw (same, same_bits s.progress) refl
+
+abbrev beacons_if : Bool → Bool → Config → List Job
+beacons_if passed moved c = if passed || moved then beacon_jobs c else []
+
+pub no_beacons : (past : Past) (ticks : ℕ) → AreNoBeacons (config_before past) (now_of past.told) (later past ticks) → beacons_due past (config_before past) ticks ≡ []
+no_beacons past ticks (inl e) = by_test (nat_lt (now_of past.told / 1000) (later past ticks / 1000) || is_moved (config_before past).iv (config_before past).iv)
+  where
+    by_test : (b : Bool) → (if b then beacon_jobs (config_before past) else []) ≡ []
+    by_test true = e
+    by_test false = refl
+no_beacons past ticks (inr h) =
+    let passed : nat_lt (now_of past.told / 1000) (later past ticks / 1000) ≡ false = grind (arith, nat_tests, h) in
+    rw (passed, stays (config_before past).iv) refl
+
+pub beacons_none : (past : Past) (ticks : ℕ) → beacons_due past (config_before past) ticks ≡ [] → AreNoBeacons (config_before past) (now_of past.told) (later past ticks)
+beacons_none past ticks h = by_test (nat_lt (now_of past.told / 1000) (later past ticks / 1000)) refl
+  where
+    by_test : (b : Bool) → nat_lt (now_of past.told / 1000) (later past ticks / 1000) ≡ b
+        → AreNoBeacons (config_before past) (now_of past.told) (later past ticks)
+    by_test true e = inl (rw e at h)
+    by_test false e = inr (grind (arith, nat_tests, e))
