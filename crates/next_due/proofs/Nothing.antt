@@ -1,12 +1,15 @@
 -- Lists of jobs and of records that are empty, and what a tick event does by its answer.
-use Rattle.std.proofs.Common.{◌≡◌, ℕ, ◌+◌, ◌-◌, ◌/◌, ◌≤◌, Bool, true, false, cond, not, List, [], ◌∷◌, ◌++◌, refl, ap, arith}
+use Rattle.std.proofs.Common.{◌≡◌, ℕ, ◌+◌, ◌-◌, ◌/◌, ◌<◌, ◌≤◌, ◌↔◌, inl, inr, Bool, true, false, cond, not, List, [], ◌∷◌, ◌++◌, map, refl, ap, arith}
 use Rattle.std.specs.Prelude.{◌==◌, ◌||◌, nat_lt, if◌then◌else◌, ◌⊎◌}
 use Rattle.std.specs.List.{flat_map}
 use Rattle.std.proofs.lemmas.Bool.Decides.{nat_tests}
 use Rattle.mesh_base.specs.declared.iv_state.IvState.{IvState}
+use Rattle.layer_definitions.specs.KeyRefresh.{own_beacon}
+use Rattle.mesh_base.specs.declared.keys.NetKeyRow.{NetKeyRow}
 use Rattle.mesh_types.specs.declared.answers.Answer.TheVariants as A
 use Rattle.mesh_types.specs.declared.events.Event.TheVariants as E
 use Rattle.mesh_types.specs.declared.jobs.Job.{Job}
+use Rattle.mesh_types.specs.declared.jobs.Job.TheVariants as J
 use Rattle.node_layers.specs.BuiltLayers.{built_layers}
 use Rattle.node_layers.specs.ConfiguredLayers.{configured_layers}
 use Rattle.node_layers.specs.NodeLayers.{node_layers, published_at}
@@ -54,14 +57,15 @@ no_records past ticks h =
     let none : (hours_passed past ticks == 0) ≡ true = grind (arith, nat_tests, h) in
     rw none refl
 
+some_record : (past : Past) (ticks : ℕ) → (hours_passed past ticks == 0) ≡ false → tick_records node_layers past ticks ≡ [] → ⊥
+some_record past ticks e h = let one = rw e at h in cc
+
 pub no_hour : (past : Past) (ticks : ℕ) → tick_records node_layers past ticks ≡ [] → IsNoHour (now_of past.told) (later past ticks)
 no_hour past ticks h = by_test (hours_passed past ticks == 0) refl
   where
     by_test : (b : Bool) → (hours_passed past ticks == 0) ≡ b → IsNoHour (now_of past.told) (later past ticks)
     by_test true e = grind (arith, nat_tests, e)
-    by_test false e = absurd (by_records e h)
-    by_records : (hours_passed past ticks == 0) ≡ false → tick_records node_layers past ticks ≡ [] → ⊥
-    by_records e k = let f = rw e at k in cc
+    by_test false e = absurd (some_record past ticks e h)
 
 -- Beacons, where the IV state stays.
 
@@ -92,3 +96,21 @@ beacons_none past ticks h = by_test (nat_lt (now_of past.told / 1000) (later pas
         → AreNoBeacons (config_before past) (now_of past.told) (later past ticks)
     by_test true e = inl (rw e at h)
     by_test false e = inr (grind (arith, nat_tests, e))
+
+-- where beacons are sent there is one for each network key
+pub some_beacon : (c : Config) → c.beacon ≡ 1 → beacon_jobs c ≡ [] → c.nets ≡ []
+some_beacon c on h =
+    let sends : (c.beacon == 1) ≡ true = grind (arith, nat_tests, on) in
+    by_keys c.nets (rw sends at h)
+  where
+    by_keys : (rows : List NetKeyRow) → map (λ r. J.Beacon (own_beacon c.iv r)) rows ≡ [] → rows ≡ []
+    by_keys [] e = refl
+    by_keys (r ∷ rows) e = absurd cc
+
+-- periods that follow one another from 0 on
+pub from_zero : (now moment period end : ℕ) → ((moment - 0) / period ≤ (now - 0) / period) ↔ moment < end
+    → (moment / period ≤ now / period) ↔ moment < end
+from_zero now moment period end h =
+    let a : moment - 0 ≡ moment = omega arith in
+    let b : now - 0 ≡ now = omega arith in
+    rw (a, b) at h

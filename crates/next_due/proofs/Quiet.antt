@@ -73,9 +73,9 @@ module _ (past : Past) (ticks : ℕ) where
     pub still_where : IsQuiet past ticks → IsStill past (later past ticks)
     still_where h =
         let all = sym (jobs_are past c ticks (later past ticks)) ∙ subst sent_by time_told h.jobs in
-        let behind_acks = (empty_parts (acks_at past c ticks) _ all).1 in
-        let behind_rounds = (empty_parts (segments_at past c ticks) _ behind_acks).1 in
-        let beacons = (empty_parts (beacons_due past c ticks) (published_at past c ticks) behind_rounds).0 in
+        let before : List Job = acks_at past c ticks ++ segments_at past c ticks in
+        let front = (empty_parts (before ++ beacons_due past c ticks) (published_at past c ticks) all).0 in
+        let beacons = (empty_parts before (beacons_due past c ticks) front).1 in
         record {
           hour = no_hour past ticks (sym (stores_are past ticks (later past ticks)) ∙ subst stored_by time_told h.stores);
           beacons = beacons_none past ticks beacons;

@@ -3,12 +3,12 @@
 //! nothing, and ends nothing.
 //!
 //! - `ends`: when the first of all these ends
-//! - `due`: in how many ticks that is
+//! - `ticks`: in how many ticks that is
 #![tactic(auto)]
 
-mod due;
 mod ends;
+mod ticks;
 
 
 
-pub use due::due;
+pub use ticks::due;

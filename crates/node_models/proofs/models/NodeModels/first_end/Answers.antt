@@ -1,4 +1,4 @@
-use Rattle.std.proofs.Common.{◌≡◌, ◌↔◌, ◌∙◌, [], None, ap, subst, sym, arith}
+use Rattle.std.proofs.Common.{◌≡◌, ◌↔◌, [], None, subst, sym, arith}
 use Rattle.model_states.specs.Publication.{Published, heartbeat_due, rows_due}
 use Rattle.node_models.specs.Models.{AreNodeModelsOf, ModelsView}
 use Rattle.timer_ends.proofs.Firsts.{all_of}
