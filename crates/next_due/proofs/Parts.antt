@@ -1,13 +1,12 @@
 -- What is due of messages that time leaves as they are: nothing.
-use Rattle.std.proofs.Common.{◌≡◌, ℕ, ◌-◌, Bool, true, false, not, List, [], ◌∷◌, filter, refl, sym}
+use Rattle.std.proofs.Common.{◌≡◌, ℕ, ◌-◌, Bool, true, false, not, List, [], ◌∷◌, refl, sym}
 use Rattle.std.proofs.lemmas.Bool.{or_parts}
 use Rattle.std.specs.Prelude.{nat_lt}
-use Rattle.std.specs.List.{filter_map, flat_map, list_any}
+use Rattle.std.specs.List.{flat_map, list_any}
 use Rattle.layer_states.specs.Reassembly.{acks_due, after, tick}
 use Rattle.layer_states.specs.Sending as sending
 use Rattle.layer_states.specs.declared.reassembly.Assembly.{Assembly}
 use Rattle.layer_states.specs.declared.sending.Sending.{Sending}
-use Rattle.mesh_types.specs.declared.jobs.Job.{Job}
 use Rattle.node_layers.specs.Sending.{round_jobs}
 use Rattle.segment_reassembly.proofs.Still.{none_ends}
 use Rattle.segment_reassembly.specs.Ends.{is_ending, is_timer_over}

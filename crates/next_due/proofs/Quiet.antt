@@ -1,12 +1,11 @@
 -- A tick event is quiet exactly where nothing ends up to its moment.
-use Rattle.std.proofs.Common.{◌≡◌, ◌∙◌, ℕ, ◌+◌, true, false, cond, List, [], ◌++◌, refl, ap, sym, subst}
+use Rattle.std.proofs.Common.{◌≡◌, ◌∙◌, ℕ, true, false, cond, List, [], ◌++◌, refl, ap, sym, subst}
 use Rattle.std.specs.List.{flat_map}
 use Rattle.layer_states.specs.declared.reassembly.DueAck.{DueAck}
 use Rattle.mesh_types.specs.declared.answers.Answer.{Answer}
 use Rattle.mesh_types.specs.declared.answers.Answer.TheVariants as A
 use Rattle.mesh_types.specs.declared.events.Event.TheVariants as E
 use Rattle.mesh_types.specs.declared.jobs.Job.{Job}
-use Rattle.model_states.specs.declared.publication.HeartbeatRow.{HeartbeatRow}
 use Rattle.node_layers.specs.NodeLayers.{node_layers, published_at}
 use Rattle.node_layers.specs.Reassembly.{acks_at, due_jobs}
 use Rattle.node_layers.specs.Reassembly as parts
@@ -15,7 +14,7 @@ use Rattle.node_layers.specs.Sending as own
 use Rattle.event_definitions.specs.Answers.{config_before, later}
 use Rattle.event_definitions.specs.History.{OfNothing, Past, now_of}
 use Rattle.event_definitions.specs.Jobs.{beacons_due, jobs_of}
-use Rattle.event_definitions.specs.Stores.{stores, tick_records}
+use Rattle.event_definitions.specs.Stores.{stores}
 use Rattle.node_models.specs.Ends.{AreModelsQuiet}
 use Rattle.next_due.proofs.Nothing.{beacons_none, empty_parts, jobs_are, no_beacons, no_hour, no_records, reset_jobs, reset_stores, stores_are, told}
 use Rattle.next_due.proofs.Parts.{still_acks, still_rounds}

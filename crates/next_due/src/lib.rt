@@ -9,6 +9,4 @@
 mod ends;
 mod ticks;
 
-
-
 pub use ticks::due;

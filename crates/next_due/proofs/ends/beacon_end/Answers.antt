@@ -1,4 +1,4 @@
-use Rattle.std.proofs.Common.{◌≡◌, ◌↔◌, ℕ, ◌-◌, ◌/◌, ◌≤◌, ◌<◌, inl, inr}
+use Rattle.std.proofs.Common.{inl, inr}
 use Rattle.next_due.proofs.Nothing.{from_zero}
 use Rattle.next_due.proofs.ends.beacon_end.Goals as goal
 

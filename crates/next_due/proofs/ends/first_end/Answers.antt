@@ -1,4 +1,4 @@
-use Rattle.std.proofs.Common.{◌≡◌, ◌↔◌, ℕ, subst}
+use Rattle.std.proofs.Common.{◌↔◌, ℕ, subst}
 use Rattle.event_definitions.specs.Answers.{config_before}
 use Rattle.next_due.specs.Still.{AreNoBeacons, IsNoHour}
 use Rattle.store_definitions.specs.Config.{Config}

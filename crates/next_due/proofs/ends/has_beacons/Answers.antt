@@ -1,4 +1,4 @@
-use Rattle.std.proofs.Common.{◌≡◌, Bool, true, false, not, sym}
+use Rattle.std.proofs.Common.{◌≡◌, Bool, true, false, not}
 use Rattle.std.specs.Prelude.{IsTrue}
 use Rattle.node_records.specs.Tables.{config_in}
 use Rattle.next_due.proofs.Nothing.{some_beacon}

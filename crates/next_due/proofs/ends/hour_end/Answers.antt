@@ -1,4 +1,3 @@
-use Rattle.std.proofs.Common.{◌≡◌, ◌↔◌, ℕ, ◌-◌, ◌/◌, ◌≤◌, ◌<◌, subst, arith}
 use Rattle.next_due.proofs.Nothing.{from_zero}
 use Rattle.next_due.proofs.ends.hour_end.Goals as goal
 

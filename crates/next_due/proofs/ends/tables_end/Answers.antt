@@ -28,7 +28,8 @@ returns c = λ past are time later from most.
     let stand = subst (λ (v : ModelsView). AreNodeModelsOf v past) (sym c.models.ensures.value) are.models in
     let models =
     subst (λ (n : ℕ). AreModelsQuiet past n later ↔ IsBefore later c.first_end-models.result) time
-        (c.first_end-models.ensures.still past stand later from most) in
-    let all = all_of hearing (all_of friends models (c.sooner.ensures.before later)) (c.sooner-2.ensures.before later) in
-    (λ h. all.0 ((h.parts, h.own), (h.friends, h.models)),
-    λ w. let each = all.1 w in record { parts = each.0.0; own = each.0.1; friends = each.1.0; models = each.1.1 })
+    (c.first_end-models.ensures.still past stand later from most) in
+    let all = all_of hearing (all_of friends models (c.sooner.ensures.before later)) (c.sooner-2.ensures.before later) in (
+      λ h. all.0 ((h.parts, h.own), (h.friends, h.models)),
+      λ w. let each = all.1 w in record { parts = each.0.0; own = each.0.1; friends = each.1.0; models = each.1.1 },
+    )
