@@ -1,3 +1,4 @@
+mod AsFar
 mod Lists
 mod Standing
 mod Lives

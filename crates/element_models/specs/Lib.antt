@@ -1,3 +1,4 @@
+pub mod Ends
 pub mod Messages
 pub mod Models
 pub mod Places

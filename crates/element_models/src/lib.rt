@@ -6,9 +6,11 @@
 //! - `taken`: what a message stores and what is replied
 //! - `servers`: the two servers of an element
 //! - `models`: the servers of all elements
+//! - `ends`: when the first change of a state ends
 //! - `laws`: what leaves them as they are
 #![tactic(auto)]
 
+mod ends;
 mod laws;
 mod message;
 mod models;

@@ -32,7 +32,7 @@ use std::marker::Model;
 /// with these. An entry that delivers none leaves them (`models_law`).
 #[derive(Drop)]
 pub struct ElementModels {
-    servers: ArrayVec<Servers, 4>,
+    pub(crate) servers: ArrayVec<Servers, 4>,
 }
 
 impl Model for ElementModels {

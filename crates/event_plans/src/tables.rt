@@ -64,4 +64,25 @@ impl NodeTables {
     {
         self.hearing.keys()
     }
+
+    /// The tables of what was heard and what is sent.
+    pub fn hearing(&self) -> &Tables
+        ensures value { result.now ≡ self.now.hearing }
+    {
+        &self.hearing
+    }
+
+    /// The models.
+    pub fn models(&self) -> &NodeModels
+        ensures value { result.now ≡ self.now.models }
+    {
+        &self.models
+    }
+
+    /// The friendships and offers.
+    pub fn friends(&self) -> &NodeFriends
+        ensures value { result.now ≡ self.now.friends }
+    {
+        &self.friends
+    }
 }

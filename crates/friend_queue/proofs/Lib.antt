@@ -1,1 +1,2 @@
 mod Friendships
+mod Still

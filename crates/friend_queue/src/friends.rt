@@ -32,7 +32,7 @@ use std::marker::Model;
 /// call. `now` is in ticks of 10 ms, at most 2^48; `lpn` is the address of a Low Power node's first element.
 #[derive(Drop)]
 pub struct Friends {
-    slots: Slots,
+    pub(crate) slots: Slots,
     offers: u16,
 }
 

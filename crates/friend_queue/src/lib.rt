@@ -8,8 +8,10 @@
 //! - `slot`: a friendship, its Polls and its list
 //! - `queue`: the Friend Queue
 //! - `request`: a Friend Request, and the offer that answers it
+//! - `ends`: when the first of the friendships and offers goes
 #![tactic(auto)]
 
+mod ends;
 mod friends;
 mod queue;
 mod request;

@@ -10,10 +10,12 @@
 //! - `beacons`: a beacon heard
 //! - `own`: own segmented messages
 //! - `ticks`: time that passed
+//! - `ends`: when the first timer of the messages ends
 //! - `laws`: what the tables stand for
 #![tactic(auto)]
 
 mod beacons;
+mod ends;
 mod hearing;
 mod laws;
 mod lower;

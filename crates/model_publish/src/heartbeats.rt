@@ -16,8 +16,8 @@ const MOST_COUNT: u16 = 65_534;
 /// The Count Log of a heartbeat without an end.
 const NO_END: u8 = 0xff;
 
-// The ticks of a period; 0 where there is none.
-fn heartbeat_period(log: u8) -> u64
+/// The ticks of a period; 0 where there is none.
+pub(crate) fn heartbeat_period(log: u8) -> u64
     ensures { result ≡ heartbeat_period log }
 {
     if log == 0 || log > MOST_LOG {
@@ -51,8 +51,8 @@ pub fn heartbeat_at(now: u64, row: &HeartbeatRow) -> Heartbeat
     }
 }
 
-// Whether all of a heartbeat were sent.
-fn is_none_left(left: Option<u16>) -> bool
+/// Whether all of a heartbeat were sent.
+pub(crate) fn is_none_left(left: Option<u16>) -> bool
     ensures { result ≡ is_none_left left }
 {
     match left {

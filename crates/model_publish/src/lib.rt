@@ -4,9 +4,11 @@
 //! - `publisher`: the rows of the models, and the heartbeat
 //! - `rows`: rows in their order, and which are due
 //! - `heartbeats`: periods and counts of a heartbeat, and whether one is due
+//! - `ends`: when the first period ends of what is published
 //! - `laws`: rows of a node's own models are at most 8
 #![tactic(auto)]
 
+mod ends;
 mod heartbeats;
 mod laws;
 mod publisher;

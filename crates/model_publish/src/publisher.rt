@@ -15,9 +15,9 @@ use std::marker::Model;
 /// and the heartbeat.
 #[derive(Drop)]
 pub struct Publisher {
-    rows: Rows,
-    asked: u64,
-    heartbeat: Option<Heartbeat>,
+    pub(crate) rows: Rows,
+    pub(crate) asked: u64,
+    pub(crate) heartbeat: Option<Heartbeat>,
 }
 
 impl Model for Publisher {

@@ -83,8 +83,8 @@ pub fn accepted_at(now: u64, row: &PublishRow) -> Publication
     }
 }
 
-// The ticks of a Publish Period.
-fn publish_period(octet: u8) -> u64
+/// The ticks of a Publish Period.
+pub(crate) fn publish_period(octet: u8) -> u64
     ensures { result ≡ publish_period octet }
 {
     let step = match octet / 64 {

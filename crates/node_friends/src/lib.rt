@@ -12,6 +12,7 @@
 
 mod acts;
 mod control;
+mod ends;
 mod friends;
 mod heard;
 mod jobs;

@@ -8,7 +8,6 @@ use Rattle.node_records.specs.Steps.{IsShortTtl}
 use Rattle.node_records.specs.declared.persist.Persist.{Persist}
 use Rattle.record_types.specs.declared.records.PublishRow.{PublishRow}
 use Rattle.record_types.specs.declared.records.StoreRecord.{StoreRecord}
-use Rattle.record_types.specs.declared.records.StoreRecord.TheVariants as R
 
 -- the row of a publication that is stored
 abbrev pub row_in : Option ConfigAct → Option PublishRow

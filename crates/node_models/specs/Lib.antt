@@ -1,4 +1,5 @@
 pub mod Acts
 pub mod Due
+pub mod Ends
 pub mod Models
 pub mod Replies

@@ -6,11 +6,13 @@
 //! - `configuration`: what a message asks the Configuration Server for, and what is published by that
 //! - `taken`: what a message stores, and what is replied to it
 //! - `due`: what is published at a moment
+//! - `ends`: when something of the models is due
 //! - `laws`: what leaves the models as they are
 #![tactic(auto)]
 
 mod configuration;
 mod due;
+mod ends;
 mod laws;
 mod models;
 mod taken;

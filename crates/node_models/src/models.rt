@@ -39,8 +39,8 @@ use std::marker::Model;
 /// one that told of time. Any other entry leaves them (`node_models_law`).
 #[derive(Drop)]
 pub struct NodeModels {
-    servers: ElementModels,
-    publisher: Publisher,
+    pub(crate) servers: ElementModels,
+    pub(crate) publisher: Publisher,
 }
 
 impl Model for NodeModels {

@@ -1,7 +1,7 @@
 -- How far a way is gone, and levels in their range.
-use Rattle.std.proofs.Common.{◌≡◌, ℕ, zero, suc, ◌+◌, ◌*◌, ◌/◌, ◌<◌, ◌≤◌, ◌^◌, ℤ, pos, negsuc, neg_ℤ, ◌+ℤ◌, ◌-ℤ◌, ◌*ℤ◌, ◌≤ℤ◌, ◌⊎◌, inl, inr, refl, arith, w16, w64, FitsSigned}
-use Rattle.std.specs.Int.{int_min, int_max, saturate_signed}
-use Rattle.std.proofs.lemmas.Int.{ints, clamps}
+use Rattle.std.proofs.Common.{◌≡◌, ℕ, zero, suc, ◌*◌, ◌/◌, ◌<◌, ◌≤◌, ℤ, pos, negsuc, neg_ℤ, ◌+ℤ◌, ◌-ℤ◌, ◌≤ℤ◌, ◌⊎◌, inl, inr, arith, w16, w64, FitsSigned}
+use Rattle.std.specs.Int.{saturate_signed}
+use Rattle.std.proofs.lemmas.Int.{ints}
 use lib.Signed.{quot_z}
 use Rattle.std.proofs.Math.Nat.{mul-le-mul_left, div-le_of_le-mul, div-le_self}
 use Rattle.model_states.specs.Level.{in_range, way_gone}

@@ -15,7 +15,7 @@ use std::marker::Model;
 /// A Generic Level Server. A clause sees it as its state.
 #[derive(Drop)]
 pub struct Level {
-    state: LevelState,
+    pub(crate) state: LevelState,
 }
 
 impl Model for Level {

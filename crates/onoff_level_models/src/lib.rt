@@ -6,8 +6,10 @@
 //! - `onoff`: the Generic OnOff Server
 //! - `motion`: where a level is on its way
 //! - `level`: the Generic Level Server
+//! - `ends`: when a delay or a transition ends
 #![tactic(auto)]
 
+mod ends;
 mod level;
 mod messages;
 mod motion;

@@ -16,7 +16,7 @@ use std::marker::Model;
 /// A Generic OnOff Server. A clause sees it as its state.
 #[derive(Drop)]
 pub struct OnOff {
-    state: OnOffState,
+    pub(crate) state: OnOffState,
 }
 
 impl Model for OnOff {

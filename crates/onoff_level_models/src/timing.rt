@@ -84,8 +84,8 @@ pub fn is_delayed(t: &Timing, elapsed: u64) -> bool
     elapsed < u64::from(t.delay)
 }
 
-// The ticks of delay and transition together.
-fn whole(t: &Timing) -> u64
+/// The ticks of delay and transition together.
+pub(crate) fn whole(t: &Timing) -> u64
     ensures { result ≡ t.now.delay + t.now.duration }
 {
     u64::from(t.delay) + u64::from(t.duration)

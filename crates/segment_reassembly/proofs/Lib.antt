@@ -1,2 +1,3 @@
 mod Messages
 mod Short
+pub mod Still

@@ -7,10 +7,12 @@
 //! - `message`: a segment and its message
 //! - `pieces`: the pieces of a message
 //! - `segment`: what a segment says
+//! - `ends`: when the first timer of the messages ends
 //!
 //! A caller to begin with: `take_low` and `hear_named` in `crates/mesh_hearing/src/lower.rt`.
 #![tactic(auto)]
 
+mod ends;
 mod message;
 mod parts;
 mod pieces;

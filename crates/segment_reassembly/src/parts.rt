@@ -20,7 +20,7 @@ use std::marker::Model;
 /// call.
 #[derive(Drop)]
 pub struct Parts {
-    rows: Rows,
+    pub(crate) rows: Rows,
 }
 
 impl Model for Parts {

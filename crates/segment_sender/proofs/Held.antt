@@ -1,11 +1,11 @@
 -- The messages that are held stay as they are known to be, whatever call is made.
-use Rattle.std.proofs.Common.{◌≡◌, ℕ, suc, ◌+◌, ◌≤◌, ◌<◌, Bool, true, false, cond, not, List, [], ◌∷◌, ◌++◌, take, drop, map, filter, remove, sym, subst, arith, Some, None}
+use Rattle.std.proofs.Common.{◌≡◌, ℕ, suc, ◌+◌, ◌≤◌, ◌<◌, Bool, true, false, cond, not, List, [], ◌∷◌, ◌++◌, take, drop, filter, remove, sym, subst, arith, Some, None}
 use Rattle.std.specs.Prelude.{All, slice_get, slice_set}
 use Rattle.std.specs.List.{AllByRecursion as Every, filter_map, range_with_len}
 use Rattle.std.proofs.lemmas.List.Elements.{All-append, All-cons, All-drop, All-filter, All-from_get_or, All-from_recursion, All-nil, All-set, All-take, recursion_from_All}
 use Rattle.std.proofs.lemmas.List.FromFn.{get_or-range_with_len, length-range_with_len}
 use Rattle.layer_definitions.specs.Lower.{last_segment}
-use Rattle.layer_states.specs.Sending.{ack, ack_of, after, begun, due, ends, has_bit, is_due, is_last, left_after, place_of, rows_acked, stepped}
+use Rattle.layer_states.specs.Sending.{ack, ack_of, after, begun, due, ends, has_bit, is_due, is_last, left_after, place_of, stepped}
 use Rattle.mesh_types.specs.declared.events.Outgoing.{Outgoing}
 use Rattle.layer_states.specs.declared.sending.Sending.{Sending}
 use Rattle.mesh_base.proofs.Every.{Inside, every_consed, every_slot, option_cases}

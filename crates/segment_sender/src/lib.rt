@@ -5,8 +5,10 @@
 //! - `senders`: the table and its calls
 //! - `rows`: what a call does to the list of messages
 //! - `message`: one message, its pieces and its rounds
+//! - `ends`: when the first timer of the messages ends
 #![tactic(auto)]
 
+mod ends;
 mod message;
 mod rows;
 mod senders;

@@ -1,7 +1,7 @@
 -- A part of the way from one level to another leads to a level.
-use Rattle.std.proofs.Common.{◌≡◌, arith, rules, refl, ap, ◌∙◌, ◌+ℤ◌, ◌-ℤ◌, FitsSigned, w64, false, leb}
+use Rattle.std.proofs.Common.{◌≡◌, arith, rules, refl, ◌+ℤ◌, ◌-ℤ◌, FitsSigned, w64, false, leb}
 use Rattle.std.specs.Int.{w16}
-use Rattle.std.proofs.lemmas.Int.{ints, to_z-of_z}
+use Rattle.std.proofs.lemmas.Int.{to_z-of_z}
 use Rattle.model_states.specs.Level.{way_gone}
 use Rattle.onoff_level_models.proofs.Ways.{part-fits, wider}
 use Rattle.onoff_level_models.proofs.motion.level_to.Goals as goal
