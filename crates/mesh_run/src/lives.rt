@@ -1,12 +1,13 @@
 //! The lives of a script, one after another over one flash.
 #![tactic(auto)]
 
-ghost use Rattle.std.specs.Prelude.{◌≡◌, ◌≤◌, ◌<◌, [], length, slice_index_or, IfOk, IfSome, OnErr};
+ghost use Rattle.std.specs.Prelude.{◌≡◌, ◌≤◌, ◌<◌, List, [], length, slice_index_or, IfOk, IfSome, IsSomeAnd};
 ghost use Rattle.life_plans.specs.Plans.{script_of};
 ghost use Rattle.machine_contract.specs.Opening.{EachRecovered, IsNodeFlash};
 ghost use Rattle.mesh_base.specs.Outside.{Rose};
 ghost use Rattle.node_layers.specs.NodeLayers.{node_layers};
 ghost use Rattle.node_store.specs.Tie.{IsNode};
+ghost use Rattle.record_types.specs.declared.records.StoreRecord.{StoreRecord};
 ghost use Rattle.report_writer.specs.Lives.{FitsLines, life_of};
 ghost use Rattle.report_writer.specs.Writing.{view_of};
 ghost use Rattle.script_definitions.specs.Ranges.{IsScriptOf};
@@ -15,9 +16,10 @@ ghost use Rattle.store_definitions.specs.Config.{config_of};
 ghost use Rattle.store_definitions.specs.Provisioning.{provisioned};
 ghost use Rattle.mesh_run.specs.Causes.{IsSameFlash};
 ghost use Rattle.life_laws.specs.Plan as Plan;
-ghost use Rattle.mesh_run.specs.Lived.{IsFault, IsMemory, Lived, flash_left};
+ghost use Rattle.mesh_run.specs.Lived.{IsMemory, IsSinkFault, Lived, flash_left};
 ghost use Rattle.run_steps.specs.Provisioned.{IsProvisioned};
 ghost use Rattle.mesh_run.specs.Ran.{Ran, RanFirst, RanFront};
+ghost use Rattle.mesh_run.specs.Reporting.{Reports, ReportsFront};
 ghost use Rattle.event_definitions.specs.Role.{node_role};
 
 use flash_model::Bench;
@@ -78,7 +80,9 @@ fn live<R: Threads + Wait + Sync, B: Bench, G: Gate>(
     requires elements { EachRecovered (B.chip flash)
         (λ records. (config_of records).elements ≡ (script_of script.now).node.elements) }
     ensures lived { IfOk result
-        (λ r. Lived (slice_index_or (script_of script.now).lives i []) (B.chip flash) (life_of r.0) (B.chip r.1)) }
+        (λ r. (over : List StoreRecord)
+        × Lived (node_role node_layers) (slice_index_or (script_of script.now).lives i []) (B.chip flash)
+        (record { over = over; life = life_of r.0 }) (B.chip r.1)) }
     ensures room { IfOk result (λ r. FitsLines (life_of r.0)) }
 {
     script_law();
@@ -101,16 +105,17 @@ pub(crate) fn live_all<R: Threads + Wait + Sync, B: Bench, K: Sink, G: Gate>(
     requires read { IsScriptOf Grammars.Node script.now }
     requires provisioned { IsProvisioned (B.chip flash) (provisioned (script_of script.now).node) }
     ensures all { IfOk result
-        (λ f. Ran (node_role node_layers) (script_of script.now) hex (B.chip flash) (view_of K.held K.pieces sink.old)
-        (B.chip f) (view_of K.held K.pieces sink.new)) }
-    ensures front { OnErr result
-        (RanFront B.chip (node_role node_layers) (script_of script.now) hex (B.chip flash) (flash_left result)
-        (view_of K.held K.pieces sink.old) (view_of K.held K.pieces sink.new)) }
+        (λ f. Ran B.chip (node_role node_layers) (script_of script.now) (Reports hex) flash
+        (view_of K.held K.pieces sink.old) f (view_of K.held K.pieces sink.new)) }
+    ensures front { IsSinkFault result
+        → IsSomeAnd (flash_left result)
+        (λ f. RanFront B.chip (node_role node_layers) (script_of script.now) (Reports hex) (ReportsFront hex) flash
+        (view_of K.held K.pieces sink.old) f (view_of K.held K.pieces sink.new)) }
     ensures whole { IsMemory result
-        → RanFirst B.chip (node_role node_layers) (script_of script.now) hex (B.chip flash) (flash_left result)
-        (view_of K.held K.pieces sink.old) (view_of K.held K.pieces sink.new) }
-    ensures cause { IsFault result → Rose (K.faults sink.old) (K.faults sink.new) }
-    ensures no_fault { ¬ IsFault result → K.faults sink.new ≡ K.faults sink.old }
+        → RanFirst B.chip (node_role node_layers) (script_of script.now) (Reports hex) flash
+        (view_of K.held K.pieces sink.old) (flash_left result) (view_of K.held K.pieces sink.new) }
+    ensures cause { IsSinkFault result → Rose (K.faults sink.old) (K.faults sink.new) }
+    ensures no_fault { ¬ IsSinkFault result → K.faults sink.new ≡ K.faults sink.old }
     ensures later { K.faults sink.old ≤ K.faults sink.new }
     ensures frame { IfSome (flash_left result) (λ f. IsSameFlash (B.chip flash) (B.chip f)) }
 {

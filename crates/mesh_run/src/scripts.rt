@@ -11,8 +11,9 @@ ghost use Rattle.script_definitions.specs.Reading.{reading};
 ghost use Rattle.script_definitions.specs.Reading.Reading.{Fails};
 ghost use Rattle.script_definitions.specs.declared.kind.Grammar.TheVariants as Grammars;
 ghost use Rattle.mesh_run.specs.Causes.{IfScript, IsBeforeFlash, IsBeforeLives, IsDueBy, IsErasedFlash, IsFromFlash, IsSameFlash, IsScriptAnd, IsWrittenAt, WasErased};
-ghost use Rattle.mesh_run.specs.Ran.{Ran, RanFirst, RanFront};
-ghost use Rattle.run_steps.specs.Provisioned.{FailsEarly, WasProvisioned, format_by};
+ghost use Rattle.mesh_run.specs.Ran.{FromProvisioned, Ran, RanFirst, RanFront};
+ghost use Rattle.mesh_run.specs.Reporting.{Reports, ReportsFront};
+ghost use Rattle.run_steps.specs.Provisioned.{FailsEarly, format_by};
 ghost use Rattle.event_definitions.specs.Role.{node_role};
 ghost use Rattle.store_definitions.specs.Provisioning.{provisioned};
 
@@ -60,17 +61,18 @@ fn run_script<R: Threads + Wait + Sync, B: Bench, K: Sink, G: Gate>(
     // What is written is the report of a record of a run of the script, or a front of it.
     ensures done { result.status ≡ Status.Done
         → IsSomeAnd result.flash
-        (λ f. Ran (node_role node_layers) (script_of script.now) flags.hex (B.chip flash) (view_of K.held K.pieces sink.old)
-        (B.chip f) (view_of K.held K.pieces sink.new)) }
-    ensures format { (result.status ≡ Status.Done) ⊎ (result.status ≡ Status.WriteFault)
+        (λ f. FromProvisioned B.chip (format_by flags.old) (provisioned (script_of script.now).node) (B.chip flash)
+        (λ start. Ran B.chip (node_role node_layers) (script_of script.now) (Reports flags.hex) start
+        (view_of K.held K.pieces sink.old) f (view_of K.held K.pieces sink.new))) }
+    ensures front { result.status ≡ Status.WriteFault
         → IsSomeAnd result.flash
-        (λ f. WasProvisioned (format_by flags.old) (provisioned (script_of script.now).node) (B.chip flash) (B.chip f)) }
-    ensures front { (result.status ≡ Status.WriteFault) ⊎ (result.status ≡ Status.Memory)
-        → RanFront B.chip (node_role node_layers) (script_of script.now) flags.hex (B.chip flash) result.flash
-        (view_of K.held K.pieces sink.old) (view_of K.held K.pieces sink.new) }
+        (λ f. FromProvisioned B.chip (format_by flags.old) (provisioned (script_of script.now).node) (B.chip flash)
+        (λ start. RanFront B.chip (node_role node_layers) (script_of script.now) (Reports flags.hex)
+        (ReportsFront flags.hex) start (view_of K.held K.pieces sink.old) f (view_of K.held K.pieces sink.new))) }
     ensures whole { result.status ≡ Status.Memory
-        → RanFirst B.chip (node_role node_layers) (script_of script.now) flags.hex (B.chip flash) result.flash
-        (view_of K.held K.pieces sink.old) (view_of K.held K.pieces sink.new) }
+        → FromProvisioned B.chip (format_by flags.old) (provisioned (script_of script.now).node) (B.chip flash)
+        (λ start. RanFirst B.chip (node_role node_layers) (script_of script.now) (Reports flags.hex) start
+        (view_of K.held K.pieces sink.old) result.flash (view_of K.held K.pieces sink.new)) }
     ensures nothing_written { IsBeforeLives result.status → sink.new ≡ sink.old }
 
     // What becomes of the flash, and of the sink's count of faults.
@@ -135,26 +137,21 @@ pub(crate) fn run_text<R: Threads + Wait + Sync, B: Bench, K: Sink, G: Gate>(
     ensures done { result.status ≡ Status.Done
         → IsScriptAnd (reading Grammars.Node text.now)
         (λ s. IsSomeAnd result.flash
-        (λ f. Ran (node_role node_layers) (script_of s) flags.hex (B.chip flash) (view_of K.held K.pieces sink.old) (B.chip f)
-        (view_of K.held K.pieces sink.new))) }
-    ensures format { (result.status ≡ Status.Done) ⊎ (result.status ≡ Status.WriteFault)
-        → IsScriptAnd (reading Grammars.Node text.now)
-        (λ s. IsSomeAnd result.flash
-        (λ f. WasProvisioned (format_by flags.old) (provisioned (script_of s).node) (B.chip flash) (B.chip f))) }
+        (λ f. FromProvisioned B.chip (format_by flags.old) (provisioned (script_of s).node) (B.chip flash)
+        (λ start. Ran B.chip (node_role node_layers) (script_of s) (Reports flags.hex) start
+        (view_of K.held K.pieces sink.old) f (view_of K.held K.pieces sink.new)))) }
     ensures front { result.status ≡ Status.WriteFault
         → IsScriptAnd (reading Grammars.Node text.now)
-        (λ s. RanFront B.chip (node_role node_layers) (script_of s) flags.hex (B.chip flash) result.flash
-        (view_of K.held K.pieces sink.old) (view_of K.held K.pieces sink.new)) }
-    ensures memory { result.status ≡ Status.Memory
-        → (sink.new ≡ sink.old)
-        ⊎ IsScriptAnd (reading Grammars.Node text.now)
-        (λ s. RanFront B.chip (node_role node_layers) (script_of s) flags.hex (B.chip flash) result.flash
-        (view_of K.held K.pieces sink.old) (view_of K.held K.pieces sink.new)) }
+        (λ s. IsSomeAnd result.flash
+        (λ f. FromProvisioned B.chip (format_by flags.old) (provisioned (script_of s).node) (B.chip flash)
+        (λ start. RanFront B.chip (node_role node_layers) (script_of s) (Reports flags.hex) (ReportsFront flags.hex)
+        start (view_of K.held K.pieces sink.old) f (view_of K.held K.pieces sink.new)))) }
     ensures whole { result.status ≡ Status.Memory
-        → (sink.new ≡ sink.old)
+        → ((sink.new ≡ sink.old) × (result.flash ≡ Some flash))
         ⊎ IsScriptAnd (reading Grammars.Node text.now)
-        (λ s. RanFirst B.chip (node_role node_layers) (script_of s) flags.hex (B.chip flash) result.flash
-        (view_of K.held K.pieces sink.old) (view_of K.held K.pieces sink.new)) }
+        (λ s. FromProvisioned B.chip (format_by flags.old) (provisioned (script_of s).node) (B.chip flash)
+        (λ start. RanFirst B.chip (node_role node_layers) (script_of s) (Reports flags.hex) start
+        (view_of K.held K.pieces sink.old) result.flash (view_of K.held K.pieces sink.new))) }
     ensures nothing_written { IsBeforeLives result.status → sink.new ≡ sink.old }
 
     // What becomes of the flash, and of the sink's count of faults.
