@@ -35,11 +35,11 @@ lives_more role (p ∷ ps) (y ∷ ys) plan x next (first, h) l =
 -- a life behind lives that were run one after another
 pub chained_more : {F : Type 0} (chip : F → Chip) (role : Role) (plans : List (List Step)) (xs : List LifeOver) (plan : List Step) (x : LifeOver) (start mid left : F)
     → Chained chip role plans start xs mid → Lived role plan (chip mid) x (chip left) → Chained chip role (plans ++ plan ∷ []) start (xs ++ x ∷ []) left
-chained_more chip role [] [] plan x start mid left h l = (left, (subst (λ f. Lived role plan (chip f) x (chip left)) h l, refl))
+chained_more chip role [] [] plan x start mid left h l = (left, subst (λ f. Lived role plan (chip f) x (chip left)) h l, refl)
 chained_more chip role [] (y ∷ ys) plan x start mid left h l = absurd h
 chained_more chip role (p ∷ ps) [] plan x start mid left h l = absurd h
-chained_more chip role (p ∷ ps) (y ∷ ys) plan x start mid left (next, (first, h)) l =
-    (next, (first, chained_more chip role ps ys plan x next mid left h l))
+chained_more chip role (p ∷ ps) (y ∷ ys) plan x start mid left (next, first, h) l =
+    (next, first, chained_more chip role ps ys plan x next mid left h l)
 
 -- the lines of lives, and those of a life behind them
 pub lines_more : (hex : Bool) (n : ℕ) (xs : List LifeOver) (x : LifeOver)

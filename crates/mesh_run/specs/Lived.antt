@@ -1,5 +1,5 @@
 -- A life of a script that is over, lives one after another on one flash, and how the lives of a script ended.
-use Rattle.std.specs.Prelude.{◌≡◌, List, [], ◌∷◌, Option, Some, Result, Ok, Err, ⊤, ⊥}
+use Rattle.std.specs.Prelude.{◌≡◌, List, [], ◌∷◌, Option, Some, Result, Ok, Err, ⊤}
 use Rattle.event_definitions.specs.Role.{Role}
 use Rattle.flash_model.specs.Arming.{IsExplained}
 use Rattle.flash_model.specs.Chip.{Chip}

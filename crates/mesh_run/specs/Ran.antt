@@ -1,5 +1,5 @@
 -- What a whole run leaves: the record of its lives, told by the report that was written and by what its flash recovers.
-use Rattle.std.specs.Prelude.{◌≡◌, ◌⊎◌, ℕ, ◌+◌, ◌<◌, ◌≤◌, true, IsTrue, List, [], ◌∷◌, ◌++◌, All, length, take, count_by, ⊤, ⊥, Option, IfSome, IsSomeAnd}
+use Rattle.std.specs.Prelude.{◌≡◌, ◌⊎◌, ℕ, ◌+◌, ◌<◌, ◌≤◌, true, IsTrue, List, [], ◌∷◌, ◌++◌, All, length, take, count_by, ⊤, Option, IfSome, IsSomeAnd}
 use Rattle.std.specs.List.{Contains}
 use Rattle.event_definitions.specs.Role.{Role}
 use Rattle.flash_model.specs.Chip.{Chip}
