@@ -1,12 +1,20 @@
 -- From what the parts of a run do to what the run does.
-use Rattle.std.proofs.Common.{◌≡◌, ◌<◌, ◌≤◌, ℕ, List, ◌++◌, sym, ap, ◌∙◌, subst, arith, append-nil, Option, Some, None, IsTrue}
-use Rattle.std.specs.Prelude.{IfSome}
+use Rattle.std.proofs.Common.{◌≡◌, ◌<◌, ◌≤◌, ◌+◌, ℕ, List, ◌++◌, sym, ap, ◌∙◌, subst, arith, append-nil, Option, Some, None, IsTrue}
+use Rattle.std.specs.Prelude.{IfSome, IsSomeAnd}
 use Rattle.std.specs.Io.KnownBytes.{Consumes, IsAtEnd}
 use Rattle.flash_model.proofs.Runs.{past_more}
 use Rattle.flash_model.specs.Chip.{Chip, IsFresh, Keeps, KeepsCount, LeavesOnly, Stays}
 use Rattle.slot_journal.specs.Format.{IsErased, IsFirstWritten}
+use Rattle.node_store.specs.Provisioning.{provisioning}
 use Rattle.node_store.specs.Tie.{IsMade}
+use Rattle.node_store.specs.declared.provision.Provision.{Provision}
+use Rattle.store_definitions.specs.Provisioning.{provisioned}
 use Rattle.record_types.specs.declared.records.StoreRecord.{StoreRecord}
+use Rattle.event_definitions.specs.Role.{Role}
+use Rattle.report_definitions.specs.Record.{Life, LifeOver}
+use Rattle.report_writer.specs.Writing.{SinkView}
+use Rattle.run_definitions.specs.RunOf.{Script}
+use Rattle.mesh_run.specs.Ran.{FromProvisioned, Ran, RanFirst, RanFront}
 use Rattle.script_definitions.specs.Reading.{Reading}
 use Rattle.script_definitions.specs.Reading.Reading.{Fails, IsScript}
 use Rattle.script_definitions.specs.declared.script.Script as Said
@@ -79,17 +87,66 @@ fails_early records old mid new count image fresh setting keeps failed counts ma
 }
 
 -- the node was provisioned on it in this format
-pub was_provisioned : (format : ℕ) (records : List StoreRecord) (old mid new : Chip) → KeepsCount old mid → old.images mid.now
+pub was_provisioned : (format : ℕ) (p q : Provision) (old mid new : Chip) → p ≡ q → KeepsCount old mid → old.images mid.now
     → mid.setting ≡ record { faults = old.faults; arm = None } → IsErased mid.now → Keeps mid new → new.faults ≡ mid.faults
-    → IsProvisioned new records → IsInFormat format new → WasProvisioned format records old new
-was_provisioned format records old mid new count image setting erased keeps same made is = record {
+    → IsProvisioned new (provisioned (provisioning p)) → IsInFormat format new → WasProvisioned format (provisioned (provisioning q)) old new
+was_provisioned format p q old mid new of count image setting erased keeps same made is = record {
   found = mid.now;
   was = image;
   erased = erased;
-  made = made;
+  made = subst (λ (r : Provision). IsProvisioned new (provisioned (provisioning r))) of made;
   in_format = is;
   faults = same ∙ count.faults;
   setting = keeps.setting ∙ setting;
   steady = keeps.steady ∙ count.steady;
   past = past_more old mid new count.past keeps.past;
 }
+
+-- what was told is a report
+module _ {F : Type 0} (chip : F → Chip) (role : Role) (s : Script) (T U : List LifeOver → SinkView → SinkView → Type 0)
+    (as : (lives : List LifeOver) (before after : SinkView) → T lives before after → U lives before after) where
+  pub ran_as : (start : F) (before : SinkView) (left : F) (after : SinkView) → Ran chip role s T start before left after → Ran chip role s U start before left after
+  ran_as start before left after ran = record {
+    run = ran.run;
+    is_run = ran.is_run;
+    ran = ran.ran;
+    report = as ran.run.lives before after ran.report;
+    no_reuse = ran.no_reuse;
+    at_most_once = ran.at_most_once;
+  }
+
+  pub first_as : (start : F) (before : SinkView) (left : Option F) (after : SinkView) → RanFirst chip role s T start before left after → RanFirst chip role s U start before left after
+  first_as start before left after ran = record {
+    n = ran.n;
+    fewer = ran.fewer;
+    run = ran.run;
+    is_run = ran.is_run;
+    reached = ran.reached;
+    ran = ran.ran;
+    report = as ran.run.lives before after ran.report;
+    more = ran.more;
+  }
+
+  pub front_as : (P Q : ℕ → Life → SinkView → SinkView → Type 0) → ((n : ℕ) (life : Life) (old new : SinkView) → P n life old new → Q n life old new)
+      → (start : F) (before : SinkView) (left : F) (after : SinkView) → RanFront chip role s T P start before left after → RanFront chip role s U Q start before left after
+  front_as P Q so start before left after ran = record {
+    n = ran.n;
+    fewer = ran.fewer;
+    lives = ran.lives;
+    x = ran.x;
+    last = ran.last;
+    is_run = ran.is_run;
+    ran = ran.ran;
+    mid = ran.mid;
+    report = as ran.lives before ran.mid ran.report;
+    front = so (ran.n + 1) ran.x.life ran.mid after ran.front;
+  }
+
+-- what holds of the flash that provisioning left
+pub from_as : {F : Type 0} (chip : F → Chip) (format : ℕ) (records : List StoreRecord) (given : Chip) (P Q : F → Type 0) → ((start : F) → P start → Q start)
+    → FromProvisioned chip format records given P → FromProvisioned chip format records given Q
+from_as chip format records given P Q so from = record { start = from.start; provisioned = from.provisioned; ran = so from.start from.ran }
+
+pub some_as : {F : Type 0} (left : Option F) (P Q : F → Type 0) → ((f : F) → P f → Q f) → IsSomeAnd left P → IsSomeAnd left Q
+some_as None P Q so h = h
+some_as (Some f) P Q so h = so f h

@@ -167,15 +167,15 @@ module _ {F : Type 0} (chip : F → Chip) (s : Script) (start old new : F) (i : 
   }
 
 -- and it was told, behind the others
-pub progress_more : {F : Type 0} (chip : F → Chip) (s : Script) (told : List LifeOver → SinkView → SinkView → Type 0) (start old new : F) (before mid after : SinkView) (i : ℕ) (x : LifeOver)
+pub progress_more : {F : Type 0} (chip : F → Chip) (s : Script) (told more : List LifeOver → SinkView → SinkView → Type 0) (start old new : F) (before mid after : SinkView) (i : ℕ) (x : LifeOver)
     → (p : Progress chip s told start before i old mid) → CountsNow (chip old) → i < length s.lives → Lived role (slice_index_or s.lives i []) (chip old) x (chip new)
-    → told (p.lives ++ x ∷ []) before after → Progress chip s told start before (i + 1) new after
-progress_more chip s told start old new before mid after i x p counts within h more = record {
+    → more (p.lives ++ x ∷ []) before after → Progress chip s more start before (i + 1) new after
+progress_more chip s told more start old new before mid after i x p counts within h report = record {
   lives = p.lives ++ x ∷ [];
   count = length-append p.lives (x ∷ []) ∙ ap (λ n. n + 1) p.count;
   ran = ran_more chip s start old new i p.lives x p.ran p.same counts within h;
   same = same_more chip s start old new i p.lives x p.ran p.same counts within h;
-  report = more;
+  report = report;
 }
 
 -- a front of what is told of it was told

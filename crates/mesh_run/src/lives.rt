@@ -19,7 +19,6 @@ ghost use Rattle.life_laws.specs.Plan as Plan;
 ghost use Rattle.mesh_run.specs.Lived.{IsMemory, IsSinkFault, Lived, flash_left};
 ghost use Rattle.run_steps.specs.Provisioned.{IsProvisioned};
 ghost use Rattle.mesh_run.specs.Ran.{Ran, RanFirst, RanFront};
-ghost use Rattle.mesh_run.specs.Reporting.{Reports, ReportsFront};
 ghost use Rattle.event_definitions.specs.Role.{node_role};
 
 use flash_model::Bench;
@@ -29,7 +28,7 @@ use mesh_base::outside::Sink;
 use mesh_machine::MeshMachine;
 use mesh_node::{Gate, LifeLog, life};
 use node_safety::node_runs_law;
-use report_writer::{EndedLife, WriteStop, write_life};
+use report_writer::{EndedLife, LifeSink, WriteStop};
 use run_safety::laws::lives_law;
 use script_definitions::script::Script;
 use std::alloc::{AllocError, Global};
@@ -91,13 +90,13 @@ fn live<R: Threads + Wait + Sync, B: Bench, G: Gate>(
     Ok((ended_life(log), flash))
 }
 
-/// Runs the lives of a script one after another, and writes the report of each once it is over; nothing of it but its flash is kept. The node
-/// was provisioned on the flash. For want of memory nothing of a life is written.
-pub(crate) fn live_all<R: Threads + Wait + Sync, B: Bench, K: Sink, G: Gate>(
+/// Runs the lives of a script one after another, and tells of each once it is over; nothing of it but its flash is kept. The node was
+/// provisioned on the flash. For want of memory nothing of a life is told.
+pub(crate) fn live_all<R: Threads + Wait + Sync, B: Bench, L: LifeSink, K: Sink, G: Gate>(
     rt: &R,
     alloc: Global,
     script: &Script,
-    hex: bool,
+    lives: &mut L,
     sink: &mut K,
     flash: B,
     gate: &G,
@@ -105,14 +104,14 @@ pub(crate) fn live_all<R: Threads + Wait + Sync, B: Bench, K: Sink, G: Gate>(
     requires read { IsScriptOf Grammars.Node script.now }
     requires provisioned { IsProvisioned (B.chip flash) (provisioned (script_of script.now).node) }
     ensures all { IfOk result
-        (λ f. Ran B.chip (node_role node_layers) (script_of script.now) (Reports hex) flash
+        (λ f. Ran B.chip (node_role node_layers) (script_of script.now) (L.told lives.old lives.new) flash
         (view_of K.held K.pieces sink.old) f (view_of K.held K.pieces sink.new)) }
     ensures front { IsSinkFault result
         → IsSomeAnd (flash_left result)
-        (λ f. RanFront B.chip (node_role node_layers) (script_of script.now) (Reports hex) (ReportsFront hex) flash
-        (view_of K.held K.pieces sink.old) f (view_of K.held K.pieces sink.new)) }
+        (λ f. RanFront B.chip (node_role node_layers) (script_of script.now) (L.told lives.old lives.new)
+        (L.broken lives.new) flash (view_of K.held K.pieces sink.old) f (view_of K.held K.pieces sink.new)) }
     ensures whole { IsMemory result
-        → RanFirst B.chip (node_role node_layers) (script_of script.now) (Reports hex) flash
+        → RanFirst B.chip (node_role node_layers) (script_of script.now) (L.told lives.old lives.new) flash
         (view_of K.held K.pieces sink.old) (flash_left result) (view_of K.held K.pieces sink.new) }
     ensures cause { IsSinkFault result → Rose (K.faults sink.old) (K.faults sink.new) }
     ensures no_fault { ¬ IsSinkFault result → K.faults sink.new ≡ K.faults sink.old }
@@ -130,7 +129,7 @@ pub(crate) fn live_all<R: Threads + Wait + Sync, B: Bench, K: Sink, G: Gate>(
             Err(_) => return Err(Stopped::Memory(None)),
         };
         flash = back;
-        match write_life(alloc, sink, hex, i as u32 + 1, &ended) {
+        match lives.tell(alloc, sink, i as u32 + 1, &ended) {
             Ok(()) => {}
             Err(WriteStop::Fault) => return Err(Stopped::Fault(flash)),
             Err(WriteStop::Memory) => return Err(Stopped::Memory(Some(flash))),

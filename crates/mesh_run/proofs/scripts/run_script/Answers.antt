@@ -12,7 +12,6 @@ use Rattle.store_definitions.specs.Provisioning.{provisioned}
 use Rattle.mesh_run.specs.Causes.{IsSameFlash}
 use Rattle.mesh_run.specs.Lived.{IsMemory, IsSinkFault, flash_left}
 use Rattle.mesh_run.specs.Ran.{FromProvisioned, Ran, RanFirst, RanFront}
-use Rattle.mesh_run.specs.Reporting.{Reports, ReportsFront}
 use Rattle.mesh_run.proofs.Ends.{cycled, fails_early, same_left, through, was_provisioned}
 use Rattle.mesh_run.proofs.scripts.run_script.Goals as goal
 
@@ -41,21 +40,20 @@ returns-in-Ok-live_all-clause-done g c = λ is.
     let view = view_of g.K.Sink.held g.K.Sink.pieces in
     let role = node_role node_layers in
     let s = script_of c.args.script.now in
-    let hex = c.args.flags.hex in
+    let told = g.L.LifeSink.told c.args.lives.now c.live_all.new.lives in
+    let broken = g.L.LifeSink.broken c.live_all.new.lives in
     let old = chip c.args.flash in
     let start = chip c.provision.new.flash in
     let before = view c.args.sink.now in
     let after = view c.live_all.new.sink in
-    let format = format_by c.args.flags.old in
+    let format = format_by c.args.old in
     let cycle = c.power_cycle.ensures in
     let fresh = cycle.fresh c.requires.honest in
-    let was : WasProvisioned format (provisioned (provisioning c.provision_of.result)) old start =
-    was_provisioned format (provisioned (provisioning c.provision_of.result)) old (chip c.power_cycle.new.self) start cycle.frame (cycle.image c.requires.honest) cycle.setting
-    (c.in-Ok.ensures.erased fresh.honest) c.provision.ensures.frame c.in-Ok.ensures.no_fault (c.in-Ok.ensures.provisioned fresh) (c.in-Ok.ensures.format fresh) in
-    let said : WasProvisioned format (provisioned (provisioning (provision_of c.args.script.now.provision))) old start =
-    subst (λ (p : Provision). WasProvisioned format (provisioned (provisioning p)) old start) c.provision_of.ensures.value was in
-    subst (λ e. IsSomeAnd e.flash (λ f. FromProvisioned chip format (provisioned s.node) old (λ from. Ran chip role s (Reports hex) from before f after)))
-    (sym c.with_flash-in-Ok-live_all.ensures.value) (record { start = c.provision.new.flash; provisioned = said; ran = c.in-Ok-live_all.ensures.all })
+    let was : WasProvisioned format (provisioned s.node) old start =
+    was_provisioned format c.provision_of.result (provision_of c.args.script.now.provision) old (chip c.power_cycle.new.self) start c.provision_of.ensures.value cycle.frame
+    (cycle.image c.requires.honest) cycle.setting (c.in-Ok.ensures.erased fresh.honest) c.provision.ensures.frame c.in-Ok.ensures.no_fault (c.in-Ok.ensures.provisioned fresh) (c.in-Ok.ensures.format fresh) in
+    subst (λ e. IsSomeAnd e.flash (λ f. FromProvisioned chip format (provisioned s.node) old (λ from. Ran chip role s told from before f after)))
+    (sym c.with_flash-in-Ok-live_all.ensures.value) (record { start = c.provision.new.flash; provisioned = was; ran = c.in-Ok-live_all.ensures.all })
 
 pub returns-in-Err-Fault-clause-front : goal.returns-in-Err-Fault-clause-front
 returns-in-Err-Fault-clause-front g c = λ is.
@@ -63,23 +61,22 @@ returns-in-Err-Fault-clause-front g c = λ is.
     let view = view_of g.K.Sink.held g.K.Sink.pieces in
     let role = node_role node_layers in
     let s = script_of c.args.script.now in
-    let hex = c.args.flags.hex in
+    let told = g.L.LifeSink.told c.args.lives.now c.live_all.new.lives in
+    let broken = g.L.LifeSink.broken c.live_all.new.lives in
     let old = chip c.args.flash in
     let start = chip c.provision.new.flash in
     let before = view c.args.sink.now in
     let after = view c.live_all.new.sink in
-    let format = format_by c.args.flags.old in
+    let format = format_by c.args.old in
     let cycle = c.power_cycle.ensures in
     let fresh = cycle.fresh c.requires.honest in
-    let was : WasProvisioned format (provisioned (provisioning c.provision_of.result)) old start =
-    was_provisioned format (provisioned (provisioning c.provision_of.result)) old (chip c.power_cycle.new.self) start cycle.frame (cycle.image c.requires.honest) cycle.setting
-    (c.in-Ok.ensures.erased fresh.honest) c.provision.ensures.frame c.in-Ok.ensures.no_fault (c.in-Ok.ensures.provisioned fresh) (c.in-Ok.ensures.format fresh) in
-    let said : WasProvisioned format (provisioned (provisioning (provision_of c.args.script.now.provision))) old start =
-    subst (λ (p : Provision). WasProvisioned format (provisioned (provisioning p)) old start) c.provision_of.ensures.value was in
-    let ran : RanFront chip role s (Reports hex) (ReportsFront hex) c.provision.new.flash before c.in-Err-Fault.flash after =
-    subst (λ e. IsSinkFault (Err e) → IsSomeAnd (flash_left (Err e)) (λ f. RanFront chip role s (Reports hex) (ReportsFront hex) c.provision.new.flash before f after)) c.in-Err-Fault.field-0-is c.in-Err-Fault.ensures.front tt in
-    subst (λ e. IsSomeAnd e.flash (λ f. FromProvisioned chip format (provisioned s.node) old (λ from. RanFront chip role s (Reports hex) (ReportsFront hex) from before f after)))
-    (sym c.with_flash-in-Err-Fault.ensures.value) (record { start = c.provision.new.flash; provisioned = said; ran = ran })
+    let was : WasProvisioned format (provisioned s.node) old start =
+    was_provisioned format c.provision_of.result (provision_of c.args.script.now.provision) old (chip c.power_cycle.new.self) start c.provision_of.ensures.value cycle.frame
+    (cycle.image c.requires.honest) cycle.setting (c.in-Ok.ensures.erased fresh.honest) c.provision.ensures.frame c.in-Ok.ensures.no_fault (c.in-Ok.ensures.provisioned fresh) (c.in-Ok.ensures.format fresh) in
+    let ran : RanFront chip role s told broken c.provision.new.flash before c.in-Err-Fault.flash after =
+    subst (λ e. IsSinkFault (Err e) → IsSomeAnd (flash_left (Err e)) (λ f. RanFront chip role s told broken c.provision.new.flash before f after)) c.in-Err-Fault.field-0-is c.in-Err-Fault.ensures.front tt in
+    subst (λ e. IsSomeAnd e.flash (λ f. FromProvisioned chip format (provisioned s.node) old (λ from. RanFront chip role s told broken from before f after)))
+    (sym c.with_flash-in-Err-Fault.ensures.value) (record { start = c.provision.new.flash; provisioned = was; ran = ran })
 
 pub returns-in-Err-Memory-clause-whole : goal.returns-in-Err-Memory-clause-whole
 returns-in-Err-Memory-clause-whole g c = λ is.
@@ -87,23 +84,22 @@ returns-in-Err-Memory-clause-whole g c = λ is.
     let view = view_of g.K.Sink.held g.K.Sink.pieces in
     let role = node_role node_layers in
     let s = script_of c.args.script.now in
-    let hex = c.args.flags.hex in
+    let told = g.L.LifeSink.told c.args.lives.now c.live_all.new.lives in
+    let broken = g.L.LifeSink.broken c.live_all.new.lives in
     let old = chip c.args.flash in
     let start = chip c.provision.new.flash in
     let before = view c.args.sink.now in
     let after = view c.live_all.new.sink in
-    let format = format_by c.args.flags.old in
+    let format = format_by c.args.old in
     let cycle = c.power_cycle.ensures in
     let fresh = cycle.fresh c.requires.honest in
-    let was : WasProvisioned format (provisioned (provisioning c.provision_of.result)) old start =
-    was_provisioned format (provisioned (provisioning c.provision_of.result)) old (chip c.power_cycle.new.self) start cycle.frame (cycle.image c.requires.honest) cycle.setting
-    (c.in-Ok.ensures.erased fresh.honest) c.provision.ensures.frame c.in-Ok.ensures.no_fault (c.in-Ok.ensures.provisioned fresh) (c.in-Ok.ensures.format fresh) in
-    let said : WasProvisioned format (provisioned (provisioning (provision_of c.args.script.now.provision))) old start =
-    subst (λ (p : Provision). WasProvisioned format (provisioned (provisioning p)) old start) c.provision_of.ensures.value was in
+    let was : WasProvisioned format (provisioned s.node) old start =
+    was_provisioned format c.provision_of.result (provision_of c.args.script.now.provision) old (chip c.power_cycle.new.self) start c.provision_of.ensures.value cycle.frame
+    (cycle.image c.requires.honest) cycle.setting (c.in-Ok.ensures.erased fresh.honest) c.provision.ensures.frame c.in-Ok.ensures.no_fault (c.in-Ok.ensures.provisioned fresh) (c.in-Ok.ensures.format fresh) in
     record {
       start = c.provision.new.flash;
-      provisioned = said;
-      ran = subst (λ e. IsMemory (Err e) → RanFirst chip role s (Reports hex) c.provision.new.flash before (flash_left (Err e)) after) c.in-Err-Memory.field-0-is c.in-Err-Memory.ensures.whole tt;
+      provisioned = was;
+      ran = subst (λ e. IsMemory (Err e) → RanFirst chip role s told c.provision.new.flash before (flash_left (Err e)) after) c.in-Err-Memory.field-0-is c.in-Err-Memory.ensures.whole tt;
     }
 
 pub returns-in-Err-Memory-clause-frame : goal.returns-in-Err-Memory-clause-frame
