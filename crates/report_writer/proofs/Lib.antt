@@ -2,3 +2,4 @@ pub mod Handing
 pub mod Written
 pub mod Parts
 pub mod Texts
+pub mod Reporting

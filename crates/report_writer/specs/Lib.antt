@@ -1,3 +1,4 @@
 pub mod Writing
 pub mod Handing
 pub mod Lives
+pub mod Reporting

@@ -1,13 +1,17 @@
-//! The report of a life that is over, line by line into a sink.
+//! Lives that are over, and what is made of them: the report of a life, line by line into a sink.
 //!
 //! - `lives`: a life, and its lines: the opening, a line for each entry, one for each job, and the end; their texts are made first, then written
 //! - `printing`: texts handed to a sink, each as one piece, and what the sink left of it handed on
+//! - `life_sinks`: what is made of lives that are over, as a trait, and the report as one such
 //!
-//! In `specs/`, `Writing` says what a sink tells after lines were written, or a front of them, and `Lives` which life has room in its lines.
+//! In `specs/`, `Writing` says what a sink tells after lines were written, or a front of them, `Lives` which life has room in its lines, and
+//! `Reporting` what the report tells of lives.
 #![tactic(auto)]
 
+mod life_sinks;
 mod lives;
 mod printing;
 
+pub use life_sinks::{LifeSink, Report};
 pub use lives::{EndedLife, WriteStop, write_life};
 pub use printing::write_text;
