@@ -2,9 +2,9 @@
 use Rattle.std.proofs.Common.{◌≡◌, ◌+◌, ℕ, Bool, List, [], ◌∷◌, ◌++◌, length, sym, ap, ◌∙◌, append_assoc, append-nil, arith}
 use Rattle.report_definitions.specs.Record.{Life, LifeOver}
 use Rattle.report_definitions.specs.Report.{life_lines, lives_lines}
-use Rattle.report_writer.specs.Reporting.{Reports, ReportsFront}
-use Rattle.report_writer.specs.Writing.{SinkView, Written, WrittenFront}
-use Rattle.report_writer.proofs.Written.{front_behind, front_whole, written_more, written_none}
+use Rattle.report_writer.specs.Reporting.{Reports}
+use Rattle.report_writer.specs.Writing.{SinkView, Written}
+use Rattle.report_writer.proofs.Written.{written_more}
 
 -- the lines of lives, and those of a life behind them
 lines_more : (hex : Bool) (n : ℕ) (xs : List LifeOver) (x : LifeOver)
@@ -21,19 +21,7 @@ lines_with : (hex : Bool) (number : ℕ) (xs : List LifeOver) (x : LifeOver) →
     → lives_lines hex 1 (xs ++ x ∷ []) ≡ lives_lines hex 1 xs ++ life_lines hex number x.life
 lines_with hex number xs x is = lines_more hex 1 xs x ∙ ap (λ n. lives_lines hex 1 xs ++ life_lines hex n x.life) (let e : 1 + length xs ≡ number = omega (arith, is) in e)
 
-pub reports_none : (hex : Bool) (view : SinkView) → Reports hex [] view view
-unfolding lives_lines
-reports_none hex view = written_none view
-
-pub reports_whole : (hex : Bool) (lives : List LifeOver) (before after : SinkView) → Reports hex lives before after → ReportsFront hex lives before after
-reports_whole hex lives before after h = front_whole (lives_lines hex 1 lives) before after h
-
 pub reports_more : (hex : Bool) (number : ℕ) (lives : List LifeOver) (x : LifeOver) (before mid after : SinkView) → number ≡ length lives + 1
     → Reports hex lives before mid → Written (life_lines hex number x.life) mid after → Reports hex (lives ++ x ∷ []) before after
 reports_more hex number lives x before mid after is h w =
     rw (lines_with hex number lives x is) (written_more (lives_lines hex 1 lives) (life_lines hex number x.life) before mid after h w)
-
-pub reports_front : (hex : Bool) (number : ℕ) (lives : List LifeOver) (x : LifeOver) (before mid after : SinkView) → number ≡ length lives + 1
-    → Reports hex lives before mid → WrittenFront (life_lines hex number x.life) mid after → ReportsFront hex (lives ++ x ∷ []) before after
-reports_front hex number lives x before mid after is h w =
-    rw (lines_with hex number lives x is) (front_behind (lives_lines hex 1 lives) (life_lines hex number x.life) before mid after h w)

@@ -1,14 +1,14 @@
 //! What is made of lives that are over.
 #![tactic(auto)]
 
-ghost use Rattle.std.specs.Prelude.{◌≡◌, ◌≢◌, ◌+◌, ◌≤◌, List, [], ◌∷◌, ◌++◌, length, refl, Err, OnOk, OnErr};
+ghost use Rattle.std.specs.Prelude.{◌≡◌, ◌≢◌, ℕ, ◌+◌, ◌≤◌, List, [], ◌∷◌, ◌++◌, length, refl, Err, OnOk, OnErr};
 ghost use Rattle.mesh_base.specs.Outside.{Rose};
 ghost use Rattle.record_types.specs.declared.records.StoreRecord.{StoreRecord};
-ghost use Rattle.report_definitions.specs.Record.{LifeOver};
+ghost use Rattle.report_definitions.specs.Record.{Life, LifeOver};
+ghost use Rattle.report_definitions.specs.Report.{life_lines};
 ghost use Rattle.report_writer.specs.Lives.{FitsLines, life_of};
-ghost use Rattle.report_writer.specs.Reporting.{Reports, ReportsFront};
-ghost use Rattle.report_writer.proofs.Reporting.{reports_none, reports_whole};
-ghost use Rattle.report_writer.specs.Writing.{SinkView, view_of};
+ghost use Rattle.report_writer.specs.Reporting.{Reports, reports_none};
+ghost use Rattle.report_writer.specs.Writing.{SinkView, WrittenFront, view_of};
 ghost use Rattle.report_writer.specs.declared.lives.WriteStop.TheVariants as stop;
 
 use crate::lives::{EndedLife, WriteStop, write_life};
@@ -20,8 +20,8 @@ pub trait LifeSink {
     // These lives were told, all since it had the first value; it has the second now, and the sink went from one view to the other.
     ghost told: { Self → Self → List LifeOver → SinkView → SinkView → Type 0 };
 
-    // The same, but that of what is written for these lives a front was written.
-    ghost front: { Self → Self → List LifeOver → SinkView → SinkView → Type 0 };
+    // Telling of the life with this number was broken off, and the sink went from one view to the other.
+    ghost broken: { Self → ℕ → Life → SinkView → SinkView → Type 0 };
 
     /// Tells of the life with this number, from 1 on. It is the same after an error.
     ///
@@ -41,10 +41,8 @@ pub trait LifeSink {
             → OnOk result
             (told first self.new (lives ++ (record { over = over; life = life_of life.now }) ∷ []) before
             (view_of K.held K.pieces sink.new)) }
-        ensures err { (first : Self) (lives : List LifeOver) (over : List StoreRecord) (before : SinkView)
-            → told first self.old lives before (view_of K.held K.pieces sink.old) → number ≡ length lives + 1
-            → OnErr result
-            (front first self.new (lives ++ (record { over = over; life = life_of life.now }) ∷ []) before
+        ensures err { OnErr result
+            (broken self.old number (life_of life.now) (view_of K.held K.pieces sink.old)
             (view_of K.held K.pieces sink.new)) }
         ensures kept { OnErr result (self.new ≡ self.old) }
         ensures memory { result ≡ Err stop.Memory → sink.new ≡ sink.old }
@@ -54,10 +52,6 @@ pub trait LifeSink {
 
     // of no lives nothing is told
     ghost none: { (value : Self) (view : SinkView) → told value value [] view view };
-
-    // what was told is a front of itself
-    ghost whole: { (first now : Self) (lives : List LifeOver) (before after : SinkView) → told first now lives before after
-        → front first now lives before after };
 }
 
 /// Writes the report of each life, line by line.
@@ -70,7 +64,7 @@ pub struct Report {
 impl LifeSink for Report {
     ghost told = { λ first now lives before after. (now ≡ first) × Reports first.hex lives before after };
 
-    ghost front = { λ first now lives before after. (now ≡ first) × ReportsFront first.hex lives before after };
+    ghost broken = { λ now number life before after. WrittenFront (life_lines now.hex number life) before after };
 
     fn tell<K: Sink>(
         &mut self,
@@ -83,6 +77,4 @@ impl LifeSink for Report {
     }
 
     ghost none = { λ value view. (refl, reports_none value.hex view) };
-
-    ghost whole = { λ first now lives before after told. (told.0, reports_whole first.hex lives before after told.1) };
 }
