@@ -1,5 +1,6 @@
 -- How the numbers of a run are counted life by life, and why no count comes near the end of its type.
-use Rattle.std.specs.Prelude.{◌≡◌, ℕ, ◌+◌, ◌*◌, ◌%◌, ◌^◌, ◌≤◌, ◌<◌, List, [], length}
+use Rattle.std.specs.Prelude.{◌≡◌, ℕ, ◌+◌, ◌*◌, ◌%◌, ◌^◌, ◌≤◌, ◌<◌, List, [], length, refl}
+use Rattle.std.proofs.Common.{lit≤, subst, sym}
 use Rattle.report_definitions.specs.Record.{Life, LifeOver}
 use Rattle.run_summary.specs.Summaries.{entries_with, is_control, is_ctl, is_not_mine, is_planned, is_relay, jobs_with, octets_of, summary_of}
 use Rattle.run_summary.specs.declared.summary.Summary.{Summary}
@@ -45,13 +46,16 @@ abbrev pub Counts : Summary → Summary → List LifeOver → Type 0
 Counts first now lives = first ≡ summary_of [] → IsSummary now lives
 
 -- of no lives it is the first
-pub counts_none : (first : Summary) → Counts first first []
-counts_none first is = record {
-  value = is;
-  events = least (ap (λ s. s.events) is);
-  planned = least (ap (λ s. s.planned) is);
-  control = least (ap (λ s. s.control) is);
-  not_mine = least (ap (λ s. s.not_mine) is);
-  ctl = least (ap (λ s. s.ctl) is);
-  relay = least (ap (λ s. s.relay) is);
+none_is : IsSummary (summary_of []) []
+none_is = record {
+  value = refl;
+  events = lit≤ tt;
+  planned = lit≤ tt;
+  control = lit≤ tt;
+  not_mine = lit≤ tt;
+  ctl = lit≤ tt;
+  relay = lit≤ tt;
 }
+
+pub counts_none : (first : Summary) → Counts first first []
+counts_none first is = subst (λ s. IsSummary s []) (sym is) none_is

@@ -10,28 +10,28 @@ use Rattle.run_summary.specs.declared.summary.Summary.{Summary}
 
 -- The answers and lines that are counted.
 
-abbrev pub is_planned : Answer → Bool
+unfoldable pub is_planned : Answer → Bool
 is_planned A.Planned = true
 is_planned _ = false
 
-abbrev pub is_control : Answer → Bool
+unfoldable pub is_control : Answer → Bool
 is_control (A.Control name dst opcode params) = true
 is_control _ = false
 
-abbrev pub is_not_mine : Answer → Bool
+unfoldable pub is_not_mine : Answer → Bool
 is_not_mine A.NotMine = true
 is_not_mine _ = false
 
-abbrev pub is_ctl : Outcome → Bool
+unfoldable pub is_ctl : Outcome → Bool
 is_ctl (O.Ctl pair ttl src dst tpdu pdu) = true
 is_ctl _ = false
 
-abbrev pub is_relay : Outcome → Bool
+unfoldable pub is_relay : Outcome → Bool
 is_relay (O.Relay pair ctl ttl src dst tpdu pdu) = true
 is_relay _ = false
 
 -- the octets of the network PDU of a `relay` line
-abbrev pub relayed : Outcome → ℕ
+unfoldable pub relayed : Outcome → ℕ
 relayed (O.Relay pair ctl ttl src dst tpdu pdu) = length pdu
 relayed _ = 0
 

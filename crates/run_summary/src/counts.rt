@@ -9,6 +9,7 @@ use mesh_types::history::{Entry, Sent};
 use mesh_types::lines::Outcome;
 
 /// Whether an answer is `planned`.
+#[tactic(auto, unfolding(crate::specs::Summaries::is_planned))]
 fn is_planned(answer: &Answer) -> bool
     ensures value { result ≡ is_planned answer.now }
 {
@@ -16,6 +17,7 @@ fn is_planned(answer: &Answer) -> bool
 }
 
 /// Whether an answer is `control`.
+#[tactic(auto, unfolding(crate::specs::Summaries::is_control))]
 fn is_control(answer: &Answer) -> bool
     ensures value { result ≡ is_control answer.now }
 {
@@ -23,6 +25,7 @@ fn is_control(answer: &Answer) -> bool
 }
 
 /// Whether an answer is `notmine`.
+#[tactic(auto, unfolding(crate::specs::Summaries::is_not_mine))]
 fn is_not_mine(answer: &Answer) -> bool
     ensures value { result ≡ is_not_mine answer.now }
 {
@@ -30,6 +33,7 @@ fn is_not_mine(answer: &Answer) -> bool
 }
 
 /// Whether a line is `ctl`.
+#[tactic(auto, unfolding(crate::specs::Summaries::is_ctl))]
 fn is_ctl(outcome: &Outcome) -> bool
     ensures value { result ≡ is_ctl outcome.now }
 {
@@ -37,31 +41,42 @@ fn is_ctl(outcome: &Outcome) -> bool
 }
 
 /// Whether a line is `relay`.
+#[tactic(auto, unfolding(crate::specs::Summaries::is_relay))]
 fn is_relay(outcome: &Outcome) -> bool
     ensures value { result ≡ is_relay outcome.now }
 {
     matches!(outcome, Outcome::Relay { .. })
 }
 
-/// How many entries were planned.
-pub fn count_planned(entries: &[Entry]) -> usize
-    ensures value { result ≡ count_by (λ e. is_planned e.answer) entries.now }
-{
-    entries.iter().filter(|e| is_planned(&e.answer)).count()
+/// How many entries have which answers.
+#[derive(Clone, Copy)]
+pub struct AnswerCounts {
+    /// `planned`.
+    pub planned: u32,
+    /// `control`.
+    pub control: u32,
+    /// `notmine`.
+    pub not_mine: u32,
 }
 
-/// How many entries gave a control message.
-pub fn count_control(entries: &[Entry]) -> usize
-    ensures value { result ≡ count_by (λ e. is_control e.answer) entries.now }
+/// How many entries have which answers, of fewer than 2^32.
+pub fn count_answers(entries: &[Entry]) -> AnswerCounts
+    requires few { length entries.now < 2 ^ 32 }
+    ensures planned { result.planned ≡ count_by (λ e. is_planned e.answer) entries.now }
+    ensures control { result.control ≡ count_by (λ e. is_control e.answer) entries.now }
+    ensures not_mine { result.not_mine ≡ count_by (λ e. is_not_mine e.answer) entries.now }
 {
-    entries.iter().filter(|e| is_control(&e.answer)).count()
-}
-
-/// How many entries were for another node.
-pub fn count_not_mine(entries: &[Entry]) -> usize
-    ensures value { result ≡ count_by (λ e. is_not_mine e.answer) entries.now }
-{
-    entries.iter().filter(|e| is_not_mine(&e.answer)).count()
+    let mut counts = AnswerCounts {
+        planned: 0,
+        control: 0,
+        not_mine: 0,
+    };
+    for entry in entries {
+        counts.planned += u32::from(is_planned(&entry.answer));
+        counts.control += u32::from(is_control(&entry.answer));
+        counts.not_mine += u32::from(is_not_mine(&entry.answer));
+    }
+    counts
 }
 
 /// How many control PDUs of the node a bearer sent.
@@ -79,6 +94,7 @@ fn count_relays(sends: &[Sent]) -> usize
 }
 
 /// How many octets of a PDU were relayed.
+#[tactic(auto, unfolding(crate::specs::Summaries::relayed))]
 fn octets_of(outcome: &Outcome) -> u32
     ensures value { result ≡ relayed outcome.now }
 {

@@ -1,7 +1,7 @@
 //! The numbers of a run.
 #![tactic(auto)]
 
-ghost use Rattle.std.specs.Prelude.{◌≡◌, ◌≢◌, ◌+◌, ◌≤◌, List, [], ◌∷◌, ◌++◌, length, refl, Err, OnOk, OnErr, ⊥};
+ghost use Rattle.std.specs.Prelude.{◌≡◌, ◌≢◌, ◌+◌, ◌≤◌, List, [], ◌∷◌, ◌++◌, length, refl, Err, OnOk, OnErr};
 ghost use Rattle.mesh_base.specs.Outside.{Rose};
 ghost use Rattle.record_types.specs.declared.records.StoreRecord.{StoreRecord};
 ghost use Rattle.report_definitions.specs.Record.{LifeOver};
@@ -11,7 +11,7 @@ ghost use Rattle.report_writer.specs.declared.lives.WriteStop.TheVariants as sto
 ghost use Rattle.run_summary.specs.Counting.{Counts, IsFew, counts_none, with_life};
 ghost use Rattle.run_summary.specs.Summaries.{summary_of};
 
-use crate::counts::{count_control, count_jobs, count_not_mine, count_planned};
+use crate::counts::{count_answers, count_jobs};
 use mesh_base::outside::Sink;
 use report_writer::{EndedLife, LifeSink, WriteStop};
 use std::alloc::Global;
@@ -61,13 +61,14 @@ impl Summary {
         ensures few { IsFew (life_of life.now) }
     {
         let entries = life.entries.as_slice();
+        let answers = count_answers(entries);
         let jobs = count_jobs(life.sends.as_slice());
         Summary {
             lives: number,
             events: self.events.wrapping_add(entries.len() as u128),
-            planned: self.planned.wrapping_add(count_planned(entries) as u128),
-            control: self.control.wrapping_add(count_control(entries) as u128),
-            not_mine: self.not_mine.wrapping_add(count_not_mine(entries) as u128),
+            planned: self.planned.wrapping_add(u128::from(answers.planned)),
+            control: self.control.wrapping_add(u128::from(answers.control)),
+            not_mine: self.not_mine.wrapping_add(u128::from(answers.not_mine)),
             ctl: self.ctl.wrapping_add(jobs.ctl),
             relay: self.relay.wrapping_add(jobs.relay),
             octets: self.octets.wrapping_add(jobs.octets),
@@ -87,7 +88,6 @@ impl LifeSink for Summary {
         number: u32,
         life: &EndedLife,
     ) -> Result<(), WriteStop> {
-        let _ = (alloc, sink);
         *self = self.with_life(number, life);
         Ok(())
     }
