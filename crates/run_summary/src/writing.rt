@@ -10,7 +10,6 @@ ghost use Rattle.report_writer.specs.declared.lives.WriteStop.TheVariants as sto
 ghost use Rattle.run_summary.specs.Summaries.{number_line, summary_text};
 
 use crate::summary::Summary;
-
 use mesh_base::outside::Sink;
 use report_writer::{WriteStop, write_text};
 use std::alloc::{AllocError, Global};
