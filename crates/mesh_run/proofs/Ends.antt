@@ -1,23 +1,25 @@
 -- From what the parts of a run do to what the run does.
-use Rattle.std.proofs.Common.{◌≡◌, ◌<◌, ◌≤◌, ◌+◌, ℕ, Bool, List, ◌++◌, sym, ap, ◌∙◌, subst, arith, append-nil, Option, Some, None, IsTrue}
-use Rattle.std.specs.Prelude.{IfSome}
+use Rattle.std.proofs.Common.{◌≡◌, ◌<◌, ◌≤◌, ◌+◌, ℕ, List, ◌++◌, sym, ap, ◌∙◌, subst, arith, append-nil, Option, Some, None, IsTrue}
+use Rattle.std.specs.Prelude.{IfSome, IsSomeAnd}
 use Rattle.std.specs.Io.KnownBytes.{Consumes, IsAtEnd}
 use Rattle.flash_model.proofs.Runs.{past_more}
 use Rattle.flash_model.specs.Chip.{Chip, IsFresh, Keeps, KeepsCount, LeavesOnly, Stays}
 use Rattle.slot_journal.specs.Format.{IsErased, IsFirstWritten}
+use Rattle.node_store.specs.Provisioning.{provisioning}
 use Rattle.node_store.specs.Tie.{IsMade}
+use Rattle.node_store.specs.declared.provision.Provision.{Provision}
+use Rattle.store_definitions.specs.Provisioning.{provisioned}
 use Rattle.record_types.specs.declared.records.StoreRecord.{StoreRecord}
-use Rattle.report_writer.specs.Writing.{SinkView}
 use Rattle.event_definitions.specs.Role.{Role}
+use Rattle.report_definitions.specs.Record.{Life, LifeOver}
+use Rattle.report_writer.specs.Writing.{SinkView}
 use Rattle.run_definitions.specs.RunOf.{Script}
+use Rattle.mesh_run.specs.Ran.{FromProvisioned, Ran, RanFirst, RanFront}
 use Rattle.script_definitions.specs.Reading.{Reading}
 use Rattle.script_definitions.specs.Reading.Reading.{Fails, IsScript}
 use Rattle.script_definitions.specs.declared.script.Script as Said
 use Rattle.mesh_run.specs.Causes.{IfScript, IsErasedFlash, IsSameFlash, IsScriptAnd, IsWrittenAt, WasErased}
-use Rattle.report_definitions.specs.Record.{LifeOver}
-use Rattle.mesh_run.specs.Ran.{AreFound, Ran, RanFirst, RanFront, cuts}
 use Rattle.run_steps.specs.Provisioned.{FailsEarly, IsInFormat, IsProvisioned, WasProvisioned}
-use Rattle.store_definitions.specs.Recovered.{IsRecovered}
 
 -- what was read is all that there was
 pub all_read : (old new : Option (List ℕ)) (text : List ℕ) → Consumes old new text → IsAtEnd new → IfSome old (λ xs. xs ≡ text)
@@ -48,61 +50,6 @@ pub same_left : {F : Type 0} (chip : F → Chip) (left : Option F) (old start : 
     → IfSome left (λ f. IsSameFlash start (chip f)) → IfSome left (λ f. IsSameFlash old (chip f))
 same_left chip None old start first h = tt
 same_left chip (Some f) old start first h = same_through old start (chip f) first h
-
--- a run from the flash of before
-pub ran_from : (role : Role) (s : Script) (hex : Bool) (old start chip : Chip) (before after : SinkView)
-    → IsSameFlash old start → Ran role s hex start before chip after → Ran role s hex old before chip after
-ran_from role s hex old start chip before after same ran = record {
-  run = ran.run;
-  is_run = ran.is_run;
-  report = ran.report;
-  node = ran.node;
-  found = λ t le. ran.found t (omega (arith, le, same.past.later));
-  at_exit = ran.at_exit;
-  no_reuse = ran.no_reuse;
-  at_most_once = ran.at_most_once;
-  faults = omega (arith, ran.faults, same.later);
-  armed = λ steady. ran.armed (subst IsTrue (sym same.steady) steady);
-}
-
--- so it is with what was written where the run was broken off
-less_before : {F : Type 0} (chip : F → Chip) (left : Option F) (n : ℕ) (old start : Chip) → IsSameFlash old start
-    → IfSome left (λ f. n + start.faults ≤ (chip f).faults) → IfSome left (λ f. n + old.faults ≤ (chip f).faults)
-less_before chip None n old start same h = tt
-less_before chip (Some f) n old start same h = omega (arith, h, same.later)
-
-found_before : {F : Type 0} (chip : F → Chip) (left : Option F) (lives : List LifeOver) (old start : Chip) → IsSameFlash old start
-    → IfSome left (λ f. AreFound start (chip f) lives) → IfSome left (λ f. AreFound old (chip f) lives)
-found_before chip None lives old start same h = tt
-found_before chip (Some f) lives old start same h = λ t le. h t (omega (arith, le, same.past.later))
-
-pub front_from : {F : Type 0} (chip : F → Chip) (role : Role) (s : Script) (hex : Bool) (old start : Chip) (left : Option F) (before after : SinkView)
-    → IsSameFlash old start → RanFront chip role s hex start left before after → RanFront chip role s hex old left before after
-front_from chip role s hex old start left before after same ran = record {
-  n = ran.n;
-  run = ran.run;
-  is_run = ran.is_run;
-  front = ran.front;
-  node = ran.node;
-  found = found_before chip left ran.run.lives old start same ran.found;
-  at_exit = ran.at_exit;
-  faults = less_before chip left (cuts ran.run.lives) old start same ran.faults;
-  armed = λ steady. ran.armed (subst IsTrue (sym same.steady) steady);
-}
-
-pub first_from : {F : Type 0} (chip : F → Chip) (role : Role) (s : Script) (hex : Bool) (old start : Chip) (left : Option F) (before after : SinkView)
-    → IsSameFlash old start → RanFirst chip role s hex start left before after → RanFirst chip role s hex old left before after
-first_from chip role s hex old start left before after same ran = record {
-  n = ran.n;
-  fewer = ran.fewer;
-  run = ran.run;
-  is_run = ran.is_run;
-  report = ran.report;
-  node = ran.node;
-  found = found_before chip left ran.run.lives old start same ran.found;
-  faults = less_before chip left (cuts ran.run.lives) old start same ran.faults;
-  armed = λ steady. ran.armed (subst IsTrue (sym same.steady) steady);
-}
 
 -- A flash whose power was cycled, and a call on it.
 
@@ -139,14 +86,67 @@ fails_early records old mid new count image fresh setting keeps failed counts ma
   stays = λ other c among. fresh.only c ((unchanged other).images c among);
 }
 
--- it was provisioned in this format, before what came later
-pub was_provisioned : (format : ℕ) (records : List StoreRecord) (old mid new : Chip) → IsSameFlash old mid → IsSameFlash mid new → mid.images mid.now
-    → ((t : ℕ) (c : List ℕ) → t ≤ mid.moment → mid.images c → mid.since t c) → IsProvisioned mid records → IsInFormat format mid → WasProvisioned format records old new
-was_provisioned format records old mid new first second image counts made is =
-    let node = made.node.each mid.now image in
-    record {
-      image = mid.now;
-      was = λ t le. let before : t ≤ mid.moment = omega (arith, le, first.past.later) in second.past.keeps t mid.now before (counts t mid.now before image);
-      recovered = subst (IsRecovered mid.now) (made.exactly mid.now node.records image node.read.held) node.read.held;
-      in_format = is mid.now image;
-    }
+-- the node was provisioned on it in this format
+pub was_provisioned : (format : ℕ) (p q : Provision) (old mid new : Chip) → p ≡ q → KeepsCount old mid → old.images mid.now
+    → mid.setting ≡ record { faults = old.faults; arm = None } → IsErased mid.now → Keeps mid new → new.faults ≡ mid.faults
+    → IsProvisioned new (provisioned (provisioning p)) → IsInFormat format new → WasProvisioned format (provisioned (provisioning q)) old new
+was_provisioned format p q old mid new of count image setting erased keeps same made is = record {
+  found = mid.now;
+  was = image;
+  erased = erased;
+  made = subst (λ (r : Provision). IsProvisioned new (provisioned (provisioning r))) of made;
+  in_format = is;
+  faults = same ∙ count.faults;
+  setting = keeps.setting ∙ setting;
+  steady = keeps.steady ∙ count.steady;
+  past = past_more old mid new count.past keeps.past;
+}
+
+-- what was told is a report
+module _ {F : Type 0} (chip : F → Chip) (role : Role) (s : Script) (T U : List LifeOver → SinkView → SinkView → Type 0)
+    (as : (lives : List LifeOver) (before after : SinkView) → T lives before after → U lives before after) where
+  pub ran_as : (start : F) (before : SinkView) (left : F) (after : SinkView) → Ran chip role s T start before left after → Ran chip role s U start before left after
+  ran_as start before left after ran = record {
+    run = ran.run;
+    is_run = ran.is_run;
+    ran = ran.ran;
+    report = as ran.run.lives before after ran.report;
+    no_reuse = ran.no_reuse;
+    at_most_once = ran.at_most_once;
+  }
+
+  pub first_as : (start : F) (before : SinkView) (left : Option F) (after : SinkView) → RanFirst chip role s T start before left after → RanFirst chip role s U start before left after
+  first_as start before left after ran = record {
+    n = ran.n;
+    fewer = ran.fewer;
+    run = ran.run;
+    is_run = ran.is_run;
+    reached = ran.reached;
+    ran = ran.ran;
+    report = as ran.run.lives before after ran.report;
+    more = ran.more;
+  }
+
+  pub front_as : (P Q : ℕ → Life → SinkView → SinkView → Type 0) → ((n : ℕ) (life : Life) (old new : SinkView) → P n life old new → Q n life old new)
+      → (start : F) (before : SinkView) (left : F) (after : SinkView) → RanFront chip role s T P start before left after → RanFront chip role s U Q start before left after
+  front_as P Q so start before left after ran = record {
+    n = ran.n;
+    fewer = ran.fewer;
+    lives = ran.lives;
+    x = ran.x;
+    last = ran.last;
+    is_run = ran.is_run;
+    ran = ran.ran;
+    mid = ran.mid;
+    report = as ran.lives before ran.mid ran.report;
+    front = so (ran.n + 1) ran.x.life ran.mid after ran.front;
+  }
+
+-- what holds of the flash that provisioning left
+pub from_as : {F : Type 0} (chip : F → Chip) (format : ℕ) (records : List StoreRecord) (given : Chip) (P Q : F → Type 0) → ((start : F) → P start → Q start)
+    → FromProvisioned chip format records given P → FromProvisioned chip format records given Q
+from_as chip format records given P Q so from = record { start = from.start; provisioned = from.provisioned; ran = so from.start from.ran }
+
+pub some_as : {F : Type 0} (left : Option F) (P Q : F → Type 0) → ((f : F) → P f → Q f) → IsSomeAnd left P → IsSomeAnd left Q
+some_as None P Q so h = h
+some_as (Some f) P Q so h = so f h

@@ -4,7 +4,6 @@ use Rattle.std.specs.Prelude.{if◌then◌else◌}
 use Rattle.std.proofs.lemmas.List.Sums.{sum_by-append}
 use Rattle.record_types.specs.declared.records.StoreRecord.{StoreRecord}
 use Rattle.report_definitions.specs.Record.{LifeOver, first_over}
-use Rattle.report_definitions.specs.Report.{life_lines, lives_lines}
 use Rattle.event_definitions.specs.Layers.{Layers}
 use Rattle.event_definitions.specs.Role.{Role, node_role}
 use Rattle.run_definitions.specs.Order.{Step, is_cut}
@@ -12,6 +11,8 @@ use Rattle.run_definitions.specs.RunOf.{LifeOf, LivesOf}
 use Rattle.run_safety.specs.Safety.{LivesKeep}
 use Rattle.event_definitions.specs.Safe.{AreSafe}
 use Rattle.store_definitions.specs.Config.{config_of}
+use Rattle.flash_model.specs.Chip.{Chip}
+use Rattle.mesh_run.specs.Lived.{Chained, Lived}
 use Rattle.mesh_run.specs.Ran.{AreArmed, IsArmed, cuts}
 
 -- what the first life opened over stays
@@ -27,15 +28,14 @@ lives_more role (p ∷ ps) [] plan x next h l = absurd h
 lives_more role (p ∷ ps) (y ∷ ys) plan x next (first, h) l =
     (subst (λ over. LifeOf role p y.over y.life over) (sym (first_more ys x next)) first, lives_more role ps ys plan x next h l)
 
--- the lines of lives, and those of a life behind them
-pub lines_more : (hex : Bool) (n : ℕ) (xs : List LifeOver) (x : LifeOver)
-    → lives_lines hex n (xs ++ x ∷ []) ≡ lives_lines hex n xs ++ life_lines hex (n + length xs) x.life
-unfolding lives_lines
-lines_more hex n [] x = append-nil (life_lines hex n x.life) ∙ ap (λ k. life_lines hex k x.life) (let e : n ≡ n + 0 = omega arith in e)
-lines_more hex n (y ∷ ys) x =
-    ap (λ (t : List _). life_lines hex n y.life ++ t) (lines_more hex (n + 1) ys x)
-    ∙ sym (append_assoc (life_lines hex n y.life) (lives_lines hex (n + 1) ys) (life_lines hex (n + 1 + length ys) x.life))
-    ∙ ap (λ k. life_lines hex n y.life ++ lives_lines hex (n + 1) ys ++ life_lines hex k x.life) (let e : n + 1 + length ys ≡ n + length (y ∷ ys) = omega arith in e)
+-- a life behind lives that were run one after another
+pub chained_more : {F : Type 0} (chip : F → Chip) (role : Role) (plans : List (List Step)) (xs : List LifeOver) (plan : List Step) (x : LifeOver) (start mid left : F)
+    → Chained chip role plans start xs mid → Lived role plan (chip mid) x (chip left) → Chained chip role (plans ++ plan ∷ []) start (xs ++ x ∷ []) left
+chained_more chip role [] [] plan x start mid left h l = (left, subst (λ f. Lived role plan (chip f) x (chip left)) h l, refl)
+chained_more chip role [] (y ∷ ys) plan x start mid left h l = absurd h
+chained_more chip role (p ∷ ps) [] plan x start mid left h l = absurd h
+chained_more chip role (p ∷ ps) (y ∷ ys) plan x start mid left (next, first, h) l =
+    (next, first, chained_more chip role ps ys plan x next mid left h l)
 
 -- one more life, that was cut or not
 pub cuts_more : (xs : List LifeOver) (x : LifeOver) → cuts (xs ++ x ∷ []) ≡ cuts xs + cuts (x ∷ [])

@@ -1,3 +1,4 @@
 pub mod Causes
 pub mod Ran
+pub mod Reporting
 pub mod Lived

@@ -1,29 +1,37 @@
--- A life of a script that is over, and how its lives ended.
-use Rattle.std.specs.Prelude.{◌≡◌, List, Option, Some, Result, Ok, Err, ⊤}
+-- A life of a script that is over, lives one after another on one flash, and how the lives of a script ended.
+use Rattle.std.specs.Prelude.{◌≡◌, List, [], ◌∷◌, Option, Some, Result, Ok, Err, ⊤}
+use Rattle.event_definitions.specs.Role.{Role}
 use Rattle.flash_model.specs.Arming.{IsExplained}
 use Rattle.flash_model.specs.Chip.{Chip}
 use Rattle.mesh_node.specs.Lives.{Lives}
 use Rattle.life_laws.specs.Plan.{life_of}
 use Rattle.life_laws.specs.declared.plan.LifeLog.{LifeLog}
-use Rattle.node_layers.specs.NodeLayers.{node_layers}
 use Rattle.node_store.specs.Tie.{IsNode}
-use Rattle.report_definitions.specs.Record.{Life}
+use Rattle.report_definitions.specs.Record.{LifeOver}
 use Rattle.run_definitions.specs.Order.{Step}
 use Rattle.mesh_run.specs.declared.lives.Stopped.{Stopped}
 use Rattle.mesh_run.specs.declared.lives.Stopped.TheVariants as P
-use Rattle.event_definitions.specs.Role.{node_role}
 
--- the life of a log is one between the flash of before and the flash now
-pub record Lived (plan : List Step) (old : Chip) (life : Life) (new : Chip) : Type 0 where
+-- The life was run by its plan on a flash that was so before it and is so after it.
+pub record Lived (role : Role) (plan : List Step) (old : Chip) (x : LifeOver) (new : Chip) : Type 0 where
   pub log : LifeLog
-  pub is : life_of log ≡ life
-  pub lives : Lives (node_role node_layers) IsNode plan old log new
+  pub is : life_of log ≡ x.life
+  pub lives : Lives role IsNode plan old log new
+  pub opened_over : lives.over ≡ x.over
   pub explained : IsExplained new
 
+-- Lives were run one after another, each by its own plan: the first on the flash that was there at the start, each next one on the flash
+-- that the one before left, and the last one left what is left. Nothing is done to the flash besides.
+abbrev pub Chained : {F : Type 0} → (F → Chip) → Role → List (List Step) → F → List LifeOver → F → Type 0
+Chained {F} chip role [] start [] left = left ≡ start
+Chained {F} chip role (plan ∷ plans) start (x ∷ xs) left =
+    (next : F) × Lived role plan (chip start) x (chip next) × Chained chip role plans next xs left
+Chained {F} chip role _ start _ left = ⊥
+
 -- the sink failed
-abbrev pub IsFault : {B : Type 0} → Result B (Stopped B) → Type 0
-IsFault (Err (P.Fault flash)) = ⊤
-IsFault _ = ⊥
+abbrev pub IsSinkFault : {B : Type 0} → Result B (Stopped B) → Type 0
+IsSinkFault (Err (P.Fault flash)) = ⊤
+IsSinkFault _ = ⊥
 
 -- there was no memory
 abbrev pub IsMemory : {B : Type 0} → Result B (Stopped B) → Type 0

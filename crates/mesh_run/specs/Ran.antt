@@ -1,18 +1,20 @@
 -- What a whole run leaves: the record of its lives, told by the report that was written and by what its flash recovers.
-use Rattle.std.specs.Prelude.{◌≡◌, ◌⊎◌, ℕ, ◌+◌, ◌<◌, ◌≤◌, Bool, true, IsTrue, List, [], ◌∷◌, All, length, take, count_by, ⊤, Option, IfSome, IsSomeAnd}
+use Rattle.std.specs.Prelude.{◌≡◌, ◌⊎◌, ℕ, ◌+◌, ◌<◌, ◌≤◌, true, IsTrue, List, [], ◌∷◌, ◌++◌, All, length, take, count_by, ⊤, Option, IfSome, IsSomeAnd}
 use Rattle.std.specs.List.{Contains}
+use Rattle.event_definitions.specs.Role.{Role}
 use Rattle.flash_model.specs.Chip.{Chip}
 use Rattle.machine_contract.specs.Opening.{EachRecovered, IsNodeFlash}
 use Rattle.mesh_node.specs.Lives.{cut_calls}
 use Rattle.node_store.specs.Tie.{IsNode}
+use Rattle.record_types.specs.declared.records.StoreRecord.{StoreRecord}
 use Rattle.report_definitions.specs.Record.{Life, LifeOver, Run}
-use Rattle.report_definitions.specs.Report.{lives_lines, report_text}
-use Rattle.report_writer.specs.Writing.{SinkView, Written, WrittenFront}
-use Rattle.event_definitions.specs.Role.{Role}
+use Rattle.report_writer.specs.Writing.{SinkView}
 use Rattle.run_definitions.specs.Order.{Step, arm, is_cut}
 use Rattle.run_definitions.specs.RunOf.{RunOf, Script}
-use Rattle.store_definitions.specs.Recovered.{IsRecovered}
 use Rattle.run_definitions.specs.Uses.{AtMostOnce, NoReuse, delivered, uses}
+use Rattle.run_steps.specs.Provisioned.{WasProvisioned}
+use Rattle.store_definitions.specs.Recovered.{IsRecovered}
+use Rattle.mesh_run.specs.Lived.{Chained}
 
 -- how many lives were cut
 abbrev pub cuts : List LifeOver → ℕ
@@ -37,54 +39,67 @@ AreFound start chip lives =
     (t : ℕ) → t ≤ start.moment
     → All (λ x. (image : List ℕ) × chip.since t image × IsRecovered image x.over) lives
 
--- The lives of the script were run, over a flash that was so at the beginning and is so now, and their report was written.
-pub record Ran (role : Role) (s : Script) (hex : Bool) (start : Chip) (before : SinkView) (chip : Chip)
-    (after : SinkView) : Type 0 where
-  pub run : Run
-  pub is_run : RunOf role s run
-  pub report : Written (lives_lines hex 1 run.lives) before after
-  -- each image of the flash is one that a life can be opened from
-  pub node : IsNodeFlash IsNode chip
-  pub found : AreFound start chip run.lives
-  -- whatever an image of the flash recovers, the run may end with it
-  pub at_exit : EachRecovered chip (λ last. RunOf role s (record { lives = run.lives; last = last }))
-  -- no run of the script with this report seals two plaintexts under one key and nonce, or delivers a message twice
-  pub no_reuse : (q : Run) → report_text q hex ≡ report_text run hex → RunOf role s q → NoReuse (uses q)
-  pub at_most_once : (q : Run) → report_text q hex ≡ report_text run hex → RunOf role s q → AtMostOnce (delivered q)
-  -- at most as many lives were cut as the flash failed, and over a steady flash only those that were to be
-  pub faults : cuts run.lives + start.faults ≤ chip.faults
-  pub armed : IsTrue start.steady → AreArmed s.lives run.lives
-
--- The script of its first lives.
+-- the script of the first lives
 abbrev pub first_lives : ℕ → Script → Script
 first_lives n s = record { node = s.node; lives = take n s.lives }
 
--- The report of the first lives of the script was written, and of the others, of which there is one, nothing. Each cut of those lives has
--- its cause; and the flash, where it is left, is one that a life can be opened from.
-pub record RanFirst {F : Type 0} (chip : F → Chip) (role : Role) (s : Script) (hex : Bool) (start : Chip)
-    (left : Option F) (before after : SinkView) : Type 0 where
+-- The lives of the script were run from one flash to another.
+pub record RanAll {F : Type 0} (chip : F → Chip) (role : Role) (s : Script) (start : F) (lives : List LifeOver) (left : F) : Type 0 where
+  -- each on the flash that the one before left
+  pub lived : Chained chip role s.lives start lives left
+  -- each image of the flash is one that a life can be opened from
+  pub node : IsNodeFlash IsNode (chip left)
+  pub found : AreFound (chip start) (chip left) lives
+  -- whatever an image of the flash recovers, the run may end with it
+  pub at_exit : EachRecovered (chip left) (λ last. RunOf role s (record { lives = lives; last = last }))
+  -- at most as many lives were cut as the flash failed, and over a steady flash only those that were to be
+  pub faults : cuts lives + (chip start).faults ≤ (chip left).faults
+  pub armed : IsTrue (chip start).steady → AreArmed s.lives lives
+
+-- The lives of the script were run, and all of them were told.
+pub record Ran {F : Type 0} (chip : F → Chip) (role : Role) (s : Script) (told : List LifeOver → SinkView → SinkView → Type 0)
+    (start : F) (before : SinkView) (left : F) (after : SinkView) : Type 0 where
+  pub run : Run
+  pub is_run : RunOf role s run
+  pub ran : RanAll chip role s start run.lives left
+  pub report : told run.lives before after
+  -- no run of the script seals two plaintexts under one key and nonce, or delivers a message twice
+  pub no_reuse : (q : Run) → RunOf role s q → NoReuse (uses q)
+  pub at_most_once : (q : Run) → RunOf role s q → AtMostOnce (delivered q)
+
+-- The first lives of the script were told, and of the others, of which there is one, nothing. Where the flash is left, one life more was
+-- run on it.
+pub record RanFirst {F : Type 0} (chip : F → Chip) (role : Role) (s : Script) (told : List LifeOver → SinkView → SinkView → Type 0)
+    (start : F) (before : SinkView) (left : Option F) (after : SinkView) : Type 0 where
   pub n : ℕ
   pub fewer : n < length s.lives
   pub run : Run
   pub is_run : RunOf role (first_lives n s) run
-  pub report : Written (lives_lines hex 1 run.lives) before after
-  pub node : IfSome left (λ f. IsNodeFlash IsNode (chip f))
-  pub found : IfSome left (λ f. AreFound start (chip f) run.lives)
-  pub faults : IfSome left (λ f. cuts run.lives + start.faults ≤ (chip f).faults)
-  pub armed : IsTrue start.steady → AreArmed (take n s.lives) run.lives
+  pub reached : F
+  pub ran : RanAll chip role (first_lives n s) start run.lives reached
+  pub report : told run.lives before after
+  pub more : IfSome left
+      (λ f. (x : LifeOver) × RanAll chip role (first_lives (n + 1) s) start (run.lives ++ x ∷ []) f)
 
--- A front of the report of the first lives of the script was written. Whatever an image of the flash recovers, where it is left, these
--- lives may end with it; and each cut of them has its cause.
-pub record RanFront {F : Type 0} (chip : F → Chip) (role : Role) (s : Script) (hex : Bool) (start : Chip)
-    (left : Option F) (before after : SinkView) : Type 0 where
+-- The lives of the script were run up to one that wasn't told to its end: those before it were, and of this one a front of what is told
+-- stands behind them.
+pub record RanFront {F : Type 0} (chip : F → Chip) (role : Role) (s : Script) (told : List LifeOver → SinkView → SinkView → Type 0)
+    (broken : ℕ → Life → SinkView → SinkView → Type 0) (start : F) (before : SinkView) (left : F) (after : SinkView)
+    : Type 0 where
   pub n : ℕ
-  pub run : Run
-  pub is_run : RunOf role (first_lives n s) run
-  pub front : WrittenFront (lives_lines hex 1 run.lives) before after
-  pub node : IfSome left (λ f. IsNodeFlash IsNode (chip f))
-  pub found : IfSome left (λ f. AreFound start (chip f) run.lives)
-  pub at_exit : IfSome left
-      (λ f. EachRecovered (chip f)
-      (λ last. RunOf role (first_lives n s) (record { lives = run.lives; last = last })))
-  pub faults : IfSome left (λ f. cuts run.lives + start.faults ≤ (chip f).faults)
-  pub armed : IsTrue start.steady → AreArmed (take n s.lives) run.lives
+  pub fewer : n < length s.lives
+  pub lives : List LifeOver
+  pub x : LifeOver
+  pub last : List StoreRecord
+  pub is_run : RunOf role (first_lives (n + 1) s) (record { lives = lives ++ x ∷ []; last = last })
+  pub ran : RanAll chip role (first_lives (n + 1) s) start (lives ++ x ∷ []) left
+  pub mid : SinkView
+  pub report : told lives before mid
+  pub front : broken (n + 1) x.life mid after
+
+-- The node was provisioned on the flash that was given, in this format, and what holds of a flash holds of the one that this left.
+pub record FromProvisioned {F : Type 0} (chip : F → Chip) (format : ℕ) (records : List StoreRecord) (given : Chip)
+    (P : F → Type 0) : Type 0 where
+  pub start : F
+  pub provisioned : WasProvisioned format records given (chip start)
+  pub ran : P start

@@ -1,12 +1,13 @@
 //! The lives of a script, one after another over one flash.
 #![tactic(auto)]
 
-ghost use Rattle.std.specs.Prelude.{◌≡◌, ◌≤◌, ◌<◌, [], length, slice_index_or, IfOk, IfSome, OnErr};
+ghost use Rattle.std.specs.Prelude.{◌≡◌, ◌≤◌, ◌<◌, List, [], length, slice_index_or, IfOk, IfSome, IsSomeAnd};
 ghost use Rattle.life_plans.specs.Plans.{script_of};
 ghost use Rattle.machine_contract.specs.Opening.{EachRecovered, IsNodeFlash};
 ghost use Rattle.mesh_base.specs.Outside.{Rose};
 ghost use Rattle.node_layers.specs.NodeLayers.{node_layers};
 ghost use Rattle.node_store.specs.Tie.{IsNode};
+ghost use Rattle.record_types.specs.declared.records.StoreRecord.{StoreRecord};
 ghost use Rattle.report_writer.specs.Lives.{FitsLines, life_of};
 ghost use Rattle.report_writer.specs.Writing.{view_of};
 ghost use Rattle.script_definitions.specs.Ranges.{IsScriptOf};
@@ -15,7 +16,7 @@ ghost use Rattle.store_definitions.specs.Config.{config_of};
 ghost use Rattle.store_definitions.specs.Provisioning.{provisioned};
 ghost use Rattle.mesh_run.specs.Causes.{IsSameFlash};
 ghost use Rattle.life_laws.specs.Plan as Plan;
-ghost use Rattle.mesh_run.specs.Lived.{IsFault, IsMemory, Lived, flash_left};
+ghost use Rattle.mesh_run.specs.Lived.{IsMemory, IsSinkFault, Lived, flash_left};
 ghost use Rattle.run_steps.specs.Provisioned.{IsProvisioned};
 ghost use Rattle.mesh_run.specs.Ran.{Ran, RanFirst, RanFront};
 ghost use Rattle.event_definitions.specs.Role.{node_role};
@@ -27,7 +28,7 @@ use mesh_base::outside::Sink;
 use mesh_machine::MeshMachine;
 use mesh_node::{Gate, LifeLog, life};
 use node_safety::node_runs_law;
-use report_writer::{EndedLife, WriteStop, write_life};
+use report_writer::{EndedLife, LifeSink, WriteStop};
 use run_safety::laws::lives_law;
 use script_definitions::script::Script;
 use std::alloc::{AllocError, Global};
@@ -78,7 +79,9 @@ fn live<R: Threads + Wait + Sync, B: Bench, G: Gate>(
     requires elements { EachRecovered (B.chip flash)
         (λ records. (config_of records).elements ≡ (script_of script.now).node.elements) }
     ensures lived { IfOk result
-        (λ r. Lived (slice_index_or (script_of script.now).lives i []) (B.chip flash) (life_of r.0) (B.chip r.1)) }
+        (λ r. (over : List StoreRecord)
+        × Lived (node_role node_layers) (slice_index_or (script_of script.now).lives i []) (B.chip flash)
+        (record { over = over; life = life_of r.0 }) (B.chip r.1)) }
     ensures room { IfOk result (λ r. FitsLines (life_of r.0)) }
 {
     script_law();
@@ -87,13 +90,13 @@ fn live<R: Threads + Wait + Sync, B: Bench, G: Gate>(
     Ok((ended_life(log), flash))
 }
 
-/// Runs the lives of a script one after another, and writes the report of each once it is over; nothing of it but its flash is kept. The node
-/// was provisioned on the flash. For want of memory nothing of a life is written.
-pub(crate) fn live_all<R: Threads + Wait + Sync, B: Bench, K: Sink, G: Gate>(
+/// Runs the lives of a script one after another, and tells of each once it is over; nothing of it but its flash is kept. The node was
+/// provisioned on the flash. For want of memory nothing of a life is told.
+pub(crate) fn live_all<R: Threads + Wait + Sync, B: Bench, L: LifeSink, K: Sink, G: Gate>(
     rt: &R,
     alloc: Global,
     script: &Script,
-    hex: bool,
+    lives: &mut L,
     sink: &mut K,
     flash: B,
     gate: &G,
@@ -101,16 +104,17 @@ pub(crate) fn live_all<R: Threads + Wait + Sync, B: Bench, K: Sink, G: Gate>(
     requires read { IsScriptOf Grammars.Node script.now }
     requires provisioned { IsProvisioned (B.chip flash) (provisioned (script_of script.now).node) }
     ensures all { IfOk result
-        (λ f. Ran (node_role node_layers) (script_of script.now) hex (B.chip flash) (view_of K.held K.pieces sink.old)
-        (B.chip f) (view_of K.held K.pieces sink.new)) }
-    ensures front { OnErr result
-        (RanFront B.chip (node_role node_layers) (script_of script.now) hex (B.chip flash) (flash_left result)
-        (view_of K.held K.pieces sink.old) (view_of K.held K.pieces sink.new)) }
+        (λ f. Ran B.chip (node_role node_layers) (script_of script.now) (L.told lives.old lives.new) flash
+        (view_of K.held K.pieces sink.old) f (view_of K.held K.pieces sink.new)) }
+    ensures front { IsSinkFault result
+        → IsSomeAnd (flash_left result)
+        (λ f. RanFront B.chip (node_role node_layers) (script_of script.now) (L.told lives.old lives.new)
+        (L.broken lives.new) flash (view_of K.held K.pieces sink.old) f (view_of K.held K.pieces sink.new)) }
     ensures whole { IsMemory result
-        → RanFirst B.chip (node_role node_layers) (script_of script.now) hex (B.chip flash) (flash_left result)
-        (view_of K.held K.pieces sink.old) (view_of K.held K.pieces sink.new) }
-    ensures cause { IsFault result → Rose (K.faults sink.old) (K.faults sink.new) }
-    ensures no_fault { ¬ IsFault result → K.faults sink.new ≡ K.faults sink.old }
+        → RanFirst B.chip (node_role node_layers) (script_of script.now) (L.told lives.old lives.new) flash
+        (view_of K.held K.pieces sink.old) (flash_left result) (view_of K.held K.pieces sink.new) }
+    ensures cause { IsSinkFault result → Rose (K.faults sink.old) (K.faults sink.new) }
+    ensures no_fault { ¬ IsSinkFault result → K.faults sink.new ≡ K.faults sink.old }
     ensures later { K.faults sink.old ≤ K.faults sink.new }
     ensures frame { IfSome (flash_left result) (λ f. IsSameFlash (B.chip flash) (B.chip f)) }
 {
@@ -125,7 +129,7 @@ pub(crate) fn live_all<R: Threads + Wait + Sync, B: Bench, K: Sink, G: Gate>(
             Err(_) => return Err(Stopped::Memory(None)),
         };
         flash = back;
-        match write_life(alloc, sink, hex, i as u32 + 1, &ended) {
+        match lives.tell(alloc, sink, i as u32 + 1, &ended) {
             Ok(()) => {}
             Err(WriteStop::Fault) => return Err(Stopped::Fault(flash)),
             Err(WriteStop::Memory) => return Err(Stopped::Memory(Some(flash))),

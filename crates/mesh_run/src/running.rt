@@ -16,8 +16,10 @@ ghost use Rattle.command_words.specs.Commands.{command_of};
 ghost use Rattle.command_words.specs.declared.commands.Command.TheVariants as C;
 ghost use Rattle.command_words.specs.declared.commands.RunFlags.{RunFlags as Flags};
 ghost use Rattle.audit_definitions.specs.Input.{IsFirstOther};
-ghost use Rattle.mesh_run.specs.Ran.{Ran, RanFirst, RanFront};
-ghost use Rattle.run_steps.specs.Provisioned.{FailsEarly, WasProvisioned, format_by};
+ghost use Rattle.mesh_run.specs.Ran.{FromProvisioned, Ran, RanFirst, RanFront};
+ghost use Rattle.mesh_run.specs.Reporting.{ReportsFront};
+ghost use Rattle.report_writer.specs.Reporting.{Reports};
+ghost use Rattle.run_steps.specs.Provisioned.{FailsEarly, format_by};
 ghost use Rattle.run_steps.specs.Reads.{ReadsMoreThan};
 ghost use Rattle.event_definitions.specs.Role.{node_role};
 ghost use Rattle.store_definitions.specs.Provisioning.{provisioned};
@@ -98,34 +100,25 @@ pub fn run<R: Threads + Wait + Sync, S: Source, K: Sink, B: Bench, G: Gate>(
         → IfSome (S.left source.old)
         (λ text. IsScriptAnd (reading Grammars.Node text)
         (λ s. IsSomeAnd result.flash
-        (λ f. Ran (node_role node_layers) (script_of s) flags.hex (B.chip flash) (view_of K.held K.pieces sink.old) (B.chip f)
-        (view_of K.held K.pieces sink.new)))) }
-    ensures format { (flags : Flags) → command_of (map (λ w. w.now) words.now) ≡ Some (C.Run flags)
-        → (result.status ≡ Status.Done) ⊎ (result.status ≡ Status.WriteFault)
-        → IfSome (S.left source.old)
-        (λ text. IsScriptAnd (reading Grammars.Node text)
-        (λ s. IsSomeAnd result.flash
-        (λ f. WasProvisioned (format_by flags.old) (provisioned (script_of s).node) (B.chip flash) (B.chip f)))) }
+        (λ f. FromProvisioned B.chip (format_by flags.old) (provisioned (script_of s).node) (B.chip flash)
+        (λ start. Ran B.chip (node_role node_layers) (script_of s) (Reports flags.hex) start
+        (view_of K.held K.pieces sink.old) f (view_of K.held K.pieces sink.new))))) }
     ensures front { (flags : Flags) → command_of (map (λ w. w.now) words.now) ≡ Some (C.Run flags)
         → result.status ≡ Status.WriteFault
         → IfSome (S.left source.old)
         (λ text. IsScriptAnd (reading Grammars.Node text)
-        (λ s. RanFront B.chip (node_role node_layers) (script_of s) flags.hex (B.chip flash) result.flash
-        (view_of K.held K.pieces sink.old) (view_of K.held K.pieces sink.new))) }
-    ensures memory { (flags : Flags) → command_of (map (λ w. w.now) words.now) ≡ Some (C.Run flags)
-        → result.status ≡ Status.Memory
-        → (sink.new ≡ sink.old)
-        ⊎ IfSome (S.left source.old)
-        (λ text. IsScriptAnd (reading Grammars.Node text)
-        (λ s. RanFront B.chip (node_role node_layers) (script_of s) flags.hex (B.chip flash) result.flash
-        (view_of K.held K.pieces sink.old) (view_of K.held K.pieces sink.new))) }
+        (λ s. IsSomeAnd result.flash
+        (λ f. FromProvisioned B.chip (format_by flags.old) (provisioned (script_of s).node) (B.chip flash)
+        (λ start. RanFront B.chip (node_role node_layers) (script_of s) (Reports flags.hex) (ReportsFront flags.hex)
+        start (view_of K.held K.pieces sink.old) f (view_of K.held K.pieces sink.new))))) }
     ensures whole { (flags : Flags) → command_of (map (λ w. w.now) words.now) ≡ Some (C.Run flags)
         → result.status ≡ Status.Memory
-        → (sink.new ≡ sink.old)
+        → ((sink.new ≡ sink.old) × (result.flash ≡ Some flash))
         ⊎ IfSome (S.left source.old)
         (λ text. IsScriptAnd (reading Grammars.Node text)
-        (λ s. RanFirst B.chip (node_role node_layers) (script_of s) flags.hex (B.chip flash) result.flash
-        (view_of K.held K.pieces sink.old) (view_of K.held K.pieces sink.new))) }
+        (λ s. FromProvisioned B.chip (format_by flags.old) (provisioned (script_of s).node) (B.chip flash)
+        (λ start. RanFirst B.chip (node_role node_layers) (script_of s) (Reports flags.hex) start
+        (view_of K.held K.pieces sink.old) result.flash (view_of K.held K.pieces sink.new)))) }
     ensures nothing_written { IsBeforeLives result.status → sink.new ≡ sink.old }
 
     // An audit writes the line of the verdict on what is read, or a front of it, and leaves the flash.

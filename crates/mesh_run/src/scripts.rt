@@ -11,8 +11,10 @@ ghost use Rattle.script_definitions.specs.Reading.{reading};
 ghost use Rattle.script_definitions.specs.Reading.Reading.{Fails};
 ghost use Rattle.script_definitions.specs.declared.kind.Grammar.TheVariants as Grammars;
 ghost use Rattle.mesh_run.specs.Causes.{IfScript, IsBeforeFlash, IsBeforeLives, IsDueBy, IsErasedFlash, IsFromFlash, IsSameFlash, IsScriptAnd, IsWrittenAt, WasErased};
-ghost use Rattle.mesh_run.specs.Ran.{Ran, RanFirst, RanFront};
-ghost use Rattle.run_steps.specs.Provisioned.{FailsEarly, WasProvisioned, format_by};
+ghost use Rattle.mesh_run.specs.Ran.{FromProvisioned, Ran, RanFirst, RanFront};
+ghost use Rattle.mesh_run.specs.Reporting.{ReportsFront};
+ghost use Rattle.report_writer.specs.Reporting.{Reports};
+ghost use Rattle.run_steps.specs.Provisioned.{FailsEarly, format_by};
 ghost use Rattle.event_definitions.specs.Role.{node_role};
 ghost use Rattle.store_definitions.specs.Provisioning.{provisioned};
 
@@ -22,6 +24,7 @@ use flash_model::Bench;
 use life_plans::{provision_of, script_law};
 use mesh_base::outside::Sink;
 use mesh_node::Gate;
+use report_writer::{LifeSink, Report};
 use run_steps::{Ended, Status, provision};
 use script_definitions::script::Script;
 use script_reader::{ScriptStop, read_script};
@@ -30,12 +33,14 @@ use std::alloc::Global;
 use std::sync::Wait;
 use std::thread::Threads;
 
-/// Runs a script that was read: power is cycled, the node is provisioned, and the lives are run one after another.
-fn run_script<R: Threads + Wait + Sync, B: Bench, K: Sink, G: Gate>(
+/// Runs a script: power is cycled, the node is provisioned, in format 01 where it is to be the old one, and the lives are run one after
+/// another. Each is told of once it is over.
+pub(crate) fn run_script<R: Threads + Wait + Sync, B: Bench, L: LifeSink, K: Sink, G: Gate>(
     rt: &R,
     alloc: Global,
-    flags: RunFlags,
+    old: bool,
     script: &Script,
+    lives: &mut L,
     sink: &mut K,
     flash: B,
     gate: &G,
@@ -57,20 +62,21 @@ fn run_script<R: Threads + Wait + Sync, B: Bench, K: Sink, G: Gate>(
     ensures complete { ¬ Rose (K.faults sink.old) (K.faults sink.new) → IsErasedFlash (B.chip flash)
         → (result.status ≡ Status.Done) ⊎ (result.status ≡ Status.Memory) ⊎ (result.status ≡ Status.FlashFault) }
 
-    // What is written is the report of a record of a run of the script, or a front of it.
+    // What is told is a record of a run of the script, or its first lives.
     ensures done { result.status ≡ Status.Done
         → IsSomeAnd result.flash
-        (λ f. Ran (node_role node_layers) (script_of script.now) flags.hex (B.chip flash) (view_of K.held K.pieces sink.old)
-        (B.chip f) (view_of K.held K.pieces sink.new)) }
-    ensures format { (result.status ≡ Status.Done) ⊎ (result.status ≡ Status.WriteFault)
+        (λ f. FromProvisioned B.chip (format_by old) (provisioned (script_of script.now).node) (B.chip flash)
+        (λ start. Ran B.chip (node_role node_layers) (script_of script.now) (L.told lives.old lives.new) start
+        (view_of K.held K.pieces sink.old) f (view_of K.held K.pieces sink.new))) }
+    ensures front { result.status ≡ Status.WriteFault
         → IsSomeAnd result.flash
-        (λ f. WasProvisioned (format_by flags.old) (provisioned (script_of script.now).node) (B.chip flash) (B.chip f)) }
-    ensures front { (result.status ≡ Status.WriteFault) ⊎ (result.status ≡ Status.Memory)
-        → RanFront B.chip (node_role node_layers) (script_of script.now) flags.hex (B.chip flash) result.flash
-        (view_of K.held K.pieces sink.old) (view_of K.held K.pieces sink.new) }
+        (λ f. FromProvisioned B.chip (format_by old) (provisioned (script_of script.now).node) (B.chip flash)
+        (λ start. RanFront B.chip (node_role node_layers) (script_of script.now) (L.told lives.old lives.new)
+        (L.broken lives.new) start (view_of K.held K.pieces sink.old) f (view_of K.held K.pieces sink.new))) }
     ensures whole { result.status ≡ Status.Memory
-        → RanFirst B.chip (node_role node_layers) (script_of script.now) flags.hex (B.chip flash) result.flash
-        (view_of K.held K.pieces sink.old) (view_of K.held K.pieces sink.new) }
+        → FromProvisioned B.chip (format_by old) (provisioned (script_of script.now).node) (B.chip flash)
+        (λ start. RanFirst B.chip (node_role node_layers) (script_of script.now) (L.told lives.old lives.new) start
+        (view_of K.held K.pieces sink.old) result.flash (view_of K.held K.pieces sink.new)) }
     ensures nothing_written { IsBeforeLives result.status → sink.new ≡ sink.old }
 
     // What becomes of the flash, and of the sink's count of faults.
@@ -83,7 +89,7 @@ fn run_script<R: Threads + Wait + Sync, B: Bench, K: Sink, G: Gate>(
     script_law();
     let mut flash = flash;
     flash.power_cycle();
-    match provision(&mut flash, flags.old, &provision_of(&script.provision)) {
+    match provision(&mut flash, old, &provision_of(&script.provision)) {
         Ok(()) => {}
         Err(FormatFault::Flash) => return Ended::with_flash(Status::FlashFault, flash),
         Err(FormatFault::NotErased { at }) => return Ended::with_flash(
@@ -91,7 +97,7 @@ fn run_script<R: Threads + Wait + Sync, B: Bench, K: Sink, G: Gate>(
             flash,
         ),
     }
-    match live_all(rt, alloc, script, flags.hex, sink, flash, gate) {
+    match live_all(rt, alloc, script, lives, sink, flash, gate) {
         Ok(flash) => Ended::with_flash(Status::Done, flash),
         Err(Stopped::Fault(flash)) => Ended::with_flash(Status::WriteFault, flash),
         Err(Stopped::Memory(flash)) => Ended {
@@ -135,26 +141,21 @@ pub(crate) fn run_text<R: Threads + Wait + Sync, B: Bench, K: Sink, G: Gate>(
     ensures done { result.status ≡ Status.Done
         → IsScriptAnd (reading Grammars.Node text.now)
         (λ s. IsSomeAnd result.flash
-        (λ f. Ran (node_role node_layers) (script_of s) flags.hex (B.chip flash) (view_of K.held K.pieces sink.old) (B.chip f)
-        (view_of K.held K.pieces sink.new))) }
-    ensures format { (result.status ≡ Status.Done) ⊎ (result.status ≡ Status.WriteFault)
-        → IsScriptAnd (reading Grammars.Node text.now)
-        (λ s. IsSomeAnd result.flash
-        (λ f. WasProvisioned (format_by flags.old) (provisioned (script_of s).node) (B.chip flash) (B.chip f))) }
+        (λ f. FromProvisioned B.chip (format_by flags.old) (provisioned (script_of s).node) (B.chip flash)
+        (λ start. Ran B.chip (node_role node_layers) (script_of s) (Reports flags.hex) start
+        (view_of K.held K.pieces sink.old) f (view_of K.held K.pieces sink.new)))) }
     ensures front { result.status ≡ Status.WriteFault
         → IsScriptAnd (reading Grammars.Node text.now)
-        (λ s. RanFront B.chip (node_role node_layers) (script_of s) flags.hex (B.chip flash) result.flash
-        (view_of K.held K.pieces sink.old) (view_of K.held K.pieces sink.new)) }
-    ensures memory { result.status ≡ Status.Memory
-        → (sink.new ≡ sink.old)
-        ⊎ IsScriptAnd (reading Grammars.Node text.now)
-        (λ s. RanFront B.chip (node_role node_layers) (script_of s) flags.hex (B.chip flash) result.flash
-        (view_of K.held K.pieces sink.old) (view_of K.held K.pieces sink.new)) }
+        (λ s. IsSomeAnd result.flash
+        (λ f. FromProvisioned B.chip (format_by flags.old) (provisioned (script_of s).node) (B.chip flash)
+        (λ start. RanFront B.chip (node_role node_layers) (script_of s) (Reports flags.hex) (ReportsFront flags.hex)
+        start (view_of K.held K.pieces sink.old) f (view_of K.held K.pieces sink.new)))) }
     ensures whole { result.status ≡ Status.Memory
-        → (sink.new ≡ sink.old)
+        → ((sink.new ≡ sink.old) × (result.flash ≡ Some flash))
         ⊎ IsScriptAnd (reading Grammars.Node text.now)
-        (λ s. RanFirst B.chip (node_role node_layers) (script_of s) flags.hex (B.chip flash) result.flash
-        (view_of K.held K.pieces sink.old) (view_of K.held K.pieces sink.new)) }
+        (λ s. FromProvisioned B.chip (format_by flags.old) (provisioned (script_of s).node) (B.chip flash)
+        (λ start. RanFirst B.chip (node_role node_layers) (script_of s) (Reports flags.hex) start
+        (view_of K.held K.pieces sink.old) result.flash (view_of K.held K.pieces sink.new))) }
     ensures nothing_written { IsBeforeLives result.status → sink.new ≡ sink.old }
 
     // What becomes of the flash, and of the sink's count of faults.
@@ -172,5 +173,6 @@ pub(crate) fn run_text<R: Threads + Wait + Sync, B: Bench, K: Sink, G: Gate>(
         ),
         Err(ScriptStop::Memory) => return Ended::with_flash(Status::Memory, flash),
     };
-    run_script(rt, alloc, flags, &script, sink, flash, gate)
+    let mut report = Report { hex: flags.hex };
+    run_script(rt, alloc, flags.old, &script, &mut report, sink, flash, gate)
 }

@@ -1,12 +1,11 @@
 -- A flash on which a node was provisioned, and one that failed before that.
-use Rattle.std.specs.Prelude.{◌≡◌, ℕ, ◌<◌, ◌≤◌, Bool, true, false, List, None}
-use Rattle.flash_model.specs.Chip.{Chip}
+use Rattle.std.specs.Prelude.{◌≡◌, ℕ, ◌<◌, Bool, true, false, List, None}
+use Rattle.flash_model.specs.Chip.{Chip, Remembers}
 use Rattle.machine_contract.specs.Opening.{EachRecovered, IsNodeFlash}
 use Rattle.node_store.specs.Mounted.{HasFormat}
 use Rattle.node_store.specs.Tie.{IsMade, IsNode}
 use Rattle.record_types.specs.declared.records.StoreRecord.{StoreRecord}
 use Rattle.slot_journal.specs.Format.{IsErased}
-use Rattle.store_definitions.specs.Recovered.{IsRecovered}
 
 -- a life can be opened from each image, which recovers exactly these records
 pub record IsProvisioned (chip : Chip) (records : List StoreRecord) : Type 0 where
@@ -22,13 +21,18 @@ format_by false = 2
 abbrev pub IsInFormat : ℕ → Chip → Type 0
 IsInFormat format chip = (image : List ℕ) → chip.images image → HasFormat format image
 
--- At some moment since that of the old chip, and so since each earlier one, a cut might have left an image with these records, in that
--- format.
+-- The power of a flash was cycled, which left an erased image, and the node was provisioned on it in this format. The flash didn't fail, was
+-- given no order to tear a call, and remembers its past.
 pub record WasProvisioned (format : ℕ) (records : List StoreRecord) (old new : Chip) : Type 0 where
-  pub image : List ℕ
-  pub was : (t : ℕ) → t ≤ old.moment → new.since t image
-  pub recovered : IsRecovered image records
-  pub in_format : HasFormat format image
+  pub found : List ℕ
+  pub was : old.images found
+  pub erased : IsErased found
+  pub made : IsProvisioned new records
+  pub in_format : IsInFormat format new
+  pub faults : new.faults ≡ old.faults
+  pub setting : new.setting ≡ record { faults = old.faults; arm = None }
+  pub steady : new.steady ≡ old.steady
+  pub past : Remembers old new
 
 -- The flash failed before a node was provisioned on it, and so before any life: it failed since power was given, and was given no order to
 -- tear a call. Where it was erased, an image recovers nothing, or what the node is provisioned with; else it is as it was.

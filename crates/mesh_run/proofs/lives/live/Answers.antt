@@ -1,4 +1,4 @@
-use Rattle.std.proofs.Common.{[], sym, subst}
+use Rattle.std.proofs.Common.{[], refl, sym, subst}
 use Rattle.std.specs.Prelude.{All}
 use Rattle.mesh_node.specs.Lives.{Lives}
 use Rattle.node_layers.specs.NodeLayers.{node_layers}
@@ -30,9 +30,14 @@ returns-clause-lived g c =
     let lives = c.args.script.now.lives in
     let are = lines_are lives c.as_slice.result.now c.args.i c.index-as_slice-i.result c.as_slice-2.result.now c.as_slice.ensures.value c.index-as_slice-i.is c.as_slice-2.ensures.value c.requires.place in
     let plan = plan_is lives c.args.i c.as_slice-2.result.now _ are c.requires.place c.in_ok-plan.ensures.value in
-    record {
-      log = c.in_ok-log.log;
-      is = sym c.ended_life.ensures.value;
-      lives = subst (λ steps. Lives (node_role node_layers) IsNode steps (chip c.args.flash) c.in_ok-log.log (chip c.in_ok-log.flash)) plan c.in_ok-log.ensures.life;
-      explained = (g.met.B.Bench g.world.𝓛 g.world.𝓜 g.world.𝓡 ((λ s x. x), (λ x. x), (λ x. x), λ x. x)).explained c.in_ok-log.flash;
-    }
+    let lived = subst (λ steps. Lives (node_role node_layers) IsNode steps (chip c.args.flash) c.in_ok-log.log (chip c.in_ok-log.flash)) plan c.in_ok-log.ensures.life in
+    (
+      lived.over,
+      record {
+        log = c.in_ok-log.log;
+        is = sym c.ended_life.ensures.value;
+        lives = lived;
+        opened_over = refl;
+        explained = (g.met.B.Bench g.world.𝓛 g.world.𝓜 g.world.𝓡 ((λ s x. x), (λ x. x), (λ x. x), λ x. x)).explained c.in_ok-log.flash;
+      },
+    )

@@ -10,9 +10,9 @@ use Rattle.run_steps.specs.Provisioned.{FailsEarly, WasProvisioned, format_by}
 use Rattle.slot_journal.specs.Causes.{IsFormatCause}
 use Rattle.store_definitions.specs.Provisioning.{provisioned}
 use Rattle.mesh_run.specs.Causes.{IsSameFlash}
-use Rattle.mesh_run.specs.Lived.{IsMemory, flash_left}
-use Rattle.mesh_run.specs.Ran.{RanFirst, RanFront}
-use Rattle.mesh_run.proofs.Ends.{cycled, fails_early, first_from, front_from, same_left, through, was_provisioned}
+use Rattle.mesh_run.specs.Lived.{IsMemory, IsSinkFault, flash_left}
+use Rattle.mesh_run.specs.Ran.{FromProvisioned, Ran, RanFirst, RanFront}
+use Rattle.mesh_run.proofs.Ends.{cycled, fails_early, same_left, through, was_provisioned}
 use Rattle.mesh_run.proofs.scripts.run_script.Goals as goal
 
 pub returns-in-Err-Flash-clause-early : goal.returns-in-Err-Flash-clause-early
@@ -33,74 +33,50 @@ returns-in-Err-Flash-clause-early g c = λ is.
     let said : FailsEarly records old new = subst (λ (p : Provision). FailsEarly (provisioned (provisioning p)) old new) c.provision_of.ensures.value early in
     subst (λ e. IsSomeAnd e.flash (λ f. FailsEarly records old (chip f))) (sym c.with_flash.ensures.value) said
 
--- what was provisioned was there before the lives, and so it is still among what a cut might have left
-pub returns-in-Ok-live_all-clause-format : goal.returns-in-Ok-live_all-clause-format
-returns-in-Ok-live_all-clause-format g c = λ is.
+-- what was run was run from the flash that provisioning left
+pub returns-in-Ok-live_all-clause-done : goal.returns-in-Ok-live_all-clause-done
+returns-in-Ok-live_all-clause-done g c = λ is.
     let chip = g.B.Flash.chip in
-    let law = g.met.B.Flash g.world.𝓛 g.world.𝓜 g.world.𝓡 ((λ s x. x), (λ x. x), (λ x. x), λ x. x) in
+    let view = view_of g.K.Sink.held g.K.Sink.pieces in
+    let role = node_role node_layers in
+    let s = script_of c.args.script.now in
+    let told = g.L.LifeSink.told c.args.lives.now c.live_all.new.lives in
+    let broken = g.L.LifeSink.broken c.live_all.new.lives in
     let old = chip c.args.flash in
+    let start = chip c.provision.new.flash in
+    let before = view c.args.sink.now in
+    let after = view c.live_all.new.sink in
+    let format = format_by c.args.old in
     let cycle = c.power_cycle.ensures in
     let fresh = cycle.fresh c.requires.honest in
-    let mid = chip c.provision.new.flash in
-    let new = chip c.in-Ok-live_all.flash in
-    let first = through old (chip c.power_cycle.new.self) mid (cycled old (chip c.power_cycle.new.self) c.requires.honest cycle.frame) c.provision.ensures.frame in
-    let was = was_provisioned (format_by c.args.flags.old) (provisioned (provisioning c.provision_of.result)) old mid new first c.in-Ok-live_all.ensures.frame
-    (law.reads_image c.provision.new.flash first.honest) (law.counts_now c.provision.new.flash) (c.in-Ok.ensures.provisioned fresh) (c.in-Ok.ensures.format fresh) in
-    let said : WasProvisioned (format_by c.args.flags.old) (provisioned (provisioning (provision_of c.args.script.now.provision))) old new =
-    subst (λ (p : Provision). WasProvisioned (format_by c.args.flags.old) (provisioned (provisioning p)) old new) c.provision_of.ensures.value was in
-    subst (λ e. IsSomeAnd e.flash (λ f. WasProvisioned (format_by c.args.flags.old) (provisioned (provisioning (provision_of c.args.script.now.provision))) old (chip f)))
-    (sym c.with_flash-in-Ok-live_all.ensures.value) said
+    let was : WasProvisioned format (provisioned s.node) old start =
+    was_provisioned format c.provision_of.result (provision_of c.args.script.now.provision) old (chip c.power_cycle.new.self) start c.provision_of.ensures.value cycle.frame
+    (cycle.image c.requires.honest) cycle.setting (c.in-Ok.ensures.erased fresh.honest) c.provision.ensures.frame c.in-Ok.ensures.no_fault (c.in-Ok.ensures.provisioned fresh) (c.in-Ok.ensures.format fresh) in
+    subst (λ e. IsSomeAnd e.flash (λ f. FromProvisioned chip format (provisioned s.node) old (λ from. Ran chip role s told from before f after)))
+    (sym c.with_flash-in-Ok-live_all.ensures.value) (record { start = c.provision.new.flash; provisioned = was; ran = c.in-Ok-live_all.ensures.all })
 
-pub returns-in-Err-Fault-clause-format : goal.returns-in-Err-Fault-clause-format
-returns-in-Err-Fault-clause-format g c = λ is.
-    let chip = g.B.Flash.chip in
-    let law = g.met.B.Flash g.world.𝓛 g.world.𝓜 g.world.𝓡 ((λ s x. x), (λ x. x), (λ x. x), λ x. x) in
-    let old = chip c.args.flash in
-    let cycle = c.power_cycle.ensures in
-    let fresh = cycle.fresh c.requires.honest in
-    let mid = chip c.provision.new.flash in
-    let new = chip c.in-Err-Fault.flash in
-    let first = through old (chip c.power_cycle.new.self) mid (cycled old (chip c.power_cycle.new.self) c.requires.honest cycle.frame) c.provision.ensures.frame in
-    let second : IsSameFlash mid new = subst (λ e. IfSome (flash_left (Err e)) (λ f. IsSameFlash mid (chip f))) c.in-Err-Fault.field-0-is c.in-Err-Fault.ensures.frame in
-    let was = was_provisioned (format_by c.args.flags.old) (provisioned (provisioning c.provision_of.result)) old mid new first second
-    (law.reads_image c.provision.new.flash first.honest) (law.counts_now c.provision.new.flash) (c.in-Ok.ensures.provisioned fresh) (c.in-Ok.ensures.format fresh) in
-    let said : WasProvisioned (format_by c.args.flags.old) (provisioned (provisioning (provision_of c.args.script.now.provision))) old new =
-    subst (λ (p : Provision). WasProvisioned (format_by c.args.flags.old) (provisioned (provisioning p)) old new) c.provision_of.ensures.value was in
-    subst (λ e. IsSomeAnd e.flash (λ f. WasProvisioned (format_by c.args.flags.old) (provisioned (provisioning (provision_of c.args.script.now.provision))) old (chip f)))
-    (sym c.with_flash-in-Err-Fault.ensures.value) said
-
--- what was run was run from the flash of before
 pub returns-in-Err-Fault-clause-front : goal.returns-in-Err-Fault-clause-front
 returns-in-Err-Fault-clause-front g c = λ is.
     let chip = g.B.Flash.chip in
     let view = view_of g.K.Sink.held g.K.Sink.pieces in
     let role = node_role node_layers in
     let s = script_of c.args.script.now in
-    let hex = c.args.flags.hex in
+    let told = g.L.LifeSink.told c.args.lives.now c.live_all.new.lives in
+    let broken = g.L.LifeSink.broken c.live_all.new.lives in
     let old = chip c.args.flash in
     let start = chip c.provision.new.flash in
     let before = view c.args.sink.now in
     let after = view c.live_all.new.sink in
-    let first = through old (chip c.power_cycle.new.self) start (cycled old (chip c.power_cycle.new.self) c.requires.honest c.power_cycle.ensures.frame) c.provision.ensures.frame in
-    let ran : RanFront chip role s hex start (Some c.in-Err-Fault.flash) before after =
-    subst (λ e. RanFront chip role s hex start (flash_left (Err e)) before after) c.in-Err-Fault.field-0-is c.in-Err-Fault.ensures.front in
-    subst (λ e. RanFront chip role s hex old e.flash before after) (sym c.with_flash-in-Err-Fault.ensures.value)
-    (front_from chip role s hex old start (Some c.in-Err-Fault.flash) before after first ran)
-
-pub returns-in-Err-Memory-clause-front : goal.returns-in-Err-Memory-clause-front
-returns-in-Err-Memory-clause-front g c = λ is.
-    let chip = g.B.Flash.chip in
-    let view = view_of g.K.Sink.held g.K.Sink.pieces in
-    let role = node_role node_layers in
-    let s = script_of c.args.script.now in
-    let hex = c.args.flags.hex in
-    let old = chip c.args.flash in
-    let start = chip c.provision.new.flash in
-    let before = view c.args.sink.now in
-    let after = view c.live_all.new.sink in
-    let first = through old (chip c.power_cycle.new.self) start (cycled old (chip c.power_cycle.new.self) c.requires.honest c.power_cycle.ensures.frame) c.provision.ensures.frame in
-    front_from chip role s hex old start c.in-Err-Memory.flash before after first
-    (subst (λ e. RanFront chip role s hex start (flash_left (Err e)) before after) c.in-Err-Memory.field-0-is c.in-Err-Memory.ensures.front)
+    let format = format_by c.args.old in
+    let cycle = c.power_cycle.ensures in
+    let fresh = cycle.fresh c.requires.honest in
+    let was : WasProvisioned format (provisioned s.node) old start =
+    was_provisioned format c.provision_of.result (provision_of c.args.script.now.provision) old (chip c.power_cycle.new.self) start c.provision_of.ensures.value cycle.frame
+    (cycle.image c.requires.honest) cycle.setting (c.in-Ok.ensures.erased fresh.honest) c.provision.ensures.frame c.in-Ok.ensures.no_fault (c.in-Ok.ensures.provisioned fresh) (c.in-Ok.ensures.format fresh) in
+    let ran : RanFront chip role s told broken c.provision.new.flash before c.in-Err-Fault.flash after =
+    subst (λ e. IsSinkFault (Err e) → IsSomeAnd (flash_left (Err e)) (λ f. RanFront chip role s told broken c.provision.new.flash before f after)) c.in-Err-Fault.field-0-is c.in-Err-Fault.ensures.front tt in
+    subst (λ e. IsSomeAnd e.flash (λ f. FromProvisioned chip format (provisioned s.node) old (λ from. RanFront chip role s told broken from before f after)))
+    (sym c.with_flash-in-Err-Fault.ensures.value) (record { start = c.provision.new.flash; provisioned = was; ran = ran })
 
 pub returns-in-Err-Memory-clause-whole : goal.returns-in-Err-Memory-clause-whole
 returns-in-Err-Memory-clause-whole g c = λ is.
@@ -108,14 +84,23 @@ returns-in-Err-Memory-clause-whole g c = λ is.
     let view = view_of g.K.Sink.held g.K.Sink.pieces in
     let role = node_role node_layers in
     let s = script_of c.args.script.now in
-    let hex = c.args.flags.hex in
+    let told = g.L.LifeSink.told c.args.lives.now c.live_all.new.lives in
+    let broken = g.L.LifeSink.broken c.live_all.new.lives in
     let old = chip c.args.flash in
     let start = chip c.provision.new.flash in
     let before = view c.args.sink.now in
     let after = view c.live_all.new.sink in
-    let first = through old (chip c.power_cycle.new.self) start (cycled old (chip c.power_cycle.new.self) c.requires.honest c.power_cycle.ensures.frame) c.provision.ensures.frame in
-    first_from chip role s hex old start c.in-Err-Memory.flash before after first
-    (subst (λ e. IsMemory (Err e) → RanFirst chip role s hex start (flash_left (Err e)) before after) c.in-Err-Memory.field-0-is c.in-Err-Memory.ensures.whole tt)
+    let format = format_by c.args.old in
+    let cycle = c.power_cycle.ensures in
+    let fresh = cycle.fresh c.requires.honest in
+    let was : WasProvisioned format (provisioned s.node) old start =
+    was_provisioned format c.provision_of.result (provision_of c.args.script.now.provision) old (chip c.power_cycle.new.self) start c.provision_of.ensures.value cycle.frame
+    (cycle.image c.requires.honest) cycle.setting (c.in-Ok.ensures.erased fresh.honest) c.provision.ensures.frame c.in-Ok.ensures.no_fault (c.in-Ok.ensures.provisioned fresh) (c.in-Ok.ensures.format fresh) in
+    record {
+      start = c.provision.new.flash;
+      provisioned = was;
+      ran = subst (λ e. IsMemory (Err e) → RanFirst chip role s told c.provision.new.flash before (flash_left (Err e)) after) c.in-Err-Memory.field-0-is c.in-Err-Memory.ensures.whole tt;
+    }
 
 pub returns-in-Err-Memory-clause-frame : goal.returns-in-Err-Memory-clause-frame
 returns-in-Err-Memory-clause-frame g c =

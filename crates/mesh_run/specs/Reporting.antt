@@ -1,0 +1,9 @@
+-- What a report tells of a life that it was broken off in.
+use Rattle.std.specs.Prelude.{ℕ, Bool}
+use Rattle.report_definitions.specs.Record.{Life}
+use Rattle.report_definitions.specs.Report.{life_lines}
+use Rattle.report_writer.specs.Writing.{SinkView, WrittenFront}
+
+-- of the lines of the life with this number a front was written
+abbrev pub ReportsFront : Bool → ℕ → Life → SinkView → SinkView → Type 0
+ReportsFront hex number life before after = WrittenFront (life_lines hex number life) before after
