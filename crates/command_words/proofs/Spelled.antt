@@ -1,13 +1,13 @@
 -- The words that are spelled so, and what `clap` makes of them.
-use Rattle.std.proofs.lemmas.Bool.{eq-eqb, eqb-true}
+use Rattle.std.proofs.lemmas.Bool.{eq-eqb, eqb-true, leb-true}
 use Rattle.std.proofs.Common.{arith, ◌≡◌, ℕ, Bool, true, false, List, [], ◌∷◌, refl, sym, ap, ap₂, ◌∙◌, subst, codes, length, Option, Some, None, inl, inr, ◌==◌, ◌&&◌, ◌||◌}
-use Rattle.std.specs.Prelude.{◌⊎◌, if◌then◌else◌, option_and_then}
+use Rattle.std.specs.Prelude.{◌⊎◌, IfSome, if◌then◌else◌, nat_le, option_and_then}
 use Rattle.std.specs.Str.{bytes_eq}
 use Rattle.std.proofs.lemmas.Slice.Eq.{bytes_eq-Decides}
 use Rattle.clap.specs.Simple.{subcommand_of}
 use Rattle.clap.specs.Takes.{takes}
 use Rattle.clap.proofs.OnLiterals.{clap_on_literals}
-use Rattle.command_words.specs.Commands.{command_of, generate, has_flag, has_flags, is_generate, is_number, is_spelled, is_word, kept, run, word_at}
+use Rattle.command_words.specs.Commands.{HasFew, command_of, generate, generate_of, has_flag, has_flags, is_generate, is_number, is_spelled, is_word, kept, run, word_at}
 use Rattle.command_words.specs.Numbers.{count_word, is_count, is_digits, number_word}
 use Rattle.command_words.proofs.Digits.{no_number}
 use Rattle.command_words.proofs.Walking.{no_flags, plain as is_plain, taken, tells}
@@ -251,6 +251,37 @@ right ws = elim (test (is_spelled (run false false) ws)) [
     ]
   ]
 ]
+
+-- The number of lines.
+
+count_few : (w : List ℕ) (o : Option ℕ) → IfSome (generate (count_word w) o) HasFew
+count_few w o = by_number (number_word w)
+  where
+    by_test : (n : ℕ) (b : Bool) → is_count n ≡ b → IfSome (generate (if b then Some n else None) o) HasFew
+    by_test n false e = tt
+    by_test n true e = by_start o
+      where
+        by_start : (p : Option ℕ) → IfSome (generate (Some n) p) HasFew
+        by_start None = tt
+        by_start (Some start) = (leb-true 1 n (both_left (nat_le 1 n) (nat_le n 32768) e), leb-true n 32768 (both_right (nat_le 1 n) (nat_le n 32768) e))
+
+    by_number : (p : Option ℕ) → IfSome (generate (option_and_then (λ n. if is_count n then Some n else None) p) o) HasFew
+    by_number None = tt
+    by_number (Some n) = by_test n (is_count n) refl
+
+pub few : (ws : List (List ℕ)) → IfSome (command_of ws) HasFew
+few ws =
+    by_tests (is_spelled (run false false) ws) (is_spelled (run true false) ws) (is_spelled (run false true) ws) (is_spelled (run true true) ws) (is_spelled C.Audit ws) (is_generate ws)
+  where
+    by_tests : (a b c d e g : Bool) → IfSome (if a then Some (run false false) else if b then Some (run true false) else if c then Some (run false true)
+        else if d then Some (run true true) else if e then Some C.Audit else if g then generate_of ws else None) HasFew
+    by_tests true b c d e g = tt
+    by_tests false true c d e g = tt
+    by_tests false false true d e g = tt
+    by_tests false false false true e g = tt
+    by_tests false false false false true g = tt
+    by_tests false false false false false true = count_few (word_at ws 1) (number_word (word_at ws 2))
+    by_tests false false false false false false = tt
 
 -- What is told of the flags.
 

@@ -1,6 +1,6 @@
 -- What `clap` makes of `gen` and two words of digits.
-use Rattle.std.proofs.Common.{◌≡◌, ◌∙◌, ◌==◌, ◌&&◌, ◌||◌, ℕ, Bool, true, false, List, [], ◌∷◌, refl, sym, ap, subst, codes, Option, Some, None, arith, ◌<◌, ◌≤◌, length}
-use Rattle.std.specs.Prelude.{if◌then◌else◌, is_some, option_and_then}
+use Rattle.std.proofs.Common.{◌≡◌, ◌∙◌, ◌==◌, ◌&&◌, ◌||◌, ℕ, Bool, true, false, List, [], ◌∷◌, refl, sym, ap, subst, codes, Some, None, arith, ◌≤◌}
+use Rattle.std.specs.Prelude.{if◌then◌else◌, option_and_then}
 use Rattle.std.specs.Option.{option_map_or}
 use Rattle.std.specs.Char.{is_ascii_digit}
 use Rattle.std.specs.Str.{all_ascii_digits, bytes_eq}
@@ -9,7 +9,7 @@ use Rattle.clap.specs.Lexer.{long_of, long_of_rest, short_of, short_of_rest, str
 use Rattle.clap.specs.Simple.{Shape, built_leaf, inherited, marked_built, subcommand_of, with_leaf_noted}
 use Rattle.std.specs.List.{list_all}
 use Rattle.clap.specs.Takes.{bundle_passes, default_passes, flag_word_passes, is_valid, level_passes, settle_passes, step_passes, takes, turn_passes, walk_passes}
-use Rattle.clap.specs.Walk.{Held, Row, Rule, Text, Walk, after_step, arg_by_index, finished, first_of, idle, long_or_other, nothing_held, rows_after, settled, short_or_plain, to_positional, trailing, value, walk, walk_from, walked, word_met}
+use Rattle.clap.specs.Walk.{Held, Rule, Text, Walk, after_step, arg_by_index, finished, idle, long_or_other, nothing_held, rows_after, settled, short_or_plain, to_positional, trailing, value, walk, walked, word_met}
 use Rattle.clap.proofs.OnLiterals.{clap_on_literals}
 use Rattle.command_words.specs.Commands.{generate}
 use Rattle.command_words.specs.Numbers.{count_word, is_digits, number_word}

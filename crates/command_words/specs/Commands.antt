@@ -1,5 +1,5 @@
 -- The commands of the program, by the words after its name.
-use Rattle.std.specs.Prelude.{ℕ, ◌==◌, ◌||◌, ◌&&◌, if◌then◌else◌, Bool, true, false, List, [], length, slice_index_or, codes, Option, Some, None}
+use Rattle.std.specs.Prelude.{ℕ, ◌==◌, ◌||◌, ◌&&◌, if◌then◌else◌, Bool, true, false, List, [], length, slice_index_or, codes, Option, Some, None, ◌≤◌, ⊤}
 use Rattle.std.specs.Option.{option_map_or}
 use Rattle.std.specs.Str.{bytes_eq}
 use Rattle.command_words.specs.Numbers.{count_word, number_word}
@@ -78,3 +78,8 @@ command_of words =
 abbrev pub kept : Option Command → List (List ℕ) → Option Command
 kept None words = None
 kept (Some command) words = if is_spelled command words then Some command else None
+
+-- a script that is generated has 1 to 32,768 lines
+abbrev pub HasFew : Command → Type 0
+HasFew (C.Generate count start) = (1 ≤ count) × (count ≤ 32768)
+HasFew _ = ⊤

@@ -62,7 +62,7 @@ told_of name rows =
     else if bytes_eq name (codes "audit") then Some C.Audit
     else if bytes_eq name (codes "gen")
     then generate (option_and_then count_word (first_of (codes "COUNT") rows))
-        (option_and_then number_word (first_of (codes "START") rows))
+    (option_and_then number_word (first_of (codes "START") rows))
     else None
 
 abbrev pub told : Option (Text × List Row) → Option Command

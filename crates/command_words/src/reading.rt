@@ -1,9 +1,9 @@
 //! Words to the command that they are.
 #![tactic(auto)]
 
-ghost use Rattle.std.specs.Prelude.{◌≡◌, ◌≢◌, ◌<◌, length, map, codes, IfOk, None, false, option_and_then};
+ghost use Rattle.std.specs.Prelude.{◌≡◌, ◌≢◌, ◌<◌, length, map, codes, IfOk, IfSome, None, false, option_and_then};
 ghost use Rattle.clap.specs.Words.{app_of, first_value, found_of, kind_of, rule_of, subcommand_rows_of};
-ghost use Rattle.command_words.specs.Commands.{command_of, generate, has_flag, has_flags, is_at, is_number, is_run, is_spelled, is_word, kept};
+ghost use Rattle.command_words.specs.Commands.{HasFew, command_of, generate, has_flag, has_flags, is_at, is_number, is_run, is_spelled, is_word, kept};
 ghost use Rattle.command_words.specs.Numbers.{count_word, number_word};
 ghost use Rattle.command_words.specs.Reader.{AreFlags, IsLocal, flag, gen, place, reader, run, told};
 ghost use Rattle.command_words.specs.declared.commands.Command.TheVariants as C;
@@ -174,7 +174,10 @@ fn is_number(word: &str, n: u32) -> bool
 fn is_generate(count: u32, start: u32, words: &[&str]) -> bool
     ensures value { result ≡ is_spelled (C.Generate count start) (map (λ w. w.now) words.now) }
 {
-    words.len() == 3 && is_at(words, 0, "gen") && is_count(words[1], count) && is_number(words[2], start)
+    words.len() == 3
+        && is_at(words, 0, "gen")
+        && is_count(words[1], count)
+        && is_number(words[2], start)
 }
 
 /// Whether these are the words of a command.
@@ -217,6 +220,7 @@ fn refused(error: &clap::Error) -> Result<Option<Command>, AllocError>
 /// `AllocError` where there is no memory.
 pub fn command_of<'a>(alloc: Global, words: &'a [&'a str]) -> Result<Option<Command>, AllocError>
     ensures value { IfOk result (λ c. c ≡ command_of (map (λ w. w.now) words.now)) }
+    ensures few { IfOk result (λ c. IfSome c HasFew) }
 {
     match reader(alloc)?.try_get_matches_from(words) {
         Ok(matches) => Ok(kept(told(&matches), words)),

@@ -1,6 +1,6 @@
 use Rattle.std.proofs.Common.{◌≡◌, ◌∙◌, ap, sym, true}
 use Rattle.command_words.specs.Numbers.{is_digits}
-use Rattle.command_words.proofs.Digits.{no_number, parsed}
+use Rattle.command_words.proofs.Digits.{parsed}
 use Rattle.command_words.proofs.numbers.number.Goals as goal
 
 pub returns-then-is_digits : goal.returns-then-is_digits
