@@ -4,7 +4,8 @@
 //! - `summary`: the numbers of a run, as what is made of lives that are over
 //! - `writing`: its eight lines
 //!
-//! In `specs/`, `Summaries` says what the summary of lives is, and its text.
+//! In `specs/`, `Summaries` says what the summary of lives is, and its text, `Telling` what a sink tells after it was written, and `Counting` how
+//! it grows life by life.
 #![tactic(auto)]
 
 mod counts;
