@@ -1,13 +1,13 @@
 -- A line more in a generated script.
 use Rattle.std.proofs.lemmas.Bool.{eqb-true}
-use Rattle.std.proofs.Common.{Bool, true, false, ◌≡◌, ℕ, zero, suc, ◌+◌, ◌-◌, ◌*◌, ◌/◌, ◌%◌, ◌==◌, ◌<◌, ◌≤◌, List, [], ◌∷◌, ◌++◌, length, map, refl, ap, sym, subst, ◌∙◌, arith, add-one, length-append}
+use Rattle.std.proofs.Common.{Bool, true, false, ◌≡◌, ℕ, zero, suc, ◌+◌, ◌-◌, ◌*◌, ◌/◌, ◌%◌, ◌==◌, ◌<◌, ◌≤◌, List, [], ◌∷◌, ◌++◌, length, map, refl, ap, sym, ◌∙◌, arith, add-one, length-append}
 use Rattle.std.specs.Prelude.{min, if◌then◌else◌}
 use Rattle.std.specs.List.{range_with_len}
 use Rattle.std.proofs.Math.Seq.{get_or-append_seam, set-append_seam}
 use Rattle.std.proofs.lemmas.List.FromFn.{fill_by_all, get_or-map-range_with_len, length-map-range_with_len, map-range_with_len_more}
 use Rattle.script_definitions.specs.declared.line.ScriptLine.{ScriptLine}
 use Rattle.script_definitions.specs.Lives.{in_last_life}
-use Rattle.script_generator.specs.Generated.{line_at, line_of, life_at, lives_of, next_number, number_at}
+use Rattle.script_generator.specs.Generated.{line_at, life_at, lives_of, next_number, number_at}
 
 pub number_more : (start i : ℕ) → number_at start (i + 1) ≡ next_number (number_at start i)
 number_more start i = rw add-one refl
