@@ -1,11 +1,12 @@
 //! Network keys kept with what is derived of them for beacons, so that nothing is derived for a beacon that is heard.
 #![tactic(auto)]
 
-ghost use Rattle.std.specs.Prelude.{◌≡◌, ◌+◌, ◌≤◌, ◌↔◌, ◌++◌, false, length, map, Some, IfSome, IsSome, Contains};
+ghost use Rattle.std.specs.Prelude.{◌≡◌, ◌+◌, ◌≤◌, ◌↔◌, [], ◌∷◌, ◌++◌, length, IfSome, IsNone};
+ghost use Rattle.std.specs.List.{find};
+ghost use Rattle.std.specs.Option.{option_copied};
 ghost use Rattle.arrayvec.specs.ArrayVec.{array_vec_len};
 ghost use Rattle.cipher_definitions.specs.Kdf.{beacon_key, network_id};
-ghost use Rattle.layer_definitions.specs.KeyRefresh.{keys_of};
-ghost use Rattle.net_beacon.specs.Kept.{values_of};
+ghost use Rattle.net_beacon.specs.Kept.{is_value, values_of};
 
 use aes_block::Schedule;
 use arrayvec::ArrayVec;
@@ -62,11 +63,74 @@ impl BeaconKey {
             schedule: Schedule::new(&beacon_key(key)),
         }
     }
+}
 
-    // Whether it is this key.
-    fn is(&self, key: &[u8; 16]) -> bool
-        ensures { result ≡ true ↔ self.now ≡ key.now }
+// Whether this key is kept in a place.
+fn is_in(place: &Option<BeaconKey>, key: &[u8; 16]) -> bool
+    ensures { result ≡ is_value key.now place.now }
+{
+    match place {
+        Some(kept) => kept.key.as_slice() == key.as_slice(),
+        None => false,
+    }
+}
+
+/// At most `HEARD_NETWORK_KEYS` network keys, each with its Network ID and the schedule of its BeaconKey. A clause sees it as the list of
+/// these keys, each there.
+#[derive(Drop)]
+pub struct BeaconKeys {
+    // None fills the unused places.
+    kept: ArrayVec<Option<BeaconKey>, HEARD_NETWORK_KEYS>,
+}
+
+impl Model for BeaconKeys {
+    ghost use Rattle.std.specs.Prelude.{List, Option, ℕ};
+
+    ghost Value = { List (Option (List ℕ)) };
+
+    ghost view = { λ k. k.kept.items };
+}
+
+// Puts the keys of a row behind the others, the old one before the new.
+fn add_keys(kept: &mut ArrayVec<Option<BeaconKey>, HEARD_NETWORK_KEYS>, row: &NetKeyRow)
+    requires room { array_vec_len kept.old + 2 ≤ HEARD_NETWORK_KEYS }
+    ensures value { kept.new.items ≡ kept.old.items ++ values_of (row.now ∷ []) }
+    ensures length { array_vec_len kept.new ≤ array_vec_len kept.old + 2 }
+{
+    kept.push(Some(BeaconKey::new(&row.key)));
+    if let Some(next) = &row.next {
+        kept.push(Some(BeaconKey::new(next)));
+    }
+}
+
+impl BeaconKeys {
+    /// The keys of these rows, at most `NETWORK_KEYS`, with what is derived of them here: the old key of a row before the new.
+    pub fn derive(rows: &[NetKeyRow]) -> BeaconKeys
+        requires room { length rows.now ≤ NETWORK_KEYS }
+        ensures value { result ≡ values_of rows.now }
     {
-        self.key == *key
+        let mut kept = ArrayVec::new();
+        for row in rows {
+            add_keys(&mut kept, row);
+        }
+        BeaconKeys { kept }
+    }
+
+    // The first place that has this key.
+    fn place(&self, key: &[u8; 16]) -> Option<&Option<BeaconKey>>
+        ensures { option_copied result ≡ find (is_value key.now) self.now }
+    {
+        self.kept.as_slice().iter().find(|place| is_in(place, key))
+    }
+
+    /// What is kept of this key. None exactly where it isn't among the keys.
+    pub(crate) fn of(&self, key: &[u8; 16]) -> Option<&BeaconKey>
+        ensures same { IfSome result (λ k. k.now ≡ key.now) }
+        ensures none { IsNone result ↔ IsNone (find (is_value key.now) self.now) }
+    {
+        match self.place(key) {
+            Some(place) => place.as_ref(),
+            None => None,
+        }
     }
 }
