@@ -19,7 +19,7 @@ use Rattle.mesh_hearing.specs.Kinds.{is_known, is_of_part, is_of_whole}
 use Rattle.mesh_hearing.specs.declared.whole.Judged.{Judged}
 use Rattle.mesh_hearing.specs.Heard.{insight_of}
 use Rattle.mesh_hearing.specs.declared.hearing.Hearing.{Hearing}
-use Rattle.mesh_reading.specs.Held.{low_in, opening_of, pdu_insight, reading_of}
+use Rattle.mesh_reading.specs.Held.{low_in, opening_of, pdu_insight}
 use Rattle.mesh_reading.specs.declared.heard.HeardPdu.{HeardPdu}
 use Rattle.mesh_reading.specs.declared.heard.HeardPdu.TheVariants as H
 use Rattle.mesh_types.specs.declared.answers.Answer.{Answer}
@@ -35,7 +35,7 @@ use Rattle.node_layers.specs.Reassembly.{messages, named_calls, octets_after, pa
 use Rattle.node_records.specs.Tables.{config_in}
 use Rattle.node_records.specs.declared.persist.Persist.{Persist}
 use Rattle.event_definitions.specs.Answers.{accepted, config_before, is_again, is_entry, lower_answer, replayed, segment_answer, whole_answer}
-use Rattle.event_definitions.specs.History.{OfNothing, OfPdu, Opening, Past, Reading}
+use Rattle.event_definitions.specs.History.{Opening, Past, Reading}
 use Rattle.event_definitions.specs.Readings.{IsOpened}
 use Rattle.store_definitions.specs.Config.{Config}
 use Rattle.store_definitions.specs.Entries.{entry_of}

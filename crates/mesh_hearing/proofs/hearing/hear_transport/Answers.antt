@@ -1,5 +1,4 @@
-use Rattle.std.proofs.Common.{◌≡◌, ◌∙◌, List, ℕ, Some, ap, fold, subst, sym}
-use Rattle.std.specs.Option.{option_map}
+use Rattle.std.proofs.Common.{◌∙◌, List, ℕ, ap, fold, subst, sym}
 use Rattle.layer_definitions.specs.Lower.{ReadsLower}
 use Rattle.layer_states.specs.Reassembly.{after}
 use Rattle.mesh_hearing.proofs.Heard.{transport_named}

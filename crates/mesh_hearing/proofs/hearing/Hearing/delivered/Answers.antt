@@ -1,7 +1,6 @@
-use Rattle.std.proofs.Common.{◌∙◌, refl, sym, ap}
+use Rattle.std.proofs.Common.{sym}
 use Rattle.mesh_hearing.proofs.Heard.{none_delivered, none_opened, some_delivered}
 use Rattle.mesh_hearing.specs.Heard.{insight_of}
-use Rattle.mesh_reading.specs.Held.{opened_in}
 use Rattle.mesh_hearing.proofs.hearing.Hearing.delivered.Goals as goal
 
 pub returns-in_default-clause-value : goal.returns-in_default-clause-value

@@ -3,7 +3,7 @@ use Rattle.std.specs.Prelude.{fold}
 use Rattle.layer_states.specs.Sending as sending
 use Rattle.mesh_hearing.proofs.Heard.{heard_reset, tables_more}
 use Rattle.mesh_hearing.specs.Below.{StandsBelow}
-use Rattle.mesh_hearing.specs.Heard.{IsHeard, insight_of}
+use Rattle.mesh_hearing.specs.Heard.{insight_of}
 use Rattle.mesh_hearing.specs.Tables.{AreTablesOf, TablesView, again_after}
 use Rattle.node_records.specs.Tables.{config_in}
 use Rattle.store_definitions.specs.Config.{config_of}
