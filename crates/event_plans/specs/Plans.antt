@@ -7,6 +7,7 @@ use Rattle.event_plans.specs.declared.plan.BeaconPlan.{BeaconPlan}
 use Rattle.event_plans.specs.declared.plan.OwnPlan.{OwnPlan}
 use Rattle.event_plans.specs.declared.plan.PduPlan.{PduPlan}
 use Rattle.event_plans.specs.declared.plan.TickPlan.{TickPlan}
+use Rattle.mesh_hearing.specs.Again.{AreRecorded}
 use Rattle.mesh_jobs.specs.Acting.{IsActIn}
 use Rattle.mesh_jobs.specs.Phases.{phases_of}
 use Rattle.mesh_jobs.specs.Replying.{AreRepliesTo}
@@ -33,13 +34,14 @@ use Rattle.store_definitions.specs.Config.{Config, config_of}
 use Rattle.store_definitions.specs.Node.{IsWhole}
 use Rattle.store_definitions.specs.Ranges.{IsInRange}
 
--- What stands before an event: the store's value says its records, which are in range, and whose node can be run; and what
--- is kept in memory is that of its entries.
+-- What stands before an event: the store's value says its records, which are in range, and whose node can be run; what is kept in
+-- memory is that of its entries; and the messages that were accepted from segments are recorded.
 pub record IsStanding (past : Past) (p : Persist) (t : NodeTablesView) : Type 0 where
   pub meaning : IsMeaningOf past.records p
   pub tables : AreNodeTablesOf t past
   pub ranges : All IsInRange past.records
   pub whole : IsWhole (config_of past.records)
+  pub recorded : AreRecorded past
 
 abbrev pub IsSomePast : Persist → NodeTablesView → Type 0
 IsSomePast p t = (past : Past) × IsStanding past p t

@@ -221,7 +221,10 @@ module _ (laws : AreKeeping) (m : NodeMachine) (event : Event) (plan : Plan) (pl
         past = with_entry past.told (told_by past entry (insight_in plan.basis)) (past.records ++ plan.records);
         before = before_more laws.whole past m r tables entry (insight_in plan.basis) plan.records ready.before
             kept meaning
-            (renewed _ (planned.tables (told_by past entry (insight_in plan.basis)) (past.records ++ plan.records) is refl answer refl (kept_node_of past.records plan.records kept).elements));
+            (renewed _ (planned.tables (told_by past entry (insight_in plan.basis)) (past.records ++ plan.records) is refl answer refl (kept_node_of past.records plan.records kept).elements))
+            (subst (λ (e : Event). Sees node_layers past e (insight_in plan.basis)) (sym is) planned.sees)
+            (planned.records ∙ ap (λ (e : Event). stores node_layers past e (insight_in plan.basis) plan.answer) (sym is)
+            ∙ ap (λ (a : Answer). stores node_layers past entry.event (insight_in plan.basis) a) (sym answer));
         published = published;
         fit = fit;
         usable = usable;

@@ -32,7 +32,7 @@ use Rattle.store_definitions.specs.Ranges.{IsInRange}
 opened_before : (over : List StoreRecord) (r : Reserve) (t : NodeTablesView) (elements : ℕ) → IsMeaningOf over r.store.persist → All IsInRange over → IsWhole (config_of over)
     → AreNodeTablesOf t (record { told = []; records = over }) → IsBefore (record { told = []; records = over }) (opened r t elements)
 opened_before over r t elements meaning ranges whole tables = record {
-  standing = record { meaning = meaning; tables = tables; ranges = ranges; whole = whole };
+  standing = record { meaning = meaning; tables = tables; ranges = ranges; whole = whole; recorded = refl };
   told = All-from_recursion (λ (x : Told). All IsInRange x.records) [] tt;
 }
 

@@ -16,6 +16,8 @@ use Rattle.machine_ties.proofs.Lives.{filled_more}
 use Rattle.machine_ties.specs.Kept.{AreKeeping, AreKept, KeptLaw}
 use Rattle.machine_ties.specs.Ties.{IsBefore, IsCutIn, IsOver, Stands, entered, refilled, stopped}
 use Rattle.machine_ties.specs.Views.{NodeMachine}
+use Rattle.mesh_hearing.proofs.Recorded.{entry_recorded, more_recorded}
+use Rattle.mesh_hearing.specs.Again.{AreRecorded}
 use Rattle.mesh_types.specs.declared.answers.Answer.{Answer}
 use Rattle.mesh_types.specs.declared.events.Event.{Event}
 use Rattle.mesh_types.specs.declared.events.Event.TheVariants as E
@@ -61,13 +63,17 @@ take_nil (suc n) = refl
 pub before_more : KeptLaw → (past : Past) (m : NodeMachine) (r : Reserve) (tables : NodeTablesView) (entry : Entry) (insight : Insight) (records : List StoreRecord)
     → IsBefore past m → AreKept (config_of past.records) records → IsMeaningOf (past.records ++ records) r.store.persist
     → AreNodeTablesOf tables (with_entry past.told (told_by past entry insight) (past.records ++ records))
+    → Sees node_layers past entry.event insight → records ≡ stores node_layers past entry.event insight entry.answer
     → IsBefore (with_entry past.told (told_by past entry insight) (past.records ++ records)) (entered m r tables entry)
-before_more law past m r tables entry insight records h kept meaning tied = record {
+before_more law past m r tables entry insight records h kept meaning tied sees is = record {
   standing = record {
     meaning = meaning;
     tables = tied;
     ranges = all_ranges past.records records kept h.standing.ranges;
     whole = all_whole law past.records records kept h.standing.whole;
+    recorded =
+        subst (λ (items : List StoreRecord). AreRecorded (with_entry past.told (told_by past entry insight) (past.records ++ items))) (sym is)
+        (entry_recorded past (told_by past entry insight) sees h.standing.recorded);
   };
   told = all_append (λ (t : Told). All IsInRange t.records) past.told (told_by past entry insight ∷ []) h.told (all_one (λ (t : Told). All IsInRange t.records) (told_by past entry insight) h.standing.ranges);
 }
@@ -81,6 +87,7 @@ refilled_standing laws past m r kept meaning h = record {
   tables = record { hearing = h.standing.tables.hearing; models = laws.refilled m.tables.models past 1 h.standing.tables.models; friends = h.standing.tables.friends };
   ranges = all_ranges past.records (fill_of (config_of past.records) ∷ []) kept h.standing.ranges;
   whole = all_whole laws.whole past.records (fill_of (config_of past.records) ∷ []) kept h.standing.whole;
+  recorded = more_recorded past (fill_of (config_of past.records) ∷ []) h.standing.recorded;
 }
 
 -- A machine with an entry more.
@@ -108,7 +115,8 @@ module _ (laws : AreKeeping) (old new : Chip) (over : List StoreRecord) (m : Nod
       let all : List StoreRecord = past.records ++ records in
       let left_is : records_left (node_role node_layers) over [] (past.told ++ t ∷ []) ≡ all =
       entered_left over past.told m.fills t refl ∙ ap (λ l. past.records ++ l) (sym is) in
-      let before : IsBefore (with_entry past.told t all) (entered m r tables entry) = before_more laws.whole past m r tables entry insight records (s.usable runs).before kept meaning tied in
+      let before : IsBefore (with_entry past.told t all) (entered m r tables entry) =
+      before_more laws.whole past m r tables entry insight records (s.usable runs).before kept meaning tied handles.sees is in
       record {
         life = record {
           told = past.told ++ t ∷ [];

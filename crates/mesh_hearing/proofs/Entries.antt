@@ -7,6 +7,8 @@ use Rattle.layer_states.proofs.CacheLaws.{last_more}
 use Rattle.layer_states.specs.Reassembly.{after}
 use Rattle.layer_states.specs.Sending as sending
 use Rattle.mesh_base.specs.declared.pair.Name.{Name}
+use Rattle.mesh_hearing.proofs.Newest.{newest_more}
+use Rattle.mesh_hearing.specs.Again.{newest_of}
 use Rattle.mesh_hearing.specs.Tables.{BeginWith, GoOn, again_after, cache_after}
 use Rattle.node_layers.proofs.Steps.{cache_goes_on, own_go_on, parts_go_on, segmented_goes_on, time_goes_on}
 use Rattle.node_layers.specs.Reassembly.{calls_at, message_calls, tick_calls}
@@ -20,10 +22,6 @@ cache_more : (names : List Name) (name : Option Name) → cache_after (last_of 1
 cache_more names None = sym (last_more 128 names [] ∙ ap (λ ns. last_of 128 ns) (append-nil names))
 cache_more names (Some n) = refl
 
-again_more : (names : List Name) (name : Option Name) → again_after names name ≡ names ++ option_to_list name
-again_more names None = sym (append-nil names)
-again_more names (Some n) = refl
-
 pub goes_on : GoOn
 goes_on t told e h = record {
   cache =
@@ -36,8 +34,8 @@ goes_on t told e h = record {
       ∙ sym (parts_go_on told e []);
   again =
       ap (λ names. again_after names (segmented_name e.insight e.entry.answer)) h.again
-      ∙ again_more (segmented_names told) (segmented_name e.insight e.entry.answer)
-      ∙ sym (segmented_goes_on told e);
+      ∙ newest_more (segmented_names told) (segmented_name e.insight e.entry.answer)
+      ∙ ap (λ names. newest_of names) (sym (segmented_goes_on told e));
   own =
       ap (λ n. fold sending.after t.own (own_calls n e.entry.event e.entry.answer)) h.ticks
       ∙ ap (λ ms. fold sending.after ms (own_calls (now_of told) e.entry.event e.entry.answer)) h.own

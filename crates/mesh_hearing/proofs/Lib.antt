@@ -1,4 +1,7 @@
 mod Groups
+mod Halves
+mod Newest
+pub mod Recorded
 mod Entries
 mod Rows
 mod Named

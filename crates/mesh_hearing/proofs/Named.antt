@@ -14,6 +14,8 @@ use Rattle.mesh_base.specs.declared.lower.Lower.{Lower}
 use Rattle.mesh_base.specs.declared.lower.Lower.TheVariants.{Access, Control, AccessPart, ControlPart}
 use Rattle.mesh_base.specs.declared.pair.Name.{Name}
 use Rattle.mesh_hearing.proofs.Groups.{known_parts, known_whole, part_takes, whole_releases, whole_takes}
+use Rattle.mesh_hearing.proofs.Newest.{newest_tell}
+use Rattle.mesh_hearing.specs.Again.{AreRecorded, newest_of}
 use Rattle.mesh_hearing.specs.Below.{IsNamedAs, IsTakenAs, IsWholeAs, StandsBelow, known_answer, own_octets, part_answer, taken_calls, whole_octets}
 use Rattle.mesh_hearing.specs.Kinds.{is_known, is_of_part, is_of_whole}
 use Rattle.mesh_hearing.specs.declared.whole.Judged.{Judged}
@@ -34,19 +36,22 @@ use Rattle.node_layers.specs.NodeLayers.{node_layers}
 use Rattle.node_layers.specs.Reassembly.{messages, named_calls, octets_after, part_heard}
 use Rattle.node_records.specs.Tables.{config_in}
 use Rattle.node_records.specs.declared.persist.Persist.{Persist}
-use Rattle.event_definitions.specs.Answers.{accepted, config_before, is_again, is_entry, lower_answer, replayed, segment_answer, whole_answer}
-use Rattle.event_definitions.specs.History.{Opening, Past, Reading}
+use Rattle.event_definitions.specs.Answers.{accepted, config_before, is_again, is_entry, lower_answer, replayed, segment_answer, whole_answer, is_accepted_segmented}
+use Rattle.event_definitions.specs.History.{Opening, Past, Reading, Told}
 use Rattle.event_definitions.specs.Readings.{IsOpened}
 use Rattle.store_definitions.specs.Config.{Config}
 use Rattle.store_definitions.specs.Entries.{entry_of}
 
 -- Names accepted from segments.
 
-pub again_is : (past : Past) (n : Name) (entry has : Bool) (again : List Name) → entry ≡ is_entry (entry_of past.records n.src.0) n.pair
-    → again ≡ segmented_names past.told → has ≡ list_any (is_name n) again → (entry && has) ≡ is_again past n
-again_is past n entry has again e g h =
-    ap (λ b. b && has) e
-    ∙ ap (λ b. is_entry (entry_of past.records n.src.0) n.pair && b) (h ∙ ap (λ ns. list_any (is_name n) ns) g ∙ sym (segmented_is_any past.told n))
+pub again_is : (past : Past) (n : Name) (has : Bool) (again : List Name) → true ≡ is_entry (entry_of past.records n.src.0) n.pair
+    → again ≡ newest_of (segmented_names past.told) → AreRecorded past → has ≡ list_any (is_name n) again → has ≡ is_again past n
+again_is past n has again e g r h =
+    h
+    ∙ ap (λ ns. list_any (is_name n) ns) g
+    ∙ newest_tell past.records (config_before past).iv.current n (segmented_names past.told) (sym e) r
+    ∙ sym (segmented_is_any past.told n)
+    ∙ ap (λ b. b && list_any (λ (t : Told). is_accepted_segmented n t.insight t.entry.answer) past.told) e
 
 -- The calls on the table of messages in progress.
 

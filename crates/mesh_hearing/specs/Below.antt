@@ -15,6 +15,7 @@ use Rattle.mesh_base.specs.declared.fields.NetFields.{NetFields}
 use Rattle.mesh_base.specs.declared.lower.Lower.{Lower}
 use Rattle.mesh_base.specs.declared.lower.Lower.TheVariants.{Access, Control, AccessPart, ControlPart}
 use Rattle.mesh_base.specs.declared.pair.Name.{Name}
+use Rattle.mesh_hearing.specs.Again.{AreRecorded, newest_of}
 use Rattle.mesh_hearing.specs.Tables.{cache_after}
 use Rattle.mesh_hearing.specs.declared.hearing.Hearing.{Hearing}
 use Rattle.mesh_hearing.specs.declared.whole.Judged.{Judged}
@@ -61,11 +62,12 @@ cache_after_row names f (Some answer) = cache_after names (if is_before_cache an
 
 -- The lower transport layer.
 
--- What stands before a PDU there: the store's value, the messages in progress, the names accepted from segments, and the time.
+-- What stands before a PDU there: the store's value, the messages in progress, the newest names accepted from segments, and the time.
 pub record StandsBelow (past : Past) (p : Persist) (rows : List Assembly) (names : List Name) (ticks : ℕ) : Type 0 where
   pub meaning : IsMeaningOf past.records p
   pub parts : rows ≡ messages past
-  pub again : names ≡ segmented_names past.told
+  pub again : names ≡ newest_of (segmented_names past.told)
+  pub recorded : AreRecorded past
   pub now : ticks ≡ now_of past.told
 
 -- the rows that go by names alone

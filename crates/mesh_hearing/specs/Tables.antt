@@ -6,6 +6,7 @@ use Rattle.layer_states.specs.Sending as sending
 use Rattle.layer_states.specs.declared.reassembly.Assembly.{Assembly}
 use Rattle.layer_states.specs.declared.sending.Sending.{Sending}
 use Rattle.mesh_base.specs.declared.pair.Name.{Name}
+use Rattle.mesh_hearing.specs.Again.{name_with, newest_of}
 use Rattle.mesh_reading.specs.Held.{held_in}
 use Rattle.mesh_reading.specs.Keys.{HeldKeys}
 use Rattle.mesh_types.specs.declared.answers.Answer.{Answer}
@@ -21,8 +22,8 @@ use Rattle.store_definitions.specs.Config.{Config, config_of}
 use Rattle.node_limits.specs.declared.TheConstants.{MESSAGE_CACHE}
 
 -- The keys that are derived from the store; the message cache, the oldest name first; the messages in progress, in the order in which they
--- began; the names that were accepted from segments in this life; the own segmented messages that are held, in the order in which they began;
--- and its ticks so far.
+-- began; of the names that were accepted from segments in this life the newest of each source; the own segmented messages that are held, in the
+-- order in which they began; and its ticks so far.
 pub record TablesView : Type 0 where
   pub keys : HeldKeys
   pub cache : List Name
@@ -39,7 +40,7 @@ IsFit t p = t.keys ≡ held_in (config_in p)
 pub record AreTablesOf (t : TablesView) (told : List Told) : Type 0 where
   pub cache : t.cache ≡ last_of MESSAGE_CACHE (cached_names told)
   pub parts : t.parts ≡ messages (record { told = told; records = [] })
-  pub again : t.again ≡ segmented_names told
+  pub again : t.again ≡ newest_of (segmented_names told)
   pub own : t.own ≡ own.messages (record { told = told; records = [] })
   pub ticks : t.ticks ≡ now_of told
 
@@ -48,10 +49,10 @@ abbrev pub cache_after : List Name → Option Name → List Name
 cache_after names None = names
 cache_after names (Some n) = remembered names n
 
--- the names accepted from segments with that of an entry, if it has one
+-- the newest names accepted from segments with that of an entry, if it has one
 abbrev pub again_after : List Name → Option Name → List Name
 again_after names None = names
-again_after names (Some n) = names ++ n ∷ []
+again_after names (Some n) = name_with names n
 
 -- What an entry leaves, where the records before it say `c`: nothing changes but by a PDU that was read, by time that passed, by an own
 -- segmented message that begins, and by IV Index Recovery.

@@ -18,7 +18,6 @@ use iv_update::on_beacon;
 use mesh_base::beacon::Beacon;
 use mesh_base::keys::{NetKeyRow, net_row};
 use mesh_types::answers::{Answer, KeyStep};
-use net_beacon::read;
 use node_records::Persist;
 
 /// What octets heard as a beacon were read as, and the answer.
@@ -87,7 +86,7 @@ impl Tables {
                 answer: Answer::Reset,
             };
         }
-        match read(p.nets.as_slice(), octets) {
+        match self.keys.beacons().read(p.nets.as_slice(), octets) {
             Ok(beacon) => {
                 let answer = beacon_answer(p, self.is_busy(), &beacon);
                 recover(&mut self.own, &answer);

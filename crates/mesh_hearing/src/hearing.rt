@@ -5,10 +5,11 @@ ghost use Rattle.std.specs.Prelude.{◌≡◌, ℕ, ◌≤◌, ◌<◌, ◌^◌,
 ghost use Rattle.std.specs.Option.{option_map};
 ghost use Rattle.layer_states.specs.Cache.{last_of};
 ghost use Rattle.layer_states.specs.Reassembly.{after};
+ghost use Rattle.mesh_hearing.specs.Again.{AreRecorded};
 ghost use Rattle.mesh_hearing.specs.Below.{IsReadAs, IsTransportAs, StandsBelow, heard_calls};
 ghost use Rattle.mesh_hearing.specs.Heard.{IsHeard, delivered_from, insight_of, message_delivered};
 ghost use Rattle.mesh_hearing.specs.Kinds.{is_late};
-ghost use Rattle.mesh_hearing.specs.Tables.{again_after, cache_after, AreTablesOf, IsFit};
+ghost use Rattle.mesh_hearing.specs.Tables.{cache_after, AreTablesOf, IsFit};
 ghost use Rattle.mesh_reading.specs.Held.{held_in, opened_in, reading_in, reading_of};
 ghost use Rattle.node_layers.specs.Friendship.{friend_keys};
 ghost use Rattle.node_layers.specs.Reassembly.{message_calls, tick_calls};
@@ -20,6 +21,7 @@ ghost use Rattle.mesh_types.specs.declared.events.Event.{Event};
 ghost use Rattle.event_definitions.specs.Answers.{cached_name, is_before_cache};
 ghost use Rattle.event_definitions.specs.History.{Past, ticks_after};
 
+use crate::again::put_reserved;
 use crate::lower::{accepted_part, hear_low};
 use crate::network::network_row;
 use crate::own::acknowledge;
@@ -116,16 +118,6 @@ fn hear_transport(
     }
 }
 
-// Puts a name, if there is one, behind the others, for which there is room.
-fn push_reserved(names: &mut Vec<Name>, name: Option<Name>)
-    requires { vec_len names.old < vec_capacity names.old }
-    ensures { names.new.items ≡ again_after names.old.items name }
-{
-    if let Some(name) = name {
-        let _ = names.push(name);
-    }
-}
-
 // What is heard of octets, and what becomes of the message cache and of the messages in progress.
 fn hear_octets(
     keys: &Keys,
@@ -178,7 +170,7 @@ impl Tables {
     ) -> Result<Hearing, AllocError>
         requires { IsFit self.old p.now }
         ensures heard { (past : Past) → IsMeaningOf past.records p.now → AreTablesOf self.old past.told
-            → more.now ≡ friend_keys past
+            → AreRecorded past → more.now ≡ friend_keys past
             → IfOk result (λ h. IsHeard past octets.now h self.new) }
         ensures fit { IsFit self.new p.now }
         ensures unchanged { OnErr result (self.new ≡ self.old) }
@@ -200,7 +192,7 @@ impl Tables {
             more,
             octets,
         )?;
-        push_reserved(&mut self.again, accepted_part(&hearing));
+        put_reserved(&mut self.again, accepted_part(&hearing));
         acknowledge(&mut self.own, &hearing.answer);
         Ok(hearing)
     }

@@ -8,12 +8,14 @@
 //! - `lower`: the answers of the lower transport layer
 //! - `whole`: the answers to a whole message
 //! - `beacons`: a beacon heard
+//! - `again`: the names of messages that were accepted from segments
 //! - `own`: own segmented messages
 //! - `ticks`: time that passed
 //! - `ends`: when the first timer of the messages ends
 //! - `laws`: what the tables stand for
 #![tactic(auto)]
 
+mod again;
 mod beacons;
 mod ends;
 mod hearing;

@@ -2,14 +2,13 @@
 #![tactic(auto)]
 
 ghost use Rattle.std.specs.Prelude.{◌≡◌, ◌≤◌, ◌^◌, true, false, IsTrue, List, Some, fold, length, IfOk, IfErr, OnErr, IfSome, MatchResult};
-ghost use Rattle.std.specs.List.{list_any};
 ghost use Rattle.std.specs.Option.{option_map};
 ghost use Rattle.layer_definitions.specs.Lower.{Fits, is_control};
-ghost use Rattle.layer_states.specs.Names.{is_name as is_name_in};
 ghost use Rattle.layer_states.specs.Reassembly.{after, is_segment as is_segment_of};
 ghost use Rattle.layer_states.specs.declared.reassembly.Taken.TheVariants as T;
 ghost use Rattle.mesh_base.specs.declared.pair.Name.{Name as NameIn};
 ghost use Rattle.mesh_base.specs.declared.pair.Pair.{Pair as PairIn};
+ghost use Rattle.mesh_hearing.specs.Again.{AreRecorded, newest_of};
 ghost use Rattle.mesh_hearing.specs.Below.{known_answer, own_octets, taken_calls, IsNamedAs, IsTakenAs, StandsBelow};
 ghost use Rattle.mesh_hearing.specs.Heard.{insight_of};
 ghost use Rattle.mesh_hearing.specs.Kinds.{is_known, is_late, is_of_part};
@@ -23,6 +22,7 @@ ghost use Rattle.event_definitions.specs.Answers.{accepted as accepted_in, is_ag
 ghost use Rattle.event_definitions.specs.History.{Past};
 ghost use Rattle.store_definitions.specs.Entries.{entry_of};
 
+use crate::again::has_name;
 use crate::hearing::Hearing;
 use crate::whole::{Judged, judge_whole};
 use lower_transport::{Lower, seq_auth};
@@ -75,17 +75,10 @@ fn is_entry(kept: Option<Pair>, pair: Pair) -> bool
     }
 }
 
-// Whether a name is among these.
-fn has_name(names: &[Name], name: &Name) -> bool
-    ensures { result ≡ list_any (is_name_in name.now) names.now }
-{
-    names.iter().any(|n| name.is_same(n))
-}
-
 // Whether a message of this name was accepted from segments: then its pair is the entry of its source.
 fn is_again(again: &[Name], kept: Option<Pair>, name: &Name) -> bool
-    ensures { (past : Past) → kept ≡ entry_of past.records name.now.src.0 → again.now ≡ segmented_names past.told
-        → result ≡ is_again_in past name.now }
+    ensures { (past : Past) → kept ≡ entry_of past.records name.now.src.0 → again.now ≡ newest_of (segmented_names past.told)
+        → AreRecorded past → result ≡ is_again_in past name.now }
 {
     is_entry(kept, name.pair) && has_name(again, name)
 }
@@ -102,8 +95,8 @@ fn replayed(kept: Option<Pair>, pair: Pair) -> Option<Pair>
 
 // The answer that goes by names alone, if there is one.
 fn known_row(again: &[Name], kept: Option<Pair>, low: &Lower, name: &Name) -> Option<Answer>
-    ensures value { (past : Past) → kept ≡ entry_of past.records name.now.src.0 → again.now ≡ segmented_names past.told
-        → result ≡ known_answer past low.now name.now }
+    ensures value { (past : Past) → kept ≡ entry_of past.records name.now.src.0 → again.now ≡ newest_of (segmented_names past.told)
+        → AreRecorded past → result ≡ known_answer past low.now name.now }
     ensures known { IfSome result (λ a. is_known a ≡ true) }
 {
     if is_segment(low) && is_again(again, kept, name) {

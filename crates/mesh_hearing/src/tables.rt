@@ -16,8 +16,9 @@ use segment_sender::Senders;
 use std::alloc::{AllocError, Global};
 use std::marker::Model;
 
-/// The tables of a node in a life: the keys that it holds, its message cache, the messages in progress, the names that it accepted from
-/// segments in this life, its own segmented messages that are held, and the ticks of 10 ms so far, at most 2^48. A clause sees these six.
+/// The tables of a node in a life: the keys that it holds, its message cache, the messages in progress, of the names that it accepted from
+/// segments in this life the newest of each source, its own segmented messages that are held, and the ticks of 10 ms so far, at most 2^48. A
+/// clause sees these six.
 #[derive(Drop)]
 pub struct Tables {
     pub(crate) keys: Keys,

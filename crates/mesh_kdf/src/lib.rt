@@ -16,4 +16,4 @@ mod subkeys;
 
 pub use credentials::K2;
 pub use derivations::{address, k1, k2, k3, k4, s1};
-pub use mac::cmac;
+pub use mac::{cmac, cmac_kept};

@@ -14,7 +14,14 @@ pub fn cmac(key: &[u8; 16], m: &[u8]) -> [u8; 16]
     ensures value { result ≡ cmac key.now m.now }
     ensures length { length result ≡ 16 }
 {
-    let schedule = Schedule::new(key);
+    cmac_kept(&Schedule::new(key), m)
+}
+
+/// The same under a key whose schedule is kept.
+pub fn cmac_kept(schedule: &Schedule, m: &[u8]) -> [u8; 16]
+    ensures value { result ≡ cmac schedule.now m.now }
+    ensures length { length result ≡ 16 }
+{
     let mut sum = [0; 16];
     let mut rest = m;
     while rest.len() > 16 {
@@ -22,7 +29,7 @@ pub fn cmac(key: &[u8; 16], m: &[u8]) -> [u8; 16]
         sum = schedule.chained(&sum, front);
         rest = back;
     }
-    let last = last_block(&schedule, rest);
+    let last = last_block(schedule, rest);
     schedule.chained(&sum, &last)
 }
 

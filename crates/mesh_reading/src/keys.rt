@@ -4,6 +4,7 @@
 ghost use Rattle.std.specs.Prelude.{◌≡◌, ◌≤◌, ◌<◌, length};
 ghost use Rattle.mesh_reading.specs.Held.{held_in, AreHeldKeys};
 ghost use Rattle.mesh_reading.specs.Rows.{labels_of};
+ghost use Rattle.net_beacon.specs.Kept.{values_of};
 ghost use Rattle.node_records.specs.Tables.{config_in};
 ghost use Rattle.virtual_labels.specs.Addresses.{has_address};
 
@@ -11,17 +12,20 @@ use app_keys::AppKeys;
 use kept_keys::UpperSchedule;
 use mesh_base::address::Address;
 use mesh_base::keys::UpperKey;
+use net_beacon::BeaconKeys;
 use net_keys::NetKeys;
 use node_limits::LABEL_SUBSCRIPTIONS;
 use node_records::Persist;
 use std::marker::Model;
 use virtual_labels::Labels;
 
-/// The keys that a node holds, with all that is derived from them: material and schedules of its network keys, AIDs and schedules of its
-/// application keys, the schedule of its device key, and the virtual addresses of its labels. A clause sees them as the keys alone.
+/// The keys that a node holds, with all that is derived from them: material and schedules of its network keys, their Network IDs and
+/// BeaconKeys, AIDs and schedules of its application keys, the schedule of its device key, and the virtual addresses of its labels. A clause
+/// sees them as the keys alone.
 #[derive(Drop)]
 pub struct Keys {
     pub(crate) nets: NetKeys,
+    pub(crate) beacons: BeaconKeys,
     pub(crate) apps: AppKeys,
     pub(crate) device: UpperSchedule,
     pub(crate) labels: Labels,
@@ -32,12 +36,13 @@ impl Model for Keys {
     ghost use Rattle.layer_definitions.specs.Upper.{key_octets};
     ghost use Rattle.mesh_base.specs.declared.keys.UpperKey.TheVariants.{Device};
     ghost use Rattle.mesh_reading.specs.Keys.{HeldKeys};
+    ghost use Rattle.net_beacon.specs.Kept.{values_of};
 
     ghost Value = { HeldKeys };
 
     ghost view = { λ k. record { nets = k.nets; apps = k.apps.apps; device = key_octets k.device; labels = k.labels } };
 
-    ghost invariant = { λ k. (k.apps.nets ≡ k.nets) × (k.device ≡ Device (key_octets k.device)) };
+    ghost invariant = { λ k. (k.apps.nets ≡ k.nets) × (k.device ≡ Device (key_octets k.device)) × (k.beacons ≡ values_of k.nets) };
 }
 
 // The labels of these subscriptions, in their order.
@@ -60,6 +65,7 @@ impl Keys {
     {
         Keys {
             nets: NetKeys::derive(p.nets.as_slice()),
+            beacons: BeaconKeys::derive(p.nets.as_slice()),
             apps: AppKeys::derive(p.apps.as_slice(), p.nets.as_slice()),
             device: UpperSchedule::new(&UpperKey::Device(p.dev_key)),
             labels: labels_of(p.labels.as_slice()),
@@ -71,6 +77,13 @@ impl Keys {
         ensures value { result.now ≡ self.now.nets }
     {
         &self.nets
+    }
+
+    /// The network keys as their beacons are read.
+    pub fn beacons(&self) -> &BeaconKeys
+        ensures value { result.now ≡ values_of self.now.nets }
+    {
+        &self.beacons
     }
 
     /// The application keys, beside the same network keys.

@@ -20,7 +20,7 @@ pub heard_records-records-requires : goal.heard_records-records-requires
 heard_records-records-requires c =
     let (past, h) = c.requires.standing in
     let tables = subst (λ (v : NodeTablesView). AreNodeTablesOf v past) (sym c.tables.view_is) h.tables in
-    let x = c.in_ok-heard.ensures.heard past h.meaning tables.hearing (c.as_slice.ensures.value ∙ c.keys-keys.ensures.past past tables.friends) in
+    let x = c.in_ok-heard.ensures.heard past h.meaning tables.hearing h.recorded (c.as_slice.ensures.value ∙ c.keys-keys.ensures.past past tables.friends) in
     seq_of_answer past c.args.octets.now (insight_of c.in_ok-heard.heard) c.in_ok-heard.heard.answer x.sees x.answer
 
 pub hear_friends-left-requires-clause-unicast : goal.hear_friends-left-requires-clause-unicast
@@ -32,7 +32,7 @@ pub hear_friends-left-requires-clause-read : goal.hear_friends-left-requires-cla
 hear_friends-left-requires-clause-read c =
     let (past, h) = c.requires.standing in
     let tables = subst (λ (v : NodeTablesView). AreNodeTablesOf v past) (sym c.tables.view_is) h.tables in
-    let x = c.in_ok-heard.ensures.heard past h.meaning tables.hearing (c.as_slice.ensures.value ∙ c.keys-keys.ensures.past past tables.friends) in
+    let x = c.in_ok-heard.ensures.heard past h.meaning tables.hearing h.recorded (c.as_slice.ensures.value ∙ c.keys-keys.ensures.past past tables.friends) in
     (past, c.args.octets.now, tables.friends, x.sees)
 
 pub hear_friends-left-requires-clause-short : goal.hear_friends-left-requires-clause-short
@@ -43,7 +43,7 @@ hear_friends-left-requires-clause-short c =
 pub returns-clause-planned : goal.returns-clause-planned
 returns-clause-planned c past h =
     let tables = subst (λ (v : NodeTablesView). AreNodeTablesOf v past) (sym c.tables.view_is) h.tables in
-    let x = c.in_ok-heard.ensures.heard past h.meaning tables.hearing (c.as_slice.ensures.value ∙ c.keys-keys.ensures.past past tables.friends) in
+    let x = c.in_ok-heard.ensures.heard past h.meaning tables.hearing h.recorded (c.as_slice.ensures.value ∙ c.keys-keys.ensures.past past tables.friends) in
     let i = insight_of c.in_ok-heard.heard in
     let untimed = ap (λ (a : Answer). is_ticked a) x.answer ∙ heard_untimed past c.args.octets.now i in
     let stands : StandsFor past c.args.p.now c.tables.inside.models c.ticks-now.result =
@@ -74,7 +74,7 @@ pub returns-clause-may : goal.returns-clause-may
 returns-clause-may c =
     let (past, h) = c.requires.standing in
     let tables = subst (λ (v : NodeTablesView). AreNodeTablesOf v past) (sym c.tables.view_is) h.tables in
-    let x = c.in_ok-heard.ensures.heard past h.meaning tables.hearing (c.as_slice.ensures.value ∙ c.keys-keys.ensures.past past tables.friends) in
+    let x = c.in_ok-heard.ensures.heard past h.meaning tables.hearing h.recorded (c.as_slice.ensures.value ∙ c.keys-keys.ensures.past past tables.friends) in
     let i = insight_of c.in_ok-heard.heard in
     let stands : StandsFor past c.args.p.now c.tables.inside.models c.ticks-now.result =
     record { meaning = h.meaning; models = tables.models; time = c.ticks-now.ensures.value ∙ tables.hearing.ticks } in

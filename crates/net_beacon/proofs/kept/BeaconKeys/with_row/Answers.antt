@@ -1,7 +1,7 @@
 use Rattle.std.proofs.Common.{◌≡◌, sym, ◌∙◌, arith}
 use Rattle.net_beacon.proofs.Rows.{answer_of, changes, IsBehind, row_keys, stays}
-use Rattle.net_beacon.proofs.reading.with_row.Goals as goal
-use Rattle.net_beacon.proofs.reading.with_row.Goals.{in_default-via-in-Some+else-first-row, in_default-via-in_default}
+use Rattle.net_beacon.proofs.kept.BeaconKeys.with_row.Goals as goal
+use Rattle.net_beacon.proofs.kept.BeaconKeys.with_row.Goals.{in_default-via-in-Some+else-first-row, in_default-via-in_default}
 
 pub returns-in-Some : goal.returns-in-Some
 returns-in-Some c rows order h = stays c.args.row.now rows c.args.bytes.now c.in-Some.first order (omega (arith, c.if-first-row.true)) (rw c.in-Some.is at h)

@@ -3,7 +3,7 @@ use Rattle.layer_definitions.specs.KeyRefresh.{beacon_keys, net_index}
 use Rattle.layer_definitions.specs.Order.{put_rows}
 use Rattle.net_beacon.specs.Reading.{IsAnswer}
 use Rattle.layer_definitions.proofs.OrderLaws.{is_by_index, next_row}
-use Rattle.net_beacon.proofs.reading.read.Goals as goal
+use Rattle.net_beacon.proofs.kept.BeaconKeys.read.Goals as goal
 
 pub loop-row-init : goal.loop-row-init
 unfolding put_rows

@@ -1,7 +1,7 @@
 use Rattle.std.proofs.Common.{refl}
 use Rattle.std.proofs.lemmas.Option.{IfSome_then}
 use Rattle.net_beacon.proofs.Rows.{none_of_two, second_of_two}
-use Rattle.net_beacon.proofs.reading.read_row.Goals as goal
+use Rattle.net_beacon.proofs.kept.BeaconKeys.read_row.Goals as goal
 
 pub returns-in-None-Some-clause-some : goal.returns-in-None-Some-clause-some
 returns-in-None-Some-clause-some c =
