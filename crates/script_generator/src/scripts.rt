@@ -24,7 +24,7 @@ pub struct GeneratedScript {
 
 impl GeneratedScript {
     /// The node's data.
-    pub fn provision(&self) -> ProvisionLine
+    pub fn provision_line(&self) -> ProvisionLine
         ensures value { result ≡ provision_line }
     {
         provision()
