@@ -23,7 +23,7 @@ pub trait LifeSource {
     ghost script: { Self → Said };
 
     /// What the node is provisioned with.
-    fn provision(&self) -> Provision
+    fn node(&self) -> Provision
         ensures value { result ≡ provision_of (script self.now).provision };
 
     /// How many lives there are.
@@ -44,7 +44,7 @@ pub trait LifeSource {
 impl LifeSource for Script {
     ghost script = { λ script. script };
 
-    fn provision(&self) -> Provision {
+    fn node(&self) -> Provision {
         provision_of(&self.provision)
     }
 
@@ -63,7 +63,7 @@ impl LifeSource for Script {
 impl LifeSource for GeneratedScript {
     ghost script = { λ numbers. generated numbers.count numbers.start };
 
-    fn provision(&self) -> Provision {
+    fn node(&self) -> Provision {
         provision_of(&self.provision_line())
     }
 

@@ -23,7 +23,7 @@ use mesh_node::Gate;
 use report_writer::WriteStop;
 use run_steps::{Ended, Status};
 use run_summary::{Summary, write_summary};
-use script_generator::generate;
+use script_generator::{GeneratedScript, generated_law};
 use std::alloc::Global;
 use std::sync::Wait;
 use std::thread::Threads;
@@ -48,8 +48,8 @@ fn sum_up<K: Sink>(alloc: Global, sink: &mut K, summary: &Summary) -> Status
     }
 }
 
-/// Runs the script of so many lines of bearers, whose numbers begin behind `start`, and writes its summary. Its lives are counted as they
-/// end, and nothing else of them is kept.
+/// Runs the script of so many lines of bearers, whose numbers begin behind `start`, and writes its summary. Its lives are made as they begin
+/// and counted as they end, and nothing else of them is kept.
 pub(crate) fn run_generated<R: Threads + Wait + Sync, B: Bench, K: Sink, G: Gate>(
     rt: &R,
     alloc: Global,
@@ -99,10 +99,9 @@ pub(crate) fn run_generated<R: Threads + Wait + Sync, B: Bench, K: Sink, G: Gate
     ensures no_fault { result.status ≢ Status.WriteFault → K.faults sink.new ≡ K.faults sink.old }
     ensures later { K.faults sink.old ≤ K.faults sink.new }
 {
-    let script = match generate(alloc, count, start) {
-        Ok(script) => script,
-        Err(_) => return Ended::with_flash(Status::Memory, flash),
-    };
+    // It does nothing when it runs: the proof uses what it says.
+    generated_law();
+    let script = GeneratedScript { count, start };
     let mut summary = Summary::new();
     let ended = run_script(rt, alloc, false, &script, &mut summary, sink, flash, gate);
     let Ended { status, flash } = ended;

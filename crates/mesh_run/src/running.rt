@@ -62,7 +62,7 @@ fn read_end(stop: ReadStop) -> Status
 ///
 /// `audit` reads a log, and writes the line of its verdict.
 ///
-/// `gen` runs a script that is generated from two numbers (`generate` of `script_generator`), as `run` would run its text, and writes eight
+/// `gen` runs a script that is generated from two numbers (`GeneratedScript` of `script_generator`), as `run` would run its text, and writes eight
 /// lines: what is counted of all lives together.
 ///
 /// The flash is honest. It is handed back, but for want of memory it may be lost.

@@ -2,7 +2,6 @@
 use Rattle.std.proofs.Common.{◌≡◌, ℕ, ◌+◌, ◌/◌, length, ◌∷◌, ◌++◌, [], map, refl, ap, sym, ◌∙◌, arith, add-one}
 use Rattle.std.specs.List.{range_with_len}
 use Rattle.std.proofs.lemmas.List.FromFn.{length-map-range_with_len, map-range_with_len_more}
-use Rattle.script_definitions.specs.declared.line.ScriptLine.{ScriptLine}
 use Rattle.script_generator.specs.Generated.{life_at, line_at, line_of, lives_of, next_number, number_at}
 
 pub number_more : (start i : ℕ) → number_at start (i + 1) ≡ next_number (number_at start i)

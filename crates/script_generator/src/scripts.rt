@@ -80,5 +80,4 @@ impl GeneratedScript {
 pub fn generated_law()
     ensures read { (count start : ℕ) → count ≤ 32768 → start < 2 ^ 32
         → IsScriptOf Grammars.Node (generated count start) }
-{
-}
+{}
