@@ -1,6 +1,7 @@
 -- What holds of the value behind the lock whenever the lock is free.
 use Rattle.std.specs.Prelude.{◌≡◌, ℕ, ◌<◌, ◌≤◌, ◌^◌, true, false, List}
 use Rattle.flash_model.specs.Chip.{Chip, Remembers}
+use Rattle.machine_contract.specs.Idle.{IsIdleFor}
 use Rattle.machine_contract.specs.Standing.{IsLifeSoFar}
 use Rattle.machine_contract.specs.View.{MachineView}
 use Rattle.record_types.specs.declared.records.StoreRecord.{StoreRecord}
@@ -36,3 +37,9 @@ pub record IsNode {F : Type 0} (role : Role) (image : List ℕ → Type 0) (chip
   pub live : n.machine.closed ≡ false → n.stops ≡ 0
   pub stopped : n.machine.closed ≡ true → 0 < n.stops
   pub later : IsLater (chip n.start) (chip n.flash)
+
+-- Over records that the life found, a tick event of fewer than so many is quiet.
+pub record IsIdleNode {F : Type 0} (role : Role) (chip : F → Chip) (n : NodeView F) (due : ℕ) : Type 0 where
+  pub over : List StoreRecord
+  pub read : IsRecovered (chip n.start).now over
+  pub idle : IsIdleFor role over n.machine due

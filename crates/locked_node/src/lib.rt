@@ -4,12 +4,14 @@
 //! - `marks`: the entries of the lock, and the origin of the value
 //! - `raised`: what a refill answers
 //! - `node`: the value, with its calls
+//! - `waiting`: in how many ticks something is due
 #![tactic(auto)]
 
 mod known;
 mod marks;
 mod node;
 mod raised;
+mod waiting;
 
 pub use known::Known;
 pub use marks::{Armed, Mark, Origin};

@@ -34,7 +34,7 @@ use turn_lock::Logged;
 /// The machine is boxed, so that a turn at the lock moves no tables.
 #[derive(Drop)]
 pub struct Node<M: Machine, F: Flash + Send + Drop> {
-    machine: Box<M>,
+    pub(crate) machine: Box<M>,
     flash: F,
     start: Known<F>,
     stops: u32,

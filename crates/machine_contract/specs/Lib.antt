@@ -1,4 +1,5 @@
 pub mod Ranges
+pub mod Idle
 pub mod Opening
 pub mod View
 pub mod Standing

@@ -1,12 +1,13 @@
 //! The machine of a node.
 #![tactic(auto)]
 
-ghost use Rattle.std.specs.Prelude.{◌≡◌, ◌≢◌, ℕ, ◌+◌, ◌<◌, ◌≤◌, ◌^◌, List, [], ◌∷◌, ◌++◌, length, drop, All, true, false, Ok, Err, IsErr, IfOk, OnOk, IfErr};
+ghost use Rattle.std.specs.Prelude.{◌≡◌, ◌≢◌, ℕ, ◌+◌, ◌<◌, ◌≤◌, ◌^◌, List, [], ◌∷◌, ◌++◌, length, drop, All, true, false, Ok, Err, IsErr, IfOk, OnOk, IfErr, ◌-◌};
 ghost use Rattle.flash_model.specs.Chip.{Chip, IsFresh, Keeps};
 ghost use Rattle.record_types.specs.declared.records.StoreRecord.{StoreRecord};
 ghost use Rattle.event_definitions.specs.Role.{Role};
 ghost use Rattle.run_definitions.specs.Order.{is_outside};
 ghost use Rattle.seq_word.specs.Word.{seq_of};
+ghost use Rattle.machine_contract.specs.Idle.{IsIdleFor};
 ghost use Rattle.machine_contract.specs.Opening.{IsNodeFlash};
 ghost use Rattle.machine_contract.specs.Ranges.{IsEvent, IsJob, IsQuiet};
 ghost use Rattle.machine_contract.specs.Refused.{IsRefused, IsStartCause};
@@ -117,6 +118,14 @@ pub trait Machine: Send + Drop {
     /// Whether an earlier call failed at the flash.
     fn is_closed(&self) -> bool
         ensures value { result ≡ (view self.now).closed };
+
+    /// In how many ticks of 10 ms something may be due, at most 2^32 - 1: an event of fewer ticks stores nothing and sends nothing. So a host that
+    /// has nothing else to do can sleep so long. Of a closed machine nothing is due any more. `F` is the type of the flash that it stands over,
+    /// which isn't called.
+    fn due<F: Flash>(&self) -> u32
+        ensures idle { (view self.now).closed ≡ false → (f : F) (over : List StoreRecord)
+            → stands (F.chip f) over self.now → IsIdleFor role over (view self.now) result }
+        ensures closed { (view self.now).closed ≡ true → result ≡ 2 ^ 32 - 1 };
 
     /// The number of entries so far, those that were taken among them.
     fn count(&self) -> u64

@@ -7,6 +7,7 @@
 //!
 //! - `machine`: [`MeshMachine`], its calls
 //! - `entering`: what a call does apart from the flash
+//! - `waiting`: in how many ticks something is due
 //! - `opening`: how it is opened
 //!
 //! A caller to begin with: `live` in `crates/mesh_run/src/lives.rt`, which has `life` of `mesh_node` run it.
@@ -15,5 +16,6 @@
 mod entering;
 mod machine;
 mod opening;
+mod waiting;
 
 pub use machine::MeshMachine;

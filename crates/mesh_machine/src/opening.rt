@@ -118,6 +118,10 @@ impl Machine for MeshMachine {
         self.closed
     }
 
+    fn due<F: Flash>(&self) -> u32 {
+        self.ticks_left()
+    }
+
     fn count(&self) -> u64 {
         self.history.len() as u64
     }
