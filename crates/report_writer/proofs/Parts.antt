@@ -9,11 +9,11 @@ use Rattle.mesh_types.specs.declared.report.ReportLine.{ReportLine}
 use Rattle.mesh_types.specs.declared.report.ReportLine.TheVariants as L
 use Rattle.report_definitions.specs.Report.{bearer_lines, entry_lines, send_lines}
 
--- the line of the entry at place i, from 0 on, and those behind it
-pub next_entry : (es : List Entry) (i : ℕ) (e : Entry) (line : ReportLine) → i < length es → e ≡ get_or es i e
-    → line ≡ L.Entry (i + 1) e.bearer e.number (kind_of e.event) e.answer
-    → entry_lines (i + 1) (drop i es) ≡ (line ∷ []) ++ entry_lines (i + 1 + 1) (drop (i + 1) es)
-next_entry es i e line h is same = at_drop_more (λ xs. entry_lines (i + 1) xs) es i e h ∙ rw (← is, same) refl
+-- the line of the entry at place i, from 0 on, which has the place n in its life, and those behind it
+pub next_entry : (n : ℕ) (es : List Entry) (i : ℕ) (e : Entry) (line : ReportLine) → i < length es → e ≡ get_or es i e
+    → line ≡ L.Entry (n + 1) e.bearer e.number (kind_of e.event) e.answer
+    → entry_lines (n + 1) (drop i es) ≡ (line ∷ []) ++ entry_lines (n + 1 + 1) (drop (i + 1) es)
+next_entry n es i e line h is same = at_drop_more (λ xs. entry_lines (n + 1) xs) es i e h ∙ rw (← is, same) refl
 
 pub next_sent : (hex : Bool) (k : ℕ) (ss : List Sent) (i : ℕ) (s : Sent) (line : ReportLine) → i < length ss → s ≡ get_or ss i s
     → line ≡ L.Sent k (s.entry + 1) (s.job + 1) s.outcome hex

@@ -1,4 +1,5 @@
 pub mod Writing
 pub mod Handing
 pub mod Lives
+pub mod Phases
 pub mod Reporting

@@ -11,7 +11,7 @@ ghost use Rattle.report_writer.specs.Lives.{FitsLines, HasRoom, life_of};
 ghost use Rattle.report_writer.specs.Writing.{Written, WrittenFront, view_of};
 ghost use Rattle.report_writer.specs.declared.lives.WriteStop.TheVariants as stop;
 
-use crate::printing::write_texts;
+use crate::phases::write_made;
 use mesh_base::outside::Sink;
 use mesh_types::history::{Entry, Sent};
 use mesh_types::report::{End, Opened, ReportLine};
@@ -35,7 +35,7 @@ pub struct EndedLife {
 }
 
 /// The line of the opening of the life with this number.
-fn opened_line(number: u32, opened: Opened) -> ReportLine
+pub(crate) fn opened_line(number: u32, opened: Opened) -> ReportLine
     ensures value { result ≡ opened_line number opened }
 {
     match opened {
@@ -88,23 +88,29 @@ fn end_line(opened: Opened, end: End) -> Option<ReportLine>
 }
 
 /// Makes the text of a line, behind those that were made.
-fn push_line(alloc: Global, texts: &mut Vec<LineText>, line: &ReportLine) -> Result<(), AllocError>
+pub(crate) fn push_line(
+    alloc: Global,
+    texts: &mut Vec<LineText>,
+    line: &ReportLine,
+) -> Result<(), AllocError>
     ensures ok { OnOk result (texts.new.items ≡ texts.old.items ++ line_text line.now ∷ []) }
 {
     texts.push(write_line(alloc, line)?)?;
     Ok(())
 }
 
-/// Makes the text of a line for each entry.
-fn push_entries(
+/// Makes the text of a line for each entry, behind so many entries.
+pub(crate) fn push_entries(
     alloc: Global,
     texts: &mut Vec<LineText>,
+    first: u32,
     entries: &[Entry],
 ) -> Result<(), AllocError>
-    requires few { length entries.now < 2 ^ 32 }
-    ensures ok { OnOk result (texts.new.items ≡ texts.old.items ++ map line_text (entry_lines 1 entries.now)) }
+    requires few { first + length entries.now < 2 ^ 32 }
+    ensures ok { OnOk result
+        (texts.new.items ≡ texts.old.items ++ map line_text (entry_lines (first + 1) entries.now)) }
 {
-    let mut at: u32 = 0;
+    let mut at = first;
     for entry in entries {
         at += 1;
         push_line(alloc, texts, &entry_line(at, entry))?;
@@ -130,7 +136,7 @@ fn push_bearer(
 }
 
 /// Makes the text of a line for each job, bearer by bearer.
-fn push_sends(
+pub(crate) fn push_sends(
     alloc: Global,
     texts: &mut Vec<LineText>,
     hex: bool,
@@ -150,7 +156,7 @@ fn push_sends(
 }
 
 /// Makes the text of the line of the end, if there is one.
-fn push_end(
+pub(crate) fn push_end(
     alloc: Global,
     texts: &mut Vec<LineText>,
     opened: Opened,
@@ -176,7 +182,7 @@ fn life_texts(
 {
     let mut texts = Vec::new(alloc);
     push_line(alloc, &mut texts, &opened_line(number, life.opened))?;
-    push_entries(alloc, &mut texts, life.entries.as_slice())?;
+    push_entries(alloc, &mut texts, 0, life.entries.as_slice())?;
     push_sends(alloc, &mut texts, hex, life.sends.as_slice())?;
     push_end(alloc, &mut texts, life.opened, life.end)?;
     Ok(texts)
@@ -220,12 +226,5 @@ pub fn write_life<K: Sink>(
     ensures no_fault { result ≢ Err stop.Fault → K.faults sink.new ≡ K.faults sink.old }
     ensures later { K.faults sink.old ≤ K.faults sink.new }
 {
-    let texts = match life_texts(alloc, hex, number, life) {
-        Ok(texts) => texts,
-        Err(_) => return Err(WriteStop::Memory),
-    };
-    match write_texts(sink, texts.as_slice()) {
-        Ok(()) => Ok(()),
-        Err(_) => Err(WriteStop::Fault),
-    }
+    write_made(sink, life_texts(alloc, hex, number, life))
 }
