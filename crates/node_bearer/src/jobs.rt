@@ -201,7 +201,15 @@ fn do_next<M: Machine, F: Flash + Send + Drop, S: Sharing>(
         → IfErr result (λ e. OnStop e (Broke k first tasks b.new)) }
 {
     let answered = act(sharing, n, turn, k, b, event)?;
-    do_quiet_jobs(sharing, n, turn, b, answered.at, event, answered.jobs.as_slice())
+    do_quiet_jobs(
+        sharing,
+        n,
+        turn,
+        b,
+        answered.at,
+        event,
+        answered.jobs.as_slice(),
+    )
 }
 
 /// Does a job, and has handled what follows its line.

@@ -6,8 +6,7 @@ ghost use Rattle.locked_node.specs.Node.{origin_of};
 ghost use Rattle.node_bearer.specs.Did.{AreEvents};
 ghost use Rattle.node_phase.specs.Worked.{WasPhase};
 
-use crate::bearers::Done;
-use crate::threads::work_phase;
+use crate::bearers::{Done, work_phase};
 use flash_model::Flash;
 use locked_node::Node;
 use machine_contract::Machine;

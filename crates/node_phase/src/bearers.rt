@@ -1,4 +1,4 @@
-//! Bearers before and after a phase.
+//! Bearers before, in and after a phase.
 #![tactic(auto)]
 
 ghost use Rattle.std.specs.Prelude.{◌≡◌, ℕ, ◌+◌, ◌<◌, [], ◌∷◌, ◌++◌, map, length, All, Bool, false, IfOk};
@@ -6,14 +6,15 @@ ghost use Rattle.std.specs.List.{filter, flat_map, sum_by};
 ghost use Rattle.turn_lock.specs.Entries.{Holds, IsPrefix, KeptOf};
 ghost use Rattle.turn_lock.specs.Views.{IsPassOf};
 ghost use Rattle.locked_node.specs.declared.marks.Mark.{Mark};
-ghost use Rattle.node_bearer.specs.Did.{IsRider};
-ghost use Rattle.node_phase.specs.Worked.{IsFresh, done_of, drawn_by, looks_by, own_of};
+ghost use Rattle.node_bearer.specs.Did.{AreEvents, IsRider};
+ghost use Rattle.node_phase.specs.Worked.{IsFresh, Worked, done_of, drawn_by, looks_by, own_of};
 
 use flash_model::Flash;
 use locked_node::{Mark, Node};
 use machine_contract::{Machine, Stop};
+use mesh_types::events::Event;
 use mesh_types::history::Sent;
-use node_bearer::Bearer;
+use node_bearer::{Bearer, Gate, Sharing, work};
 use seq_word::{Drawer, Numbers};
 use std::alloc::{AllocError, Global};
 use turn_lock::laws::{kept_law, merge_law};
@@ -64,6 +65,25 @@ pub fn split_all<M: Machine, F: Flash + Send + Drop>(
         })?;
     }
     Ok(bearers)
+}
+
+/// One bearer, at all its events.
+pub fn work_phase<M: Machine, F: Flash + Send + Drop, G: Gate, S: Sharing>(
+    sharing: &S,
+    n: &Numbers,
+    turn: &Turn<Node<M, F>>,
+    gate: &G,
+    k: u8,
+    b: &mut Bearer<Node<M, F>>,
+    events: &[Event],
+)
+    requires rider { IsRider S.parts n.now turn.now b.old }
+    requires fresh { IsFresh b.old }
+    requires events { AreEvents turn.now.first.machine.elements events.now }
+    ensures rider { IsRider S.parts n.now turn.now b.new }
+    ensures worked { Worked k events.now b.old b.new }
+{
+    b.stop = work(sharing, n, turn, gate, k, b, events).err();
 }
 
 /// Takes all bearers in: what they drew and saw goes to the drawer, and their entries to the pass.

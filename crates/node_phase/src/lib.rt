@@ -1,6 +1,6 @@
 //! One phase of a life: bearers that run beside one another over one node, and stop together.
 //!
-//! - `bearers`: a bearer for each list of events, and what is left of bearers that are through
+//! - `bearers`: a bearer for each list of events, its work, and what is left of bearers that are through
 //! - `threads`: all bearers at once, each on a thread
 //! - `phase`: the whole, from a node to the node
 //! - `alone`: the same for one bearer, without threads

@@ -5,36 +5,18 @@ ghost use Rattle.std.specs.Prelude.{◌≡◌, ℕ, ◌<◌, ◌≤◌, length, 
 ghost use Rattle.node_bearer.specs.Did.{AreEvents, IsRider};
 ghost use Rattle.node_phase.specs.Worked.{IsFresh, Worked};
 
+use crate::bearers::work_phase;
 use flash_model::Flash;
 use locked_node::Node;
 use machine_contract::Machine;
 use mesh_types::events::Event;
-use node_bearer::{Bearer, Gate, Sharing, work};
+use node_bearer::{Bearer, Gate};
 use node_limits::BEARERS;
 use seq_word::Numbers;
 use std::sync::Wait;
 use std::thread;
 use std::thread::Threads;
 use turn_lock::Turn;
-
-/// One bearer, at all its events.
-pub fn work_phase<M: Machine, F: Flash + Send + Drop, G: Gate, S: Sharing>(
-    sharing: &S,
-    n: &Numbers,
-    turn: &Turn<Node<M, F>>,
-    gate: &G,
-    k: u8,
-    b: &mut Bearer<Node<M, F>>,
-    events: &[Event],
-)
-    requires rider { IsRider S.parts n.now turn.now b.old }
-    requires fresh { IsFresh b.old }
-    requires events { AreEvents turn.now.first.machine.elements events.now }
-    ensures rider { IsRider S.parts n.now turn.now b.new }
-    ensures worked { Worked k events.now b.old b.new }
-{
-    b.stop = work(sharing, n, turn, gate, k, b, events).err();
-}
 
 /// All bearers at once: bearer `k` at the events of place `k`.
 pub fn work_all<M: Machine, F: Flash + Send + Drop, G: Gate, R: Threads + Wait + Sync>(

@@ -1,5 +1,5 @@
 use Rattle.node_phase.proofs.Fresh.{worked_by}
-use Rattle.node_phase.proofs.threads.work_phase.Goals as goal
+use Rattle.node_phase.proofs.bearers.work_phase.Goals as goal
 
 pub returns-clause-worked : goal.returns-clause-worked
 returns-clause-worked g c =
