@@ -12,6 +12,7 @@ ghost use Rattle.run_definitions.specs.Seals.{own_fields};
 ghost use Rattle.machine_contract.specs.Ranges.{IsEvent, IsJob};
 ghost use Rattle.job_sealing.specs.Sealed.{IsAccess, IsPayloadOf, IsSentLine};
 
+use crate::kept::KeptSeals;
 use crate::messages::{Access, UNSEGMENTED, long_line, short_line};
 use crate::segments::{later_segment, segment_line};
 use mesh_base::address::Address;
@@ -21,7 +22,6 @@ use mesh_base::pair::{Name, Pair};
 use mesh_types::events::Event;
 use mesh_types::jobs::Job;
 use mesh_types::lines::Outcome;
-use network_layer::seal;
 
 /// What became of a job, and the event that follows.
 #[derive(Drop)]
@@ -44,7 +44,7 @@ pub fn draws(job: &Job) -> bool
 }
 
 /// The line of a job of this event that draws no pair.
-pub fn plain_line(event: &Event, job: &Job) -> Outcome
+pub fn plain_line(kept: &mut KeptSeals, event: &Event, job: &Job) -> Outcome
     requires job { IsJob event.now job.now }
     requires plain { is_drawing job.now ≡ false }
     ensures shows { Shows event.now job.now result }
@@ -52,8 +52,8 @@ pub fn plain_line(event: &Event, job: &Job) -> Outcome
     ensures next { after_line job.now result ≡ [] }
 {
     match job {
-        Job::Relay { material, fields } => relayed(material, fields),
-        Job::Segment(segment) => segment_line(segment, segment.name.pair),
+        Job::Relay { material, fields } => relayed(kept, material, fields),
+        Job::Segment(segment) => segment_line(kept, segment, segment.name.pair),
         Job::Repeat { name, pdu } => Outcome::Rep {
             name: *name,
             pdu: pdu.copied(),
@@ -64,7 +64,7 @@ pub fn plain_line(event: &Event, job: &Job) -> Outcome
 }
 
 /// The line of a job of this event that draws, with the pair drawn for it.
-pub fn drawn_line(event: &Event, job: &Job, pair: Pair) -> Line
+pub fn drawn_line(kept: &mut KeptSeals, event: &Event, job: &Job, pair: Pair) -> Line
     requires job { IsJob event.now job.now }
     requires draws { is_drawing job.now ≡ true }
     requires pair { pair.seq < 2 ^ 24 }
@@ -82,7 +82,7 @@ pub fn drawn_line(event: &Event, job: &Job, pair: Pair) -> Line
             dst,
             tpdu,
             keep,
-        } => control_line(material, pair, *ttl, *src, *dst, tpdu, keep),
+        } => control_line(kept, material, pair, *ttl, *src, *dst, tpdu, keep),
         Job::Message {
             net,
             material,
@@ -103,9 +103,9 @@ pub fn drawn_line(event: &Event, job: &Job, pair: Pair) -> Line
                 dst: *dst,
             };
             if payload.as_slice().len() <= UNSEGMENTED {
-                short_line(&access, payload.as_slice(), keep)
+                short_line(kept, &access, payload.as_slice(), keep)
             } else {
-                long_line(&access, payload.as_slice())
+                long_line(kept, &access, payload.as_slice())
             }
         }
         Job::Sent {
@@ -125,10 +125,10 @@ pub fn drawn_line(event: &Event, job: &Job, pair: Pair) -> Line
                 src: *src,
                 dst: *dst,
             };
-            sent_line(event, &access)
+            sent_line(kept, event, &access)
         }
         Job::Segment(segment) => Line {
-            outcome: later_segment(segment, pair),
+            outcome: later_segment(kept, segment, pair),
             next: None,
         },
         Job::Relay { .. } | Job::Repeat { .. } | Job::Beacon(_) => unreachable!(),
@@ -136,7 +136,7 @@ pub fn drawn_line(event: &Event, job: &Job, pair: Pair) -> Line
 }
 
 /// The line of a message whose payload is that of its event, a Send.
-fn sent_line(event: &Event, access: &Access) -> Line
+fn sent_line(kept: &mut KeptSeals, event: &Event, access: &Access) -> Line
     requires access { IsAccess access.now }
     requires payload { IsPayloadOf event.now }
     ensures sent { IsSentLine event.now access.now result.outcome result.next }
@@ -147,14 +147,14 @@ fn sent_line(event: &Event, access: &Access) -> Line
         unreachable!()
     };
     if payload.as_slice().len() <= UNSEGMENTED {
-        short_line(access, payload.as_slice(), &None)
+        short_line(kept, access, payload.as_slice(), &None)
     } else {
-        long_line(access, payload.as_slice())
+        long_line(kept, access, payload.as_slice())
     }
 }
 
 /// A PDU of another node goes on.
-fn relayed(material: &NetMaterial, fields: &NetFields) -> Outcome
+fn relayed(kept: &mut KeptSeals, material: &NetMaterial, fields: &NetFields) -> Outcome
     requires nid { material.now.nid < 2 ^ 7 }
     requires fields { HasPdu fields.now }
     ensures value { result
@@ -172,12 +172,13 @@ fn relayed(material: &NetMaterial, fields: &NetFields) -> Outcome
         src: fields.src,
         dst: fields.dst,
         tpdu: fields.tpdu.copied(),
-        pdu: seal(material, fields),
+        pdu: kept.seal(material, fields),
     }
 }
 
 /// A control PDU of this node.
 fn control_line(
+    kept: &mut KeptSeals,
     material: &NetMaterial,
     pair: Pair,
     ttl: u8,
@@ -205,7 +206,7 @@ fn control_line(
         dst,
         tpdu: tpdu.copied(),
     };
-    let pdu = seal(material, &fields);
+    let pdu = kept.seal(material, &fields);
     Line {
         next: kept_event(keep, Name { src, pair }, &pdu),
         outcome: Outcome::Ctl {

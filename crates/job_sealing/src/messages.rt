@@ -12,6 +12,7 @@ ghost use Rattle.run_definitions.specs.Seals.{access_tpdu, aid_of_key, is_app_ke
 ghost use Rattle.machine_contract.specs.Ranges.{IsEvent, IsUpperKey};
 ghost use Rattle.job_sealing.specs.Sealed.{IsAccess, begins, long_outcome, message_text, short_outcome};
 
+use crate::kept::KeptSeals;
 use crate::lines::{Line, kept_event};
 use lower_transport::Lower;
 use mesh_base::address::Address;
@@ -23,8 +24,6 @@ use mesh_base::upper::UpperFields;
 use mesh_types::answers::KeyName;
 use mesh_types::events::{Event, Outgoing};
 use mesh_types::lines::Outcome;
-use network_layer::seal;
-use upper_transport::seal_access;
 
 /// The most octets of a payload that goes unsegmented, with a TransMIC of 4 octets.
 pub const UNSEGMENTED: usize = 11;
@@ -49,7 +48,7 @@ pub struct Access {
 }
 
 /// The upper transport PDU.
-fn upper_of(access: &Access, payload: &[u8]) -> Octets<384>
+fn upper_of(kept: &mut KeptSeals, access: &Access, payload: &[u8]) -> Octets<384>
     requires least { 1 ≤ length payload.now }
     requires most { length payload.now ≤ 380 }
     ensures value { result ≡ own_upper access.now.key access.now.pair access.now.src access.now.dst payload.now }
@@ -62,7 +61,7 @@ fn upper_of(access: &Access, payload: &[u8]) -> Octets<384>
         long_mic: false,
         label: None,
     };
-    seal_access(&access.key, &fields, payload)
+    kept.seal_access(&access.key, &fields, payload)
 }
 
 /// Whether an application key seals, and its AID, which is 0 for a device key.
@@ -98,7 +97,12 @@ fn unsegmented(key: &UpperKey, upper: &[u8]) -> Octets<16>
 }
 
 /// The line of a message that goes out in one PDU: at most 11 octets of payload.
-pub fn short_line(access: &Access, payload: &[u8], keep: &Option<(Address, bool)>) -> Line
+pub fn short_line(
+    kept: &mut KeptSeals,
+    access: &Access,
+    payload: &[u8],
+    keep: &Option<(Address, bool)>,
+) -> Line
     requires access { IsAccess access.now }
     requires least { 1 ≤ length payload.now }
     requires most { length payload.now ≤ 11 }
@@ -108,7 +112,7 @@ pub fn short_line(access: &Access, payload: &[u8], keep: &Option<(Address, bool)
     ensures own { IfSome result.next (λ e. is_outside e ≡ false) }
     ensures range { (elements : ℕ) → IfSome result.next (IsEvent elements) }
 {
-    let upper = upper_of(access, payload);
+    let upper = upper_of(kept, access, payload);
     let fields = NetFields {
         iv: access.pair.iv,
         ctl: false,
@@ -118,7 +122,7 @@ pub fn short_line(access: &Access, payload: &[u8], keep: &Option<(Address, bool)
         dst: access.dst,
         tpdu: unsegmented(&access.key, upper.as_slice()),
     };
-    let pdu = seal(&access.material, &fields);
+    let pdu = kept.seal(&access.material, &fields);
     let name = Name {
         src: access.src,
         pair: access.pair,
@@ -140,7 +144,7 @@ pub fn short_line(access: &Access, payload: &[u8], keep: &Option<(Address, bool)
 }
 
 /// The line of a message whose upper transport PDU is sealed, and whose segments are to be sent then.
-pub fn long_line(access: &Access, payload: &[u8]) -> Line
+pub fn long_line(kept: &mut KeptSeals, access: &Access, payload: &[u8]) -> Line
     requires access { IsAccess access.now }
     requires least { 11 < length payload.now }
     requires most { length payload.now ≤ 380 }
@@ -163,7 +167,7 @@ pub fn long_line(access: &Access, payload: &[u8]) -> Line
             net: access.net,
             akf,
             aid,
-            upper: upper_of(access, payload),
+            upper: upper_of(kept, access, payload),
         })),
         outcome: Outcome::Long {
             pair: access.pair,

@@ -5,11 +5,11 @@ ghost use Rattle.std.specs.Prelude.{◌≡◌, ◌+◌, ◌^◌, ◌<◌, ◌≤
 ghost use Rattle.mesh_types.specs.declared.lines.Outcome.TheVariants as O;
 ghost use Rattle.run_definitions.specs.Lines.{is_late, segment_outcome};
 
+use crate::kept::KeptSeals;
 use mesh_base::fields::NetFields;
 use mesh_base::pair::Pair;
 use mesh_types::jobs::Segment;
 use mesh_types::lines::Outcome;
-use network_layer::seal;
 
 /// How far above SeqAuth the SEQ of a segment may be.
 const SPAN: u32 = 8191;
@@ -23,7 +23,7 @@ fn is_late(auth: Pair, pair: Pair) -> bool
 }
 
 /// The line of a segment that goes out under this pair.
-pub fn segment_line(segment: &Segment, pair: Pair) -> Outcome
+pub fn segment_line(kept: &mut KeptSeals, segment: &Segment, pair: Pair) -> Outcome
     requires nid { segment.now.material.nid < 2 ^ 7 }
     requires ttl { segment.now.ttl < 2 ^ 7 }
     requires pair { pair.seq < 2 ^ 24 }
@@ -48,12 +48,12 @@ pub fn segment_line(segment: &Segment, pair: Pair) -> Outcome
         seg_o: segment.seg_o,
         seg_n: segment.seg_n,
         auth: segment.name.pair.seq,
-        pdu: seal(&segment.material, &fields),
+        pdu: kept.seal(&segment.material, &fields),
     }
 }
 
 /// The line of a segment that is not the first of its message, under the pair drawn for it. It doesn't go out where it is too late.
-pub fn later_segment(segment: &Segment, pair: Pair) -> Outcome
+pub fn later_segment(kept: &mut KeptSeals, segment: &Segment, pair: Pair) -> Outcome
     requires nid { segment.now.material.nid < 2 ^ 7 }
     requires ttl { segment.now.ttl < 2 ^ 7 }
     requires auth { segment.now.name.pair.seq < 2 ^ 24 }
@@ -66,6 +66,6 @@ pub fn later_segment(segment: &Segment, pair: Pair) -> Outcome
     if is_late(segment.name.pair, pair) {
         Outcome::Late { pair }
     } else {
-        segment_line(segment, pair)
+        segment_line(kept, segment, pair)
     }
 }

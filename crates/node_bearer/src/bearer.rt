@@ -1,6 +1,7 @@
 //! What a bearer has.
 #![tactic(auto)]
 
+use job_sealing::KeptSeals;
 use machine_contract::Stop;
 use mesh_base::pair::Pair;
 use mesh_types::history::Sent;
@@ -18,6 +19,8 @@ pub struct Bearer<T: Logged> {
     pub lines: Vec<Sent>,
     /// The number of its last entry in this life, or 0.
     pub number: u32,
+    /// The schedules of the keys that it sealed with last.
+    pub kept: KeptSeals,
     /// Why it stopped.
     pub stop: Option<Stop>,
 }

@@ -8,6 +8,7 @@ ghost use Rattle.node_phase.specs.Worked.{WasPhase};
 
 use crate::bearers::{Done, work_phase};
 use flash_model::Flash;
+use job_sealing::KeptSeals;
 use locked_node::Node;
 use machine_contract::Machine;
 use mesh_types::events::Event;
@@ -44,6 +45,7 @@ pub fn run_alone<M: Machine, F: Flash + Send + Drop>(
         pass,
         lines: Vec::new(alloc),
         number,
+        kept: KeptSeals::new(),
         stop: None,
     };
     work_phase(&Alone, n, &turn, &FreeGate, 0, &mut bearer, events);
@@ -52,6 +54,7 @@ pub fn run_alone<M: Machine, F: Flash + Send + Drop>(
         mut pass,
         lines,
         number,
+        kept: _,
         stop,
     } = bearer;
     n.join(drawer, seat);

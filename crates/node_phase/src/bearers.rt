@@ -10,6 +10,7 @@ ghost use Rattle.node_bearer.specs.Did.{AreEvents, IsRider};
 ghost use Rattle.node_phase.specs.Worked.{IsFresh, Worked, done_of, drawn_by, looks_by, own_of};
 
 use flash_model::Flash;
+use job_sealing::KeptSeals;
 use locked_node::{Mark, Node};
 use machine_contract::{Machine, Stop};
 use mesh_types::events::Event;
@@ -61,6 +62,7 @@ pub fn split_all<M: Machine, F: Flash + Send + Drop>(
             pass: own,
             lines: Vec::new(alloc),
             number: *number,
+            kept: KeptSeals::new(),
             stop: None,
         })?;
     }
@@ -121,6 +123,7 @@ pub fn join_all<M: Machine, F: Flash + Send + Drop>(
             pass: own,
             lines,
             number,
+            kept: _,
             stop,
         } = bearer;
         n.join(drawer, seat);
