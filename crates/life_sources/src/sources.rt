@@ -2,60 +2,73 @@
 #![tactic(auto)]
 
 ghost use Rattle.std.specs.Prelude.{◌≡◌, ◌<◌, [], length, slice_index_or, IfOk};
-ghost use Rattle.life_plans.specs.Plans.{IsPlanFor, provision_of, script_of};
-ghost use Rattle.life_laws.specs.Plan.{steps_of};
-ghost use Rattle.script_definitions.specs.Ranges.{IsScriptOf};
-ghost use Rattle.script_definitions.specs.declared.kind.Grammar.TheVariants as Grammars;
+ghost use Rattle.life_sources.specs.Lines.{lines_of};
 ghost use Rattle.script_definitions.specs.declared.script.Script.{Script as Said};
 ghost use Rattle.script_generator.specs.Generated.{generated};
 
-use life_laws::plan::LifePlan;
-use life_plans::{plan_of, provision_of, script_law};
-use node_limits::BEARERS;
-use node_store::Provision;
-use script_definitions::script::Script;
+use script_definitions::line::ScriptLine;
+use script_definitions::script::{ProvisionLine, Script, ScriptLife};
 use script_generator::GeneratedScript;
 use std::alloc::{AllocError, Global};
+
+/// The lines of a life.
+#[derive(Drop)]
+pub enum LifeLines<'a> {
+    /// They stand in the script.
+    Held(&'a ScriptLife),
+    /// They were made.
+    Made(ScriptLife),
+}
+
+impl<'a> LifeLines<'a> {
+    /// The lines.
+    pub fn as_slice(&self) -> &[ScriptLine]
+        ensures value { result.now ≡ lines_of self.now }
+    {
+        match self {
+            LifeLines::Held(life) => life.as_slice(),
+            LifeLines::Made(life) => life.as_slice(),
+        }
+    }
+}
 
 /// Where the lives of a script come from.
 pub trait LifeSource {
     // The script.
     ghost script: { Self → Said };
 
-    /// What the node is provisioned with.
-    fn node(&self) -> Provision
-        ensures value { result ≡ provision_of (script self.now).provision };
+    /// What its line `provision` says.
+    fn node(&self) -> ProvisionLine
+        ensures value { result ≡ (script self.now).provision };
 
     /// How many lives there are.
     fn count(&self) -> usize
         ensures value { result ≡ length (script self.now).lives };
 
-    /// The plan of the life at this place, from 0 on.
-    fn plan(&self, alloc: Global, i: usize) -> Result<LifePlan, AllocError>
-        requires read { IsScriptOf Grammars.Node (script self.now) }
+    /// The lines of the life at this place, from 0 on.
+    ///
+    /// # Errors
+    ///
+    /// `AllocError` where there is no memory.
+    fn lines(&self, alloc: Global, i: usize) -> Result<LifeLines<'_>, AllocError>
         requires place { i < length (script self.now).lives }
-        ensures value { IfOk result
-            (λ plan. steps_of plan.steps.items ≡ slice_index_or (script_of (script self.now)).lives i []) }
-        ensures bearers { IfOk result (λ plan. plan.bearers ≡ BEARERS) }
-        ensures planned { IfOk result (IsPlanFor (script_of (script self.now)).node.elements) };
+        ensures value { IfOk result (λ lines. lines_of lines ≡ slice_index_or (script self.now).lives i []) };
 }
 
-/// A script that was read, whose lives stand in it.
+/// A script that was read, in which its lives stand.
 impl LifeSource for Script {
     ghost script = { λ script. script };
 
-    fn node(&self) -> Provision {
-        provision_of(&self.provision)
+    fn node(&self) -> ProvisionLine {
+        self.provision
     }
 
     fn count(&self) -> usize {
         self.lives.as_slice().len()
     }
 
-    fn plan(&self, alloc: Global, i: usize) -> Result<LifePlan, AllocError> {
-        // It does nothing when it runs: the proof uses what it says.
-        script_law();
-        plan_of(alloc, self.lives.as_slice()[i].as_slice())
+    fn lines(&self, _alloc: Global, i: usize) -> Result<LifeLines<'_>, AllocError> {
+        Ok(LifeLines::Held(&self.lives.as_slice()[i]))
     }
 }
 
@@ -63,18 +76,15 @@ impl LifeSource for Script {
 impl LifeSource for GeneratedScript {
     ghost script = { λ numbers. generated numbers.count numbers.start };
 
-    fn node(&self) -> Provision {
-        provision_of(&self.provision_line())
+    fn node(&self) -> ProvisionLine {
+        self.provision_line()
     }
 
     fn count(&self) -> usize {
         self.lives()
     }
 
-    fn plan(&self, alloc: Global, i: usize) -> Result<LifePlan, AllocError> {
-        // It does nothing when it runs: the proof uses what it says.
-        script_law();
-        let lines = self.life(alloc, i)?;
-        plan_of(alloc, lines.as_slice())
+    fn lines(&self, alloc: Global, i: usize) -> Result<LifeLines<'_>, AllocError> {
+        Ok(LifeLines::Made(self.life(alloc, i)?))
     }
 }

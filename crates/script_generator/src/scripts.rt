@@ -1,7 +1,7 @@
 //! Generated scripts, whose lives are made one at a time.
 #![tactic(auto, using(crate::proofs::Growing::number_more, crate::proofs::Growing::lines_more, crate::proofs::Growing::lives_are))]
 
-ghost use Rattle.std.specs.Prelude.{◌≡◌, ℕ, ◌<◌, ◌≤◌, ◌+◌, ◌-◌, ◌*◌, ◌^◌, length, min, IfOk};
+ghost use Rattle.std.specs.Prelude.{◌≡◌, ℕ, ◌<◌, ◌≤◌, ◌+◌, ◌-◌, ◌*◌, ◌^◌, [], length, min, slice_index_or, IfOk};
 ghost use Rattle.script_definitions.specs.Ranges.{IsScriptOf};
 ghost use Rattle.script_definitions.specs.declared.kind.Grammar.TheVariants as Grammars;
 ghost use Rattle.script_generator.specs.Generated.{generated, life_at, lives_of, number_at, provision_line};
@@ -56,12 +56,8 @@ impl GeneratedScript {
         LIFE_LINES.min(self.count - done)
     }
 
-    /// The lines of the life at this place, from 0 on. They are made anew each time, and the numbers before them too.
-    ///
-    /// # Errors
-    ///
-    /// `AllocError` where there is no memory.
-    pub fn life(&self, alloc: Global, i: usize) -> Result<ScriptLife, AllocError>
+    /// The lines of the life at this place, from 0 on, where lines are left for it.
+    fn make_life(&self, alloc: Global, i: usize) -> Result<ScriptLife, AllocError>
         requires place { 4096 * i < self.now.count }
         ensures value { IfOk result (λ lines. lines ≡ life_at self.now.count self.now.start i) }
     {
@@ -73,6 +69,19 @@ impl GeneratedScript {
             life.push(line(first + at + 1, number))?;
         }
         Ok(life)
+    }
+
+    /// The lines of the life at this place, from 0 on. They are made anew each time, and the numbers before them too.
+    ///
+    /// # Errors
+    ///
+    /// `AllocError` where there is no memory.
+    pub fn life(&self, alloc: Global, i: usize) -> Result<ScriptLife, AllocError>
+        requires place { i < length (lives_of self.now.count self.now.start) }
+        ensures value { IfOk result
+            (λ lines. lines ≡ slice_index_or (lives_of self.now.count self.now.start) i []) }
+    {
+        self.make_life(alloc, i)
     }
 }
 

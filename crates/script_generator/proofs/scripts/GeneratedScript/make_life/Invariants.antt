@@ -2,7 +2,7 @@
 use Rattle.std.proofs.Common.{◌≡◌, ◌+◌, map}
 use Rattle.std.specs.List.{range_with_len}
 use Rattle.script_generator.specs.Generated.{line_at, number_at}
-use Rattle.script_generator.proofs.scripts.GeneratedScript.life.Given as goal
+use Rattle.script_generator.proofs.scripts.GeneratedScript.make_life.Given as goal
 
 abbrev pub invariant-loop-at : goal.invariant-loop-at
 invariant-loop-at l = record {
