@@ -75,7 +75,7 @@ impl Tables {
         ensures fit { IsFit self.new p.now }
         ensures tables { (told : List Told) → AreTablesOf self.old told → AreTablesOf self.new told }
     {
-        self.keys = Keys::derive(p);
+        self.keys.renew(p);
     }
 
     /// The keys that the node holds.

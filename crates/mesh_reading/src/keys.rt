@@ -72,6 +72,18 @@ impl Keys {
         }
     }
 
+    /// The keys that the records of a node say, in place of those before. For beacons nothing is derived of a network key that stays.
+    pub fn renew(&mut self, p: &Persist)
+        requires { AreHeldKeys (config_in p.now) }
+        ensures value { self.new ≡ held_in (config_in p.now) }
+    {
+        self.nets = NetKeys::derive(p.nets.as_slice());
+        self.beacons.renew(p.nets.as_slice());
+        self.apps = AppKeys::derive(p.apps.as_slice(), p.nets.as_slice());
+        self.device = UpperSchedule::new(&UpperKey::Device(p.dev_key));
+        self.labels = labels_of(p.labels.as_slice());
+    }
+
     /// The network keys.
     pub fn nets(&self) -> &NetKeys
         ensures value { result.now ≡ self.now.nets }

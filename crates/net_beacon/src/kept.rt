@@ -14,6 +14,7 @@ use mesh_base::keys::NetKeyRow;
 use mesh_kdf::{k1, k3, s1};
 use node_limits::{HEARD_NETWORK_KEYS, NETWORK_KEYS};
 use std::marker::Model;
+use std::mem;
 
 /// The Network ID of a network key (section 3.8.6.3.2).
 #[tactic(auto, unfolding(cipher_definitions::specs::Kdf::network_id))]
@@ -91,15 +92,19 @@ impl Model for BeaconKeys {
     ghost view = { λ k. k.kept.items };
 }
 
-// Puts the keys of a row behind the others, the old one before the new.
-fn add_keys(kept: &mut ArrayVec<Option<BeaconKey>, HEARD_NETWORK_KEYS>, row: &NetKeyRow)
+// Puts the keys of a row behind the others, the old one before the new. What is kept already is taken.
+fn add_keys(
+    kept: &mut ArrayVec<Option<BeaconKey>, HEARD_NETWORK_KEYS>,
+    before: &mut BeaconKeys,
+    row: &NetKeyRow,
+)
     requires room { array_vec_len kept.old + 2 ≤ HEARD_NETWORK_KEYS }
     ensures value { kept.new.items ≡ kept.old.items ++ values_of (row.now ∷ []) }
     ensures length { array_vec_len kept.new ≤ array_vec_len kept.old + 2 }
 {
-    kept.push(Some(BeaconKey::new(&row.key)));
+    kept.push(Some(before.take(&row.key)));
     if let Some(next) = &row.next {
-        kept.push(Some(BeaconKey::new(next)));
+        kept.push(Some(before.take(next)));
     }
 }
 
@@ -109,11 +114,47 @@ impl BeaconKeys {
         requires room { length rows.now ≤ NETWORK_KEYS }
         ensures value { result ≡ values_of rows.now }
     {
+        let none = BeaconKeys {
+            kept: ArrayVec::new(),
+        };
+        none.renewed(rows)
+    }
+
+    // The keys of these rows, where these are those of before.
+    fn renewed(mut self, rows: &[NetKeyRow]) -> BeaconKeys
+        requires room { length rows.now ≤ NETWORK_KEYS }
+        ensures value { result ≡ values_of rows.now }
+    {
         let mut kept = ArrayVec::new();
         for row in rows {
-            add_keys(&mut kept, row);
+            add_keys(&mut kept, &mut self, row);
         }
         BeaconKeys { kept }
+    }
+
+    /// The keys of these rows, at most `NETWORK_KEYS`, in place of those before. Nothing is derived of a key that stays.
+    pub fn renew(&mut self, rows: &[NetKeyRow])
+        requires room { length rows.now ≤ NETWORK_KEYS }
+        ensures value { self.new ≡ values_of rows.now }
+    {
+        let before = BeaconKeys {
+            kept: mem::replace(&mut self.kept, ArrayVec::new()),
+        };
+        *self = before.renewed(rows);
+    }
+
+    // What is kept of this key, which is taken out of its place, or else is derived.
+    fn take(&mut self, key: &[u8; 16]) -> BeaconKey
+        ensures value { result ≡ key.now }
+    {
+        for place in self.kept.as_mut_slice() {
+            if is_in(place, key) {
+                if let Some(kept) = place.take() {
+                    return kept;
+                }
+            }
+        }
+        BeaconKey::new(key)
     }
 
     // The first place that has this key.

@@ -1,6 +1,6 @@
 use Rattle.std.proofs.Common.{arith}
 use Rattle.net_beacon.proofs.Values.{values_more}
-use Rattle.net_beacon.proofs.kept.BeaconKeys.derive.Goals as goal
+use Rattle.net_beacon.proofs.kept.BeaconKeys.renewed.Goals as goal
 
 pub loop-row-preserved : goal.loop-row-preserved
 loop-row-preserved c = record {

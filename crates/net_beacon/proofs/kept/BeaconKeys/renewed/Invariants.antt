@@ -2,7 +2,7 @@
 use Rattle.std.proofs.Common.{◌≡◌, ◌*◌, ◌≤◌, take}
 use Rattle.arrayvec.specs.ArrayVec.{array_vec_len}
 use Rattle.net_beacon.specs.Kept.{values_of}
-use Rattle.net_beacon.proofs.kept.BeaconKeys.derive.Given as goal
+use Rattle.net_beacon.proofs.kept.BeaconKeys.renewed.Given as goal
 
 abbrev pub invariant-loop-row : goal.invariant-loop-row
 invariant-loop-row l = record {
