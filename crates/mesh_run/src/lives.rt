@@ -2,7 +2,7 @@
 #![tactic(auto)]
 
 ghost use Rattle.std.specs.Prelude.{◌≡◌, ◌≤◌, ◌<◌, List, [], length, slice_index_or, IfOk, IfSome, IsSomeAnd};
-ghost use Rattle.life_plans.specs.Plans.{script_of};
+ghost use Rattle.life_plans.specs.Plans.{IsPlanFor, script_of};
 ghost use Rattle.machine_contract.specs.Opening.{EachRecovered, IsNodeFlash};
 ghost use Rattle.mesh_base.specs.Outside.{Rose};
 ghost use Rattle.node_layers.specs.NodeLayers.{node_layers};
@@ -23,10 +23,13 @@ ghost use Rattle.event_definitions.specs.Role.{node_role};
 
 use flash_model::Bench;
 use layer_laws::laws::node_law;
+use life_laws::plan::LifePlan;
+use life_plans::{plan_of, script_law};
 use life_sources::LifeSource;
 use mesh_base::outside::Sink;
 use mesh_machine::MeshMachine;
 use mesh_node::{Gate, LifeLog, life};
+use node_limits::BEARERS;
 use node_safety::node_runs_law;
 use report_writer::{EndedLife, LifeSink, WriteStop};
 use run_safety::laws::lives_law;
@@ -63,6 +66,21 @@ fn ended_life(log: LifeLog) -> EndedLife
     }
 }
 
+/// The plan of the life of a script at place `i`.
+fn plan_at<S: LifeSource>(script: &S, alloc: Global, i: usize) -> Result<LifePlan, AllocError>
+    requires read { IsScriptOf Grammars.Node (S.script script.now) }
+    requires place { i < length (S.script script.now).lives }
+    ensures value { IfOk result
+        (λ plan. Plan.steps_of plan.steps.items ≡ slice_index_or (script_of (S.script script.now)).lives i []) }
+    ensures bearers { IfOk result (λ plan. plan.bearers ≡ BEARERS) }
+    ensures planned { IfOk result (IsPlanFor (script_of (S.script script.now)).node.elements) }
+{
+    // It does nothing when it runs: the proof uses what it says.
+    script_law();
+    let lines = script.lines(alloc, i)?;
+    plan_of(alloc, lines.as_slice())
+}
+
 /// Runs the life of a script at place `i`. For want of memory the flash is dropped.
 fn live<R: Threads + Wait + Sync, S: LifeSource, B: Bench, G: Gate>(
     rt: &R,
@@ -83,7 +101,7 @@ fn live<R: Threads + Wait + Sync, S: LifeSource, B: Bench, G: Gate>(
         (record { over = over; life = life_of r.0 }) (B.chip r.1)) }
     ensures room { IfOk result (λ r. FitsLines (life_of r.0)) }
 {
-    let plan = script.plan(alloc, i)?;
+    let plan = plan_at(script, alloc, i)?;
     let (log, flash) = life::<MeshMachine, B, G, R>(rt, alloc, flash, &plan, gate)?;
     Ok((ended_life(log), flash))
 }

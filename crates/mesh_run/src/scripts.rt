@@ -21,7 +21,7 @@ ghost use Rattle.store_definitions.specs.Provisioning.{provisioned};
 use crate::lives::{Stopped, live_all};
 use command_words::RunFlags;
 use flash_model::Bench;
-use life_plans::script_law;
+use life_plans::{provision_of, script_law};
 use life_sources::LifeSource;
 use mesh_base::outside::Sink;
 use mesh_node::Gate;
@@ -89,7 +89,7 @@ pub(crate) fn run_script<R: Threads + Wait + Sync, S: LifeSource, B: Bench, L: L
     script_law();
     let mut flash = flash;
     flash.power_cycle();
-    match provision(&mut flash, old, &script.node()) {
+    match provision(&mut flash, old, &provision_of(&script.node())) {
         Ok(()) => {}
         Err(FormatFault::Flash) => return Ended::with_flash(Status::FlashFault, flash),
         Err(FormatFault::NotErased { at }) => return Ended::with_flash(
