@@ -49,6 +49,7 @@ abbrev pub origin_of : {F : Type 0} → (F → Chip) → NodeView F → Origin F
 origin_of chip n = record {
   start = n.start;
   numbers = record { which = n.machine.which; opened = 0 };
+  taken = n.machine.taken;
   elements = n.machine.elements;
   arm = option_map armed_by (chip n.flash).setting.arm;
 }

@@ -29,6 +29,8 @@ pub struct Origin<F> {
     pub start: F,
     /// The counter and the mark that the machine publishes at; where the counter was opened isn't told.
     pub numbers: Numbers,
+    /// How many entries of the history were taken before.
+    pub taken: u64,
     /// The elements of the node.
     pub elements: u64,
     /// The order that the flash was given.

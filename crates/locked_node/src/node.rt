@@ -1,7 +1,7 @@
 //! The value behind the lock.
 #![tactic(auto)]
 
-ghost use Rattle.std.specs.Prelude.{◌≡◌, ◌≢◌, ℕ, ◌+◌, ◌<◌, ◌^◌, List, [], ◌∷◌, ◌++◌, length, All, true, false, None, Some, Ok, Err, IfOk, OnOk, IfErr, IsTrue};
+ghost use Rattle.std.specs.Prelude.{◌≡◌, ◌≢◌, ℕ, ◌+◌, ◌<◌, ◌^◌, List, [], ◌∷◌, ◌++◌, length, drop, All, true, false, None, Some, Ok, Err, IfOk, OnOk, IfErr, IsTrue};
 ghost use Rattle.flash_model.specs.Chip.{Chip, KeepsCount};
 ghost use Rattle.record_types.specs.declared.records.StoreRecord.{StoreRecord};
 ghost use Rattle.run_definitions.specs.Order.{is_outside};
@@ -17,9 +17,10 @@ ghost use Rattle.locked_node.specs.Stands.{Holds, IsLater, IsNode};
 use crate::known::Known;
 use crate::marks::{Mark, Origin};
 use crate::raised::Raised;
-use flash_model::Bench;
+use flash_model::{Bench, Flash};
 use machine_contract::{Answered, Machine, Stop};
 use mesh_types::events::Event;
+use mesh_types::history::Entry;
 use seq_word::Numbers;
 use std::alloc::{AllocError, Global};
 use std::marker::Model;
@@ -32,14 +33,14 @@ use turn_lock::Logged;
 ///
 /// The machine is boxed, so that a turn at the lock moves no tables.
 #[derive(Drop)]
-pub struct Node<M: Machine, F: Bench> {
+pub struct Node<M: Machine, F: Flash + Send + Drop> {
     machine: Box<M>,
     flash: F,
     start: Known<F>,
     stops: u32,
 }
 
-impl<M: Machine, F: Bench> Model for Node<M, F> {
+impl<M: Machine, F: Flash + Send + Drop> Model for Node<M, F> {
     ghost use Rattle.locked_node.specs.Node.{NodeView};
     ghost use Rattle.locked_node.specs.Stands.{Holds};
 
@@ -55,7 +56,7 @@ impl<M: Machine, F: Bench> Model for Node<M, F> {
     ghost invariant = { λ n. Holds M.stands M.view F.chip n.machine.value n.start n.flash n.stops };
 }
 
-impl<M: Machine, F: Bench> Logged for Node<M, F> {
+impl<M: Machine, F: Flash + Send + Drop> Logged for Node<M, F> {
     type Entry = Mark;
 
     type Origin = Origin<F>;
@@ -69,7 +70,7 @@ impl<M: Machine, F: Bench> Logged for Node<M, F> {
     }
 }
 
-impl<M: Machine, F: Bench> Node<M, F> {
+impl<M: Machine, F: Flash + Send + Drop> Node<M, F> {
     /// A machine with its flash, which the life found as `start` says. For want of memory both are dropped.
     pub fn new(alloc: Global, machine: M, flash: F, start: Known<F>) -> Result<Self, AllocError>
         requires stands { (over : List StoreRecord) × IsRecovered (F.chip start).now over
@@ -173,19 +174,6 @@ impl<M: Machine, F: Bench> Node<M, F> {
         }
     }
 
-    /// Tears a later call of the flash, by the one order that it takes in a life.
-    pub fn arm(&mut self, calls: u32, mask: u8)
-        requires none { (F.chip self.old.flash).setting.arm ≡ None }
-        ensures arm { (F.chip self.new.flash).setting.arm
-            ≡ Some (record { calls = calls; mask = mask; changes = (F.chip self.old.flash).changes }) }
-        ensures frame { self.new ≡ record self.old { flash = self.new.flash } }
-    {
-        self.flash.arm(calls, mask);
-        // They do nothing when they run: the proof uses what they say.
-        M::tells::<F>();
-        M::stays::<F>();
-    }
-
     /// What holds of it. It does nothing.
     pub fn known(&self)
         ensures known { IsNode M.role M.image F.chip self.now }
@@ -194,6 +182,16 @@ impl<M: Machine, F: Bench> Node<M, F> {
         let _ = &self.machine;
         // It does nothing when it runs: the proof uses what it says.
         M::tells::<F>();
+    }
+
+    /// The entries since this was called last, or since the life began, in their order: the history keeps them, but in memory are only those
+    /// that weren't taken. Nothing else changes. It takes no memory, and a node whose flash failed gives them too.
+    pub fn take_entries(&mut self) -> Vec<Entry>
+        ensures entries { result.items ≡ drop self.old.machine.taken self.old.machine.entries }
+        ensures frame { self.new
+            ≡ record self.old { machine = record self.old.machine { taken = length self.old.machine.entries } } }
+    {
+        self.machine.take_entries::<F>()
     }
 
     /// Whether the flash failed.
@@ -215,5 +213,20 @@ impl<M: Machine, F: Bench> Node<M, F> {
             stops: _,
         } = self;
         (Box::into_inner(machine), flash)
+    }
+}
+
+impl<M: Machine, F: Bench> Node<M, F> {
+    /// Tears a later call of the flash, by the one order that it takes in a life.
+    pub fn arm(&mut self, calls: u32, mask: u8)
+        requires none { (F.chip self.old.flash).setting.arm ≡ None }
+        ensures arm { (F.chip self.new.flash).setting.arm
+            ≡ Some (record { calls = calls; mask = mask; changes = (F.chip self.old.flash).changes }) }
+        ensures frame { self.new ≡ record self.old { flash = self.new.flash } }
+    {
+        self.flash.arm(calls, mask);
+        // They do nothing when they run: the proof uses what they say.
+        M::tells::<F>();
+        M::stays::<F>();
     }
 }

@@ -18,6 +18,7 @@ pub record IsStarted {M : Type 0} (view : M → MachineView) (stands : Chip → 
   pub mark : s.mark ≡ (config_of over).mark
   pub tie : stands new over s.machine
   pub entries : (view s.machine).entries ≡ []
+  pub taken : (view s.machine).taken ≡ 0
   pub fills : (view s.machine).fills ≡ 0
   pub usable : (view s.machine).closed ≡ false
   pub which : (view s.machine).which ≡ s.numbers.which

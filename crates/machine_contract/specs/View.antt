@@ -8,8 +8,9 @@ use Rattle.mesh_types.specs.declared.jobs.Job.{Job}
 use Rattle.machine_contract.specs.declared.answers.Hand.{Hand}
 
 pub record MachineView : Type 0 where
-  -- the history of its life, and the number of refills that were stored since the last entry
+  -- the history of its life, how many of its entries were taken, and the number of refills that were stored since the last entry
   pub entries : List Entry
+  pub taken : ℕ
   pub fills : ℕ
   -- a call on the flash failed, and what the call that closed the machine had in hand
   pub closed : Bool

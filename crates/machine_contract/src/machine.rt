@@ -1,7 +1,7 @@
 //! The machine of a node.
 #![tactic(auto)]
 
-ghost use Rattle.std.specs.Prelude.{◌≡◌, ◌≢◌, ℕ, ◌+◌, ◌<◌, ◌≤◌, ◌^◌, List, [], ◌∷◌, ◌++◌, length, All, true, false, Ok, Err, IsErr, IfOk, OnOk, IfErr};
+ghost use Rattle.std.specs.Prelude.{◌≡◌, ◌≢◌, ℕ, ◌+◌, ◌<◌, ◌≤◌, ◌^◌, List, [], ◌∷◌, ◌++◌, length, drop, All, true, false, Ok, Err, IsErr, IfOk, OnOk, IfErr};
 ghost use Rattle.flash_model.specs.Chip.{Chip, IsFresh, Keeps};
 ghost use Rattle.record_types.specs.declared.records.StoreRecord.{StoreRecord};
 ghost use Rattle.event_definitions.specs.Role.{Role};
@@ -19,6 +19,7 @@ use crate::history::History;
 use crate::opening::{StartFault, Started};
 use flash_model::Flash;
 use mesh_types::events::Event;
+use mesh_types::history::Entry;
 use seq_word::{Keeper, Numbers};
 use std::alloc::Global;
 
@@ -105,17 +106,25 @@ pub trait Machine: Send + Drop {
             → stands (F.chip flash.new) over self.new }
         ensures frame { Keeps (F.chip flash.old) (F.chip flash.new) };
 
+    /// The entries since this was called last, or since the life began, in their order. The history keeps them, but the machine doesn't: it
+    /// keeps in memory only those that weren't taken. It takes no memory, and a closed machine gives them too. `F` is the type of the flash
+    /// that it stands over, which isn't called.
+    fn take_entries<F: Flash>(&mut self) -> Vec<Entry>
+        ensures entries { result.items ≡ drop (view self.old).taken (view self.old).entries }
+        ensures view { view self.new ≡ record (view self.old) { taken = length (view self.old).entries } }
+        ensures kept { (f : F) (over : List StoreRecord) → stands (F.chip f) over self.old → stands (F.chip f) over self.new };
+
     /// Whether an earlier call failed at the flash.
     fn is_closed(&self) -> bool
         ensures value { result ≡ (view self.now).closed };
 
-    /// The number of entries so far.
+    /// The number of entries so far, those that were taken among them.
     fn count(&self) -> u64
         ensures value { result ≡ length (view self.now).entries };
 
-    /// Ends the machine.
+    /// Ends the machine. The entries are those that weren't taken.
     fn finish(self) -> (History, Keeper)
-        ensures entries { result.0.entries.items ≡ (view self).entries }
+        ensures entries { result.0.entries.items ≡ drop (view self).taken (view self).entries }
         ensures refills { result.0.refills ≡ (view self).fills }
         ensures keeper { (result.1.which ≡ (view self).which) × (result.1.mark ≡ (view self).mark) };
 

@@ -13,3 +13,4 @@ pub mod Standings
 pub mod Events
 pub mod Refills
 pub mod Opened
+pub mod Taken

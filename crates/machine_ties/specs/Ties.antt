@@ -79,6 +79,7 @@ opened reserve tables elements = record {
   reserve = reserve;
   tables = tables;
   entries = [];
+  taken = 0;
   fills = 0;
   closed = false;
   hand = H.Nothing;

@@ -11,8 +11,9 @@ pub record NodeMachine : Type 0 where
   pub reserve : Reserve
   -- what it keeps in memory: the tables and the models
   pub tables : NodeTablesView
-  -- the history of this life, and the number of refills that were stored since the last entry
+  -- the history of this life, how many of its entries were taken, and the number of refills that were stored since the last entry
   pub entries : List Entry
+  pub taken : ℕ
   pub fills : ℕ
   -- a call on the flash failed, and what was in hand then
   pub closed : Bool
@@ -23,6 +24,7 @@ pub record NodeMachine : Type 0 where
 abbrev pub shown : NodeMachine → MachineView
 shown m = record {
   entries = m.entries;
+  taken = m.taken;
   fills = m.fills;
   closed = m.closed;
   hand = m.hand;

@@ -1,7 +1,7 @@
 //! What a call does apart from the flash: room for the entry and the plan before the records, and the jobs and the entry behind them.
 #![tactic(auto)]
 
-ghost use Rattle.std.specs.Prelude.{◌≡◌, ◌+◌, ◌-◌, ◌<◌, ◌^◌, List, [], ◌∷◌, ◌++◌, length, IfOk, OnOk, OnErr, vec_len, vec_capacity};
+ghost use Rattle.std.specs.Prelude.{◌≡◌, ◌+◌, ◌-◌, ◌<◌, ◌^◌, List, [], ◌∷◌, ◌++◌, length, IfOk, OnOk, OnErr};
 ghost use Rattle.std.specs.List.{list_any};
 ghost use Rattle.event_plans.specs.Memory.{AreNodeTablesOf, IsFitFor, NodeTablesView};
 ghost use Rattle.event_plans.specs.Plans.{IsPlanned, IsSomePast, IsSomePlan, IsStanding, LeavesConfig, insight_in};
@@ -18,6 +18,7 @@ ghost use Rattle.event_definitions.specs.Answers.{config_before};
 ghost use Rattle.event_definitions.specs.History.{Past};
 ghost use Rattle.event_definitions.specs.Jobs.{jobs_of};
 
+use entry_log::EntryLog;
 use event_plans::{NodeTables, Plan, plan_event, plan_jobs};
 use machine_contract::Answered;
 use machine_ties::are_bounded;
@@ -42,7 +43,7 @@ pub(crate) struct Prepared {
 /// Takes room for an entry and for its jobs, and then plans an event: what can fail for want of memory. After an error the tables and the
 /// entries are as they were.
 pub(crate) fn prepare(
-    history: &mut Vec<Entry>,
+    history: &mut EntryLog,
     tables: &mut NodeTables,
     p: &Persist,
     event: &Event,
@@ -59,12 +60,13 @@ pub(crate) fn prepare(
     ensures empty { IfOk result (λ r. r.draft ≡ []) }
     ensures entry_empty { IfOk result (λ r. r.entry_draft ≡ []) }
     ensures fit { IsFitFor tables.new p.now }
-    ensures room { OnOk result (vec_len history.new < vec_capacity history.new) }
-    ensures entries { history.new.items ≡ history.old.items }
+    ensures room { OnOk result (0 < history.new.room) }
+    ensures entries { history.new.entries ≡ history.old.entries }
+    ensures taken { history.new.taken ≡ history.old.taken }
     ensures unchanged { OnErr result (tables.new ≡ tables.old) }
 {
-    history.reserve(1)?;
-    let alloc = *history.allocator();
+    history.reserve()?;
+    let alloc = history.allocator();
     let draft = JobDraft::new(alloc)?;
     let entry_draft = JobDraft::new(alloc)?;
     let plan = plan_event(tables, p, event)?;
@@ -125,23 +127,23 @@ pub(crate) fn renew(tables: &mut NodeTables, p: &Persist, records: &[StoreRecord
 /// Makes the jobs of a plan, and appends its entry, for both of which there is memory. `p` is what the records say with those of the plan; a
 /// control message leaves that as it was.
 pub(crate) fn enter(
-    history: &mut Vec<Entry>,
+    history: &mut EntryLog,
     tables: &NodeTables,
     p: &Persist,
     place: Place,
     event: &Event,
     prepared: Prepared,
 ) -> Answered
-    requires room { vec_len history.old < vec_capacity history.old }
-    requires few { length history.old.items < 2 ^ 32 - 1 }
+    requires room { 0 < history.old.room }
+    requires few { length history.old.entries < 2 ^ 32 - 1 }
     requires fit { IsFit tables.now.hearing p.now }
     requires unicast { p.now.unicast.0 < 2 ^ 15 }
     requires empty { prepared.draft ≡ [] }
     requires entry_empty { prepared.entry_draft ≡ [] }
     requires planned { IsSomePlan event.now prepared.plan }
     requires sendable { IsSendable (config_in p.now) event.now }
-    ensures entry { history.new.items
-        ≡ history.old.items
+    ensures entry { history.new.entries
+        ≡ history.old.entries
         ++ (record {
           bearer = place.bearer;
           number = place.number;
@@ -150,8 +152,9 @@ pub(crate) fn enter(
           answer = result.answer;
           jobs = result.jobs;
         }) ∷ [] }
-    ensures place { result.at ≡ length history.old.items }
-    ensures few { length history.old.items + 1 < 2 ^ 32 }
+    ensures taken { history.new.taken ≡ history.old.taken }
+    ensures place { result.at ≡ length history.old.entries }
+    ensures few { length history.old.entries + 1 < 2 ^ 32 }
     ensures answer { result.answer ≡ prepared.plan.answer }
     ensures jobs { (past : Past) (t : NodeTablesView) → IsPlanned past event.now prepared.plan t
         → (config_in p.now).unicast ≡ (config_before past).unicast
@@ -166,7 +169,7 @@ pub(crate) fn enter(
         entry_draft,
     } = prepared;
     let jobs = plan_jobs(draft, p, tables.keys(), event, &plan);
-    let at = history.len() as u32;
+    let at = history.count() as u32;
     let entry = Entry {
         bearer: place.bearer,
         number: place.number,
@@ -175,7 +178,7 @@ pub(crate) fn enter(
         answer: plan.answer.copied(),
         jobs: jobs.copied(entry_draft),
     };
-    let _ = history.push(entry);
+    history.push(entry);
     Answered {
         at,
         answer: plan.answer,

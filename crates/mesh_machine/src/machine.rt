@@ -16,6 +16,7 @@ ghost use Rattle.seq_word.specs.Word.{seq_of};
 ghost use Rattle.store_world.specs.Standing.{IsWorldOf};
 
 use crate::entering::{Place, enter, prepare, renew};
+use entry_log::EntryLog;
 use event_plans::NodeTables;
 use event_storing::store_records;
 use event_world::event_law;
@@ -24,21 +25,20 @@ use machine_contract::{Answered, Hand, Stop};
 use machine_ties::ties_law;
 use mesh_reading::held_keys_law;
 use mesh_types::events::Event;
-use mesh_types::history::Entry;
 use node_models::node_models_law;
 use seq_reserve::Reserve;
 use seq_word::Numbers;
 use std::marker::Model;
 
 /// A history has at most so many entries.
-const MOST_ENTRIES: usize = 0xffff_ffff;
+const MOST_ENTRIES: u64 = 0xffff_ffff;
 
 /// The machine of a node. The flash stays with the caller, and is passed to each call.
 #[derive(Drop)]
 pub struct MeshMachine {
     pub(crate) reserve: Reserve,
     pub(crate) tables: NodeTables,
-    pub(crate) history: Vec<Entry>,
+    pub(crate) history: EntryLog,
     pub(crate) fills: u32,
     pub(crate) closed: bool,
     pub(crate) hand: Hand,
@@ -54,7 +54,8 @@ impl Model for MeshMachine {
     ghost view = { λ m. record {
       reserve = m.reserve;
       tables = m.tables;
-      entries = m.history.items;
+      entries = m.history.entries;
+      taken = m.history.taken;
       fills = m.fills;
       closed = m.closed;
       hand = m.hand;
@@ -65,7 +66,8 @@ impl Model for MeshMachine {
         (record {
           reserve = m.reserve;
           tables = m.tables;
-          entries = m.history.items;
+          entries = m.history.entries;
+          taken = m.history.taken;
           fills = m.fills;
           closed = m.closed;
           hand = m.hand;
@@ -108,7 +110,7 @@ impl MeshMachine {
         if self.closed {
             return Err(Stop::Closed);
         }
-        if self.history.len() >= MOST_ENTRIES {
+        if self.history.count() >= MOST_ENTRIES {
             return Err(Stop::Memory);
         }
         // They do nothing when they run: the proof uses what they say.

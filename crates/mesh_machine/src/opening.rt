@@ -15,11 +15,13 @@ ghost use Rattle.seq_reserve.specs.Reserving.{IsPublished};
 ghost use Rattle.seq_word.specs.Seen.{fresh};
 
 use crate::machine::MeshMachine;
+use entry_log::EntryLog;
 use event_plans::NodeTables;
 use flash_model::Flash;
 use machine_contract::{Answered, Hand, History, Machine, StartFault, Started, Stop};
 use mesh_reading::held_keys_law;
 use mesh_types::events::Event;
+use mesh_types::history::Entry;
 use node_store::laws::what_is_read_is_mounted;
 use node_store::{Store, StoreFault};
 use seq_reserve::Reserve;
@@ -54,6 +56,7 @@ fn open(alloc: Global, store: Store) -> Result<Started<MeshMachine>, AllocError>
     // It does nothing when it runs: the proof uses what it says.
     held_keys_law();
     let tables = NodeTables::new(alloc, store.persist())?;
+    let history = EntryLog::new(alloc)?;
     let (reserve, numbers, drawer) = Reserve::start(alloc, store)?;
     let p = reserve.store.persist();
     let state = p.iv;
@@ -62,7 +65,7 @@ fn open(alloc: Global, store: Store) -> Result<Started<MeshMachine>, AllocError>
     let machine = MeshMachine {
         reserve,
         tables,
-        history: Vec::new(alloc),
+        history,
         fills: 0,
         closed: false,
         hand: Hand::Nothing,
@@ -114,25 +117,29 @@ impl Machine for MeshMachine {
         self.refill_numbers(n, flash, seen)
     }
 
+    fn take_entries<F: Flash>(&mut self) -> Vec<Entry> {
+        self.history.take()
+    }
+
     fn is_closed(&self) -> bool {
         self.closed
     }
 
     fn count(&self) -> u64 {
-        self.history.len() as u64
+        self.history.count()
     }
 
     fn finish(self) -> (History, Keeper) {
         let MeshMachine {
             reserve,
-            history,
+            mut history,
             fills,
             ..
         } = self;
         let Reserve { store: _, keeper } = reserve;
         (
             History {
-                entries: history,
+                entries: history.take(),
                 refills: fills,
             },
             keeper,

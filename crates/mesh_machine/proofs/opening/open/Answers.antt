@@ -13,6 +13,7 @@ invariant_of-machine c e =
     let (over, node) = c.requires.node in
     let r = c.in_ok-reserve.reserve in
     let t = c.in_ok-tables.tables in
+    let log = c.in_ok-history.history in
     let store : c.args.store ≡ r.store = sym c.in_ok-reserve.ensures.store in
     let says : IsNodeStore over r.store.persist = subst (λ (s : StoreView). IsNodeStore over s.persist) store node in
     let meaning : IsMeaningOf over c.persist.result.now =
@@ -22,7 +23,8 @@ invariant_of-machine c e =
     (subst (λ (s : StoreView). IsFitFor t s.persist) store (subst (λ (p : Persist). IsFitFor t p) c.persist.ensures.value c.in_ok-tables.ensures.fit))
     (subst (λ (s : StoreView). s.journal.closed ≡ false) store c.requires.usable)
     (ap (λ (p : Persist). p.elements) c.persist-p.ensures.value) in
-    subst (λ (l : List Entry). IsReady (record (opened r t c.persist-p.result.now.elements) { entries = l })) (sym c.new-2.ensures.items) base
+    subst (λ n. IsReady (record (opened r t c.persist-p.result.now.elements) { entries = log.entries; taken = n })) (sym c.in_ok-history.ensures.taken)
+    (subst (λ (l : List Entry). IsReady (record (opened r t c.persist-p.result.now.elements) { entries = l })) (sym c.in_ok-history.ensures.entries) base)
 
 pub returns-clause-tables : goal.returns-clause-tables
 returns-clause-tables c over meaning =

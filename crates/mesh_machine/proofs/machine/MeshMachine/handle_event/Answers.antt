@@ -36,7 +36,7 @@ use Rattle.mesh_machine.proofs.machine.MeshMachine.handle_event.Goals as goal
 pub prepare-requires-clause-sendable : goal.prepare-requires-clause-sendable
 prepare-requires-clause-sendable g c =
     let i = c.self.inside in
-    let m : NodeMachine = record { reserve = i.reserve; tables = i.tables; entries = i.history.items; fills = i.fills; closed = i.closed; hand = i.hand; elements = i.elements } in
+    let m : NodeMachine = record { reserve = i.reserve; tables = i.tables; entries = i.history.entries; taken = i.history.taken; fills = i.fills; closed = i.closed; hand = i.hand; elements = i.elements } in
     let ready : IsReady m = c.self.invariant c.if-self.false in
     subst (λ (p : Persist). IsSendable (config_in p) c.args.event.now) (sym c.persist.ensures.value)
     (event_sendable i.elements c.args.event.now i.reserve.store.persist (ready_after m ready)
@@ -45,15 +45,16 @@ prepare-requires-clause-sendable g c =
 pub returns-in-Err-clause-kept : goal.returns-in-Err-clause-kept
 returns-in-Err-clause-kept g c over stands =
     let i = c.self.inside in
-    let m : NodeMachine = record { reserve = i.reserve; tables = i.tables; entries = i.history.items; fills = i.fills; closed = i.closed; hand = i.hand; elements = i.elements } in
-    let same : record m { tables = c.prepare.new.tables; entries = c.prepare.new.history.items } ≡ m =
-    ap (λ (t : NodeTablesView). record m { tables = t; entries = c.prepare.new.history.items }) c.in-Err.ensures.unchanged ∙ ap (λ (l : List Entry). record m { entries = l }) c.prepare.ensures.entries in
+    let m : NodeMachine = record { reserve = i.reserve; tables = i.tables; entries = i.history.entries; taken = i.history.taken; fills = i.fills; closed = i.closed; hand = i.hand; elements = i.elements } in
+    let same : record m { tables = c.prepare.new.tables; entries = c.prepare.new.history.entries; taken = c.prepare.new.history.taken } ≡ m =
+    ap (λ (t : NodeTablesView). record m { tables = t; entries = c.prepare.new.history.entries; taken = c.prepare.new.history.taken }) c.in-Err.ensures.unchanged
+    ∙ ap (λ (l : List Entry). record m { entries = l; taken = c.prepare.new.history.taken }) c.prepare.ensures.entries ∙ ap (λ n. record m { taken = n }) c.prepare.ensures.taken in
     subst (λ (v : NodeMachine). Stands (g.F.Flash.chip c.args.flash.now) over v) (sym (same ∙ c.self.view_is)) stands
 
 pub returns-in-Err-store_records-clause-refused : goal.returns-in-Err-store_records-clause-refused
 returns-in-Err-store_records-clause-refused g c =
     let i = c.self.inside in
-    let m : NodeMachine = record { reserve = i.reserve; tables = i.tables; entries = i.history.items; fills = i.fills; closed = i.closed; hand = i.hand; elements = i.elements } in
+    let m : NodeMachine = record { reserve = i.reserve; tables = i.tables; entries = i.history.entries; taken = i.history.taken; fills = i.fills; closed = i.closed; hand = i.hand; elements = i.elements } in
     let ready : IsReady m = c.self.invariant c.if-self.false in
     let old = g.F.Flash.chip c.args.flash.now in
     let new = g.F.Flash.chip c.store_records.new.flash in
@@ -67,14 +68,17 @@ returns-in-Err-store_records-clause-refused g c =
     } in
     let named : Closes (H.OfEvent event) (shown m) (shown (stopped m r tables (H.OfEvent c.copied.result))) old new =
     subst (λ (e : Event). Closes (H.OfEvent event) (shown m) (shown (stopped m r tables (H.OfEvent e))) old new) (sym c.copied.ensures.value) base in
-    let closes : Closes (H.OfEvent event) (shown m) (shown (record (stopped m r tables (H.OfEvent c.copied.result)) { entries = c.prepare.new.history.items })) old new =
+    let listed : Closes (H.OfEvent event) (shown m) (shown (record (stopped m r tables (H.OfEvent c.copied.result)) { entries = c.prepare.new.history.entries })) old new =
     subst (λ (l : List Entry). Closes (H.OfEvent event) (shown m) (shown (record (stopped m r tables (H.OfEvent c.copied.result)) { entries = l })) old new) (sym c.prepare.ensures.entries) named in
-    subst (λ (v : NodeMachine). Closes (H.OfEvent event) (shown v) (shown (record (stopped m r tables (H.OfEvent c.copied.result)) { entries = c.prepare.new.history.items })) old new) c.self.view_is closes
+    let after : NodeMachine = record (stopped m r tables (H.OfEvent c.copied.result)) { entries = c.prepare.new.history.entries; taken = c.prepare.new.history.taken } in
+    let closes : Closes (H.OfEvent event) (shown m) (shown after) old new =
+    subst (λ n. Closes (H.OfEvent event) (shown m) (shown (record after { taken = n })) old new) (sym c.prepare.ensures.taken) listed in
+    subst (λ (v : NodeMachine). Closes (H.OfEvent event) (shown v) (shown after) old new) c.self.view_is closes
 
 pub returns-in-Err-store_records-clause-kept : goal.returns-in-Err-store_records-clause-kept
 returns-in-Err-store_records-clause-kept g c over stands =
     let i = c.self.inside in
-    let m : NodeMachine = record { reserve = i.reserve; tables = i.tables; entries = i.history.items; fills = i.fills; closed = i.closed; hand = i.hand; elements = i.elements } in
+    let m : NodeMachine = record { reserve = i.reserve; tables = i.tables; entries = i.history.entries; taken = i.history.taken; fills = i.fills; closed = i.closed; hand = i.hand; elements = i.elements } in
     let s : Stands (g.F.Flash.chip c.args.flash.now) over m = subst (λ (v : NodeMachine). Stands (g.F.Flash.chip c.args.flash.now) over v) (sym c.self.view_is) stands in
     let past : Past = past_now (node_role node_layers) over s.life.told i.fills in
     let h : IsOver (g.F.Flash.chip c.args.flash.now) past m = s.usable c.if-self.false in
@@ -94,13 +98,16 @@ returns-in-Err-store_records-clause-kept g c over stands =
     let base : Stands new over (stopped m r c.prepare.new.tables (H.OfEvent c.args.event.now)) =
     event_stops c.ties_law.ensures.laws m c.args.event.now c.in-Ok.prepared.plan c.prepare.new.tables (g.F.Flash.chip c.args.flash.now) new over s c.if-self.false r c.prepare.new.tables planned may bounded cut
     (c.in-Err-store_records.ensures.fails ready.usable).cause.rose c.store_records.ensures.leaves.frame in
-    subst (λ (e : Event). Stands new over (record (stopped m r c.prepare.new.tables (H.OfEvent e)) { entries = c.prepare.new.history.items })) (sym c.copied.ensures.value)
-    (subst (λ (l : List Entry). Stands new over (record (stopped m r c.prepare.new.tables (H.OfEvent c.args.event.now)) { entries = l })) (sym c.prepare.ensures.entries) base)
+    let listed : Stands new over (record (stopped m r c.prepare.new.tables (H.OfEvent c.args.event.now)) { entries = c.prepare.new.history.entries }) =
+    subst (λ (l : List Entry). Stands new over (record (stopped m r c.prepare.new.tables (H.OfEvent c.args.event.now)) { entries = l })) (sym c.prepare.ensures.entries) base in
+    let after : NodeMachine = record (stopped m r c.prepare.new.tables (H.OfEvent c.args.event.now)) { entries = c.prepare.new.history.entries; taken = c.prepare.new.history.taken } in
+    subst (λ (e : Event). Stands new over (record after { hand = H.OfEvent e })) (sym c.copied.ensures.value)
+    (subst (λ n. Stands new over (record after { taken = n })) (sym c.prepare.ensures.taken) listed)
 
 pub renew-requires-clause-held : goal.renew-requires-clause-held
 renew-requires-clause-held g c =
     let i = c.self.inside in
-    let m : NodeMachine = record { reserve = i.reserve; tables = i.tables; entries = i.history.items; fills = i.fills; closed = i.closed; hand = i.hand; elements = i.elements } in
+    let m : NodeMachine = record { reserve = i.reserve; tables = i.tables; entries = i.history.entries; taken = i.history.taken; fills = i.fills; closed = i.closed; hand = i.hand; elements = i.elements } in
     let ready : IsReady m = c.self.invariant c.if-self.false in
     let may : ArePuttable i.reserve.store.persist c.in-Ok.prepared.plan.records = subst (λ (p : Persist). ArePuttable p c.in-Ok.prepared.plan.records) c.persist.ensures.value c.in-Ok.ensures.may in
     let bounded : IsBounded i.reserve.store.persist (insight_in c.in-Ok.prepared.plan.basis) =
@@ -117,7 +124,7 @@ renew-requires-clause-held g c =
 pub enter-answered-requires-clause-planned : goal.enter-answered-requires-clause-planned
 enter-answered-requires-clause-planned g c =
     let i = c.self.inside in
-    let m : NodeMachine = record { reserve = i.reserve; tables = i.tables; entries = i.history.items; fills = i.fills; closed = i.closed; hand = i.hand; elements = i.elements } in
+    let m : NodeMachine = record { reserve = i.reserve; tables = i.tables; entries = i.history.entries; taken = i.history.taken; fills = i.fills; closed = i.closed; hand = i.hand; elements = i.elements } in
     let ready : IsReady m = c.self.invariant c.if-self.false in
     let may : ArePuttable i.reserve.store.persist c.in-Ok.prepared.plan.records = subst (λ (p : Persist). ArePuttable p c.in-Ok.prepared.plan.records) c.persist.ensures.value c.in-Ok.ensures.may in
     let bounded : IsBounded i.reserve.store.persist (insight_in c.in-Ok.prepared.plan.basis) =
@@ -129,7 +136,7 @@ enter-answered-requires-clause-planned g c =
 pub enter-answered-requires-clause-unicast : goal.enter-answered-requires-clause-unicast
 enter-answered-requires-clause-unicast g c =
     let i = c.self.inside in
-    let m : NodeMachine = record { reserve = i.reserve; tables = i.tables; entries = i.history.items; fills = i.fills; closed = i.closed; hand = i.hand; elements = i.elements } in
+    let m : NodeMachine = record { reserve = i.reserve; tables = i.tables; entries = i.history.entries; taken = i.history.taken; fills = i.fills; closed = i.closed; hand = i.hand; elements = i.elements } in
     let ready : IsReady m = c.self.invariant c.if-self.false in
     let may : ArePuttable i.reserve.store.persist c.in-Ok.prepared.plan.records = subst (λ (p : Persist). ArePuttable p c.in-Ok.prepared.plan.records) c.persist.ensures.value c.in-Ok.ensures.may in
     let bounded : IsBounded i.reserve.store.persist (insight_in c.in-Ok.prepared.plan.basis) =
@@ -144,7 +151,7 @@ enter-answered-requires-clause-unicast g c =
 pub enter-answered-requires-clause-sendable : goal.enter-answered-requires-clause-sendable
 enter-answered-requires-clause-sendable g c =
     let i = c.self.inside in
-    let m : NodeMachine = record { reserve = i.reserve; tables = i.tables; entries = i.history.items; fills = i.fills; closed = i.closed; hand = i.hand; elements = i.elements } in
+    let m : NodeMachine = record { reserve = i.reserve; tables = i.tables; entries = i.history.entries; taken = i.history.taken; fills = i.fills; closed = i.closed; hand = i.hand; elements = i.elements } in
     let ready : IsReady m = c.self.invariant c.if-self.false in
     let may : ArePuttable i.reserve.store.persist c.in-Ok.prepared.plan.records = subst (λ (p : Persist). ArePuttable p c.in-Ok.prepared.plan.records) c.persist.ensures.value c.in-Ok.ensures.may in
     let bounded : IsBounded i.reserve.store.persist (insight_in c.in-Ok.prepared.plan.basis) =
@@ -161,7 +168,7 @@ enter-answered-requires-clause-sendable g c =
 pub invariant_of-self-2 : goal.invariant_of-self-2
 invariant_of-self-2 g c e =
     let i = c.self.inside in
-    let m : NodeMachine = record { reserve = i.reserve; tables = i.tables; entries = i.history.items; fills = i.fills; closed = i.closed; hand = i.hand; elements = i.elements } in
+    let m : NodeMachine = record { reserve = i.reserve; tables = i.tables; entries = i.history.entries; taken = i.history.taken; fills = i.fills; closed = i.closed; hand = i.hand; elements = i.elements } in
     let ready : IsReady m = c.self.invariant c.if-self.false in
     let may : ArePuttable i.reserve.store.persist c.in-Ok.prepared.plan.records = subst (λ (p : Persist). ArePuttable p c.in-Ok.prepared.plan.records) c.persist.ensures.value c.in-Ok.ensures.may in
     let bounded : IsBounded i.reserve.store.persist (insight_in c.in-Ok.prepared.plan.basis) =
@@ -173,7 +180,7 @@ invariant_of-self-2 g c e =
     let after : IsAfter i.elements q = event_after c.ties_law.ensures.laws m c.args.event.now c.in-Ok.prepared.plan c.prepare.new.tables ready q planned may bounded meaning in
     let a = c.enter-answered.result in
     let entry : Entry = record { bearer = c.args.bearer; number = c.args.number; event = c.args.event.now; fills = i.fills; answer = a.answer; jobs = a.jobs } in
-    let items : c.enter-answered.new.history.items ≡ i.history.items ++ entry ∷ [] = c.enter-answered.ensures.entry ∙ ap (λ l. l ++ entry ∷ []) c.prepare.ensures.entries in
+    let items : c.enter-answered.new.history.entries ≡ i.history.entries ++ entry ∷ [] = c.enter-answered.ensures.entry ∙ ap (λ l. l ++ entry ∷ []) c.prepare.ensures.entries in
     let r = c.store_records.new.reserve in
     let node : IsSameNode (config_before ready.past) (config_in q) =
     event_node_over c.ties_law.ensures.laws m c.args.event.now c.in-Ok.prepared.plan c.prepare.new.tables ready.past q ready.before planned may bounded meaning in
@@ -186,12 +193,14 @@ invariant_of-self-2 g c e =
     event_ready c.ties_law.ensures.laws m c.args.event.now c.in-Ok.prepared.plan c.prepare.new.tables ready r c.renew.new.tables entry planned may bounded c.renew.ensures.tables refl c.enter-answered.ensures.answer
     meaning c.store_records.ensures.published (record { keys = keys; models = within })
     (c.in-Ok-store_records.ensures.puts (c.self.invariant c.if-self.false).usable).usable after.same in
-    subst (λ (l : List Entry). IsReady (record (entered m r c.renew.new.tables entry) { entries = l })) (sym items) base
+    let taken : c.enter-answered.new.history.taken ≡ i.history.taken = c.enter-answered.ensures.taken ∙ c.prepare.ensures.taken in
+    subst (λ n. IsReady (record (entered m r c.renew.new.tables entry) { entries = c.enter-answered.new.history.entries; taken = n })) (sym taken)
+    (subst (λ (l : List Entry). IsReady (record (entered m r c.renew.new.tables entry) { entries = l })) (sym items) base)
 
 pub returns-clause-jobs : goal.returns-clause-jobs
 returns-clause-jobs g c =
     let i = c.self.inside in
-    let m : NodeMachine = record { reserve = i.reserve; tables = i.tables; entries = i.history.items; fills = i.fills; closed = i.closed; hand = i.hand; elements = i.elements } in
+    let m : NodeMachine = record { reserve = i.reserve; tables = i.tables; entries = i.history.entries; taken = i.history.taken; fills = i.fills; closed = i.closed; hand = i.hand; elements = i.elements } in
     let ready : IsReady m = c.self.invariant c.if-self.false in
     let may : ArePuttable i.reserve.store.persist c.in-Ok.prepared.plan.records = subst (λ (p : Persist). ArePuttable p c.in-Ok.prepared.plan.records) c.persist.ensures.value c.in-Ok.ensures.may in
     let bounded : IsBounded i.reserve.store.persist (insight_in c.in-Ok.prepared.plan.basis) =
@@ -214,7 +223,7 @@ returns-clause-jobs g c =
 pub returns-clause-quiet : goal.returns-clause-quiet
 returns-clause-quiet g c outside =
     let i = c.self.inside in
-    let m : NodeMachine = record { reserve = i.reserve; tables = i.tables; entries = i.history.items; fills = i.fills; closed = i.closed; hand = i.hand; elements = i.elements } in
+    let m : NodeMachine = record { reserve = i.reserve; tables = i.tables; entries = i.history.entries; taken = i.history.taken; fills = i.fills; closed = i.closed; hand = i.hand; elements = i.elements } in
     let ready : IsReady m = c.self.invariant c.if-self.false in
     let may : ArePuttable i.reserve.store.persist c.in-Ok.prepared.plan.records = subst (λ (p : Persist). ArePuttable p c.in-Ok.prepared.plan.records) c.persist.ensures.value c.in-Ok.ensures.may in
     let bounded : IsBounded i.reserve.store.persist (insight_in c.in-Ok.prepared.plan.basis) =
@@ -236,7 +245,7 @@ returns-clause-quiet g c outside =
 pub returns-clause-steps : goal.returns-clause-steps
 returns-clause-steps g c w world =
     let i = c.self.inside in
-    let m : NodeMachine = record { reserve = i.reserve; tables = i.tables; entries = i.history.items; fills = i.fills; closed = i.closed; hand = i.hand; elements = i.elements } in
+    let m : NodeMachine = record { reserve = i.reserve; tables = i.tables; entries = i.history.entries; taken = i.history.taken; fills = i.fills; closed = i.closed; hand = i.hand; elements = i.elements } in
     let ready : IsReady m = c.self.invariant c.if-self.false in
     let p : Persist = i.reserve.store.persist in
     let q : Persist = c.store_records.new.reserve.store.persist in
@@ -265,7 +274,7 @@ returns-clause-steps g c w world =
 pub returns-clause-kept : goal.returns-clause-kept
 returns-clause-kept g c over stands =
     let i = c.self.inside in
-    let m : NodeMachine = record { reserve = i.reserve; tables = i.tables; entries = i.history.items; fills = i.fills; closed = i.closed; hand = i.hand; elements = i.elements } in
+    let m : NodeMachine = record { reserve = i.reserve; tables = i.tables; entries = i.history.entries; taken = i.history.taken; fills = i.fills; closed = i.closed; hand = i.hand; elements = i.elements } in
     let s : Stands (g.F.Flash.chip c.args.flash.now) over m = subst (λ (v : NodeMachine). Stands (g.F.Flash.chip c.args.flash.now) over v) (sym c.self.view_is) stands in
     let past : Past = past_now (node_role node_layers) over s.life.told i.fills in
     let h : IsOver (g.F.Flash.chip c.args.flash.now) past m = s.usable c.if-self.false in
@@ -276,7 +285,7 @@ returns-clause-kept g c over stands =
     c.in-Ok.ensures.planned past (subst (λ (p : Persist). IsStanding past p i.tables) (sym c.persist.ensures.value) h.before.standing) in
     let a = c.enter-answered.result in
     let entry : Entry = record { bearer = c.args.bearer; number = c.args.number; event = c.args.event.now; fills = i.fills; answer = a.answer; jobs = a.jobs } in
-    let items : c.enter-answered.new.history.items ≡ i.history.items ++ entry ∷ [] = c.enter-answered.ensures.entry ∙ ap (λ l. l ++ entry ∷ []) c.prepare.ensures.entries in
+    let items : c.enter-answered.new.history.entries ≡ i.history.entries ++ entry ∷ [] = c.enter-answered.ensures.entry ∙ ap (λ l. l ++ entry ∷ []) c.prepare.ensures.entries in
     let r = c.store_records.new.reserve in
     let new = g.F.Flash.chip c.store_records.new.flash in
     let meaning : IsMeaningOf (past.records ++ c.in-Ok.prepared.plan.records) r.store.persist = (c.in-Ok-store_records.ensures.puts (c.self.invariant c.if-self.false).usable).value past.records h.before.standing.meaning in
@@ -298,4 +307,6 @@ returns-clause-kept g c over stands =
     ((c.in-Ok-store_records.ensures.puts (c.self.invariant c.if-self.false).usable).kept past.records h.store)
     meaning
     c.store_records.ensures.published c.store_records.ensures.leaves.frame in
-    subst (λ (l : List Entry). Stands new over (record (entered m r c.renew.new.tables entry) { entries = l })) (sym items) base
+    let taken : c.enter-answered.new.history.taken ≡ i.history.taken = c.enter-answered.ensures.taken ∙ c.prepare.ensures.taken in
+    subst (λ n. Stands new over (record (entered m r c.renew.new.tables entry) { entries = c.enter-answered.new.history.entries; taken = n })) (sym taken)
+    (subst (λ (l : List Entry). Stands new over (record (entered m r c.renew.new.tables entry) { entries = l })) (sym items) base)

@@ -28,7 +28,7 @@ use Rattle.mesh_machine.proofs.machine.MeshMachine.refill_numbers.Goals as goal
 pub invariant_of-self : goal.invariant_of-self
 invariant_of-self g c e =
     let i = c.self.inside in
-    let m : NodeMachine = record { reserve = i.reserve; tables = i.tables; entries = i.history.items; fills = i.fills; closed = i.closed; hand = i.hand; elements = i.elements } in
+    let m : NodeMachine = record { reserve = i.reserve; tables = i.tables; entries = i.history.entries; taken = i.history.taken; fills = i.fills; closed = i.closed; hand = i.hand; elements = i.elements } in
     let ready : IsReady m = c.self.invariant c.if-self.false in
     let stored : c.args.seen ≡ c.persist.result.now.mark = grind (arith, nat_tests, c.if-seen-mark.false) in
     let seen : c.args.seen ≡ i.reserve.keeper.mark = stored ∙ ap (λ (p : Persist). p.mark) c.persist.ensures.value ∙ sym ready.published in
@@ -50,7 +50,7 @@ invariant_of-self g c e =
 pub returns-in-Ok-clause-kept : goal.returns-in-Ok-clause-kept
 returns-in-Ok-clause-kept g c over stands =
     let i = c.self.inside in
-    let m : NodeMachine = record { reserve = i.reserve; tables = i.tables; entries = i.history.items; fills = i.fills; closed = i.closed; hand = i.hand; elements = i.elements } in
+    let m : NodeMachine = record { reserve = i.reserve; tables = i.tables; entries = i.history.entries; taken = i.history.taken; fills = i.fills; closed = i.closed; hand = i.hand; elements = i.elements } in
     let ready : IsReady m = c.self.invariant c.if-self.false in
     let stored : c.args.seen ≡ c.persist.result.now.mark = grind (arith, nat_tests, c.if-seen-mark.false) in
     let seen : c.args.seen ≡ i.reserve.keeper.mark = stored ∙ ap (λ (p : Persist). p.mark) c.persist.ensures.value ∙ sym ready.published in
@@ -70,7 +70,7 @@ returns-in-Ok-clause-kept g c over stands =
 pub returns-in-Err-clause-refused : goal.returns-in-Err-clause-refused
 returns-in-Err-clause-refused g c =
     let i = c.self.inside in
-    let m : NodeMachine = record { reserve = i.reserve; tables = i.tables; entries = i.history.items; fills = i.fills; closed = i.closed; hand = i.hand; elements = i.elements } in
+    let m : NodeMachine = record { reserve = i.reserve; tables = i.tables; entries = i.history.entries; taken = i.history.taken; fills = i.fills; closed = i.closed; hand = i.hand; elements = i.elements } in
     let ready : IsReady m = c.self.invariant c.if-self.false in
     let stored : c.args.seen ≡ c.persist.result.now.mark = grind (arith, nat_tests, c.if-seen-mark.false) in
     let seen : c.args.seen ≡ i.reserve.keeper.mark = stored ∙ ap (λ (p : Persist). p.mark) c.persist.ensures.value ∙ sym ready.published in
@@ -87,7 +87,7 @@ returns-in-Err-clause-refused g c =
 pub returns-in-Err-clause-kept : goal.returns-in-Err-clause-kept
 returns-in-Err-clause-kept g c over stands =
     let i = c.self.inside in
-    let m : NodeMachine = record { reserve = i.reserve; tables = i.tables; entries = i.history.items; fills = i.fills; closed = i.closed; hand = i.hand; elements = i.elements } in
+    let m : NodeMachine = record { reserve = i.reserve; tables = i.tables; entries = i.history.entries; taken = i.history.taken; fills = i.fills; closed = i.closed; hand = i.hand; elements = i.elements } in
     let ready : IsReady m = c.self.invariant c.if-self.false in
     let stored : c.args.seen ≡ c.persist.result.now.mark = grind (arith, nat_tests, c.if-seen-mark.false) in
     let seen : c.args.seen ≡ i.reserve.keeper.mark = stored ∙ ap (λ (p : Persist). p.mark) c.persist.ensures.value ∙ sym ready.published in

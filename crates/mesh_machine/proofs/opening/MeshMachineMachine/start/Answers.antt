@@ -63,6 +63,7 @@ returns-in-Ok-open-clause-ok g c =
       mark = says.mark ∙ ap (λ (x : Config). x.mark) meaning.config;
       tie = subst (λ (v : NodeMachine). Stands new node.records v) (sym says.machine) base;
       entries = ap (λ (v : NodeMachine). v.entries) says.machine;
+      taken = ap (λ (v : NodeMachine). v.taken) says.machine;
       fills = ap (λ (v : NodeMachine). v.fills) says.machine;
       usable = ap (λ (v : NodeMachine). v.closed) says.machine;
       which = says.which;
