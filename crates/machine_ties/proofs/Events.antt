@@ -7,9 +7,8 @@ use Rattle.event_plans.proofs.Narrow.{narrow_of}
 use Rattle.event_plans.specs.Memory.{AreNodeTablesOf, IsFitFor, NodeTablesView}
 use Rattle.event_plans.specs.Plans.{IsBasisOf, IsPlanned, LeavesConfig, insight_in}
 use Rattle.event_plans.specs.Sending.{IsSendable}
-use Rattle.event_plans.specs.declared.plan.Basis.{Basis}
-use Rattle.event_plans.specs.declared.plan.Basis.TheVariants as B
-use Rattle.event_plans.specs.declared.plan.Plan.{Plan}
+use Rattle.event_plans.specs.Basis as B
+use Rattle.event_plans.specs.Basis.{Basis, Plan}
 use Rattle.event_records.specs.Putting.{ArePuttable}
 use Rattle.flash_model.specs.Chip.{Chip, Keeps, Setting}
 use Rattle.layer_laws.specs.Laws.{IsWithinLimits}
