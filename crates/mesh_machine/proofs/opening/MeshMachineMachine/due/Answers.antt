@@ -6,13 +6,13 @@ use Rattle.mesh_machine.proofs.opening.MeshMachineMachine.due.Goals as goal
 
 pub returns : goal.returns
 returns g c = record {
-  idle = λ open f over s.
+  idle = λ live f over s.
       let past = past_now (node_role node_layers) over s.life.told c.args.self.now.fills in
       record {
         told = s.life.told;
         entries = s.life.entries;
         handled = s.life.handled;
-        quiet = λ ticks l. quiet_tick past ticks (c.ticks_left.ensures.quiet past open (s.usable open).before ticks l);
+        quiet = λ ticks l. quiet_tick past ticks (c.ticks_left.ensures.quiet past live (s.usable live).before ticks l);
       };
   closed = c.ticks_left.ensures.closed;
 }
