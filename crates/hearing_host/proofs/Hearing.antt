@@ -1,0 +1,62 @@
+-- What the steps of the source and of the sink come to.
+use Rattle.std.proofs.Common.{◌≡◌, ◌∙◌, ℕ, Bool, false, List, [], ◌∷◌, ◌++◌, map, refl, sym, ap, subst, append-nil, append_assoc}
+use Rattle.flash_model.specs.Chip.{Chip}
+use Rattle.mesh_types.specs.declared.events.Event.{Event}
+use Rattle.mesh_types.specs.declared.report.End.TheVariants as F
+use Rattle.event_definitions.specs.Role.{Role}
+use Rattle.seq_word.specs.Seen.{ClosedView}
+use Rattle.mesh_node.specs.Lived.{IsLifeTold, LivedOn, life_told}
+use Rattle.mesh_node.specs.Told.{BySteps, HasGiven, HasTaken, IsClosedAt, PhaseDid}
+use Rattle.mesh_node.specs.declared.told.LastStep.{LastStep}
+use Rattle.mesh_node.specs.declared.told.LastStep.TheVariants as L
+use Rattle.hearing_host.specs.Heard.{HeardAll, dids, heard, heard_steps, kept_steps}
+use Rattle.hearing_host.specs.declared.ends.HeardPdus.{HeardPdus}
+use Rattle.hearing_host.specs.declared.ends.KeptLogs.{KeptLogs}
+
+-- the PDUs of these phases, before those that are left
+record Gave (old new : HeardPdus) (phases : List (List (List Event))) : Type 0 where
+  pdus : List (List ℕ)
+  left : old.left.items ≡ pdus ++ new.left.items
+  are : phases ≡ map heard pdus
+
+gave_all : (old new : HeardPdus) (phases : List (List (List Event))) → BySteps heard_steps.gives old phases new → Gave old new phases
+gave_all old new [] h = record { pdus = []; left = ap (λ (s : HeardPdus). s.left.items) (sym h); are = refl }
+gave_all old new (p ∷ phases) h =
+    let rest = gave_all h.0 new phases h.2 in
+    record {
+      pdus = h.1.0 ∷ rest.pdus;
+      left = h.1.1 ∙ ap (λ l. h.1.0 ∷ l) rest.left;
+      are = ap (λ x. x ∷ phases) h.1.2 ∙ ap (λ l. heard h.1.0 ∷ l) rest.are;
+    }
+
+took_all : (old new : KeptLogs) (did : List PhaseDid) → BySteps kept_steps.takes old did new → dids new ≡ dids old ++ did
+took_all old new [] h = ap dids h ∙ sym (append-nil (dids old))
+took_all old new (d ∷ did) h =
+    took_all h.0 new did h.2 ∙ ap (λ l. l ++ did) h.1 ∙ append_assoc (dids old) (d ∷ []) did
+
+module _ (role : Role) (image : List ℕ → Type 0) (from to : HeardPdus) (began now : KeptLogs) (start new : Chip) (refills : ℕ) (words : ClosedView) (closed : Bool) (last : LastStep)
+    (lived : LivedOn role image heard_steps kept_steps from to began now 1 start new refills words closed last) (empty : dids began ≡ []) (ended : last ≡ L.Ended) where
+  gave : HasGiven heard_steps L.Ended from lived.phases to
+  gave = subst (λ e. HasGiven heard_steps e from lived.phases to) ended lived.gave
+
+  took : HasTaken kept_steps L.Ended began lived.did now
+  took = subst (λ e. HasTaken kept_steps e began lived.did now) ended lived.took
+
+  open_end : closed ≡ false
+  open_end = subst (λ e. IsClosedAt e closed) ended lived.end
+
+  phases_are : lived.phases ≡ map heard from.left.items
+  phases_are =
+      let all = gave_all from gave.0 lived.phases gave.1 in
+      all.are ∙ ap (map heard) (sym (append-nil all.pdus)) ∙ ap (λ l. map heard (all.pdus ++ l)) (sym gave.2) ∙ ap (map heard) (sym all.left)
+
+  did_are : lived.did ≡ dids now
+  did_are = ap (λ l. l ++ lived.did) (sym empty) ∙ sym (took_all began now lived.did took)
+
+  pub heard_all : HeardAll role from.left.items (dids now) start new refills words
+  heard_all = record {
+    over = lived.over;
+    recovered = lived.recovered;
+    life = subst (λ ps. IsLifeTold role ps lived.over (life_told lived.over 1 refills (dids now) F.Ended) new words) phases_are
+        (subst (λ ds. IsLifeTold role lived.phases lived.over (life_told lived.over 1 refills ds F.Ended) new words) did_are (lived.life F.Ended (sym open_end)));
+  }
