@@ -4,27 +4,13 @@ use Rattle.event_definitions.specs.History.{Past}
 use Rattle.event_definitions.specs.Role.{node_role}
 use Rattle.flash_model.specs.Chip.{Chip}
 use Rattle.machine_contract.specs.Standing.{past_now}
-use Rattle.machine_ties.specs.Ties.{IsBefore, IsReady, IsSound, Stands}
+use Rattle.machine_ties.specs.Ties.{IsBefore, Stands}
 use Rattle.machine_ties.specs.Views.{NodeMachine}
 use Rattle.node_layers.specs.NodeLayers.{node_layers}
 use Rattle.record_types.specs.declared.records.StoreRecord.{StoreRecord}
 
 before_taken : (past : Past) (m : NodeMachine) (n : ℕ) → IsBefore past m → IsBefore past (record m { taken = n })
 before_taken past m n h = record { standing = h.standing; told = h.told }
-
-ready_taken : (m : NodeMachine) (n : ℕ) → IsReady m → IsReady (record m { taken = n })
-ready_taken m n h = record {
-  past = h.past;
-  before = before_taken h.past m n h.before;
-  published = h.published;
-  fit = h.fit;
-  usable = h.usable;
-  elements = h.elements;
-  paid = h.paid;
-}
-
-pub sound_taken : (m : NodeMachine) (n : ℕ) → IsSound m → IsSound (record m { taken = n })
-sound_taken m n h runs = ready_taken m n (h runs)
 
 pub stands_taken : (chip : Chip) (over : List StoreRecord) (m : NodeMachine) (n : ℕ) → Stands chip over m → Stands chip over (record m { taken = n })
 stands_taken chip over m n h = record {
