@@ -1,11 +1,11 @@
 -- Names accepted from segments: the newest of each source tell whether the name of an entry is among them all.
-use Rattle.std.proofs.Common.{◌≡◌, ℕ, zero, suc, ◌+◌, ◌≤◌, ◌<◌, Bool, true, false, cond, ◌||◌, ◌&&◌, List, [], ◌∷◌, ◌++◌, length, refl, ap, sym, subst, ◌∙◌, arith, append-nil, Option, Some, None, lit<}
-use Rattle.std.specs.Prelude.{◌==◌, fold, insert, nat_lt, not, slice_index_or, slice_set}
+use Rattle.std.proofs.Common.{◌≡◌, ℕ, ◌+◌, ◌≤◌, Bool, true, false, cond, ◌||◌, ◌&&◌, List, [], ◌∷◌, ◌++◌, refl, ap, sym, subst, ◌∙◌, arith, append-nil, Option, Some, None}
+use Rattle.std.specs.Prelude.{◌==◌, fold, nat_lt, not}
 use Rattle.std.specs.List.{AllByRecursion as ByRecursion, list_all, list_any}
 use Rattle.std.specs.Option.{option_map_or, option_to_list}
 use Rattle.std.proofs.lemmas.Bool.Decides.{nat_tests}
 use Rattle.mesh_base.proofs.Pairs.{not_newer_both, pairs_equal}
-use Rattle.mesh_base.specs.Pairs.{is_expired, is_newer, newer_of}
+use Rattle.mesh_base.specs.Pairs.{is_expired, is_newer}
 use Rattle.mesh_base.specs.declared.pair.Name.{Name}
 use Rattle.mesh_base.specs.declared.pair.Pair.{Pair}
 use Rattle.layer_states.specs.Names.{is_name}

@@ -1,13 +1,12 @@
 -- What was accepted from segments stays recorded: records are only put behind others, and the pair of a source only rises.
-use Rattle.std.proofs.Common.{◌≡◌, ℕ, Bool, true, false, cond, ◌&&◌, List, [], ◌∷◌, ◌++◌, refl, ap, sym, subst, ◌∙◌, arith, append-nil, Option, Some, None}
+use Rattle.std.proofs.Common.{◌≡◌, ℕ, Bool, true, false, cond, ◌&&◌, List, [], ◌∷◌, ◌++◌, refl, ap, ◌∙◌, arith, Option, Some, None}
 use Rattle.std.specs.Prelude.{◌==◌, fold, not}
 use Rattle.std.specs.List.{list_all}
 use Rattle.std.specs.Option.{option_map_or, option_to_list}
 use Rattle.std.proofs.lemmas.Grind.{fold-append}
 use Rattle.std.proofs.lemmas.Bool.Decides.{nat_tests}
 use Rattle.mesh_base.proofs.Pairs.{not_newer_itself, not_newer_left}
-use Rattle.mesh_base.specs.Pairs.{is_newer, newer_of}
-use Rattle.mesh_base.specs.declared.lower.Lower.{Lower}
+use Rattle.mesh_base.specs.Pairs.{is_newer}
 use Rattle.mesh_base.specs.declared.pair.Name.{Name}
 use Rattle.mesh_base.specs.declared.pair.Pair.{Pair}
 use Rattle.layer_states.specs.Reassembly.{is_segment}

@@ -1,5 +1,5 @@
 -- The names of messages that were accepted from segments, as far as the answer `again` asks for them: of each source the newest.
-use Rattle.std.specs.Prelude.{ℕ, ◌+◌, ◌≤◌, ◌==◌, not, nat_lt, Bool, true, false, ⊤, IsTrue, if◌then◌else◌, List, [], ◌∷◌, fold, Option, Some, None}
+use Rattle.std.specs.Prelude.{ℕ, ◌+◌, ◌≤◌, ◌==◌, not, nat_lt, Bool, false, ⊤, IsTrue, if◌then◌else◌, List, [], ◌∷◌, fold}
 use Rattle.std.specs.List.{list_all}
 use Rattle.std.specs.Option.{option_map_or}
 use Rattle.mesh_base.specs.Pairs.{is_newer, newer_of}

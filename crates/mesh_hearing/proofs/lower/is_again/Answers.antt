@@ -1,4 +1,4 @@
-use Rattle.std.proofs.Common.{ap, subst, sym, true, List, ◌∙◌}
+use Rattle.std.proofs.Common.{ap, subst, sym, List, ◌∙◌}
 use Rattle.event_definitions.specs.Answers.{is_entry}
 use Rattle.mesh_base.specs.declared.pair.Name.{Name}
 use Rattle.mesh_hearing.proofs.Named.{again_is}
