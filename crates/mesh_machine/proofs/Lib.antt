@@ -1,3 +1,4 @@
 pub mod Idle
 pub mod Same
 pub mod Within
+pub mod Handled

@@ -3,10 +3,12 @@
 //! Each event goes one way: room for its entry and its jobs is taken, and its plan is made from the tables in memory and what the store says;
 //! then its records are put, in their order; then its jobs are made, over the store as it is now; and then its entry is appended. What can fail
 //! for want of memory comes first, so after it nothing changed; what fails at the flash closes the machine. So nothing is answered before what
-//! it stores is durable.
+//! it stores is durable. Each kind of event has a function of its own, so that none pays for the values of another.
 //!
 //! - `machine`: [`MeshMachine`], its calls
-//! - `entering`: what a call does apart from the flash
+//! - `kinds`: how an event is handled, by its kind
+//! - `parts`: what the machine keeps of its node, and how records are stored in it
+//! - `entering`: memory before, the keys behind the records, and the entry
 //! - `waiting`: in how many ticks something is due
 //! - `opening`: how it is opened
 //!
@@ -14,8 +16,10 @@
 #![tactic(auto)]
 
 mod entering;
+mod kinds;
 mod machine;
 mod opening;
+mod parts;
 mod waiting;
 
 pub use machine::MeshMachine;

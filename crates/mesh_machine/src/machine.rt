@@ -15,18 +15,15 @@ ghost use Rattle.run_definitions.specs.Order.{is_outside};
 ghost use Rattle.seq_word.specs.Word.{seq_of};
 ghost use Rattle.store_world.specs.Standing.{IsWorldOf};
 
-use crate::entering::{Place, enter, prepare, renew};
-use entry_log::EntryLog;
-use event_plans::NodeTables;
-use event_storing::store_records;
+use crate::entering::{Place, room};
+use crate::kinds::handle;
+use crate::parts::Parts;
 use event_world::event_law;
 use flash_model::Flash;
 use machine_contract::{Answered, Hand, Stop};
 use machine_ties::ties_law;
-use mesh_reading::held_keys_law;
 use mesh_types::events::Event;
 use node_models::node_models_law;
-use seq_reserve::Reserve;
 use seq_word::Numbers;
 use std::marker::Model;
 
@@ -36,9 +33,7 @@ const MOST_ENTRIES: u64 = 0xffff_ffff;
 /// The machine of a node. The flash stays with the caller, and is passed to each call.
 #[derive(Drop)]
 pub struct MeshMachine {
-    pub(crate) reserve: Reserve,
-    pub(crate) tables: NodeTables,
-    pub(crate) history: EntryLog,
+    pub(crate) parts: Parts,
     pub(crate) fills: u32,
     pub(crate) closed: bool,
     pub(crate) hand: Hand,
@@ -48,31 +43,13 @@ pub struct MeshMachine {
 impl Model for MeshMachine {
     ghost use Rattle.machine_ties.specs.Ties.{IsSound};
     ghost use Rattle.machine_ties.specs.Views.{NodeMachine};
+    ghost use Rattle.mesh_machine.specs.Handling.{machine_of};
 
     ghost Value = { NodeMachine };
 
-    ghost view = { λ m. record {
-      reserve = m.reserve;
-      tables = m.tables;
-      entries = m.history.entries;
-      taken = m.history.taken;
-      fills = m.fills;
-      closed = m.closed;
-      hand = m.hand;
-      elements = m.elements;
-    } };
+    ghost view = { λ m. machine_of m.parts m.fills m.closed m.hand m.elements };
 
-    ghost invariant = { λ m. IsSound
-        (record {
-          reserve = m.reserve;
-          tables = m.tables;
-          entries = m.history.entries;
-          taken = m.history.taken;
-          fills = m.fills;
-          closed = m.closed;
-          hand = m.hand;
-          elements = m.elements;
-        }) };
+    ghost invariant = { λ m. IsSound (machine_of m.parts m.fills m.closed m.hand m.elements) };
 }
 
 impl MeshMachine {
@@ -110,41 +87,37 @@ impl MeshMachine {
         if self.closed {
             return Err(Stop::Closed);
         }
-        if self.history.count() >= MOST_ENTRIES {
+        if self.parts.history.count() >= MOST_ENTRIES {
             return Err(Stop::Memory);
         }
         // They do nothing when they run: the proof uses what they say.
         ties_law();
         node_models_law();
-        held_keys_law();
         event_law();
-        let prepared = match prepare(
-            &mut self.history,
-            &mut self.tables,
-            self.reserve.store.persist(),
-            event,
-        ) {
-            Ok(prepared) => prepared,
+        let drafts = match room(&mut self.parts.history) {
+            Ok(drafts) => drafts,
             Err(_) => return Err(Stop::Memory),
         };
-        match store_records(&mut self.reserve, n, flash, &prepared.plan.records) {
-            Ok(()) => {}
-            Err(_) => {
-                self.closed = true;
-                self.hand = Hand::OfEvent(event.copied());
-                return Err(Stop::Flash);
-            }
-        }
-        let p = self.reserve.store.persist();
-        renew(&mut self.tables, p, prepared.plan.records.as_slice());
         let place = Place {
             bearer,
             number,
             fills: self.fills,
         };
-        let answered = enter(&mut self.history, &self.tables, p, place, event, prepared);
-        self.fills = 0;
-        Ok(answered)
+        match handle(&mut self.parts, n, flash, event, place, drafts) {
+            Ok(answered) => {
+                self.fills = 0;
+                Ok(answered)
+            }
+            Err(stop) => match stop {
+                Stop::Flash => {
+                    self.closed = true;
+                    self.hand = Hand::OfEvent(event.copied());
+                    Err(Stop::Flash)
+                }
+                Stop::Memory => Err(Stop::Memory),
+                Stop::Closed => Err(Stop::Closed),
+            },
+        }
     }
 
     /// Stores a refill, and publishes its mark, 256 higher, where `seen` is the mark published last; else nothing changes. Returns the mark
@@ -179,14 +152,14 @@ impl MeshMachine {
         if self.closed {
             return Err(Stop::Closed);
         }
-        let mark = self.reserve.store.persist().mark;
+        let mark = self.parts.reserve.store.persist().mark;
         if seen != mark {
             return Ok(mark);
         }
         // They do nothing when they run: the proof uses what they say.
         ties_law();
         node_models_law();
-        match self.reserve.refill(n, flash, seen) {
+        match self.parts.reserve.refill(n, flash, seen) {
             Ok(mark) => {
                 self.fills += 1;
                 Ok(mark)

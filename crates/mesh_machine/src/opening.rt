@@ -15,6 +15,7 @@ ghost use Rattle.seq_reserve.specs.Reserving.{IsPublished};
 ghost use Rattle.seq_word.specs.Seen.{fresh};
 
 use crate::machine::MeshMachine;
+use crate::parts::Parts;
 use entry_log::EntryLog;
 use event_plans::NodeTables;
 use flash_model::Flash;
@@ -63,9 +64,11 @@ fn open(alloc: Global, store: Store) -> Result<Started<MeshMachine>, AllocError>
     let mark = p.mark;
     let elements = p.elements;
     let machine = MeshMachine {
-        reserve,
-        tables,
-        history,
+        parts: Parts {
+            reserve,
+            tables,
+            history,
+        },
         fills: 0,
         closed: false,
         hand: Hand::Nothing,
@@ -118,7 +121,7 @@ impl Machine for MeshMachine {
     }
 
     fn take_entries<F: Flash>(&mut self) -> Vec<Entry> {
-        self.history.take()
+        self.parts.history.take()
     }
 
     fn is_closed(&self) -> bool {
@@ -130,16 +133,16 @@ impl Machine for MeshMachine {
     }
 
     fn count(&self) -> u64 {
-        self.history.count()
+        self.parts.history.count()
     }
 
     fn finish(self) -> (History, Keeper) {
-        let MeshMachine {
+        let MeshMachine { parts, fills, .. } = self;
+        let Parts {
             reserve,
             mut history,
-            fills,
             ..
-        } = self;
+        } = parts;
         let Reserve { store: _, keeper } = reserve;
         (
             History {

@@ -22,6 +22,6 @@ impl MeshMachine {
         if self.closed {
             return u32::MAX;
         }
-        due(&self.tables, self.reserve.store.persist())
+        due(&self.parts.tables, self.parts.reserve.store.persist())
     }
 }

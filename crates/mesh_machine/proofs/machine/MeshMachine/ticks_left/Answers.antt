@@ -8,7 +8,7 @@ use Rattle.node_records.specs.declared.persist.Persist.{Persist}
 use Rattle.mesh_machine.proofs.machine.MeshMachine.ticks_left.Goals as goal
 use Rattle.mesh_machine.proofs.machine.MeshMachine.ticks_left.Goals.{After-due}
 
-tables : (c : After-due) (past : Past) → IsBefore past c.args.self.now → AreNodeTablesOf c.self.inside.tables past
+tables : (c : After-due) (past : Past) → IsBefore past c.args.self.now → AreNodeTablesOf c.self.inside.parts.tables past
 tables c past b =
     let Stand : NodeMachine → Type 0 = λ m. AreNodeTablesOf m.tables past in
     subst Stand (sym c.self.view_is) b.standing.tables

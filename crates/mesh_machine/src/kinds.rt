@@ -1,0 +1,199 @@
+//! How an event goes through the parts of a machine, by its kind. Each kind makes its own values and no others: its plan; then its records are
+//! put, in their order; then its jobs are made, over the store as it is now; and then its entry is appended.
+#![tactic(auto)]
+
+ghost use Rattle.std.specs.Prelude.{◌≡◌, IfOk, IfErr};
+ghost use Rattle.event_plans.specs.Sending.{IsOwn};
+ghost use Rattle.flash_model.specs.Chip.{Keeps};
+ghost use Rattle.mesh_machine.specs.Handling.{HasRoom, IsActed, IsDone, IsStopped, IsTurnOf};
+ghost use Rattle.mesh_types.specs.declared.events.Event.TheVariants as E;
+
+use crate::entering::{Drafts, Place, enter};
+use crate::parts::{Parts, store};
+use event_plans::{
+    are_within, jobs_of_beacon, jobs_of_own, jobs_of_pdu, jobs_of_tick, plan_beacon, plan_own,
+    plan_pdu, plan_tick,
+};
+use flash_model::Flash;
+use machine_contract::{Answered, Stop};
+use machine_ties::{are_bounded, ties_law};
+use mesh_base::octets::Octets;
+use mesh_reading::held_keys_law;
+use mesh_types::events::Event;
+use seq_word::Numbers;
+
+// A network PDU was heard.
+fn hear<F: Flash>(
+    parts: &mut Parts,
+    n: &Numbers,
+    flash: &mut F,
+    octets: &Octets<40>,
+    place: Place,
+    drafts: Drafts,
+) -> Result<Answered, Stop>
+    requires turn { IsTurnOf parts.old (E.Net octets.now) }
+    requires made { parts.old.reserve.keeper.which ≡ n.now.which }
+    requires room { HasRoom parts.old drafts }
+    ensures done { IfOk result
+        (IsDone parts.old parts.new (E.Net octets.now) place (F.chip flash.old) (F.chip flash.new)) }
+    ensures stopped { IfErr result
+        (IsStopped F.chip (E.Net octets.now) parts.old parts.new flash.old flash.new) }
+    ensures frame { Keeps (F.chip flash.old) (F.chip flash.new) }
+{
+    // They do nothing when they run: the proof uses what they say.
+    ties_law();
+    held_keys_law();
+    match plan_pdu(
+        &mut parts.tables,
+        parts.reserve.store.persist(),
+        octets.as_slice(),
+    ) {
+        Ok(plan) => {
+            are_bounded(parts.reserve.store.persist(), &plan.basis.heard);
+            match store(parts, n, flash, &plan.records) {
+                Ok(()) => {}
+                Err(_) => return Err(Stop::Flash),
+            }
+            let p = parts.reserve.store.persist();
+            let jobs = jobs_of_pdu(drafts.handed, p, parts.tables.keys(), &plan);
+            let event = Event::Net(octets.copied());
+            Ok(enter(
+                &mut parts.history,
+                place,
+                event,
+                plan.answer,
+                jobs,
+                drafts.kept,
+            ))
+        }
+        Err(_) => Err(Stop::Memory),
+    }
+}
+
+// A beacon was heard.
+fn hear_beacon<F: Flash>(
+    parts: &mut Parts,
+    n: &Numbers,
+    flash: &mut F,
+    octets: &Octets<40>,
+    place: Place,
+    drafts: Drafts,
+) -> Result<Answered, Stop>
+    requires turn { IsTurnOf parts.old (E.Bcn octets.now) }
+    requires made { parts.old.reserve.keeper.which ≡ n.now.which }
+    requires room { HasRoom parts.old drafts }
+    ensures done { IfOk result
+        (IsDone parts.old parts.new (E.Bcn octets.now) place (F.chip flash.old) (F.chip flash.new)) }
+    ensures stopped { IfErr result
+        (IsStopped F.chip (E.Bcn octets.now) parts.old parts.new flash.old flash.new) }
+    ensures frame { Keeps (F.chip flash.old) (F.chip flash.new) }
+{
+    // They do nothing when they run: the proof uses what they say.
+    ties_law();
+    held_keys_law();
+    are_within(parts.reserve.store.persist());
+    let plan = plan_beacon(
+        &mut parts.tables,
+        parts.reserve.store.persist(),
+        octets.as_slice(),
+    );
+    match store(parts, n, flash, &plan.records) {
+        Ok(()) => {}
+        Err(_) => return Err(Stop::Flash),
+    }
+    let jobs = jobs_of_beacon(drafts.handed);
+    let event = Event::Bcn(octets.copied());
+    Ok(enter(
+        &mut parts.history,
+        place,
+        event,
+        plan.heard.answer,
+        jobs,
+        drafts.kept,
+    ))
+}
+
+// Time passed.
+fn pass<F: Flash>(
+    parts: &mut Parts,
+    n: &Numbers,
+    flash: &mut F,
+    ticks: u32,
+    place: Place,
+    drafts: Drafts,
+) -> Result<Answered, Stop>
+    requires turn { IsTurnOf parts.old (E.Tick ticks) }
+    requires made { parts.old.reserve.keeper.which ≡ n.now.which }
+    requires room { HasRoom parts.old drafts }
+    ensures done { IfOk result
+        (IsDone parts.old parts.new (E.Tick ticks) place (F.chip flash.old) (F.chip flash.new)) }
+    ensures stopped { IfErr result
+        (IsStopped F.chip (E.Tick ticks) parts.old parts.new flash.old flash.new) }
+    ensures frame { Keeps (F.chip flash.old) (F.chip flash.new) }
+{
+    // They do nothing when they run: the proof uses what they say.
+    ties_law();
+    held_keys_law();
+    are_within(parts.reserve.store.persist());
+    let plan = plan_tick(&mut parts.tables, parts.reserve.store.persist(), ticks);
+    match store(parts, n, flash, &plan.records) {
+        Ok(()) => {}
+        Err(_) => return Err(Stop::Flash),
+    }
+    let p = parts.reserve.store.persist();
+    let jobs = jobs_of_tick(drafts.handed, p, parts.tables.keys(), &plan);
+    Ok(enter(
+        &mut parts.history,
+        place,
+        Event::Tick(ticks),
+        plan.answer,
+        jobs,
+        drafts.kept,
+    ))
+}
+
+// An event that brings neither octets heard nor time. It stores nothing.
+fn act(parts: &mut Parts, event: &Event, place: Place, drafts: Drafts) -> Answered
+    requires turn { IsTurnOf parts.old event.now }
+    requires own { IsOwn event.now }
+    requires room { HasRoom parts.old drafts }
+    ensures done { IsActed parts.old parts.new event.now place result }
+{
+    are_within(parts.reserve.store.persist());
+    let p = parts.reserve.store.persist();
+    let plan = plan_own(&mut parts.tables, p, event);
+    let jobs = jobs_of_own(drafts.handed, p, parts.tables.keys(), event, &plan);
+    enter(
+        &mut parts.history,
+        place,
+        event.copied(),
+        plan.answer,
+        jobs,
+        drafts.kept,
+    )
+}
+
+/// Handles an event over the parts of a machine, where there is memory for its entry and its jobs.
+pub(crate) fn handle<F: Flash>(
+    parts: &mut Parts,
+    n: &Numbers,
+    flash: &mut F,
+    event: &Event,
+    place: Place,
+    drafts: Drafts,
+) -> Result<Answered, Stop>
+    requires turn { IsTurnOf parts.old event.now }
+    requires made { parts.old.reserve.keeper.which ≡ n.now.which }
+    requires room { HasRoom parts.old drafts }
+    ensures done { IfOk result
+        (IsDone parts.old parts.new event.now place (F.chip flash.old) (F.chip flash.new)) }
+    ensures stopped { IfErr result (IsStopped F.chip event.now parts.old parts.new flash.old flash.new) }
+    ensures frame { Keeps (F.chip flash.old) (F.chip flash.new) }
+{
+    match event {
+        Event::Net(octets) => hear(parts, n, flash, octets, place, drafts),
+        Event::Bcn(octets) => hear_beacon(parts, n, flash, octets, place, drafts),
+        Event::Tick(ticks) => pass(parts, n, flash, *ticks, place, drafts),
+        _ => Ok(act(parts, event, place, drafts)),
+    }
+}
