@@ -1,16 +1,12 @@
 -- A life that went on is one of the phases that came, with what was told of them.
-use Rattle.std.proofs.Common.{◌≡◌, ◌≢◌, ◌∙◌, ℕ, ◌<◌, ◌≤◌, Bool, true, false, List, [], length, map, refl, sym, ap, subst, arith}
+use Rattle.std.proofs.Common.{◌≡◌, ◌≢◌, ℕ, ◌<◌, ◌≤◌, false, List, length, map, refl, sym, subst, arith}
 use Rattle.std.specs.Prelude.{◌^◌, All, AllPairs}
 use Rattle.flash_model.specs.Chip.{Chip}
-use Rattle.mesh_types.specs.declared.events.Event.{Event}
 use Rattle.mesh_types.specs.declared.history.Entry.{Entry}
 use Rattle.mesh_types.specs.declared.report.End.{End}
-use Rattle.machine_contract.specs.Opening.{EachRecovered}
 use Rattle.record_types.specs.declared.records.StoreRecord.{StoreRecord}
-use Rattle.report_definitions.specs.Record.{Life}
 use Rattle.event_definitions.specs.Role.{Role}
 use Rattle.run_definitions.specs.Order.{Step, is_cut, phase, phases_of}
-use Rattle.run_definitions.specs.RunOf.{LifeOf}
 use Rattle.seq_word.specs.Rule.{IsWithin, times}
 use Rattle.seq_word.specs.Seen.{ClosedView, DrawerView}
 use Rattle.store_definitions.specs.Config.{config_of}
@@ -20,7 +16,7 @@ use Rattle.locked_node.specs.Stands.{IsLater, IsNode}
 use Rattle.life_laws.specs.Pairs.{PairsSo}
 use Rattle.mesh_node.specs.Going.{IsOver}
 use Rattle.mesh_node.specs.Lived.{IsLifeTold, LivedOn, WentOn, life_told}
-use Rattle.mesh_node.specs.Told.{SinkSteps, SourceSteps, entries_told, sends_told}
+use Rattle.mesh_node.specs.Told.{SinkSteps, SourceSteps, sends_told}
 use Rattle.mesh_node.specs.declared.told.LastStep.{LastStep}
 use Rattle.mesh_node.proofs.Drawn.{spent_of, words_of}
 use Rattle.mesh_node.proofs.Ending.{each_life}

@@ -1,10 +1,9 @@
 use Rattle.std.proofs.Common.{◌≡◌, ◌∙◌, ◌++◌, ◌∷◌, [], List, Vec, Global, length, map, refl, sym, ap, subst, true, false}
-use Rattle.std.specs.Prelude.{All, IfSome, replicate}
+use Rattle.std.specs.Prelude.{IfSome}
 use Rattle.std.proofs.lemmas.List.{length-map, length-replicate}
 use Rattle.mesh_types.specs.declared.events.Event.{Event}
 use Rattle.life_laws.specs.Phases.{both_of}
 use Rattle.mesh_node.specs.Going.{IsGoing, IsOver}
-use Rattle.mesh_node.specs.Lived.{GoesOn, WentOn}
 use Rattle.mesh_node.specs.Told.{did_of, entries_told, sends_told}
 use Rattle.mesh_node.proofs.Following.{same_more}
 use Rattle.mesh_node.proofs.Telling.{first_goes, goes_more, went_cut, went_ended, went_unread, went_untold}

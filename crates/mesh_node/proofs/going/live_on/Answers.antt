@@ -1,7 +1,5 @@
-use Rattle.std.proofs.Common.{◌≡◌, ◌∙◌, refl, sym, ap, subst}
+use Rattle.std.proofs.Common.{◌∙◌, sym, ap, subst}
 use Rattle.flash_model.specs.Chip.{Setting}
-use Rattle.store_definitions.specs.Config.{config_of}
-use Rattle.mesh_node.specs.Going.{IsBetween}
 use Rattle.mesh_node.specs.Lived.{LivedOn}
 use Rattle.mesh_node.proofs.Whole.{lived}
 use Rattle.mesh_node.proofs.going.live_on.Goals as goal
