@@ -36,7 +36,8 @@ pub enum OpenFault {
     Memory,
 }
 
-/// Why a file isn't made. There is none under its name then, unless there was one before.
+/// Why a file isn't made. There is none under its name then, unless there was one before; or, where the system refused a call behind the last
+/// step, the whole node.
 #[derive(Debug, Drop, Error)]
 pub enum MakeFault {
     /// There is a file of this name.

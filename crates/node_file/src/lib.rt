@@ -22,8 +22,8 @@
 //!
 //! # To make
 //!
-//! It is made beside its name, under that name with `.new` behind it, which nobody has: open to its owner alone, locked, with 65,536 octets of
-//! ff, synced. The node is provisioned on it. Then it gets its name, which nobody has, and loses the other; and the folder is synced. So a
+//! It is made beside its name, under that name with `.new` behind it, which nobody has: open to its owner alone, with 65,536 octets of ff,
+//! synced. The node is provisioned on it. Then it gets its name, which nobody has, and loses the other; and the folder is synced. So a
 //! process that dies leaves no file under the name, or the whole node.
 #![tactic(auto)]
 

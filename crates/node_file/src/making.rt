@@ -67,8 +67,8 @@ fn named<R: Files<File = File>>(files: &R, name: &str, path: &str) -> Result<(),
 ///
 /// # Errors
 ///
-/// As [`MakeFault`] tells. There is no file under the name then, unless there was one before; that one stays as it is. What was begun under
-/// the other name is removed.
+/// As [`MakeFault`] tells. There is no file under the name then, unless there was one before, which stays as it is; or, where the system refused
+/// to remove the other name or to sync the folder, the whole node. What was begun under the other name is removed, where that can be done.
 pub fn make_node<R: Files<File = File>>(
     files: &R,
     alloc: Global,

@@ -40,13 +40,16 @@ fn is_same(one: &Metadata, other: &Metadata) -> bool {
     one.dev() == other.dev() && one.ino() == other.ino()
 }
 
-/// Removes the name under which a file was made, where the file still has it.
+/// Removes the name under which a file was made, where that is its second name and it has no third.
 fn finish_making<R: Files>(
     files: &R,
     alloc: Global,
     path: &str,
     told: &Metadata,
 ) -> Result<(), OpenFault> {
+    if told.nlink() != 2 {
+        return Err(OpenFault::SecondName);
+    }
     let name = new_name(alloc, path)?;
     match fs::symlink_metadata(files, name.as_str()) {
         Ok(other) if is_same(told, &other) => {
