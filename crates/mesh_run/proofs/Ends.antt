@@ -104,13 +104,13 @@ was_provisioned format p q old mid new of count image setting erased keeps same 
 
 -- what was told is a report
 module _ {F : Type 0} (chip : F → Chip) (role : Role) (s : Script) (T U : List LifeOver → SinkView → SinkView → Type 0)
-    (as : (lives : List LifeOver) (before after : SinkView) → T lives before after → U lives before after) where
+    (into : (lives : List LifeOver) (before after : SinkView) → T lives before after → U lives before after) where
   pub ran_as : (start : F) (before : SinkView) (left : F) (after : SinkView) → Ran chip role s T start before left after → Ran chip role s U start before left after
   ran_as start before left after ran = record {
     run = ran.run;
     is_run = ran.is_run;
     ran = ran.ran;
-    report = as ran.run.lives before after ran.report;
+    report = into ran.run.lives before after ran.report;
     no_reuse = ran.no_reuse;
     at_most_once = ran.at_most_once;
   }
@@ -123,7 +123,7 @@ module _ {F : Type 0} (chip : F → Chip) (role : Role) (s : Script) (T U : List
     is_run = ran.is_run;
     reached = ran.reached;
     ran = ran.ran;
-    report = as ran.run.lives before after ran.report;
+    report = into ran.run.lives before after ran.report;
     more = ran.more;
   }
 
@@ -138,7 +138,7 @@ module _ {F : Type 0} (chip : F → Chip) (role : Role) (s : Script) (T U : List
     is_run = ran.is_run;
     ran = ran.ran;
     mid = ran.mid;
-    report = as ran.lives before ran.mid ran.report;
+    report = into ran.lives before ran.mid ran.report;
     front = so (ran.n + 1) ran.x.life ran.mid after ran.front;
   }
 
