@@ -2,6 +2,7 @@ use Rattle.std.proofs.Common.{◌∙◌, ◌+◌, [], ◌∷◌, ◌++◌, Err, 
 use Rattle.event_definitions.specs.Role.{node_role}
 use Rattle.life_plans.specs.Plans.{script_of}
 use Rattle.node_layers.specs.NodeLayers.{node_layers}
+use Rattle.report_definitions.specs.Record.{LifeOver}
 use Rattle.report_writer.specs.Lives.{life_of}
 use Rattle.report_writer.specs.Writing.{view_of}
 use Rattle.mesh_run.specs.Ran.{RanFirst, RanFront}
@@ -12,7 +13,7 @@ use Rattle.mesh_run.proofs.lives.live_all.Goals as goal
 pub loop-i-init : goal.loop-i-init
 loop-i-init g c =
     let view = view_of g.K.Sink.held g.K.Sink.pieces in
-    let law = g.met.L.LifeSink g.world.𝓛 g.world.𝓜 g.world.𝓡 in
+    let law = g.met.L.LifeSink in
     let told = g.L.LifeSink.told c.args.lives.now c.args.lives.now in
     record {
       progress = progress_none g.B.Flash.chip (script_of c.args.script.now) told c.args.flash (view c.args.sink.now) c.requires.provisioned
@@ -92,7 +93,7 @@ loop-i-preserved g c =
     let within = is_within c.args.script.now.lives c.as_slice-i-end.result.now c.loop-i.i c.as_slice-i-end.ensures.value c.loop-i-test.true in
     let progress = c.loop-i.invariant.progress in
     let lived = c.in-Ok.ensures.lived in
-    let x = record { over = lived.0; life = life_of c.in-Ok.lived.0 } in
+    let x : LifeOver = record { over = lived.0; life = life_of c.in-Ok.lived.0 } in
     record {
       progress = progress_more chip (script_of c.args.script.now) (told c.loop-i.lives) (told c.tell.new.self) c.args.flash c.loop-i.flash c.in-Ok.lived.1
           (view c.args.sink.now) (view c.loop-i.sink) (view c.tell.new.sink) c.loop-i.i x progress (law.counts_now c.loop-i.flash) within lived.1
