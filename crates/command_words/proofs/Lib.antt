@@ -1,1 +1,3 @@
+pub mod Digits
+pub mod Walking
 pub mod Spelled

@@ -1,25 +1,28 @@
 -- The words that are spelled so, and what `clap` makes of them.
-use Rattle.std.proofs.lemmas.Bool.{eqb-true}
+use Rattle.std.proofs.lemmas.Bool.{eq-eqb, eqb-true, leb-true}
 use Rattle.std.proofs.Common.{arith, ◌≡◌, ℕ, Bool, true, false, List, [], ◌∷◌, refl, sym, ap, ap₂, ◌∙◌, subst, codes, length, Option, Some, None, inl, inr, ◌==◌, ◌&&◌, ◌||◌}
-use Rattle.std.specs.Prelude.{◌⊎◌}
+use Rattle.std.specs.Prelude.{◌⊎◌, IfSome, if◌then◌else◌, nat_le, option_and_then}
 use Rattle.std.specs.Str.{bytes_eq}
 use Rattle.std.proofs.lemmas.Slice.Eq.{bytes_eq-Decides}
 use Rattle.clap.specs.Simple.{subcommand_of}
 use Rattle.clap.specs.Takes.{takes}
 use Rattle.clap.proofs.OnLiterals.{clap_on_literals}
-use Rattle.command_words.specs.Commands.{command_of, has_flag, has_flags, is_spelled, is_word, kept, run}
+use Rattle.command_words.specs.Commands.{HasFew, command_of, generate, generate_of, has_flag, has_flags, is_generate, is_number, is_spelled, is_word, kept, run, word_at}
+use Rattle.command_words.specs.Numbers.{count_word, is_count, is_digits, number_word}
+use Rattle.command_words.proofs.Digits.{no_number}
+use Rattle.command_words.proofs.Walking.{no_flags, plain as is_plain, taken, tells}
 use Rattle.std.specs.Prelude.{Box}
 use Rattle.std.specs.Box.{box_value}
-use Rattle.clap.specs.Matches.{one_text, subcommand_name_of}
+use Rattle.clap.specs.Matches.{first_value, one_text, subcommand_name_of}
 use Rattle.clap.specs.Simple.{subcommand_rows, subcommand_rows_of}
 use Rattle.clap.specs.declared.parser.matches.ArgMatches.{ArgMatches}
 use Rattle.clap.specs.declared.parser.matches.ArgMatches.TheViews.{out-ArgMatches, out-SubCommand}
 use Rattle.clap.specs.declared.parser.matches.SubCommand.{SubCommand}
 use Rattle.clap.specs.Walk.{Row, Text, one_of, rows_of}
 use Rattle.clap.specs.declared.parser.matches.Found.{Found}
-use Rattle.clap.proofs.WalkLemmas.{one_text-rows}
+use Rattle.clap.proofs.WalkLemmas.{first_value-rows, one_text-rows}
 use Rattle.std.specs.Option.{option_map, option_map_or}
-use Rattle.command_words.specs.Reader.{AreFlags, IsFlag, reader, told}
+use Rattle.command_words.specs.Reader.{AreFlags, IsFlag, reader, told, told_of}
 use Rattle.command_words.specs.Reader.{has_flag as flag_in}
 use Rattle.command_words.specs.declared.commands.Command.{Command}
 use Rattle.command_words.specs.declared.commands.Command.TheVariants as C
@@ -34,6 +37,10 @@ both_left false b e = e
 both_right : (a b : Bool) → (a && b) ≡ true → b ≡ true
 both_right true b e = e
 both_right false b e = absurd cc
+
+and_false : (a : Bool) → (a && false) ≡ false
+and_false true = refl
+and_false false = refl
 
 one_word : (ws : List (List ℕ)) (a : List ℕ) → is_word ws a ≡ true → ws ≡ a ∷ []
 one_word [] a e = absurd cc
@@ -127,16 +134,91 @@ no_run ws a b c d true false = b
 no_run ws a b c d false true = c
 no_run ws a b c d true true = d
 
-none_kept : (ws : List (List ℕ)) → ((hex old : Bool) → is_spelled (run hex old) ws ≡ false) → is_spelled C.Audit ws ≡ false → (o : Option Command) → kept o ws ≡ None
-none_kept ws a e None = refl
-none_kept ws a e (Some (C.Run flags)) = rw (a flags.hex flags.old) refl
-none_kept ws a e (Some C.Audit) = rw e refl
+kept_not : (ws : List (List ℕ)) (c : Command) → is_spelled c ws ≡ false → kept (Some c) ws ≡ None
+kept_not ws c e = ap (λ t. if t then Some c else None) e
+
+none_kept : (ws : List (List ℕ)) → ((hex old : Bool) → is_spelled (run hex old) ws ≡ false) → is_spelled C.Audit ws ≡ false
+    → ((count start : ℕ) → is_spelled (C.Generate count start) ws ≡ false) → (o : Option Command) → kept o ws ≡ None
+none_kept ws a e g None = refl
+none_kept ws a e g (Some (C.Run flags)) = kept_not ws (C.Run flags) (a flags.hex flags.old)
+none_kept ws a e g (Some C.Audit) = kept_not ws C.Audit e
+none_kept ws a e g (Some (C.Generate count start)) = kept_not ws (C.Generate count start) (g count start)
+
+-- The words of `gen`.
+
+abbrev gen_words : List ℕ → List ℕ → List (List ℕ)
+gen_words count start = codes "gen" ∷ count ∷ start ∷ []
+
+gen_is : (ws : List (List ℕ)) → is_generate ws ≡ true → ws ≡ gen_words (word_at ws 1) (word_at ws 2)
+gen_is [] e = absurd cc
+gen_is (x ∷ []) e = absurd cc
+gen_is (x ∷ y ∷ []) e = absurd cc
+gen_is (x ∷ y ∷ z ∷ []) e = ap (λ v. v ∷ y ∷ z ∷ []) (same_text x (codes "gen") e)
+gen_is (x ∷ y ∷ z ∷ w ∷ ws) e =
+    let n : length (x ∷ y ∷ z ∷ w ∷ ws) ≡ 3 = eqb-true (length (x ∷ y ∷ z ∷ w ∷ ws)) 3 (both_left (length (x ∷ y ∷ z ∷ w ∷ ws) == 3) (bytes_eq x (codes "gen")) e) in
+    absurd (omega arith)
+
+-- a word that has a number is digits
+count_digits : (w : List ℕ) (n : ℕ) → count_word w ≡ Some n → is_digits w ≡ true
+count_digits w n e = by_test (is_digits w) refl
+  where
+    by_test : (b : Bool) → is_digits w ≡ b → b ≡ true
+    by_test true d = refl
+    by_test false d = let bad : None ≡ Some n = ap (option_and_then (λ m. if is_count m then Some m else None)) (no_number w d) ∙ e in absurd cc
+
+number_digits : (w : List ℕ) (n : ℕ) → number_word w ≡ Some n → is_digits w ≡ true
+number_digits w n e = by_test (is_digits w) refl
+  where
+    by_test : (b : Bool) → is_digits w ≡ b → b ≡ true
+    by_test true d = refl
+    by_test false d = let bad : None ≡ Some n = no_number w d ∙ e in absurd cc
+
+-- a command that both numbers give is kept
+numbers_kept : (count start : List ℕ) (a b : Option ℕ) → count_word count ≡ a → number_word start ≡ b
+    → kept (generate a b) (gen_words count start) ≡ generate a b
+numbers_kept count start None b e f = refl
+numbers_kept count start (Some m) None e f = refl
+numbers_kept count start (Some m) (Some n) e f =
+    ap (λ t. if t then Some (C.Generate m n) else None)
+    (ap (λ o. is_number o m && is_number (number_word start) n) e ∙ ap (λ o. (m == m) && is_number o n) f ∙ ap₂ ◌&&◌ (eq-eqb m m refl) (eq-eqb n n refl))
+
+-- else no command is spelled so
+no_numbers : (count start : List ℕ) (a b : Option ℕ) → count_word count ≡ a → number_word start ≡ b → generate a b ≡ None
+    → (m n : ℕ) → is_spelled (C.Generate m n) (gen_words count start) ≡ false
+no_numbers count start None b e f g m n = ap (λ o. is_number o m && is_number (number_word start) n) e
+no_numbers count start (Some x) None e f g m n = ap (λ o. is_number o m && is_number (number_word start) n) e ∙ ap (λ o. (x == m) && is_number o n) f ∙ and_false (x == m)
+no_numbers count start (Some x) (Some y) e f g m n = absurd cc
+
+right_numbers : (count start : List ℕ) (m n : ℕ) → count_word count ≡ Some m → number_word start ≡ Some n → IsRight (gen_words count start)
+right_numbers count start m n e f =
+    let plain_count = is_plain count (count_digits count m e) in
+    let plain_start = is_plain start (number_digits start n f) in
+    record {
+      exact = λ o h. ap (λ c. kept c (gen_words count start)) (h (no_flags count start plain_count plain_start) ∙ tells count start plain_count plain_start)
+          ∙ numbers_kept count start (count_word count) (number_word start) refl refl;
+      taken = λ h. absurd (h (taken count start plain_count plain_start));
+    }
+
+right_others : (count start : List ℕ) → generate (count_word count) (number_word start) ≡ None → IsRight (gen_words count start)
+right_others count start none = record {
+  exact = λ o h. none_kept (gen_words count start) (no_run (gen_words count start) refl refl refl refl) refl
+      (no_numbers count start (count_word count) (number_word start) refl refl none) o ∙ sym none;
+  taken = λ h. sym none;
+}
+
+right_gen : (count start : List ℕ) (a b : Option ℕ) → count_word count ≡ a → number_word start ≡ b → IsRight (gen_words count start)
+right_gen count start None b e f = right_others count start (ap (λ o. generate o (number_word start)) e)
+right_gen count start (Some m) None e f = right_others count start (ap₂ generate e f)
+right_gen count start (Some m) (Some n) e f = right_numbers count start m n e f
 
 right_none : (ws : List (List ℕ)) → is_spelled (run false false) ws ≡ false → is_spelled (run true false) ws ≡ false → is_spelled (run false true) ws ≡ false
-    → is_spelled (run true true) ws ≡ false → is_spelled C.Audit ws ≡ false → IsRight ws
-right_none ws a b c d e =
-    let none : command_of ws ≡ None = rw (a, b, c, d, e) refl in
-    record { exact = λ o h. none_kept ws (no_run ws a b c d) e o ∙ sym none; taken = λ h. sym none }
+    → is_spelled (run true true) ws ≡ false → is_spelled C.Audit ws ≡ false → is_generate ws ≡ false → IsRight ws
+right_none ws a b c d e g =
+    let none : command_of ws ≡ None = rw (a, b, c, d, e, g) refl in
+    record {
+      exact = λ o h. none_kept ws (no_run ws a b c d) e (λ count start. ap (λ t. t && is_number (count_word (word_at ws 1)) count && is_number (number_word (word_at ws 2)) start) g) o ∙ sym none;
+      taken = λ h. sym none;
+    }
 
 either : (a b : Bool) → (a || b) ≡ true → (a ≡ true) ⊎ (b ≡ true)
 either true b e = inl refl
@@ -160,12 +242,46 @@ right ws = elim (test (is_spelled (run false false) ws)) [
         ]
         | inr d ↦ elim (test (is_spelled C.Audit ws)) [
           | inl e ↦ subst IsRight (sym (one_word ws (codes "audit") e)) right_audited
-          | inr e ↦ right_none ws a b c d e
+          | inr e ↦ elim (test (is_generate ws)) [
+            | inl g ↦ subst IsRight (sym (gen_is ws g)) (right_gen (word_at ws 1) (word_at ws 2) (count_word (word_at ws 1)) (number_word (word_at ws 2)) refl refl)
+            | inr g ↦ right_none ws a b c d e g
+          ]
         ]
       ]
     ]
   ]
 ]
+
+-- The number of lines.
+
+count_few : (w : List ℕ) (o : Option ℕ) → IfSome (generate (count_word w) o) HasFew
+count_few w o = by_number (number_word w)
+  where
+    by_test : (n : ℕ) (b : Bool) → is_count n ≡ b → IfSome (generate (if b then Some n else None) o) HasFew
+    by_test n false e = tt
+    by_test n true e = by_start o
+      where
+        by_start : (p : Option ℕ) → IfSome (generate (Some n) p) HasFew
+        by_start None = tt
+        by_start (Some start) = (leb-true 1 n (both_left (nat_le 1 n) (nat_le n 32768) e), leb-true n 32768 (both_right (nat_le 1 n) (nat_le n 32768) e))
+
+    by_number : (p : Option ℕ) → IfSome (generate (option_and_then (λ n. if is_count n then Some n else None) p) o) HasFew
+    by_number None = tt
+    by_number (Some n) = by_test n (is_count n) refl
+
+pub few : (ws : List (List ℕ)) → IfSome (command_of ws) HasFew
+few ws =
+    by_tests (is_spelled (run false false) ws) (is_spelled (run true false) ws) (is_spelled (run false true) ws) (is_spelled (run true true) ws) (is_spelled C.Audit ws) (is_generate ws)
+  where
+    by_tests : (a b c d e g : Bool) → IfSome (if a then Some (run false false) else if b then Some (run true false) else if c then Some (run false true)
+        else if d then Some (run true true) else if e then Some C.Audit else if g then generate_of ws else None) HasFew
+    by_tests true b c d e g = tt
+    by_tests false true c d e g = tt
+    by_tests false false true d e g = tt
+    by_tests false false false true e g = tt
+    by_tests false false false false true g = tt
+    by_tests false false false false false true = count_few (word_at ws 1) (number_word (word_at ws 2))
+    by_tests false false false false false false = tt
 
 -- What is told of the flags.
 
@@ -197,3 +313,13 @@ told_run (Some p) f hex old name rows a b c d e g flags =
     let one : hex ≡ flag_in (codes "hex") (rows_of f) = flag f (codes "hex") hex a b c (subst (λ r. IsFlag (one_of (codes "hex") r)) are flags.0) in
     let two : old ≡ flag_in (codes "old") (rows_of f) = flag f (codes "old") old d e g (subst (λ r. IsFlag (one_of (codes "old") r)) are flags.1) in
     ap₂ (λ x y. Some (run x y)) one two ∙ rw (is, are) refl
+
+-- and of the numbers of `gen`
+pub told_gen : (o : Option (Text × List Row)) (f : Found) → option_map (λ p. p.0) o ≡ Some (codes "gen") → option_map (λ p. p.1) o ≡ Some (rows_of f)
+    → generate (option_and_then count_word (first_value f (codes "COUNT"))) (option_and_then number_word (first_value f (codes "START"))) ≡ told o
+told_gen None f name rows = absurd cc
+told_gen (Some p) f name rows =
+    let is : p.0 ≡ codes "gen" = cc in
+    let are : p.1 ≡ rows_of f = cc in
+    ap₂ (λ c s. generate (option_and_then count_word c) (option_and_then number_word s)) (first_value-rows f (codes "COUNT")) (first_value-rows f (codes "START"))
+    ∙ ap (told_of (codes "gen")) (sym are) ∙ ap (λ name. told_of name p.1) (sym is)

@@ -1,6 +1,8 @@
 -- The commands of the program, by the words after its name.
-use Rattle.std.specs.Prelude.{ℕ, ◌==◌, ◌||◌, ◌&&◌, if◌then◌else◌, Bool, true, false, List, [], length, slice_index_or, codes, Option, Some, None}
+use Rattle.std.specs.Prelude.{ℕ, ◌==◌, ◌||◌, ◌&&◌, if◌then◌else◌, Bool, true, false, List, [], length, slice_index_or, codes, Option, Some, None, ◌≤◌, ⊤}
+use Rattle.std.specs.Option.{option_map_or}
 use Rattle.std.specs.Str.{bytes_eq}
+use Rattle.command_words.specs.Numbers.{count_word, number_word}
 use Rattle.command_words.specs.declared.commands.Command.{Command}
 use Rattle.command_words.specs.declared.commands.Command.TheVariants as C
 use Rattle.command_words.specs.declared.commands.RunFlags.{RunFlags}
@@ -30,13 +32,36 @@ is_run flags words =
     else if flags.old then has_flag words (codes "--old")
     else is_word words (codes "run")
 
+-- the word at a place stands for this number
+abbrev pub is_number : Option ℕ → ℕ → Bool
+is_number o n = option_map_or (λ m. m == n) o false
+
+-- `gen`, and two words
+abbrev pub is_generate : List (List ℕ) → Bool
+is_generate words = (length words == 3) && is_at words 0 (codes "gen")
+
+abbrev pub word_at : List (List ℕ) → ℕ → List ℕ
+word_at words place = slice_index_or words place []
+
 -- the words of a command
 abbrev pub is_spelled : Command → List (List ℕ) → Bool
 is_spelled (C.Run flags) words = is_run flags words
 is_spelled C.Audit words = is_word words (codes "audit")
+is_spelled (C.Generate count start) words =
+    is_generate words && is_number (count_word (word_at words 1)) count
+    && is_number (number_word (word_at words 2)) start
 
 abbrev pub run : Bool → Bool → Command
 run hex old = C.Run (record { hex = hex; old = old })
+
+-- `gen` with these numbers, where there are both
+abbrev pub generate : Option ℕ → Option ℕ → Option Command
+generate (Some count) (Some start) = Some (C.Generate count start)
+generate _ _ = None
+
+-- `gen COUNT START`
+abbrev pub generate_of : List (List ℕ) → Option Command
+generate_of words = generate (count_word (word_at words 1)) (number_word (word_at words 2))
 
 -- the command that is spelled so
 abbrev pub command_of : List (List ℕ) → Option Command
@@ -46,9 +71,15 @@ command_of words =
     else if is_spelled (run false true) words then Some (run false true)
     else if is_spelled (run true true) words then Some (run true true)
     else if is_spelled C.Audit words then Some C.Audit
+    else if is_generate words then generate_of words
     else None
 
 -- the command, where these are its words
 abbrev pub kept : Option Command → List (List ℕ) → Option Command
 kept None words = None
 kept (Some command) words = if is_spelled command words then Some command else None
+
+-- a script that is generated has 1 to 32,768 lines
+abbrev pub HasFew : Command → Type 0
+HasFew (C.Generate count start) = (1 ≤ count) × (count ≤ 32768)
+HasFew _ = ⊤

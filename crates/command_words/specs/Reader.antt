@@ -1,12 +1,14 @@
 -- What `clap` is told of the commands, and what its matches tell.
-use Rattle.std.specs.Prelude.{◌≡◌, ◌⊎◌, true, false, Bool, if◌then◌else◌, List, codes, Option, Some, None, ⊤}
+use Rattle.std.specs.Prelude.{◌≡◌, ◌⊎◌, true, false, Bool, if◌then◌else◌, List, codes, Option, Some, None, option_and_then, ⊤}
 use Rattle.std.specs.Option.{option_map_or}
 use Rattle.std.specs.Str.{bytes_eq}
-use Rattle.clap.specs.Walk.{Row, Rule, Text, one_of}
+use Rattle.clap.specs.Walk.{Row, Rule, Text, first_of, one_of}
 use Rattle.clap.specs.Simple.{App, new_app, new_rule, with_rule, with_subcommand}
 use Rattle.clap.specs.declared.builder.action.ArgAction.TheVariants.{SetTrue}
 use Rattle.clap.specs.declared.builder.command.Command.{Command as ClapCommand}
 use Rattle.clap.specs.declared.builder.command.Command.TheViews.{out-Command}
+use Rattle.command_words.specs.Commands.{generate}
+use Rattle.command_words.specs.Numbers.{count_word, number_word}
 use Rattle.command_words.specs.declared.commands.Command.{Command}
 use Rattle.command_words.specs.declared.commands.Command.TheVariants as C
 
@@ -32,11 +34,21 @@ IsLocal c = (out-Command c).has_globals ≡ false
 abbrev pub audit : App
 audit = new_app (codes "audit")
 
+-- a word that has to stand there
+abbrev pub place : Text → Rule
+place name = record (new_rule name) { required = true }
+
+abbrev pub named_gen : App
+named_gen = new_app (codes "gen")
+
+abbrev pub gen : App
+gen = with_rule (with_rule named_gen (place (codes "COUNT"))) (place (codes "START"))
+
 abbrev pub bare : App
 bare = record (new_app (codes "meshnode")) { top = record (new_app (codes "meshnode")).top { no_binary_name = true } }
 
 abbrev pub reader : App
-reader = with_subcommand (with_subcommand bare run.top) audit.top
+reader = with_subcommand (with_subcommand (with_subcommand bare run.top) audit.top) gen.top
 
 -- whether a flag was given
 abbrev pub has_flag : Text → List Row → Bool
@@ -48,6 +60,9 @@ told_of name rows =
     if bytes_eq name (codes "run")
     then Some (C.Run (record { hex = has_flag (codes "hex") rows; old = has_flag (codes "old") rows }))
     else if bytes_eq name (codes "audit") then Some C.Audit
+    else if bytes_eq name (codes "gen")
+    then generate (option_and_then count_word (first_of (codes "COUNT") rows))
+    (option_and_then number_word (first_of (codes "START") rows))
     else None
 
 abbrev pub told : Option (Text × List Row) → Option Command

@@ -17,4 +17,11 @@ pub enum Command {
     Run(RunFlags),
     /// `audit`: a log is audited, and its verdict written.
     Audit,
+    /// `gen`: a script is generated and run, and the summary of its report written.
+    Generate {
+        /// How many lines of bearers the script has, 1 to 32,768.
+        count: u32,
+        /// The number behind which those of its lines begin.
+        start: u32,
+    },
 }

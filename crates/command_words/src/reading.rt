@@ -1,12 +1,15 @@
 //! Words to the command that they are.
 #![tactic(auto)]
 
-ghost use Rattle.std.specs.Prelude.{◌≡◌, ◌≢◌, ◌<◌, length, map, IfOk, None, false};
-ghost use Rattle.clap.specs.Words.{app_of, kind_of, rule_of, subcommand_rows_of};
-ghost use Rattle.command_words.specs.Commands.{command_of, has_flag, has_flags, is_at, is_run, is_spelled, is_word, kept};
-ghost use Rattle.command_words.specs.Reader.{AreFlags, IsLocal, flag, reader, run, told};
+ghost use Rattle.std.specs.Prelude.{◌≡◌, ◌≢◌, ◌<◌, length, map, codes, IfOk, IfSome, None, false, option_and_then};
+ghost use Rattle.clap.specs.Words.{app_of, first_value, found_of, kind_of, rule_of, subcommand_rows_of};
+ghost use Rattle.command_words.specs.Commands.{HasFew, command_of, generate, has_flag, has_flags, is_at, is_number, is_run, is_spelled, is_word, kept};
+ghost use Rattle.command_words.specs.Numbers.{count_word, number_word};
+ghost use Rattle.command_words.specs.Reader.{AreFlags, IsLocal, flag, gen, place, reader, run, told};
+ghost use Rattle.command_words.specs.declared.commands.Command.TheVariants as C;
 
 use crate::commands::{Command, RunFlags};
+use crate::numbers::{count, number};
 use clap::error::ErrorKind;
 use clap::{Arg, ArgAction, ArgMatches};
 use std::alloc::{AllocError, Global};
@@ -28,15 +31,66 @@ fn run_reader<'a>(alloc: Global) -> Result<clap::Command<'a>, AllocError>
         .arg(flag(alloc, "old"))
 }
 
-/// The reader of words: `run` with its flags, and `audit`.
+/// A word that has to stand there.
+fn place<'a>(alloc: Global, name: &'a str) -> Arg<'a>
+    ensures rule { rule_of result ≡ place name.entry.now }
+    ensures local { result.global ≡ false }
+{
+    Arg::new(alloc, name).required(true)
+}
+
+/// `gen` with its two numbers.
+fn gen_reader<'a>(alloc: Global) -> Result<clap::Command<'a>, AllocError>
+    ensures app { IfOk result (λ c. (app_of c ≡ gen) × IsLocal c) }
+{
+    clap::Command::new(alloc, "gen")
+        .arg(place(alloc, "COUNT"))?
+        .arg(place(alloc, "START"))
+}
+
+/// The reader of words: `run` with its flags, `audit`, and `gen` with its numbers.
 fn reader<'a>(alloc: Global) -> Result<clap::Command<'a>, AllocError>
     ensures app { IfOk result (λ c. app_of c ≡ reader) }
 {
     let run = run_reader(alloc)?;
+    let generate = gen_reader(alloc)?;
     clap::Command::new(alloc, "meshnode")
         .no_binary_name(true)
         .subcommand(run)?
-        .subcommand(clap::Command::new(alloc, "audit"))
+        .subcommand(clap::Command::new(alloc, "audit"))?
+        .subcommand(generate)
+}
+
+/// The number of lines that was read.
+fn read_count(matches: &ArgMatches) -> Option<u32>
+    ensures value { result ≡ option_and_then count_word (first_value (found_of matches.now) (codes "COUNT")) }
+{
+    match matches.get_str("COUNT") {
+        Some(word) => count(word),
+        None => None,
+    }
+}
+
+/// The number that was read, behind which those of the lines begin.
+fn read_start(matches: &ArgMatches) -> Option<u32>
+    ensures value { result ≡ option_and_then number_word (first_value (found_of matches.now) (codes "START")) }
+{
+    match matches.get_str("START") {
+        Some(word) => number(word),
+        None => None,
+    }
+}
+
+/// `gen` with the numbers that were read, where there are both.
+fn generate(matches: &ArgMatches) -> Option<Command>
+    ensures value { result
+        ≡ generate (option_and_then count_word (first_value (found_of matches.now) (codes "COUNT")))
+        (option_and_then number_word (first_value (found_of matches.now) (codes "START"))) }
+{
+    match (read_count(matches), read_start(matches)) {
+        (Some(count), Some(start)) => Some(Command::Generate { count, start }),
+        _ => None,
+    }
 }
 
 /// The command that was read, where the texts of its flags are those of flags.
@@ -49,8 +103,11 @@ fn told(matches: &ArgMatches) -> Option<Command>
             old: run.get_flag("old"),
         }));
     }
-    match matches.subcommand_matches("audit") {
-        Some(_) => Some(Command::Audit),
+    if let Some(_) = matches.subcommand_matches("audit") {
+        return Some(Command::Audit);
+    }
+    match matches.subcommand_matches("gen") {
+        Some(found) => generate(found),
         None => None,
     }
 }
@@ -99,6 +156,30 @@ fn is_run(flags: RunFlags, words: &[&str]) -> bool
     }
 }
 
+/// Whether the word is this number of lines.
+fn is_count(word: &str, n: u32) -> bool
+    ensures value { result ≡ is_number (count_word word.now) n }
+{
+    count(word) == Some(n)
+}
+
+/// Whether the word is this number.
+fn is_number(word: &str, n: u32) -> bool
+    ensures value { result ≡ is_number (number_word word.now) n }
+{
+    number(word) == Some(n)
+}
+
+/// Whether these are the words of `gen` with these numbers.
+fn is_generate(count: u32, start: u32, words: &[&str]) -> bool
+    ensures value { result ≡ is_spelled (C.Generate count start) (map (λ w. w.now) words.now) }
+{
+    words.len() == 3
+        && is_at(words, 0, "gen")
+        && is_count(words[1], count)
+        && is_number(words[2], start)
+}
+
 /// Whether these are the words of a command.
 fn is_spelled(command: Command, words: &[&str]) -> bool
     ensures value { result ≡ is_spelled command (map (λ w. w.now) words.now) }
@@ -106,6 +187,7 @@ fn is_spelled(command: Command, words: &[&str]) -> bool
     match command {
         Command::Run(flags) => is_run(flags, words),
         Command::Audit => is_word(words, "audit"),
+        Command::Generate { count, start } => is_generate(count, start, words),
     }
 }
 
@@ -129,14 +211,16 @@ fn refused(error: &clap::Error) -> Result<Option<Command>, AllocError>
     }
 }
 
-/// The command that the words after the program's name are: `run`, with `--hex` and `--old` in any combination, or `audit`; `None` exactly
-/// where they are none. What `clap` reads and isn't spelled so, as a word `--`, is no command either.
+/// The command that the words after the program's name are: `run`, with `--hex` and `--old` in any combination, `audit`, or `gen` with two
+/// numbers of 1 to 10 decimal digits, of which the first is 1 to 32,768 and the second has 32 bits; `None` exactly where they are none. What
+/// `clap` reads and isn't spelled so, as a word `--`, is no command either.
 ///
 /// # Errors
 ///
 /// `AllocError` where there is no memory.
 pub fn command_of<'a>(alloc: Global, words: &'a [&'a str]) -> Result<Option<Command>, AllocError>
     ensures value { IfOk result (λ c. c ≡ command_of (map (λ w. w.now) words.now)) }
+    ensures few { IfOk result (λ c. IfSome c HasFew) }
 {
     match reader(alloc)?.try_get_matches_from(words) {
         Ok(matches) => Ok(kept(told(&matches), words)),

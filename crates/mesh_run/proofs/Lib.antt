@@ -2,3 +2,4 @@ pub mod Growing
 pub mod Living
 pub mod Progress
 pub mod Ends
+pub mod Generating

@@ -1,7 +1,7 @@
--- The lines of one life of a script that was read.
+-- The plan of one life, and how many lives there are.
 use Rattle.std.proofs.Common.{◌≡◌, ◌<◌, ℕ, List, [], length, get_or, ap, ◌∙◌, subst, map, sym, arith}
 use Rattle.std.specs.Prelude.{◌≤◌, All, slice_index_or}
-use Rattle.std.proofs.lemmas.List.{get_or_default, get_or-map, length-map}
+use Rattle.std.proofs.lemmas.List.{get_or-map, length-map}
 use Rattle.flash_model.specs.Chip.{Chip}
 use Rattle.life_plans.specs.Plans.{IsPlanFor, plan_of_lines}
 use Rattle.machine_contract.specs.Opening.{EachRecovered}
@@ -12,12 +12,7 @@ use Rattle.run_definitions.specs.Order.{Step}
 use Rattle.script_definitions.specs.declared.line.ScriptLine.{ScriptLine}
 use Rattle.store_definitions.specs.Config.{config_of}
 
--- the lines that were found at place i are those of the life there
-pub lines_are : (lives slice : List (List ScriptLine)) (i : ℕ) (item lines : List ScriptLine) → slice ≡ lives → item ≡ get_or slice i item → lines ≡ item
-    → i < length lives → lines ≡ get_or lives i []
-lines_are lives slice i item lines same is are within = are ∙ is ∙ ap (λ xs. get_or xs i item) same ∙ get_or_default lives i item [] within
-
--- so their plan is the one of the script
+-- the plan of the lines of a life is the one of the script
 pub plan_is : (lives : List (List ScriptLine)) (i : ℕ) (lines : List ScriptLine) (steps : List Step) → lines ≡ get_or lives i [] → i < length lives
     → steps ≡ plan_of_lines lines → steps ≡ slice_index_or (map plan_of_lines lives) i []
 plan_is lives i lines steps are within is = is ∙ ap plan_of_lines are ∙ sym (get_or-map plan_of_lines lives i [] [] within)
@@ -31,9 +26,9 @@ planned chip elements plan eight fits each = record {
   steps = λ image records is read. subst (λ n. All (IsStep plan.bearers n) plan.steps.items) (sym (each image records is read)) fits.steps;
 }
 
--- a place below the number of lives that were found is one of the script's plans, and past it there is none
-pub is_within : (lives slice : List (List ScriptLine)) (i : ℕ) → slice ≡ lives → i < length slice → i < length (map plan_of_lines lives)
-is_within lives slice i same within = rw (length-map lives plan_of_lines, ← same) within
+-- a place below the number of lives is one of the script's plans, and past it there is none
+pub is_within : (lives : List (List ScriptLine)) (n i : ℕ) → n ≡ length lives → i < n → i < length (map plan_of_lines lives)
+is_within lives n i same within = rw (length-map lives plan_of_lines, ← same) within
 
-pub is_past : (lives slice : List (List ScriptLine)) (i : ℕ) → slice ≡ lives → length slice ≤ i → length (map plan_of_lines lives) ≤ i
-is_past lives slice i same past = rw (length-map lives plan_of_lines, ← same) past
+pub is_past : (lives : List (List ScriptLine)) (n i : ℕ) → n ≡ length lives → n ≤ i → length (map plan_of_lines lives) ≤ i
+is_past lives n i same past = rw (length-map lives plan_of_lines, ← same) past

@@ -1,11 +1,15 @@
 -- Where each status of a run comes.
-use Rattle.std.specs.Prelude.{◌≡◌, ◌⊎◌, ℕ, ◌≤◌, nat_lt, Bool, true, false, IsTrue, List, length, ⊤}
+use Rattle.std.specs.Prelude.{◌≡◌, ◌⊎◌, ℕ, ◌≤◌, nat_lt, Bool, true, false, IsTrue, List, length, Option, Some, ⊤}
 use Rattle.flash_model.specs.Chip.{Chip, Remembers}
 use Rattle.script_definitions.specs.Reading.{Reading, reading}
 use Rattle.script_definitions.specs.Reading.Reading.{Fails, IsScript}
 use Rattle.script_definitions.specs.declared.kind.Grammar.TheVariants as G
 use Rattle.script_definitions.specs.declared.script.Script.{Script}
 use Rattle.slot_journal.specs.Format.{IsErased, IsFirstWritten}
+use Rattle.command_words.specs.declared.commands.Command.{Command}
+use Rattle.command_words.specs.declared.commands.Command.TheVariants as C
+use Rattle.run_steps.specs.declared.reading.ReadStop.{ReadStop}
+use Rattle.run_steps.specs.declared.reading.ReadStop.TheVariants as R
 use Rattle.run_steps.specs.declared.status.Status.{Status}
 use Rattle.run_steps.specs.declared.status.Status.TheVariants as S
 
@@ -34,6 +38,24 @@ IsBeforeLives S.Done = ⊥
 IsBeforeLives S.WriteFault = ⊥
 IsBeforeLives S.Memory = ⊥
 IsBeforeLives _ = ⊤
+
+-- how a run ends whose lives were run and are summed up
+abbrev pub IsSumEnd : Status → Type 0
+IsSumEnd S.Done = ⊤
+IsSumEnd S.WriteFault = ⊤
+IsSumEnd S.Memory = ⊤
+IsSumEnd _ = ⊥
+
+-- how a run ends whose source wasn't read to its end
+abbrev pub read_end : ReadStop → Status
+read_end R.Fault = S.ReadFault
+read_end R.TooLong = S.TooLong
+read_end R.Memory = S.Memory
+
+-- a script is to be generated
+abbrev pub IsGenerate : Option Command → Type 0
+IsGenerate (Some (C.Generate count start)) = ⊤
+IsGenerate _ = ⊥
 
 -- the statuses of a run whose source may have more
 abbrev pub IsReadingStop : Status → Type 0

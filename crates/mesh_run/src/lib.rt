@@ -2,6 +2,7 @@
 //!
 //! - `running`: `run`, the top call of the program
 //! - `scripts`: the script of a text, over a flash that is provisioned for it
+//! - `generated`: a script that is generated, run and summed up
 //! - `lives`: the lives of a script, one after another
 //!
 //! A caller to begin with: `run_words` in `crates/meshnode/src/main.rt`.
@@ -9,6 +10,7 @@
 //! In `specs/`, `Ran` says what a whole run leaves, and `Causes` where each status comes.
 #![tactic(auto)]
 
+mod generated;
 mod lives;
 mod running;
 mod scripts;

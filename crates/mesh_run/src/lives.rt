@@ -2,7 +2,7 @@
 #![tactic(auto)]
 
 ghost use Rattle.std.specs.Prelude.{◌≡◌, ◌≤◌, ◌<◌, List, [], length, slice_index_or, IfOk, IfSome, IsSomeAnd};
-ghost use Rattle.life_plans.specs.Plans.{script_of};
+ghost use Rattle.life_plans.specs.Plans.{IsPlanFor, script_of};
 ghost use Rattle.machine_contract.specs.Opening.{EachRecovered, IsNodeFlash};
 ghost use Rattle.mesh_base.specs.Outside.{Rose};
 ghost use Rattle.node_layers.specs.NodeLayers.{node_layers};
@@ -23,14 +23,16 @@ ghost use Rattle.event_definitions.specs.Role.{node_role};
 
 use flash_model::Bench;
 use layer_laws::laws::node_law;
+use life_laws::plan::LifePlan;
 use life_plans::{plan_of, script_law};
+use life_sources::LifeSource;
 use mesh_base::outside::Sink;
 use mesh_machine::MeshMachine;
 use mesh_node::{Gate, LifeLog, life};
+use node_limits::BEARERS;
 use node_safety::node_runs_law;
 use report_writer::{EndedLife, LifeSink, WriteStop};
 use run_safety::laws::lives_law;
-use script_definitions::script::Script;
 use std::alloc::{AllocError, Global};
 use std::sync::Wait;
 use std::thread::Threads;
@@ -64,54 +66,68 @@ fn ended_life(log: LifeLog) -> EndedLife
     }
 }
 
+/// The plan of the life of a script at place `i`.
+fn plan_at<S: LifeSource>(script: &S, alloc: Global, i: usize) -> Result<LifePlan, AllocError>
+    requires read { IsScriptOf Grammars.Node (S.script script.now) }
+    requires place { i < length (S.script script.now).lives }
+    ensures value { IfOk result
+        (λ plan. Plan.steps_of plan.steps.items ≡ slice_index_or (script_of (S.script script.now)).lives i []) }
+    ensures bearers { IfOk result (λ plan. plan.bearers ≡ BEARERS) }
+    ensures planned { IfOk result (IsPlanFor (script_of (S.script script.now)).node.elements) }
+{
+    // It does nothing when it runs: the proof uses what it says.
+    script_law();
+    let lines = script.lines(alloc, i)?;
+    plan_of(alloc, lines.as_slice())
+}
+
 /// Runs the life of a script at place `i`. For want of memory the flash is dropped.
-fn live<R: Threads + Wait + Sync, B: Bench, G: Gate>(
+fn live<R: Threads + Wait + Sync, S: LifeSource, B: Bench, G: Gate>(
     rt: &R,
     alloc: Global,
-    script: &Script,
+    script: &S,
     i: usize,
     flash: B,
     gate: &G,
 ) -> Result<(EndedLife, B), AllocError>
-    requires read { IsScriptOf Grammars.Node script.now }
-    requires place { i < length script.now.lives }
+    requires read { IsScriptOf Grammars.Node (S.script script.now) }
+    requires place { i < length (S.script script.now).lives }
     requires node { IsNodeFlash IsNode (B.chip flash) }
     requires elements { EachRecovered (B.chip flash)
-        (λ records. (config_of records).elements ≡ (script_of script.now).node.elements) }
+        (λ records. (config_of records).elements ≡ (script_of (S.script script.now)).node.elements) }
     ensures lived { IfOk result
         (λ r. (over : List StoreRecord)
-        × Lived (node_role node_layers) (slice_index_or (script_of script.now).lives i []) (B.chip flash)
+        × Lived (node_role node_layers) (slice_index_or (script_of (S.script script.now)).lives i []) (B.chip flash)
         (record { over = over; life = life_of r.0 }) (B.chip r.1)) }
     ensures room { IfOk result (λ r. FitsLines (life_of r.0)) }
 {
-    script_law();
-    let plan = plan_of(alloc, script.lives.as_slice()[i].as_slice())?;
+    let plan = plan_at(script, alloc, i)?;
     let (log, flash) = life::<MeshMachine, B, G, R>(rt, alloc, flash, &plan, gate)?;
     Ok((ended_life(log), flash))
 }
 
 /// Runs the lives of a script one after another, and tells of each once it is over; nothing of it but its flash is kept. The node was
 /// provisioned on the flash. For want of memory nothing of a life is told.
-pub(crate) fn live_all<R: Threads + Wait + Sync, B: Bench, L: LifeSink, K: Sink, G: Gate>(
+pub(crate) fn live_all<R: Threads + Wait + Sync, S: LifeSource, B: Bench, L: LifeSink, K: Sink, G: Gate>(
     rt: &R,
     alloc: Global,
-    script: &Script,
+    script: &S,
     lives: &mut L,
     sink: &mut K,
     flash: B,
     gate: &G,
 ) -> Result<B, Stopped<B>>
-    requires read { IsScriptOf Grammars.Node script.now }
-    requires provisioned { IsProvisioned (B.chip flash) (provisioned (script_of script.now).node) }
+    requires read { IsScriptOf Grammars.Node (S.script script.now) }
+    requires provisioned { IsProvisioned (B.chip flash) (provisioned (script_of (S.script script.now)).node) }
     ensures all { IfOk result
-        (λ f. Ran B.chip (node_role node_layers) (script_of script.now) (L.told lives.old lives.new) flash
+        (λ f. Ran B.chip (node_role node_layers) (script_of (S.script script.now)) (L.told lives.old lives.new) flash
         (view_of K.held K.pieces sink.old) f (view_of K.held K.pieces sink.new)) }
     ensures front { IsSinkFault result
         → IsSomeAnd (flash_left result)
-        (λ f. RanFront B.chip (node_role node_layers) (script_of script.now) (L.told lives.old lives.new)
+        (λ f. RanFront B.chip (node_role node_layers) (script_of (S.script script.now)) (L.told lives.old lives.new)
         (L.broken lives.new) flash (view_of K.held K.pieces sink.old) f (view_of K.held K.pieces sink.new)) }
     ensures whole { IsMemory result
-        → RanFirst B.chip (node_role node_layers) (script_of script.now) (L.told lives.old lives.new) flash
+        → RanFirst B.chip (node_role node_layers) (script_of (S.script script.now)) (L.told lives.old lives.new) flash
         (view_of K.held K.pieces sink.old) (flash_left result) (view_of K.held K.pieces sink.new) }
     ensures cause { IsSinkFault result → Rose (K.faults sink.old) (K.faults sink.new) }
     ensures no_fault { ¬ IsSinkFault result → K.faults sink.new ≡ K.faults sink.old }
@@ -123,7 +139,7 @@ pub(crate) fn live_all<R: Threads + Wait + Sync, B: Bench, L: LifeSink, K: Sink,
     node_runs_law();
     lives_law();
     let mut flash = flash;
-    for i in 0..script.lives.as_slice().len() {
+    for i in 0..script.count() {
         let (ended, back) = match live(rt, alloc, script, i, flash, gate) {
             Ok(lived) => lived,
             Err(_) => return Err(Stopped::Memory(None)),

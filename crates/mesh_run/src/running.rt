@@ -11,7 +11,7 @@ ghost use Rattle.script_definitions.specs.Reading.{reading};
 ghost use Rattle.script_definitions.specs.Reading.Reading.{Fails};
 ghost use Rattle.script_definitions.specs.declared.kind.Grammar.TheVariants as Grammars;
 ghost use Rattle.run_steps.specs.Audited.{Audited, AuditedFront, IsAuditEnd};
-ghost use Rattle.mesh_run.specs.Causes.{IfScript, IsBeforeFlash, IsBeforeLives, IsDue, IsErasedFlash, IsReadingStop, IsSameFlash, IsScriptAnd, IsWrittenAt, WasErased};
+ghost use Rattle.mesh_run.specs.Causes.{IfScript, IsBeforeFlash, IsBeforeLives, IsDue, IsErasedFlash, IsFromFlash, IsGenerate, IsReadingStop, IsSameFlash, IsScriptAnd, IsWrittenAt, WasErased, read_end};
 ghost use Rattle.command_words.specs.Commands.{command_of};
 ghost use Rattle.command_words.specs.declared.commands.Command.TheVariants as C;
 ghost use Rattle.command_words.specs.declared.commands.RunFlags.{RunFlags as Flags};
@@ -21,9 +21,12 @@ ghost use Rattle.mesh_run.specs.Reporting.{ReportsFront};
 ghost use Rattle.report_writer.specs.Reporting.{Reports};
 ghost use Rattle.run_steps.specs.Provisioned.{FailsEarly, format_by};
 ghost use Rattle.run_steps.specs.Reads.{ReadsMoreThan};
+ghost use Rattle.run_summary.specs.Telling.{Summarizes, SummarizesFront};
+ghost use Rattle.script_generator.specs.Generated.{generated};
 ghost use Rattle.event_definitions.specs.Role.{node_role};
 ghost use Rattle.store_definitions.specs.Provisioning.{provisioned};
 
+use crate::generated::run_generated;
 use crate::scripts::run_text;
 use command_words::{Command, command_of};
 use flash_model::Bench;
@@ -34,8 +37,19 @@ use std::alloc::Global;
 use std::sync::Wait;
 use std::thread::Threads;
 
-/// Runs a command. The words after the program's name are `run`, with `--hex` and `--old` in any combination, or `audit`; every other list is
-/// `Usage`. What the source has is read to its end before the flash is touched.
+/// How a run ends whose source wasn't read to its end.
+fn read_end(stop: ReadStop) -> Status
+    ensures value { result ≡ read_end stop }
+{
+    match stop {
+        ReadStop::Fault => Status::ReadFault,
+        ReadStop::TooLong => Status::TooLong,
+        ReadStop::Memory => Status::Memory,
+    }
+}
+
+/// Runs a command. The words after the program's name are `run`, with `--hex` and `--old` in any combination, `audit`, or `gen COUNT START`;
+/// every other list is `Usage`. What the source has is read to its end before the flash is touched; `gen` reads nothing.
 ///
 /// `run` reads a script from the source, runs it over the flash, and writes its report into the sink: the power of the flash is cycled, the
 /// node of the script is provisioned on it, and the lives are run one after another; the report of a life is written once it is over, each
@@ -47,6 +61,9 @@ use std::thread::Threads;
 /// provisioned in format 01, else in format 02.
 ///
 /// `audit` reads a log, and writes the line of its verdict.
+///
+/// `gen` runs a script that is generated from two numbers (`GeneratedScript` of `script_generator`), as `run` would run its text, and writes eight
+/// lines: what is counted of all lives together.
 ///
 /// The flash is honest. It is handed back, but for want of memory it may be lost.
 pub fn run<R: Threads + Wait + Sync, S: Source, K: Sink, B: Bench, G: Gate>(
@@ -139,9 +156,40 @@ pub fn run<R: Threads + Wait + Sync, S: Source, K: Sink, B: Bench, G: Gate>(
         → (result.status ≡ Status.ReadFault) ⊎ (result.status ≡ Status.TooLong) ⊎ (result.status ≡ Status.Memory)) }
     ensures verdict_flash { command_of (map (λ w. w.now) words.now) ≡ Some C.Audit → result.flash ≡ Some flash }
 
+    // Of a script that is generated the summary is written, or a front of it. The source isn't read, and no cause comes that is of reading.
+    ensures summary { (count start : ℕ) → command_of (map (λ w. w.now) words.now) ≡ Some (C.Generate count start)
+        → result.status ≡ Status.Done
+        → IsSomeAnd result.flash
+        (λ f. FromProvisioned B.chip (format_by false) (provisioned (script_of (generated count start)).node)
+        (B.chip flash)
+        (λ from. Ran B.chip (node_role node_layers) (script_of (generated count start)) Summarizes from
+        (view_of K.held K.pieces sink.old) f (view_of K.held K.pieces sink.new))) }
+    ensures summary_front { (count start : ℕ)
+        → command_of (map (λ w. w.now) words.now) ≡ Some (C.Generate count start) → result.status ≡ Status.WriteFault
+        → IsSomeAnd result.flash
+        (λ f. FromProvisioned B.chip (format_by false) (provisioned (script_of (generated count start)).node)
+        (B.chip flash)
+        (λ from. Ran B.chip (node_role node_layers) (script_of (generated count start)) SummarizesFront from
+        (view_of K.held K.pieces sink.old) f (view_of K.held K.pieces sink.new))) }
+    ensures summary_memory { IsGenerate (command_of (map (λ w. w.now) words.now)) → result.status ≡ Status.Memory
+        → view_of K.held K.pieces sink.new ≡ view_of K.held K.pieces sink.old }
+    ensures summary_early { (count start : ℕ)
+        → command_of (map (λ w. w.now) words.now) ≡ Some (C.Generate count start) → result.status ≡ Status.FlashFault
+        → IsSomeAnd result.flash
+        (λ f. FailsEarly (provisioned (script_of (generated count start)).node) (B.chip flash) (B.chip f)) }
+    ensures summary_erased { IsGenerate (command_of (map (λ w. w.now) words.now))
+        → (result.status ≡ Status.Done) ⊎ (result.status ≡ Status.WriteFault) → WasErased (B.chip flash) }
+    ensures summary_due { IsGenerate (command_of (map (λ w. w.now) words.now))
+        → IsFromFlash result.status ⊎ (result.status ≡ Status.Memory) }
+    ensures summary_complete { IsGenerate (command_of (map (λ w. w.now) words.now))
+        → ¬ Rose (K.faults sink.old) (K.faults sink.new) → IsErasedFlash (B.chip flash)
+        → (result.status ≡ Status.Done) ⊎ (result.status ≡ Status.Memory) ⊎ (result.status ≡ Status.FlashFault) }
+    ensures unread { IsGenerate (command_of (map (λ w. w.now) words.now)) → source.new ≡ source.old }
+
     // What is read is all that there was.
     ensures nothing_read { result.status ≡ Status.Usage → source.new ≡ source.old }
-    ensures read_whole { ¬ IsReadingStop result.status → IsAtEnd (S.left source.new) }
+    ensures read_whole { ¬ IsGenerate (command_of (map (λ w. w.now) words.now)) → ¬ IsReadingStop result.status
+        → IsAtEnd (S.left source.new) }
 
     // What becomes of the flash.
     ensures same_flash { IsBeforeFlash result.status → result.flash ≡ Some flash }
@@ -159,14 +207,15 @@ pub fn run<R: Threads + Wait + Sync, S: Source, K: Sink, B: Bench, G: Gate>(
         Ok(None) => return Ended::with_flash(Status::Usage, flash),
         Err(_) => return Ended::with_flash(Status::Memory, flash),
     };
-    let bytes = match read_whole(alloc, source) {
-        Ok(bytes) => bytes,
-        Err(ReadStop::Fault) => return Ended::with_flash(Status::ReadFault, flash),
-        Err(ReadStop::TooLong) => return Ended::with_flash(Status::TooLong, flash),
-        Err(ReadStop::Memory) => return Ended::with_flash(Status::Memory, flash),
-    };
     match command {
-        Command::Run(flags) => run_text(rt, alloc, flags, bytes.as_slice(), sink, flash, gate),
-        Command::Audit => Ended::with_flash(audit_text(alloc, bytes.as_slice(), sink), flash),
+        Command::Run(flags) => match read_whole(alloc, source) {
+            Ok(bytes) => run_text(rt, alloc, flags, bytes.as_slice(), sink, flash, gate),
+            Err(stop) => Ended::with_flash(read_end(stop), flash),
+        },
+        Command::Audit => match read_whole(alloc, source) {
+            Ok(bytes) => Ended::with_flash(audit_text(alloc, bytes.as_slice(), sink), flash),
+            Err(stop) => Ended::with_flash(read_end(stop), flash),
+        },
+        Command::Generate { count, start } => run_generated(rt, alloc, count, start, sink, flash, gate),
     }
 }

@@ -22,11 +22,11 @@ use crate::lives::{Stopped, live_all};
 use command_words::RunFlags;
 use flash_model::Bench;
 use life_plans::{provision_of, script_law};
+use life_sources::LifeSource;
 use mesh_base::outside::Sink;
 use mesh_node::Gate;
 use report_writer::{LifeSink, Report};
 use run_steps::{Ended, Status, provision};
-use script_definitions::script::Script;
 use script_reader::{ScriptStop, read_script};
 use slot_journal::FormatFault;
 use std::alloc::Global;
@@ -35,18 +35,18 @@ use std::thread::Threads;
 
 /// Runs a script: power is cycled, the node is provisioned, in format 01 where it is to be the old one, and the lives are run one after
 /// another. Each is told of once it is over.
-pub(crate) fn run_script<R: Threads + Wait + Sync, B: Bench, L: LifeSink, K: Sink, G: Gate>(
+pub(crate) fn run_script<R: Threads + Wait + Sync, S: LifeSource, B: Bench, L: LifeSink, K: Sink, G: Gate>(
     rt: &R,
     alloc: Global,
     old: bool,
-    script: &Script,
+    script: &S,
     lives: &mut L,
     sink: &mut K,
     flash: B,
     gate: &G,
 ) -> Ended<B>
     requires honest { IsTrue (B.chip flash).honest }
-    requires read { IsScriptOf Grammars.Node script.now }
+    requires read { IsScriptOf Grammars.Node (S.script script.now) }
 
     // Each status has its cause.
     ensures due { IsFromFlash result.status ⊎ (result.status ≡ Status.Memory) }
@@ -57,7 +57,7 @@ pub(crate) fn run_script<R: Threads + Wait + Sync, B: Bench, L: LifeSink, K: Sin
         → IsSomeAnd result.flash (λ f. (B.chip flash).faults < (B.chip f).faults) × (IsTrue (B.chip flash).steady → ⊥) }
     ensures early { result.status ≡ Status.FlashFault
         → IsSomeAnd result.flash
-        (λ f. FailsEarly (provisioned (script_of script.now).node) (B.chip flash) (B.chip f)) }
+        (λ f. FailsEarly (provisioned (script_of (S.script script.now)).node) (B.chip flash) (B.chip f)) }
     ensures erased { (result.status ≡ Status.Done) ⊎ (result.status ≡ Status.WriteFault) → WasErased (B.chip flash) }
     ensures complete { ¬ Rose (K.faults sink.old) (K.faults sink.new) → IsErasedFlash (B.chip flash)
         → (result.status ≡ Status.Done) ⊎ (result.status ≡ Status.Memory) ⊎ (result.status ≡ Status.FlashFault) }
@@ -65,17 +65,17 @@ pub(crate) fn run_script<R: Threads + Wait + Sync, B: Bench, L: LifeSink, K: Sin
     // What is told is a record of a run of the script, or its first lives.
     ensures done { result.status ≡ Status.Done
         → IsSomeAnd result.flash
-        (λ f. FromProvisioned B.chip (format_by old) (provisioned (script_of script.now).node) (B.chip flash)
-        (λ start. Ran B.chip (node_role node_layers) (script_of script.now) (L.told lives.old lives.new) start
+        (λ f. FromProvisioned B.chip (format_by old) (provisioned (script_of (S.script script.now)).node) (B.chip flash)
+        (λ start. Ran B.chip (node_role node_layers) (script_of (S.script script.now)) (L.told lives.old lives.new) start
         (view_of K.held K.pieces sink.old) f (view_of K.held K.pieces sink.new))) }
     ensures front { result.status ≡ Status.WriteFault
         → IsSomeAnd result.flash
-        (λ f. FromProvisioned B.chip (format_by old) (provisioned (script_of script.now).node) (B.chip flash)
-        (λ start. RanFront B.chip (node_role node_layers) (script_of script.now) (L.told lives.old lives.new)
+        (λ f. FromProvisioned B.chip (format_by old) (provisioned (script_of (S.script script.now)).node) (B.chip flash)
+        (λ start. RanFront B.chip (node_role node_layers) (script_of (S.script script.now)) (L.told lives.old lives.new)
         (L.broken lives.new) start (view_of K.held K.pieces sink.old) f (view_of K.held K.pieces sink.new))) }
     ensures whole { result.status ≡ Status.Memory
-        → FromProvisioned B.chip (format_by old) (provisioned (script_of script.now).node) (B.chip flash)
-        (λ start. RanFirst B.chip (node_role node_layers) (script_of script.now) (L.told lives.old lives.new) start
+        → FromProvisioned B.chip (format_by old) (provisioned (script_of (S.script script.now)).node) (B.chip flash)
+        (λ start. RanFirst B.chip (node_role node_layers) (script_of (S.script script.now)) (L.told lives.old lives.new) start
         (view_of K.held K.pieces sink.old) result.flash (view_of K.held K.pieces sink.new)) }
     ensures nothing_written { IsBeforeLives result.status → sink.new ≡ sink.old }
 
@@ -89,7 +89,7 @@ pub(crate) fn run_script<R: Threads + Wait + Sync, B: Bench, L: LifeSink, K: Sin
     script_law();
     let mut flash = flash;
     flash.power_cycle();
-    match provision(&mut flash, old, &provision_of(&script.provision)) {
+    match provision(&mut flash, old, &provision_of(&script.node())) {
         Ok(()) => {}
         Err(FormatFault::Flash) => return Ended::with_flash(Status::FlashFault, flash),
         Err(FormatFault::NotErased { at }) => return Ended::with_flash(

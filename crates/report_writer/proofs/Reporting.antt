@@ -1,6 +1,6 @@
 -- A life more in a report.
 use Rattle.std.proofs.Common.{◌≡◌, ◌+◌, ℕ, Bool, List, [], ◌∷◌, ◌++◌, length, sym, ap, ◌∙◌, append_assoc, append-nil, arith}
-use Rattle.report_definitions.specs.Record.{Life, LifeOver}
+use Rattle.report_definitions.specs.Record.{LifeOver}
 use Rattle.report_definitions.specs.Report.{life_lines, lives_lines}
 use Rattle.report_writer.specs.Reporting.{Reports}
 use Rattle.report_writer.specs.Writing.{SinkView, Written}

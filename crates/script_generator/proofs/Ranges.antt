@@ -1,15 +1,14 @@
 -- A generated script is a script.
-use Rattle.std.proofs.Common.{◌≡◌, ℕ, zero, suc, ◌+◌, ◌-◌, ◌*◌, ◌/◌, ◌%◌, ◌^◌, ◌==◌, ◌<◌, ◌≤◌, Bool, true, false, List, [], ◌∷◌, length, map, refl, arith, lit<, ap, ◌∙◌, sym}
+use Rattle.std.proofs.Common.{◌≡◌, ℕ, zero, suc, ◌+◌, ◌-◌, ◌*◌, ◌/◌, ◌^◌, ◌==◌, ◌<◌, ◌≤◌, Bool, true, false, map, refl, arith, lit<, ap, ◌∙◌}
 use Rattle.std.specs.Prelude.{All, count_by, min, if◌then◌else◌}
 use Rattle.std.specs.List.{range_with_len}
 use Rattle.std.proofs.lemmas.List.FromFn.{length-map-range_with_len}
 use Rattle.std.proofs.lemmas.List.Elements.{All-cons, All-nil}
 use Rattle.std.proofs.lemmas.List.Sums.{count_by-le-length, sum_by-cons}
-use Rattle.script_definitions.specs.Ranges.{IsLife, IsLine, IsProvision, IsScriptOf}
+use Rattle.script_definitions.specs.Ranges.{IsLife, IsLine, IsScriptOf}
 use Rattle.script_definitions.specs.Reading.{is_arm, is_bearer_line}
 use Rattle.script_definitions.specs.declared.kind.Grammar.TheVariants as G
-use Rattle.script_definitions.specs.declared.line.ScriptLine.{ScriptLine}
-use Rattle.script_generator.specs.Generated.{generated, kind_of, life_at, line_at, line_of, lives_of, next_number, number_at, peer_line, provision_line, raw_line}
+use Rattle.script_generator.specs.Generated.{generated, kind_of, life_at, line_at, line_of, number_at, peer_line, raw_line}
 
 number_fits : (start i : ℕ) → start < 2 ^ 32 → number_at start i < 2 ^ 32
 number_fits start zero fits = fits
@@ -72,4 +71,3 @@ module _ (start : ℕ) (fits : start < 2 ^ 32) where
     lives = lives_are count 0 ((count + 4095) / 4096) few (omega (arith, few));
     count = omega (arith, few, length-map-range_with_len (life_at count start) 0 ((count + 4095) / 4096));
   }
-

@@ -2,10 +2,10 @@
 //! numbers from one another. What such a script is is defined in `specs/`, `Generated`.
 //!
 //! - `lines`: one line
-//! - `lives`: all lives, `generate`
+//! - `scripts`: the script, `GeneratedScript`, and that it is one
 #![tactic(auto)]
 
 mod lines;
-mod lives;
+mod scripts;
 
-pub use lives::generate;
+pub use scripts::{GeneratedScript, generated_law};

@@ -1,7 +1,7 @@
 use Rattle.std.proofs.Common.{◌∙◌, refl, sym}
 use Rattle.clap.specs.Matches.{found_of}
 use Rattle.clap.specs.Words.{subcommand_rows_of}
-use Rattle.command_words.proofs.Spelled.{name_is, told_run}
+use Rattle.command_words.proofs.Spelled.{name_is, told_gen, told_run}
 use Rattle.command_words.proofs.reading.told.Goals as goal
 
 pub returns-in-Some : goal.returns-in-Some
@@ -11,3 +11,11 @@ returns-in-Some c = record {
       c.get_flag.ensures.none c.get_flag.ensures.value c.get_flag.ensures.other
       c.get_flag-in-Some.ensures.none c.get_flag-in-Some.ensures.value c.get_flag-in-Some.ensures.other flags;
 }
+
+pub returns-in-Some-subcommand_matches-2 : goal.returns-in-Some-subcommand_matches-2
+returns-in-Some-subcommand_matches-2 c =
+    let found = c.in-Some-subcommand_matches-2 in
+    record {
+      value = λ flags. c.generate.ensures.value
+          ∙ told_gen (subcommand_rows_of c.args.matches.now) (found_of found.found.now) (sym (name_is c.args.matches.now) ∙ found.ensures.found.0 refl) found.ensures.rows;
+    }

@@ -16,7 +16,7 @@ loop-i-init g c =
     let law = g.met.L.LifeSink in
     let told = g.L.LifeSink.told c.args.lives.now c.args.lives.now in
     record {
-      progress = progress_none g.B.Flash.chip (script_of c.args.script.now) told c.args.flash (view c.args.sink.now) c.requires.provisioned
+      progress = progress_none g.B.Flash.chip (script_of (g.S.LifeSource.script c.args.script.now)) told c.args.flash (view c.args.sink.now) c.requires.provisioned
           (law.none c.args.lives.now (view c.args.sink.now));
       no_fault = refl;
     }
@@ -25,7 +25,7 @@ pub live-requires-clause-elements : goal.live-requires-clause-elements
 live-requires-clause-elements g c κs within =
     let chip = g.B.Flash.chip in
     let view = view_of g.K.Sink.held g.K.Sink.pieces in
-    progress_elements c.node_law.ensures.safe c.lives_law.ensures.keeps chip (script_of c.args.script.now) (g.L.LifeSink.told c.args.lives.now c.loop-i.lives) c.args.flash c.loop-i.flash
+    progress_elements c.node_law.ensures.safe c.lives_law.ensures.keeps chip (script_of (g.S.LifeSource.script c.args.script.now)) (g.L.LifeSink.told c.args.lives.now c.loop-i.lives) c.args.flash c.loop-i.flash
     (view c.args.sink.now) (view c.loop-i.sink) c.loop-i.i c.loop-i.invariant.progress
 
 pub returns-in-Err-Fault-clause-front : goal.returns-in-Err-Fault-clause-front
@@ -34,9 +34,9 @@ returns-in-Err-Fault-clause-front g c = λ yes.
     let view = view_of g.K.Sink.held g.K.Sink.pieces in
     let told = g.L.LifeSink.told c.args.lives.now in
     let broken = g.L.LifeSink.broken in
-    let s = script_of c.args.script.now in
+    let s = script_of (g.S.LifeSource.script c.args.script.now) in
     let law = g.met.B.Flash g.world.𝓛 g.world.𝓜 g.world.𝓡 ((λ s x. x), (λ x. x), (λ x. x), λ x. x) in
-    let within = is_within c.args.script.now.lives c.as_slice-i-end.result.now c.loop-i.i c.as_slice-i-end.ensures.value c.loop-i-test.true in
+    let within = is_within (g.S.LifeSource.script c.args.script.now).lives c.count-i-end.result c.loop-i.i c.count-i-end.ensures.value c.loop-i-test.true in
     let lived = c.in-Ok.ensures.lived in
     let before = view c.args.sink.now in
     let after = view c.tell.new.sink in
@@ -51,9 +51,9 @@ returns-in-Err-clause-whole g c = λ yes.
     let chip = g.B.Flash.chip in
     let view = view_of g.K.Sink.held g.K.Sink.pieces in
     let law = g.met.B.Flash g.world.𝓛 g.world.𝓜 g.world.𝓡 ((λ s x. x), (λ x. x), (λ x. x), λ x. x) in
-    let within = is_within c.args.script.now.lives c.as_slice-i-end.result.now c.loop-i.i c.as_slice-i-end.ensures.value c.loop-i-test.true in
+    let within = is_within (g.S.LifeSource.script c.args.script.now).lives c.count-i-end.result c.loop-i.i c.count-i-end.ensures.value c.loop-i-test.true in
     let progress = c.loop-i.invariant.progress in
-    first_lost chip (script_of c.args.script.now) (g.L.LifeSink.told c.args.lives.now c.loop-i.lives) c.args.flash c.loop-i.flash (view c.args.sink.now) (view c.loop-i.sink) c.loop-i.i
+    first_lost chip (script_of (g.S.LifeSource.script c.args.script.now)) (g.L.LifeSink.told c.args.lives.now c.loop-i.lives) c.args.flash c.loop-i.flash (view c.args.sink.now) (view c.loop-i.sink) c.loop-i.i
     progress within (law.reads_image c.loop-i.flash progress.ran.node.honest)
 
 pub returns-in-Err-Memory-clause-whole : goal.returns-in-Err-Memory-clause-whole
@@ -61,9 +61,9 @@ returns-in-Err-Memory-clause-whole g c = λ yes.
     let chip = g.B.Flash.chip in
     let view = view_of g.K.Sink.held g.K.Sink.pieces in
     let told = g.L.LifeSink.told c.args.lives.now in
-    let s = script_of c.args.script.now in
+    let s = script_of (g.S.LifeSource.script c.args.script.now) in
     let law = g.met.B.Flash g.world.𝓛 g.world.𝓜 g.world.𝓡 ((λ s x. x), (λ x. x), (λ x. x), λ x. x) in
-    let within = is_within c.args.script.now.lives c.as_slice-i-end.result.now c.loop-i.i c.as_slice-i-end.ensures.value c.loop-i-test.true in
+    let within = is_within (g.S.LifeSource.script c.args.script.now).lives c.count-i-end.result c.loop-i.i c.count-i-end.ensures.value c.loop-i-test.true in
     let progress = c.loop-i.invariant.progress in
     let lived = c.in-Ok.ensures.lived in
     let before = view c.args.sink.now in
@@ -90,12 +90,12 @@ loop-i-preserved g c =
     let law = g.met.B.Flash g.world.𝓛 g.world.𝓜 g.world.𝓡 ((λ s x. x), (λ x. x), (λ x. x), λ x. x) in
     let view = view_of g.K.Sink.held g.K.Sink.pieces in
     let told = g.L.LifeSink.told c.args.lives.now in
-    let within = is_within c.args.script.now.lives c.as_slice-i-end.result.now c.loop-i.i c.as_slice-i-end.ensures.value c.loop-i-test.true in
+    let within = is_within (g.S.LifeSource.script c.args.script.now).lives c.count-i-end.result c.loop-i.i c.count-i-end.ensures.value c.loop-i-test.true in
     let progress = c.loop-i.invariant.progress in
     let lived = c.in-Ok.ensures.lived in
     let x : LifeOver = record { over = lived.0; life = life_of c.in-Ok.lived.0 } in
     record {
-      progress = progress_more chip (script_of c.args.script.now) (told c.loop-i.lives) (told c.tell.new.self) c.args.flash c.loop-i.flash c.in-Ok.lived.1
+      progress = progress_more chip (script_of (g.S.LifeSource.script c.args.script.now)) (told c.loop-i.lives) (told c.tell.new.self) c.args.flash c.loop-i.flash c.in-Ok.lived.1
           (view c.args.sink.now) (view c.loop-i.sink) (view c.tell.new.sink) c.loop-i.i x progress (law.counts_now c.loop-i.flash) within lived.1
           (c.in-Ok-tell.ensures.ok c.args.lives.now progress.lives lived.0 (view c.args.sink.now) progress.report (ap (λ n. n + 1) (sym progress.count)));
       no_fault = c.in-Ok-tell.ensures.no_fault (λ e. cc) ∙ c.loop-i.invariant.no_fault;
@@ -107,6 +107,6 @@ returns-clause-all g c =
     let view = view_of g.K.Sink.held g.K.Sink.pieces in
     let law = g.met.B.Flash g.world.𝓛 g.world.𝓜 g.world.𝓡 ((λ s x. x), (λ x. x), (λ x. x), λ x. x) in
     let progress = c.loop-i.invariant.progress in
-    let past = is_past c.args.script.now.lives c.as_slice-i-end.result.now c.loop-i.i c.as_slice-i-end.ensures.value c.loop-i-test.false in
-    all_lived c.node_runs_law.ensures.no_reuse c.node_runs_law.ensures.at_most_once chip (script_of c.args.script.now) (g.L.LifeSink.told c.args.lives.now c.loop-i.lives) c.args.flash c.loop-i.flash
+    let past = is_past (g.S.LifeSource.script c.args.script.now).lives c.count-i-end.result c.loop-i.i c.count-i-end.ensures.value c.loop-i-test.false in
+    all_lived c.node_runs_law.ensures.no_reuse c.node_runs_law.ensures.at_most_once chip (script_of (g.S.LifeSource.script c.args.script.now)) (g.L.LifeSink.told c.args.lives.now c.loop-i.lives) c.args.flash c.loop-i.flash
     (view c.args.sink.now) (view c.loop-i.sink) c.loop-i.i past (law.reads_image c.loop-i.flash progress.ran.node.honest) progress

@@ -6,6 +6,6 @@ use Rattle.mesh_run.proofs.lives.live_all.Given as goal
 
 abbrev pub invariant-loop-i : goal.invariant-loop-i
 invariant-loop-i g l = record {
-  progress : Progress g.B.Flash.chip (script_of l.script) (g.L.LifeSink.told l.fn.lives l.lives) l.fn.flash (view_of g.K.Sink.held g.K.Sink.pieces l.fn.sink) l.i l.flash (view_of g.K.Sink.held g.K.Sink.pieces l.sink);
+  progress : Progress g.B.Flash.chip (script_of (g.S.LifeSource.script l.script)) (g.L.LifeSink.told l.fn.lives l.lives) l.fn.flash (view_of g.K.Sink.held g.K.Sink.pieces l.fn.sink) l.i l.flash (view_of g.K.Sink.held g.K.Sink.pieces l.sink);
   no_fault : g.K.Sink.faults l.sink ≡ g.K.Sink.faults l.fn.sink;
 }

@@ -1,4 +1,4 @@
-use Rattle.std.proofs.Common.{Err, Some, subst, sym}
+use Rattle.std.proofs.Common.{◌∙◌, Err, Some, ap, subst, sym}
 use Rattle.std.specs.Prelude.{IfSome, IsSomeAnd}
 use Rattle.event_definitions.specs.Role.{node_role}
 use Rattle.life_plans.specs.Plans.{provision_of, script_of}
@@ -29,8 +29,8 @@ returns-in-Err-Flash-clause-early g c = λ is.
     let early : FailsEarly (provisioned (provisioning c.provision_of.result)) old new =
     fails_early (provisioned (provisioning c.provision_of.result)) old mid new cycle.frame (cycle.image c.requires.honest) fresh cycle.setting did.frame cause
     (law.counts_now c.provision.new.flash) (did.any_moment fresh) (did.unchanged fresh.honest) in
-    let records = provisioned (provisioning (provision_of c.args.script.now.provision)) in
-    let said : FailsEarly records old new = subst (λ (p : Provision). FailsEarly (provisioned (provisioning p)) old new) c.provision_of.ensures.value early in
+    let records = provisioned (provisioning (provision_of (g.S.LifeSource.script c.args.script.now).provision)) in
+    let said : FailsEarly records old new = subst (λ (p : Provision). FailsEarly (provisioned (provisioning p)) old new) (c.provision_of.ensures.value ∙ ap provision_of c.node.ensures.value) early in
     subst (λ e. IsSomeAnd e.flash (λ f. FailsEarly records old (chip f))) (sym c.with_flash.ensures.value) said
 
 -- what was run was run from the flash that provisioning left
@@ -39,7 +39,7 @@ returns-in-Ok-live_all-clause-done g c = λ is.
     let chip = g.B.Flash.chip in
     let view = view_of g.K.Sink.held g.K.Sink.pieces in
     let role = node_role node_layers in
-    let s = script_of c.args.script.now in
+    let s = script_of (g.S.LifeSource.script c.args.script.now) in
     let told = g.L.LifeSink.told c.args.lives.now c.live_all.new.lives in
     let broken = g.L.LifeSink.broken c.live_all.new.lives in
     let old = chip c.args.flash in
@@ -50,7 +50,7 @@ returns-in-Ok-live_all-clause-done g c = λ is.
     let cycle = c.power_cycle.ensures in
     let fresh = cycle.fresh c.requires.honest in
     let was : WasProvisioned format (provisioned s.node) old start =
-    was_provisioned format c.provision_of.result (provision_of c.args.script.now.provision) old (chip c.power_cycle.new.self) start c.provision_of.ensures.value cycle.frame
+    was_provisioned format c.provision_of.result (provision_of (g.S.LifeSource.script c.args.script.now).provision) old (chip c.power_cycle.new.self) start (c.provision_of.ensures.value ∙ ap provision_of c.node.ensures.value) cycle.frame
     (cycle.image c.requires.honest) cycle.setting (c.in-Ok.ensures.erased fresh.honest) c.provision.ensures.frame c.in-Ok.ensures.no_fault (c.in-Ok.ensures.provisioned fresh) (c.in-Ok.ensures.format fresh) in
     subst (λ e. IsSomeAnd e.flash (λ f. FromProvisioned chip format (provisioned s.node) old (λ from. Ran chip role s told from before f after)))
     (sym c.with_flash-in-Ok-live_all.ensures.value) (record { start = c.provision.new.flash; provisioned = was; ran = c.in-Ok-live_all.ensures.all })
@@ -60,7 +60,7 @@ returns-in-Err-Fault-clause-front g c = λ is.
     let chip = g.B.Flash.chip in
     let view = view_of g.K.Sink.held g.K.Sink.pieces in
     let role = node_role node_layers in
-    let s = script_of c.args.script.now in
+    let s = script_of (g.S.LifeSource.script c.args.script.now) in
     let told = g.L.LifeSink.told c.args.lives.now c.live_all.new.lives in
     let broken = g.L.LifeSink.broken c.live_all.new.lives in
     let old = chip c.args.flash in
@@ -71,7 +71,7 @@ returns-in-Err-Fault-clause-front g c = λ is.
     let cycle = c.power_cycle.ensures in
     let fresh = cycle.fresh c.requires.honest in
     let was : WasProvisioned format (provisioned s.node) old start =
-    was_provisioned format c.provision_of.result (provision_of c.args.script.now.provision) old (chip c.power_cycle.new.self) start c.provision_of.ensures.value cycle.frame
+    was_provisioned format c.provision_of.result (provision_of (g.S.LifeSource.script c.args.script.now).provision) old (chip c.power_cycle.new.self) start (c.provision_of.ensures.value ∙ ap provision_of c.node.ensures.value) cycle.frame
     (cycle.image c.requires.honest) cycle.setting (c.in-Ok.ensures.erased fresh.honest) c.provision.ensures.frame c.in-Ok.ensures.no_fault (c.in-Ok.ensures.provisioned fresh) (c.in-Ok.ensures.format fresh) in
     let ran : RanFront chip role s told broken c.provision.new.flash before c.in-Err-Fault.flash after =
     subst (λ e. IsSinkFault (Err e) → IsSomeAnd (flash_left (Err e)) (λ f. RanFront chip role s told broken c.provision.new.flash before f after)) c.in-Err-Fault.field-0-is c.in-Err-Fault.ensures.front tt in
@@ -83,7 +83,7 @@ returns-in-Err-Memory-clause-whole g c = λ is.
     let chip = g.B.Flash.chip in
     let view = view_of g.K.Sink.held g.K.Sink.pieces in
     let role = node_role node_layers in
-    let s = script_of c.args.script.now in
+    let s = script_of (g.S.LifeSource.script c.args.script.now) in
     let told = g.L.LifeSink.told c.args.lives.now c.live_all.new.lives in
     let broken = g.L.LifeSink.broken c.live_all.new.lives in
     let old = chip c.args.flash in
@@ -94,7 +94,7 @@ returns-in-Err-Memory-clause-whole g c = λ is.
     let cycle = c.power_cycle.ensures in
     let fresh = cycle.fresh c.requires.honest in
     let was : WasProvisioned format (provisioned s.node) old start =
-    was_provisioned format c.provision_of.result (provision_of c.args.script.now.provision) old (chip c.power_cycle.new.self) start c.provision_of.ensures.value cycle.frame
+    was_provisioned format c.provision_of.result (provision_of (g.S.LifeSource.script c.args.script.now).provision) old (chip c.power_cycle.new.self) start (c.provision_of.ensures.value ∙ ap provision_of c.node.ensures.value) cycle.frame
     (cycle.image c.requires.honest) cycle.setting (c.in-Ok.ensures.erased fresh.honest) c.provision.ensures.frame c.in-Ok.ensures.no_fault (c.in-Ok.ensures.provisioned fresh) (c.in-Ok.ensures.format fresh) in
     record {
       start = c.provision.new.flash;

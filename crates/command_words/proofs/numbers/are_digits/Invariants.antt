@@ -1,0 +1,7 @@
+-- what is left decides
+use Rattle.std.proofs.Common.{◌≡◌, drop}
+use Rattle.std.specs.Str.{all_ascii_digits}
+use Rattle.command_words.proofs.numbers.are_digits.Given as goal
+
+abbrev pub invariant-loop-octet : goal.invariant-loop-octet
+invariant-loop-octet l = all_ascii_digits (drop l.octet-index l.octets) ≡ all_ascii_digits l.octets

@@ -1,0 +1,115 @@
+//! A script that is generated, run and summed up.
+#![tactic(auto)]
+
+ghost use Rattle.std.specs.Prelude.{◌≡◌, ◌≢◌, ◌⊎◌, ◌<◌, ◌≤◌, ℕ, false, None, IfSome, IsSomeAnd, IsTrue};
+ghost use Rattle.event_definitions.specs.Role.{node_role};
+ghost use Rattle.life_plans.specs.Plans.{script_of};
+ghost use Rattle.mesh_base.specs.Outside.{Rose};
+ghost use Rattle.node_layers.specs.NodeLayers.{node_layers};
+ghost use Rattle.report_writer.specs.Handing.{HandedFront, IsHanded};
+ghost use Rattle.report_writer.specs.Writing.{view_of};
+ghost use Rattle.run_steps.specs.Provisioned.{FailsEarly, format_by};
+ghost use Rattle.run_summary.specs.Summaries.{summary_text};
+ghost use Rattle.run_summary.specs.Telling.{Summarizes, SummarizesFront};
+ghost use Rattle.script_generator.specs.Generated.{generated};
+ghost use Rattle.store_definitions.specs.Provisioning.{provisioned};
+ghost use Rattle.mesh_run.specs.Causes.{IsBeforeLives, IsErasedFlash, IsFromFlash, IsSameFlash, IsSumEnd, IsWrittenAt, WasErased};
+ghost use Rattle.mesh_run.specs.Ran.{FromProvisioned, Ran};
+
+use crate::scripts::run_script;
+use flash_model::Bench;
+use mesh_base::outside::Sink;
+use mesh_node::Gate;
+use report_writer::WriteStop;
+use run_steps::{Ended, Status};
+use run_summary::{Summary, write_summary};
+use script_generator::{GeneratedScript, generated_law};
+use std::alloc::Global;
+use std::sync::Wait;
+use std::thread::Threads;
+
+/// Writes the summary of a run, and says how the run ends.
+fn sum_up<K: Sink>(alloc: Global, sink: &mut K, summary: &Summary) -> Status
+    ensures ends { IsSumEnd result }
+    ensures done { result ≡ Status.Done
+        → IsHanded (summary_text summary.now) (view_of K.held K.pieces sink.old) (view_of K.held K.pieces sink.new) }
+    ensures front { result ≡ Status.WriteFault
+        → HandedFront (summary_text summary.now) (view_of K.held K.pieces sink.old)
+        (view_of K.held K.pieces sink.new) }
+    ensures memory { result ≡ Status.Memory → sink.new ≡ sink.old }
+    ensures cause { result ≡ Status.WriteFault → Rose (K.faults sink.old) (K.faults sink.new) }
+    ensures no_fault { result ≢ Status.WriteFault → K.faults sink.new ≡ K.faults sink.old }
+    ensures later { K.faults sink.old ≤ K.faults sink.new }
+{
+    match write_summary(alloc, sink, summary) {
+        Ok(()) => Status::Done,
+        Err(WriteStop::Fault) => Status::WriteFault,
+        Err(WriteStop::Memory) => Status::Memory,
+    }
+}
+
+/// Runs the script of so many lines of bearers, whose numbers begin behind `start`, and writes its summary. Its lives are made as they begin
+/// and counted as they end, and nothing else of them is kept.
+pub(crate) fn run_generated<R: Threads + Wait + Sync, B: Bench, K: Sink, G: Gate>(
+    rt: &R,
+    alloc: Global,
+    count: u32,
+    start: u32,
+    sink: &mut K,
+    flash: B,
+    gate: &G,
+) -> Ended<B>
+    requires honest { IsTrue (B.chip flash).honest }
+    requires few { count ≤ 32768 }
+
+    // Each status has its cause.
+    ensures due { IsFromFlash result.status ⊎ (result.status ≡ Status.Memory) }
+    ensures write_fault { result.status ≡ Status.WriteFault → Rose (K.faults sink.old) (K.faults sink.new) }
+    ensures not_erased { (at : ℕ) → result.status ≡ Status.NotErased at
+        → IsSomeAnd result.flash (λ f. IsWrittenAt at (B.chip flash) (B.chip f)) }
+    ensures flash_fault { result.status ≡ Status.FlashFault
+        → IsSomeAnd result.flash (λ f. (B.chip flash).faults < (B.chip f).faults) × (IsTrue (B.chip flash).steady → ⊥) }
+    ensures early { result.status ≡ Status.FlashFault
+        → IsSomeAnd result.flash
+        (λ f. FailsEarly (provisioned (script_of (generated count start)).node) (B.chip flash) (B.chip f)) }
+    ensures erased { (result.status ≡ Status.Done) ⊎ (result.status ≡ Status.WriteFault) → WasErased (B.chip flash) }
+    ensures complete { ¬ Rose (K.faults sink.old) (K.faults sink.new) → IsErasedFlash (B.chip flash)
+        → (result.status ≡ Status.Done) ⊎ (result.status ≡ Status.Memory) ⊎ (result.status ≡ Status.FlashFault) }
+
+    // What is written is the summary of a record of a run of the script, or a front of it.
+    ensures done { result.status ≡ Status.Done
+        → IsSomeAnd result.flash
+        (λ f. FromProvisioned B.chip (format_by false) (provisioned (script_of (generated count start)).node)
+        (B.chip flash)
+        (λ from. Ran B.chip (node_role node_layers) (script_of (generated count start)) Summarizes from
+        (view_of K.held K.pieces sink.old) f (view_of K.held K.pieces sink.new))) }
+    ensures front { result.status ≡ Status.WriteFault
+        → IsSomeAnd result.flash
+        (λ f. FromProvisioned B.chip (format_by false) (provisioned (script_of (generated count start)).node)
+        (B.chip flash)
+        (λ from. Ran B.chip (node_role node_layers) (script_of (generated count start)) SummarizesFront from
+        (view_of K.held K.pieces sink.old) f (view_of K.held K.pieces sink.new))) }
+    ensures memory { result.status ≡ Status.Memory
+        → view_of K.held K.pieces sink.new ≡ view_of K.held K.pieces sink.old }
+    ensures nothing_written { IsBeforeLives result.status → sink.new ≡ sink.old }
+
+    // What becomes of the flash, and of the sink's count of faults.
+    ensures handed_back { result.flash ≡ None → result.status ≡ Status.Memory }
+    ensures frame { IfSome result.flash (λ f. IsSameFlash (B.chip flash) (B.chip f)) }
+    ensures no_fault { result.status ≢ Status.WriteFault → K.faults sink.new ≡ K.faults sink.old }
+    ensures later { K.faults sink.old ≤ K.faults sink.new }
+{
+    // It does nothing when it runs: the proof uses what it says.
+    generated_law();
+    let script = GeneratedScript { count, start };
+    let mut summary = Summary::new();
+    let ended = run_script(rt, alloc, false, &script, &mut summary, sink, flash, gate);
+    let Ended { status, flash } = ended;
+    match status {
+        Status::Done => Ended {
+            status: sum_up(alloc, sink, &summary),
+            flash,
+        },
+        status => Ended { status, flash },
+    }
+}
