@@ -78,10 +78,10 @@ pub returns-in-Err-Memory-clause-frame : goal.returns-in-Err-Memory-clause-frame
 returns-in-Err-Memory-clause-frame g c =
     let chip = g.B.Flash.chip in
     let law = g.met.B.Flash g.world.𝓛 g.world.𝓜 g.world.𝓡 ((λ s x. x), (λ x. x), (λ x. x), λ x. x) in
-    let within = is_within c.args.script.now.lives c.as_slice-i-end.result.now c.loop-i.i c.as_slice-i-end.ensures.value c.loop-i-test.true in
+    let within = is_within (g.S.LifeSource.script c.args.script.now).lives c.count-i-end.result c.loop-i.i c.count-i-end.ensures.value c.loop-i-test.true in
     let progress = c.loop-i.invariant.progress in
     let lived = c.in-Ok.ensures.lived in
-    same_more chip (script_of c.args.script.now) c.args.flash c.loop-i.flash c.in-Ok.lived.1 c.loop-i.i progress.lives (record { over = lived.0; life = life_of c.in-Ok.lived.0 })
+    same_more chip (script_of (g.S.LifeSource.script c.args.script.now)) c.args.flash c.loop-i.flash c.in-Ok.lived.1 c.loop-i.i progress.lives (record { over = lived.0; life = life_of c.in-Ok.lived.0 })
     progress.ran progress.same (law.counts_now c.loop-i.flash) within lived.1
 
 pub loop-i-preserved : goal.loop-i-preserved
