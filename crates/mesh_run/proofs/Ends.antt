@@ -1,5 +1,5 @@
 -- From what the parts of a run do to what the run does.
-use Rattle.std.proofs.Common.{◌≡◌, ◌<◌, ◌≤◌, ◌+◌, ℕ, List, ◌++◌, sym, ap, ◌∙◌, subst, arith, append-nil, Option, Some, None, IsTrue}
+use Rattle.std.proofs.Common.{◌≡◌, ◌⊎◌, ◌<◌, ◌≤◌, ◌+◌, ℕ, List, ◌++◌, length, length-append, refl, inl, inr, sym, ap, ◌∙◌, subst, arith, append-nil, Option, Some, None, IsTrue}
 use Rattle.std.specs.Prelude.{IfSome, IsSomeAnd}
 use Rattle.std.specs.Io.KnownBytes.{Consumes, IsAtEnd}
 use Rattle.flash_model.proofs.Runs.{past_more}
@@ -15,10 +15,16 @@ use Rattle.report_definitions.specs.Record.{Life, LifeOver}
 use Rattle.report_writer.specs.Writing.{SinkView}
 use Rattle.run_definitions.specs.RunOf.{Script}
 use Rattle.mesh_run.specs.Ran.{FromProvisioned, Ran, RanFirst, RanFront}
-use Rattle.script_definitions.specs.Reading.{Reading}
+use Rattle.script_definitions.specs.Reading.{Reading, reading}
 use Rattle.script_definitions.specs.Reading.Reading.{Fails, IsScript}
+use Rattle.script_definitions.specs.declared.kind.Grammar.TheVariants as G
 use Rattle.script_definitions.specs.declared.script.Script as Said
-use Rattle.mesh_run.specs.Causes.{IfScript, IsErasedFlash, IsSameFlash, IsScriptAnd, IsWrittenAt, WasErased}
+use Rattle.std.proofs.lemmas.Bool.{lt-ltb}
+use Rattle.run_steps.specs.Reads.{ReadsMoreThan}
+use Rattle.run_steps.specs.declared.reading.ReadStop.{ReadStop}
+use Rattle.run_steps.specs.declared.reading.ReadStop.TheVariants as R
+use Rattle.run_steps.specs.declared.status.Status.TheVariants as S
+use Rattle.mesh_run.specs.Causes.{IfScript, IsDue, IsDueIf, IsErasedFlash, IsSameFlash, IsScriptAnd, IsWrittenAt, WasErased, read_end}
 use Rattle.run_steps.specs.Provisioned.{FailsEarly, IsInFormat, IsProvisioned, WasProvisioned}
 
 -- what was read is all that there was
@@ -104,13 +110,13 @@ was_provisioned format p q old mid new of count image setting erased keeps same 
 
 -- what was told is a report
 module _ {F : Type 0} (chip : F → Chip) (role : Role) (s : Script) (T U : List LifeOver → SinkView → SinkView → Type 0)
-    (as : (lives : List LifeOver) (before after : SinkView) → T lives before after → U lives before after) where
+    (into : (lives : List LifeOver) (before after : SinkView) → T lives before after → U lives before after) where
   pub ran_as : (start : F) (before : SinkView) (left : F) (after : SinkView) → Ran chip role s T start before left after → Ran chip role s U start before left after
   ran_as start before left after ran = record {
     run = ran.run;
     is_run = ran.is_run;
     ran = ran.ran;
-    report = as ran.run.lives before after ran.report;
+    report = into ran.run.lives before after ran.report;
     no_reuse = ran.no_reuse;
     at_most_once = ran.at_most_once;
   }
@@ -123,7 +129,7 @@ module _ {F : Type 0} (chip : F → Chip) (role : Role) (s : Script) (T U : List
     is_run = ran.is_run;
     reached = ran.reached;
     ran = ran.ran;
-    report = as ran.run.lives before after ran.report;
+    report = into ran.run.lives before after ran.report;
     more = ran.more;
   }
 
@@ -138,7 +144,7 @@ module _ {F : Type 0} (chip : F → Chip) (role : Role) (s : Script) (T U : List
     is_run = ran.is_run;
     ran = ran.ran;
     mid = ran.mid;
-    report = as ran.lives before ran.mid ran.report;
+    report = into ran.lives before ran.mid ran.report;
     front = so (ran.n + 1) ran.x.life ran.mid after ran.front;
   }
 
@@ -150,3 +156,29 @@ from_as chip format records given P Q so from = record { start = from.start; pro
 pub some_as : {F : Type 0} (left : Option F) (P Q : F → Type 0) → ((f : F) → P f → Q f) → IsSomeAnd left P → IsSomeAnd left Q
 some_as None P Q so h = h
 some_as (Some f) P Q so h = so f h
+
+-- The source wasn't read to its end.
+
+too_long : (old new : Option (List ℕ)) → ReadsMoreThan old new 4194304 → IfSome old (λ text. 4194304 < length text)
+too_long None new h = tt
+too_long (Some text) None (read, consumed, more) = absurd consumed
+too_long (Some text) (Some rest) (read, consumed, more) =
+    let many : length text ≡ length read + length rest = ap (λ (v : List ℕ). length v) consumed ∙ length-append read rest in omega (arith, many, more)
+
+pub read_due : (stop : ReadStop) (old new : Option (List ℕ)) → (stop ≡ R.TooLong → ReadsMoreThan old new 4194304) → IfSome old (λ text. IsDue text (read_end stop))
+read_due stop None new long = tt
+read_due R.Fault (Some text) new long = inl refl
+read_due R.Memory (Some text) new long = inr (inl refl)
+read_due R.TooLong (Some text) new long =
+    inr (inr (subst (λ b. IsDueIf b text S.TooLong) (sym (lt-ltb 4194304 (length text) (too_long (Some text) new (long refl)))) refl))
+
+if_any : (r : Reading) (P : Said.Script → Type 0) → ((s : Said.Script) → P s) → IfScript r P
+if_any (IsScript s) P h = h s
+if_any (Fails line rule) P h = tt
+
+pub read_complete : (stop : ReadStop) (old new : Option (List ℕ)) → (stop ≡ R.Fault → ⊥) → (stop ≡ R.TooLong → ReadsMoreThan old new 4194304)
+    → IfSome old (λ text. length text ≤ 4194304 → IfScript (reading G.Node text) (λ s. (read_end stop ≡ S.Done) ⊎ (read_end stop ≡ S.Memory) ⊎ (read_end stop ≡ S.FlashFault)))
+read_complete stop None new fails long = tt
+read_complete R.Fault (Some text) new fails long = absurd (fails refl)
+read_complete R.Memory (Some text) new fails long = λ few. if_any (reading G.Node text) _ (λ s. inr (inl refl))
+read_complete R.TooLong (Some text) new fails long = λ few. absurd (let many : 4194304 < length text = too_long (Some text) new (long refl) in omega (arith, few, many))

@@ -28,11 +28,11 @@ module _ {F : Type 0} (chip : F → Chip) (role : Role) (s : Script) (format : �
   -- a run whose lives were told, and whose sink went on behind them
   ran_then : (T U : List LifeOver → SinkView → SinkView → Type 0) (mid after : SinkView) → ((lives : List LifeOver) → T lives before mid → U lives before after)
       → (start left : F) → Ran chip role s T start before left mid → Ran chip role s U start before left after
-  ran_then T U mid after as start left ran = record {
+  ran_then T U mid after into start left ran = record {
     run = ran.run;
     is_run = ran.is_run;
     ran = ran.ran;
-    report = as ran.run.lives ran.report;
+    report = into ran.run.lives ran.report;
     no_reuse = ran.no_reuse;
     at_most_once = ran.at_most_once;
   }
@@ -41,22 +41,22 @@ module _ {F : Type 0} (chip : F → Chip) (role : Role) (s : Script) (format : �
   pub left_then : (T U : List LifeOver → SinkView → SinkView → Type 0) (mid after : SinkView) → ((lives : List LifeOver) → T lives before mid → U lives before after)
       → (left : Option F) → IsSomeAnd left (λ f. FromProvisioned chip format records given (λ start. Ran chip role s T start before f mid))
       → IsSomeAnd left (λ f. FromProvisioned chip format records given (λ start. Ran chip role s U start before f after))
-  left_then T U mid after as None h = h
-  left_then T U mid after as (Some f) h = record { start = h.start; provisioned = h.provisioned; ran = ran_then T U mid after as h.start f h.ran }
+  left_then T U mid after into None h = h
+  left_then T U mid after into (Some f) h = record { start = h.start; provisioned = h.provisioned; ran = ran_then T U mid after into h.start f h.ran }
 
   -- telling of a life can't be broken off
   pub not_broken : (T : List LifeOver → SinkView → SinkView → Type 0) (after : SinkView) (left : Option F)
       → IsSomeAnd left (λ f. FromProvisioned chip format records given (λ start. RanFront chip role s T (λ number life old new. ⊥) start before f after)) → ⊥
-  not_broken T after None h = absurd cc
+  not_broken T after None h = h
   not_broken T after (Some f) h = h.ran.front
 
   -- the first lives were told, and that left the sink
   pub silent : (T : List LifeOver → SinkView → SinkView → Type 0) (after : SinkView) → ((lives : List LifeOver) → T lives before after → after ≡ before)
       → (left : Option F) → FromProvisioned chip format records given (λ start. RanFirst chip role s T start before left after) → after ≡ before
-  silent T after as left h = as h.ran.run.lives h.ran.report
+  silent T after into left h = into h.ran.run.lives h.ran.report
 
   -- all lives were told, and that left the sink
   pub silent_all : (T : List LifeOver → SinkView → SinkView → Type 0) (after : SinkView) → ((lives : List LifeOver) → T lives before after → after ≡ before)
       → (left : Option F) → IsSomeAnd left (λ f. FromProvisioned chip format records given (λ start. Ran chip role s T start before f after)) → after ≡ before
-  silent_all T after as None h = absurd cc
-  silent_all T after as (Some f) h = as h.ran.run.lives h.ran.report
+  silent_all T after into None h = absurd h
+  silent_all T after into (Some f) h = into h.ran.run.lives h.ran.report

@@ -10,8 +10,8 @@ use Rattle.store_definitions.specs.Provisioning.{provisioned}
 use Rattle.mesh_run.proofs.Generating.{front_summarized, left_then, not_broken, silent, silent_all, summarized}
 use Rattle.mesh_run.proofs.generated.run_generated.Goals as goal
 
-pub run_script-requires-clause-read : goal.run_script-requires-clause-read
-run_script-requires-clause-read g c κs within = c.generated_law.ensures.read c.args.count c.args.start c.requires.few c.ranges.start.fits
+pub run_script-ended-requires-clause-read : goal.run_script-ended-requires-clause-read
+run_script-ended-requires-clause-read g c κs within = c.generated_law.ensures.read c.args.count c.args.start c.requires.few c.ranges.start.fits
 
 -- the summary of what was counted is written behind the lives
 pub returns-in-Done-clause-done : goal.returns-in-Done-clause-done
@@ -20,11 +20,11 @@ returns-in-Done-clause-done g c = λ done.
     let view = view_of g.K.Sink.held g.K.Sink.pieces in
     let s = script_of (generated c.args.count c.args.start) in
     let before = view c.args.sink.now in
-    let mid = view c.run_script.new.sink in
+    let mid = view c.run_script-ended.new.sink in
     let after = view c.sum_up.new.sink in
     left_then chip (node_role node_layers) s (format_by false) (provisioned s.node) (chip c.args.flash) before _ Summarizes mid after
-    (λ lives told. summarized c.new-summary.result c.run_script.new.lives lives before mid after c.new-summary.ensures.value told (c.sum_up.ensures.done done))
-    c.run_script.result.flash (c.run_script.ensures.done c.in-Done.field-0-is)
+    (λ lives told. summarized c.new-summary.result c.run_script-ended.new.lives lives before mid after c.new-summary.ensures.value told (c.sum_up.ensures.done done))
+    c.run_script-ended.result.flash (c.run_script-ended.ensures.done c.in-Done.is)
 
 pub returns-in-Done-clause-front : goal.returns-in-Done-clause-front
 returns-in-Done-clause-front g c = λ fault.
@@ -32,11 +32,11 @@ returns-in-Done-clause-front g c = λ fault.
     let view = view_of g.K.Sink.held g.K.Sink.pieces in
     let s = script_of (generated c.args.count c.args.start) in
     let before = view c.args.sink.now in
-    let mid = view c.run_script.new.sink in
+    let mid = view c.run_script-ended.new.sink in
     let after = view c.sum_up.new.sink in
     left_then chip (node_role node_layers) s (format_by false) (provisioned s.node) (chip c.args.flash) before _ SummarizesFront mid after
-    (λ lives told. front_summarized c.new-summary.result c.run_script.new.lives lives before mid after c.new-summary.ensures.value told (c.sum_up.ensures.front fault))
-    c.run_script.result.flash (c.run_script.ensures.done c.in-Done.field-0-is)
+    (λ lives told. front_summarized c.new-summary.result c.run_script-ended.new.lives lives before mid after c.new-summary.ensures.value told (c.sum_up.ensures.front fault))
+    c.run_script-ended.result.flash (c.run_script-ended.ensures.done c.in-Done.is)
 
 pub returns-in-Done-clause-memory : goal.returns-in-Done-clause-memory
 returns-in-Done-clause-memory g c = λ memory.
@@ -44,22 +44,5 @@ returns-in-Done-clause-memory g c = λ memory.
     let view = view_of g.K.Sink.held g.K.Sink.pieces in
     let s = script_of (generated c.args.count c.args.start) in
     ap view (c.sum_up.ensures.memory memory)
-    ∙ silent_all chip (node_role node_layers) s (format_by false) (provisioned s.node) (chip c.args.flash) (view c.args.sink.now) _ (view c.run_script.new.sink) (λ lives told. told.0)
-    c.run_script.result.flash (c.run_script.ensures.done c.in-Done.field-0-is)
-
--- else nothing is written
-pub returns-clause-memory : goal.returns-clause-memory
-returns-clause-memory g c = λ memory.
-    let chip = g.B.Flash.chip in
-    let view = view_of g.K.Sink.held g.K.Sink.pieces in
-    let s = script_of (generated c.args.count c.args.start) in
-    silent chip (node_role node_layers) s (format_by false) (provisioned s.node) (chip c.args.flash) (view c.args.sink.now) _ (view c.run_script.new.sink) (λ lives told. told.0)
-    c.run_script.result.flash (c.run_script.ensures.whole memory)
-
-pub returns-clause-front : goal.returns-clause-front
-returns-clause-front g c = λ fault.
-    let chip = g.B.Flash.chip in
-    let view = view_of g.K.Sink.held g.K.Sink.pieces in
-    let s = script_of (generated c.args.count c.args.start) in
-    absurd (not_broken chip (node_role node_layers) s (format_by false) (provisioned s.node) (chip c.args.flash) (view c.args.sink.now) _ (view c.run_script.new.sink)
-    c.run_script.result.flash (c.run_script.ensures.front fault))
+    ∙ silent_all chip (node_role node_layers) s (format_by false) (provisioned s.node) (chip c.args.flash) (view c.args.sink.now) _ (view c.run_script-ended.new.sink) (λ lives told. told.0)
+    c.run_script-ended.result.flash (c.run_script-ended.ensures.done c.in-Done.is)

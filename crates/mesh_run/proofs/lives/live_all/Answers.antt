@@ -1,18 +1,19 @@
-use Rattle.std.proofs.Common.{◌∙◌, [], ◌∷◌, ◌++◌, Err, Some, ap, refl, subst, sym}
+use Rattle.std.proofs.Common.{◌∙◌, ◌+◌, [], ◌∷◌, ◌++◌, Err, Some, ap, refl, subst, sym}
 use Rattle.event_definitions.specs.Role.{node_role}
 use Rattle.life_plans.specs.Plans.{script_of}
 use Rattle.node_layers.specs.NodeLayers.{node_layers}
+use Rattle.report_definitions.specs.Record.{LifeOver}
 use Rattle.report_writer.specs.Lives.{life_of}
 use Rattle.report_writer.specs.Writing.{view_of}
 use Rattle.mesh_run.specs.Ran.{RanFirst, RanFront}
 use Rattle.mesh_run.proofs.Living.{is_past, is_within}
-use Rattle.mesh_run.proofs.Progress.{all_lived, first_lost, first_more_left, front_more, progress_elements, progress_more, progress_none}
+use Rattle.mesh_run.proofs.Progress.{all_lived, first_lost, first_more_left, front_more, progress_elements, progress_more, progress_none, same_more}
 use Rattle.mesh_run.proofs.lives.live_all.Goals as goal
 
 pub loop-i-init : goal.loop-i-init
 loop-i-init g c =
     let view = view_of g.K.Sink.held g.K.Sink.pieces in
-    let law = g.met.L.LifeSink g.world.𝓛 g.world.𝓜 g.world.𝓡 ((λ s x. x), (λ x. x), (λ x. x), λ x. x) in
+    let law = g.met.L.LifeSink in
     let told = g.L.LifeSink.told c.args.lives.now c.args.lives.now in
     record {
       progress = progress_none g.B.Flash.chip (script_of (g.S.LifeSource.script c.args.script.now)) told c.args.flash (view c.args.sink.now) c.requires.provisioned
@@ -73,6 +74,16 @@ returns-in-Err-Memory-clause-whole g c = λ yes.
     (subst (RanFirst chip (node_role node_layers) s (told c.loop-i.lives) c.args.flash before (Some c.in-Ok.lived.1))
     (sym (ap view (c.in-Err-Memory.ensures.memory (ap (λ e. Err e) c.in-Err-Memory.field-0-is)))) ran)
 
+pub returns-in-Err-Memory-clause-frame : goal.returns-in-Err-Memory-clause-frame
+returns-in-Err-Memory-clause-frame g c =
+    let chip = g.B.Flash.chip in
+    let law = g.met.B.Flash g.world.𝓛 g.world.𝓜 g.world.𝓡 ((λ s x. x), (λ x. x), (λ x. x), λ x. x) in
+    let within = is_within (g.S.LifeSource.script c.args.script.now).lives c.count-i-end.result c.loop-i.i c.count-i-end.ensures.value c.loop-i-test.true in
+    let progress = c.loop-i.invariant.progress in
+    let lived = c.in-Ok.ensures.lived in
+    same_more chip (script_of (g.S.LifeSource.script c.args.script.now)) c.args.flash c.loop-i.flash c.in-Ok.lived.1 c.loop-i.i progress.lives (record { over = lived.0; life = life_of c.in-Ok.lived.0 })
+    progress.ran progress.same (law.counts_now c.loop-i.flash) within lived.1
+
 pub loop-i-preserved : goal.loop-i-preserved
 loop-i-preserved g c =
     let chip = g.B.Flash.chip in
@@ -82,7 +93,7 @@ loop-i-preserved g c =
     let within = is_within (g.S.LifeSource.script c.args.script.now).lives c.count-i-end.result c.loop-i.i c.count-i-end.ensures.value c.loop-i-test.true in
     let progress = c.loop-i.invariant.progress in
     let lived = c.in-Ok.ensures.lived in
-    let x = record { over = lived.0; life = life_of c.in-Ok.lived.0 } in
+    let x : LifeOver = record { over = lived.0; life = life_of c.in-Ok.lived.0 } in
     record {
       progress = progress_more chip (script_of (g.S.LifeSource.script c.args.script.now)) (told c.loop-i.lives) (told c.tell.new.self) c.args.flash c.loop-i.flash c.in-Ok.lived.1
           (view c.args.sink.now) (view c.loop-i.sink) (view c.tell.new.sink) c.loop-i.i x progress (law.counts_now c.loop-i.flash) within lived.1

@@ -1,22 +1,68 @@
-use Rattle.std.proofs.Common.{◌∙◌, ap, subst, sym}
+use Rattle.std.proofs.Common.{◌≡◌, ◌≤◌, ◌⊎◌, ◌∙◌, ℕ, List, Err, ap, length, subst, sym}
+use Rattle.std.specs.Prelude.{IfSome, IsSomeAnd}
 use Rattle.std.specs.Io.KnownBytes.{Consumes}
+use Rattle.command_words.specs.declared.commands.RunFlags.{RunFlags}
+use Rattle.event_definitions.specs.Role.{node_role}
+use Rattle.life_plans.specs.Plans.{script_of}
+use Rattle.node_layers.specs.NodeLayers.{node_layers}
+use Rattle.report_writer.specs.Reporting.{Reports}
 use Rattle.report_writer.specs.Writing.{view_of}
-use Rattle.run_steps.specs.Audited.{Audited, AuditedFront}
-use Rattle.mesh_run.proofs.Ends.{of_all}
+use Rattle.run_steps.specs.Provisioned.{format_by}
+use Rattle.run_steps.specs.declared.status.Status.{Status}
+use Rattle.run_steps.specs.declared.status.Status.TheVariants as Statuses
+use Rattle.script_definitions.specs.Reading.{reading}
+use Rattle.script_definitions.specs.declared.kind.Grammar.TheVariants as Grammars
+use Rattle.store_definitions.specs.Provisioning.{provisioned}
+use Rattle.mesh_run.specs.Causes.{IfScript, IsDue, IsScriptAnd}
+use Rattle.mesh_run.specs.Ran.{FromProvisioned, Ran, RanFront}
+use Rattle.mesh_run.specs.Reporting.{ReportsFront}
+use Rattle.mesh_run.proofs.Ends.{of_all, read_complete, read_due}
 use Rattle.mesh_run.proofs.running.run.Goals as goal
 
-pub returns-clause-verdict : goal.returns-clause-verdict
-returns-clause-verdict g c = λ is done.
+-- what holds of the text that was read holds of what the source had
+pub returns-in-Ok-clause-done : goal.returns-in-Ok-clause-done
+returns-in-Ok-clause-done g c = λ flags is done.
+    let chip = g.B.Flash.chip in
     let view = view_of g.K.Sink.held g.K.Sink.pieces in
     let left = g.S.Source.left in
-    of_all (λ text. Audited text (view c.args.sink.now) (view c.audit_text.new.sink)) (left c.args.source.now) (left c.read_whole.new.source) c.as_slice-in-Audit.result.now
-    (subst (Consumes (left c.args.source.now) (left c.read_whole.new.source)) (sym c.as_slice-in-Audit.ensures.value) c.in-Ok.ensures.octets) c.in-Ok.ensures.end
-    (c.audit_text.ensures.verdict (sym (ap (λ e. e.status) c.with_flash-in-Audit.ensures.value) ∙ done))
+    let given : c.in-Run.flags ≡ flags = cc (is, c.in-Ok-Some.ensures.value, c.in-Ok-Some.field-0-is, c.in-Run.is) in
+    let Says : RunFlags → List ℕ → Type 0 = λ said text. IsScriptAnd (reading Grammars.Node text)
+    (λ s. IsSomeAnd c.run_text.result.flash
+    (λ f. FromProvisioned chip (format_by said.old) (provisioned (script_of s).node) (chip c.args.flash)
+    (λ start. Ran chip (node_role node_layers) (script_of s) (Reports said.hex) start (view c.args.sink.now) f (view c.run_text.new.sink)))) in
+    of_all (Says flags) (left c.args.source.now) (left c.read_whole.new.source) c.as_slice.result.now
+    (subst (Consumes (left c.args.source.now) (left c.read_whole.new.source)) (sym c.as_slice.ensures.value) c.in-Ok.ensures.octets) c.in-Ok.ensures.end
+    (subst (λ said. Says said c.as_slice.result.now) given (c.run_text.ensures.done done))
 
-pub returns-clause-verdict_front : goal.returns-clause-verdict_front
-returns-clause-verdict_front g c = λ is fault.
+pub returns-in-Ok-clause-front : goal.returns-in-Ok-clause-front
+returns-in-Ok-clause-front g c = λ flags is fault.
+    let chip = g.B.Flash.chip in
     let view = view_of g.K.Sink.held g.K.Sink.pieces in
     let left = g.S.Source.left in
-    of_all (λ text. AuditedFront text (view c.args.sink.now) (view c.audit_text.new.sink)) (left c.args.source.now) (left c.read_whole.new.source) c.as_slice-in-Audit.result.now
-    (subst (Consumes (left c.args.source.now) (left c.read_whole.new.source)) (sym c.as_slice-in-Audit.ensures.value) c.in-Ok.ensures.octets) c.in-Ok.ensures.end
-    (c.audit_text.ensures.front (sym (ap (λ e. e.status) c.with_flash-in-Audit.ensures.value) ∙ fault))
+    let given : c.in-Run.flags ≡ flags = cc (is, c.in-Ok-Some.ensures.value, c.in-Ok-Some.field-0-is, c.in-Run.is) in
+    let Says : RunFlags → List ℕ → Type 0 = λ said text. IsScriptAnd (reading Grammars.Node text)
+    (λ s. IsSomeAnd c.run_text.result.flash
+    (λ f. FromProvisioned chip (format_by said.old) (provisioned (script_of s).node) (chip c.args.flash)
+    (λ start. RanFront chip (node_role node_layers) (script_of s) (Reports said.hex) (ReportsFront said.hex) start (view c.args.sink.now) f (view c.run_text.new.sink)))) in
+    of_all (Says flags) (left c.args.source.now) (left c.read_whole.new.source) c.as_slice.result.now
+    (subst (Consumes (left c.args.source.now) (left c.read_whole.new.source)) (sym c.as_slice.ensures.value) c.in-Ok.ensures.octets) c.in-Ok.ensures.end
+    (subst (λ said. Says said c.as_slice.result.now) given (c.run_text.ensures.front fault))
+
+-- the source wasn't read to its end
+pub returns-in-Err-read_whole-clause-due : goal.returns-in-Err-read_whole-clause-due
+returns-in-Err-read_whole-clause-due g c = λ flags is.
+    let left = g.S.Source.left in
+    let status : c.with_flash-in-Err-read_whole.result.status ≡ _ = ap (λ e. e.status) c.with_flash-in-Err-read_whole.ensures.value ∙ c.read_end.ensures.value in
+    subst (λ (s : Status). IfSome (left c.args.source.now) (λ text. IsDue text s)) (sym status)
+    (read_due c.in-Err-read_whole.stop (left c.args.source.now) (left c.read_whole.new.source) (λ long. c.in-Err-read_whole.ensures.too_long (ap (λ e. Err e) long)))
+
+pub returns-in-Err-read_whole-clause-complete : goal.returns-in-Err-read_whole-clause-complete
+returns-in-Err-read_whole-clause-complete g c = λ flags is source sink erased.
+    let left = g.S.Source.left in
+    let status : c.with_flash-in-Err-read_whole.result.status ≡ _ = ap (λ e. e.status) c.with_flash-in-Err-read_whole.ensures.value ∙ c.read_end.ensures.value in
+    subst
+    (λ (e : Status). IfSome (left c.args.source.now)
+    (λ text. length text ≤ 4194304 → IfScript (reading Grammars.Node text) (λ s. (e ≡ Statuses.Done) ⊎ (e ≡ Statuses.Memory) ⊎ (e ≡ Statuses.FlashFault))))
+    (sym status)
+    (read_complete c.in-Err-read_whole.stop (left c.args.source.now) (left c.read_whole.new.source) (λ fault. source (c.in-Err-read_whole.ensures.cause (ap (λ e. Err e) fault)))
+    (λ long. c.in-Err-read_whole.ensures.too_long (ap (λ e. Err e) long)))
