@@ -4,7 +4,7 @@ use Rattle.std.specs.Prelude.{IsSomeAnd}
 use Rattle.event_definitions.specs.Role.{Role}
 use Rattle.flash_model.specs.Chip.{Chip}
 use Rattle.record_types.specs.declared.records.StoreRecord.{StoreRecord}
-use Rattle.report_definitions.specs.Record.{Life, LifeOver}
+use Rattle.report_definitions.specs.Record.{LifeOver}
 use Rattle.report_writer.specs.Handing.{HandedFront, IsHanded}
 use Rattle.report_writer.specs.Writing.{SinkView}
 use Rattle.run_definitions.specs.RunOf.{Script}

@@ -28,7 +28,7 @@ use Rattle.store_definitions.specs.Recovered.{IsRecovered}
 use Rattle.mesh_run.specs.Causes.{IsSameFlash}
 use Rattle.mesh_run.specs.Lived.{Lived}
 use Rattle.run_steps.specs.Provisioned.{IsProvisioned}
-use Rattle.mesh_run.specs.Ran.{AreFound, AreArmed, IsArmed, Ran, RanAll, RanFirst, RanFront, cuts, first_lives}
+use Rattle.mesh_run.specs.Ran.{AreFound, IsArmed, Ran, RanAll, RanFirst, RanFront, cuts, first_lives}
 use Rattle.mesh_run.proofs.Growing.{armed_more, chained_more, cuts_more, first_more, kept_elements, lives_more}
 
 abbrev role : Role
@@ -129,6 +129,7 @@ module _ {F : Type 0} (chip : F → Chip) (s : Script) (start old new : F) (i : 
     where
       cause : is_cut x.life.end ≡ true → (chip old).faults < (chip new).faults
       cause = subst (λ l. is_cut l.end ≡ true → (chip old).faults < (chip new).faults) h.is h.lives.cause
+
       by_end : (b : Bool) → is_cut x.life.end ≡ b → cuts (x ∷ []) + (chip old).faults ≤ (chip new).faults
       by_end true e = rw e (let m = cause e in omega arith)
       by_end false e = rw e (let k : 0 + (chip old).faults ≤ (chip new).faults = omega (arith, h.lives.later) in k)

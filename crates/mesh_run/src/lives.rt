@@ -108,7 +108,14 @@ fn live<R: Threads + Wait + Sync, S: LifeSource, B: Bench, G: Gate>(
 
 /// Runs the lives of a script one after another, and tells of each once it is over; nothing of it but its flash is kept. The node was
 /// provisioned on the flash. For want of memory nothing of a life is told.
-pub(crate) fn live_all<R: Threads + Wait + Sync, S: LifeSource, B: Bench, L: LifeSink, K: Sink, G: Gate>(
+pub(crate) fn live_all<
+    R: Threads + Wait + Sync,
+    S: LifeSource,
+    B: Bench,
+    L: LifeSink,
+    K: Sink,
+    G: Gate,
+>(
     rt: &R,
     alloc: Global,
     script: &S,

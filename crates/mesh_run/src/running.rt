@@ -216,6 +216,8 @@ pub fn run<R: Threads + Wait + Sync, S: Source, K: Sink, B: Bench, G: Gate>(
             Ok(bytes) => Ended::with_flash(audit_text(alloc, bytes.as_slice(), sink), flash),
             Err(stop) => Ended::with_flash(read_end(stop), flash),
         },
-        Command::Generate { count, start } => run_generated(rt, alloc, count, start, sink, flash, gate),
+        Command::Generate { count, start } => run_generated(
+            rt, alloc, count, start, sink, flash, gate,
+        ),
     }
 }

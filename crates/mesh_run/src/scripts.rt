@@ -35,7 +35,14 @@ use std::thread::Threads;
 
 /// Runs a script: power is cycled, the node is provisioned, in format 01 where it is to be the old one, and the lives are run one after
 /// another. Each is told of once it is over.
-pub(crate) fn run_script<R: Threads + Wait + Sync, S: LifeSource, B: Bench, L: LifeSink, K: Sink, G: Gate>(
+pub(crate) fn run_script<
+    R: Threads + Wait + Sync,
+    S: LifeSource,
+    B: Bench,
+    L: LifeSink,
+    K: Sink,
+    G: Gate,
+>(
     rt: &R,
     alloc: Global,
     old: bool,
@@ -174,5 +181,14 @@ pub(crate) fn run_text<R: Threads + Wait + Sync, B: Bench, K: Sink, G: Gate>(
         Err(ScriptStop::Memory) => return Ended::with_flash(Status::Memory, flash),
     };
     let mut report = Report { hex: flags.hex };
-    run_script(rt, alloc, flags.old, &script, &mut report, sink, flash, gate)
+    run_script(
+        rt,
+        alloc,
+        flags.old,
+        &script,
+        &mut report,
+        sink,
+        flash,
+        gate,
+    )
 }

@@ -1,4 +1,4 @@
-use Rattle.std.proofs.Common.{◌≡◌, ◌∙◌, [], ap, false, sym}
+use Rattle.std.proofs.Common.{◌∙◌, ap, false}
 use Rattle.event_definitions.specs.Role.{node_role}
 use Rattle.life_plans.specs.Plans.{script_of}
 use Rattle.node_layers.specs.NodeLayers.{node_layers}
@@ -7,7 +7,7 @@ use Rattle.run_steps.specs.Provisioned.{format_by}
 use Rattle.run_summary.specs.Telling.{Summarizes, SummarizesFront}
 use Rattle.script_generator.specs.Generated.{generated}
 use Rattle.store_definitions.specs.Provisioning.{provisioned}
-use Rattle.mesh_run.proofs.Generating.{front_summarized, left_then, not_broken, silent, silent_all, summarized}
+use Rattle.mesh_run.proofs.Generating.{front_summarized, left_then, silent_all, summarized}
 use Rattle.mesh_run.proofs.generated.run_generated.Goals as goal
 
 pub run_script-ended-requires-clause-read : goal.run_script-ended-requires-clause-read

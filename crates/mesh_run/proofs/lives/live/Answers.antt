@@ -13,8 +13,7 @@ life-requires-clause-plan g c κs within =
 pub returns-clause-lived : goal.returns-clause-lived
 returns-clause-lived g c =
     let chip = g.B.Flash.chip in
-    let lived = subst (λ steps. Lives (node_role node_layers) IsNode steps (chip c.args.flash) c.in_ok-log.log (chip c.in_ok-log.flash)) c.in_ok-plan.ensures.value c.in_ok-log.ensures.life in
-    (
+    let lived = subst (λ steps. Lives (node_role node_layers) IsNode steps (chip c.args.flash) c.in_ok-log.log (chip c.in_ok-log.flash)) c.in_ok-plan.ensures.value c.in_ok-log.ensures.life in (
       lived.over,
       record {
         log = c.in_ok-log.log;

@@ -1,4 +1,4 @@
-use Rattle.std.proofs.Common.{◌∙◌, ◌+◌, [], ◌∷◌, ◌++◌, Err, Some, ap, refl, subst, sym}
+use Rattle.std.proofs.Common.{◌∙◌, ◌+◌, Err, Some, ap, refl, subst, sym}
 use Rattle.event_definitions.specs.Role.{node_role}
 use Rattle.life_plans.specs.Plans.{script_of}
 use Rattle.node_layers.specs.NodeLayers.{node_layers}
