@@ -281,7 +281,9 @@ fn what_is_read_of_an_image(rt: HostRuntime) {
     assert!(rt; read_provisioned(alloc) == Some(false));
     assert!(rt; read_of(alloc, &[FIRST, NET, RESET], &BLANK) == Ok(true));
     assert!(rt; read_of(alloc, &[FIRST, NET, NAME], &BLANK) == Err(ImageFault::NotWhole));
-    assert!(rt; read_of(alloc, &[FIRST, NET, NAME], &HOLLOW) == Err(ImageFault::Header { bank: 1 }));
+    assert!(rt;
+        read_of(alloc, &[FIRST, NET, NAME], &HOLLOW) == Err(ImageFault::Header { bank: 1 })
+    );
     let damaged = ImageFault::Store(StoreFault::Damaged { slot: 2 });
     assert!(rt; read_of(alloc, &[FIRST, KIND, NAME], &BLANK) == Err(damaged));
 }
