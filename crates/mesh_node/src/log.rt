@@ -1,7 +1,7 @@
 //! The lines of the bearers, phase by phase.
 #![tactic(auto)]
 
-ghost use Rattle.std.specs.Prelude.{◌≡◌, ◌≢◌, ◌⊎◌, ◌||◌, [], length, map, All, None, Some, true, false, IfOk, OnOk, replicate};
+ghost use Rattle.std.specs.Prelude.{◌≡◌, ◌++◌, ◌≢◌, ◌⊎◌, ◌||◌, [], length, map, All, None, Some, true, false, IfOk, OnOk, replicate};
 ghost use Rattle.machine_contract.specs.declared.answers.Stop.TheVariants as Stops;
 ghost use Rattle.node_phase.specs.Part.{AreThrough, HadMemory, lines_of};
 ghost use Rattle.life_laws.specs.Phases.{both_of};
@@ -95,6 +95,18 @@ pub fn take_lines(
     Ok(sends)
 }
 
+/// Puts items behind those of before. Where there are none before, nothing is copied.
+pub fn put_behind<T: Drop>(items: &mut Vec<T>, more: Vec<T>) -> Result<(), AllocError>
+    ensures items { OnOk result (items.new.items ≡ items.old.items ++ more.items) }
+{
+    if items.is_empty() {
+        *items = more;
+        return Ok(());
+    }
+    let mut more = more;
+    items.append(&mut more)
+}
+
 /// Puts lines of bearers behind those of before, bearer by bearer.
 pub fn append_lines(sends: &mut [Vec<Sent>], more: Vec<Vec<Sent>>) -> Result<(), AllocError>
     requires bearers { length sends.old ≡ length more.items }
@@ -103,8 +115,7 @@ pub fn append_lines(sends: &mut [Vec<Sent>], more: Vec<Vec<Sent>>) -> Result<(),
 {
     let mut k = 0;
     for lines in more {
-        let mut lines = lines;
-        sends[k].append(&mut lines)?;
+        put_behind(&mut sends[k], lines)?;
         k += 1;
     }
     Ok(())

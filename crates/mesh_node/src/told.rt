@@ -6,7 +6,7 @@ ghost use Rattle.life_laws.specs.Phases.{both_of};
 ghost use Rattle.node_bearer.specs.Did.{AreEvents};
 ghost use Rattle.mesh_node.specs.Told.{IsPrintablePhase, SinkSteps, SourceSteps, did_of};
 
-use crate::log::{append_lines, no_lines};
+use crate::log::{append_lines, no_lines, put_behind};
 use mesh_types::events::Event;
 use mesh_types::history::{Entry, Sent};
 use std::alloc::{AllocError, Global};
@@ -48,10 +48,10 @@ impl PhaseLog {
     {
         let PhaseLog {
             first: _,
-            mut entries,
+            entries,
             sends,
         } = more;
-        self.entries.append(&mut entries)?;
+        put_behind(&mut self.entries, entries)?;
         append_lines(self.sends.as_mut_slice(), sends)
     }
 }

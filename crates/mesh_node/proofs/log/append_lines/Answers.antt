@@ -19,7 +19,7 @@ loop-lines-preserved c =
       is_finite = tt;
       len = omega (arith, c.in-Some.ensures.steps.1, ap length items, inv.len);
       count = omega (arith, inv.count, ap length items);
-      long = length-set was.sends k c.append.new.self ∙ inv.long;
-      lines = lines_step (λ v. v.items) k was.sends c.append.new.self c.index-sends-k.result lines.items (map (λ v. v.items) rest) lt c.in_ok-append.ensures.items
+      long = length-set was.sends k c.put_behind.new.items ∙ inv.long;
+      lines = lines_step (λ v. v.items) k was.sends c.put_behind.new.items c.index-sends-k.result lines.items (map (λ v. v.items) rest) lt c.in_ok-put_behind.ensures.items
           ∙ ap (λ ds. take k (map (λ v. v.items) was.sends) ++ both_of (drop k (map (λ v. v.items) was.sends)) (map (λ v. v.items) ds)) (sym items) ∙ inv.lines;
     }
