@@ -27,12 +27,12 @@
 //! # What the caller must see to
 //!
 //! - That one process at a time has the file, and that it is the same file the next time: a lock, no link, no second name.
-//! - That the file has its 65,536 octets, and the folder its name, durably, before the flash is made: a file for a new node is written whole,
-//!   synced, renamed, and its folder synced.
+//! - That the file has its 65,536 octets, and the folder its name, durably, before the flash is made: a file for a new node is written whole and
+//!   synced before it gets its name, and then its folder is synced.
 //! - That the image given to [`FileFlash::new`] is what the file holds. Behind a sync that failed, memory and disk may differ, and a later sync
 //!   may answer Ok: so the file is opened anew after a refusal.
 //!
-//! None of it is in this crate; it belongs to the program that opens the file. No program does yet.
+//! None of it is in this crate: `node_file` does it.
 #![tactic(auto)]
 
 mod backing;
