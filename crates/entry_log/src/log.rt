@@ -1,7 +1,7 @@
 //! The log.
 #![tactic(auto)]
 
-ghost use Rattle.std.specs.Prelude.{◌≡◌, ◌+◌, ◌<◌, ◌^◌, ◌++◌, [], ◌∷◌, length, drop, IfOk, OnOk};
+ghost use Rattle.std.specs.Prelude.{◌≡◌, ◌+◌, ◌<◌, ◌≤◌, ◌^◌, ◌++◌, [], ◌∷◌, length, drop, IfOk, OnOk};
 
 use crate::past::Recorder;
 use mesh_types::history::Entry;
@@ -56,6 +56,15 @@ impl EntryLog {
         ensures taken { self.new.taken ≡ self.old.taken }
     {
         self.fresh.reserve(1)
+    }
+
+    /// Takes memory for so many entries more. The error is for want of it, and then all entries stand as before.
+    pub fn reserve_all(&mut self, count: usize) -> Result<(), AllocError>
+        ensures room { OnOk result (count ≤ self.new.room) }
+        ensures entries { self.new.entries ≡ self.old.entries }
+        ensures taken { self.new.taken ≡ self.old.taken }
+    {
+        self.fresh.reserve(count)
     }
 
     /// Appends an entry, for which there is room.

@@ -1,13 +1,10 @@
 //! The life between a list of PDUs and what is kept.
 #![tactic(auto)]
 
-ghost use Rattle.std.specs.Prelude.{◌≡◌, ◌≤◌, List, IfOk};
+ghost use Rattle.std.specs.Prelude.{◌≡◌, ◌≤◌, IfOk};
 ghost use Rattle.flash_model.specs.Chip.{IsFresh};
 ghost use Rattle.machine_contract.specs.Opening.{IsNodeFlash};
 ghost use Rattle.mesh_node.specs.declared.told.LastStep.TheVariants as L;
-ghost use Rattle.record_types.specs.declared.records.StoreRecord.{StoreRecord};
-ghost use Rattle.store_definitions.specs.Config.{config_of};
-ghost use Rattle.store_definitions.specs.Recovered.{IsRecovered};
 ghost use Rattle.hearing_host.specs.Heard.{HeardAll, dids};
 
 use crate::ends::{HeardPdus, KeptLogs};
@@ -15,11 +12,9 @@ use flash_model::Flash;
 use locked_node::Known;
 use machine_contract::{Machine, StartFault};
 use mesh_base::octets::Octets;
-use mesh_node::{Beginning, FreeGate, Lived, live_on};
+use mesh_node::{Beginning, LifeLeft, live_alone};
 use std::alloc::Global;
 use std::collections::VecDeque;
-use std::sync::Wait;
-use std::thread::Threads;
 
 /// A life in which PDUs were heard.
 #[derive(Drop)]
@@ -27,7 +22,7 @@ pub struct Heard<F> {
     /// What each phase left.
     pub kept: KeptLogs,
     /// What is left of the life, with the flash.
-    pub lived: Lived<F>,
+    pub lived: LifeLeft<F>,
 }
 
 /// Opens a life over a flash, which power has come to, and has the node hear these PDUs, one after another.
@@ -35,18 +30,14 @@ pub struct Heard<F> {
 /// # Errors
 ///
 /// As `start` of a machine; and want of memory in a phase, where the flash is dropped. It is dropped too where the node isn't started.
-pub fn hear_all<M: Machine, F: Flash + Send + Drop, R: Threads + Wait + Sync>(
-    rt: &R,
+pub fn hear_all<M: Machine, F: Flash + Send + Drop>(
     alloc: Global,
     flash: F,
-    elements: u8,
     pdus: VecDeque<Octets<40>>,
 ) -> Result<Heard<F>, StartFault>
     requires fresh { IsFresh (F.chip flash) }
     requires node { IsNodeFlash M.image (F.chip flash) }
     requires began { (F.chip flash).setting.faults ≤ (F.chip flash).faults }
-    requires elements { (over : List StoreRecord) → IsRecovered (F.chip flash).now over
-        → (config_of over).elements ≡ elements }
     ensures heard { IfOk result
         (λ r. r.lived.last ≡ L.Ended
         → HeardAll M.role pdus.items (dids r.kept) (F.chip flash) (F.chip r.lived.flash) r.lived.refills
@@ -62,13 +53,12 @@ pub fn hear_all<M: Machine, F: Flash + Send + Drop, R: Threads + Wait + Sync>(
         start,
         started,
         bearers: 1,
-        elements,
     };
     let mut source = HeardPdus { left: pdus, alloc };
     let mut kept = KeptLogs {
         logs: Vec::new(alloc),
     };
-    match live_on(rt, alloc, &FreeGate, beginning, &mut source, &mut kept) {
+    match live_alone(alloc, beginning, &mut source, &mut kept) {
         Ok(lived) => Ok(Heard { kept, lived }),
         Err(_) => Err(StartFault::Memory),
     }

@@ -8,6 +8,7 @@ ghost use Rattle.run_definitions.specs.Order.{arm};
 ghost use Rattle.script_events.specs.Happenings.{IsRead, said};
 ghost use Rattle.std.specs.Option.{option_map};
 
+use crate::rooms::lines_of;
 use life_laws::plan::{LifePlan, PlanStep};
 use mesh_types::events::Event;
 use node_limits::BEARERS;
@@ -23,6 +24,8 @@ pub(crate) struct Draft {
     steps: Vec<PlanStep>,
     /// The events of the phase that goes on, bearer by bearer, where it has lines.
     events: Option<Vec<Vec<Event>>>,
+    /// How many lines it is of.
+    seen: usize,
 }
 
 impl Model for Draft {
@@ -42,25 +45,29 @@ impl Model for Draft {
     ghost invariant = { λ d. IfSome d.events (λ events. length events.items ≡ BEARERS) };
 }
 
-/// No events of any bearer.
-fn no_events(alloc: Global) -> Result<Vec<Vec<Event>>, AllocError>
+/// No events of any bearer, and memory for those that a phase has which begins with these lines.
+fn no_events(alloc: Global, lines: &[ScriptLine]) -> Result<Vec<Vec<Event>>, AllocError>
     ensures value { IfOk result (λ events. map (λ v. v.items) events.items ≡ replicate BEARERS []) }
 {
     let mut events = Vec::new(alloc);
-    for _ in 0..BEARERS {
-        events.push(Vec::new(alloc))?;
+    for bearer in 0..BEARERS as u8 {
+        events.push(Vec::with_capacity(alloc, lines_of(lines, bearer))?)?;
     }
     Ok(events)
 }
 
-/// The events so far of a phase that goes on, bearer by bearer.
-fn begun(alloc: Global, events: Option<Vec<Vec<Event>>>) -> Result<Vec<Vec<Event>>, AllocError>
+/// The events so far of a phase that goes on, bearer by bearer. Where it begins, it does so with these lines.
+fn begun(
+    alloc: Global,
+    events: Option<Vec<Vec<Event>>>,
+    lines: &[ScriptLine],
+) -> Result<Vec<Vec<Event>>, AllocError>
     ensures value { IfOk result
         (λ now. map (λ v. v.items) now.items ≡ begun (option_map (λ events. map (λ v. v.items) events.items) events)) }
 {
     match events {
         Some(events) => Ok(events),
-        None => no_events(alloc),
+        None => no_events(alloc, lines),
     }
 }
 
@@ -99,6 +106,7 @@ impl Draft {
         Draft {
             steps: Vec::new(alloc),
             events: None,
+            seen: 0,
         }
     }
 
@@ -125,8 +133,13 @@ impl Draft {
         Ok(())
     }
 
-    /// Goes on with the phase by what happens, if anything does.
-    fn go_on(&mut self, alloc: Global, happening: Option<Happening>) -> Result<(), AllocError>
+    /// Goes on with the phase by what happens, if anything does, which is what these lines begin with.
+    fn go_on(
+        &mut self,
+        alloc: Global,
+        lines: &[ScriptLine],
+        happening: Option<Happening>,
+    ) -> Result<(), AllocError>
         requires bearer { IfSome happening (λ h. h.bearer < BEARERS) }
         ensures ok { OnOk result
             (self.new
@@ -135,26 +148,29 @@ impl Draft {
               events = Some (with_happening (begun self.old.events) (option_map said happening));
             }) }
     {
-        let mut events = begun(alloc, self.events.take())?;
+        let mut events = begun(alloc, self.events.take(), lines)?;
         push_happening(&mut events, happening)?;
         self.events = Some(events);
         Ok(())
     }
 
-    /// Goes on by a line; the outside node seals what it makes heard.
+    /// Goes on by a line, which is the next one of a life with these lines; the outside node seals what it makes heard.
     pub(crate) fn add(
         &mut self,
         alloc: Global,
         outside: &mut OutsideNode,
+        lines: &[ScriptLine],
         line: &ScriptLine,
     ) -> Result<(), AllocError>
         requires ranges { IsRead line.now }
         ensures ok { OnOk result (self.new ≡ with_line self.old line.now) }
     {
+        let (_, left) = lines.split_at(self.seen.min(lines.len()));
+        self.seen = self.seen.saturating_add(1);
         match line {
             ScriptLine::Sync => self.end_phase(),
             ScriptLine::Arm(line) => self.arm(*line),
-            line => self.go_on(alloc, outside.happening_of(line)),
+            line => self.go_on(alloc, left, outside.happening_of(line)),
         }
     }
 

@@ -2,11 +2,13 @@
 //!
 //! - `planning`: the plan of the lines of one life
 //! - `draft`: the plan of the lines so far
+//! - `rooms`: for how many events a phase takes memory as it begins
 //! - `scripts`: what a script says of its node
 #![tactic(auto)]
 
 mod draft;
 pub mod planning;
+mod rooms;
 pub mod scripts;
 
 pub use crate::planning::plan_of;

@@ -29,7 +29,7 @@ pub fn plan_of(alloc: Global, lines: &[ScriptLine]) -> Result<LifePlan, AllocErr
     let mut draft = Draft::new(alloc);
     let mut outside = OutsideNode::new();
     for line in lines {
-        draft.add(alloc, &mut outside, line)?;
+        draft.add(alloc, &mut outside, lines, line)?;
     }
     draft.into_plan()
 }

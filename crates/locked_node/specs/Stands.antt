@@ -1,10 +1,11 @@
 -- What holds of the value behind the lock whenever the lock is free.
 use Rattle.std.specs.Prelude.{◌≡◌, ℕ, ◌<◌, ◌≤◌, ◌^◌, true, false, List}
 use Rattle.flash_model.specs.Chip.{Chip, Remembers}
-use Rattle.machine_contract.specs.Idle.{IsIdleFor}
+use Rattle.machine_contract.specs.Idle.{IsDueIn, IsIdleFor}
 use Rattle.machine_contract.specs.Standing.{IsLifeSoFar}
 use Rattle.machine_contract.specs.View.{MachineView}
 use Rattle.record_types.specs.declared.records.StoreRecord.{StoreRecord}
+use Rattle.event_definitions.specs.History.{Past}
 use Rattle.event_definitions.specs.Role.{Role}
 use Rattle.store_definitions.specs.Recovered.{IsRecovered}
 use Rattle.locked_node.specs.Node.{NodeView}
@@ -38,8 +39,23 @@ pub record IsNode {F : Type 0} (role : Role) (image : List ℕ → Type 0) (chip
   pub stopped : n.machine.closed ≡ true → 0 < n.stops
   pub later : IsLater (chip n.start) (chip n.flash)
 
+-- A machine that shows this stands over the flash and the records that the life found.
+pub record HasMachine {M F : Type 0} (stands : Chip → List StoreRecord → M → Type 0) (view : M → MachineView)
+    (chip : F → Chip) (n : NodeView F) : Type 0 where
+  pub over : List StoreRecord
+  pub read : IsRecovered (chip n.start).now over
+  pub machine : M
+  pub shows : view machine ≡ n.machine
+  pub tie : stands (chip n.flash) over machine
+
 -- Over records that the life found, a tick event of fewer than so many is quiet.
 pub record IsIdleNode {F : Type 0} (role : Role) (chip : F → Chip) (n : NodeView F) (due : ℕ) : Type 0 where
   pub over : List StoreRecord
   pub read : IsRecovered (chip n.start).now over
   pub idle : IsIdleFor role over n.machine due
+
+-- Over them, this is the least number of ticks of which an event isn't quiet, as the machine says what is, or the most that there is.
+pub record IsDueNode {F : Type 0} (role : Role) (Quiet : Past → ℕ → Type 0) (chip : F → Chip) (n : NodeView F) (due : ℕ) : Type 0 where
+  pub over : List StoreRecord
+  pub read : IsRecovered (chip n.start).now over
+  pub least : IsDueIn role Quiet over n.machine due

@@ -12,7 +12,7 @@ ghost use Rattle.machine_contract.specs.Ranges.{IsEvent, IsJob, IsQuiet};
 ghost use Rattle.machine_contract.specs.View.{entry_for};
 ghost use Rattle.locked_node.specs.declared.marks.Mark.TheVariants as Marks;
 ghost use Rattle.locked_node.specs.Node.{IsStopped, IsStoppedBare, NodeView, OnStop, node_marks, origin_of};
-ghost use Rattle.locked_node.specs.Stands.{Holds, IsLater, IsNode};
+ghost use Rattle.locked_node.specs.Stands.{HasMachine, Holds, IsLater, IsNode};
 
 use crate::known::Known;
 use crate::marks::{Mark, Origin};
@@ -177,6 +177,7 @@ impl<M: Machine, F: Flash + Send + Drop> Node<M, F> {
     /// What holds of it. It does nothing.
     pub fn known(&self)
         ensures known { IsNode M.role M.image F.chip self.now }
+        ensures stands { HasMachine M.stands M.view F.chip self.now }
         ensures few { length (node_marks self.now) < 2 ^ 64 }
     {
         let _ = &self.machine;
@@ -201,10 +202,12 @@ impl<M: Machine, F: Flash + Send + Drop> Node<M, F> {
         self.machine.is_closed()
     }
 
-    /// The machine and the flash.
+    /// The machine and the flash, over which it stands.
     pub fn into_parts(self) -> (M, F)
         ensures machine { M.view result.0 ≡ self.machine }
         ensures flash { result.1 ≡ self.flash }
+        ensures stands { (over : List StoreRecord) × IsRecovered (F.chip self.start).now over
+            × M.stands (F.chip result.1) over result.0 }
     {
         let Node {
             machine,

@@ -1,5 +1,5 @@
 -- A machine that has nothing to do for some time.
-use Rattle.std.specs.Prelude.{◌≡◌, ℕ, ◌<◌, List, [], map}
+use Rattle.std.specs.Prelude.{◌≡◌, ℕ, ◌-◌, ◌<◌, ◌^◌, List, [], map}
 use Rattle.machine_contract.specs.Standing.{past_now}
 use Rattle.machine_contract.specs.View.{MachineView}
 use Rattle.mesh_types.specs.declared.events.Event.TheVariants as E
@@ -23,3 +23,12 @@ pub record IsIdleFor (role : Role) (over : List StoreRecord) (m : MachineView) (
   pub entries : map (λ t. t.entry) told ≡ m.entries
   pub handled : AreHandled role over [] told
   pub quiet : (ticks : ℕ) → ticks < due → IsQuietTick role (past_now role over told m.fills) ticks
+
+-- The same, where the machine says which tick events are quiet after a past: this is the least number of ticks of which one isn't, or the most
+-- that there is, where none of fewer is so.
+pub record IsDueIn (role : Role) (Quiet : Past → ℕ → Type 0) (over : List StoreRecord) (m : MachineView) (due : ℕ) : Type 0 where
+  pub told : List Told
+  pub entries : map (λ t. t.entry) told ≡ m.entries
+  pub handled : AreHandled role over [] told
+  pub quiet : (ticks : ℕ) → ticks < due → Quiet (past_now role over told m.fills) ticks
+  pub reached : due < 2 ^ 32 - 1 → Quiet (past_now role over told m.fills) due → ⊥

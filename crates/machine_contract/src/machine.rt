@@ -4,10 +4,11 @@
 ghost use Rattle.std.specs.Prelude.{◌≡◌, ◌≢◌, ℕ, ◌+◌, ◌<◌, ◌≤◌, ◌^◌, List, [], ◌∷◌, ◌++◌, length, drop, All, true, false, Ok, Err, IsErr, IfOk, OnOk, IfErr, ◌-◌};
 ghost use Rattle.flash_model.specs.Chip.{Chip, IsFresh, Keeps};
 ghost use Rattle.record_types.specs.declared.records.StoreRecord.{StoreRecord};
+ghost use Rattle.event_definitions.specs.History.{Past};
 ghost use Rattle.event_definitions.specs.Role.{Role};
 ghost use Rattle.run_definitions.specs.Order.{is_outside};
 ghost use Rattle.seq_word.specs.Word.{seq_of};
-ghost use Rattle.machine_contract.specs.Idle.{IsIdleFor};
+ghost use Rattle.machine_contract.specs.Idle.{IsDueIn, IsIdleFor, IsQuietTick};
 ghost use Rattle.machine_contract.specs.Opening.{IsNodeFlash};
 ghost use Rattle.machine_contract.specs.Ranges.{IsEvent, IsJob, IsQuiet};
 ghost use Rattle.machine_contract.specs.Refused.{IsRefused, IsStartCause};
@@ -35,6 +36,10 @@ pub trait Machine: Send + Drop {
 
     // What `start` asks of each image of a flash: it recovers a node or a reset.
     ghost image: { List ℕ → Type 0 };
+
+    // After a past, of how many ticks an event is quiet: it stores nothing and has no jobs, as `tells` says, and whatever else the machine waits
+    // for isn't due by it.
+    ghost quiet: { Past → ℕ → Type 0 };
 
     ghost view: { Self → MachineView };
 
@@ -119,17 +124,23 @@ pub trait Machine: Send + Drop {
     fn is_closed(&self) -> bool
         ensures value { result ≡ (view self.now).closed };
 
-    /// In how many ticks of 10 ms something may be due, at most 2^32 - 1: an event of fewer ticks stores nothing and sends nothing. So a host that
-    /// has nothing else to do can sleep so long. Of a closed machine nothing is due any more. `F` is the type of the flash that it stands over,
-    /// which isn't called.
+    /// In how many ticks of 10 ms something is due, at most 2^32 - 1: an event of fewer ticks stores nothing and sends nothing. So a host that
+    /// has nothing else to do can sleep so long: it misses nothing that the machine calls due, and doesn't wake earlier than it has to (`least`).
+    /// Of a closed machine nothing is due any more. `F` is the type of the flash that it stands over, which isn't called.
     fn due<F: Flash>(&self) -> u32
         ensures idle { (view self.now).closed ≡ false → (f : F) (over : List StoreRecord)
             → stands (F.chip f) over self.now → IsIdleFor role over (view self.now) result }
+        ensures least { (view self.now).closed ≡ false → (f : F) (over : List StoreRecord)
+            → stands (F.chip f) over self.now → IsDueIn role quiet over (view self.now) result }
         ensures closed { (view self.now).closed ≡ true → result ≡ 2 ^ 32 - 1 };
 
     /// The number of entries so far, those that were taken among them.
     fn count(&self) -> u64
         ensures value { result ≡ length (view self.now).entries };
+
+    /// The number of elements of the node, as the records say that its life opened over.
+    fn elements(&self) -> u8
+        ensures value { result ≡ (view self.now).elements };
 
     /// Ends the machine. The entries are those that weren't taken.
     fn finish(self) -> (History, Keeper)
@@ -137,10 +148,11 @@ pub trait Machine: Send + Drop {
         ensures refills { result.0.refills ≡ (view self).fills }
         ensures keeper { (result.1.which ≡ (view self).which) × (result.1.mark ≡ (view self).mark) };
 
-    /// What a machine that stands tells of its life. It does nothing.
+    /// What a machine that stands tells of its life, and what a quiet tick event is at least. It does nothing.
     fn tells<F: Flash>()
         ensures known { (f : F) (over : List StoreRecord) (m : Self) → stands (F.chip f) over m
-            → IsLifeSoFar role image (F.chip f) over (view m) };
+            → IsLifeSoFar role image (F.chip f) over (view m) }
+        ensures quiet { (past : Past) (ticks : ℕ) → quiet past ticks → IsQuietTick role past ticks };
 
     /// A machine stands over the same flash, also where that was given an arm. It does nothing.
     fn stays<F: Flash>()

@@ -25,6 +25,7 @@ use machine_ties::ties_law;
 use mesh_types::events::Event;
 use node_models::node_models_law;
 use seq_word::Numbers;
+use std::alloc::AllocError;
 use std::marker::Model;
 
 /// A history has at most so many entries.
@@ -53,6 +54,13 @@ impl Model for MeshMachine {
 }
 
 impl MeshMachine {
+    /// Takes memory for so many entries more, so that events take none for their entries. Nothing else changes; the error is for want of memory.
+    pub fn reserve_entries(&mut self, count: usize) -> Result<(), AllocError>
+        ensures same { self.new ≡ self.old }
+    {
+        self.parts.history.reserve_all(count)
+    }
+
     /// Handles an event of a bearer, which is the one with this number among its events, from 1 on: `handle` of `Machine` is this call. Its
     /// records and what it accepts are steps of the world (`mesh_world`) from any world of the store before it to one of the store after it.
     pub fn handle_event<F: Flash>(

@@ -7,6 +7,7 @@ ghost use Rattle.machine_ties.specs.Opening.{start_fault_of};
 ghost use Rattle.machine_ties.specs.Ties.{IsNodeStore, Stands, opened};
 ghost use Rattle.machine_ties.specs.Views.{shown};
 ghost use Rattle.event_definitions.specs.Role.{node_role};
+ghost use Rattle.next_due.specs.Quiet.{IsQuiet};
 ghost use Rattle.node_layers.specs.NodeLayers.{node_layers};
 ghost use Rattle.node_records.specs.Meaning.{IsMeaningOf};
 ghost use Rattle.node_store.specs.Tie.{IsNode};
@@ -88,6 +89,8 @@ impl Machine for MeshMachine {
 
     ghost image = { IsNode };
 
+    ghost quiet = { IsQuiet };
+
     ghost view = { shown };
 
     ghost stands = { Stands };
@@ -134,6 +137,10 @@ impl Machine for MeshMachine {
 
     fn count(&self) -> u64 {
         self.parts.history.count()
+    }
+
+    fn elements(&self) -> u8 {
+        self.elements
     }
 
     fn finish(self) -> (History, Keeper) {

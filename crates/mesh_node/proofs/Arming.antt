@@ -78,11 +78,12 @@ pub record Powered (image : List ℕ → Type 0) (steps : List PlanStep) (old st
   pub count : KeepsCount old start
   pub order : IsOfPlan (steps_of steps) start.setting.arm
   pub first : IsFirstGiven steps start.setting.arm
+  pub armed : start.setting.arm ≡ first_order steps 0
   pub may : HasOneArm steps → MayFollow (behind_arm steps) start.setting.arm
 
 pub powered : (image : List ℕ → Type 0) (steps : List PlanStep) (old cycled start : Chip) → IsNodeFlash image old → KeepsCount old cycled → (IsTrue old.honest → IsFresh cycled) → (IsTrue old.honest → old.images cycled.now)
-    → cycled.setting ≡ record { faults = old.faults; arm = None } → IsArmedFirst steps cycled start → Powered image steps old start
-powered image steps old cycled start h count fresh is setting armed =
+    → cycled.setting ≡ record { faults = old.faults; arm = None } → cycled.changes ≡ 0 → IsArmedFirst steps cycled start → Powered image steps old start
+powered image steps old cycled start h count fresh is setting none armed =
     let cold = fresh h.honest in
     let same = armed.same cold.honest in
     let was = is h.honest in
@@ -95,5 +96,6 @@ powered image steps old cycled start h count fresh is setting armed =
       count = record { honest = same.honest ∙ count.honest; steady = armed.steady ∙ count.steady; faults = same.faults ∙ count.faults; past = past_more old cycled start count.past armed.past };
       order = subst (IsOfPlan (steps_of steps)) (sym armed.order) (first_of steps cycled.changes);
       first = subst (IsFirstGiven steps) (sym armed.order) (first_given steps cycled.changes);
+      armed = armed.order ∙ ap (first_order steps) none;
       may = λ one. subst (MayFollow (behind_arm steps)) (sym armed.order) (first_may steps cycled.changes one);
     }

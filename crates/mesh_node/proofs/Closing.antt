@@ -1,6 +1,6 @@
 -- A life between a flash and the flash.
 use Rattle.std.proofs.Common.{◌≡◌, ◌≢◌, ◌∙◌, ℕ, ◌<◌, ◌≤◌, true, false, true≢false, Bool, List, [], Vec, Global, length, map, Some, None, refl, sym, ap, subst, arith}
-use Rattle.std.specs.Prelude.{◌^◌, All, AllPairs, IfSome, IsTrue}
+use Rattle.std.specs.Prelude.{◌^◌, All, IfSome, IsTrue}
 use Rattle.std.proofs.lemmas.List.{length-map}
 use Rattle.flash_model.specs.Arming.{IsExplained}
 use Rattle.flash_model.proofs.Runs.{past_more}
@@ -19,34 +19,38 @@ use Rattle.seq_word.specs.Seen.{ClosedView, DrawerView}
 use Rattle.store_definitions.specs.Config.{config_of}
 use Rattle.store_definitions.specs.Recovered.{IsRecovered}
 use Rattle.locked_node.specs.Node.{NodeView}
-use Rattle.locked_node.specs.Stands.{IsLater, IsNode}
+use Rattle.locked_node.specs.Stands.{HasMachine, IsLater, IsNode}
 use Rattle.life_laws.specs.Pairs.{PairsSo}
 use Rattle.life_laws.proofs.OneLife.{idle_life}
 use Rattle.life_laws.specs.declared.plan.LifeLog.{LifeLog}
-use Rattle.mesh_node.specs.Drawn.{TellsDrawn}
+use Rattle.machine_contract.specs.View.{MachineView}
+use Rattle.mesh_node.specs.Drawn.{TellsDrawn, opened_at}
+use Rattle.mesh_node.specs.Given.{WasGiven}
+use Rattle.mesh_node.proofs.Placed.{given_first}
 use Rattle.mesh_node.specs.Going.{IsOver}
 use Rattle.mesh_node.specs.Lives.{Lives, cut_calls}
 use Rattle.life_laws.specs.declared.plan.PlanStep.{PlanStep}
 use Rattle.life_laws.specs.Plan.{HasOneArm, life_of, steps_of}
 use Rattle.mesh_node.specs.Ran.{Ran}
-use Rattle.mesh_node.specs.Steps.{HasGiven, IsGiven, IsOfPlan}
-use Rattle.mesh_node.proofs.Drawn.{spent_of, words_of}
+use Rattle.mesh_node.specs.Steps.{HasGiven, IsGiven, IsOfPlan, first_order}
+use Rattle.mesh_node.proofs.Drawn.{Closes, tells_words}
 use Rattle.mesh_node.proofs.Ending.{each_life}
 use Rattle.mesh_node.proofs.Giving.{given_one, reached_some}
 use Rattle.mesh_node.proofs.Printing.{idle_printable, sends_short}
 
 -- a life that was run
-module _ {F : Type 0} (role : Role) (image : List ℕ → Type 0) (chip : F → Chip) (plan : List Step) (start : F) (node : NodeView F) (d : DrawerView) (log : LifeLog)
+module _ {M F : Type 0} (view : M → MachineView) (stands : Chip → List StoreRecord → M → Type 0) (role : Role) (image : List ℕ → Type 0) (chip : F → Chip) (plan : List Step) (start : F) (node : NodeView F) (d : DrawerView) (log : LifeLog)
     (one : (content : List ℕ) (rs ss : List StoreRecord) → IsRecovered content rs → IsRecovered content ss → rs ≡ ss)
     (begun : List StoreRecord) (read : IsRecovered (chip start).now begun) (runs : (config_of begun).reset ≡ false) (opened : log.opened ≡ W.On (config_of begun).iv (config_of begun).mark)
     (h : IsNode role image chip node) (is_start : node.start ≡ start) (over : IsOver (phases_of plan) node d (map (λ v. v.items) log.sends.items))
     (entries : log.history.entries.items ≡ node.machine.entries) (refills : log.history.refills ≡ node.machine.fills) (cut : is_cut log.end ≡ node.machine.closed)
     (next mark first : ℕ) (order : next ≤ mark) (marks : mark ≡ node.machine.mark) (firsts : first ≡ (config_of begun).mark)
     (from : All (λ x. first ≤ x) d.drawn) (below : All (λ x. x < next) d.drawn) (once : (x : ℕ) → times x d.drawn ≤ 1) (seen : All (IsWithin next mark) d.looks)
-    (closed : ClosedView) (drawn : log.drawn ≡ Some closed) (words : closed.drawn ≡ d.drawn) (looked : closed.looks ≡ d.looks) (apart : AllPairs (λ x y. x ≢ y) d.drawn)
+    (closed : ClosedView) (drawn : log.drawn ≡ Some closed) (closes : Closes d closed first) (held : HasMachine stands view chip node)
     (bearers : ℕ) (few : bearers ≤ 8) (many : length log.sends.items ≡ bearers)
     (explained : IsExplained (chip node.flash)) (given : node.stops ≡ 0 → HasGiven plan (chip node.flash).setting.arm)
-    (arm : IsOfPlan plan (chip node.flash).setting.arm) (calls : IfSome (cut_calls log.end) (λ n. n ≡ (chip node.flash).changes)) where
+    (arm : IsOfPlan plan (chip node.flash).setting.arm)
+    (placed : (over : List StoreRecord) → IsRecovered (chip start).now over → IfSome (chip node.flash).setting.arm (WasGiven view stands chip over plan)) (calls : IfSome (cut_calls log.end) (λ n. n ≡ (chip node.flash).changes)) where
   begun_is : begun ≡ h.over
   begun_is = one (chip start).now begun h.over read (subst (λ s. IsRecovered (chip s).now h.over) is_start h.read)
 
@@ -64,10 +68,16 @@ module _ {F : Type 0} (role : Role) (image : List ℕ → Type 0) (chip : F → 
     by_closed true is = λ calls mask among. reached_some (chip node.flash).setting.arm (chip node.flash).changes (explained steady (h.life.failed is))
     by_closed false is = given (h.live is)
 
-  pub ran : Ran role image plan (chip start) log (chip node.flash)
+  read_over : IsRecovered (chip start).now h.over
+  read_over = subst (λ o. IsRecovered (chip start).now o) begun_is read
+
+  held_over : held.over ≡ h.over
+  held_over = one (chip start).now held.over h.over (subst (λ s. IsRecovered (chip s).now held.over) is_start held.read) read_over
+
+  pub ran : Ran view stands chip role image plan (chip start) log node.flash
   ran = record {
     over = h.over;
-    recovered = subst (λ o. IsRecovered (chip start).now o) begun_is read;
+    recovered = read_over;
     life = all_lives;
     node = h.life.node;
     printable = record {
@@ -79,20 +89,29 @@ module _ {F : Type 0} (role : Role) (image : List ℕ → Type 0) (chip : F → 
     cause = λ is. h.life.failed (sym cut ∙ is);
     arm = arm;
     calls = calls;
-    drawn = subst (TellsDrawn (life_of log)) (sym drawn) (record {
-      ran = ap is_on opened;
-      words = words_of (life_of log) d closed.drawn words apart pairs;
-      spent = spent_of (life_of log) d closed.looks looked pairs;
-    });
+    drawn = subst (TellsDrawn (life_of log)) (sym drawn)
+        (tells_words (life_of log) d closed (ap is_on opened) (subst (Closes d closed) (sym (ap opened_at opened ∙ sym firsts)) closes) pairs);
     armed = given_all;
+    given = placed h.over read_over;
+    told = record {
+      machine = held.machine;
+      stood = subst (λ o. stands (chip node.flash) o held.machine) held_over held.tie;
+      entries = ap (λ m. m.entries) held.shows ∙ sym entries;
+      refills = ap (λ m. m.fills) held.shows ∙ sym refills;
+      closed = ap (λ m. m.closed) held.shows ∙ sym cut;
+    };
   }
 
-module _ (role : Role) (image : List ℕ → Type 0) (items : List PlanStep) (single : HasOneArm items) (old start new : Chip) (log : LifeLog)
-    (is : old.images start.now) (began : start.setting.faults ≡ old.faults) (order : IsOfPlan (steps_of items) start.setting.arm) (count : KeepsCount old start) where
+module _ {M F : Type 0} (view : M → MachineView) (stands : Chip → List StoreRecord → M → Type 0) (chip : F → Chip)
+    (role : Role) (image : List ℕ → Type 0) (items : List PlanStep) (single : HasOneArm items) (old start : Chip) (left : F) (log : LifeLog)
+    (is : old.images start.now) (began : start.setting.faults ≡ old.faults) (order : IsOfPlan (steps_of items) start.setting.arm) (first : start.setting.arm ≡ first_order items 0) (count : KeepsCount old start) where
   abbrev plan : List Step
   plan = steps_of items
 
-  pub lives_ran : Ran role image plan start log new → Lives role image plan old log new
+  abbrev new : Chip
+  new = chip left
+
+  pub lives_ran : Ran view stands chip role image plan start log left → Lives view stands chip role image plan old log left
   lives_ran r =
       let now : new.setting.faults ≡ old.faults = r.later.began ∙ began in
       record {
@@ -112,11 +131,13 @@ module _ (role : Role) (image : List ℕ → Type 0) (items : List PlanStep) (si
         calls = r.calls;
         drawn = r.drawn;
         armed = λ steady other. given_one items new.setting.arm single r.arm (r.armed (subst IsTrue (sym (r.later.steady ∙ count.steady)) steady));
+        given = r.given;
+        told = λ on. r.told;
       }
 
   -- a life that wasn't run
   pub lives_idle : Keeps start new → (IsTrue old.steady → log.opened ≢ W.WasReset → IsGiven plan new.setting.arm) → (u : IsUntouched image start new) → is_on log.opened ≡ false → log.drawn ≡ None → log.history.entries.items ≡ [] → log.history.refills ≡ 0 → log.sends.items ≡ []
-      → Opens (config_of u.over) log.opened log.end → (is_cut log.end ≡ true → start.faults < new.faults) → IfSome (cut_calls log.end) (λ n. n ≡ new.changes) → Lives role image plan old log new
+      → Opens (config_of u.over) log.opened log.end → (is_cut log.end ≡ true → start.faults < new.faults) → IfSome (cut_calls log.end) (λ n. n ≡ new.changes) → Lives view stands chip role image plan old log left
   lives_idle keeps armed u off none entries refills sends opening failed calls =
       record {
         over = u.over;
@@ -135,11 +156,13 @@ module _ (role : Role) (image : List ℕ → Type 0) (items : List PlanStep) (si
         calls = calls;
         drawn = subst (TellsDrawn (life_of log)) (sym none) off;
         armed = armed;
+        given = subst (λ o. IfSome o (WasGiven view stands chip u.over plan)) (sym (ap (λ (s : Setting). s.arm) keeps.setting ∙ first)) (given_first view stands chip u.over items);
+        told = λ on. absurd (true≢false (sym on ∙ off));
       }
 
   -- it was cut while it opened
   pub lives_cut : Keeps start new → IsExplained new → IsUntouched image start new → start.faults < new.faults → log.opened ≡ W.CutAtStart → log.end ≡ Ends.Cut new.changes
-      → log.drawn ≡ None → log.history.entries.items ≡ [] → log.history.refills ≡ 0 → log.sends.items ≡ [] → Lives role image plan old log new
+      → log.drawn ≡ None → log.history.entries.items ≡ [] → log.history.refills ≡ 0 → log.sends.items ≡ [] → Lives view stands chip role image plan old log left
   lives_cut keeps explained u failed opened end none entries refills sends =
       let later : IsTrue old.steady → new.setting.faults < new.faults → HasGiven plan new.setting.arm =
       λ steady more calls mask among. reached_some new.setting.arm new.changes (explained (subst IsTrue (sym (keeps.steady ∙ count.steady)) steady) more) in
@@ -151,7 +174,7 @@ module _ (role : Role) (image : List ℕ → Type 0) (items : List PlanStep) (si
 
   -- there was a Node Reset
   pub lives_reset : Keeps start new → (u : IsUntouched image start new) → (config_of u.over).reset ≡ true → log.opened ≡ W.WasReset → log.end ≡ Ends.Ended
-      → log.drawn ≡ None → log.history.entries.items ≡ [] → log.history.refills ≡ 0 → log.sends.items ≡ [] → Lives role image plan old log new
+      → log.drawn ≡ None → log.history.entries.items ≡ [] → log.history.refills ≡ 0 → log.sends.items ≡ [] → Lives view stands chip role image plan old log left
   lives_reset keeps u reset opened end none entries refills sends =
       lives_idle keeps (λ steady other. absurd (other opened)) u (ap is_on opened) none entries refills sends
       (subst (λ o. Opens (config_of u.over) o log.end) (sym opened) (subst (λ e. Opens (config_of u.over) W.WasReset e) (sym end) (was_reset reset)))

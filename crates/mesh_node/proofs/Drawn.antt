@@ -1,17 +1,22 @@
 -- What was drawn at the seats are the pairs of the lines.
-use Rattle.std.proofs.Common.{◌≡◌, ◌≢◌, ◌∙◌, ℕ, List, [], ◌∷◌, map, sym, ap, subst, append-nil}
-use Rattle.std.specs.Prelude.{All, AllPairs}
+use Rattle.std.proofs.Common.{◌≡◌, ◌≢◌, ◌∙◌, ℕ, ◌+◌, ◌≤◌, true, List, [], ◌∷◌, map, sym, ap, subst, append-nil, arith}
+use Rattle.std.specs.Prelude.{All, AllPairs, ◌*◌, ◌^◌}
+use Rattle.std.proofs.lemmas.List.Elements.{All-contains}
 use Rattle.std.specs.List.{Contains}
 use Rattle.mesh_base.specs.Pairs.{word_of}
 use Rattle.report_definitions.specs.Record.{Life, shown}
-use Rattle.run_definitions.specs.RunOf.{draws}
-use Rattle.seq_word.specs.Rule.{times}
-use Rattle.seq_word.specs.Seen.{DrawerView}
+use Rattle.mesh_types.specs.declared.lines.Outcome.{Outcome}
+use Rattle.mesh_types.specs.declared.lines.Outcome.TheVariants as O
+use Rattle.run_definitions.specs.RunOf.{draws, is_on}
+use Rattle.seq_word.specs.Rule.{IsEndOf, once_below, passed_over, times}
+use Rattle.seq_word.specs.Seen.{ClosedView, DrawerView}
+use Rattle.seq_word.specs.Word.{seq_of}
+use Rattle.seq_word.specs.declared.looks.Look.TheVariants as saw
 use Rattle.seq_word.specs.declared.looks.Look.{Look}
 use Rattle.node_bearer.specs.Marked.{IsSpentSeen}
 use Rattle.life_laws.specs.Pairs.{PairsSo, all_of}
 use Rattle.life_laws.proofs.Pairing.{sum_up, within_drawn}
-use Rattle.mesh_node.specs.Drawn.{AreWordsOf}
+use Rattle.mesh_node.specs.Drawn.{AreWordsOf, IsSpentBy, TellsWords, opened_at}
 
 pub words_of : (l : Life) (d : DrawerView) (words : List ℕ) → words ≡ d.drawn → AllPairs (λ x y. x ≢ y) d.drawn → PairsSo l.entries l.sends d → AreWordsOf words (draws (shown l))
 words_of l d words is apart h =
@@ -29,3 +34,34 @@ words_of l d words is apart h =
 -- what the lines say to be spent was seen at the seats
 pub spent_of : (l : Life) (d : DrawerView) (looks : List Look) → looks ≡ d.looks → PairsSo l.entries l.sends d → All (λ s. IsSpentSeen looks s.outcome) (shown l)
 spent_of l d looks are h = subst (λ ls. All (λ s. IsSpentSeen ls s.outcome) (shown l)) (sym are) (sum_up l.entries l.sends h.drawns d.looks h.shown).spent
+
+-- and its last number was drawn, or the counter was opened behind it
+spent_by : (first : ℕ) (words : List ℕ) (looks : List Look) → All (IsEndOf first words) looks → (o : Outcome) → IsSpentSeen looks o → IsSpentBy first words o
+spent_by first words looks ends (O.Spent iv) h =
+    All-contains (IsEndOf first words) looks (saw.Counter (iv * 2 ^ 25 + 2 ^ 24)) ends h (omega arith)
+spent_by first words looks ends o h = tt
+
+-- what the words tell at their end, of a life that opened at `first`
+pub record Closes (d : DrawerView) (closed : ClosedView) (first : ℕ) : Type 0 where
+  pub drawn : closed.drawn ≡ d.drawn
+  pub looks : closed.looks ≡ d.looks
+  pub apart : AllPairs (λ x y. x ≢ y) d.drawn
+  pub since : All (λ x. first ≤ x) d.drawn
+  pub ends : All (IsEndOf first d.drawn) d.looks
+  pub all : (x : ℕ) → times x d.drawn + passed_over x closed.advances + once_below x first ≡ once_below x closed.next
+  pub firsts : All (λ a. seq_of a.1 ≡ 0) closed.advances
+
+pub tells_words : (l : Life) (d : DrawerView) (closed : ClosedView) → is_on l.opened ≡ true → Closes d closed (opened_at l.opened) → PairsSo l.entries l.sends d → TellsWords l closed
+tells_words l d closed on h pairs =
+    let seen = spent_of l d closed.looks h.looks pairs in
+    let ends : All (IsEndOf (opened_at l.opened) closed.drawn) closed.looks =
+    subst (λ ws. All (IsEndOf (opened_at l.opened) ws) closed.looks) (sym h.drawn) (subst (All (IsEndOf (opened_at l.opened) d.drawn)) (sym h.looks) h.ends) in
+    record {
+      ran = on;
+      words = words_of l d closed.drawn h.drawn h.apart pairs;
+      since = subst (All (λ x. opened_at l.opened ≤ x)) (sym h.drawn) h.since;
+      spent = seen;
+      ends = λ k s lt. spent_by (opened_at l.opened) closed.drawn closed.looks ends _ (seen k s lt);
+      all = λ x. omega (arith, h.all x, ap (times x) h.drawn);
+      firsts = h.firsts;
+    }

@@ -80,6 +80,11 @@ take_drop (suc i) (x ∷ xs) = ap (λ l. x ∷ l) (take_drop i xs)
 pub dropped : (xs : List PlanStep) (i : ℕ) (x : PlanStep) → i < length xs → x ≡ get_or xs i x → drop i xs ≡ x ∷ drop (i + 1) xs
 dropped xs i x lt is = drop_more xs i x lt ∙ ap (λ y. y ∷ drop (i + 1) xs) (sym is)
 
+-- the steps before the one at place i, it, and those behind it
+pub around : (xs : List PlanStep) (i : ℕ) (x : PlanStep) → i < length xs → x ≡ get_or xs i x → steps_of xs ≡ steps_of (take i xs) ++ step_of x ∷ steps_of (drop (i + 1) xs)
+around xs i x lt is =
+    ap steps_of (sym (take_drop i xs)) ∙ steps_append (take i xs) (drop i xs) ∙ ap (λ l. steps_of (take i xs) ++ steps_of l) (dropped xs i x lt is)
+
 -- those so far, the one at place i, and the rest
 pub phases_around : (xs : List PlanStep) (i : ℕ) (x : PlanStep) → i < length xs → x ≡ get_or xs i x
     → phases_of (steps_of (take i xs)) ++ (phases_of (step_of x ∷ []) ++ phases_of (steps_of (drop (i + 1) xs))) ≡ phases_of (steps_of xs)

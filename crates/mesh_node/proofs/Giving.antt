@@ -18,7 +18,7 @@ before_phase [] y calls mask other (suc k, lt, e) = absurd (omega (arith, lt))
 before_phase (x ∷ xs) y calls mask other (zero, lt, e) = (0, omega arith, e)
 before_phase (x ∷ xs) y calls mask other (suc k, lt, e) = among_more (step_of x) (steps_of xs) (arm calls mask) (before_phase xs y calls mask other (k, omega (arith, lt), e))
 
-is_phase : (p : List (List Event)) (calls mask : ℕ) → phase p ≡ arm calls mask → ⊥
+pub is_phase : (p : List (List Event)) (calls mask : ℕ) → phase p ≡ arm calls mask → ⊥
 is_phase p calls mask e = cc
 
 pub held_more : (x : PlanStep) (old new : Chip) → IsArmedBy x old new → old.setting.arm ≢ None → new.setting.arm ≢ None

@@ -4,8 +4,10 @@ pub mod Following
 pub mod Ending
 pub mod Arming
 pub mod Giving
+pub mod Placed
 pub mod Printing
 pub mod Drawn
 pub mod Closing
 pub mod Telling
 pub mod Whole
+pub mod Phasing

@@ -19,7 +19,7 @@ use Rattle.life_laws.proofs.Pairing.{pairs_more}
 use Rattle.life_laws.proofs.Handing.{handled_more, next_by_stops}
 use Rattle.life_laws.proofs.Stopping.{none_stopped, some_stopped}
 use Rattle.mesh_node.specs.Going.{AreTold, IsBetween, IsGoing, IsOver}
-use Rattle.mesh_node.specs.declared.going.Seats.{Seats}
+use Rattle.mesh_node.specs.declared.phases.Seats.{Seats}
 use Rattle.mesh_node.specs.Steps.{IsSameNode}
 
 pub length_both : {A : Type 0} (xs ys : List (List A)) → length xs ≡ length ys → length (both_of xs ys) ≡ length xs
@@ -86,4 +86,4 @@ pub told_with : {F : Type 0} (entries : List Entry) (node : NodeView F) (flash :
 told_with entries node flash h = record { entries_are = h.entries_are; taken = h.taken }
 
 pub between_with : {F : Type 0} (seats : Seats) (node : NodeView F) (flash : F) → IsBetween seats node → IsBetween seats (record node { flash = flash })
-between_with seats node flash h = record { made = h.made; draws = h.draws; few = h.few; live = h.live; taken = h.taken; count = h.count }
+between_with seats node flash h = record { made = h.made; draws = h.draws; parts = h.parts; few = h.few; live = h.live; taken = h.taken; count = h.count }

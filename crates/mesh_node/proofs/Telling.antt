@@ -1,23 +1,27 @@
 -- One phase more of a life that goes on.
-use Rattle.std.proofs.Common.{◌≡◌, ◌∙◌, ℕ, ◌+◌, ◌<◌, ◌≤◌, Bool, true, false, List, [], ◌∷◌, ◌++◌, length, map, drop, refl, sym, ap, subst, append-nil, length-append, arith}
-use Rattle.std.specs.Prelude.{◌^◌, All, replicate}
+use Rattle.std.proofs.Common.{◌≡◌, ◌∙◌, ℕ, ◌+◌, ◌<◌, ◌≤◌, Bool, true, false, List, [], ◌∷◌, ◌++◌, length, map, drop, refl, sym, ap, subst, append-nil, append_assoc, length-append, Ok, Err, Result, arith}
+use Rattle.std.specs.Prelude.{◌^◌, All, OnErr, replicate}
 use Rattle.std.proofs.lemmas.List.Elements.{All-cons, All-head, All-nil, All-tail}
 use Rattle.std.proofs.lemmas.Grind.{flat_map-append}
+use Rattle.std.proofs.lemmas.List.{map-append}
 use Rattle.flash_model.specs.Chip.{Chip}
 use Rattle.event_definitions.specs.Role.{Role}
 use Rattle.locked_node.specs.Stands.{IsNode}
 use Rattle.mesh_types.specs.declared.events.Event.{Event}
 use Rattle.mesh_types.specs.declared.history.Entry.{Entry}
 use Rattle.mesh_types.specs.declared.history.Sent.{Sent}
-use Rattle.run_definitions.specs.Order.{phase, phases_of}
+use Rattle.record_types.specs.declared.records.StoreRecord.{StoreRecord}
+use Rattle.run_definitions.specs.Order.{Does, Part, PartsOf, broken, ends, phase, phases_of, whole}
+use Rattle.store_definitions.specs.Recovered.{IsRecovered}
 use Rattle.seq_word.specs.Seen.{DrawerView}
 use Rattle.locked_node.specs.Node.{NodeView}
-use Rattle.life_laws.specs.Phases.{both_of}
+use Rattle.life_laws.specs.Phases.{PhasesDone, both_of}
 use Rattle.life_laws.proofs.Placing.{CameTo}
 use Rattle.mesh_node.specs.Going.{AreTold, IsGoing, IsOver}
-use Rattle.mesh_node.specs.Lived.{GoesOn, WentOn}
-use Rattle.mesh_node.specs.Told.{ArePlaced, BySteps, PhaseDid, SinkSteps, SourceSteps, entries_told, more_sends, sends_told}
+use Rattle.mesh_node.specs.Lived.{FellShort, IsUnderWay, WentOn}
+use Rattle.mesh_node.specs.Told.{ArePlaced, AreToldEach, BySteps, GivesNone, IsLastTold, IsPartDone, PhaseDid, SinkSteps, SourceSteps, entries_told, more_sends, part_told, sends_told}
 use Rattle.mesh_node.specs.Lives.{IsShort}
+use Rattle.mesh_node.specs.declared.told.LastStep.{LastStep}
 use Rattle.mesh_node.specs.declared.told.LastStep.TheVariants as L
 use Rattle.mesh_node.proofs.Printing.{sends_short}
 use Rattle.mesh_node.proofs.Stepping.{length_both}
@@ -40,7 +44,7 @@ pub phases_are : (phases : List (List (List Event))) → phases_of (map phase ph
 phases_are [] = refl
 phases_are (p ∷ ps) = ap (λ l. p ∷ l) (phases_are ps)
 
-drop_front : {A : Type 0} (xs ys : List A) → drop (length xs) (xs ++ ys) ≡ ys
+pub drop_front : {A : Type 0} (xs ys : List A) → drop (length xs) (xs ++ ys) ≡ ys
 drop_front [] ys = refl
 drop_front (x ∷ xs) ys = drop_front xs ys
 
@@ -91,9 +95,38 @@ both_short (x ∷ xs) (y ∷ ys) h few =
 pub phase_short : (es : List Entry) (sends lines : List (List Sent)) (drawns : List (List ℕ)) (looks : List Look) → length es < 2 ^ 32 → AreShownBy es (both_of sends lines) drawns looks → length lines ≤ length sends → All (All IsShort) lines
 phase_short es sends lines drawns looks few h long = both_short sends lines (sends_short es (both_of sends lines) drawns looks few h) long
 
+-- each phase by itself, and one more
+parts_more : (did : List PhaseDid) (d : PhaseDid) (tail : List Part) → map part_told did ++ part_told d ∷ tail ≡ map part_told (did ++ d ∷ []) ++ tail
+parts_more did d tail = sym (append_assoc (map part_told did) (part_told d ∷ []) tail) ∙ ap (λ l. l ++ tail) (sym (map-append part_told did (d ∷ [])))
+
+count_more : (phases : List (List (List Event))) (events : List (List Event)) (did : List PhaseDid) (d : PhaseDid) → length did ≡ length phases → length (did ++ d ∷ []) ≡ length (phases ++ events ∷ [])
+count_more phases events did d same = length-append did (d ∷ []) ∙ ap (λ n. n + 1) same ∙ sym (length-append phases (events ∷ []))
+
+each_more : (phases : List (List (List Event))) (events : List (List Event)) (did : List PhaseDid) (d : PhaseDid) → PhasesDone phases (map part_told did) → ((k : ℕ) → Does events (part_told d) k [])
+    → PhasesDone (phases ++ events ∷ []) (map part_told (did ++ d ∷ []))
+each_more phases events did d h all = record {
+  before = λ is_cut rest tail more.
+      subst (λ ps. PartsOf is_cut ps (map part_told (did ++ d ∷ []) ++ tail)) (sym (append_assoc phases (events ∷ []) rest))
+      (subst (PartsOf is_cut (phases ++ events ∷ rest)) (parts_more did d tail) (h.before is_cut (events ∷ rest) (part_told d ∷ tail) (whole all more)));
+}
+
+each_whole : (closed : Bool) (phases : List (List (List Event))) (did : List PhaseDid) → length did ≡ length phases → PhasesDone phases (map part_told did) → AreToldEach closed phases did
+each_whole closed phases did same h = record {
+  count = same;
+  parts = subst (PartsOf closed phases) (append-nil (map part_told did)) (subst (λ ps. PartsOf closed ps (map part_told did ++ [])) (append-nil phases) (h.before closed [] [] ends));
+}
+
+each_last : (closed : Bool) (phases : List (List (List Event))) (events : List (List Event)) (did : List PhaseDid) (d : PhaseDid) → length did ≡ length phases → PhasesDone phases (map part_told did) → IsPartDone closed events d
+    → (b : Bool) → closed ≡ b → AreToldEach b (phases ++ events ∷ []) (did ++ d ∷ [])
+each_last closed phases events did d same h part true on = record {
+  count = count_more phases events did d same;
+  parts = subst (PartsOf true (phases ++ events ∷ [])) (parts_more did d [] ∙ append-nil (map part_told (did ++ d ∷ []))) (h.before true (events ∷ []) (part_told d ∷ []) (broken part.some));
+}
+each_last closed phases events did d same h part false off = each_whole false (phases ++ events ∷ []) (did ++ d ∷ []) (count_more phases events did d same) (each_more phases events did d h (part.all off))
+
 module _ {F S T : Type 0} (source : SourceSteps S) (sink : SinkSteps T) (from to : S) (began now : T) (bearers : ℕ) (node : NodeView F) (d : DrawerView) (counts : List ℕ) (long : length counts ≡ bearers) where
   -- where the source gave no phase more
-  module _ (h : GoesOn source sink from to began now bearers node d counts) (usable : node.machine.closed ≡ false) (after : S) where
+  module _ (h : IsUnderWay source sink from to began now bearers node d counts) (usable : node.machine.closed ≡ false) (after : S) where
     over_here : IsOver h.phases node d (sends_told bearers h.did)
     over_here = over_whole h.phases node d (sends_told bearers h.did) counts h.going
 
@@ -106,6 +139,7 @@ module _ {F S T : Type 0} (source : SourceSteps S) (sink : SinkSteps T) (from to
       over = over_here;
       told = h.told;
       placed = h.placed;
+      each = each_whole node.machine.closed h.phases h.did h.count h.each;
       many = h.going.many ∙ long;
       end = usable;
     }
@@ -119,13 +153,20 @@ module _ {F S T : Type 0} (source : SourceSteps S) (sink : SinkSteps T) (from to
       over = over_here;
       told = h.told;
       placed = h.placed;
+      each = each_whole node.machine.closed h.phases h.did h.count h.each;
       many = h.going.many ∙ long;
       end = usable;
     }
 
+    pub went_none : (last : LastStep) → GivesNone source last to after → WentOn source sink from after began now bearers node d last node.machine.closed
+    went_none L.Ended end = went_ended end
+    went_none L.Unread end = went_unread end
+    went_none L.Cut end = absurd end
+    went_none L.Untold end = absurd end
+
   -- behind one phase more
-  module _ (h : GoesOn source sink from to began now bearers node d counts) (events : List (List Event)) (did : PhaseDid) (next : NodeView F) (e : DrawerView) (later : List ℕ) (closed : Bool) (after : S) (then : T)
-      (gave : source.gives to events after) (first : did.first ≡ length node.machine.entries) (size : length did.sends ≡ length counts) (told : AreTold (entries_told h.did ++ did.entries) next)
+  module _ (h : IsUnderWay source sink from to began now bearers node d counts) (events : List (List Event)) (did : PhaseDid) (next : NodeView F) (e : DrawerView) (later : List ℕ) (closed : Bool) (after : S) (then : T)
+      (gave : source.gives to events after) (first : did.first ≡ length node.machine.entries) (size : length did.sends ≡ length counts) (part : IsPartDone closed events did) (told : AreTold (entries_told h.did ++ did.entries) next)
       (going : closed ≡ false → IsGoing (h.phases ++ events ∷ []) next e (both_of (sends_told bearers h.did) did.sends) later)
       (over : closed ≡ true → IsOver (h.phases ++ events ∷ []) next e (both_of (sends_told bearers h.did) did.sends)) (is : closed ≡ next.machine.closed) where
     sends_are : both_of (sends_told bearers h.did) did.sends ≡ sends_told bearers (h.did ++ did ∷ [])
@@ -140,7 +181,7 @@ module _ {F S T : Type 0} (source : SourceSteps S) (sink : SinkSteps T) (from to
     many_all : length (sends_told bearers (h.did ++ did ∷ [])) ≡ bearers
     many_all = ap length (sym sends_are) ∙ length_both (sends_told bearers h.did) did.sends (h.going.many ∙ sym size) ∙ h.going.many ∙ long
 
-    pub goes_more : closed ≡ false → sink.takes now did then → GoesOn source sink from after began then bearers next e later
+    pub goes_more : closed ≡ false → sink.takes now did then → IsUnderWay source sink from after began then bearers next e later
     goes_more off took = record {
       phases = h.phases ++ events ∷ [];
       did = h.did ++ did ∷ [];
@@ -149,7 +190,12 @@ module _ {F S T : Type 0} (source : SourceSteps S) (sink : SinkSteps T) (from to
       going = subst (λ ss. IsGoing (h.phases ++ events ∷ []) next e ss later) sends_are (going off);
       told = told_all;
       placed = placed_all;
+      count = count_more h.phases events h.did did h.count;
+      each = each_more h.phases events h.did did h.each (part.all off);
     }
+
+    each_now : AreToldEach next.machine.closed (h.phases ++ events ∷ []) (h.did ++ did ∷ [])
+    each_now = each_last closed h.phases events h.did did h.count h.each part next.machine.closed is
 
     over_all : (b : Bool) → closed ≡ b → IsOver (h.phases ++ events ∷ []) next e (sends_told bearers (h.did ++ did ∷ []))
     over_all true on = subst (IsOver (h.phases ++ events ∷ []) next e) sends_are (over on)
@@ -164,6 +210,7 @@ module _ {F S T : Type 0} (source : SourceSteps S) (sink : SinkSteps T) (from to
       over = over_all true on;
       told = told_all;
       placed = placed_all;
+      each = each_now;
       many = many_all;
       end = sym is ∙ on;
     }
@@ -177,13 +224,25 @@ module _ {F S T : Type 0} (source : SourceSteps S) (sink : SinkSteps T) (from to
       over = over_all closed refl;
       told = told_all;
       placed = placed_all;
+      each = each_now;
       many = many_all;
       end = tt;
     }
 
+    pub went_last : (last : LastStep) → IsLastTold sink last closed now did then → WentOn source sink from after began then bearers next e last next.machine.closed
+    went_last L.Ended bad = absurd bad
+    went_last L.Unread bad = absurd bad
+    went_last L.Cut took = went_cut took.0 took.1
+    went_last L.Untold failed = went_untold failed
+
+-- what holds whatever was answered
+pub on_err : {A E P : Type 0} (r : Result A E) → P → OnErr r P
+on_err (Ok x) p = tt
+on_err (Err e) p = p
+
 -- before the first phase
 pub first_goes : {F S T : Type 0} (source : SourceSteps S) (sink : SinkSteps T) (from : S) (began : T) (bearers : ℕ) (node : NodeView F) (d : DrawerView) (counts : List ℕ)
-    → node.machine.entries ≡ [] → node.machine.taken ≡ length node.machine.entries → node.stops ≡ 0 → d.drawn ≡ [] → counts ≡ replicate bearers 0 → GoesOn source sink from from began began bearers node d counts
+    → node.machine.entries ≡ [] → node.machine.taken ≡ length node.machine.entries → node.stops ≡ 0 → d.drawn ≡ [] → counts ≡ replicate bearers 0 → IsUnderWay source sink from from began began bearers node d counts
 first_goes source sink from began bearers node d counts none taken live drawn zeros = record {
   phases = [];
   did = [];
@@ -192,4 +251,64 @@ first_goes source sink from began bearers node d counts none taken live drawn ze
   going = going_first node d bearers (replicate bearers []) counts none live drawn refl zeros;
   told = record { entries_are = none; taken = taken };
   placed = tt;
+  count = refl;
+  each = record { before = λ is_cut rest tail more. more };
+}
+
+-- Memory ran out, before a phase came, or in one.
+module _ {F S T : Type 0} {role : Role} {image : List ℕ → Type 0} {chip : F → Chip} (source : SourceSteps S) (sink : SinkSteps T) (from to : S) (began now : T) (bearers : ℕ) (node : NodeView F) (d : DrawerView) (counts : List ℕ)
+    (known : IsNode role image chip node) (start : F) (is_start : node.start ≡ start) (h : IsUnderWay source sink from to began now bearers node d counts) where
+  recovers : IsRecovered (chip start).now known.over
+  recovers = subst (λ (s : F). IsRecovered (chip s).now known.over) is_start known.read
+
+  pub short_before : FellShort role source sink from to began now (chip start)
+  short_before = record {
+    phases = h.phases;
+    in_hand = [];
+    one = omega arith;
+    did = h.did;
+    gave = subst (λ ps. BySteps source.gives from ps to) (sym (append-nil h.phases)) h.gave;
+    took = h.took;
+    placed = h.placed;
+    each = each_whole false h.phases h.did h.count h.each;
+    over = known.over;
+    recovered = recovers;
+    told = known.life.told;
+    entries = known.life.entries ∙ h.told.entries_are;
+    handled = known.life.handled;
+  }
+
+  pub short_in : (events : List (List Event)) (after : S) → source.gives to events after → FellShort role source sink from after began now (chip start)
+  short_in events after gave = record {
+    phases = h.phases;
+    in_hand = events ∷ [];
+    one = omega arith;
+    did = h.did;
+    gave = steps_more source.gives from h.phases to events after h.gave gave;
+    took = h.took;
+    placed = h.placed;
+    each = each_whole false h.phases h.did h.count h.each;
+    over = known.over;
+    recovered = recovers;
+    told = known.life.told;
+    entries = known.life.entries ∙ h.told.entries_are;
+    handled = known.life.handled;
+  }
+
+-- it had no phase yet
+pub short_first : {S T : Type 0} (role : Role) (source : SourceSteps S) (sink : SinkSteps T) (from : S) (began : T) (start : Chip) (over : List StoreRecord) → IsRecovered start.now over → FellShort role source sink from from began began start
+short_first role source sink from began start over read = record {
+  phases = [];
+  in_hand = [];
+  one = omega arith;
+  did = [];
+  gave = refl;
+  took = refl;
+  placed = tt;
+  each = record { count = refl; parts = ends };
+  over = over;
+  recovered = read;
+  told = [];
+  entries = refl;
+  handled = tt;
 }

@@ -1,6 +1,6 @@
 -- A life that went on is one of the phases that came, with what was told of them.
-use Rattle.std.proofs.Common.{◌≡◌, ◌≢◌, ℕ, ◌<◌, ◌≤◌, false, List, length, map, refl, sym, subst, arith}
-use Rattle.std.specs.Prelude.{◌^◌, All, AllPairs}
+use Rattle.std.proofs.Common.{◌≡◌, ◌∙◌, ap, ℕ, ◌<◌, ◌≤◌, false, List, length, map, refl, sym, subst, arith}
+use Rattle.std.specs.Prelude.{◌^◌, All}
 use Rattle.flash_model.specs.Chip.{Chip}
 use Rattle.mesh_types.specs.declared.history.Entry.{Entry}
 use Rattle.mesh_types.specs.declared.report.End.{End}
@@ -12,24 +12,26 @@ use Rattle.seq_word.specs.Seen.{ClosedView, DrawerView}
 use Rattle.store_definitions.specs.Config.{config_of}
 use Rattle.store_definitions.specs.Recovered.{IsRecovered}
 use Rattle.locked_node.specs.Node.{NodeView}
-use Rattle.locked_node.specs.Stands.{IsLater, IsNode}
+use Rattle.locked_node.specs.Stands.{HasMachine, IsLater, IsNode}
+use Rattle.machine_contract.specs.View.{MachineView}
+use Rattle.mesh_node.specs.Given.{Stood}
 use Rattle.life_laws.specs.Pairs.{PairsSo}
 use Rattle.mesh_node.specs.Going.{IsOver}
 use Rattle.mesh_node.specs.Lived.{IsLifeTold, LivedOn, WentOn, life_told}
 use Rattle.mesh_node.specs.Told.{SinkSteps, SourceSteps, sends_told}
 use Rattle.mesh_node.specs.declared.told.LastStep.{LastStep}
-use Rattle.mesh_node.proofs.Drawn.{spent_of, words_of}
+use Rattle.mesh_node.proofs.Drawn.{Closes, tells_words}
 use Rattle.mesh_node.proofs.Ending.{each_life}
 use Rattle.mesh_node.proofs.Printing.{sends_short}
 use Rattle.mesh_node.proofs.Telling.{phases_are}
 
-module _ {F S T : Type 0} (role : Role) (image : List ℕ → Type 0) (chip : F → Chip) (source : SourceSteps S) (sink : SinkSteps T) (from to : S) (began now : T) (bearers : ℕ) (few : bearers ≤ 8)
+module _ {M F S T : Type 0} (view : M → MachineView) (stands : Chip → List StoreRecord → M → Type 0) (role : Role) (image : List ℕ → Type 0) (chip : F → Chip) (source : SourceSteps S) (sink : SinkSteps T) (from to : S) (began now : T) (bearers : ℕ) (few : bearers ≤ 8)
     (start : F) (node : NodeView F) (d : DrawerView) (last : LastStep) (went : WentOn source sink from to began now bearers node d last node.machine.closed)
     (one : (content : List ℕ) (rs ss : List StoreRecord) → IsRecovered content rs → IsRecovered content ss → rs ≡ ss)
     (begun : List StoreRecord) (read : IsRecovered (chip start).now begun) (runs : (config_of begun).reset ≡ false)
     (h : IsNode role image chip node) (is_start : node.start ≡ start) (closed : ClosedView) (first : ℕ) (order : closed.next ≤ closed.mark) (marks : closed.mark ≡ node.machine.mark) (firsts : first ≡ (config_of begun).mark)
     (since : All (λ x. first ≤ x) d.drawn) (below : All (λ x. x < closed.next) d.drawn) (once : (x : ℕ) → times x d.drawn ≤ 1) (seen : All (IsWithin closed.next closed.mark) d.looks)
-    (words : closed.drawn ≡ d.drawn) (looked : closed.looks ≡ d.looks) (apart : AllPairs (λ x y. x ≢ y) d.drawn) where
+    (closes : Closes d closed first) (held : HasMachine stands view chip node) where
   begun_is : begun ≡ h.over
   begun_is = one (chip start).now begun h.over read (subst (λ s. IsRecovered (chip s).now h.over) is_start h.read)
 
@@ -53,20 +55,20 @@ module _ {F S T : Type 0} (role : Role) (image : List ℕ → Type 0) (chip : F 
           bearers = omega (arith, went.many, few);
           lines = sends_short node.machine.entries (sends_told bearers went.did) went.over.pairs.drawns d.looks h.life.few went.over.pairs.shown;
         };
-        drawn = record {
-          ran = refl;
-          words = words_of l d closed.drawn words apart pairs;
-          spent = spent_of l d closed.looks looked pairs;
-        };
+        drawn = tells_words l d closed refl (subst (Closes d closed) (firsts ∙ ap (λ o. (config_of o).mark) begun_is) closes) pairs;
       }
 
-  pub lived : LivedOn role image source sink from to began now bearers (chip start) (chip node.flash) node.machine.fills closed node.machine.closed last
+  held_over : held.over ≡ h.over
+  held_over = one (chip start).now held.over h.over (subst (λ s. IsRecovered (chip s).now held.over) is_start held.read) (subst (λ o. IsRecovered (chip start).now o) begun_is read)
+
+  pub lived : LivedOn (Stood view stands chip node.flash) role image source sink from to began now bearers (chip start) (chip node.flash) node.machine.fills closed node.machine.closed last
   lived = record {
     phases = went.phases;
     did = went.did;
     gave = went.gave;
     took = went.took;
     placed = went.placed;
+    each = went.each;
     end = went.end;
     over = h.over;
     recovered = subst (λ o. IsRecovered (chip start).now o) begun_is read;
@@ -74,4 +76,11 @@ module _ {F S T : Type 0} (role : Role) (image : List ℕ → Type 0) (chip : F 
     node = h.life.node;
     later = subst (λ s. IsLater (chip s) (chip node.flash)) is_start h.later;
     cause = λ is. h.life.failed is;
+    all = record {
+      machine = node.machine;
+      stood = (held.machine, held.shows, subst (λ o. stands (chip node.flash) o held.machine) held_over held.tie);
+      entries = went.told.entries_are;
+      fills = refl;
+      is_closed = refl;
+    };
   }

@@ -1,5 +1,5 @@
 -- A life as far as it is.
-use Rattle.std.specs.Prelude.{◌≡◌, ℕ, ◌<◌, ◌≤◌, Bool, true, List, length, map, Some}
+use Rattle.std.specs.Prelude.{◌≡◌, ℕ, ◌+◌, ◌<◌, ◌≤◌, Bool, true, List, drop, length, map, Some}
 use Rattle.std.specs.List.{range_with_len}
 use Rattle.mesh_types.specs.declared.events.Event.{Event}
 use Rattle.mesh_types.specs.declared.history.Entry.{Entry}
@@ -10,7 +10,10 @@ use Rattle.locked_node.specs.Node.{NodeView, event_in}
 use Rattle.life_laws.specs.Hands.{AreHandledAll, IsNextIn}
 use Rattle.life_laws.specs.Pairs.{PairsSo}
 use Rattle.node_limits.specs.declared.TheConstants.{BEARERS}
-use Rattle.mesh_node.specs.declared.going.Seats.{Seats}
+use Rattle.node_phase.specs.declared.bearers.Done.{Done}
+use Rattle.node_phase.specs.Part.{lines_of}
+use Rattle.mesh_node.specs.declared.phases.Seats.{Seats}
+use Rattle.mesh_node.specs.declared.told.PhaseLog.{PhaseLog}
 use Rattle.life_laws.specs.Phases.{AreDone, AreOrdered, entries_by}
 
 -- These phases are through, and no bearer stopped.
@@ -42,7 +45,17 @@ pub record AreTold {F : Type 0} (entries : List Entry) (node : NodeView F) : Typ
 pub record IsBetween {F : Type 0} (seats : Seats) (node : NodeView F) : Type 0 where
   pub made : node.machine.which ≡ seats.numbers.which
   pub draws : seats.drawer.which ≡ seats.numbers.which
+  -- all seats that were split off were taken in again
+  pub parts : seats.drawer.parts ≡ 1024
   pub few : length seats.counts.items ≤ BEARERS
   pub live : node.stops ≡ 0
   pub taken : node.machine.taken ≡ length node.machine.entries
   pub count : seats.entries ≡ length node.machine.entries
+
+-- What is told behind a phase: the entries that weren't taken, and what its bearers left. The seats go on from there.
+pub record IsLogged {F : Type 0} (node : NodeView F) (before now : Seats) (dones : List Done) (log : PhaseLog) : Type 0 where
+  pub first : log.first ≡ before.entries
+  pub entries : log.entries.items ≡ drop node.machine.taken node.machine.entries
+  pub sends : map (λ v. v.items) log.sends.items ≡ map lines_of dones
+  pub counts : now.counts.items ≡ map (λ x. x.number) dones
+  pub count : now.entries ≡ before.entries + length log.entries.items

@@ -1,5 +1,5 @@
 -- A life whose phases came from a source and were told to a sink, phase by phase.
-use Rattle.std.specs.Prelude.{◌≡◌, ℕ, ◌<◌, Bool, true, List, length, map}
+use Rattle.std.specs.Prelude.{◌≡◌, ℕ, ◌<◌, ◌≤◌, Bool, true, false, List, [], ◌++◌, length, map}
 use Rattle.flash_model.specs.Chip.{Chip}
 use Rattle.mesh_types.specs.declared.events.Event.{Event}
 use Rattle.mesh_types.specs.declared.report.End.{End}
@@ -7,6 +7,8 @@ use Rattle.mesh_types.specs.declared.report.Opened.TheVariants as W
 use Rattle.machine_contract.specs.Opening.{EachRecovered, IsNodeFlash}
 use Rattle.record_types.specs.declared.records.StoreRecord.{StoreRecord}
 use Rattle.report_definitions.specs.Record.{Life}
+use Rattle.event_definitions.specs.Handling.{AreHandled}
+use Rattle.event_definitions.specs.History.{Told}
 use Rattle.event_definitions.specs.Role.{Role}
 use Rattle.run_definitions.specs.Order.{is_cut, phase}
 use Rattle.run_definitions.specs.RunOf.{LifeOf}
@@ -15,15 +17,17 @@ use Rattle.store_definitions.specs.Config.{config_of}
 use Rattle.store_definitions.specs.Recovered.{IsRecovered}
 use Rattle.locked_node.specs.Node.{NodeView}
 use Rattle.locked_node.specs.Stands.{IsLater}
+use Rattle.machine_contract.specs.View.{MachineView}
 use Rattle.mesh_node.specs.Drawn.{TellsWords}
 use Rattle.mesh_node.specs.Going.{AreTold, IsGoing, IsOver}
 use Rattle.mesh_node.specs.Lives.{IsPrintable}
 use Rattle.mesh_node.specs.declared.told.LastStep.{LastStep}
-use Rattle.mesh_node.specs.Told.{ArePlaced, BySteps, HasGiven, HasTaken, IsClosedAt, PhaseDid, SinkSteps, SourceSteps, entries_told, sends_told}
+use Rattle.life_laws.specs.Phases.{PhasesDone}
+use Rattle.mesh_node.specs.Told.{ArePlaced, AreToldEach, BySteps, HasGiven, HasTaken, IsClosedAt, PhaseDid, SinkSteps, SourceSteps, entries_told, part_told, sends_told}
 
 module _ {F S T : Type 0} (source : SourceSteps S) (sink : SinkSteps T) (from to : S) (began now : T) (bearers : ℕ) (node : NodeView F) (d : DrawerView) where
-  -- a life as far as it is: its phases came from the source, and the sink took what they did
-  pub record GoesOn (counts : List ℕ) : Type 0 where
+  -- a life as far as it is: its phases came from the source, and the sink took what each did
+  pub record IsUnderWay (counts : List ℕ) : Type 0 where
     pub phases : List (List (List Event))
     pub did : List PhaseDid
     pub gave : BySteps source.gives from phases to
@@ -31,6 +35,8 @@ module _ {F S T : Type 0} (source : SourceSteps S) (sink : SinkSteps T) (from to
     pub going : IsGoing phases node d (sends_told bearers did) counts
     pub told : AreTold (entries_told did) node
     pub placed : ArePlaced 0 did
+    pub count : length did ≡ length phases
+    pub each : PhasesDone phases (map part_told did)
 
   -- all that became of it, up to its last step
   pub record WentOn (last : LastStep) (closed : Bool) : Type 0 where
@@ -41,6 +47,7 @@ module _ {F S T : Type 0} (source : SourceSteps S) (sink : SinkSteps T) (from to
     pub over : IsOver phases node d (sends_told bearers did)
     pub told : AreTold (entries_told did) node
     pub placed : ArePlaced 0 did
+    pub each : AreToldEach closed phases did
     pub many : length (sends_told bearers did) ≡ bearers
     pub end : IsClosedAt last closed
 
@@ -60,7 +67,16 @@ pub record IsLifeTold (role : Role) (phases : List (List (List Event))) (over : 
   pub printable : IsPrintable l
   pub drawn : TellsWords l words
 
-module _ {S T : Type 0} (role : Role) (image : List ℕ → Type 0) (source : SourceSteps S) (sink : SinkSteps T) (from to : S) (began now : T) (bearers : ℕ) where
+-- what is told of a life is all that the machine handled which stands over its records at the end, and it is closed exactly where the life is cut
+pub record IsAllTold (Stood : List StoreRecord → MachineView → Type 0) (over : List StoreRecord) (did : List PhaseDid)
+    (refills : ℕ) (closed : Bool) : Type 0 where
+  pub machine : MachineView
+  pub stood : Stood over machine
+  pub entries : machine.entries ≡ entries_told did
+  pub fills : machine.fills ≡ refills
+  pub is_closed : machine.closed ≡ closed
+
+module _ {S T : Type 0} (Stood : List StoreRecord → MachineView → Type 0) (role : Role) (image : List ℕ → Type 0) (source : SourceSteps S) (sink : SinkSteps T) (from to : S) (began now : T) (bearers : ℕ) where
   -- The life that opened over what the flash recovered at its beginning. It is cut exactly where the flash failed.
   pub record LivedOn (start new : Chip) (refills : ℕ) (drawn : ClosedView) (closed : Bool) (last : LastStep) : Type 0 where
     pub phases : List (List (List Event))
@@ -68,6 +84,7 @@ module _ {S T : Type 0} (role : Role) (image : List ℕ → Type 0) (source : So
     pub gave : HasGiven source last from phases to
     pub took : HasTaken sink last began did now
     pub placed : ArePlaced 0 did
+    pub each : AreToldEach closed phases did
     pub end : IsClosedAt last closed
     pub over : List StoreRecord
     pub recovered : IsRecovered start.now over
@@ -76,3 +93,22 @@ module _ {S T : Type 0} (role : Role) (image : List ℕ → Type 0) (source : So
     pub node : IsNodeFlash image new
     pub later : IsLater start new
     pub cause : closed ≡ true → new.setting.faults < new.faults
+    pub all : IsAllTold Stood over did refills closed
+
+module _ {S T : Type 0} (role : Role) (source : SourceSteps S) (sink : SinkSteps T) (from to : S) (began now : T) where
+  -- A life that memory ran out in. The phases that were through were told, each once it was, and they are those of a life that opened over
+  -- what the flash recovered at its beginning. One phase more may have come, of which nothing was told.
+  pub record FellShort (start : Chip) : Type 0 where
+    pub phases : List (List (List Event))
+    pub in_hand : List (List (List Event))
+    pub one : length in_hand ≤ 1
+    pub did : List PhaseDid
+    pub gave : BySteps source.gives from (phases ++ in_hand) to
+    pub took : BySteps sink.takes began did now
+    pub placed : ArePlaced 0 did
+    pub each : AreToldEach false phases did
+    pub over : List StoreRecord
+    pub recovered : IsRecovered start.now over
+    pub told : List Told
+    pub entries : map (λ t. t.entry) told ≡ entries_told did
+    pub handled : AreHandled role over [] told

@@ -10,13 +10,15 @@ use Rattle.report_definitions.specs.Record.{Life}
 use Rattle.record_types.specs.declared.records.StoreRecord.{StoreRecord}
 use Rattle.event_definitions.specs.Role.{Role}
 use Rattle.run_definitions.specs.Order.{Step, is_cut}
-use Rattle.run_definitions.specs.RunOf.{LifeOf}
+use Rattle.run_definitions.specs.RunOf.{LifeOf, is_on}
 use Rattle.store_definitions.specs.Config.{config_of}
 use Rattle.store_definitions.specs.Recovered.{IsRecovered}
 use Rattle.std.specs.Prelude.{All, Some}
 use Rattle.life_laws.specs.declared.plan.LifeLog.{LifeLog}
 use Rattle.life_laws.specs.declared.plan.LifePlan.{LifePlan}
+use Rattle.machine_contract.specs.View.{MachineView}
 use Rattle.mesh_node.specs.Drawn.{TellsDrawn}
+use Rattle.mesh_node.specs.Given.{IsTold, WasGiven}
 use Rattle.life_laws.specs.Plan.{HasOneArm, IsStep, life_of}
 use Rattle.mesh_node.specs.Steps.{IsGiven, IsOfPlan}
 use Rattle.node_limits.specs.declared.TheConstants.{BEARERS}
@@ -41,24 +43,28 @@ pub record IsPrintable (life : Life) : Type 0 where
   pub lines : All (All IsShort) life.sends
 
 -- The life opened over what one image of the flash recovers. Whatever an image recovers now, it is a life of its plan that leaves this.
-pub record Lives (role : Role) (IsNodeImage : List ℕ → Type 0) (plan : List Step) (old : Chip) (log : LifeLog)
-    (new : Chip) : Type 0 where
+pub record Lives {M F : Type 0} (view : M → MachineView) (stands : Chip → List StoreRecord → M → Type 0) (chip : F → Chip)
+    (role : Role) (IsNodeImage : List ℕ → Type 0) (plan : List Step) (old : Chip) (log : LifeLog) (new : F) : Type 0 where
   pub over : List StoreRecord
   pub image : List ℕ
   pub is_image : old.images image
   pub recovered : IsRecovered image over
   -- it is the flash that was given: what a cut might have left of it earlier, it might still have left
-  pub past : Remembers old new
-  pub life : EachRecovered new (λ next. LifeOf role plan over (life_of log) next)
-  pub node : IsNodeFlash IsNodeImage new
+  pub past : Remembers old (chip new)
+  pub life : EachRecovered (chip new) (λ next. LifeOf role plan over (life_of log) next)
+  pub node : IsNodeFlash IsNodeImage (chip new)
   pub printable : IsPrintable (life_of log)
   -- the causes of a cut
-  pub later : old.faults ≤ new.faults
-  pub cause : is_cut log.end ≡ true → old.faults < new.faults
-  pub steady : new.steady ≡ old.steady
-  pub setting : new.setting.faults ≡ old.faults
-  pub arm : IsOfPlan plan new.setting.arm
-  pub calls : IfSome (cut_calls log.end) (λ calls. calls ≡ new.changes)
+  pub later : old.faults ≤ (chip new).faults
+  pub cause : is_cut log.end ≡ true → old.faults < (chip new).faults
+  pub steady : (chip new).steady ≡ old.steady
+  pub setting : (chip new).setting.faults ≡ old.faults
+  pub arm : IsOfPlan plan (chip new).setting.arm
+  pub calls : IfSome (cut_calls log.end) (λ calls. calls ≡ (chip new).changes)
   pub drawn : TellsDrawn (life_of log) log.drawn
   -- over a flash that fails by an order alone, one that the plan has was given, but where there was a Node Reset
-  pub armed : IsTrue old.steady → log.opened ≢ W.WasReset → IsGiven plan new.setting.arm
+  pub armed : IsTrue old.steady → log.opened ≢ W.WasReset → IsGiven plan (chip new).setting.arm
+  -- and it was given at its place in the plan
+  pub given : IfSome (chip new).setting.arm (WasGiven view stands chip over plan)
+  -- what is told of the life is all that its machine handled
+  pub told : is_on log.opened ≡ true → IsTold view stands chip over (life_of log) new

@@ -10,20 +10,24 @@ use Rattle.store_definitions.specs.Recovered.{IsRecovered}
 use Rattle.locked_node.specs.Stands.{IsLater}
 use Rattle.life_laws.specs.declared.plan.LifeLog.{LifeLog}
 use Rattle.mesh_node.specs.Lives.{IsPrintable, cut_calls}
+use Rattle.machine_contract.specs.View.{MachineView}
 use Rattle.mesh_node.specs.Drawn.{TellsDrawn}
+use Rattle.mesh_node.specs.Given.{IsTold, WasGiven}
 use Rattle.life_laws.specs.Plan.{life_of}
 use Rattle.mesh_node.specs.Steps.{HasGiven, IsOfPlan}
 
-pub record Ran (role : Role) (IsNodeImage : List ℕ → Type 0) (plan : List Step) (start : Chip) (log : LifeLog)
-    (new : Chip) : Type 0 where
+pub record Ran {M F : Type 0} (view : M → MachineView) (stands : Chip → List StoreRecord → M → Type 0) (chip : F → Chip)
+    (role : Role) (IsNodeImage : List ℕ → Type 0) (plan : List Step) (start : Chip) (log : LifeLog) (new : F) : Type 0 where
   pub over : List StoreRecord
   pub recovered : IsRecovered start.now over
-  pub life : EachRecovered new (λ next. LifeOf role plan over (life_of log) next)
-  pub node : IsNodeFlash IsNodeImage new
+  pub life : EachRecovered (chip new) (λ next. LifeOf role plan over (life_of log) next)
+  pub node : IsNodeFlash IsNodeImage (chip new)
   pub printable : IsPrintable (life_of log)
-  pub later : IsLater start new
-  pub cause : is_cut log.end ≡ true → new.setting.faults < new.faults
-  pub arm : IsOfPlan plan new.setting.arm
-  pub calls : IfSome (cut_calls log.end) (λ calls. calls ≡ new.changes)
+  pub later : IsLater start (chip new)
+  pub cause : is_cut log.end ≡ true → (chip new).setting.faults < (chip new).faults
+  pub arm : IsOfPlan plan (chip new).setting.arm
+  pub calls : IfSome (cut_calls log.end) (λ calls. calls ≡ (chip new).changes)
   pub drawn : TellsDrawn (life_of log) log.drawn
-  pub armed : IsTrue new.steady → HasGiven plan new.setting.arm
+  pub armed : IsTrue (chip new).steady → HasGiven plan (chip new).setting.arm
+  pub given : IfSome (chip new).setting.arm (WasGiven view stands chip over plan)
+  pub told : IsTold view stands chip over (life_of log) new

@@ -4,6 +4,7 @@ use Rattle.std.specs.List.{flat_map}
 use Rattle.mesh_types.specs.declared.events.Event.{Event}
 use Rattle.mesh_types.specs.declared.history.Entry.{Entry}
 use Rattle.mesh_types.specs.declared.history.Sent.{Sent}
+use Rattle.run_definitions.specs.Order.{Does, Part, PartsOf, Task, placed_from}
 use Rattle.life_laws.specs.Phases.{both_of}
 use Rattle.node_limits.specs.declared.TheConstants.{BEARERS}
 use Rattle.mesh_node.specs.Lives.{IsShort}
@@ -28,6 +29,21 @@ entries_told did = flat_map (λ d. d.entries) did
 abbrev pub ArePlaced : ℕ → List PhaseDid → Type 0
 ArePlaced n [] = ⊤
 ArePlaced n (d ∷ did) = (d.first ≡ n) × ArePlaced (n + length d.entries) did
+
+-- what a phase did, as a part of its life
+abbrev pub part_told : PhaseDid → Part
+part_told d = record { entries = placed_from d.first d.entries; sends = d.sends }
+
+-- In a phase with these events each bearer did this, all that it had; where the flash failed, perhaps not all.
+pub record IsPartDone (closed : Bool) (events : List (List Event)) (did : PhaseDid) : Type 0 where
+  pub all : closed ≡ false → (k : ℕ) → Does events (part_told did) k []
+  pub some : (k : ℕ) → (left : List Task) × Does events (part_told did) k left
+
+-- As many phases were told as came, and what was told of each is what was done in it: all that its bearers had, or where the flash failed
+-- perhaps not all in the last.
+pub record AreToldEach (closed : Bool) (phases : List (List (List Event))) (did : List PhaseDid) : Type 0 where
+  pub count : length did ≡ length phases
+  pub parts : PartsOf closed phases (map part_told did)
 
 -- a report has room for it
 pub record IsPrintablePhase (d : PhaseDid) : Type 0 where
@@ -65,6 +81,20 @@ module _ {S : Type 0} where
   HasGiven steps L.Unread old phases new = (mid : S) × BySteps steps.gives old phases mid × steps.fails mid new
   HasGiven steps L.Cut old phases new = BySteps steps.gives old phases new
   HasGiven steps L.Untold old phases new = BySteps steps.gives old phases new
+
+  -- it gave none, for this cause
+  abbrev pub GivesNone : SourceSteps S → LastStep → S → S → Type 0
+  GivesNone steps L.Ended old new = steps.ends old new
+  GivesNone steps L.Unread old new = steps.fails old new
+  GivesNone steps L.Cut old new = ⊥
+  GivesNone steps L.Untold old new = ⊥
+
+  -- the sink was told of the last phase, after which the life is over for this cause
+  abbrev pub IsLastTold : SinkSteps S → LastStep → Bool → S → PhaseDid → S → Type 0
+  IsLastTold steps L.Ended closed old did new = ⊥
+  IsLastTold steps L.Unread closed old did new = ⊥
+  IsLastTold steps L.Cut closed old did new = (closed ≡ true) × steps.takes old did new
+  IsLastTold steps L.Untold closed old did new = steps.fails old did new
 
   -- the sink took what all phases but the last did, and failed at that
   pub record FailedAtLast (steps : SinkSteps S) (old : S) (did : List PhaseDid) (new : S) : Type 0 where

@@ -12,9 +12,9 @@ ghost use Rattle.machine_contract.specs.Opening.{IsNodeFlash};
 ghost use Rattle.mesh_node.specs.Lives.{IsPlanned, Lives, cut_calls};
 ghost use Rattle.life_laws.specs.Plan.{IsStep, behind_arm, steps_of};
 ghost use Rattle.mesh_node.specs.Ran.{Ran};
-ghost use Rattle.mesh_node.specs.Steps.{IsFirstGiven, IsOfPlan, MayFollow};
+ghost use Rattle.mesh_node.specs.Steps.{IsFirstGiven, IsOfPlan, MayFollow, first_order};
 
-use crate::going::Seats;
+use crate::phases::Seats;
 use crate::steps::{arm_first, do_steps};
 use flash_model::Bench;
 use life_laws::plan::{LifeLog, LifePlan, PlanStep};
@@ -41,7 +41,7 @@ pub fn life<M: Machine, B: Bench, G: Gate, R: Threads + Wait + Sync>(
     requires node { IsNodeFlash M.image (B.chip flash) }
     requires plan { IsPlanned (B.chip flash) plan.now }
     ensures life { IfOk result
-        (λ r. Lives M.role M.image (steps_of plan.now.steps.items) (B.chip flash) r.0 (B.chip r.1)) }
+        (λ r. Lives M.view M.stands B.chip M.role M.image (steps_of plan.now.steps.items) (B.chip flash) r.0 r.1) }
 {
     let mut flash = flash;
     flash.power_cycle();
@@ -114,10 +114,11 @@ fn run_life<M: Machine, F: Bench, G: Gate, R: Threads + Wait + Sync>(
     requires may { MayFollow steps.now (F.chip flash).setting.arm }
     requires order { IsOfPlan (steps_of plan.now.steps.items) (F.chip flash).setting.arm }
     requires first { IsFirstGiven plan.now.steps.items (F.chip flash).setting.arm }
+    requires armed { (F.chip flash).setting.arm ≡ first_order plan.now.steps.items 0 }
     requires steps { (over : List StoreRecord) → IsRecovered (F.chip start).now over
         → All (IsStep plan.now.bearers (config_of over).elements) plan.now.steps.items }
     ensures ran { IfOk result
-        (λ r. Ran M.role M.image (steps_of plan.now.steps.items) (F.chip start) r.0 (F.chip r.1)) }
+        (λ r. Ran M.view M.stands F.chip M.role M.image (steps_of plan.now.steps.items) (F.chip start) r.0 r.1) }
 {
     // They do nothing when they run: the proof uses what they say.
     M::tells::<F>();

@@ -3,13 +3,17 @@
 
 ghost use Rattle.std.specs.Prelude.{◌≡◌, ◌≢◌, ℕ, ◌<◌, List, [], ◌∷◌, ◌++◌, length, map, All, None, true, false, IfOk, OnOk, replicate};
 ghost use Rattle.mesh_types.specs.declared.events.Event.{Event};
+ghost use Rattle.record_types.specs.declared.records.StoreRecord.{StoreRecord};
 ghost use Rattle.run_definitions.specs.Order.{phases_of};
+ghost use Rattle.store_definitions.specs.Recovered.{IsRecovered};
 ghost use Rattle.node_bearer.specs.Did.{AreEvents};
+ghost use Rattle.mesh_node.specs.Given.{IsSameOrPlaced};
 ghost use Rattle.mesh_node.specs.Going.{AreTold, IsBetween, IsGoing, IsOver};
 ghost use Rattle.life_laws.specs.Plan.{IsStep, behind_arm, step_of, steps_of};
 ghost use Rattle.mesh_node.specs.Steps.{HasGiven, IsArmedBy, IsArmedFirst, IsSameNode, IsSameOrOf, MayArm, MayFollow};
 
-use crate::going::{Seats, one_phase};
+use crate::going::one_phase;
+use crate::phases::Seats;
 use crate::told::PhaseLog;
 use flash_model::Bench;
 use life_laws::plan::PlanStep;
@@ -20,6 +24,7 @@ use node_phase::Gate;
 use std::alloc::{AllocError, Global};
 use std::sync::Wait;
 use std::thread::Threads;
+use store_definitions::recovery::one_list_is_recovered;
 
 /// Gives the flash the order that stands first among the steps, if there is one. Returns the steps behind it.
 pub fn arm_first<'a, B: Bench>(flash: &mut B, steps: &'a [PlanStep]) -> &'a [PlanStep]
@@ -52,6 +57,7 @@ fn do_phase<M: Machine, F: Bench, G: Gate, R: Threads + Wait + Sync>(
     requires events { All (λ v. AreEvents node.machine.elements v.items) lists.now }
     ensures numbers { seats.new.numbers ≡ seats.old.numbers }
     ensures which { seats.new.drawer.which ≡ seats.old.drawer.which }
+    ensures parts { OnOk result (seats.new.drawer.parts ≡ 1024) }
     ensures frame { IfOk result (λ r. IsSameNode node r.0) }
     ensures arm { IfOk result (λ r. (F.chip r.0.flash).setting.arm ≡ (F.chip node.flash).setting.arm) }
     ensures many { OnOk result
@@ -95,6 +101,7 @@ pub fn do_step<M: Machine, F: Bench, G: Gate, R: Threads + Wait + Sync>(
     requires arm { MayArm step.now (F.chip node.flash) }
     ensures numbers { seats.new.numbers ≡ seats.old.numbers }
     ensures which { seats.new.drawer.which ≡ seats.old.drawer.which }
+    ensures parts { OnOk result (seats.new.drawer.parts ≡ 1024) }
     ensures frame { IfOk result (λ r. IsSameNode node r.0) }
     ensures arm { IfOk result (λ r. IsArmedBy step.now (F.chip node.flash) (F.chip r.0.flash)) }
     ensures many { OnOk result
@@ -145,19 +152,28 @@ pub fn do_steps<M: Machine, F: Bench, G: Gate, R: Threads + Wait + Sync>(
     requires begins { node.machine.entries ≡ [] }
     ensures numbers { seats.new.numbers ≡ seats.old.numbers }
     ensures which { seats.new.drawer.which ≡ seats.old.drawer.which }
+    ensures parts { OnOk result (seats.new.drawer.parts ≡ 1024) }
     ensures frame { IfOk result (λ r. IsSameNode node r.0) }
     ensures arm { IfOk result
         (λ r. IsSameOrOf (steps_of steps.now) (F.chip node.flash).setting.arm (F.chip r.0.flash).setting.arm) }
     ensures held { IfOk result (λ r. (F.chip node.flash).setting.arm ≢ None → (F.chip r.0.flash).setting.arm ≢ None) }
     ensures given { IfOk result (λ r. r.0.stops ≡ 0 → HasGiven (steps_of steps.now) (F.chip r.0.flash).setting.arm) }
+    ensures placed { (over : List StoreRecord) → IsRecovered (F.chip node.start).now over
+        → IfOk result
+        (λ r. IsSameOrPlaced M.view M.stands F.chip over (steps_of steps.now) (F.chip node.flash).setting.arm
+        (F.chip r.0.flash).setting.arm) }
     ensures many { IfOk result (λ r. length r.1.sends.items ≡ bearers) }
     ensures told { IfOk result (λ r. AreTold r.1.entries.items r.0) }
     ensures over { IfOk result
         (λ r. IsOver (phases_of (steps_of steps.now)) r.0 seats.new.drawer (map (λ v. v.items) r.1.sends.items)) }
 {
+    // It does nothing when it runs: the proof uses what it says.
+    one_list_is_recovered();
     let mut log = PhaseLog::none(alloc, bearers)?;
     let mut node = node;
     for step in steps {
+        // Nor does this.
+        node.known();
         let (next, closed) = do_step(rt, alloc, gate, node, seats, &mut log, step)?;
         node = next;
         if closed {

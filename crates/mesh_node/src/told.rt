@@ -1,10 +1,10 @@
 //! Where the phases of a life come from, and who is told of each.
 #![tactic(auto)]
 
-ghost use Rattle.std.specs.Prelude.{◌≡◌, ◌++◌, [], length, map, replicate, All, None, IfOk, IfSome, OnOk, OnErr};
+ghost use Rattle.std.specs.Prelude.{◌≡◌, ◌++◌, [], length, map, replicate, All, None, false, IfErr, IfOk, IfSome, OnOk, OnErr};
 ghost use Rattle.life_laws.specs.Phases.{both_of};
 ghost use Rattle.node_bearer.specs.Did.{AreEvents};
-ghost use Rattle.mesh_node.specs.Told.{IsPrintablePhase, SinkSteps, SourceSteps, did_of};
+ghost use Rattle.mesh_node.specs.Told.{GivesNone, IsLastTold, IsPrintablePhase, SinkSteps, SourceSteps, did_of};
 
 use crate::log::{append_lines, no_lines, put_behind};
 use mesh_types::events::Event;
@@ -105,4 +105,34 @@ pub trait PhaseSink {
         requires room { IsPrintablePhase (did_of log) }
         ensures takes { OnOk result (steps.takes self.old (did_of log) self.new) }
         ensures fails { OnErr result (steps.fails self.old (did_of log) self.new) };
+}
+
+/// Asks a source for a phase. An error says why there is none.
+pub fn ask<S: PhaseSource>(
+    source: &mut S,
+    bearers: u8,
+    elements: u8,
+) -> Result<Vec<Vec<Event>>, LastStep>
+    ensures gives { IfOk result (λ lists. S.steps.gives source.old (map (λ v. v.items) lists.items) source.new) }
+    ensures long { IfOk result (λ lists. length lists.items ≡ bearers) }
+    ensures events { IfOk result (λ lists. All (λ v. AreEvents elements v.items) lists.items) }
+    ensures none { IfErr result (λ last. GivesNone S.steps last source.old source.new) }
+{
+    match source.next(bearers, elements) {
+        Ok(Some(lists)) => Ok(lists),
+        Ok(None) => Err(LastStep::Ended),
+        Err(_) => Err(LastStep::Unread),
+    }
+}
+
+/// Has a sink told of a phase, in which the flash failed or not. Returns why the life takes no phase more, if that is so.
+pub fn tell_phase<T: PhaseSink>(sink: &mut T, log: PhaseLog, closed: bool) -> Option<LastStep>
+    requires room { IsPrintablePhase (did_of log) }
+    ensures none { result ≡ None → (closed ≡ false) × T.steps.takes sink.old (did_of log) sink.new }
+    ensures some { IfSome result (λ last. IsLastTold T.steps last closed sink.old (did_of log) sink.new) }
+{
+    match sink.tell(log) {
+        Err(_) => Some(LastStep::Untold),
+        Ok(()) => { if closed { Some(LastStep::Cut) } else { None } }
+    }
 }

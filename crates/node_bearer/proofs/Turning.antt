@@ -46,6 +46,7 @@ goes_on a b c p q = record {
   rest = p.rest ++ q.rest;
   more = q.more ∙ ap (λ l. l ++ q.rest) p.more ∙ append_assoc a.pass.seen p.rest q.rest;
   noted = q.noted ∙ p.noted;
+  parts = q.parts ∙ p.parts;
   stop = q.stop ∙ p.stop;
 }
 

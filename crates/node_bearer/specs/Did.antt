@@ -97,11 +97,12 @@ pub record IsRider {F : Type 0} (all : ℕ) (n : NumbersView) (turn : TurnView (
   pub outside : b.pass.inside ≡ false
   pub parts : b.pass.parts ≡ all
 
--- between two calls a bearer has seen more, and has not stopped
+-- between two calls a bearer has seen more, has not stopped, and has its parts of the words
 pub record GoesOn {F : Type 0} (old new : BearerOf F) : Type 0 where
   pub rest : List Mark
   pub more : new.pass.seen ≡ old.pass.seen ++ rest
   pub noted : new.drawer.noted ≡ old.drawer.noted
+  pub parts : new.drawer.parts ≡ old.drawer.parts
   pub stop : new.stop ≡ old.stop
 
 abbrev pub AreEvents : ℕ → List Event → Type 0

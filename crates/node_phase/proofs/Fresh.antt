@@ -5,9 +5,10 @@ use Rattle.std.proofs.Common.{get_or}
 use Rattle.turn_lock.specs.Entries.{KeptOf}
 use Rattle.turn_lock.specs.Views.{PassView}
 use Rattle.std.specs.Prelude.{◌^◌, All, AllPairs, OnOk, IfErr}
-use Rattle.std.specs.List.{filter}
+use Rattle.std.specs.List.{filter, sum_by}
+use Rattle.std.proofs.lemmas.List.Sums.{sum_by-cons}
 use Rattle.std.specs.Result.{result_err}
-use Rattle.std.proofs.lemmas.List.Elements.{All-nil}
+use Rattle.std.proofs.lemmas.List.Elements.{All-head, All-nil, All-tail}
 use Rattle.machine_contract.specs.declared.answers.Stop.{Stop}
 use Rattle.mesh_types.specs.declared.events.Event.{Event}
 use Rattle.mesh_types.specs.declared.history.Sent.{Sent}
@@ -41,6 +42,12 @@ numbers_more old new b counts i e before here lt =
 pub back : {A : Type 0} (n : ℕ) (xs ys : List A) → n ≡ length xs → length ys ≡ length xs → take n (ys ++ drop (length ys) xs) ≡ ys
 back n xs ys long same =
     ap (λ l. take n (ys ++ l)) (drop_all (length ys) xs (omega (arith, same))) ∙ ap (take n) (append-nil ys) ∙ take_all n ys (omega (arith, long, same))
+
+-- where each has one, they have as many as they are
+pub sum_ones : {A : Type 0} (f : A → ℕ) (xs : List A) → All (λ x. f x ≡ 1) xs → sum_by f xs ≡ length xs
+sum_ones f [] each = refl
+sum_ones f (x ∷ xs) each =
+    omega (arith, sum_by-cons f x xs, All-head (λ y. f y ≡ 1) x xs each, sum_ones f xs (All-tail (λ y. f y ≡ 1) x xs each))
 
 nothing_shown : (marks : List Mark) (looks : List Look) → AreShown marks [] [] looks
 nothing_shown marks looks = record {
@@ -77,12 +84,14 @@ module _ {F : Type 0} (k : ℕ) (events : List Event) (old b : BearerOf F) where
   worked_by (Ok u) stop is on fresh did broke = record {
     seen = record { rest = on.rest; is = on.more };
     noted = on.noted;
+    parts = on.parts;
     did = λ none. did old.number (map handle events) (begins fresh);
     broke = λ e some. absurd (let bad : None ≡ Some e = sym is ∙ some in cc);
   }
   worked_by (Err e) stop is on fresh did broke = record {
     seen = record { rest = on.rest; is = on.more };
     noted = on.noted;
+    parts = on.parts;
     did = λ none. absurd (let bad : Some e ≡ None = sym is ∙ none in cc);
     broke = λ f some. let same : e ≡ f = (let h : Some e ≡ Some f = sym is ∙ some in cc) in
         subst (λ x. OnStop x (Broke k old.number (map handle events) (record b { stop = stop }))) same

@@ -24,6 +24,7 @@ pub record IsFresh {F : Type 0} (b : BearerOf F) : Type 0 where
 pub record Worked {F : Type 0} (k : ℕ) (events : List Event) (old new : BearerOf F) : Type 0 where
   pub seen : IsPrefix old.pass.seen new.pass.seen
   pub noted : new.drawer.noted ≡ old.drawer.noted
+  pub parts : new.drawer.parts ≡ old.drawer.parts
   pub did : new.stop ≡ None → DidBy k old.number (map handle events) [] new
   pub broke : (e : Stop) → new.stop ≡ Some e → OnStop e (Broke k old.number (map handle events) new)
 
@@ -35,6 +36,9 @@ drawn_by b = b.drawer.drawn
 
 abbrev pub looks_by : {F : Type 0} → BearerOf F → List Look
 looks_by b = b.drawer.looks
+
+abbrev pub parts_by : {F : Type 0} → BearerOf F → ℕ
+parts_by b = b.drawer.parts
 
 -- what is left of a bearer
 abbrev pub done_of : {F : Type 0} → BearerOf F → Done
@@ -53,6 +57,8 @@ pub record WasPhase {F : Type 0} (old new : NodeView F) (d e : DrawerView) (even
   pub drawn : e.drawn ≡ d.drawn ++ flat_map drawn_by bearers
   pub looks : e.looks ≡ d.looks ++ flat_map looks_by bearers
   pub same : e.noted ≡ d.noted ++ flat_map (λ b. b.drawer.noted) bearers
+  -- all seats were taken in again, where there was a part for each
+  pub parts : length before < d.parts → e.parts ≡ d.parts
   pub front : IsPrefix (node_marks old) (node_marks new)
   pub kept : (keep : ℕ × Mark → Bool) (ys : List (ℕ × Mark)) → KeptOf keep ([] ∷ map own_of bearers) ys
       → filter keep (added (node_marks old) (node_marks new)) ≡ ys

@@ -7,7 +7,7 @@ ghost use Rattle.turn_lock.specs.Entries.{Holds, IsPrefix, KeptOf};
 ghost use Rattle.turn_lock.specs.Views.{IsPassOf};
 ghost use Rattle.locked_node.specs.declared.marks.Mark.{Mark};
 ghost use Rattle.node_bearer.specs.Did.{AreEvents, IsRider};
-ghost use Rattle.node_phase.specs.Worked.{IsFresh, Worked, done_of, drawn_by, looks_by, own_of};
+ghost use Rattle.node_phase.specs.Worked.{IsFresh, Worked, done_of, drawn_by, looks_by, own_of, parts_by};
 
 use flash_model::Flash;
 use job_sealing::KeptSeals;
@@ -32,7 +32,16 @@ pub struct Done {
     pub stop: Option<Stop>,
 }
 
-/// A bearer for each of these numbers, which is that of its last entry so far.
+/// How many events the bearer at this place has.
+fn events_of(plan: &[Vec<Event>], k: usize) -> usize {
+    match plan.get(k) {
+        Some(events) => events.len(),
+        None => 0,
+    }
+}
+
+/// A bearer for each of these numbers, which is that of its last entry so far. Memory for a line of each event that it has in the plan is taken
+/// here: so its thread takes none where no event has more lines.
 pub fn split_all<M: Machine, F: Flash + Send + Drop>(
     alloc: Global,
     n: &Numbers,
@@ -40,6 +49,7 @@ pub fn split_all<M: Machine, F: Flash + Send + Drop>(
     drawer: &mut Drawer,
     pass: &mut Pass<Node<M, F>>,
     counts: &[u32],
+    plan: &[Vec<Event>],
 ) -> Result<Vec<Bearer<Node<M, F>>>, AllocError>
     requires made { turn.now.first.machine.which ≡ n.now.which }
     requires draws { drawer.old.which ≡ n.now.which }
@@ -52,15 +62,19 @@ pub fn split_all<M: Machine, F: Flash + Send + Drop>(
     ensures riders { IfOk result (λ v. All (IsRider 1 n.now turn.now) v.items) }
     ensures fresh { IfOk result (λ v. All IsFresh v.items) }
     ensures noted { IfOk result (λ v. All (λ b. b.drawer.noted ≡ drawer.old.noted ++ drawer.old.drawn) v.items) }
+    ensures shares { length counts.now < drawer.old.parts
+        → IfOk result
+        (λ v. (drawer.new.parts + length v.items ≡ drawer.old.parts) × All (λ b. b.drawer.parts ≡ 1) v.items) }
 {
     let mut bearers = Vec::new(alloc);
     for number in counts {
+        let lines = Vec::with_capacity(alloc, events_of(plan, bearers.len()))?;
         let seat = n.split(drawer);
         let own = turn.split(pass);
         bearers.push(Bearer {
             drawer: seat,
             pass: own,
-            lines: Vec::new(alloc),
+            lines,
             number: *number,
             kept: KeptSeals::new(),
             stop: None,
@@ -107,6 +121,7 @@ pub fn join_all<M: Machine, F: Flash + Send + Drop>(
     ensures looks { IfOk result (λ v. drawer.new.looks ≡ drawer.old.looks ++ flat_map looks_by bearers.items) }
     ensures noted { IfOk result
         (λ v. drawer.new.noted ≡ drawer.old.noted ++ flat_map (λ b. b.drawer.noted) bearers.items) }
+    ensures shares { IfOk result (λ v. drawer.new.parts ≡ drawer.old.parts + sum_by parts_by bearers.items) }
     ensures kept { (keep : ℕ × Mark → Bool) (ys : _) → KeptOf keep (pass.old.own ∷ map own_of bearers.items) ys
         → IfOk result (λ v. filter keep pass.new.own ≡ ys) }
     ensures seen { IfOk result (λ v. All (λ b. IsPrefix b.pass.seen pass.new.seen) bearers.items) }

@@ -47,7 +47,7 @@ pub fn run_phase<M: Machine, F: Flash + Send + Drop, G: Gate, R: Threads + Wait 
     // It does nothing when it runs: the proof uses what it says.
     node.known();
     let (turn, mut pass) = Turn::start(alloc, node)?;
-    let mut bearers = split_all(alloc, n, &turn, drawer, &mut pass, counts)?;
+    let mut bearers = split_all(alloc, n, &turn, drawer, &mut pass, counts, plan)?;
     work_all(rt, n, &turn, gate, plan, bearers.as_mut_slice());
     let dones = join_all(alloc, n, &turn, drawer, &mut pass, bearers)?;
     let node = turn.enter(rt, &mut pass);

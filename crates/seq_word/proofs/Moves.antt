@@ -12,9 +12,9 @@ use Rattle.atomic_table.proofs.Lists.{at_set, at_snoc, exchanged}
 use Rattle.seq_word.specs.declared.looks.Look.{Look}
 use Rattle.seq_word.specs.declared.looks.Look.TheVariants as saw
 use Rattle.seq_word.specs.declared.rule.View.{View}
-use Rattle.seq_word.specs.Word.{IsWord}
-use Rattle.seq_word.specs.Rule.{times, once_below, passed_over, gone, IsWithin, Fits, Stands, Ruled, nobody, first_keeper, without_parts, first_drawer, part_of, keeping, split_off, both, seeing, drawing, publishing, advancing, IsLastSeen, SeesMark, SeesNext, Draws, Publishes, Advances, DrawnOnce}
-use Rattle.seq_word.proofs.Sums.{sum_by_at, share_of_one, share_of_two, share_alone, part_of-one, part_of-none, once_below-le, once_below_more, once_below-max, same-one}
+use Rattle.seq_word.specs.Word.{IsWord, seq_of}
+use Rattle.seq_word.specs.Rule.{times, once_below, passed_over, gone, drawn_here, IsReached, HasReached, IsEndOf, IsWithin, Fits, Stands, Ruled, nobody, first_keeper, without_parts, first_drawer, part_of, keeping, split_off, both, seeing, drawing, publishing, advancing, IsLastSeen, SeesMark, SeesNext, Draws, Publishes, Advances, DrawnOnce}
+use Rattle.seq_word.proofs.Sums.{sum_by_at, share_of_one, share_of_two, share_alone, part_of-one, part_of-none, once_below-le, once_below_more, once_below-max, same-one, times_contains}
 
 -- the last two of a list
 two_last : {X : Type 0} (P : X → Type 0) (xs : List X) (a b : X) → All P (xs ++ a ∷ b ∷ []) → P a × P b
@@ -42,13 +42,28 @@ fits_later o n m k n' m' k' by v h up up' keeper = record {
 abbrev parts_of : View → ℕ
 parts_of v = v.parts
 
+-- what was reached stays so where no draw is forgotten
+reached_later : (o : ℕ) (views views' : List View) (word : ℕ) → ((x : ℕ) → sum_by (drawn_here x) views ≤ sum_by (drawn_here x) views') → IsReached o views word → IsReached o views' word
+reached_later o views views' word more h = λ end. ⊎_elim inl (λ drawn. inr (omega (arith, drawn, more (word - 1)))) (h end)
+
+look_later : (o : ℕ) (views views' : List View) → ((x : ℕ) → sum_by (drawn_here x) views ≤ sum_by (drawn_here x) views') → (look : Look) → HasReached o views look → HasReached o views' look
+look_later o views views' more (saw.Mark x) h = tt
+look_later o views views' more (saw.Counter x) h = reached_later o views views' x more h
+
+looks_later : (o : ℕ) (views views' : List View) → ((x : ℕ) → sum_by (drawn_here x) views ≤ sum_by (drawn_here x) views') → (xs : List Look) → All (HasReached o views) xs → All (HasReached o views') xs
+looks_later o views views' more xs h = All-weaker (HasReached o views) (HasReached o views') (look_later o views views' more) xs h
+
+more_drawn : (views : List View) (id : ℕ) (v w : View) → get_elem? views id ≡ some v → ((x : ℕ) → times x v.drawn ≤ times x w.drawn) → (x : ℕ) → sum_by (drawn_here x) views ≤ sum_by (drawn_here x) (set views id w)
+more_drawn views id v w at grows x = omega (arith, sum_by_at (drawn_here x) views id v w at, grows x)
+
 -- One view changes, and the words rise or stay
 moves : (o n m k n' m' k' : ℕ) (views : List View) (id : ℕ) (v w : View) → Stands o n m k views → get_elem? views id ≡ some v
     → IsWord n' → IsWord m' → n ≤ n' → m ≤ m' → n' ≤ m' → ((j : ℕ) → j ≢ id → j ≡ k → (j ≡ k') × (m ≡ m'))
     → ((x : ℕ) → gone x w + once_below x n ≡ gone x v + once_below x n')
     → w.draws ≡ v.draws → w.parts ≡ v.parts
+    → ((x : ℕ) → times x v.drawn ≤ times x w.drawn) → IsReached o (set views id w) n' → All (HasReached o (set views id w)) w.looks
     → Fits o n' m' k' id w → Stands o n' m' k' (set views id w)
-moves o n m k n' m' k' views id v w h at nw mw up up' order keeper goes same_kind same_parts fits = record {
+moves o n m k n' m' k' views id v w h at nw mw up up' order keeper goes same_kind same_parts grows reached looked fits = record {
   counter_word = nw;
   mark_word = mw;
   in_order = order;
@@ -58,6 +73,12 @@ moves o n m k n' m' k' views id v w h at nw mw up up' order keeper goes same_kin
       ⊎_elim
       (λ (t : (j ≡ id) × (w ≡ u)). subst (λ (y : ℕ × View). Fits o n' m' k' y.0 y.1) (λ i. (sym t.0 i, t.1 i)) fits)
       (λ (t : (j ≢ id) × (get_elem? views j ≡ some u)). fits_later o n m k n' m' k' j u (h.each j u t.1) up up' (keeper j t.0))
+      (at_set views id j w u e);
+  reached = reached;
+  found = λ j u e.
+      ⊎_elim
+      (λ (t : (j ≡ id) × (w ≡ u)). subst (λ (y : View). All (HasReached o (set views id w)) y.looks) t.1 looked)
+      (λ (t : (j ≢ id) × (get_elem? views j ≡ some u)). looks_later o views (set views id w) (more_drawn views id v w at grows) u.looks (h.found j u t.1))
       (at_set views id j w u e);
   parts = omega (arith, h.parts, total);
   lost = λ j u e is empty.
@@ -103,29 +124,42 @@ fits_seeing o n m k by v look within fits = record {
 }
 
 -- a look at either word
-looks : (o n m k : ℕ) (views : List View) (id : ℕ) (v : View) (look : Look) → Stands o n m k views → get_elem? views id ≡ some v → IsWithin n m look → Stands o n m k (set views id (seeing v look))
-looks o n m k views id v look h at within =
-    moves o n m k n m k views id v (seeing v look) h at h.counter_word h.mark_word (omega arith) (omega arith) h.in_order (λ j apart e. (e, refl)) (λ x. refl) refl refl (fits_seeing o n m k id v look within (h.each id v at))
+looks : (o n m k : ℕ) (views : List View) (id : ℕ) (v : View) (look : Look) → Stands o n m k views → get_elem? views id ≡ some v → IsWithin n m look → HasReached o views look → Stands o n m k (set views id (seeing v look))
+looks o n m k views id v look h at within seen =
+    let grows : (x : ℕ) → times x v.drawn ≤ times x (seeing v look).drawn = λ x. omega arith in
+    let more = more_drawn views id v (seeing v look) at grows in
+    moves o n m k n m k views id v (seeing v look) h at h.counter_word h.mark_word (omega arith) (omega arith) h.in_order (λ j apart e. (e, refl)) (λ x. refl) refl refl
+    grows
+    (reached_later o views (set views id (seeing v look)) n more h.reached)
+    (looks_later o views (set views id (seeing v look)) more (v.looks ++ look ∷ []) (All-push (HasReached o views) v.looks look (h.found id v at) seen))
+    (fits_seeing o n m k id v look within (h.each id v at))
 
 pub sees_mark : {S : Type 0} (o slots id : ℕ) (me : Me S View) → Allows (Ruled o) slots id me 1 (λ n. n) (SeesMark (step slots 1 0 0 none) me)
 sees_mark {S} o slots id me =
     goes_mark o slots id me (λ n. n) (SeesMark (step slots 1 0 0 none) me)
-    (λ n m k views h at. let same : m ≤ m = omega arith in (seeing me.0 (saw.Mark m), looks o n m k views id me.0 (saw.Mark m) h at same, refl))
+    (λ n m k views h at. let same : m ≤ m = omega arith in (seeing me.0 (saw.Mark m), looks o n m k views id me.0 (saw.Mark m) h at same tt, refl))
 
 pub sees_next : {S : Type 0} (o slots id : ℕ) (me : Me S View) → Allows (Ruled o) slots id me 0 (λ n. n) (SeesNext (step slots 0 0 0 none) me)
 sees_next {S} o slots id me =
     goes_counter o slots id me (λ n. n) (SeesNext (step slots 0 0 0 none) me)
-    (λ n m k views h at. let same : n ≤ n = omega arith in (seeing me.0 (saw.Counter n), looks o n m k views id me.0 (saw.Counter n) h at same, (h.counter_word, refl)))
+    (λ n m k views h at. let same : n ≤ n = omega arith in (seeing me.0 (saw.Counter n), looks o n m k views id me.0 (saw.Counter n) h at same h.reached, (h.counter_word, refl)))
 
 -- the number n is drawn, and the counter raised to n + 1
 drawn_now : (o n m k : ℕ) (views : List View) (id : ℕ) (v : View) → Stands o n m k views → get_elem? views id ≡ some v → v.draws ≡ true → n < m → n % 2 ^ 25 < 2 ^ 24 → Stands o (n + 1) m k (set views id (drawing v n (n + 1)))
 drawn_now o n m k views id v h at is below unspent =
     let fits = h.each id v at in
     let later = fits_later o n m k (n + 1) m k id v fits (omega arith) (omega arith) (λ e. (e, refl)) in
+    let pushed : (x : ℕ) → times x (v.drawn ++ n ∷ []) ≡ times x v.drawn + cond (n == x) 1 0 = λ x. sum_by_push (λ (y : ℕ). cond (y == x) 1 0) v.drawn n in
+    let grows : (x : ℕ) → times x v.drawn ≤ times x (drawing v n (n + 1)).drawn = λ x. omega (arith, pushed x) in
+    let views' = set views id (drawing v n (n + 1)) in
+    let before : n ≡ n + 1 - 1 = omega arith in
     moves o n m k (n + 1) m k views id v (drawing v n (n + 1)) h at (omega (arith, h.counter_word), omega (arith, h.counter_word)) h.mark_word (omega arith) (omega arith) (omega arith) (λ j apart e. (e, refl))
     (λ x. omega (arith, sum_by_push (λ (y : ℕ). cond (y == x) 1 0) v.drawn n, once_below_more x n))
     refl
     refl
+    grows
+    (λ _. inr (subst (λ k. 1 ≤ sum_by (drawn_here k) views') before (omega (arith, sum_by_at (drawn_here n) views id v (drawing v n (n + 1)) at, pushed n, same-one n))))
+    (looks_later o views views' (more_drawn views id v (drawing v n (n + 1)) at grows) v.looks (h.found id v at))
     (record {
       since = All-push (λ x. o ≤ x) v.drawn n fits.since h.opening;
       drawn = All-push (λ x. x < n + 1) v.drawn n later.drawn (omega arith);
@@ -156,7 +190,7 @@ draws {S} o slots id me earlier old mark is last below unspent =
     let P : ℕ → Type 0 = λ n'. Stands o (n' + 1) m k (set views id (drawing v n (n' + 1))) in
     (drawing v n (old + 1), subst P e (drawn_now o n m k views id v h at is (omega arith) (subst (λ y. y % 2 ^ 25 < 2 ^ 24) (sym e) unspent)), (from, refl, (λ _. (refl, fits.drawn, fits.noted)), (λ other. absurd (other e)))))
     (λ other.
-    (seeing v (saw.Counter n), looks o n m k views id v (saw.Counter n) h at (same n), (from, refl, (λ e. absurd (other e)), (λ _. (refl, omega (arith, counted, other)))))))
+    (seeing v (saw.Counter n), looks o n m k views id v (saw.Counter n) h at (same n) h.reached, (from, refl, (λ e. absurd (other e)), (λ _. (refl, omega (arith, counted, other)))))))
   where
     same : (n : ℕ) → n ≤ n
     same n = omega arith
@@ -172,24 +206,31 @@ publishes {S} o slots id me mark is up word =
     let keeper = fits.keeps is in
     let rises : m ≤ mark = omega (arith, keeper.1) in (
       publishing v mark,
-      moves o n m k n mark k views id v (publishing v mark) h at h.counter_word word (omega arith) rises (omega (arith, h.in_order)) (λ j apart e. absurd (apart (e ∙ sym keeper.0))) (λ x. refl) refl refl (record {
-        since = fits.since;
-        drawn = fits.drawn;
-        raised = fits.raised;
-        noted = fits.noted;
-        looks = All-weaker (IsWithin n m) (IsWithin n mark) (within_later n m n mark (omega arith) rises) v.looks fits.looks;
-        advances = fits.advances;
-        keeps = λ _. (keeper.0, refl);
-        plain = fits.plain;
-        idle = fits.idle;
-      }),
+      moves o n m k n mark k views id v (publishing v mark) h at h.counter_word word (omega arith) rises (omega (arith, h.in_order)) (λ j apart e. absurd (apart (e ∙ sym keeper.0))) (λ x. refl) refl refl
+          (grows v mark)
+          (reached_later o views (set views id (publishing v mark)) n (more_drawn views id v (publishing v mark) at (grows v mark)) h.reached)
+          (looks_later o views (set views id (publishing v mark)) (more_drawn views id v (publishing v mark) at (grows v mark)) v.looks (h.found id v at))
+          (record {
+            since = fits.since;
+            drawn = fits.drawn;
+            raised = fits.raised;
+            noted = fits.noted;
+            looks = All-weaker (IsWithin n m) (IsWithin n mark) (within_later n m n mark (omega arith) rises) v.looks fits.looks;
+            advances = fits.advances;
+            keeps = λ _. (keeper.0, refl);
+            plain = fits.plain;
+            idle = fits.idle;
+          }),
       refl,
     ))
+  where
+    grows : (v : View) (mark : ℕ) (x : ℕ) → times x v.drawn ≤ times x (publishing v mark).drawn
+    grows v mark x = omega arith
 
 -- the keeper moves the counter up, within its mark
-pub advances : {S : Type 0} (o slots id : ℕ) (me : Me S View) (to : ℕ) → me.0.keeps ≡ true → to ≤ me.0.mark → IsWord to
+pub advances : {S : Type 0} (o slots id : ℕ) (me : Me S View) (to : ℕ) → me.0.keeps ≡ true → to ≤ me.0.mark → IsWord to → seq_of to ≡ 0
     → Allows (Ruled o) slots id me 0 (λ n. max n to) (Advances (step slots 0 to 0 none) me)
-advances {S} o slots id me to is within word =
+advances {S} o slots id me to is within word first =
     goes_counter o slots id me (λ n. max n to) (Advances (step slots 0 to 0 none) me)
     (λ n m k views h at.
     let v = me.0 in
@@ -203,6 +244,12 @@ advances {S} o slots id me to is within word =
           (λ x. omega (arith, sum_by_push (λ (a : ℕ × ℕ). cond (nat_le a.0 x && nat_lt x a.1) 1 0) v.advances (n, to), once_below-max x n to))
           refl
           refl
+          (grows v n)
+          (⊎_elim
+          (λ (e : n' ≡ n). subst (IsReached o (set views id (advancing v n to))) (sym e) (reached_later o views (set views id (advancing v n to)) n (more_drawn views id v (advancing v n to) at (grows v n)) h.reached))
+          (λ (e : n' ≡ to). λ end. absurd (omega (arith, end, first, e)))
+          (which n to (dec_le to n)))
+          (looks_later o views (set views id (advancing v n to)) (more_drawn views id v (advancing v n to) at (grows v n)) v.looks (h.found id v at))
           (record {
             since = later.since;
             drawn = later.drawn;
@@ -217,12 +264,15 @@ advances {S} o slots id me to is within word =
       refl,
     ))
   where
+    which : (n to : ℕ) → Dec (to ≤ n) → (max n to ≡ n) ⊎ (max n to ≡ to)
+    which n to (yes le) = inl (omega arith)
+    which n to (no gt) = inr (omega arith)
+
     greater_word : (n to : ℕ) → IsWord n → IsWord to → IsWord (max n to)
     greater_word n to a b = ⊎_elim (λ e. subst IsWord (sym e) a) (λ e. subst IsWord (sym e) b) (which n to (dec_le to n))
-      where
-        which : (n to : ℕ) → Dec (to ≤ n) → (max n to ≡ n) ⊎ (max n to ≡ to)
-        which n to (yes le) = inl (omega arith)
-        which n to (no gt) = inr (omega arith)
+
+    grows : (v : View) (n : ℕ) (x : ℕ) → times x v.drawn ≤ times x (advancing v n to).drawn
+    grows v n x = omega arith
 
 off : false ≡ true → ⊥
 off e = true≢false (sym e)
@@ -247,7 +297,7 @@ begins {S} next mark nw mw order = record {
   mark = mark;
   keeper = 0;
   words = refl;
-  stands = record { counter_word = nw; mark_word = mw; in_order = order; opening = omega arith; once = λ x. omega arith; each = first_only; parts = omega arith; lost = none_draws };
+  stands = record { counter_word = nw; mark_word = mw; in_order = order; opening = omega arith; once = λ x. omega arith; each = first_only; reached = λ _. inl refl; found = none_seen; parts = omega arith; lost = none_draws };
 }
   where
     keeper_fits : Fits next next mark 0 0 (first_keeper mark)
@@ -267,6 +317,10 @@ begins {S} next mark nw mw order = record {
     first_only zero v e = subst (Fits next next mark 0 0) (some-injective _ _ e) keeper_fits
     first_only (suc by) v e = absurd (some-ne-none v (sym e))
 
+    none_seen : (by : ℕ) (v : View) → get_elem? (first_keeper mark ∷ []) by ≡ some v → All (HasReached next (first_keeper mark ∷ [])) v.looks
+    none_seen zero v e = subst (λ (u : View). All (HasReached next (first_keeper mark ∷ [])) u.looks) (some-injective _ _ e) (All-nil (HasReached next (first_keeper mark ∷ [])))
+    none_seen (suc by) v e = absurd (some-ne-none v (sym e))
+
     none_draws : (by : ℕ) (v : View) → get_elem? (first_keeper mark ∷ []) by ≡ some v → v.draws ≡ true → v.parts ≡ 0 → sum_by parts_of (first_keeper mark ∷ []) < 1024
     none_draws zero v e is empty = let first : first_keeper mark ≡ v = some-injective _ _ e in absurd (off (ap (λ u. u.draws) first ∙ is))
     none_draws (suc by) v e is empty = absurd (some-ne-none v (sym e))
@@ -274,11 +328,12 @@ begins {S} next mark nw mw order = record {
 -- a seat is cut in two
 cuts : (o n m k : ℕ) (views : List View) (id : ℕ) (v u w : View) → Stands o n m k views → get_elem? views id ≡ some v
     → ((x : ℕ) → gone x u + gone x w ≡ gone x v) → Fits o n m k id u → ((by : ℕ) → Fits o n m k by w)
+    → u.drawn ≡ v.drawn → u.looks ≡ v.looks → w.looks ≡ []
     → u.parts + w.parts ≤ v.parts
     → (u.draws ≡ true → u.parts ≡ 0 → sum_by parts_of views + (u.parts + w.parts) < 1024 + v.parts)
     → (w.draws ≡ true → w.parts ≡ 0 → sum_by parts_of views + (u.parts + w.parts) < 1024 + v.parts)
     → Stands o n m k (set views id u ++ w ∷ [])
-cuts o n m k views id v u w h at goes left_fits right_fits within left_lost right_lost = record {
+cuts o n m k views id v u w h at goes left_fits right_fits same_drawn same_looks no_looks within left_lost right_lost = record {
   counter_word = h.counter_word;
   mark_word = h.mark_word;
   in_order = h.in_order;
@@ -292,6 +347,15 @@ cuts o n m k views id v u w h at goes left_fits right_fits within left_lost righ
       (at_set views id by u z was))
       (λ new. subst (Fits o n m k by) new (right_fits by))
       (at_snoc (set views id u) w z by e);
+  reached = reached_later o views (set views id u ++ w ∷ []) n more h.reached;
+  found = λ by z e. looks_later o views (set views id u ++ w ∷ []) more z.looks
+      (⊎_elim
+      (λ was. ⊎_elim
+      (λ (t : (by ≡ id) × (u ≡ z)). subst (λ (y : List Look). All (HasReached o views) y) (sym same_looks ∙ ap (λ y. y.looks) t.1) (h.found id v at))
+      (λ (t : (by ≢ id) × (get_elem? views by ≡ some z)). h.found by z t.1)
+      (at_set views id by u z was))
+      (λ new. subst (λ (y : List Look). All (HasReached o views) y) (sym no_looks ∙ ap (λ y. y.looks) new) (All-nil (HasReached o views)))
+      (at_snoc (set views id u) w z by e));
   parts = omega (arith, total, h.parts, within);
   lost = λ by z e is empty.
       let short : sum_by parts_of views + (u.parts + w.parts) < 1024 + v.parts =
@@ -305,6 +369,9 @@ cuts o n m k views id v u w h at goes left_fits right_fits within left_lost righ
       omega (arith, short, total);
 }
   where
+    more : (x : ℕ) → sum_by (drawn_here x) views ≤ sum_by (drawn_here x) (set views id u ++ w ∷ [])
+    more x = omega (arith, sum_by_at (drawn_here x) views id v u at, sum_by_push (drawn_here x) (set views id u) w, ap (times x) same_drawn)
+
     total : sum_by parts_of (set views id u ++ w ∷ []) + v.parts ≡ sum_by parts_of views + (u.parts + w.parts)
     total = omega (arith, sum_by_at parts_of views id v u at, sum_by_push parts_of (set views id u) w)
 
@@ -365,6 +432,9 @@ splits {S} o id v is s h at =
           (λ x. omega arith)
           (fits_parts o h.next h.mark h.keeper id (v.parts - 1) v fits)
           (λ by. fits_drawer o h.next h.mark h.keeper by (part_of v.parts) (v.noted ++ v.drawn) (All-append (λ x. x < h.next) v.noted v.drawn fits.noted fits.drawn))
+          refl
+          refl
+          refl
           (parts_split v.parts)
           (λ _ empty. let none_left : v.parts - 1 ≡ 0 = empty in lost (omega arith))
           (λ _ empty. let none_left : part_of v.parts ≡ 0 = empty in ⊎_elim lost (λ more. absurd (omega (arith, none_left, part_of-one v.parts more))) (few_or_more v.parts (dec_le v.parts 1)));
@@ -384,6 +454,9 @@ opens {S} o id v not some_part s h at =
           (λ x. omega arith)
           (fits_parts o h.next h.mark h.keeper id 0 v fits)
           (λ by. fits_drawer o h.next h.mark h.keeper by v.parts [] (All-nil (λ x. x < h.next)))
+          refl
+          refl
+          refl
           (omega arith)
           (λ is _. absurd (true≢false (sym is ∙ not)))
           (λ _ empty. absurd (omega (arith, empty, some_part)));
@@ -410,6 +483,7 @@ glues o n m k k' views id other v w h at apart there mine others =
     let views' = set views id (both v w) in
     let before = ⊎_elim (λ (t : (other ≡ id) × (both v w ≡ w)). absurd (apart t.0)) (λ (t : (other ≢ id) × (get_elem? views other ≡ some w)). t.1) (at_set views id other (both v w) w there) in
     let total : sum_by parts_of (set views' other nobody) ≡ sum_by parts_of views = omega (arith, sum_by_at parts_of views' other w nobody there, sum_by_at parts_of views id v (both v w) at) in
+    let more : (x : ℕ) → sum_by (drawn_here x) views ≤ sum_by (drawn_here x) (set views' other nobody) = λ x. omega (arith, sum_by_at (drawn_here x) views' other w nobody there, sum_by_at (drawn_here x) views id v (both v w) at, sum_by-append (λ (y : ℕ). cond (y == x) 1 0) v.drawn w.drawn) in
     let one_lost : (v.draws || w.draws) ≡ true → v.parts + w.parts ≡ 0 → sum_by parts_of views < 1024 = λ is empty.
     ⊎_elim (λ mine. h.lost id v at mine (omega arith)) (λ theirs. h.lost other w before theirs (omega arith)) (one_of v.draws w.draws is) in
     record {
@@ -427,6 +501,16 @@ glues o n m k k' views id other v w h at apart there mine others =
           (λ (t' : (j ≢ id) × (get_elem? views j ≡ some u)). fits_later o n m k n m k' j u (h.each j u t'.1) (omega arith) (omega arith) (λ e'. (others j t'.0 t.0 e', refl)))
           (at_set views id j (both v w) u t.1))
           (at_set views' other j nobody u e);
+      reached = reached_later o views (set views' other nobody) n more h.reached;
+      found = λ j u e. looks_later o views (set views' other nobody) more u.looks
+          (⊎_elim
+          (λ (t : (j ≡ other) × (nobody ≡ u)). subst (λ (y : View). All (HasReached o views) y.looks) t.1 (All-nil (HasReached o views)))
+          (λ (t : (j ≢ other) × (get_elem? views' j ≡ some u)).
+          ⊎_elim
+          (λ (t' : (j ≡ id) × (both v w ≡ u)). subst (λ (y : View). All (HasReached o views) y.looks) t'.1 (All-append (HasReached o views) v.looks w.looks (h.found id v at) (h.found other w before)))
+          (λ (t' : (j ≢ id) × (get_elem? views j ≡ some u)). h.found j u t'.1)
+          (at_set views id j (both v w) u t.1))
+          (at_set views' other j nobody u e));
       parts = omega (arith, total, h.parts);
       lost = λ j u e is empty.
           let short : sum_by parts_of views < 1024 =
@@ -502,6 +586,11 @@ both_keeps v w is = ap (λ b. v.keeps || b) is ∙ any v.keeps
     any true = refl
     any false = refl
 
+-- where all draws were at this seat
+end_of : (o : ℕ) (v : View) (views : List View) → ((x : ℕ) → sum_by (drawn_here x) views ≡ times x v.drawn) → (look : Look) → HasReached o views look → IsEndOf o v.drawn look
+end_of o v views alone (saw.Mark x) h = tt
+end_of o v views alone (saw.Counter x) h = λ end. ⊎_elim inl (λ drawn. inr (times_contains (x - 1) v.drawn (omega (arith, drawn, alone (x - 1))))) (h end)
+
 -- What a seat knows of the last words
 pub record Ends (o next mark : ℕ) (v : View) : Type 0 where
   pub counter_word : IsWord next
@@ -511,6 +600,7 @@ pub record Ends (o next mark : ℕ) (v : View) : Type 0 where
   pub fits : (keeper : ℕ) × (by : ℕ) × Fits o next mark keeper by v
   pub once : (x : ℕ) → times x v.drawn ≤ 1
   pub all : v.keeps ≡ true → v.parts ≡ 1024 → (x : ℕ) → gone x v + once_below x o ≡ once_below x next
+  pub found : v.keeps ≡ true → v.parts ≡ 1024 → All (IsEndOf o v.drawn) v.looks
 
 pub ends : {S : Type 0} (o id : ℕ) (v : View) (ws : List ℕ) (xs : List S) (next mark : ℕ) → Final (Seen (Ruled o) id v) ws xs → get_elem? ws 0 ≡ some next → get_elem? ws 1 ≡ some mark → Ends o next mark v
 ends {S} o id v ws xs next mark final at_0 at_1 =
@@ -528,6 +618,9 @@ ends {S} o id v ws xs next mark final at_0 at_1 =
       opening = st.opening;
       fits = (h.keeper, id, st.each id v at);
       once = λ x. omega (arith, share_of_one (gone x) s.views id v at, st.once x, once_below-le x h.next);
+      found = λ keeper whole. All-weaker (HasReached o s.views) (IsEndOf o v.drawn)
+          (end_of o v s.views (λ x. share_alone (drawn_here x) s.views id v at (λ by u apart bt. omega (arith, others_idle o h.next h.mark h.keeper s.views id v st at keeper whole x by u apart bt))))
+          v.looks (st.found id v at);
       all = λ keeper whole x. omega (arith, st.once x, share_alone (gone x) s.views id v at (others_idle o h.next h.mark h.keeper s.views id v st at keeper whole x));
     } in
     subst (λ (y : ℕ × ℕ). Ends o y.0 y.1 v) (λ i. (counter i, bound i)) found

@@ -1,5 +1,7 @@
 -- Sums over the views of all seats, and how often a word goes by.
 use Rattle.std.proofs.Common.{◌≡◌, ◌≢◌, ℕ, zero, suc, ◌+◌, ◌<◌, ◌≤◌, List, [], ◌∷◌, length, get_or, set, refl, sym, ap, arith}
+use Rattle.std.specs.List.{Contains}
+use native.Mathlib.Decide.{ℕ_discrete}
 use Rattle.std.specs.Prelude.{◌==◌, ◌&&◌, nat_lt, nat_le, cond, max, AllPairs, sum_by}
 use Rattle.std.proofs.lemmas.List.Sums.{sum_by-cons}
 use Rattle.std.proofs.lemmas.Bool.Decides.{nat_tests}
@@ -65,6 +67,17 @@ at_or : (xs : List ℕ) (i d x : ℕ) → i < length xs → get_or xs i d ≡ x 
 at_or [] i d x within e = absurd (omega arith)
 at_or (y ∷ ys) zero d x within e = ap some e
 at_or (y ∷ ys) (suc i) d x within e = at_or ys i d x (omega arith) e
+
+-- a word that is counted stands in the list
+pub times_contains : (x : ℕ) (xs : List ℕ) → 1 ≤ times x xs → Contains xs x
+times_contains x [] h = absurd (omega (arith, h))
+times_contains x (y ∷ xs) h = by_test (ℕ_discrete y x) (times_contains x xs) where
+  by_test : Dec (y ≡ x) → (1 ≤ times x xs → Contains xs x) → Contains (y ∷ xs) x
+  by_test (yes same) rest = (0, omega arith, same)
+  by_test (no other) rest =
+      let none : ◌≡◌ {A = ℕ} (cond (y == x) 1 0) 0 = grind (arith, nat_tests) in
+      let c = rest (omega (arith, h, none, sum_by-cons (λ (z : ℕ). cond (z == x) 1 0) y xs)) in
+      (suc c.0, omega (arith, c.1), c.2)
 
 -- where no word stands twice, the words at two places differ
 pub distinct : (xs : List ℕ) → ((x : ℕ) → times x xs ≤ 1) → AllPairs (λ x y. x ≢ y) xs

@@ -1,13 +1,14 @@
 -- What the two words and the seats at them keep between any two atomic steps, and what each step does to the view of its seat.
 -- Word 0 is the counter: the next number to draw. Word 1 is the mark: no number at or above it is drawn.
-use Rattle.std.specs.Prelude.{◌≡◌, ◌≢◌, ℕ, ◌+◌, ◌-◌, ◌<◌, ◌≤◌, ◌==◌, ◌&&◌, ◌||◌, nat_lt, nat_le, if◌then◌else◌, true, false, List, [], ◌∷◌, ◌++◌, All, slice_index, sum_by, count_by}
+use Rattle.std.specs.Prelude.{◌≡◌, ◌≢◌, ◌⊎◌, ℕ, ◌+◌, ◌-◌, ◌^◌, ◌<◌, ◌≤◌, ◌==◌, ◌&&◌, ◌||◌, nat_lt, nat_le, if◌then◌else◌, true, false, List, [], ◌∷◌, ◌++◌, All, slice_index, sum_by, count_by, ⊤}
+use Rattle.std.specs.List.{Contains}
 use mathlib.Core.Option.{some}
 use lib.ListN.{get_elem?}
 use Rattle.atomic_table.specs.Table.{State, Me, Step}
 use Rattle.seq_word.specs.declared.looks.Look.{Look}
 use Rattle.seq_word.specs.declared.looks.Look.TheVariants as saw
 use Rattle.seq_word.specs.declared.rule.View.{View}
-use Rattle.seq_word.specs.Word.{IsWord}
+use Rattle.seq_word.specs.Word.{IsWord, seq_of}
 
 -- how often a word stands in a list
 abbrev pub times : ℕ → List ℕ → ℕ
@@ -29,6 +30,25 @@ gone x v = times x v.drawn + passed_over x v.advances
 abbrev pub IsWithin : ℕ → ℕ → Look → Type 0
 IsWithin next mark (saw.Mark found) = found ≤ mark
 IsWithin next mark (saw.Counter found) = found ≤ next
+
+-- how often x was drawn at this seat
+abbrev pub drawn_here : ℕ → View → ℕ
+drawn_here x v = times x v.drawn
+
+-- A word at the end of its IV Index came into the counter by the opening, or by a draw of the last number under that, at some seat.
+abbrev pub IsReached : ℕ → List View → ℕ → Type 0
+IsReached opened views word =
+    seq_of word ≡ 2 ^ 24 → (word ≡ opened) ⊎ (1 ≤ sum_by (drawn_here (word - 1)) views)
+
+-- so did one that a look found in the counter
+abbrev pub HasReached : ℕ → List View → Look → Type 0
+HasReached opened views (saw.Mark found) = ⊤
+HasReached opened views (saw.Counter found) = IsReached opened views found
+
+-- and these words have that number
+abbrev pub IsEndOf : ℕ → List ℕ → Look → Type 0
+IsEndOf opened words (saw.Mark found) = ⊤
+IsEndOf opened words (saw.Counter found) = seq_of found ≡ 2 ^ 24 → (found ≡ opened) ⊎ Contains words (found - 1)
 
 -- What holds of the view of the seat `by`, where the counter was opened at `opened` and is `next`, and the mark is `mark`,
 -- which the seat `keeper` keeps
@@ -59,6 +79,9 @@ pub record Stands (opened next mark keeper : ℕ) (views : List View) : Type 0 w
   -- each word from the opening on and below the counter went by once, at one seat, and no other word did
   pub once : (x : ℕ) → sum_by (gone x) views + once_below x opened ≡ once_below x next
   pub each : (by : ℕ) (v : View) → get_elem? views by ≡ some v → Fits opened next mark keeper by v
+  -- where the counter is at the end of an IV Index, or a look found it there, the last number under that was drawn
+  pub reached : IsReached opened views next
+  pub found : (by : ℕ) (v : View) → get_elem? views by ≡ some v → All (HasReached opened views) v.looks
   -- the drawers' parts are 1,024 at most, and fewer where a drawer has none: one was lost, where a seat with one part was split
   pub parts : sum_by (λ v. v.parts) views ≤ 1024
   pub lost : (by : ℕ) (v : View) → get_elem? views by ≡ some v → v.draws ≡ true → v.parts ≡ 0
@@ -170,9 +193,10 @@ module _ {S : Type 0} where
   abbrev pub Advances : Step S → Me S View → ℕ → Me S View → Type 0
   Advances st v found w = w ≡ (advancing v.0 found st.first, v.1)
 
--- a seat that keeps the mark, has no parts, and has drawn and seen nothing
+-- a seat that keeps the mark, has no parts, and has drawn and seen nothing; each of its advances went to SEQ 0
 pub record OnlyKeeps (v : View) : Type 0 where
   pub keeps : v.keeps ≡ true
+  pub firsts : All (λ a. seq_of a.1 ≡ 0) v.advances
   pub parts : v.parts ≡ 0
   pub drawn : v.drawn ≡ []
   pub raised : v.raised ≡ []

@@ -44,6 +44,7 @@ pub record ClosedView : Type 0 where
   pub mark : ℕ
   pub drawn : List ℕ
   pub looks : List Look
+  pub advances : List (ℕ × ℕ)
 
 -- the word is above all that was drawn at the seat, and all that had been drawn before it was split off
 abbrev pub IsAbove : DrawerView → ℕ → Type 0

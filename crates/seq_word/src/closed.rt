@@ -8,7 +8,7 @@ use atomic_table::Seat;
 use std::marker::Model;
 use std::snapshot::Snapshot;
 
-/// What the two words held at the end, and what was drawn and seen at the seats that were joined. Only `Numbers::close` makes one.
+/// What the two words held at the end, what was drawn and seen at the seats that were joined, and the keeper's advances. Only `Numbers::close` makes one.
 #[derive(Drop)]
 pub struct Closed {
     pub(crate) next: u64,
@@ -26,6 +26,7 @@ impl Model for Closed {
       mark = c.mark;
       drawn = v.drawn;
       looks = v.looks;
+      advances = v.advances;
     } };
 }
 

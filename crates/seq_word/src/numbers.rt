@@ -5,7 +5,7 @@ ghost use Rattle.std.specs.Prelude.{◌≡◌, ◌≢◌, ℕ, ◌+◌, ◌-◌,
 ghost use Rattle.mesh_base.specs.Pairs.{word_of};
 ghost use Rattle.seq_word.specs.Word.{seq_of, IsWord};
 ghost use Rattle.seq_word.specs.declared.looks.Look.TheVariants as saw;
-ghost use Rattle.seq_word.specs.Rule.{IsWithin, part_of, times, once_below, passed_over};
+ghost use Rattle.seq_word.specs.Rule.{IsEndOf, IsWithin, part_of, times, once_below, passed_over};
 ghost use Rattle.seq_word.specs.Seen.{fresh, IsAbove, IsPrefix, Finds, HasCause, SameDrawn, AfterLost, miss_of};
 
 use crate::closed::Closed;
@@ -211,11 +211,13 @@ impl Numbers {
 
         ensures drawn { result.drawn ≡ d.drawn }
         ensures looks { result.looks ≡ d.looks }
+        ensures advances { result.advances ≡ k.advances }
 
         ensures words { IsWord result.next × IsWord result.mark }
         ensures order { (self.opened ≤ result.next) × (result.next ≤ result.mark) }
         ensures mark { result.mark ≡ k.mark }
         ensures advanced { All (λ a. a.1 ≤ result.next) k.advances }
+        ensures firsts { All (λ a. seq_of a.1 ≡ 0) k.advances }
 
         ensures since { All (λ x. self.opened ≤ x) d.drawn }
         ensures below { All (λ x. x < result.next) d.drawn }
@@ -226,6 +228,8 @@ impl Numbers {
         // other word was. So this says which word the next is.
         ensures all { d.parts ≡ 1024 → (x : ℕ)
             → times x d.drawn + passed_over x k.advances + once_below x self.opened ≡ once_below x result.next }
+        // And the counter was seen at the end of an IV Index only where it was opened there, or the last number under that was drawn.
+        ensures ends { d.parts ≡ 1024 → All (IsEndOf self.opened d.drawn) d.looks }
     {
         let Numbers { table } = self;
         let Keeper { seat: keeper } = k;

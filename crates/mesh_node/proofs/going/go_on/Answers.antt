@@ -1,12 +1,11 @@
 use Rattle.std.proofs.Common.{◌≡◌, ◌∙◌, ◌++◌, ◌∷◌, [], List, Vec, Global, length, map, refl, sym, ap, subst, true, false}
-use Rattle.std.specs.Prelude.{IfSome}
 use Rattle.std.proofs.lemmas.List.{length-map, length-replicate}
 use Rattle.mesh_types.specs.declared.events.Event.{Event}
 use Rattle.life_laws.specs.Phases.{both_of}
 use Rattle.mesh_node.specs.Going.{IsGoing, IsOver}
-use Rattle.mesh_node.specs.Told.{did_of, entries_told, sends_told}
+use Rattle.mesh_node.specs.Told.{IsPartDone, did_of, entries_told, sends_told}
 use Rattle.mesh_node.proofs.Following.{same_more}
-use Rattle.mesh_node.proofs.Telling.{first_goes, goes_more, went_cut, went_ended, went_unread, went_untold}
+use Rattle.mesh_node.proofs.Telling.{first_goes, goes_more, on_err, short_before, short_in, went_last, went_none}
 use Rattle.mesh_node.proofs.going.go_on.Goals as goal
 
 pub loop-phase-init : goal.loop-phase-init
@@ -19,9 +18,56 @@ loop-phase-init g c =
       between = c.requires.between;
       counts = ap length c.requires.counts ∙ length-replicate life.bearers 0;
       usable = c.requires.usable;
-      goes = first_goes g.S.PhaseSource.steps g.T.PhaseSink.steps c.args.source.now c.args.sink.now life.bearers life.node life.seats.drawer life.seats.counts.items
+      known = c.known.ensures.known;
+      under = first_goes g.S.PhaseSource.steps g.T.PhaseSink.steps c.args.source.now c.args.sink.now life.bearers life.node life.seats.drawer life.seats.counts.items
           c.requires.begins c.requires.between.taken c.requires.between.live c.requires.drawn c.requires.counts;
     }
+
+pub returns-in-Err-clause-went : goal.returns-in-Err-clause-went
+returns-in-Err-clause-went g c =
+    let l = c.loop-phase in
+    went_none g.S.PhaseSource.steps g.T.PhaseSink.steps c.args.source.now l.source c.args.sink.now l.sink c.args.life.bearers l.node l.seats.drawer l.seats.counts.items l.invariant.counts l.invariant.under l.invariant.usable c.ask.new.source c.in-Err.last c.in-Err.ensures.none
+
+pub returns-in_err-done-clause-short : goal.returns-in_err-done-clause-short
+returns-in_err-done-clause-short g c =
+    let l = c.loop-phase in
+    let inv = l.invariant in
+    let events = map (λ v. v.items) c.in-Ok.lists.items in
+    on_err c.from_residual.result (short_in {chip = g.F.Flash.chip} g.S.PhaseSource.steps g.T.PhaseSink.steps c.args.source.now l.source c.args.sink.now l.sink c.args.life.bearers l.node l.seats.drawer l.seats.counts.items inv.known c.args.life.node.start inv.same.start inv.under events c.ask.new.source c.in-Ok.ensures.gives)
+
+pub returns-clause-short : goal.returns-clause-short
+returns-clause-short g c =
+    let l = c.loop-phase in
+    let inv = l.invariant in
+    short_before {chip = g.F.Flash.chip} g.S.PhaseSource.steps g.T.PhaseSink.steps c.args.source.now l.source c.args.sink.now l.sink c.args.life.bearers l.node l.seats.drawer l.seats.counts.items inv.known c.args.life.node.start inv.same.start inv.under
+
+pub tell_phase-requires : goal.tell_phase-requires
+tell_phase-requires g c =
+    let h = c.loop-phase.invariant.under in
+    record { room = c.in_ok-done.ensures.room h.phases (sends_told c.args.life.bearers h.did) h.going }
+
+pub returns-in-Some-clause-went : goal.returns-in-Some-clause-went
+returns-in-Some-clause-went g c =
+    let l = c.loop-phase in
+    let inv = l.invariant in
+    let S = g.S.PhaseSource.steps in
+    let T = g.T.PhaseSink.steps in
+    let bearers = c.args.life.bearers in
+    let events = map (λ v. v.items) c.in-Ok.lists.items in
+    let h = inv.under in
+    let sends = sends_told bearers h.did in
+    let done = c.in_ok-done.done in
+    let said = c.in_ok-done.ensures in
+    let drawer = c.one_phase.new.seats.drawer in
+    let counts = c.one_phase.new.seats.counts.items in
+    let lines = map (λ v. v.items) done.log.sends.items in
+    let part : IsPartDone done.closed events (did_of done.log) = subst (λ (ls : List (Vec Event Global)). IsPartDone done.closed (map (λ v. v.items) ls) (did_of done.log)) c.as_slice.ensures.value (said.part) in
+    let going : done.closed ≡ false → IsGoing (h.phases ++ events ∷ []) done.node drawer (both_of sends lines) counts = subst (λ (ls : List (Vec Event Global)). done.closed ≡ false → IsGoing (h.phases ++ map (λ v. v.items) ls ∷ []) done.node drawer (both_of sends lines) counts) c.as_slice.ensures.value (said.going h.phases sends h.going) in
+    let over : done.closed ≡ true → IsOver (h.phases ++ events ∷ []) done.node drawer (both_of sends lines) = subst (λ (ls : List (Vec Event Global)). done.closed ≡ true → IsOver (h.phases ++ map (λ v. v.items) ls ∷ []) done.node drawer (both_of sends lines)) c.as_slice.ensures.value (said.over h.phases [] sends h.going) in
+    let told = said.told (entries_told h.did) h.told in
+    let size = length-map done.log.sends.items (λ v. v.items) ∙ said.bearers in
+    went_last S T c.args.source.now l.source c.args.sink.now l.sink bearers l.node l.seats.drawer l.seats.counts.items inv.counts h events (did_of done.log) done.node c.one_phase.new.seats.drawer c.one_phase.new.seats.counts.items done.closed c.ask.new.source c.tell_phase.new.sink
+    c.in-Ok.ensures.gives (said.place ∙ inv.between.count) size part told going over said.closed c.in-Some.last c.in-Some.ensures.some
 
 pub loop-phase-preserved : goal.loop-phase-preserved
 loop-phase-preserved g c =
@@ -30,87 +76,28 @@ loop-phase-preserved g c =
     let S = g.S.PhaseSource.steps in
     let T = g.T.PhaseSink.steps in
     let bearers = c.args.life.bearers in
-    let lists = c.in-Ok-Some.lists.items in
-    let events = map (λ v. v.items) lists in
-    let h = inv.goes in
+    let events = map (λ v. v.items) c.in-Ok.lists.items in
+    let h = inv.under in
     let sends = sends_told bearers h.did in
     let done = c.in_ok-done.done in
     let said = c.in_ok-done.ensures in
-    let gave : S.gives l.source events c.next.new.self = subst (λ o. IfSome o (λ v. S.gives l.source (map (λ x. x.items) v.items) c.next.new.self)) c.in-Ok-Some.field-0-is c.in-Ok-Some.ensures.gives in
-    let going : done.closed ≡ false → IsGoing (h.phases ++ events ∷ []) done.node c.one_phase.new.seats.drawer (both_of sends (map (λ v. v.items) done.log.sends.items)) c.one_phase.new.seats.counts.items =
-    subst (λ (ls : List (Vec Event Global)). done.closed ≡ false → IsGoing (h.phases ++ map (λ v. v.items) ls ∷ []) done.node c.one_phase.new.seats.drawer (both_of sends (map (λ v. v.items) done.log.sends.items)) c.one_phase.new.seats.counts.items) c.as_slice.ensures.value (said.going h.phases sends h.going) in
-    let over : done.closed ≡ true → IsOver (h.phases ++ events ∷ []) done.node c.one_phase.new.seats.drawer (both_of sends (map (λ v. v.items) done.log.sends.items)) =
-    subst (λ (ls : List (Vec Event Global)). done.closed ≡ true → IsOver (h.phases ++ map (λ v. v.items) ls ∷ []) done.node c.one_phase.new.seats.drawer (both_of sends (map (λ v. v.items) done.log.sends.items))) c.as_slice.ensures.value (said.over h.phases [] sends h.going) in
+    let drawer = c.one_phase.new.seats.drawer in
+    let counts = c.one_phase.new.seats.counts.items in
+    let lines = map (λ v. v.items) done.log.sends.items in
+    let part : IsPartDone done.closed events (did_of done.log) = subst (λ (ls : List (Vec Event Global)). IsPartDone done.closed (map (λ v. v.items) ls) (did_of done.log)) c.as_slice.ensures.value (said.part) in
+    let going : done.closed ≡ false → IsGoing (h.phases ++ events ∷ []) done.node drawer (both_of sends lines) counts = subst (λ (ls : List (Vec Event Global)). done.closed ≡ false → IsGoing (h.phases ++ map (λ v. v.items) ls ∷ []) done.node drawer (both_of sends lines) counts) c.as_slice.ensures.value (said.going h.phases sends h.going) in
+    let over : done.closed ≡ true → IsOver (h.phases ++ events ∷ []) done.node drawer (both_of sends lines) = subst (λ (ls : List (Vec Event Global)). done.closed ≡ true → IsOver (h.phases ++ map (λ v. v.items) ls ∷ []) done.node drawer (both_of sends lines)) c.as_slice.ensures.value (said.over h.phases [] sends h.going) in
     let told = said.told (entries_told h.did) h.told in
     let size = length-map done.log.sends.items (λ v. v.items) ∙ said.bearers in
+    let takes = c.in_default.ensures.none refl in
     record {
       numbers = c.one_phase.ensures.numbers ∙ inv.numbers;
       which = c.one_phase.ensures.which ∙ inv.which;
       same = same_more c.args.life.node l.node done.node inv.same said.frame;
-      between = said.between c.if-done.false;
+      between = said.between takes.0;
       counts = said.many ∙ inv.counts;
-      usable = sym said.closed ∙ c.if-done.false;
-      goes = goes_more S T c.args.source.now l.source c.args.sink.now l.sink bearers l.node l.seats.drawer l.seats.counts.items inv.counts h events (did_of done.log) done.node c.one_phase.new.seats.drawer c.one_phase.new.seats.counts.items done.closed c.next.new.self c.tell.new.self
-          gave (said.place ∙ inv.between.count) size told going over said.closed c.if-done.false c.in-Ok.ensures.takes;
+      usable = sym said.closed ∙ takes.0;
+      known = said.known;
+      under = goes_more S T c.args.source.now l.source c.args.sink.now l.sink bearers l.node l.seats.drawer l.seats.counts.items inv.counts h events (did_of done.log) done.node c.one_phase.new.seats.drawer c.one_phase.new.seats.counts.items done.closed c.ask.new.source c.tell_phase.new.sink
+          c.in-Ok.ensures.gives (said.place ∙ inv.between.count) size part told going over said.closed takes.0 takes.1;
     }
-
-pub returns-in-Ok-None-clause-went : goal.returns-in-Ok-None-clause-went
-returns-in-Ok-None-clause-went g c =
-    let l = c.loop-phase in
-    went_ended g.S.PhaseSource.steps g.T.PhaseSink.steps c.args.source.now l.source c.args.sink.now l.sink c.args.life.bearers l.node l.seats.drawer l.seats.counts.items l.invariant.counts l.invariant.goes l.invariant.usable c.next.new.self (c.in-Ok-None.ensures.ends c.in-Ok-None.field-0-is)
-
-pub returns-in-Err-clause-went : goal.returns-in-Err-clause-went
-returns-in-Err-clause-went g c =
-    let l = c.loop-phase in
-    went_unread g.S.PhaseSource.steps g.T.PhaseSink.steps c.args.source.now l.source c.args.sink.now l.sink c.args.life.bearers l.node l.seats.drawer l.seats.counts.items l.invariant.counts l.invariant.goes l.invariant.usable c.next.new.self c.in-Err.ensures.fails
-
-pub tell-requires : goal.tell-requires
-tell-requires g c =
-    let h = c.loop-phase.invariant.goes in
-    record { room = c.in_ok-done.ensures.room h.phases (sends_told c.args.life.bearers h.did) h.going }
-
-pub returns-in-Err-tell-clause-went : goal.returns-in-Err-tell-clause-went
-returns-in-Err-tell-clause-went g c =
-    let l = c.loop-phase in
-    let inv = l.invariant in
-    let S = g.S.PhaseSource.steps in
-    let T = g.T.PhaseSink.steps in
-    let bearers = c.args.life.bearers in
-    let lists = c.in-Ok-Some.lists.items in
-    let events = map (λ v. v.items) lists in
-    let h = inv.goes in
-    let sends = sends_told bearers h.did in
-    let done = c.in_ok-done.done in
-    let said = c.in_ok-done.ensures in
-    let gave : S.gives l.source events c.next.new.self = subst (λ o. IfSome o (λ v. S.gives l.source (map (λ x. x.items) v.items) c.next.new.self)) c.in-Ok-Some.field-0-is c.in-Ok-Some.ensures.gives in
-    let going : done.closed ≡ false → IsGoing (h.phases ++ events ∷ []) done.node c.one_phase.new.seats.drawer (both_of sends (map (λ v. v.items) done.log.sends.items)) c.one_phase.new.seats.counts.items =
-    subst (λ (ls : List (Vec Event Global)). done.closed ≡ false → IsGoing (h.phases ++ map (λ v. v.items) ls ∷ []) done.node c.one_phase.new.seats.drawer (both_of sends (map (λ v. v.items) done.log.sends.items)) c.one_phase.new.seats.counts.items) c.as_slice.ensures.value (said.going h.phases sends h.going) in
-    let over : done.closed ≡ true → IsOver (h.phases ++ events ∷ []) done.node c.one_phase.new.seats.drawer (both_of sends (map (λ v. v.items) done.log.sends.items)) =
-    subst (λ (ls : List (Vec Event Global)). done.closed ≡ true → IsOver (h.phases ++ map (λ v. v.items) ls ∷ []) done.node c.one_phase.new.seats.drawer (both_of sends (map (λ v. v.items) done.log.sends.items))) c.as_slice.ensures.value (said.over h.phases [] sends h.going) in
-    let told = said.told (entries_told h.did) h.told in
-    let size = length-map done.log.sends.items (λ v. v.items) ∙ said.bearers in
-    went_untold S T c.args.source.now l.source c.args.sink.now l.sink bearers l.node l.seats.drawer l.seats.counts.items inv.counts h events (did_of done.log) done.node c.one_phase.new.seats.drawer c.one_phase.new.seats.counts.items done.closed c.next.new.self c.tell.new.self
-    gave (said.place ∙ inv.between.count) size told going over said.closed c.in-Err-tell.ensures.fails
-
-pub returns-then-done-clause-went : goal.returns-then-done-clause-went
-returns-then-done-clause-went g c =
-    let l = c.loop-phase in
-    let inv = l.invariant in
-    let S = g.S.PhaseSource.steps in
-    let T = g.T.PhaseSink.steps in
-    let bearers = c.args.life.bearers in
-    let lists = c.in-Ok-Some.lists.items in
-    let events = map (λ v. v.items) lists in
-    let h = inv.goes in
-    let sends = sends_told bearers h.did in
-    let done = c.in_ok-done.done in
-    let said = c.in_ok-done.ensures in
-    let gave : S.gives l.source events c.next.new.self = subst (λ o. IfSome o (λ v. S.gives l.source (map (λ x. x.items) v.items) c.next.new.self)) c.in-Ok-Some.field-0-is c.in-Ok-Some.ensures.gives in
-    let going : done.closed ≡ false → IsGoing (h.phases ++ events ∷ []) done.node c.one_phase.new.seats.drawer (both_of sends (map (λ v. v.items) done.log.sends.items)) c.one_phase.new.seats.counts.items =
-    subst (λ (ls : List (Vec Event Global)). done.closed ≡ false → IsGoing (h.phases ++ map (λ v. v.items) ls ∷ []) done.node c.one_phase.new.seats.drawer (both_of sends (map (λ v. v.items) done.log.sends.items)) c.one_phase.new.seats.counts.items) c.as_slice.ensures.value (said.going h.phases sends h.going) in
-    let over : done.closed ≡ true → IsOver (h.phases ++ events ∷ []) done.node c.one_phase.new.seats.drawer (both_of sends (map (λ v. v.items) done.log.sends.items)) =
-    subst (λ (ls : List (Vec Event Global)). done.closed ≡ true → IsOver (h.phases ++ map (λ v. v.items) ls ∷ []) done.node c.one_phase.new.seats.drawer (both_of sends (map (λ v. v.items) done.log.sends.items))) c.as_slice.ensures.value (said.over h.phases [] sends h.going) in
-    let told = said.told (entries_told h.did) h.told in
-    let size = length-map done.log.sends.items (λ v. v.items) ∙ said.bearers in
-    went_cut S T c.args.source.now l.source c.args.sink.now l.sink bearers l.node l.seats.drawer l.seats.counts.items inv.counts h events (did_of done.log) done.node c.one_phase.new.seats.drawer c.one_phase.new.seats.counts.items done.closed c.next.new.self c.tell.new.self
-    gave (said.place ∙ inv.between.count) size told going over said.closed c.if-done.true c.in-Ok.ensures.takes

@@ -1,7 +1,8 @@
 -- The phases that came so far are through, and were told.
 use Rattle.std.proofs.Common.{◌≡◌, false, length}
+use Rattle.locked_node.specs.Stands.{IsNode}
 use Rattle.mesh_node.specs.Going.{IsBetween}
-use Rattle.mesh_node.specs.Lived.{GoesOn}
+use Rattle.mesh_node.specs.Lived.{IsUnderWay}
 use Rattle.mesh_node.specs.Steps.{IsSameNode}
 use Rattle.mesh_node.proofs.going.go_on.Given as goal
 
@@ -13,5 +14,6 @@ invariant-loop-phase g l = record {
   between : IsBetween l.seats l.node;
   counts : length l.seats.counts.items ≡ l.fn.life.bearers;
   usable : l.node.machine.closed ≡ false;
-  goes : GoesOn g.S.PhaseSource.steps g.T.PhaseSink.steps l.initial.source l.source l.initial.sink l.sink l.fn.life.bearers l.node l.seats.drawer l.seats.counts.items;
+  known : IsNode g.M.Machine.role g.M.Machine.image g.F.Flash.chip l.node;
+  under : IsUnderWay g.S.PhaseSource.steps g.T.PhaseSink.steps l.initial.source l.source l.initial.sink l.sink l.fn.life.bearers l.node l.seats.drawer l.seats.counts.items;
 }

@@ -1,4 +1,4 @@
-use Rattle.std.proofs.Common.{refl, ◌≢◌, None, ◌≡◌, ◌∙◌, Some, map, ap, sym, subst}
+use Rattle.std.proofs.Common.{refl, List, ◌+◌, ◌≢◌, None, ◌≡◌, ◌∙◌, Some, map, ap, sym, subst}
 use Rattle.std.specs.Prelude.{All, IfSome}
 use Rattle.flash_model.specs.Chip.{Setting}
 use Rattle.mesh_types.specs.declared.report.Opened.TheVariants as W
@@ -12,6 +12,13 @@ use Rattle.mesh_node.specs.Ran.{Ran}
 use Rattle.mesh_node.specs.Steps.{HasGiven, IsSameOrOf, MayFollow}
 use Rattle.mesh_node.proofs.Arming.{behind_all, behind_phases, order_whole}
 use Rattle.mesh_node.proofs.Closing.{ran}
+use Rattle.mesh_node.proofs.Drawn.{Closes}
+use Rattle.mesh_node.proofs.Placed.{given_right}
+use Rattle.record_types.specs.declared.records.StoreRecord.{StoreRecord}
+use Rattle.mesh_node.specs.Given.{IsSameOrPlaced, WasGiven}
+use Rattle.seq_word.specs.Rule.{once_below, passed_over, times}
+use Rattle.seq_word.specs.Word.{seq_of}
+use Rattle.store_definitions.specs.Recovered.{IsRecovered}
 use Rattle.mesh_node.proofs.Giving.{given_whole}
 use Rattle.mesh_node.proofs.living.run_life.Goals as goal
 
@@ -60,7 +67,22 @@ returns g c =
     let given : node.stops ≡ 0 → HasGiven plan (chip node.flash).setting.arm =
     λ live. given_whole items before (chip node.flash).setting.arm c.requires.first held (subst (λ xs. HasGiven (steps_of xs) (chip node.flash).setting.arm) c.requires.behind (did.given live)) in
     let calls = subst (λ k. IfSome (cut_calls c.end_of-end.result) (λ n. n ≡ k)) (c.changes.ensures ∙ ap (λ f. (chip f).changes) c.into_parts-machine.ensures.flash) c.end_of-end.ensures.calls in
-    let whole = ran g.M.Machine.role g.M.Machine.image chip plan start node c.do_steps.new.seats.drawer log c.one_list_is_recovered.ensures.one_list
+    let placed : (over : List StoreRecord) → IsRecovered (chip start).now over → IfSome (chip node.flash).setting.arm (WasGiven g.M.Machine.view g.M.Machine.stands chip over plan) = λ over read. given_right g.M.Machine.view g.M.Machine.stands chip over items before (chip node.flash).setting.arm c.requires.armed
+    (subst (λ xs. IsSameOrPlaced g.M.Machine.view g.M.Machine.stands chip over (steps_of xs) before (chip node.flash).setting.arm) c.requires.behind
+    (subst (λ n. IsSameOrPlaced g.M.Machine.view g.M.Machine.stands chip over (steps_of c.args.steps.now) (chip n.flash).setting.arm (chip node.flash).setting.arm) c.in_ok-opened.ensures.value
+    (did.placed over (subst (λ n. IsRecovered (chip n.start).now over) (sym c.in_ok-opened.ensures.value) read)))) in
+    let close = c.close-drawn.ensures in
+    let words = c.do_steps.new.seats in
+    let closes : Closes words.drawer c.close-drawn.result words.numbers.opened = record {
+      drawn = close.drawn;
+      looks = close.looks;
+      apart = close.distinct;
+      since = close.since;
+      ends = close.ends did.parts;
+      all = λ x. ap (λ l. times x words.drawer.drawn + passed_over x l + once_below x words.numbers.opened) close.advances ∙ close.all did.parts x;
+      firsts = subst (All (λ a. seq_of a.1 ≡ 0)) (sym close.advances) close.firsts;
+    } in
+    let whole = ran g.M.Machine.view g.M.Machine.stands g.M.Machine.role g.M.Machine.image chip plan start node c.do_steps.new.seats.drawer log c.one_list_is_recovered.ensures.one_list
     s.over s.read s.runs opened c.known.ensures.known (did.frame.start ∙ ap (λ n. n.start) c.in_ok-opened.ensures.value) over
     (sym did.told.entries_are) (c.finish-left.ensures.refills ∙ ap (λ m. m.fills) machine)
     (c.end_of-end.ensures.cut ∙ c.is_closed.ensures.value ∙ ap (λ m. m.closed) machine)
@@ -68,6 +90,6 @@ returns g c =
     (c.close-drawn.ensures.mark ∙ c.finish-left.ensures.keeper.1 ∙ ap (λ m. m.mark) machine)
     (ap (λ n. n.opened) (c.do_steps.ensures.numbers ∙ c.in_ok-seats.ensures.words.0) ∙ s.opened)
     c.close-drawn.ensures.since c.close-drawn.ensures.below c.close-drawn.ensures.once c.close-drawn.ensures.seen
-    c.close-drawn.result refl c.close-drawn.ensures.drawn c.close-drawn.ensures.looks c.close-drawn.ensures.distinct
-    c.args.plan.now.bearers c.requires.few did.many ((g.met.F.Bench g.world.𝓛 g.world.𝓜 g.world.𝓡 ((λ s x. x), (λ x. x), (λ x. x), λ x. x)).explained node.flash) given order calls in
-    record { ran = subst (λ f. Ran g.M.Machine.role g.M.Machine.image plan (chip start) log (chip f)) (sym c.into_parts-machine.ensures.flash) whole }
+    c.close-drawn.result refl closes c.known.ensures.stands
+    c.args.plan.now.bearers c.requires.few did.many ((g.met.F.Bench g.world.𝓛 g.world.𝓜 g.world.𝓡 ((λ s x. x), (λ x. x), (λ x. x), λ x. x)).explained node.flash) given order placed calls in
+    record { ran = subst (Ran g.M.Machine.view g.M.Machine.stands chip g.M.Machine.role g.M.Machine.image plan (chip start) log) (sym c.into_parts-machine.ensures.flash) whole }

@@ -8,6 +8,7 @@ use Rattle.life_laws.specs.Plan.{IsStep, steps_of}
 use Rattle.mesh_node.specs.Steps.{HasGiven, MayFollow}
 use Rattle.mesh_node.proofs.Following.{among_steps, dropped, going_first, may_arm, may_more, order_more, over_whole, phases_around, phases_taken, same_more, taken}
 use Rattle.mesh_node.proofs.Giving.{given_more, given_none, held_more}
+use Rattle.mesh_node.proofs.Placed.{placed_held}
 use Rattle.mesh_node.proofs.steps.do_steps.Goals as goal
 
 pub loop-step-init : goal.loop-step-init
@@ -29,6 +30,7 @@ loop-step-init g c =
       order = inl refl;
       held = λ some. some;
       given = given_none (g.F.Flash.chip node.flash).setting.arm;
+      placed = λ over read. inl refl;
       may = c.requires.may;
     }
 
@@ -75,6 +77,8 @@ loop-step-preserved g c =
       order = order_more (steps_of steps) x first old new (among_steps steps i x lt is) inv.order did.arm;
       held = λ some. held_more x old new did.arm (inv.held some);
       given = subst (λ ss. HasGiven (steps_of ss) new.setting.arm) (sym (taken steps i x lt is)) (given_more (take i steps) x old new did.arm inv.given);
+      placed = λ over read.
+          placed_held g.M.Machine.view g.M.Machine.stands g.F.Flash.chip over steps i x lt is l.node c.known.ensures.stands inv.going.handled c.one_list_is_recovered.ensures.one_list c.args.node.start inv.same.start read first new (inv.placed over read) did.arm;
       may = may_more x (drop (i + 1) steps) old new (subst (λ ss. MayFollow ss old.setting.arm) (dropped steps i x lt is) inv.may) did.arm;
     }
 
@@ -85,6 +89,19 @@ returns-clause-over g c =
     let sends = map (λ v. v.items) l.log.sends.items in
     let done = over_whole (phases_of (steps_of (take l.step-index steps))) l.node l.seats.drawer sends l.seats.counts.items l.invariant.going in
     subst (λ ss. IsOver (phases_of (steps_of ss)) l.node l.seats.drawer sends) (take_all l.step-index steps (omega arith)) done
+
+pub returns-clause-placed : goal.returns-clause-placed
+returns-clause-placed g c = c.loop-step.invariant.placed
+
+pub returns-then-closed-clause-placed : goal.returns-then-closed-clause-placed
+returns-then-closed-clause-placed g c = λ over read.
+    let l = c.loop-step in
+    let chip = g.F.Flash.chip in
+    placed_held g.M.Machine.view g.M.Machine.stands chip over c.args.steps.now l.step-index c.step-item.result c.loop-step-test.true c.step-item.is l.node c.known.ensures.stands l.invariant.going.handled
+    c.one_list_is_recovered.ensures.one_list c.args.node.start l.invariant.same.start read (chip c.args.node.flash).setting.arm (chip c.in_ok-next.next.flash) (l.invariant.placed over read) c.in_ok-next.ensures.arm
+
+pub returns-clause-parts : goal.returns-clause-parts
+returns-clause-parts g c = c.loop-step.invariant.between.parts
 
 pub returns-clause-given : goal.returns-clause-given
 returns-clause-given g c = λ live.

@@ -34,6 +34,7 @@ loop-preserved g c =
         rest = was.on.rest ++ c.raise.ensures.on.rest;
         more = c.raise.ensures.on.more ∙ ap (λ l. l ++ c.raise.ensures.on.rest) was.on.more ∙ append_assoc _ was.on.rest c.raise.ensures.on.rest;
         noted = c.raise.ensures.on.noted ∙ e.err.noted ∙ was.on.noted;
+        parts = c.raise.ensures.on.parts ∙ e.err.parts ∙ was.on.parts;
         stop = c.raise.ensures.on.stop ∙ was.on.stop;
       };
       dry = ((c.in-Err-Some-Dry.field-0-0-0, c.in-Err-Some-Dry.mark) ∷ was.dry.0, (b.drawer, was.dry.1, subst (λ (d : DrawerView). AfterLost (HasCause (missed.Dry c.in-Err-Some-Dry.field-0-0-0 c.in-Err-Some-Dry.mark)) b.drawer d) (sym c.raise.ensures.frame.1) cause));

@@ -8,6 +8,7 @@ use Rattle.locked_node.specs.Node.{node_marks}
 use Rattle.node_bearer.specs.Did.{BearerOf}
 use Rattle.node_phase.specs.Worked.{Worked}
 use Rattle.node_phase.proofs.Fresh.{kept_one}
+use Rattle.seq_word.proofs.Sums.{part_of-one}
 use Rattle.node_phase.proofs.alone.run_alone.Goals as goal
 
 pub returns-clause-was : goal.returns-clause-was
@@ -31,6 +32,7 @@ returns-clause-was g c =
       drawn = joined.drawn ∙ ap (λ x. x.drawn ++ b.drawer.drawn) seat.frame ∙ ap (λ l. d.drawn ++ l) (sym (append-nil b.drawer.drawn));
       looks = joined.looks ∙ ap (λ x. x.looks ++ b.drawer.looks) seat.frame ∙ ap (λ l. d.looks ++ l) (sym (append-nil b.drawer.looks));
       same = joined.noted ∙ ap (λ x. x.noted ++ b.drawer.noted) seat.frame ∙ ap (λ l. d.noted ++ l) (sym (append-nil b.drawer.noted));
+      parts = λ few. let one = part_of-one d.parts few in omega (arith, joined.parts, ap (λ x. x.parts) seat.frame, ap (λ x. x.parts) seat.value, one, few, c.work_phase.ensures.worked.parts);
       front = record { rest = entries_of b.pass.own; is = entered.whole ∙ ap (λ ms. ms ++ entries_of b.pass.own) first };
       kept = λ keep ys h. ap (filter keep) (sym places) ∙ kept_one keep b.pass.own ys h;
       seen = All-cons (λ (x : BearerOf g.row.F.Denot). IsPrefix x.pass.seen new) b [] entered.seen (All-nil (λ (x : BearerOf g.row.F.Denot). IsPrefix x.pass.seen new));

@@ -1,13 +1,14 @@
 use Rattle.std.proofs.Common.{◌∙◌, ◌++◌, ◌∷◌, [], length, map, ap, sym, subst, arith, append_assoc}
 use Rattle.std.specs.Prelude.{All}
-use Rattle.std.specs.List.{Contains, flat_map}
+use Rattle.std.specs.List.{Contains, flat_map, sum_by}
+use Rattle.std.proofs.lemmas.List.Sums.{sum_by-cons}
 use Rattle.std.specs.Vec.Iter.{into_iter_items}
 use Rattle.std.proofs.lemmas.List.Elements.{All-cons, All-head, All-tail}
 use Rattle.turn_lock.specs.Entries.{Holds, IsPrefix, KeptOf}
 use Rattle.turn_lock.proofs.Kept.{kept_end, merge_holds_first, merge_holds_second}
 use Rattle.turn_lock.proofs.Places.{prefix_trans}
 use Rattle.node_bearer.specs.Did.{IsRider}
-use Rattle.node_phase.specs.Worked.{done_of, drawn_by, looks_by, own_of}
+use Rattle.node_phase.specs.Worked.{done_of, drawn_by, looks_by, own_of, parts_by}
 use Rattle.node_phase.proofs.bearers.join_all.Goals as goal
 
 pub loop-bearer-preserved : goal.loop-bearer-preserved
@@ -36,6 +37,7 @@ loop-bearer-preserved g c =
           ∙ ap (λ bs. was.drawer.looks ++ flat_map looks_by bs) (sym items) ∙ inv.looks;
       noted = ap (λ x. x ++ flat_map (λ r. r.drawer.noted) left) drew.noted ∙ append_assoc was.drawer.noted b.drawer.noted (flat_map (λ r. r.drawer.noted) left)
           ∙ ap (λ bs. was.drawer.noted ++ flat_map (λ r. r.drawer.noted) bs) (sym items) ∙ inv.noted;
+      shares = omega (arith, drew.parts, sum_by-cons parts_by b left, ap (sum_by parts_by) items, inv.shares);
       kept = λ keep ys h.
           let both = subst (λ bs. KeptOf keep (was.pass.own ∷ map own_of bs) ys) items (inv.kept keep ys h) in
           subst (λ x. KeptOf keep (x ∷ map own_of left) ys) (sym turn.own) (c.kept_law.ensures.join keep 0 was.pass.seen was.pass.own b.pass.own ys (map own_of left) turn.stood.0 both);

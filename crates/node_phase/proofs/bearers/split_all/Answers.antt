@@ -1,9 +1,10 @@
-use Rattle.std.proofs.Common.{◌≡◌, ◌∙◌, ◌-◌, ◌++◌, ap, refl, sym, subst, arith}
+use Rattle.std.proofs.Common.{◌≡◌, ◌∙◌, ◌<◌, ◌-◌, ◌++◌, ap, refl, sym, subst, arith}
 use Rattle.std.specs.Prelude.{All}
 use Rattle.std.proofs.lemmas.List.Elements.{All-push}
 use Rattle.node_bearer.specs.Did.{IsRider}
 use Rattle.node_phase.specs.Worked.{IsFresh}
 use Rattle.node_phase.proofs.Fresh.{drawer_with, long_more, numbers_more, pass_with}
+use Rattle.seq_word.proofs.Sums.{part_of-one}
 use Rattle.node_phase.proofs.bearers.split_all.Goals as goal
 
 pub loop-number-preserved : goal.loop-number-preserved
@@ -36,10 +37,16 @@ loop-number-preserved g c =
       }));
       fresh = subst (All IsFresh) (sym items) (All-push IsFresh was _ inv.fresh (record {
         own = ap (λ x. x.own) own.value;
-        lines = c.new.ensures.items;
+        lines = c.in_ok-lines.ensures.items;
         drawn = ap (λ x. x.drawn) seat.value;
         looks = ap (λ x. x.looks) seat.value;
       }));
       noted = subst (All (λ b. b.drawer.noted ≡ d.noted ++ d.drawn)) (sym items) (All-push (λ b. b.drawer.noted ≡ d.noted ++ d.drawn) was _ inv.noted
           (ap (λ x. x.noted) seat.value ∙ ap (λ x. x.noted ++ x.drawn) inv.drawer));
+      shares = λ few.
+          let s = inv.shares few in
+          let more : 1 < l.drawer.parts = omega (arith, s.0, few, inv.count, c.loop-number-test.true) in (
+            omega (arith, ap (λ x. x.parts) seat.frame, longer, s.0, more),
+            subst (All (λ b. b.drawer.parts ≡ 1)) (sym items) (All-push (λ b. b.drawer.parts ≡ 1) was _ s.1 (ap (λ x. x.parts) seat.value ∙ part_of-one l.drawer.parts more)),
+          );
     }

@@ -1,5 +1,5 @@
 -- The bearers made so far.
-use Rattle.std.proofs.Common.{◌≡◌, ◌+◌, ◌++◌, length, map, take}
+use Rattle.std.proofs.Common.{◌≡◌, ◌<◌, ◌+◌, ◌++◌, length, map, take}
 use Rattle.std.specs.List.{All}
 use Rattle.node_bearer.specs.Did.{IsRider}
 use Rattle.node_phase.specs.Worked.{IsFresh}
@@ -15,4 +15,5 @@ invariant-loop-number g l = record {
   riders : All (IsRider 1 l.n l.turn) l.bearers.items;
   fresh : All IsFresh l.bearers.items;
   noted : All (λ b. b.drawer.noted ≡ l.initial.drawer.noted ++ l.initial.drawer.drawn) l.bearers.items;
+  shares : length l.counts < l.initial.drawer.parts → (l.drawer.parts + length l.bearers.items ≡ l.initial.drawer.parts) × All (λ b. b.drawer.parts ≡ 1) l.bearers.items;
 }

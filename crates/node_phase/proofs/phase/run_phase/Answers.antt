@@ -1,13 +1,13 @@
 use Rattle.std.proofs.Common.{◌≡◌, ◌∙◌, ◌++◌, ◌∷◌, ◌<◌, List, [], length, map, take, drop, ap, sym, subst, arith}
 use Rattle.std.specs.Prelude.{All, slice_index_or}
-use Rattle.std.specs.List.{filter, flat_map}
+use Rattle.std.specs.List.{filter, flat_map, sum_by}
 use Rattle.std.proofs.lemmas.List.{length-map}
 use Rattle.turn_lock.specs.Entries.{Holds, IsPrefix, KeptOf, added, entries_of}
 use Rattle.turn_lock.proofs.Places.{prefix_trans}
 use Rattle.locked_node.specs.Node.{node_marks}
 use Rattle.node_bearer.specs.Did.{BearerOf}
-use Rattle.node_phase.specs.Worked.{Worked, done_of, drawn_by, looks_by, own_of}
-use Rattle.node_phase.proofs.Fresh.{back}
+use Rattle.node_phase.specs.Worked.{Worked, done_of, drawn_by, looks_by, own_of, parts_by}
+use Rattle.node_phase.proofs.Fresh.{back, sum_ones}
 use Rattle.node_phase.proofs.Parting.{first_of, list_at_map}
 use Rattle.node_phase.proofs.phase.run_phase.Goals as goal
 
@@ -43,6 +43,14 @@ returns-clause-was g c =
       drawn = joined.drawn ∙ ap (λ x. x ++ flat_map drawn_by all) (ap (λ x. x.drawn) c.split_all.ensures.drawer) ∙ ap (λ bs. d.drawn ++ flat_map drawn_by bs) whole;
       looks = joined.looks ∙ ap (λ x. x ++ flat_map looks_by all) (ap (λ x. x.looks) c.split_all.ensures.drawer) ∙ ap (λ bs. d.looks ++ flat_map looks_by bs) whole;
       same = joined.noted ∙ ap (λ x. x ++ flat_map (λ (b : BearerOf g.row.F.Denot). b.drawer.noted) all) (ap (λ x. x.noted) c.split_all.ensures.drawer) ∙ ap (λ bs. d.noted ++ flat_map (λ (b : BearerOf g.row.F.Denot). b.drawer.noted) bs) whole;
+      parts = λ few.
+          let enough : length c.args.counts.now < d.parts = omega (arith, few, ap length numbers, length-map slice (λ x. x.number)) in
+          let shares = split.shares enough in
+          let ones : All (λ (b : BearerOf g.row.F.Denot). b.drawer.parts ≡ 1) ys = λ k b lt.
+          let here : k < length slice = omega (arith, lt, count) in
+          let within : k < length plan = omega (arith, here, c.requires.plan, ap length numbers, length-map slice (λ x. x.number)) in
+          (c.work_all.ensures.worked k (first_of plan k within) b here).parts ∙ subst (All (λ b. b.drawer.parts ≡ 1)) (sym same) shares.1 k b here in
+          omega (arith, joined.shares, ap (sum_by parts_by) whole, sum_ones parts_by ys ones, long, shares.0);
       front = record { rest = entries_of c.join_all.new.pass.own; is = entered.whole parts ∙ ap (λ ms. ms ++ entries_of c.join_all.new.pass.own) first };
       kept = λ keep zs h.
           ap (filter keep) (sym places)

@@ -1,6 +1,6 @@
-use Rattle.std.proofs.Common.{length, ◌<◌, ◌^◌, subst}
+use Rattle.std.proofs.Common.{length, ◌<◌, ◌^◌, refl, subst}
 use Rattle.locked_node.specs.Node.{node_marks}
-use Rattle.locked_node.specs.Stands.{IsNode}
+use Rattle.locked_node.specs.Stands.{HasMachine, IsNode}
 use Rattle.locked_node.proofs.Counts.{few_marks}
 use Rattle.locked_node.proofs.node.Node.known.Goals as goal
 
@@ -15,6 +15,17 @@ returns-clause-known g c =
       live = h.live;
       stopped = h.stopped;
       later = h.later;
+    })
+
+pub returns-clause-stands : goal.returns-clause-stands
+returns-clause-stands g c =
+    let h = c.self.invariant in
+    subst (λ v. HasMachine g.M.Machine.stands g.M.Machine.view g.F.Flash.chip v) c.self.view_is (record {
+      over = h.over;
+      read = h.read;
+      machine = c.self.inside.machine.value;
+      shows = refl;
+      tie = h.tie;
     })
 
 pub returns-clause-few : goal.returns-clause-few

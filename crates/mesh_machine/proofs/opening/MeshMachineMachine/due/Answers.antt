@@ -14,5 +14,14 @@ returns g c = record {
         handled = s.life.handled;
         quiet = λ ticks l. quiet_tick past ticks (c.ticks_left.ensures.quiet past live (s.usable live).before ticks l);
       };
+  least = λ live f over s.
+      let past = past_now (node_role node_layers) over s.life.told c.args.self.now.fills in
+      record {
+        told = s.life.told;
+        entries = s.life.entries;
+        handled = s.life.handled;
+        quiet = λ ticks l. c.ticks_left.ensures.quiet past live (s.usable live).before ticks l;
+        reached = λ l q. c.ticks_left.ensures.reached past live (s.usable live).before l q;
+      };
   closed = c.ticks_left.ensures.closed;
 }

@@ -1,6 +1,7 @@
-use Rattle.std.proofs.Common.{◌≡◌, ℕ, ◌≤◌, ◌++◌, sym, ap, ◌∙◌, subst, arith}
+use Rattle.std.proofs.Common.{◌≡◌, ℕ, ◌≤◌, ◌++◌, true, sym, ap, ◌∙◌, subst, arith}
+use Rattle.std.specs.Prelude.{All}
 use Rattle.std.proofs.lemmas.List.{append-nil}
-use Rattle.seq_word.specs.Rule.{times, once_below, passed_over}
+use Rattle.seq_word.specs.Rule.{IsEndOf, times, once_below, passed_over}
 use Rattle.seq_word.proofs.Sums.{distinct}
 use Rattle.seq_word.proofs.Moves.{joins, both_keeps, ends}
 use Rattle.seq_word.proofs.numbers.Numbers.close.Goals as goal
@@ -25,13 +26,27 @@ returns-clause-once c = once c
 pub returns-clause-distinct : goal.returns-clause-distinct
 returns-clause-distinct c = distinct c.args.d.drawn (once c)
 
+advances_is : (c : goal.After-free) → c.join_seat.new.seat.me.0.advances ≡ c.args.k.advances
+advances_is c = ap (λ m. m.0.advances) c.join_seat.ensures.2 ∙ ap (λ l. l ++ c.k.inside.seat.me.0.advances) c.d.invariant.0.advances ∙ ap (λ k. k.advances) c.k.view_is
+
+looks_is : (c : goal.After-free) → c.join_seat.new.seat.me.0.looks ≡ c.args.d.looks
+looks_is c = ap (λ m. m.0.looks) c.join_seat.ensures.2 ∙ ap (λ l. c.d.inside.seat.me.0.looks ++ l) c.k.invariant.0.looks ∙ append-nil _ ∙ ap (λ d. d.looks) c.d.view_is
+
+keeper_is : (c : goal.After-free) → c.join_seat.new.seat.me.0.keeps ≡ true
+keeper_is c = ap (λ m. m.0.keeps) c.join_seat.ensures.2 ∙ both_keeps c.d.inside.seat.me.0 c.k.inside.seat.me.0 c.k.invariant.0.keeps
+
+parts_are : (c : goal.After-free) → c.args.d.parts ≡ 1024 → c.join_seat.new.seat.me.0.parts ≡ 1024
+parts_are c whole = omega (arith, ap (λ m. m.0.parts) c.join_seat.ensures.2, c.k.invariant.0.parts, ap (λ d. d.parts) c.d.view_is, whole)
+
 pub returns-clause-all : goal.returns-clause-all
 returns-clause-all c = λ whole x.
     let last = ends _ _ _ _ _ _ _ c.close_with-words.ensures.values.2 c.word-next.ensures c.word-mark.ensures in
-    let v = c.d.inside.seat.me.0 in
-    let w = c.k.inside.seat.me.0 in
-    let met = c.join_seat.ensures.2 in
-    let keeper = ap (λ m. m.0.keeps) met ∙ both_keeps v w c.k.invariant.0.keeps in
-    let parts : c.join_seat.new.seat.me.0.parts ≡ 1024 = omega (arith, ap (λ m. m.0.parts) met, c.k.invariant.0.parts, ap (λ d. d.parts) c.d.view_is, whole) in
-    let advances = ap (λ m. m.0.advances) met ∙ ap (λ l. l ++ w.advances) c.d.invariant.0.advances ∙ ap (λ k. k.advances) c.k.view_is in
-    omega (arith, last.all keeper parts x, ap (times x) (drawn_is c), ap (passed_over x) advances, ap (λ n. once_below x n.opened) c.self.view_is)
+    omega (arith, last.all (keeper_is c) (parts_are c whole) x, ap (times x) (drawn_is c), ap (passed_over x) (advances_is c), ap (λ n. once_below x n.opened) c.self.view_is)
+
+pub returns-clause-ends : goal.returns-clause-ends
+returns-clause-ends c = λ whole.
+    let last = ends _ _ _ _ _ _ _ c.close_with-words.ensures.values.2 c.word-next.ensures c.word-mark.ensures in
+    let at : All (IsEndOf c.args.self.opened c.join_seat.new.seat.me.0.drawn) c.join_seat.new.seat.me.0.looks =
+    subst (λ o. All (IsEndOf o c.join_seat.new.seat.me.0.drawn) c.join_seat.new.seat.me.0.looks) (ap (λ n. n.opened) c.self.view_is) (last.found (keeper_is c) (parts_are c whole)) in
+    subst (λ ws. All (IsEndOf c.args.self.opened ws) c.args.d.looks) (drawn_is c)
+    (subst (All (IsEndOf c.args.self.opened c.join_seat.new.seat.me.0.drawn)) (looks_is c) at)

@@ -1,0 +1,87 @@
+-- An order was given at its place in the plan.
+use Rattle.std.proofs.Common.{◌≡◌, ◌∙◌, inl, inr, ℕ, ◌+◌, ◌<◌, List, [], ◌∷◌, ◌++◌, length, take, drop, get_or, Option, Some, None, refl, sym, ap, subst}
+use Rattle.std.specs.Prelude.{IfSome}
+use Rattle.flash_model.specs.Chip.{Arm, Chip}
+use Rattle.life_laws.specs.Hands.{AreHandledAll}
+use Rattle.life_laws.specs.Plan.{behind_arm, step_of, steps_of}
+use Rattle.life_laws.specs.declared.plan.PlanStep.{PlanStep}
+use Rattle.life_laws.specs.declared.plan.PlanStep.TheVariants as P
+use Rattle.machine_contract.specs.View.{MachineView}
+use Rattle.record_types.specs.declared.records.StoreRecord.{StoreRecord}
+use Rattle.run_definitions.specs.Order.{Step, arm, phases_of}
+use Rattle.locked_node.specs.Node.{NodeView}
+use Rattle.locked_node.specs.Stands.{HasMachine}
+use Rattle.store_definitions.specs.Recovered.{IsRecovered}
+use Rattle.mesh_node.specs.Given.{IsSameOrPlaced, WasBetween, WasGiven}
+use Rattle.mesh_node.specs.Steps.{IsArmedBy, first_order}
+use Rattle.mesh_node.proofs.Following.{around}
+use Rattle.mesh_node.proofs.Giving.{is_phase}
+
+no_step : (before : List Step) (x : Step) (behind : List Step) → [] ≡ before ++ x ∷ behind → ⊥
+no_step [] x behind is = cc
+no_step (y ∷ before) x behind is = cc
+
+first_phase : (y : Step) (ys : List Step) (a : Arm) (before behind : List Step) → (y ≡ arm a.calls a.mask → ⊥) → y ∷ ys ≡ before ++ arm a.calls a.mask ∷ behind → before ≡ [] → ⊥
+first_phase y ys a [] behind other is none = other cc
+first_phase y ys a (z ∷ before) behind other is none = cc
+
+module _ {M F : Type 0} (view : M → MachineView) (stands : Chip → List StoreRecord → M → Type 0) (chip : F → Chip) (over : List StoreRecord) where
+  -- one step more
+  pub placed_more : (steps : List PlanStep) (i : ℕ) (x : PlanStep) → i < length steps → x ≡ get_or steps i x → (node : NodeView F) (machine : M) → view machine ≡ node.machine → stands (chip node.flash) over machine
+      → AreHandledAll (phases_of (steps_of (take i steps))) node.machine.entries → (first : Option Arm) (new : Chip) → IsSameOrPlaced view stands chip over (steps_of steps) first (chip node.flash).setting.arm → IsArmedBy x (chip node.flash) new
+      → IsSameOrPlaced view stands chip over (steps_of steps) first new.setting.arm
+  placed_more steps i (P.Arm calls mask) lt is node machine shows tie handled first new was armed =
+      inr (subst (λ o. IfSome o (WasBetween view stands chip over (steps_of steps))) (sym armed) (record {
+        before = steps_of (take i steps);
+        behind = steps_of (drop (i + 1) steps);
+        is = around steps i (P.Arm calls mask) lt is;
+        flash = node.flash;
+        machine = machine;
+        stood = tie;
+        handled = subst (λ m. AreHandledAll (phases_of (steps_of (take i steps))) m.entries) (sym shows) handled;
+        changes = refl;
+      }))
+  placed_more steps i (P.Phase lists) lt is node machine shows tie handled first new was same =
+      subst (IsSameOrPlaced view stands chip over (steps_of steps) first) (sym same) was
+
+  -- of the node in hand
+  pub placed_held : (steps : List PlanStep) (i : ℕ) (x : PlanStep) → i < length steps → x ≡ get_or steps i x → (node : NodeView F) (held : HasMachine stands view chip node)
+      → AreHandledAll (phases_of (steps_of (take i steps))) node.machine.entries → ((content : List ℕ) (rs ss : List StoreRecord) → IsRecovered content rs → IsRecovered content ss → rs ≡ ss)
+      → (start : F) → node.start ≡ start → IsRecovered (chip start).now over → (first : Option Arm) (new : Chip) → IsSameOrPlaced view stands chip over (steps_of steps) first (chip node.flash).setting.arm → IsArmedBy x (chip node.flash) new
+      → IsSameOrPlaced view stands chip over (steps_of steps) first new.setting.arm
+  placed_held steps i x lt is node held handled one start same read first new was armed =
+      let over_is = one (chip start).now held.over over (subst (λ s. IsRecovered (chip s).now held.over) same held.read) read in
+      placed_more steps i x lt is node held.machine held.shows (subst (λ o. stands (chip node.flash) o held.machine) over_is held.tie) handled first new was armed
+
+  behind : (items : List PlanStep) (a : Arm) → WasBetween view stands chip over (steps_of (behind_arm items)) a → WasGiven view stands chip over (steps_of items) a
+  behind [] a h = inr (h, λ none. absurd (no_step h.before (arm a.calls a.mask) h.behind h.is))
+  behind (P.Arm calls mask ∷ items) a h = inr (
+    record {
+      before = arm calls mask ∷ h.before;
+      behind = h.behind;
+      is = ap (λ l. arm calls mask ∷ l) h.is;
+      flash = h.flash;
+      machine = h.machine;
+      stood = h.stood;
+      handled = h.handled;
+      changes = h.changes;
+    },
+    λ none. cc,
+  )
+  behind (P.Phase lists ∷ items) a h = inr (h, λ none. first_phase (step_of (P.Phase lists)) (steps_of items) a h.before h.behind (λ e. is_phase _ a.calls a.mask e) h.is none)
+
+  given_behind : (items : List PlanStep) (o : Option Arm) → IfSome o (WasBetween view stands chip over (steps_of (behind_arm items))) → IfSome o (WasGiven view stands chip over (steps_of items))
+  given_behind items None h = tt
+  given_behind items (Some a) h = behind items a h
+
+  -- the one that stands first
+  pub given_first : (items : List PlanStep) → IfSome (first_order items 0) (WasGiven view stands chip over (steps_of items))
+  given_first [] = tt
+  given_first (P.Arm calls mask ∷ items) = inl (record { behind = steps_of items; is = refl; changes = refl })
+  given_first (P.Phase lists ∷ items) = tt
+
+  -- it, or one of those behind it
+  pub given_right : (items : List PlanStep) (before now : Option Arm) → before ≡ first_order items 0 → IsSameOrPlaced view stands chip over (steps_of (behind_arm items)) before now
+      → IfSome now (WasGiven view stands chip over (steps_of items))
+  given_right items before now first (inl same) = subst (λ o. IfSome o (WasGiven view stands chip over (steps_of items))) (sym (same ∙ first)) (given_first items)
+  given_right items before now first (inr placed) = given_behind items now placed

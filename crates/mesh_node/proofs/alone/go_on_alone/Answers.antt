@@ -1,0 +1,106 @@
+use Rattle.std.proofs.Common.{◌≡◌, ◌∙◌, ◌++◌, ◌∷◌, [], List, length, map, refl, sym, ap, subst, true, false}
+use Rattle.std.proofs.lemmas.List.{length-map, length-replicate}
+use Rattle.mesh_types.specs.declared.events.Event.{Event}
+use Rattle.life_laws.specs.Phases.{both_of}
+use Rattle.mesh_node.specs.Going.{IsGoing, IsOver}
+use Rattle.mesh_node.specs.Told.{IsPartDone, did_of, entries_told, sends_told}
+use Rattle.mesh_node.proofs.Following.{same_more}
+use Rattle.mesh_node.proofs.Phasing.{one_item}
+use Rattle.mesh_node.proofs.Telling.{first_goes, goes_more, on_err, short_before, short_in, went_last, went_none}
+use Rattle.mesh_node.proofs.alone.go_on_alone.Goals as goal
+
+pub loop-phase-init : goal.loop-phase-init
+loop-phase-init g c =
+    let life = c.args.life in
+    record {
+      numbers = refl;
+      which = refl;
+      same = record { start = refl; which = refl; elements = refl };
+      between = c.requires.between;
+      counts = ap length c.requires.counts ∙ length-replicate life.bearers 0;
+      usable = c.requires.usable;
+      known = c.known.ensures.known;
+      under = first_goes g.S.PhaseSource.steps g.T.PhaseSink.steps c.args.source.now c.args.sink.now life.bearers life.node life.seats.drawer life.seats.counts.items
+          c.requires.begins c.requires.between.taken c.requires.between.live c.requires.drawn c.requires.counts;
+    }
+
+pub returns-in-Err-clause-went : goal.returns-in-Err-clause-went
+returns-in-Err-clause-went g c =
+    let l = c.loop-phase in
+    went_none g.S.PhaseSource.steps g.T.PhaseSink.steps c.args.source.now l.source c.args.sink.now l.sink c.args.life.bearers l.node l.seats.drawer l.seats.counts.items l.invariant.counts l.invariant.under l.invariant.usable c.ask.new.source c.in-Err.last c.in-Err.ensures.none
+
+pub returns-in_err-done-clause-short : goal.returns-in_err-done-clause-short
+returns-in_err-done-clause-short g c =
+    let l = c.loop-phase in
+    let inv = l.invariant in
+    let events = map (λ v. v.items) c.in-Ok.lists.items in
+    on_err c.from_residual.result (short_in {chip = g.F.Flash.chip} g.S.PhaseSource.steps g.T.PhaseSink.steps c.args.source.now l.source c.args.sink.now l.sink c.args.life.bearers l.node l.seats.drawer l.seats.counts.items inv.known c.args.life.node.start inv.same.start inv.under events c.ask.new.source c.in-Ok.ensures.gives)
+
+pub returns-clause-short : goal.returns-clause-short
+returns-clause-short g c =
+    let l = c.loop-phase in
+    let inv = l.invariant in
+    short_before {chip = g.F.Flash.chip} g.S.PhaseSource.steps g.T.PhaseSink.steps c.args.source.now l.source c.args.sink.now l.sink c.args.life.bearers l.node l.seats.drawer l.seats.counts.items inv.known c.args.life.node.start inv.same.start inv.under
+
+pub tell_phase-requires : goal.tell_phase-requires
+tell_phase-requires g c =
+    let h = c.loop-phase.invariant.under in
+    record { room = c.in_ok-done.ensures.room h.phases (sends_told c.args.life.bearers h.did) h.going }
+
+pub returns-in-Some-clause-went : goal.returns-in-Some-clause-went
+returns-in-Some-clause-went g c =
+    let l = c.loop-phase in
+    let inv = l.invariant in
+    let S = g.S.PhaseSource.steps in
+    let T = g.T.PhaseSink.steps in
+    let bearers = c.args.life.bearers in
+    let events = map (λ v. v.items) c.in-Ok.lists.items in
+    let one : c.as_slice.result.now ∷ [] ≡ events = ap (λ l. l ∷ []) c.as_slice.ensures.value ∙ ap (map (λ v. v.items)) (ap (λ v. v ∷ []) c.index.ensures ∙ one_item c.in-Ok.lists.items c.index.result.now (c.in-Ok.ensures.long ∙ c.requires.alone)) in
+    let h = inv.under in
+    let sends = sends_told bearers h.did in
+    let done = c.in_ok-done.done in
+    let said = c.in_ok-done.ensures in
+    let drawer = c.one_phase_alone.new.seats.drawer in
+    let counts = c.one_phase_alone.new.seats.counts.items in
+    let lines = map (λ v. v.items) done.log.sends.items in
+    let part : IsPartDone done.closed events (did_of done.log) = subst (λ (es : List (List Event)). IsPartDone done.closed es (did_of done.log)) one (said.part) in
+    let going : done.closed ≡ false → IsGoing (h.phases ++ events ∷ []) done.node drawer (both_of sends lines) counts = subst (λ (es : List (List Event)). done.closed ≡ false → IsGoing (h.phases ++ es ∷ []) done.node drawer (both_of sends lines) counts) one (said.going h.phases sends h.going) in
+    let over : done.closed ≡ true → IsOver (h.phases ++ events ∷ []) done.node drawer (both_of sends lines) = subst (λ (es : List (List Event)). done.closed ≡ true → IsOver (h.phases ++ es ∷ []) done.node drawer (both_of sends lines)) one (said.over h.phases [] sends h.going) in
+    let told = said.told (entries_told h.did) h.told in
+    let size = length-map done.log.sends.items (λ v. v.items) ∙ said.bearers in
+    went_last S T c.args.source.now l.source c.args.sink.now l.sink bearers l.node l.seats.drawer l.seats.counts.items inv.counts h events (did_of done.log) done.node c.one_phase_alone.new.seats.drawer c.one_phase_alone.new.seats.counts.items done.closed c.ask.new.source c.tell_phase.new.sink
+    c.in-Ok.ensures.gives (said.place ∙ inv.between.count) size part told going over said.closed c.in-Some.last c.in-Some.ensures.some
+
+pub loop-phase-preserved : goal.loop-phase-preserved
+loop-phase-preserved g c =
+    let l = c.loop-phase in
+    let inv = l.invariant in
+    let S = g.S.PhaseSource.steps in
+    let T = g.T.PhaseSink.steps in
+    let bearers = c.args.life.bearers in
+    let events = map (λ v. v.items) c.in-Ok.lists.items in
+    let one : c.as_slice.result.now ∷ [] ≡ events = ap (λ l. l ∷ []) c.as_slice.ensures.value ∙ ap (map (λ v. v.items)) (ap (λ v. v ∷ []) c.index.ensures ∙ one_item c.in-Ok.lists.items c.index.result.now (c.in-Ok.ensures.long ∙ c.requires.alone)) in
+    let h = inv.under in
+    let sends = sends_told bearers h.did in
+    let done = c.in_ok-done.done in
+    let said = c.in_ok-done.ensures in
+    let drawer = c.one_phase_alone.new.seats.drawer in
+    let counts = c.one_phase_alone.new.seats.counts.items in
+    let lines = map (λ v. v.items) done.log.sends.items in
+    let part : IsPartDone done.closed events (did_of done.log) = subst (λ (es : List (List Event)). IsPartDone done.closed es (did_of done.log)) one (said.part) in
+    let going : done.closed ≡ false → IsGoing (h.phases ++ events ∷ []) done.node drawer (both_of sends lines) counts = subst (λ (es : List (List Event)). done.closed ≡ false → IsGoing (h.phases ++ es ∷ []) done.node drawer (both_of sends lines) counts) one (said.going h.phases sends h.going) in
+    let over : done.closed ≡ true → IsOver (h.phases ++ events ∷ []) done.node drawer (both_of sends lines) = subst (λ (es : List (List Event)). done.closed ≡ true → IsOver (h.phases ++ es ∷ []) done.node drawer (both_of sends lines)) one (said.over h.phases [] sends h.going) in
+    let told = said.told (entries_told h.did) h.told in
+    let size = length-map done.log.sends.items (λ v. v.items) ∙ said.bearers in
+    let takes = c.in_default.ensures.none refl in
+    record {
+      numbers = c.one_phase_alone.ensures.numbers ∙ inv.numbers;
+      which = c.one_phase_alone.ensures.which ∙ inv.which;
+      same = same_more c.args.life.node l.node done.node inv.same said.frame;
+      between = said.between takes.0;
+      counts = said.many ∙ inv.counts;
+      usable = sym said.closed ∙ takes.0;
+      known = said.known;
+      under = goes_more S T c.args.source.now l.source c.args.sink.now l.sink bearers l.node l.seats.drawer l.seats.counts.items inv.counts h events (did_of done.log) done.node c.one_phase_alone.new.seats.drawer c.one_phase_alone.new.seats.counts.items done.closed c.ask.new.source c.tell_phase.new.sink
+          c.in-Ok.ensures.gives (said.place ∙ inv.between.count) size part told going over said.closed takes.0 takes.1;
+    }

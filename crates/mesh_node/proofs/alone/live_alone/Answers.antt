@@ -1,0 +1,29 @@
+use Rattle.std.proofs.Common.{◌∙◌, ◌≤◌, ap, arith, subst, sym}
+use Rattle.node_limits.specs.declared.TheConstants.{BEARERS}
+use Rattle.store_definitions.specs.Recovered.{IsRecovered}
+use Rattle.mesh_node.specs.Given.{Stood}
+use Rattle.mesh_node.specs.Lived.{LivedOn, WentOn}
+use Rattle.mesh_node.proofs.Telling.{on_err, short_first}
+use Rattle.mesh_node.proofs.alone.live_alone.Goals as goal
+
+pub returns-in_err-life-clause-short : goal.returns-in_err-life-clause-short
+returns-in_err-life-clause-short g c =
+    let s = c.requires.started in
+    on_err c.from_residual.result (short_first g.M.Machine.role g.S.PhaseSource.steps g.T.PhaseSink.steps c.args.source.now c.args.sink.now (g.F.Flash.chip c.args.beginning.start) s.over s.read)
+
+pub returns-clause-lived : goal.returns-clause-lived
+returns-clause-lived g c =
+    let chip = g.F.Flash.chip in
+    let S = g.S.PhaseSource.steps in
+    let T = g.T.PhaseSink.steps in
+    let s = c.requires.started in
+    let begun = c.in_ok-life.ensures in
+    let gone = c.in_ok-gone.gone in
+    let left = c.end_life.result in
+    let start = c.in_ok-gone.ensures.frame.start ∙ begun.start in
+    let went = subst (λ n. WentOn S T c.args.source.now c.go_on_alone.new.source c.args.sink.now c.go_on_alone.new.sink n gone.node gone.seats.drawer gone.last gone.node.machine.closed) begun.bearers c.in_ok-gone.ensures.went in
+    let one : 1 ≤ BEARERS = omega arith in
+    let few = subst (λ n. n ≤ BEARERS) (sym c.requires.alone) one in
+    let lived = c.end_life.ensures.lived c.args.source.now c.go_on_alone.new.source c.args.sink.now c.go_on_alone.new.sink c.args.beginning.bearers s.over few went
+    (subst (λ f. IsRecovered (chip f).now s.over) (sym start) s.read) s.runs (ap (λ n. n.opened) (c.in_ok-gone.ensures.numbers ∙ begun.numbers) ∙ s.opened) in
+    subst (λ f. LivedOn (Stood g.M.Machine.view g.M.Machine.stands chip left.flash) g.M.Machine.role g.M.Machine.image S T c.args.source.now c.go_on_alone.new.source c.args.sink.now c.go_on_alone.new.sink c.args.beginning.bearers (chip f) (chip left.flash) left.refills left.drawn left.closed left.last) start lived

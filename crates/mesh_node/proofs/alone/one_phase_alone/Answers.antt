@@ -1,0 +1,57 @@
+use Rattle.std.proofs.Common.{◌≡◌, ◌∙◌, [], ◌∷◌, ◌++◌, ap, subst, sym}
+use Rattle.node_phase.specs.Part.{AreThrough, HadMemory}
+use Rattle.node_phase.specs.Worked.{WasPhase}
+use Rattle.life_laws.specs.Stopped.{HasStopped}
+use Rattle.mesh_node.proofs.Phasing.{IsPhase, arm_is, bearers_is, between_is, closed_is, frame_is, going_is, known_is, many_is, one_item, over_is, part_done, parts_is, room_is, stopped_is, told_is}
+use Rattle.mesh_node.proofs.alone.one_phase_alone.Goals as goal
+
+pub returns : goal.returns
+returns g c =
+    let before = c.args.seats.now in
+    let now = c.take_log.new.seats in
+    let old = c.args.node in
+    let new = c.in_ok-node.node in
+    let e = c.run_alone.new.drawer in
+    let events = c.args.events.now ∷ [] in
+    let dones = c.push.new.self.items in
+    let numbers : c.index.result.now ∷ [] ≡ before.counts.items = ap (λ n. n ∷ []) c.index.ensures ∙ one_item before.counts.items c.index.result.now c.requires.alone in
+    let pushed : c.in_ok-node.done ∷ [] ≡ dones = sym (c.in_ok-push.ensures.items ∙ ap (λ ds. ds ++ c.in_ok-node.done ∷ []) c.new-dones.ensures.items) in
+    let logged = c.in_ok-log.ensures.logged in
+    let p : IsPhase g.M.Machine.role g.M.Machine.image g.F.Flash.chip old new c.take_log.new.node e events before now dones c.in_ok-log.log c.in_ok-closed.closed = record {
+      between = c.requires.between;
+      long = sym c.requires.alone;
+      origin = c.in_ok-node.ensures.origin;
+      was = subst (λ cs. WasPhase old new before.drawer e events cs dones) numbers (subst (λ ds. WasPhase old new before.drawer e events (c.index.result.now ∷ []) ds) pushed c.in_ok-node.ensures.was);
+      memory = subst HadMemory c.as_slice.ensures.value c.in_ok-closed.ensures.memory;
+      through = λ off. subst AreThrough c.as_slice.ensures.value (c.in_ok-closed.ensures.none off);
+      halted = λ on. subst HasStopped c.as_slice.ensures.value (c.in_ok-closed.ensures.some on);
+      known = c.take_log.ensures.known;
+      taken = c.in_ok-log.ensures.node;
+      first = logged.first;
+      entries = logged.entries;
+      sends = logged.sends;
+      counts = logged.counts;
+      count = logged.count;
+      drawer = c.take_log.ensures.drawer;
+      numbers = c.take_log.ensures.numbers;
+      which = c.run_alone.ensures.which;
+    } in
+    record {
+      numbers = p.numbers;
+      which = ap (λ d. d.which) p.drawer ∙ p.which;
+      parts = parts_is p;
+      many = many_is p;
+      bearers = bearers_is p;
+      frame = frame_is p;
+      arm = arm_is p;
+      closed = closed_is p;
+      stopped = stopped_is p;
+      known = known_is p;
+      between = between_is p;
+      place = p.first;
+      part = part_done p;
+      told = told_is p;
+      room = room_is p;
+      going = going_is p;
+      over = λ phases rest sends h on. over_is p phases sends h on rest;
+    }

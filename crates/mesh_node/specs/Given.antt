@@ -1,0 +1,50 @@
+-- Where in its plan a life was given an order to tear a call, and the machine that it leaves.
+use Rattle.std.specs.Prelude.{◌≡◌, ◌≢◌, ◌⊎◌, List, [], ◌∷◌, ◌++◌, Option, IfSome}
+use Rattle.flash_model.specs.Chip.{Arm, Chip}
+use Rattle.life_laws.specs.Hands.{AreHandledAll}
+use Rattle.machine_contract.specs.View.{MachineView}
+use Rattle.record_types.specs.declared.records.StoreRecord.{StoreRecord}
+use Rattle.report_definitions.specs.Record.{Life}
+use Rattle.run_definitions.specs.Order.{Step, arm, is_cut, phases_of}
+
+-- The order stands first in the plan, and no call that changes the flash was begun when it was given.
+pub record WasFirst (plan : List Step) (order : Arm) : Type 0 where
+  pub behind : List Step
+  pub is : plan ≡ arm order.calls order.mask ∷ behind
+  pub changes : order.changes ≡ 0
+
+-- a machine that shows this stands over the flash
+abbrev pub Stood : {M F : Type 0} → (M → MachineView) → (Chip → List StoreRecord → M → Type 0) → (F → Chip) → F
+    → List StoreRecord → MachineView → Type 0
+Stood {M} view stands chip flash over shown = (machine : M) × (view machine ≡ shown) × stands (chip flash) over machine
+
+module _ {M F : Type 0} (view : M → MachineView) (stands : Chip → List StoreRecord → M → Type 0) (chip : F → Chip)
+    (over : List StoreRecord) where
+  -- The order was given where a machine stood over the flash that had handled all events of the phases before it in the plan, and none of
+  -- those behind it.
+  pub record WasBetween (plan : List Step) (order : Arm) : Type 0 where
+    pub before : List Step
+    pub behind : List Step
+    pub is : plan ≡ before ++ arm order.calls order.mask ∷ behind
+    pub flash : F
+    pub machine : M
+    pub stood : stands (chip flash) over machine
+    pub handled : AreHandledAll (phases_of before) (view machine).entries
+    pub changes : order.changes ≡ (chip flash).changes
+
+  -- first of all, or behind a phase
+  abbrev pub WasGiven : List Step → Arm → Type 0
+  WasGiven plan order = WasFirst plan order ⊎ ((placed : WasBetween plan order) × (placed.before ≢ []))
+
+  -- the order that the flash had before, or one that was given between two phases of the plan
+  abbrev pub IsSameOrPlaced : List Step → Option Arm → Option Arm → Type 0
+  IsSameOrPlaced plan old new = (new ≡ old) ⊎ IfSome new (WasBetween plan)
+
+  -- The machine that stands over the flash at the end: what the life tells is all that it handled, and the life is cut exactly where it is
+  -- closed.
+  pub record IsTold (life : Life) (new : F) : Type 0 where
+    pub machine : M
+    pub stood : stands (chip new) over machine
+    pub entries : (view machine).entries ≡ life.entries
+    pub refills : (view machine).fills ≡ life.refills
+    pub closed : (view machine).closed ≡ is_cut life.end

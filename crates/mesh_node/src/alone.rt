@@ -1,0 +1,158 @@
+//! A life of one bearer that goes on, in the thread that calls.
+#![tactic(auto)]
+
+ghost use Rattle.std.specs.Prelude.{◌≡◌, ◌<◌, List, [], ◌∷◌, ◌++◌, length, map, replicate, true, false, IfOk, OnOk, OnErr};
+ghost use Rattle.flash_model.specs.Chip.{Keeps};
+ghost use Rattle.mesh_types.specs.declared.events.Event.{Event};
+ghost use Rattle.mesh_types.specs.declared.history.Entry.{Entry};
+ghost use Rattle.mesh_types.specs.declared.history.Sent.{Sent};
+ghost use Rattle.machine_contract.specs.Started.{IsStarted};
+ghost use Rattle.locked_node.specs.Stands.{IsNode};
+ghost use Rattle.node_bearer.specs.Did.{AreEvents};
+ghost use Rattle.life_laws.specs.Phases.{both_of};
+ghost use Rattle.mesh_node.specs.Given.{Stood};
+ghost use Rattle.mesh_node.specs.Going.{AreTold, IsBetween, IsGoing, IsOver};
+ghost use Rattle.mesh_node.specs.Lived.{FellShort, LivedOn, WentOn};
+ghost use Rattle.mesh_node.specs.Steps.{IsSameNode};
+ghost use Rattle.mesh_node.specs.Told.{IsPartDone, IsPrintablePhase, did_of};
+
+use crate::edges::{Beginning, Going, Gone, LifeLeft, begin, end_life};
+use crate::log::has_stopped;
+use crate::phases::{PhaseDone, Seats, take_log};
+use crate::told::{PhaseSink, PhaseSource, ask, tell_phase};
+use flash_model::Flash;
+use locked_node::Node;
+use machine_contract::Machine;
+use mesh_types::events::Event;
+use node_phase::run_alone;
+use std::alloc::{AllocError, Global};
+
+/// One phase of a life of one bearer, in the thread that calls: it has these events. It is what `one_phase` does for one list of events.
+/// For want of memory the node is dropped with its flash.
+///
+/// What is told is what was done in this phase (`part`). `going` and `over` carry on what holds of the phases before: of a life that goes on, and
+/// of one that is over since the flash failed.
+pub fn one_phase_alone<M: Machine, F: Flash + Send + Drop>(
+    alloc: Global,
+    node: Node<M, F>,
+    seats: &mut Seats,
+    events: &[Event],
+) -> Result<PhaseDone<M, F>, AllocError>
+    requires between { IsBetween seats.old node }
+    requires alone { length seats.old.counts.items ≡ 1 }
+    requires events { AreEvents node.machine.elements events.now }
+    ensures numbers { seats.new.numbers ≡ seats.old.numbers }
+    ensures which { seats.new.drawer.which ≡ seats.old.drawer.which }
+    ensures parts { OnOk result (seats.new.drawer.parts ≡ 1024) }
+    ensures many { OnOk result (length seats.new.counts.items ≡ length seats.old.counts.items) }
+    ensures bearers { IfOk result (λ r. length r.log.sends.items ≡ length seats.old.counts.items) }
+    ensures frame { IfOk result (λ r. IsSameNode node r.node) }
+    ensures arm { IfOk result (λ r. (F.chip r.node.flash).setting.arm ≡ (F.chip node.flash).setting.arm) }
+    ensures closed { IfOk result (λ r. r.closed ≡ r.node.machine.closed) }
+    ensures stopped { IfOk result (λ r. r.closed ≡ true → 0 < r.node.stops) }
+    ensures known { IfOk result (λ r. IsNode M.role M.image F.chip r.node) }
+    ensures between { IfOk result (λ r. r.closed ≡ false → IsBetween seats.new r.node) }
+    ensures place { IfOk result (λ r. r.log.first ≡ seats.old.entries) }
+    ensures part { IfOk result (λ r. IsPartDone r.closed (events.now ∷ []) (did_of r.log)) }
+    ensures told { (entries : List Entry) → AreTold entries node
+        → IfOk result (λ r. AreTold (entries ++ r.log.entries.items) r.node) }
+    ensures room { (phases : List (List (List Event))) (sends : List (List Sent))
+        → IsGoing phases node seats.old.drawer sends seats.old.counts.items
+        → IfOk result (λ r. IsPrintablePhase (did_of r.log)) }
+    ensures going { (phases : List (List (List Event))) (sends : List (List Sent))
+        → IsGoing phases node seats.old.drawer sends seats.old.counts.items
+        → IfOk result
+        (λ r. r.closed ≡ false
+        → IsGoing (phases ++ (events.now ∷ []) ∷ []) r.node seats.new.drawer
+        (both_of sends (map (λ v. v.items) r.log.sends.items)) seats.new.counts.items) }
+    ensures over { (phases rest : List (List (List Event))) (sends : List (List Sent))
+        → IsGoing phases node seats.old.drawer sends seats.old.counts.items
+        → IfOk result
+        (λ r. r.closed ≡ true
+        → IsOver (phases ++ (events.now ∷ []) ∷ rest) r.node seats.new.drawer
+        (both_of sends (map (λ v. v.items) r.log.sends.items))) }
+{
+    let (mut node, done) = run_alone(
+        alloc,
+        &seats.numbers,
+        &mut seats.drawer,
+        node,
+        events,
+        seats.counts[0],
+    )?;
+    let mut dones = Vec::new(alloc);
+    dones.push(done)?;
+    let closed = has_stopped(dones.as_slice())?;
+    let log = take_log(alloc, &mut node, seats, dones)?;
+    Ok(PhaseDone { node, log, closed })
+}
+
+/// Takes phases as they come, has the one bearer do each, and tells what it left, until none is to be done.
+fn go_on_alone<M: Machine, F: Flash + Send + Drop, S: PhaseSource, T: PhaseSink>(
+    alloc: Global,
+    life: Going<M, F>,
+    source: &mut S,
+    sink: &mut T,
+) -> Result<Gone<M, F>, AllocError>
+    requires alone { life.bearers ≡ 1 }
+    requires between { IsBetween life.seats life.node }
+    requires drawn { life.seats.drawer.drawn ≡ [] }
+    requires counts { life.seats.counts.items ≡ replicate life.bearers 0 }
+    requires elements { life.node.machine.elements ≡ life.elements }
+    requires begins { life.node.machine.entries ≡ [] }
+    requires usable { life.node.machine.closed ≡ false }
+    ensures numbers { IfOk result (λ r. r.seats.numbers ≡ life.seats.numbers) }
+    ensures which { IfOk result (λ r. r.seats.drawer.which ≡ life.seats.drawer.which) }
+    ensures parts { IfOk result (λ r. r.seats.drawer.parts ≡ 1024) }
+    ensures frame { IfOk result (λ r. IsSameNode life.node r.node) }
+    ensures short { OnErr result
+        (FellShort M.role S.steps T.steps source.old source.new sink.old sink.new (F.chip life.node.start)) }
+    ensures went { IfOk result
+        (λ r. WentOn S.steps T.steps source.old source.new sink.old sink.new life.bearers r.node r.seats.drawer r.last
+        r.node.machine.closed) }
+{
+    let Going {
+        mut node,
+        mut seats,
+        bearers,
+        elements,
+    } = life;
+    // It does nothing when it runs: the proof uses what it says.
+    node.known();
+    for _phase in 0..u64::MAX {
+        let lists = match ask(source, bearers, elements) {
+            Ok(lists) => lists,
+            Err(last) => return Ok(Gone { node, seats, last }),
+        };
+        let done = one_phase_alone(alloc, node, &mut seats, lists[0].as_slice())?;
+        node = done.node;
+        if let Some(last) = tell_phase(sink, done.log, done.closed) {
+            return Ok(Gone { node, seats, last });
+        }
+    }
+    Err(AllocError)
+}
+
+/// A life of one bearer that goes on as long as phases come, in the thread that calls. It is what `live_on` is for one bearer: it starts no
+/// thread and waits for none, so it asks for no handle and no gate.
+///
+/// For want of memory the flash is dropped; so it is after 2^64 - 1 phases. What the sink was told before is stored all the same (`short`).
+pub fn live_alone<M: Machine, F: Flash + Send + Drop, S: PhaseSource, T: PhaseSink>(
+    alloc: Global,
+    beginning: Beginning<M, F>,
+    source: &mut S,
+    sink: &mut T,
+) -> Result<LifeLeft<F>, AllocError>
+    requires started { IsStarted M.view M.stands (F.chip beginning.start) (F.chip beginning.flash) beginning.started }
+    requires kept { Keeps (F.chip beginning.start) (F.chip beginning.flash) }
+    requires alone { beginning.bearers ≡ 1 }
+    ensures lived { IfOk result
+        (λ r. LivedOn (Stood M.view M.stands F.chip r.flash) M.role M.image S.steps T.steps source.old source.new sink.old sink.new beginning.bearers
+        (F.chip beginning.start) (F.chip r.flash) r.refills r.drawn r.closed r.last) }
+    ensures short { OnErr result
+        (FellShort M.role S.steps T.steps source.old source.new sink.old sink.new (F.chip beginning.start)) }
+{
+    let life = begin(alloc, beginning)?;
+    let gone = go_on_alone(alloc, life, source, sink)?;
+    Ok(end_life::<M, F, S, T>(gone))
+}
