@@ -11,3 +11,4 @@ pub mod Deciding
 pub mod Finding
 pub mod Loop
 pub mod Materials
+pub mod Walk

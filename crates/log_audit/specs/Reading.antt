@@ -1,10 +1,11 @@
 -- The parts of an input.
-use Rattle.std.specs.Prelude.{◌≡◌, ℕ, ◌+◌, ◌≤◌, ◌⊎◌, List, [], ◌∷◌, length, take, drop, Some, ⊤}
-use Rattle.std.specs.List.{slice_get}
+use Rattle.std.specs.Prelude.{◌≡◌, ℕ, ◌+◌, ◌≤◌, ◌⊎◌, Bool, List, [], ◌∷◌, length, take, drop, Some, ⊤}
+use Rattle.std.specs.List.{list_any, slice_get}
 use Rattle.mesh_types.specs.declared.report.ReportLine.{ReportLine}
 use Rattle.report_reader.specs.ReportLine.{IsNoReportLine}
 use Rattle.script_definitions.specs.declared.line.ScriptNet.{ScriptNet}
 use Rattle.audit_definitions.specs.Input.{lines_of, IsKeyLine, AreReportLines, IsFirstOther}
+use Rattle.log_audit.specs.Facts.{is_own_source}
 use Rattle.log_audit.specs.declared.input.AuditStop.{AuditStop}
 use Rattle.log_audit.specs.declared.input.AuditStop.TheVariants as S
 
@@ -22,6 +23,11 @@ pub record HasKeys (text : List ℕ) (keys : List ScriptNet) (rest : List ℕ) :
   pub end : (t : List ℕ) (ts : List (List ℕ)) → lines_of rest ≡ t ∷ ts
       → (length keys ≡ 16) ⊎ ((n : ScriptNet) → IsKeyLine t n → ⊥)
   pub size : length rest ≤ length text
+
+-- these are the report lines of a text, and `own` tells their own sources
+pub record IsRead (own : ℕ → Bool) (text : List ℕ) (lines : List ReportLine) : Type 0 where
+  pub are : AreReportLines (lines_of text) lines
+  pub sources : (a : ℕ) → own a ≡ list_any (is_own_source a) lines
 
 -- behind so many lines, this line is the first one of a text that is none of a report
 pub record IsFirstNone (text : List ℕ) (before line : ℕ) : Type 0 where

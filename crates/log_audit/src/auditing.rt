@@ -1,13 +1,16 @@
 //! The audit of a log.
 #![tactic(auto)]
 
-ghost use Rattle.std.specs.Prelude.{◌≡◌, ◌+◌, ◌<◌, ◌≤◌, ◌^◌, ℕ, Some, length, map, IfOk, IfErr};
+ghost use Rattle.std.specs.Prelude.{◌≡◌, ◌<◌, ◌≤◌, ◌^◌, ℕ, List, Some, length, map, IfOk, IfErr};
+ghost use Rattle.std.specs.BTreeSet.{contains};
 ghost use Rattle.std.specs.List.{slice_get};
+ghost use Rattle.std.specs.Ordering.{nat_cmp};
 ghost use Rattle.audit_definitions.specs.Verdicts.{IsVerdict, IsVerdictOf, verdict_text};
 ghost use Rattle.audit_definitions.specs.declared.verdict.Verdict.{Verdict as VerdictOf};
 ghost use Rattle.mesh_base.specs.declared.fields.NetMaterial.{NetMaterial as Material};
 ghost use Rattle.script_definitions.specs.Events.{material_of};
-ghost use Rattle.log_audit.specs.Reading.{IsStop};
+ghost use Rattle.mesh_types.specs.declared.report.ReportLine.{ReportLine as Line};
+ghost use Rattle.log_audit.specs.Reading.{IsRead, IsStop};
 
 use crate::input::{AuditStop, read_input};
 use crate::seals::material;
@@ -15,10 +18,10 @@ use crate::verdicts::verdict;
 use audit_definitions::Verdict;
 use audit_definitions::verdict::write_verdict;
 use kept_keys::NetSchedules;
-use mesh_types::report::ReportLine;
 use report_lines::LineText;
 use script_definitions::line::ScriptNet;
 use std::alloc::{AllocError, Global};
+use std::collections::BTreeSet;
 
 /// What these keys seal with, with the schedules.
 fn schedules(alloc: Global, keys: &[ScriptNet]) -> Result<Vec<NetSchedules>, AllocError>
@@ -32,18 +35,21 @@ fn schedules(alloc: Global, keys: &[ScriptNet]) -> Result<Vec<NetSchedules>, All
     Ok(out)
 }
 
-/// The verdict of report lines under these keys.
+/// The verdict under these keys of a report whose own sources these are.
 fn verdict_under(
     alloc: Global,
     keys: &[ScriptNet],
-    lines: &[ReportLine],
+    own: &BTreeSet<u16>,
+    report: &[u8],
 ) -> Result<Verdict, AllocError>
     requires keys { length keys.now ≤ 16 }
-    requires lines { length lines.now ≤ 4194304 }
-    ensures value { IfOk result (IsVerdictOf keys.now lines.now) }
+    requires report { length report.now ≤ 4194304 }
+    ensures value { IfOk result
+        (λ v. (lines : List Line) → IsRead (λ a. contains nat_cmp own.now a) report.now lines
+        → IsVerdictOf keys.now lines v) }
 {
     let schedules = schedules(alloc, keys)?;
-    verdict(alloc, schedules.as_slice(), keys.len() as u32, lines)
+    verdict(alloc, schedules.as_slice(), keys.len() as u32, own, report)
 }
 
 /// The audit of a log: a text of at most 16 lines `key NET`, and then lines of a report, as `run --hex` writes them, at most 4,194,304
@@ -59,7 +65,7 @@ pub fn audit(alloc: Global, bytes: &[u8]) -> Result<Verdict, AuditStop>
     ensures cause { IfErr result (IsStop bytes.now) }
 {
     match read_input(alloc, bytes) {
-        Ok(input) => match verdict_under(alloc, input.keys.as_slice(), input.lines.as_slice()) {
+        Ok(input) => match verdict_under(alloc, input.keys.as_slice(), &input.own, input.report) {
             Ok(verdict) => Ok(verdict),
             Err(_) => Err(AuditStop::Memory),
         },

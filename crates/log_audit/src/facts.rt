@@ -1,10 +1,9 @@
 //! The facts of a line that the lines behind it are compared with.
 #![tactic(auto)]
 
-ghost use Rattle.std.specs.Prelude.{◌≡◌, ◌≤◌, ◌||◌, nat_eq, ℕ, length, None, IfOk, OnOk};
+ghost use Rattle.std.specs.Prelude.{◌≡◌, ◌||◌, nat_eq, ℕ, List, None, IfOk, OnOk};
 ghost use Rattle.std.specs.BTreeMap.{get};
 ghost use Rattle.std.specs.BTreeSet.{contains};
-ghost use Rattle.std.specs.List.{list_any};
 ghost use Rattle.std.specs.Option.{option_map};
 ghost use Rattle.std.specs.Ordering.{nat_cmp};
 ghost use Rattle.audit_definitions.specs.Seals.{own_by, own_source, message_by};
@@ -13,7 +12,6 @@ ghost use Rattle.log_audit.specs.Uses.{or_else, pick};
 
 use crate::seals::{name_of, shown};
 use crate::seen::{Key, Uses, name_key, name_number, note};
-use mesh_base::octets::Octets;
 use mesh_types::answers::Answer;
 use mesh_types::lines::Outcome;
 use mesh_types::report::ReportLine;
@@ -21,7 +19,7 @@ use std::alloc::{AllocError, Global};
 use std::collections::BTreeSet;
 
 /// A key, and what a line uses under it.
-pub type Fact = (Key, Octets<380>);
+pub type Fact<'a> = (Key, &'a [u8]);
 
 /// SRC of what the node sends of its own.
 fn own_by(outcome: &Outcome) -> Option<u16>
@@ -46,9 +44,20 @@ fn own_source(line: &ReportLine) -> Option<u16>
     }
 }
 
+/// Puts the own source of a line, if it has one, into the set.
+pub fn note_source(own: &mut BTreeSet<u16>, line: &ReportLine) -> Result<(), AllocError>
+    ensures noted { OnOk result
+        ((a : ℕ) → contains nat_cmp own.new a ≡ (contains nat_cmp own.old a || is_own_source a line.now)) }
+{
+    match own_source(line) {
+        Some(src) => add(own, src),
+        None => Ok(()),
+    }
+}
+
 /// Puts a source into the set.
 fn add(own: &mut BTreeSet<u16>, src: u16) -> Result<(), AllocError>
-    ensures added { OnOk result ((a : ℕ) → contains nat_cmp own.new a ≡ (nat_eq src a || contains nat_cmp own.old a)) }
+    ensures added { OnOk result ((a : ℕ) → contains nat_cmp own.new a ≡ (contains nat_cmp own.old a || nat_eq src a)) }
 {
     match own.insert(src) {
         Ok(_) => Ok(()),
@@ -56,38 +65,15 @@ fn add(own: &mut BTreeSet<u16>, src: u16) -> Result<(), AllocError>
     }
 }
 
-/// The own sources of a report.
-pub fn own_sources(alloc: Global, lines: &[ReportLine]) -> Result<BTreeSet<u16>, AllocError>
-    ensures value { IfOk result (λ s. (a : ℕ) → contains nat_cmp s a ≡ list_any (is_own_source a) lines.now) }
-{
-    let mut own = BTreeSet::new(alloc);
-    for line in lines {
-        if let Some(src) = own_source(line) {
-            add(&mut own, src)?;
-        }
-    }
-    Ok(own)
-}
-
-/// These octets in a list with more room.
-fn widened(octets: &[u8]) -> Octets<380>
-    requires { length octets.now ≤ 380 }
-    ensures value { result ≡ octets.now }
-{
-    let mut out = Octets::new();
-    out.extend(octets);
-    out
-}
-
 /// The octets of a network PDU of an own source, under the fields of its nonce.
-pub fn pdu_fact(own: &BTreeSet<u16>, line: &ReportLine) -> Option<Fact>
-    ensures value { result ≡ pdu_fact (λ a. contains nat_cmp own.now a) line.now }
+pub fn pdu_fact<'a>(own: &BTreeSet<u16>, line: &'a ReportLine) -> Option<Fact<'a>>
+    ensures value { option_map {U = KeyOf × List ℕ} (λ f. (f.0, f.1.now)) result ≡ pdu_fact (λ a. contains nat_cmp own.now a) line.now }
 {
     match line {
         ReportLine::Sent { outcome, .. } => match shown(outcome) {
             Some((name, pdu)) => {
                 if own.contains(&name.src.0) {
-                    Some((name_key(name, (0, 0)), widened(pdu.as_slice())))
+                    Some((name_key(name, (0, 0)), pdu.as_slice()))
                 } else {
                     None
                 }
@@ -100,7 +86,8 @@ pub fn pdu_fact(own: &BTreeSet<u16>, line: &ReportLine) -> Option<Fact>
 
 /// A payload, under the fields of its nonce and the name of its key.
 fn message_by(outcome: &Outcome) -> Option<Fact>
-    ensures value { result ≡ option_map (λ m. (message_key m, m.payload)) (message_by outcome.now) }
+    ensures value { option_map {U = KeyOf × List ℕ} (λ f. (f.0, f.1.now)) result
+        ≡ option_map (λ m. (message_key m, m.payload)) (message_by outcome.now) }
 {
     match outcome {
         Outcome::Msg {
@@ -112,7 +99,7 @@ fn message_by(outcome: &Outcome) -> Option<Fact>
             ..
         } => Some((
             name_key(name_of(*src, *pair), (dst.0, name_number(*key))),
-            widened(payload.as_slice()),
+            payload.as_slice(),
         )),
         Outcome::Long {
             pair,
@@ -123,7 +110,7 @@ fn message_by(outcome: &Outcome) -> Option<Fact>
             ..
         } => Some((
             name_key(name_of(*src, *pair), (dst.0, name_number(*key))),
-            payload.copied(),
+            payload.as_slice(),
         )),
         _ => None,
     }
@@ -131,7 +118,7 @@ fn message_by(outcome: &Outcome) -> Option<Fact>
 
 /// The same of a line.
 pub fn message_fact(line: &ReportLine) -> Option<Fact>
-    ensures value { result ≡ message_fact line.now }
+    ensures value { option_map {U = KeyOf × List ℕ} (λ f. (f.0, f.1.now)) result ≡ message_fact line.now }
 {
     match line {
         ReportLine::Sent { outcome, .. } => message_by(outcome),
@@ -141,12 +128,12 @@ pub fn message_fact(line: &ReportLine) -> Option<Fact>
 
 /// An accepted message, under its name.
 pub fn accepted_fact(line: &ReportLine) -> Option<Fact>
-    ensures value { result ≡ accepted_fact line.now }
+    ensures value { option_map {U = KeyOf × List ℕ} (λ f. (f.0, f.1.now)) result ≡ accepted_fact line.now }
 {
     match line {
         ReportLine::Entry { answer, .. } => match answer {
-            Answer::Delivered { name, .. } => Some((name_key(*name, (0, 0)), Octets::new())),
-            Answer::Control { name, .. } => Some((name_key(*name, (0, 0)), Octets::new())),
+            Answer::Delivered { name, .. } => Some((name_key(*name, (0, 0)), b"".as_slice())),
+            Answer::Control { name, .. } => Some((name_key(*name, (0, 0)), b"".as_slice())),
             _ => None,
         },
         _ => None,
@@ -155,16 +142,20 @@ pub fn accepted_fact(line: &ReportLine) -> Option<Fact>
 
 /// Notes the fact of the line with this number, unless its key is known. The answer is what was known of it.
 pub fn seen(
+    alloc: Global,
     uses: &mut Uses,
     fact: Option<Fact>,
     number: u32,
 ) -> Result<Option<(u32, bool)>, AllocError>
-    ensures answer { IfOk result (λ r. r ≡ known_of (λ q. get key_cmp uses.old q) fact) }
+    ensures answer { IfOk result
+        (λ r. r ≡ known_of (λ q. get key_cmp uses.old q) (option_map {U = KeyOf × List ℕ} (λ f. (f.0, f.1.now)) fact.entry)) }
     ensures noted { OnOk result
-        ((q : KeyOf) → get key_cmp uses.new q ≡ or_else (get key_cmp uses.old q) (pick same_key fact q number None)) }
+        ((q : KeyOf)
+        → get key_cmp uses.new q
+        ≡ or_else (get key_cmp uses.old q) (pick same_key (option_map {U = KeyOf × List ℕ} (λ f. (f.0, f.1.now)) fact.entry) q number None)) }
 {
     match fact {
-        Some((key, value)) => note(uses, key, value, number),
+        Some((key, value)) => note(alloc, uses, key, value, number),
         None => Ok(None),
     }
 }

@@ -1,17 +1,23 @@
 //! The reading of an input, line by line.
 #![tactic(auto)]
 
-ghost use Rattle.std.specs.Prelude.{◌≡◌, ◌+◌, ◌<◌, ◌≤◌, ◌^◌, ◌∷◌, length, IfOk, IfErr, IfSome, IfNone, OnOk, [], ◌++◌};
-ghost use Rattle.audit_definitions.specs.Input.{lines_of, IsKeyLine, AreReportLines, IsInput};
+ghost use Rattle.std.specs.Prelude.{◌≡◌, ◌+◌, ◌<◌, ◌≤◌, ◌^◌, ◌||◌, ◌∷◌, ℕ, List, length, IfOk, IfErr, IfSome, IfNone, OnOk};
+ghost use Rattle.std.specs.BTreeSet.{contains};
+ghost use Rattle.std.specs.Ordering.{nat_cmp};
+ghost use Rattle.audit_definitions.specs.Input.{lines_of, IsKeyLine, IsInput};
+ghost use Rattle.mesh_types.specs.declared.report.ReportLine.{ReportLine as Line};
 ghost use Rattle.script_definitions.specs.declared.line.ScriptNet.{ScriptNet as Net};
-ghost use Rattle.log_audit.specs.Reading.{HasKeys, IsReportStop, IsStop};
+ghost use Rattle.log_audit.specs.Facts.{is_own_source};
+ghost use Rattle.log_audit.specs.Reading.{HasKeys, IsRead, IsReportStop, IsStop};
 ghost use Rattle.log_audit.specs.declared.input.AuditStop.TheVariants.{Memory};
 
+use crate::facts::note_source;
 use mesh_types::report::ReportLine;
 use report_reader::{LineStop, read_line};
 use script_definitions::line::ScriptNet;
 use script_reader::forms::net;
 use std::alloc::{AllocError, Global};
+use std::collections::BTreeSet;
 use thiserror::Error;
 
 /// Why there is no verdict.
@@ -32,7 +38,7 @@ pub enum AuditStop {
 const MOST_KEYS: usize = 16;
 
 /// The first line of a text, with its LF, which the last line may lack, and the text behind it.
-fn cut_line(text: &[u8]) -> (&[u8], &[u8])
+pub fn cut_line(text: &[u8]) -> (&[u8], &[u8])
     requires { 1 ≤ length text.now }
     ensures value { lines_of text.now ≡ result.0.now ∷ lines_of result.1.now }
     ensures shorter { length result.1.now < length text.now }
@@ -74,47 +80,49 @@ pub fn read_keys(alloc: Global, bytes: &[u8]) -> Result<(Vec<ScriptNet>, &[u8]),
     Ok((keys, rest))
 }
 
-/// The report lines of a text, before which so many lines stand.
-pub fn read_lines(alloc: Global, bytes: &[u8], before: u32) -> Result<Vec<ReportLine>, AuditStop>
+/// The own sources of the report lines of a text, before which so many lines stand.
+pub fn own_sources(alloc: Global, bytes: &[u8], before: u32) -> Result<BTreeSet<u16>, AuditStop>
     requires { before + length bytes.now < 2 ^ 32 }
-    ensures ok { IfOk result (λ lines. AreReportLines (lines_of bytes.now) lines.items) }
-    ensures count { IfOk result (λ lines. length lines.items ≤ length bytes.now) }
+    ensures ok { IfOk result (λ own. (lines : List Line) × IsRead (λ a. contains nat_cmp own a) bytes.now lines) }
     ensures cause { IfErr result (IsReportStop bytes.now before) }
 {
-    let mut lines = Vec::new(alloc);
+    let mut own = BTreeSet::new(alloc);
     let mut rest = bytes;
     let mut number = before;
     while rest.len() > 0 {
         let (text, more) = cut_line(rest);
         number += 1;
         match read_line(alloc, text) {
-            Ok(line) => push_line(&mut lines, line)?,
+            Ok(line) => keep_source(&mut own, &line)?,
             Err(LineStop::NotLine) => return Err(AuditStop::NotReport { line: number }),
             Err(LineStop::Memory) => return Err(AuditStop::Memory),
         }
         rest = more;
     }
-    Ok(lines)
+    Ok(own)
 }
 
-/// Puts a line behind the others.
-fn push_line(lines: &mut Vec<ReportLine>, line: ReportLine) -> Result<(), AuditStop>
-    ensures ok { OnOk result (lines.new.items ≡ lines.old.items ++ line ∷ []) }
+/// Puts the own source of a line, if it has one, into the set.
+fn keep_source(own: &mut BTreeSet<u16>, line: &ReportLine) -> Result<(), AuditStop>
+    ensures noted { OnOk result
+        ((a : ℕ) → contains nat_cmp own.new a ≡ (contains nat_cmp own.old a || is_own_source a line.now)) }
     ensures cause { IfErr result (λ e. e ≡ Memory) }
 {
-    match lines.push(line) {
+    match note_source(own, line) {
         Ok(()) => Ok(()),
         Err(_) => Err(AuditStop::Memory),
     }
 }
 
-/// The keys and the report lines of an input.
+/// An input that was read. Its report lines aren't kept: where they are judged they are read once more.
 #[derive(Drop)]
-pub struct Input {
+pub struct Input<'a> {
     /// The keys, at most 16.
     pub keys: Vec<ScriptNet>,
-    /// The report lines behind them.
-    pub lines: Vec<ReportLine>,
+    /// The text of the report lines behind them.
+    pub report: &'a [u8],
+    /// SRC of what the node sent of its own, by these lines.
+    pub own: BTreeSet<u16>,
 }
 
 /// The keys that an input begins with, and the text behind them.
@@ -136,13 +144,16 @@ fn keys_of(alloc: Global, bytes: &[u8]) -> Result<(Vec<ScriptNet>, &[u8]), Audit
 /// `NotReport` exactly where the text is no input, with its first line that isn't of the form; `Memory` where there is no memory.
 pub fn read_input(alloc: Global, bytes: &[u8]) -> Result<Input, AuditStop>
     requires { length bytes.now ≤ 4194304 }
-    ensures ok { IfOk result (λ i. IsInput bytes.now i.keys.items i.lines.items) }
-    ensures count { IfOk result (λ i. (length i.keys.items ≤ 16) × (length i.lines.items ≤ length bytes.now)) }
+    ensures ok { IfOk result
+        (λ i. (lines : List Line)
+        × IsInput bytes.now i.keys.items lines
+        × IsRead (λ a. contains nat_cmp i.own a) i.report.now lines) }
+    ensures count { IfOk result (λ i. (length i.keys.items ≤ 16) × (length i.report.now ≤ length bytes.now)) }
     ensures cause { IfErr result (IsStop bytes.now) }
 {
-    let (keys, rest) = keys_of(alloc, bytes)?;
-    match read_lines(alloc, rest, keys.len() as u32) {
-        Ok(lines) => Ok(Input { keys, lines }),
+    let (keys, report) = keys_of(alloc, bytes)?;
+    match own_sources(alloc, report, keys.len() as u32) {
+        Ok(own) => Ok(Input { keys, report, own }),
         Err(stop) => Err(stop),
     }
 }

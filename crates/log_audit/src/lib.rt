@@ -2,8 +2,8 @@
 //! defined in `audit_definitions`.
 //!
 //! - `auditing`: `audit`, and `audit_report` with the line of its verdict
-//! - `input`: a text to its keys and report lines
-//! - `verdicts`: the first thing that is wrong
+//! - `input`: a text to its keys, and the own sources of its report lines
+//! - `verdicts`: the first thing that is wrong with the lines, which are read once more for it
 //! - `facts`, `seen`: what a line is compared by, and what the lines before it used and accepted
 //! - `seals`: whether the octets of a line are those of the PDU that it tells
 //!

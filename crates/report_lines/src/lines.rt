@@ -1,8 +1,9 @@
 //! The lines of the report, as `write_line` writes them.
 #![tactic(auto, unfolding(report_definitions::specs::Report::words_text), using(std::proofs::Common::append_assoc))]
 
-ghost use Rattle.std.specs.Prelude.{◌≡◌, ◌++◌, IfOk, OnOk, codes};
+ghost use Rattle.std.specs.Prelude.{◌≡◌, ◌+◌, ◌<◌, ◌^◌, ◌++◌, IfOk, OnOk, codes};
 ghost use Rattle.std.specs.Fmt.{decimal};
+ghost use Rattle.mesh_types.specs.Kind.{kind_of};
 ghost use Rattle.mesh_types.specs.declared.report.ReportLine.TheVariants as L;
 ghost use Rattle.report_definitions.specs.Report.{line_text, words_text, state_text, next_text, kind_text};
 
@@ -12,6 +13,7 @@ use crate::text::LineText;
 use mesh_base::iv_state::IvState;
 use mesh_types::answers::Answer;
 use mesh_types::events::Kind;
+use mesh_types::history::{Entry, Sent};
 use mesh_types::lines::Outcome;
 use mesh_types::report::ReportLine;
 use std::alloc::{AllocError, Global};
@@ -24,9 +26,56 @@ pub fn write_line(alloc: Global, line: &ReportLine) -> Result<LineText, AllocErr
     ensures value { IfOk result (λ text. text ≡ line_text line.now) }
 {
     let mut text = LineText::with_room(alloc, ROOM)?;
-    push_words(&mut text, line)?;
-    text.push(b"\n")?;
+    push_line(&mut text, line)?;
     Ok(text)
+}
+
+/// Puts the text of a line of the report, with its LF, behind a text.
+pub fn push_line(text: &mut LineText, line: &ReportLine) -> Result<(), AllocError>
+    ensures ok { OnOk result (text.new ≡ text.old ++ line_text line.now) }
+{
+    push_words(text, line)?;
+    text.push(b"\n")
+}
+
+/// Puts the line of an entry, with its LF, behind a text. The entry has this place in its life, from 1 on.
+pub fn push_entry_line(text: &mut LineText, at: u32, entry: &Entry) -> Result<(), AllocError>
+    ensures ok { OnOk result
+        (text.new
+        ≡ text.old ++ line_text (L.Entry at entry.now.bearer entry.now.number (kind_of entry.now.event) entry.now.answer)) }
+{
+    push_entry(
+        text,
+        at,
+        entry.bearer,
+        entry.number,
+        entry.event.kind(),
+        &entry.answer,
+    )?;
+    text.push(b"\n")
+}
+
+/// Puts the line of a job that this bearer did, with its LF, behind a text. It shows the places of entry and job counted from 1.
+pub fn push_sent_line(
+    text: &mut LineText,
+    hex: bool,
+    bearer: u8,
+    sent: &Sent,
+) -> Result<(), AllocError>
+    requires entry { sent.now.entry + 1 < 2 ^ 32 }
+    requires job { sent.now.job + 1 < 2 ^ 8 }
+    ensures ok { OnOk result
+        (text.new ≡ text.old ++ line_text (L.Sent bearer (sent.now.entry + 1) (sent.now.job + 1) sent.now.outcome hex)) }
+{
+    push_sent(
+        text,
+        bearer,
+        sent.entry + 1,
+        sent.job + 1,
+        &sent.outcome,
+        hex,
+    )?;
+    text.push(b"\n")
 }
 
 fn push_words(text: &mut LineText, line: &ReportLine) -> Result<(), AllocError>

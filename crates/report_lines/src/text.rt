@@ -1,7 +1,7 @@
 //! The text of one line of the report, written word by word.
 #![tactic(auto)]
 
-ghost use Rattle.std.specs.Prelude.{◌≡◌, ◌<◌, ◌≤◌, ◌/◌, ◌%◌, ◌^◌, [], ◌∷◌, ◌++◌, IfOk, OnOk, slice_index};
+ghost use Rattle.std.specs.Prelude.{◌≡◌, ◌<◌, ◌≤◌, ◌/◌, ◌%◌, ◌^◌, [], ◌∷◌, ◌++◌, length, IfOk, OnOk, slice_index};
 ghost use Rattle.std.specs.Fmt.{decimal};
 ghost use Rattle.hex.specs.Hex.{encode_lower, lower_digits};
 ghost use Rattle.report_definitions.specs.Text.{hex_digits, word_text, octets_text, address_text, iv_text, pair_text, name_text, route_text};
@@ -13,7 +13,11 @@ use std::marker::Model;
 
 const HEX_DIGITS: [u8; 16] = *b"0123456789abcdef";
 
+/// How many octets are written at once.
+const ROW: usize = 32;
+
 /// The hexadecimal digit of a number at a place, counted from the lowest.
+#[inline(always)]
 fn digit(n: u32, place: u32) -> u8
     requires { place < 8 }
     ensures value { result ≡ slice_index lower_digits (n / 16 ^ place % 16) }
@@ -21,14 +25,83 @@ fn digit(n: u32, place: u32) -> u8
     HEX_DIGITS[(n / 16u32.pow(place) % 16) as usize]
 }
 
-/// The two digits of an octet, the high one first.
-fn two_digits(octet: u8) -> [u8; 2]
-    ensures value { result ≡ encode_lower (octet ∷ []) }
+/// The eight digits of a number.
+#[inline(always)]
+#[tactic(auto, unfolding(report_definitions::specs::Text::hex_digits))]
+fn digits_row(n: u32) -> [u8; 8]
+    ensures value { result ≡ hex_digits 8 n }
 {
-    let mut digits = [0; 2];
-    // There is room for one octet, so it isn't refused.
-    let _ = hex::encode_to_slice(&[octet], &mut digits);
-    digits
+    [
+        digit(n, 7),
+        digit(n, 6),
+        digit(n, 5),
+        digit(n, 4),
+        digit(n, 3),
+        digit(n, 2),
+        digit(n, 1),
+        digit(n, 0),
+    ]
+}
+
+/// An address as a word.
+#[inline(always)]
+#[tactic(auto, unfolding(report_definitions::specs::Text::hex_digits))]
+fn address_row(address: Address) -> [u8; 5]
+    ensures value { result ≡ address_text address }
+{
+    let n = u32::from(address.0);
+    [b' ', digit(n, 3), digit(n, 2), digit(n, 1), digit(n, 0)]
+}
+
+/// A pair as two words.
+#[inline(always)]
+#[tactic(auto, unfolding(report_definitions::specs::Text::hex_digits))]
+fn pair_row(pair: Pair) -> [u8; 16]
+    ensures value { result ≡ pair_text pair }
+{
+    let (iv, seq) = (pair.iv, pair.seq);
+    [
+        b' ',
+        digit(iv, 7),
+        digit(iv, 6),
+        digit(iv, 5),
+        digit(iv, 4),
+        digit(iv, 3),
+        digit(iv, 2),
+        digit(iv, 1),
+        digit(iv, 0),
+        b' ',
+        digit(seq, 5),
+        digit(seq, 4),
+        digit(seq, 3),
+        digit(seq, 2),
+        digit(seq, 1),
+        digit(seq, 0),
+    ]
+}
+
+/// TTL, SRC and DST as three words.
+#[inline(always)]
+#[tactic(auto, unfolding(report_definitions::specs::Text::hex_digits))]
+fn route_row(ttl: u8, src: Address, dst: Address) -> [u8; 13]
+    ensures value { result ≡ route_text ttl src dst }
+{
+    let (ttl, src, dst) = (u32::from(ttl), u32::from(src.0), u32::from(dst.0));
+    [
+        b' ',
+        digit(ttl, 1),
+        digit(ttl, 0),
+        b' ',
+        digit(src, 3),
+        digit(src, 2),
+        digit(src, 1),
+        digit(src, 0),
+        b' ',
+        digit(dst, 3),
+        digit(dst, 2),
+        digit(dst, 1),
+        digit(dst, 0),
+    ]
 }
 
 /// The text of a line. A clause sees it as the list of its octets.
@@ -72,6 +145,20 @@ impl LineText {
         self.octets.as_slice()
     }
 
+    /// How many octets the text has.
+    pub fn len(&self) -> usize
+        ensures value { result ≡ length self.now }
+    {
+        self.octets.len()
+    }
+
+    /// Lets all octets go, and keeps their room.
+    pub fn clear(&mut self)
+        ensures none { self.new ≡ [] }
+    {
+        self.octets.clear();
+    }
+
     /// Puts these octets behind the text.
     pub fn push(&mut self, octets: &[u8]) -> Result<(), AllocError>
         ensures ok { OnOk result (self.new ≡ self.old ++ octets.now) }
@@ -92,12 +179,8 @@ impl LineText {
         requires { digits ≤ 8 }
         ensures ok { OnOk result (self.new ≡ self.old ++ hex_digits digits n) }
     {
-        let mut left = digits;
-        while left > 0 {
-            left -= 1;
-            self.push(&[digit(n, left)])?;
-        }
-        Ok(())
+        let row = digits_row(n);
+        self.push(&row[8 - digits as usize..])
     }
 
     /// A word of hexadecimal digits.
@@ -122,25 +205,39 @@ impl LineText {
         ensures ok { OnOk result (self.new ≡ self.old ++ octets_text octets.now) }
     {
         self.push(b" ")?;
-        for octet in octets {
-            self.push(&two_digits(*octet))?;
+        let mut rest = octets;
+        while rest.len() > 0 {
+            let (part, more) = rest.split_at(rest.len().min(ROW));
+            self.push_row(part)?;
+            rest = more;
         }
         Ok(())
+    }
+
+    /// At most 32 octets, two digits for each.
+    fn push_row(&mut self, part: &[u8]) -> Result<(), AllocError>
+        requires few { length part.now ≤ 32 }
+        ensures ok { OnOk result (self.new ≡ self.old ++ encode_lower part.now) }
+    {
+        let mut digits = [0; 64];
+        let digits = &mut digits[..2 * part.len()];
+        // There is room for two digits of each octet, so it isn't refused.
+        let _ = hex::encode_to_slice(part, digits);
+        self.push(digits)
     }
 
     /// An address as a word.
     pub fn push_address(&mut self, address: Address) -> Result<(), AllocError>
         ensures ok { OnOk result (self.new ≡ self.old ++ address_text address) }
     {
-        self.push_field(4, u32::from(address.0))
+        self.push(&address_row(address))
     }
 
     /// A pair as two words.
     pub fn push_pair(&mut self, pair: Pair) -> Result<(), AllocError>
         ensures ok { OnOk result (self.new ≡ self.old ++ pair_text pair) }
     {
-        self.push_field(8, pair.iv)?;
-        self.push_field(6, pair.seq)
+        self.push(&pair_row(pair))
     }
 
     /// A name as one word.
@@ -158,8 +255,6 @@ impl LineText {
     pub fn push_route(&mut self, ttl: u8, src: Address, dst: Address) -> Result<(), AllocError>
         ensures ok { OnOk result (self.new ≡ self.old ++ route_text ttl src dst) }
     {
-        self.push_field(2, u32::from(ttl))?;
-        self.push_address(src)?;
-        self.push_address(dst)
+        self.push(&route_row(ttl, src, dst))
     }
 }

@@ -3,3 +3,4 @@ pub mod Written
 pub mod Parts
 pub mod Texts
 pub mod Reporting
+pub mod Cutting

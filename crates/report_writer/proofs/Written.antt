@@ -1,12 +1,10 @@
 -- What a sink tells after several lines, and after a front of them.
-use Rattle.std.proofs.Common.{◌≡◌, ◌+◌, ◌<◌, ◌≤◌, ℕ, List, [], ◌∷◌, ◌++◌, length, get_or, map, drop, arith, refl, sym, ap, subst, ◌∙◌, append_assoc, append-nil, length-append}
+use Rattle.std.proofs.Common.{◌≡◌, ◌<◌, ℕ, List, [], ◌∷◌, ◌++◌, length, map, arith, refl, sym, ap, subst, ◌∙◌, append_assoc, append-nil, length-append}
 use Rattle.std.proofs.Math.Seq.{drop-length}
-use Rattle.std.proofs.lemmas.List.{drop_all, drop_more, get_or-map, length-map}
 use Rattle.std.specs.List.{flat_map}
 use Rattle.std.proofs.lemmas.Grind.{flat_map-append}
 use Rattle.mesh_base.proofs.OutsideLemmas.{Grows-append, Grows-nil}
 use Rattle.mesh_types.specs.declared.report.ReportLine.{ReportLine}
-use Rattle.mesh_types.specs.declared.report.ReportLine.TheVariants as L
 use Rattle.report_definitions.specs.Report.{line_text, words_text}
 use Rattle.report_writer.specs.Handing.{HandedFront, IsHanded}
 use Rattle.report_writer.specs.Writing.{HandsLines, HandsOver, SinkView, Written, WrittenFront, WrittenUpTo}
@@ -140,31 +138,36 @@ up_to_whole lines left old new none (front, e, h) = rw (e, none, append-nil) h
 
 -- Texts of lines, one after another.
 
--- the text at place i is that of the next line
-next_text : (lines : List ReportLine) (texts : List (List ℕ)) (i : ℕ) (item text : List ℕ)
-    → texts ≡ map line_text lines → i < length texts → item ≡ get_or texts i item → text ≡ item
-    → (line : ReportLine) × (drop i lines ≡ (line ∷ []) ++ drop (i + 1) lines) × (line_text line ≡ text)
-next_text lines texts i item text same within is lent =
-    let k : i < length lines = subst (λ n. i < n) (ap length same ∙ length-map lines line_text) within in (
-      get_or lines i L.End,
-      drop_more lines i L.End k,
-      sym (get_or-map line_text lines i L.End item k) ∙ ap (λ (ts : List (List ℕ)). get_or ts i item) (sym same) ∙ sym is ∙ sym lent,
-    )
+-- of these lines some are left, whose texts these are
+abbrev pub LeftOf : List ReportLine → List (List ℕ) → SinkView → SinkView → Type 0
+LeftOf lines texts old new = (left : List ReportLine) × (map line_text left ≡ texts) × WrittenUpTo lines left old new
 
-module _ (lines : List ReportLine) (texts : List (List ℕ)) (i : ℕ) (item text : List ℕ) (old mid new : SinkView)
-    (same : texts ≡ map line_text lines) (within : i < length texts) (is : item ≡ get_or texts i item) (lent : text ≡ item)
-    (h : WrittenUpTo lines (drop i lines) old mid) where
-  pub texts_more : IsHanded text mid new → WrittenUpTo lines (drop (i + 1) lines) old new
+pub left_all : (lines : List ReportLine) (texts : List (List ℕ)) (v : SinkView) → texts ≡ map line_text lines → LeftOf lines texts v v
+left_all lines texts v same = (lines, sym same, up_to_none lines v)
+
+-- the line of the next text, and those behind it
+next_text : (left : List ReportLine) (text : List ℕ) (more : List (List ℕ)) → map line_text left ≡ text ∷ more
+    → (line : ReportLine) × ((rest : List ReportLine) × (left ≡ (line ∷ []) ++ rest) × (line_text line ≡ text) × (map line_text rest ≡ more))
+next_text [] text more e = absurd (cc e)
+next_text (line ∷ rest) text more e = (line, (rest, refl, cc e, cc e))
+
+module _ (lines : List ReportLine) (texts : List (List ℕ)) (text : List ℕ) (more : List (List ℕ)) (old mid new : SinkView)
+    (next : texts ≡ text ∷ more) (h : LeftOf lines texts old mid) where
+  pub texts_more : IsHanded text mid new → LeftOf lines more old new
   texts_more k =
-      let (line, next, e) = next_text lines texts i item text same within is lent in
-      up_to_more lines (drop i lines) (line ∷ []) (drop (i + 1) lines) old mid new next h (written_line line mid new (subst (λ t. IsHanded t mid new) (sym e) k))
+      let (left, same, upto) = h in
+      let (line, (rest, is, e, others)) = next_text left text more (same ∙ next) in
+      (rest, others, up_to_more lines left (line ∷ []) rest old mid new is upto (written_line line mid new (subst (λ t. IsHanded t mid new) (sym e) k)))
 
   pub texts_cut : HandedFront text mid new → WrittenFront lines old new
   texts_cut k =
-      let (line, next, e) = next_text lines texts i item text same within is lent in
-      up_to_cut lines (drop i lines) (line ∷ []) (drop (i + 1) lines) old mid new next h (front_of_line line mid new (subst (λ t. HandedFront t mid new) (sym e) k))
+      let (left, same, upto) = h in
+      let (line, (rest, is, e, others)) = next_text left text more (same ∙ next) in
+      up_to_cut lines left (line ∷ []) rest old mid new is upto (front_of_line line mid new (subst (λ t. HandedFront t mid new) (sym e) k))
 
-pub texts_whole : (lines : List ReportLine) (texts : List (List ℕ)) (i : ℕ) (old new : SinkView)
-    → texts ≡ map line_text lines → length texts ≤ i → WrittenUpTo lines (drop i lines) old new → Written lines old new
-texts_whole lines texts i old new same past h =
-    up_to_whole lines (drop i lines) old new (drop_all i lines (subst (λ n. n ≤ i) (ap length same ∙ length-map lines line_text) past)) h
+no_text : (left : List ReportLine) → map line_text left ≡ [] → left ≡ []
+no_text [] e = refl
+no_text (line ∷ rest) e = absurd (cc e)
+
+pub texts_whole : (lines : List ReportLine) (texts : List (List ℕ)) (old new : SinkView) → texts ≡ [] → LeftOf lines texts old new → Written lines old new
+texts_whole lines texts old new none (left, same, upto) = up_to_whole lines left old new (no_text left (same ∙ none)) upto

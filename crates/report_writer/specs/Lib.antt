@@ -3,3 +3,4 @@ pub mod Handing
 pub mod Lives
 pub mod Phases
 pub mod Reporting
+pub mod Texts

@@ -11,12 +11,12 @@ ghost use Rattle.report_writer.specs.Lives.{FitsLines, HasRoom, life_of};
 ghost use Rattle.report_writer.specs.Writing.{Written, WrittenFront, view_of};
 ghost use Rattle.report_writer.specs.declared.lives.WriteStop.TheVariants as stop;
 
+use crate::line_texts::LineTexts;
 use crate::phases::write_made;
 use mesh_base::outside::Sink;
 use mesh_types::history::{Entry, Sent};
 use mesh_types::report::{End, Opened, ReportLine};
 use node_limits::BEARERS;
-use report_lines::{LineText, write_line};
 use std::alloc::{AllocError, Global};
 
 /// A life that is over.
@@ -49,33 +49,6 @@ pub(crate) fn opened_line(number: u32, opened: Opened) -> ReportLine
     }
 }
 
-/// The line of an entry at this place, from 1 on.
-fn entry_line(at: u32, entry: &Entry) -> ReportLine
-    ensures value { result ≡ L.Entry at entry.now.bearer entry.now.number (kind_of entry.now.event) entry.now.answer }
-{
-    ReportLine::Entry {
-        at,
-        bearer: entry.bearer,
-        number: entry.number,
-        kind: entry.event.kind(),
-        answer: entry.answer.copied(),
-    }
-}
-
-/// The line of a job that this bearer did.
-fn sent_line(hex: bool, bearer: u8, sent: &Sent) -> ReportLine
-    requires room { HasRoom sent.now }
-    ensures value { result ≡ L.Sent bearer (sent.now.entry + 1) (sent.now.job + 1) sent.now.outcome hex }
-{
-    ReportLine::Sent {
-        bearer,
-        entry: sent.entry + 1,
-        job: sent.job + 1,
-        outcome: sent.outcome.copied(),
-        hex,
-    }
-}
-
 /// The line of the end, which a life that wasn't run lacks.
 fn end_line(opened: Opened, end: End) -> Option<ReportLine>
     ensures value { option_to_list result ≡ end_lines opened end }
@@ -87,85 +60,65 @@ fn end_line(opened: Opened, end: End) -> Option<ReportLine>
     }
 }
 
-/// Makes the text of a line, behind those that were made.
-pub(crate) fn push_line(
-    alloc: Global,
-    texts: &mut Vec<LineText>,
-    line: &ReportLine,
-) -> Result<(), AllocError>
-    ensures ok { OnOk result (texts.new.items ≡ texts.old.items ++ line_text line.now ∷ []) }
-{
-    texts.push(write_line(alloc, line)?)?;
-    Ok(())
-}
-
 /// Makes the text of a line for each entry, behind so many entries.
 pub(crate) fn push_entries(
-    alloc: Global,
-    texts: &mut Vec<LineText>,
+    texts: &mut LineTexts,
     first: u32,
     entries: &[Entry],
 ) -> Result<(), AllocError>
     requires few { first + length entries.now < 2 ^ 32 }
     ensures ok { OnOk result
-        (texts.new.items ≡ texts.old.items ++ map line_text (entry_lines (first + 1) entries.now)) }
+        (texts.new ≡ texts.old ++ map line_text (entry_lines (first + 1) entries.now)) }
 {
     let mut at = first;
     for entry in entries {
         at += 1;
-        push_line(alloc, texts, &entry_line(at, entry))?;
+        texts.push_entry(at, entry)?;
     }
     Ok(())
 }
 
 /// Makes the text of a line for each job that a bearer did.
 fn push_bearer(
-    alloc: Global,
-    texts: &mut Vec<LineText>,
+    texts: &mut LineTexts,
     hex: bool,
     bearer: u8,
     sends: &[Sent],
 ) -> Result<(), AllocError>
     requires room { All HasRoom sends.now }
-    ensures ok { OnOk result (texts.new.items ≡ texts.old.items ++ map line_text (bearer_lines hex bearer sends.now)) }
+    ensures ok { OnOk result (texts.new ≡ texts.old ++ map line_text (bearer_lines hex bearer sends.now)) }
 {
     for sent in sends {
-        push_line(alloc, texts, &sent_line(hex, bearer, sent))?;
+        texts.push_sent(hex, bearer, sent)?;
     }
     Ok(())
 }
 
 /// Makes the text of a line for each job, bearer by bearer.
 pub(crate) fn push_sends(
-    alloc: Global,
-    texts: &mut Vec<LineText>,
+    texts: &mut LineTexts,
     hex: bool,
     sends: &[Vec<Sent>],
 ) -> Result<(), AllocError>
     requires few { length sends.now ≤ BEARERS }
     requires room { All (All HasRoom) (map (λ v. v.items) sends.now) }
     ensures ok { OnOk result
-        (texts.new.items ≡ texts.old.items ++ map line_text (send_lines hex 0 (map (λ v. v.items) sends.now))) }
+        (texts.new ≡ texts.old ++ map line_text (send_lines hex 0 (map (λ v. v.items) sends.now))) }
 {
     let mut bearer: u8 = 0;
     for sent in sends {
-        push_bearer(alloc, texts, hex, bearer, sent.as_slice())?;
+        push_bearer(texts, hex, bearer, sent.as_slice())?;
         bearer += 1;
     }
     Ok(())
 }
 
 /// Makes the text of the line of the end, if there is one.
-pub(crate) fn push_end(
-    alloc: Global,
-    texts: &mut Vec<LineText>,
-    opened: Opened,
-    end: End,
-) -> Result<(), AllocError>
-    ensures ok { OnOk result (texts.new.items ≡ texts.old.items ++ map line_text (end_lines opened end)) }
+pub(crate) fn push_end(texts: &mut LineTexts, opened: Opened, end: End) -> Result<(), AllocError>
+    ensures ok { OnOk result (texts.new ≡ texts.old ++ map line_text (end_lines opened end)) }
 {
     match end_line(opened, end) {
-        Some(line) => push_line(alloc, texts, &line),
+        Some(line) => texts.push_line(&line),
         None => Ok(()),
     }
 }
@@ -176,15 +129,15 @@ fn life_texts(
     hex: bool,
     number: u32,
     life: &EndedLife,
-) -> Result<Vec<LineText>, AllocError>
+) -> Result<LineTexts, AllocError>
     requires room { FitsLines (life_of life.now) }
-    ensures value { IfOk result (λ texts. texts.items ≡ map line_text (life_lines hex number (life_of life.now))) }
+    ensures value { IfOk result (λ texts. texts ≡ map line_text (life_lines hex number (life_of life.now))) }
 {
-    let mut texts = Vec::new(alloc);
-    push_line(alloc, &mut texts, &opened_line(number, life.opened))?;
-    push_entries(alloc, &mut texts, 0, life.entries.as_slice())?;
-    push_sends(alloc, &mut texts, hex, life.sends.as_slice())?;
-    push_end(alloc, &mut texts, life.opened, life.end)?;
+    let mut texts = LineTexts::new(alloc);
+    texts.push_line(&opened_line(number, life.opened))?;
+    push_entries(&mut texts, 0, life.entries.as_slice())?;
+    push_sends(&mut texts, hex, life.sends.as_slice())?;
+    push_end(&mut texts, life.opened, life.end)?;
     Ok(texts)
 }
 
@@ -200,8 +153,9 @@ pub enum WriteStop {
 /// Writes the report of a life that is over, line by line: each line is handed to the sink as one piece, and what the sink left of it before
 /// the next line. The life has the number `number`, from 1 on. With `hex` the octets of network PDUs are shown.
 ///
-/// The texts of all lines are made before the first is written, so want of memory leaves the sink as it was. They take some 200 octets a
-/// line, and more where a line is longer: so some 1.6 MiB for the 8,194 report lines of a life of 4,096 `raw` events.
+/// The texts of all lines are made before the first is written, so want of memory leaves the sink as it was. They stand one behind another in
+/// one text, which takes at most twice their octets, and 8 octets a line more: so some 1 MiB for the 8,194 report lines of a life of 4,096 `raw`
+/// events.
 ///
 /// # Errors
 ///

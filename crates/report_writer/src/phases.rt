@@ -9,22 +9,22 @@ ghost use Rattle.report_writer.specs.Phases.{FitsPhase, phase_lines};
 ghost use Rattle.report_writer.specs.Writing.{Written, WrittenFront, view_of};
 ghost use Rattle.report_writer.specs.declared.lives.WriteStop.TheVariants as stop;
 
-use crate::lives::{WriteStop, opened_line, push_end, push_entries, push_line, push_sends};
+use crate::line_texts::LineTexts;
+use crate::lives::{WriteStop, opened_line, push_end, push_entries, push_sends};
 use crate::printing::write_texts;
 use mesh_base::outside::Sink;
 use mesh_types::history::{Entry, Sent};
 use mesh_types::report::{End, Opened};
-use report_lines::LineText;
 use std::alloc::{AllocError, Global};
 
 /// Writes the texts of lines, if there was memory for them. It says what `write_life` says of its lines.
 pub(crate) fn write_made<K: Sink>(
     sink: &mut K,
-    made: Result<Vec<LineText>, AllocError>,
+    made: Result<LineTexts, AllocError>,
 ) -> Result<(), WriteStop>
-    ensures ok { (lines : List Line) → IfOk made (λ texts. texts.items ≡ map line_text lines)
+    ensures ok { (lines : List Line) → IfOk made (λ texts. texts ≡ map line_text lines)
         → OnOk result (Written lines (view_of K.held K.pieces sink.old) (view_of K.held K.pieces sink.new)) }
-    ensures err { (lines : List Line) → IfOk made (λ texts. texts.items ≡ map line_text lines)
+    ensures err { (lines : List Line) → IfOk made (λ texts. texts ≡ map line_text lines)
         → OnErr result (WrittenFront lines (view_of K.held K.pieces sink.old) (view_of K.held K.pieces sink.new)) }
     ensures memory { result ≡ Err stop.Memory → sink.new ≡ sink.old }
     ensures cause { result ≡ Err stop.Fault → Rose (K.faults sink.old) (K.faults sink.new) }
@@ -35,18 +35,18 @@ pub(crate) fn write_made<K: Sink>(
         Ok(texts) => texts,
         Err(_) => return Err(WriteStop::Memory),
     };
-    match write_texts(sink, texts.as_slice()) {
+    match write_texts(sink, &texts) {
         Ok(()) => Ok(()),
         Err(_) => Err(WriteStop::Fault),
     }
 }
 
 /// The text of the line of an opening.
-fn opening_text(alloc: Global, number: u32, opened: Opened) -> Result<Vec<LineText>, AllocError>
-    ensures value { IfOk result (λ texts. texts.items ≡ map line_text (opened_line number opened ∷ [])) }
+fn opening_text(alloc: Global, number: u32, opened: Opened) -> Result<LineTexts, AllocError>
+    ensures value { IfOk result (λ texts. texts ≡ map line_text (opened_line number opened ∷ [])) }
 {
-    let mut texts = Vec::new(alloc);
-    push_line(alloc, &mut texts, &opened_line(number, opened))?;
+    let mut texts = LineTexts::new(alloc);
+    texts.push_line(&opened_line(number, opened))?;
     Ok(texts)
 }
 
@@ -57,23 +57,23 @@ fn phase_texts(
     first: u32,
     entries: &[Entry],
     sends: &[Vec<Sent>],
-) -> Result<Vec<LineText>, AllocError>
+) -> Result<LineTexts, AllocError>
     requires room { FitsPhase first entries.now (map (λ v. v.items) sends.now) }
     ensures value { IfOk result
-        (λ texts. texts.items ≡ map line_text (phase_lines hex first entries.now (map (λ v. v.items) sends.now))) }
+        (λ texts. texts ≡ map line_text (phase_lines hex first entries.now (map (λ v. v.items) sends.now))) }
 {
-    let mut texts = Vec::new(alloc);
-    push_entries(alloc, &mut texts, first, entries)?;
-    push_sends(alloc, &mut texts, hex, sends)?;
+    let mut texts = LineTexts::new(alloc);
+    push_entries(&mut texts, first, entries)?;
+    push_sends(&mut texts, hex, sends)?;
     Ok(texts)
 }
 
 /// The text of the line of an end, where there is one.
-fn end_text(alloc: Global, opened: Opened, end: End) -> Result<Vec<LineText>, AllocError>
-    ensures value { IfOk result (λ texts. texts.items ≡ map line_text (end_lines opened end)) }
+fn end_text(alloc: Global, opened: Opened, end: End) -> Result<LineTexts, AllocError>
+    ensures value { IfOk result (λ texts. texts ≡ map line_text (end_lines opened end)) }
 {
-    let mut texts = Vec::new(alloc);
-    push_end(alloc, &mut texts, opened, end)?;
+    let mut texts = LineTexts::new(alloc);
+    push_end(&mut texts, opened, end)?;
     Ok(texts)
 }
 

@@ -8,8 +8,8 @@ ghost use Rattle.report_definitions.specs.Report.{line_text};
 ghost use Rattle.report_writer.specs.Handing.{HandedFront, IsHanded};
 ghost use Rattle.report_writer.specs.Writing.{Written, WrittenFront, view_of};
 
+use crate::line_texts::LineTexts;
 use mesh_base::outside::{Failed, Sink};
-use report_lines::LineText;
 
 /// Hands a text to the sink as one piece, and what the sink left of it again, until it took all.
 ///
@@ -39,7 +39,7 @@ pub fn write_text<K: Sink>(sink: &mut K, text: &[u8]) -> Result<(), Failed>
 /// # Errors
 ///
 /// `Failed` only where the sink's count of faults rose. A front of the texts may have been written then.
-pub(crate) fn write_texts<K: Sink>(sink: &mut K, texts: &[LineText]) -> Result<(), Failed>
+pub(crate) fn write_texts<K: Sink>(sink: &mut K, texts: &LineTexts) -> Result<(), Failed>
     ensures ok { (lines : List ReportLine) → texts.now ≡ map line_text lines
         → OnOk result (Written lines (view_of K.held K.pieces sink.old) (view_of K.held K.pieces sink.new)) }
     ensures err { (lines : List ReportLine) → texts.now ≡ map line_text lines
@@ -48,11 +48,14 @@ pub(crate) fn write_texts<K: Sink>(sink: &mut K, texts: &[LineText]) -> Result<(
     ensures no_fault { OnOk result (K.faults sink.new ≡ K.faults sink.old) }
     ensures later { K.faults sink.old ≤ K.faults sink.new }
 {
-    for text in texts {
-        match write_text(sink, text.as_slice()) {
+    let (mut rest, lengths) = texts.parts();
+    for length in lengths {
+        let (text, more) = rest.split_at(*length);
+        match write_text(sink, text) {
             Ok(()) => {}
             Err(failed) => return Err(failed),
         }
+        rest = more;
     }
     Ok(())
 }

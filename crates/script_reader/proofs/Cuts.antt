@@ -1,8 +1,8 @@
 -- A text cut at its first LF.
-use Rattle.std.proofs.Common.{◌≡◌, ℕ, ◌+◌, ◌<◌, Bool, true, false, ◌==◌, List, [], ◌∷◌, ◌++◌, length, get_or, take, drop, All, refl, sym, ap, ◌∙◌, inl, inr, take-append-drop, not, map, filter, if◌then◌else◌, Bor}
+use Rattle.std.proofs.Common.{◌≡◌, ℕ, ◌+◌, ◌<◌, Bool, true, false, ◌==◌, List, [], ◌∷◌, ◌++◌, length, get_or, take, drop, All, refl, sym, ap, ◌∙◌, inl, inr, take-append-drop, append_assoc, append-nil, not, filter, if◌then◌else◌}
 use Rattle.std.specs.List.{slice_split, onto_first}
 use Rattle.std.proofs.lemmas.Bool.{cases_Bool, cond-true, cond-false}
-use Rattle.std.proofs.lemmas.List.{drop_more, take_more, take-map, map-append}
+use Rattle.std.proofs.lemmas.List.{drop_more, take_more}
 use Rattle.std.proofs.lemmas.List.Elements.{All-head, All-tail, All-push, filter-append}
 use Rattle.script_definitions.specs.Words.{pieces, without_cr, before_lf, lines_of}
 
@@ -46,18 +46,16 @@ pub no_more : (p : ℕ → Bool) (xs : List ℕ) (i : ℕ) → i < length xs →
 no_more p xs i lt e h = rw (take_more xs i 0 lt) (All-push (λ x. p x ≡ false) (take i xs) (get_or xs i 0) h e)
 
 -- one more piece: a word, unless it is empty
-pub word_more : (items : List (Bor (List ℕ))) (i : ℕ) (d : Bor (List ℕ)) (old : List (List ℕ)) → i < length items
-    → old ≡ filter (λ w. not (length w == 0)) (take i (map (λ p. p.now) items))
-    → old ++ (if not (length (get_or items i d).now == 0) then (get_or items i d).now ∷ [] else [])
-    ≡ filter (λ w. not (length w == 0)) (take (i + 1) (map (λ p. p.now) items))
-word_more items i d old lt f =
+pub word_more : (old new : List (List ℕ)) (piece : List ℕ) (more pieces all : List (List ℕ)) → pieces ≡ piece ∷ more
+    → new ≡ old ++ (if not (length piece == 0) then piece ∷ [] else [])
+    → old ++ filter (λ w. not (length w == 0)) pieces ≡ all → new ++ filter (λ w. not (length w == 0)) more ≡ all
+word_more old new piece more pieces all e f h =
     let p : List ℕ → Bool = λ w. not (length w == 0) in
-    let now : Bor (List ℕ) → List ℕ = λ b. b.now in
-    let piece : Bor (List ℕ) = get_or items i d in
-    let more : take (i + 1) (map now items) ≡ take i (map now items) ++ piece.now ∷ [] =
-    take-map now (i + 1) items ∙ ap (map now) (take_more items i d lt)
-    ∙ map-append now (take i items) (piece ∷ []) ∙ ap (λ ws. ws ++ piece.now ∷ []) (sym (take-map now i items)) in
-    ap (λ ws. ws ++ (if p piece.now then piece.now ∷ [] else [])) f ∙ sym (ap (filter p) more ∙ filter-append p (take i (map now items)) (piece.now ∷ []))
+    rw (f, append_assoc) (ap (λ (v : List (List ℕ)). old ++ v) (sym (filter-append p (piece ∷ []) more) ∙ ap (filter p) (sym e)) ∙ h)
+
+-- no piece is left
+pub words_end : (old all : List (List ℕ)) → old ++ [] ≡ all → old ≡ all
+words_end old all h = sym (append-nil old) ∙ h
 
 -- a piece before another one
 before_more : (piece : List ℕ) (ps : List (List ℕ)) (first : List ℕ) (rest : List (List ℕ)) → ps ≡ first ∷ rest

@@ -27,9 +27,9 @@ fn bearer_count(grammar: Grammar) -> u8
     }
 }
 
-/// K of a word `bK`.
+/// K of a word `bK`, below the number of bearers of the grammar; None where the word is no such word.
 #[tactic(auto, unfolding(script_definitions::specs::Kinds::bearer_word))]
-fn bearer(grammar: Grammar, word: &[u8]) -> Option<u8>
+pub fn bearer(grammar: Grammar, word: &[u8]) -> Option<u8>
     ensures value { result ≡ bearer_word grammar word.now }
     ensures bound { IfSome result (λ k. k < bearer_count grammar) }
 {
@@ -44,9 +44,9 @@ fn bearer(grammar: Grammar, word: &[u8]) -> Option<u8>
     }
 }
 
-/// What happens on a bearer, by the second word of its line.
+/// What happens on a bearer, by the second word of its line; None where there is no such word.
 #[tactic(auto, unfolding(script_definitions::specs::Kinds::event_word))]
-fn event(word: &[u8]) -> Option<EventKind>
+pub fn event(word: &[u8]) -> Option<EventKind>
     ensures value { result ≡ event_word word.now }
 {
     if word == b"net".as_slice() {

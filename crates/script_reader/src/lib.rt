@@ -8,10 +8,12 @@
 //! - `forms`, `digits`: what one word stands for
 //! - `words`: a text cut into lines, and a line into words
 //!
+//! `counted`, `words` and two calls of `reading` are what a reader of single lines needs (`live_lines`).
+//!
 //! A caller to begin with: `run_text` in `crates/mesh_run/src/scripts.rt`; `worked/refused.texts` has texts on both sides of each rule.
 #![tactic(auto)]
 
-mod counted;
+pub mod counted;
 pub mod digits;
 mod draft;
 mod event_lines;
@@ -19,6 +21,6 @@ pub mod forms;
 mod node_lines;
 mod outside_lines;
 pub mod reading;
-mod words;
+pub mod words;
 
 pub use crate::reading::{LONGEST_SCRIPT, ScriptStop, read_low_power_script, read_script};

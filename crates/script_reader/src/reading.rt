@@ -11,7 +11,7 @@ ghost use Rattle.script_reader.specs.Stops.{IsFault};
 
 use crate::counted::{Rule, counted_line};
 use crate::draft::Draft;
-use crate::words::{begins_with, cut_line, first_word, words_of};
+use crate::words::{begins_with, cut_line, first_word, read_words};
 use node_limits::{LINE_OCTETS, SCRIPT_OCTETS};
 use script_definitions::kind::Grammar;
 use script_definitions::line::CountedLine;
@@ -47,7 +47,7 @@ fn is_printable(line: &[u8]) -> bool
 
 /// Whether a line has at most 1,200 octets, each of 20 to 7e.
 #[tactic(auto, unfolding(script_definitions::specs::Reading::has_form))]
-fn has_form(line: &[u8]) -> bool
+pub fn has_form(line: &[u8]) -> bool
     ensures value { result ≡ has_form line.now }
 {
     line.len() <= LINE_OCTETS && is_printable(line)
@@ -55,7 +55,7 @@ fn has_form(line: &[u8]) -> bool
 
 /// Whether a line is neither empty nor a comment.
 #[tactic(auto, unfolding(script_definitions::specs::Reading::is_counted))]
-fn is_counted(line: &[u8]) -> bool
+pub fn is_counted(line: &[u8]) -> bool
     ensures value { result ≡ is_counted line.now }
 {
     line.len() >= 1 && !begins_with(line, b'#')
@@ -118,12 +118,14 @@ fn words_read(
 }
 
 /// What a line makes of the script that the lines above it are, or the rule that fails. There is none as long as no line counts.
+/// The words that it had before are let go.
 #[tactic(auto, unfolding(script_definitions::specs::Reading::line_read))]
-fn line_read(
+fn line_read<'a>(
     alloc: Global,
     grammar: Grammar,
     above: Option<Draft>,
-    line: &[u8],
+    words: &mut Vec<&'a [u8]>,
+    line: &'a [u8],
 ) -> Result<Result<Option<Draft>, Rule>, AllocError>
     requires { IfSome above (IsScriptOf grammar) }
     ensures value { IfOk result (λ r. r ≡ line_read grammar above line.now) }
@@ -135,7 +137,7 @@ fn line_read(
     if !is_counted(line) {
         return Ok(Ok(above));
     }
-    let words = words_of(alloc, line)?;
+    read_words(words, line)?;
     match words_read(alloc, grammar, above, words.as_slice())? {
         Ok(draft) => Ok(Ok(Some(draft))),
         Err(rule) => Ok(Err(rule)),
@@ -150,12 +152,13 @@ fn read(alloc: Global, grammar: Grammar, bytes: &[u8]) -> Result<Script, ScriptS
     ensures ranges { IfOk result (IsScriptOf grammar) }
 {
     let mut rest = Some(bytes);
+    let mut words = Vec::new(alloc);
     let mut above = None;
     let mut number: u32 = 0;
     while let Some(text) = rest {
         let (line, more) = cut_line(text);
         number += 1;
-        above = match line_read(alloc, grammar, above, line) {
+        above = match line_read(alloc, grammar, above, &mut words, line) {
             Ok(Ok(next)) => next,
             Ok(Err(rule)) => return Err(ScriptStop::Fault { line: number, rule }),
             Err(_) => return Err(ScriptStop::Memory),

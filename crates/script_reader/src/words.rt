@@ -9,7 +9,7 @@ ghost use Rattle.script_definitions.specs.Words.{lines_of, without_cr, begins_wi
 use std::alloc::{AllocError, Global};
 
 /// What stands before an LF, without a CR directly before it.
-fn without_cr(piece: &[u8]) -> &[u8]
+pub fn without_cr(piece: &[u8]) -> &[u8]
     ensures value { result.now ≡ without_cr piece.now }
 {
     if ends_with(piece, b'\r') {
@@ -32,11 +32,17 @@ pub fn cut_line(text: &[u8]) -> (&[u8], Option<&[u8]>)
     (text, None)
 }
 
-/// The pieces of a line that its spaces part.
-fn pieces(alloc: Global, line: &[u8]) -> Result<Vec<&[u8]>, AllocError>
-    ensures value { IfOk result (λ v. map (λ p. p.now) v.items ≡ pieces 32 line.now) }
+/// The first piece of a line that its spaces part, and the line behind that space; None where it is the last piece.
+fn cut_piece(line: &[u8]) -> (&[u8], Option<&[u8]>)
+    ensures value { pieces 32 line.now ≡ result.0.now ∷ option_map_or (λ more. pieces 32 more.now) result.1 [] }
+    ensures shorter { IfSome result.1 (λ more. length more.now < length line.now) }
 {
-    line.split(|b| *b == b' ').collect(alloc)
+    for (at, b) in line.iter().enumerate() {
+        if *b == b' ' {
+            return (&line[..at], Some(&line[at + 1..]));
+        }
+    }
+    (line, None)
 }
 
 /// Puts a piece behind the words, unless it is empty.
@@ -51,38 +57,29 @@ fn push_word<'a>(words: &mut Vec<&'a [u8]>, piece: &'a [u8]) -> Result<(), Alloc
     Ok(())
 }
 
-/// The same, but the empty ones.
-fn whole_words(alloc: Global, line: &[u8]) -> Result<Vec<&[u8]>, AllocError>
-    ensures value { IfOk result (λ v. map (λ w. w.now) v.items ≡ whole_words line.now) }
+/// Puts the pieces of a line behind the words, but the empty ones.
+fn push_whole_words<'a>(words: &mut Vec<&'a [u8]>, line: &'a [u8]) -> Result<(), AllocError>
+    ensures ok { OnOk result
+        (map (λ w. w.now) words.new.items ≡ map (λ w. w.now) words.old.items ++ whole_words line.now) }
 {
-    let pieces = pieces(alloc, line)?;
-    let mut words = Vec::new(alloc);
-    for piece in &pieces {
-        push_word(&mut words, *piece)?;
+    let mut rest = Some(line);
+    while let Some(text) = rest {
+        let (piece, more) = cut_piece(text);
+        push_word(words, piece)?;
+        rest = more;
     }
-    Ok(words)
+    Ok(())
 }
 
-/// The words with an empty one behind them, where it is wanted.
-fn ended<'a>(mut words: Vec<&'a [u8]>, wanted: bool) -> Result<Vec<&'a [u8]>, AllocError>
-    ensures value { IfOk result
-        (λ v. map (λ w. w.now) v.items ≡ map (λ w. w.now) words.entry.items ++ (if wanted then [] ∷ [] else [])) }
+/// Puts an empty word behind the others, where it is wanted.
+fn push_empty<'a>(words: &mut Vec<&'a [u8]>, wanted: bool) -> Result<(), AllocError>
+    ensures ok { OnOk result
+        (map (λ w. w.now) words.new.items ≡ map (λ w. w.now) words.old.items ++ (if wanted then [] ∷ [] else [])) }
 {
     if wanted {
         words.push(b"".as_slice())?;
     }
-    Ok(words)
-}
-
-/// The words with an empty one before them, where it is wanted.
-fn begun<'a>(mut words: Vec<&'a [u8]>, wanted: bool) -> Result<Vec<&'a [u8]>, AllocError>
-    ensures value { IfOk result
-        (λ v. map (λ w. w.now) v.items ≡ (if wanted then [] ∷ [] else []) ++ map (λ w. w.now) words.entry.items) }
-{
-    if wanted {
-        words.insert(0, b"".as_slice())?;
-    }
-    Ok(words)
+    Ok(())
 }
 
 /// Whether a text begins with an octet that isn't 0.
@@ -101,15 +98,27 @@ fn ends_with(text: &[u8], c: u8) -> bool
     text.len() > 0 && text[text.len() - 1] == c
 }
 
-/// The words of a line.
+/// Makes these the words of a line, in place of those of the line before: one or more spaces part two; spaces before the first word or behind the
+/// last make an empty word there, and a line of spaces alone is one empty word.
 #[tactic(auto, unfolding(script_definitions::specs::Words::words_of))]
+pub fn read_words<'a>(words: &mut Vec<&'a [u8]>, line: &'a [u8]) -> Result<(), AllocError>
+    ensures ok { OnOk result (map (λ w. w.now) words.new.items ≡ words_of line.now) }
+{
+    words.clear();
+    push_empty(words, begins_with(line, b' '))?;
+    let before = words.len();
+    push_whole_words(words, line)?;
+    let open = ends_with(line, b' ') && words.len() != before;
+    push_empty(words, open)
+}
+
+/// The words of a line, in a list of its own.
 pub fn words_of(alloc: Global, line: &[u8]) -> Result<Vec<&[u8]>, AllocError>
     ensures value { IfOk result (λ v. map (λ w. w.now) v.items ≡ words_of line.now) }
 {
-    let words = whole_words(alloc, line)?;
-    let open = ends_with(line, b' ') && words.len() != 0;
-    let words = ended(words, open)?;
-    begun(words, begins_with(line, b' '))
+    let mut words = Vec::new(alloc);
+    read_words(&mut words, line)?;
+    Ok(words)
 }
 
 /// The word at a place, counted from 0.

@@ -6,5 +6,5 @@ use Rattle.report_writer.proofs.lives.push_entries.Given as goal
 abbrev pub invariant-loop-entry : goal.invariant-loop-entry
 invariant-loop-entry l = record {
   place : l.at ≡ l.first + l.entry-index;
-  texts : MadeUpTo (entry_lines (l.first + 1) l.entries) (entry_lines (l.first + l.entry-index + 1) (drop l.entry-index l.entries)) l.fn.texts.items l.texts.items;
+  texts : MadeUpTo (entry_lines (l.first + 1) l.entries) (entry_lines (l.first + l.entry-index + 1) (drop l.entry-index l.entries)) l.fn.texts l.texts;
 }

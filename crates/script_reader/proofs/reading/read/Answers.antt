@@ -29,5 +29,5 @@ pub returns-in-Some-above-clause-ok : goal.returns-in-Some-above-clause-ok
 returns-in-Some-above-clause-ok c =
     rw c.into_script.ensures.value (end_some _ _ _ _ (rw (c.in_default.is, c.in-Some-above.is) at c.loop-rest.invariant.said))
 
-pub returns-in-None-clause-cause : goal.returns-in-None-clause-cause
-returns-in-None-clause-cause c = end_none _ _ _ (rw (c.in_default.is, c.in-None.is) at c.loop-rest.invariant.said)
+pub returns-clause-cause : goal.returns-clause-cause
+returns-clause-cause c = end_none _ _ _ (rw (c.in_default.is, c.in-None.is) at c.loop-rest.invariant.said)

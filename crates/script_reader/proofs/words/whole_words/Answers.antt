@@ -1,6 +1,0 @@
-use Rattle.std.proofs.Common.{◌∙◌}
-use Rattle.script_reader.proofs.Cuts.{word_more}
-use Rattle.script_reader.proofs.words.whole_words.Goals as goal
-
-pub loop-piece-preserved : goal.loop-piece-preserved
-loop-piece-preserved c = c.in_ok-push_word.ensures.ok ∙ word_more _ _ _ _ c.loop-piece-test.true c.loop-piece.invariant
