@@ -1,5 +1,5 @@
 -- A run whose lives are counted, and its summary written behind them.
-use Rattle.std.proofs.Common.{◌≡◌, ℕ, List, [], subst, Option, Some, None}
+use Rattle.std.proofs.Common.{◌≡◌, ℕ, List, [], subst, Option, Some, None, inl, inr}
 use Rattle.std.specs.Prelude.{IsSomeAnd}
 use Rattle.event_definitions.specs.Role.{Role}
 use Rattle.flash_model.specs.Chip.{Chip}
@@ -12,7 +12,9 @@ use Rattle.run_summary.specs.Counting.{Counts}
 use Rattle.run_summary.specs.Summaries.{summary_of, summary_text}
 use Rattle.run_summary.specs.Telling.{Summarizes, SummarizesFront}
 use Rattle.run_summary.specs.declared.summary.Summary.{Summary}
-use Rattle.mesh_run.specs.Ran.{FromProvisioned, Ran, RanFirst, RanFront}
+use Rattle.mesh_run.proofs.Ends.{first_as}
+use Rattle.mesh_run.specs.Ran.{FromProvisioned, Ran, RanFirst, RanFirstOrAll, RanFront}
+use Rattle.mesh_run.specs.Reporting.{Unwritten}
 
 module _ (first now : Summary) (lives : List LifeOver) (before mid after : SinkView) (none : first ≡ summary_of []) (told : (mid ≡ before) × Counts first now lives) where
   -- the summary that was written is that of the lives that were counted
@@ -60,3 +62,21 @@ module _ {F : Type 0} (chip : F → Chip) (role : Role) (s : Script) (format : �
       → (left : Option F) → IsSomeAnd left (λ f. FromProvisioned chip format records given (λ start. Ran chip role s T start before f after)) → after ≡ before
   silent_all T after into None h = absurd h
   silent_all T after into (Some f) h = into h.ran.run.lives h.ran.report
+
+  -- the first lives were told of, and nothing was written
+  pub first_unwritten : (T : List LifeOver → SinkView → SinkView → Type 0) → ((lives : List LifeOver) (old new : SinkView) → T lives old new → new ≡ old)
+      → (after : SinkView) (left : Option F) → FromProvisioned chip format records given (λ start. RanFirst chip role s T start before left after)
+      → FromProvisioned chip format records given (λ start. RanFirstOrAll chip role s Unwritten start before left after)
+  first_unwritten T into after left h = record {
+    start = h.start;
+    provisioned = h.provisioned;
+    ran = inl (first_as chip role s T Unwritten into h.start before left after h.ran);
+  }
+
+  -- all lives were told of, and nothing was written
+  pub all_unwritten : (T : List LifeOver → SinkView → SinkView → Type 0) (mid after : SinkView) → ((lives : List LifeOver) → T lives before mid → after ≡ before)
+      → (left : Option F) → IsSomeAnd left (λ f. FromProvisioned chip format records given (λ start. Ran chip role s T start before f mid))
+      → FromProvisioned chip format records given (λ start. RanFirstOrAll chip role s Unwritten start before left after)
+  all_unwritten T mid after into None h = absurd h
+  all_unwritten T mid after into (Some f) h =
+      record { start = h.start; provisioned = h.provisioned; ran = inr (ran_then T Unwritten mid after into h.start f h.ran) }

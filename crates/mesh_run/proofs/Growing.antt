@@ -30,8 +30,8 @@ lives_more role (p ∷ ps) (y ∷ ys) plan x next (first, h) l =
 
 -- a life behind lives that were run one after another
 pub chained_more : {F : Type 0} (chip : F → Chip) (role : Role) (plans : List (List Step)) (xs : List LifeOver) (plan : List Step) (x : LifeOver) (start mid left : F)
-    → Chained chip role plans start xs mid → Lived role plan (chip mid) x (chip left) → Chained chip role (plans ++ plan ∷ []) start (xs ++ x ∷ []) left
-chained_more chip role [] [] plan x start mid left h l = (left, subst (λ f. Lived role plan (chip f) x (chip left)) h l, refl)
+    → Chained chip role plans start xs mid → Lived chip role plan (chip mid) x left → Chained chip role (plans ++ plan ∷ []) start (xs ++ x ∷ []) left
+chained_more chip role [] [] plan x start mid left h l = (left, subst (λ f. Lived chip role plan (chip f) x left) h l, refl)
 chained_more chip role [] (y ∷ ys) plan x start mid left h l = absurd h
 chained_more chip role (p ∷ ps) [] plan x start mid left h l = absurd h
 chained_more chip role (p ∷ ps) (y ∷ ys) plan x start mid left (next, first, h) l =

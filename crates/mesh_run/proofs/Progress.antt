@@ -101,7 +101,7 @@ reached plan (F.Cut n) (Some a) changes of_plan (inr most) calls cut = (a.calls,
 -- The life of this script at this place was run, on the flash that the lives before it left.
 module _ {F : Type 0} (chip : F → Chip) (s : Script) (start old new : F) (i : ℕ) (lives : List LifeOver) (x : LifeOver)
     (ran : RanAll chip role (first_lives i s) start lives old) (same : IsSameFlash (chip start) (chip old)) (counts : CountsNow (chip old))
-    (within : i < length s.lives) (h : Lived role (slice_index_or s.lives i []) (chip old) x (chip new)) where
+    (within : i < length s.lives) (h : Lived chip role (slice_index_or s.lives i []) (chip old) x new) where
   abbrev plan : List Step
   plan = slice_index_or s.lives i []
 
@@ -169,7 +169,7 @@ module _ {F : Type 0} (chip : F → Chip) (s : Script) (start old new : F) (i : 
 
 -- and it was told, behind the others
 pub progress_more : {F : Type 0} (chip : F → Chip) (s : Script) (told more : List LifeOver → SinkView → SinkView → Type 0) (start old new : F) (before mid after : SinkView) (i : ℕ) (x : LifeOver)
-    → (p : Progress chip s told start before i old mid) → CountsNow (chip old) → i < length s.lives → Lived role (slice_index_or s.lives i []) (chip old) x (chip new)
+    → (p : Progress chip s told start before i old mid) → CountsNow (chip old) → i < length s.lives → Lived chip role (slice_index_or s.lives i []) (chip old) x new
     → more (p.lives ++ x ∷ []) before after → Progress chip s more start before (i + 1) new after
 progress_more chip s told more start old new before mid after i x p counts within h report = record {
   lives = p.lives ++ x ∷ [];
@@ -182,7 +182,7 @@ progress_more chip s told more start old new before mid after i x p counts withi
 -- a front of what is told of it was told
 pub front_more : {F : Type 0} (chip : F → Chip) (s : Script) (told : List LifeOver → SinkView → SinkView → Type 0) (broken : ℕ → Life → SinkView → SinkView → Type 0)
     (start old new : F) (before mid after : SinkView) (i : ℕ) (x : LifeOver)
-    → Progress chip s told start before i old mid → CountsNow (chip old) → i < length s.lives → Lived role (slice_index_or s.lives i []) (chip old) x (chip new)
+    → Progress chip s told start before i old mid → CountsNow (chip old) → i < length s.lives → Lived chip role (slice_index_or s.lives i []) (chip old) x new
     → (chip new).images (chip new).now → broken (i + 1) x.life mid after → RanFront chip role s told broken start before new after
 front_more chip s told broken start old new before mid after i x p counts within h image front =
     let ran = ran_more chip s start old new i p.lives x p.ran p.same counts within h in
@@ -192,7 +192,7 @@ front_more chip s told broken start old new before mid after i x p counts within
 -- nothing was told of it
 pub first_more_left : {F : Type 0} (chip : F → Chip) (s : Script) (told : List LifeOver → SinkView → SinkView → Type 0)
     (start old new : F) (before mid : SinkView) (i : ℕ) (x : LifeOver)
-    → Progress chip s told start before i old mid → CountsNow (chip old) → i < length s.lives → Lived role (slice_index_or s.lives i []) (chip old) x (chip new)
+    → Progress chip s told start before i old mid → CountsNow (chip old) → i < length s.lives → Lived chip role (slice_index_or s.lives i []) (chip old) x new
     → (chip old).images (chip old).now → RanFirst chip role s told start before (Some new) mid
 first_more_left chip s told start old new before mid i x p counts within h image =
     let (last, run) = ran_run chip (first_lives i s) start old p.lives image p.ran in

@@ -81,6 +81,13 @@ pub record RanFirst {F : Type 0} (chip : F → Chip) (role : Role) (s : Script) 
   pub more : IfSome left
       (λ f. (x : LifeOver) × RanAll chip role (first_lives (n + 1) s) start (run.lives ++ x ∷ []) f)
 
+-- The first lives of the script were told, as above, or all of them.
+abbrev pub RanFirstOrAll : {F : Type 0} → (F → Chip) → Role → Script → (List LifeOver → SinkView → SinkView → Type 0)
+    → F → SinkView → Option F → SinkView → Type 0
+RanFirstOrAll {F} chip role s told start before left after =
+    RanFirst chip role s told start before left after
+    ⊎ IsSomeAnd left (λ f. Ran chip role s told start before f after)
+
 -- The lives of the script were run up to one that wasn't told to its end: those before it were, and of this one a front of what is told
 -- stands behind them.
 pub record RanFront {F : Type 0} (chip : F → Chip) (role : Role) (s : Script) (told : List LifeOver → SinkView → SinkView → Type 0)

@@ -14,8 +14,10 @@ ghost use Rattle.run_summary.specs.Telling.{Summarizes, SummarizesFront};
 ghost use Rattle.script_generator.specs.Generated.{generated};
 ghost use Rattle.store_definitions.specs.Provisioning.{provisioned};
 ghost use Rattle.mesh_run.specs.Causes.{IsBeforeLives, IsErasedFlash, IsFromFlash, IsSameFlash, IsSumEnd, IsWrittenAt, WasErased};
-ghost use Rattle.mesh_run.specs.Ran.{FromProvisioned, Ran};
+ghost use Rattle.mesh_run.specs.Ran.{FromProvisioned, Ran, RanFirstOrAll};
+ghost use Rattle.mesh_run.specs.Reporting.{Unwritten};
 
+use crate::host::Host;
 use crate::scripts::run_script;
 use flash_model::Bench;
 use mesh_base::outside::Sink;
@@ -51,13 +53,11 @@ fn sum_up<K: Sink>(alloc: Global, sink: &mut K, summary: &Summary) -> Status
 /// Runs the script of so many lines of bearers, whose numbers begin behind `start`, and writes its summary. Its lives are made as they begin
 /// and counted as they end, and nothing else of them is kept.
 pub(crate) fn run_generated<R: Threads + Wait + Sync, B: Bench, K: Sink, G: Gate>(
-    rt: &R,
-    alloc: Global,
+    host: &Host<R, G>,
     count: u32,
     start: u32,
     sink: &mut K,
     flash: B,
-    gate: &G,
 ) -> Ended<B>
     requires honest { IsTrue (B.chip flash).honest }
     requires few { count ≤ 32768 }
@@ -76,7 +76,7 @@ pub(crate) fn run_generated<R: Threads + Wait + Sync, B: Bench, K: Sink, G: Gate
     ensures complete { ¬ Rose (K.faults sink.old) (K.faults sink.new) → IsErasedFlash (B.chip flash)
         → (result.status ≡ Status.Done) ⊎ (result.status ≡ Status.Memory) ⊎ (result.status ≡ Status.FlashFault) }
 
-    // What is written is the summary of a record of a run of the script, or a front of it.
+    // What is written is the summary of a record of a run of the script, or a front of it, or nothing of its first lives or of all.
     ensures done { result.status ≡ Status.Done
         → IsSomeAnd result.flash
         (λ f. FromProvisioned B.chip (format_by false) (provisioned (script_of (generated count start)).node)
@@ -90,6 +90,10 @@ pub(crate) fn run_generated<R: Threads + Wait + Sync, B: Bench, K: Sink, G: Gate
         (λ from. Ran B.chip (node_role node_layers) (script_of (generated count start)) SummarizesFront from
         (view_of K.held K.pieces sink.old) f (view_of K.held K.pieces sink.new))) }
     ensures memory { result.status ≡ Status.Memory
+        → FromProvisioned B.chip (format_by false) (provisioned (script_of (generated count start)).node) (B.chip flash)
+        (λ from. RanFirstOrAll B.chip (node_role node_layers) (script_of (generated count start)) Unwritten from
+        (view_of K.held K.pieces sink.old) result.flash (view_of K.held K.pieces sink.new)) }
+    ensures unwritten { result.status ≡ Status.Memory
         → view_of K.held K.pieces sink.new ≡ view_of K.held K.pieces sink.old }
     ensures nothing_written { IsBeforeLives result.status → sink.new ≡ sink.old }
 
@@ -103,11 +107,11 @@ pub(crate) fn run_generated<R: Threads + Wait + Sync, B: Bench, K: Sink, G: Gate
     generated_law();
     let script = GeneratedScript { count, start };
     let mut summary = Summary::new();
-    let ended = run_script(rt, alloc, false, &script, &mut summary, sink, flash, gate);
+    let ended = run_script(host, false, &script, &mut summary, sink, flash);
     let Ended { status, flash } = ended;
     match status {
         Status::Done => Ended {
-            status: sum_up(alloc, sink, &summary),
+            status: sum_up(host.alloc, sink, &summary),
             flash,
         },
         status => Ended { status, flash },

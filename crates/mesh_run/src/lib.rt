@@ -4,6 +4,8 @@
 //! - `scripts`: the script of a text, over a flash that is provisioned for it
 //! - `generated`: a script that is generated, run and summed up
 //! - `lives`: the lives of a script, one after another
+//! - `machine`: the machine of those lives
+//! - `host`: what they are run with
 //!
 //! A caller to begin with: `run_words` in `crates/meshnode/src/main.rt`.
 //!
@@ -11,7 +13,9 @@
 #![tactic(auto)]
 
 mod generated;
+mod host;
 mod lives;
+mod machine;
 mod running;
 mod scripts;
 

@@ -21,13 +21,14 @@ ghost use Rattle.run_steps.specs.Provisioned.{IsProvisioned};
 ghost use Rattle.mesh_run.specs.Ran.{Ran, RanFirst, RanFront};
 ghost use Rattle.event_definitions.specs.Role.{node_role};
 
+use crate::host::Host;
+use crate::machine::ScriptMachine;
 use flash_model::Bench;
 use layer_laws::laws::node_law;
 use life_laws::plan::LifePlan;
 use life_plans::{plan_of, script_law};
 use life_sources::LifeSource;
 use mesh_base::outside::Sink;
-use mesh_machine::MeshMachine;
 use mesh_node::{Gate, LifeLog, life};
 use node_limits::BEARERS;
 use node_safety::node_runs_law;
@@ -83,12 +84,10 @@ fn plan_at<S: LifeSource>(script: &S, alloc: Global, i: usize) -> Result<LifePla
 
 /// Runs the life of a script at place `i`. For want of memory the flash is dropped.
 fn live<R: Threads + Wait + Sync, S: LifeSource, B: Bench, G: Gate>(
-    rt: &R,
-    alloc: Global,
+    host: &Host<R, G>,
     script: &S,
     i: usize,
     flash: B,
-    gate: &G,
 ) -> Result<(EndedLife, B), AllocError>
     requires read { IsScriptOf Grammars.Node (S.script script.now) }
     requires place { i < length (S.script script.now).lives }
@@ -97,12 +96,14 @@ fn live<R: Threads + Wait + Sync, S: LifeSource, B: Bench, G: Gate>(
         (λ records. (config_of records).elements ≡ (script_of (S.script script.now)).node.elements) }
     ensures lived { IfOk result
         (λ r. (over : List StoreRecord)
-        × Lived (node_role node_layers) (slice_index_or (script_of (S.script script.now)).lives i []) (B.chip flash)
-        (record { over = over; life = life_of r.0 }) (B.chip r.1)) }
+        × Lived B.chip (node_role node_layers) (slice_index_or (script_of (S.script script.now)).lives i [])
+        (B.chip flash) (record { over = over; life = life_of r.0 }) r.1) }
     ensures room { IfOk result (λ r. FitsLines (life_of r.0)) }
 {
-    let plan = plan_at(script, alloc, i)?;
-    let (log, flash) = life::<MeshMachine, B, G, R>(rt, alloc, flash, &plan, gate)?;
+    let plan = plan_at(script, host.alloc, i)?;
+    let (log, flash) = life::<ScriptMachine, B, G, R>(
+        host.rt, host.alloc, flash, &plan, host.gate,
+    )?;
     Ok((ended_life(log), flash))
 }
 
@@ -115,15 +116,7 @@ pub(crate) fn live_all<
     L: LifeSink,
     K: Sink,
     G: Gate,
->(
-    rt: &R,
-    alloc: Global,
-    script: &S,
-    lives: &mut L,
-    sink: &mut K,
-    flash: B,
-    gate: &G,
-) -> Result<B, Stopped<B>>
+>(host: &Host<R, G>, script: &S, lives: &mut L, sink: &mut K, flash: B) -> Result<B, Stopped<B>>
     requires read { IsScriptOf Grammars.Node (S.script script.now) }
     requires provisioned { IsProvisioned (B.chip flash) (provisioned (script_of (S.script script.now)).node) }
     ensures all { IfOk result
@@ -147,12 +140,12 @@ pub(crate) fn live_all<
     lives_law();
     let mut flash = flash;
     for i in 0..script.count() {
-        let (ended, back) = match live(rt, alloc, script, i, flash, gate) {
+        let (ended, back) = match live(host, script, i, flash) {
             Ok(lived) => lived,
             Err(_) => return Err(Stopped::Memory(None)),
         };
         flash = back;
-        match lives.tell(alloc, sink, i as u32 + 1, &ended) {
+        match lives.tell(host.alloc, sink, i as u32 + 1, &ended) {
             Ok(()) => {}
             Err(WriteStop::Fault) => return Err(Stopped::Fault(flash)),
             Err(WriteStop::Memory) => return Err(Stopped::Memory(Some(flash))),

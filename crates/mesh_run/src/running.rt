@@ -16,8 +16,8 @@ ghost use Rattle.command_words.specs.Commands.{command_of};
 ghost use Rattle.command_words.specs.declared.commands.Command.TheVariants as C;
 ghost use Rattle.command_words.specs.declared.commands.RunFlags.{RunFlags as Flags};
 ghost use Rattle.audit_definitions.specs.Input.{IsFirstOther};
-ghost use Rattle.mesh_run.specs.Ran.{FromProvisioned, Ran, RanFirst, RanFront};
-ghost use Rattle.mesh_run.specs.Reporting.{ReportsFront};
+ghost use Rattle.mesh_run.specs.Ran.{FromProvisioned, Ran, RanFirst, RanFirstOrAll, RanFront};
+ghost use Rattle.mesh_run.specs.Reporting.{ReportsFront, Unwritten};
 ghost use Rattle.report_writer.specs.Reporting.{Reports};
 ghost use Rattle.run_steps.specs.Provisioned.{FailsEarly, format_by};
 ghost use Rattle.run_steps.specs.Reads.{ReadsMoreThan};
@@ -27,6 +27,7 @@ ghost use Rattle.event_definitions.specs.Role.{node_role};
 ghost use Rattle.store_definitions.specs.Provisioning.{provisioned};
 
 use crate::generated::run_generated;
+use crate::host::Host;
 use crate::scripts::run_text;
 use command_words::{Command, command_of};
 use flash_model::Bench;
@@ -156,7 +157,8 @@ pub fn run<R: Threads + Wait + Sync, S: Source, K: Sink, B: Bench, G: Gate>(
         → (result.status ≡ Status.ReadFault) ⊎ (result.status ≡ Status.TooLong) ⊎ (result.status ≡ Status.Memory)) }
     ensures verdict_flash { command_of (map (λ w. w.now) words.now) ≡ Some C.Audit → result.flash ≡ Some flash }
 
-    // Of a script that is generated the summary is written, or a front of it. The source isn't read, and no cause comes that is of reading.
+    // Of a script that is generated the summary is written, or a front of it, or nothing where there is no memory: its first lives were run
+    // then, or all of them. The source isn't read, and no cause comes that is of reading.
     ensures summary { (count start : ℕ) → command_of (map (λ w. w.now) words.now) ≡ Some (C.Generate count start)
         → result.status ≡ Status.Done
         → IsSomeAnd result.flash
@@ -171,7 +173,13 @@ pub fn run<R: Threads + Wait + Sync, S: Source, K: Sink, B: Bench, G: Gate>(
         (B.chip flash)
         (λ from. Ran B.chip (node_role node_layers) (script_of (generated count start)) SummarizesFront from
         (view_of K.held K.pieces sink.old) f (view_of K.held K.pieces sink.new))) }
-    ensures summary_memory { IsGenerate (command_of (map (λ w. w.now) words.now)) → result.status ≡ Status.Memory
+    ensures summary_memory { (count start : ℕ)
+        → command_of (map (λ w. w.now) words.now) ≡ Some (C.Generate count start) → result.status ≡ Status.Memory
+        → ((sink.new ≡ sink.old) × (result.flash ≡ Some flash))
+        ⊎ FromProvisioned B.chip (format_by false) (provisioned (script_of (generated count start)).node) (B.chip flash)
+        (λ from. RanFirstOrAll B.chip (node_role node_layers) (script_of (generated count start)) Unwritten from
+        (view_of K.held K.pieces sink.old) result.flash (view_of K.held K.pieces sink.new)) }
+    ensures summary_unwritten { IsGenerate (command_of (map (λ w. w.now) words.now)) → result.status ≡ Status.Memory
         → view_of K.held K.pieces sink.new ≡ view_of K.held K.pieces sink.old }
     ensures summary_early { (count start : ℕ)
         → command_of (map (λ w. w.now) words.now) ≡ Some (C.Generate count start) → result.status ≡ Status.FlashFault
@@ -207,17 +215,16 @@ pub fn run<R: Threads + Wait + Sync, S: Source, K: Sink, B: Bench, G: Gate>(
         Ok(None) => return Ended::with_flash(Status::Usage, flash),
         Err(_) => return Ended::with_flash(Status::Memory, flash),
     };
+    let host = Host { rt, alloc, gate };
     match command {
         Command::Run(flags) => match read_whole(alloc, source) {
-            Ok(bytes) => run_text(rt, alloc, flags, bytes.as_slice(), sink, flash, gate),
+            Ok(bytes) => run_text(&host, flags, bytes.as_slice(), sink, flash),
             Err(stop) => Ended::with_flash(read_end(stop), flash),
         },
         Command::Audit => match read_whole(alloc, source) {
             Ok(bytes) => Ended::with_flash(audit_text(alloc, bytes.as_slice(), sink), flash),
             Err(stop) => Ended::with_flash(read_end(stop), flash),
         },
-        Command::Generate { count, start } => run_generated(
-            rt, alloc, count, start, sink, flash, gate,
-        ),
+        Command::Generate { count, start } => run_generated(&host, count, start, sink, flash),
     }
 }

@@ -18,6 +18,7 @@ ghost use Rattle.run_steps.specs.Provisioned.{FailsEarly, format_by};
 ghost use Rattle.event_definitions.specs.Role.{node_role};
 ghost use Rattle.store_definitions.specs.Provisioning.{provisioned};
 
+use crate::host::Host;
 use crate::lives::{Stopped, live_all};
 use command_words::RunFlags;
 use flash_model::Bench;
@@ -29,7 +30,6 @@ use report_writer::{LifeSink, Report};
 use run_steps::{Ended, Status, provision};
 use script_reader::{ScriptStop, read_script};
 use slot_journal::FormatFault;
-use std::alloc::Global;
 use std::sync::Wait;
 use std::thread::Threads;
 
@@ -42,16 +42,7 @@ pub(crate) fn run_script<
     L: LifeSink,
     K: Sink,
     G: Gate,
->(
-    rt: &R,
-    alloc: Global,
-    old: bool,
-    script: &S,
-    lives: &mut L,
-    sink: &mut K,
-    flash: B,
-    gate: &G,
-) -> Ended<B>
+>(host: &Host<R, G>, old: bool, script: &S, lives: &mut L, sink: &mut K, flash: B) -> Ended<B>
     requires honest { IsTrue (B.chip flash).honest }
     requires read { IsScriptOf Grammars.Node (S.script script.now) }
 
@@ -104,7 +95,7 @@ pub(crate) fn run_script<
             flash,
         ),
     }
-    match live_all(rt, alloc, script, lives, sink, flash, gate) {
+    match live_all(host, script, lives, sink, flash) {
         Ok(flash) => Ended::with_flash(Status::Done, flash),
         Err(Stopped::Fault(flash)) => Ended::with_flash(Status::WriteFault, flash),
         Err(Stopped::Memory(flash)) => Ended {
@@ -116,13 +107,11 @@ pub(crate) fn run_script<
 
 /// Runs the script that a text is, if it is one.
 pub(crate) fn run_text<R: Threads + Wait + Sync, B: Bench, K: Sink, G: Gate>(
-    rt: &R,
-    alloc: Global,
+    host: &Host<R, G>,
     flags: RunFlags,
     text: &[u8],
     sink: &mut K,
     flash: B,
-    gate: &G,
 ) -> Ended<B>
     requires honest { IsTrue (B.chip flash).honest }
     requires short { length text.now ≤ 4194304 }
@@ -172,7 +161,7 @@ pub(crate) fn run_text<R: Threads + Wait + Sync, B: Bench, K: Sink, G: Gate>(
     ensures no_fault { result.status ≢ Status.WriteFault → K.faults sink.new ≡ K.faults sink.old }
     ensures later { K.faults sink.old ≤ K.faults sink.new }
 {
-    let script = match read_script(alloc, text) {
+    let script = match read_script(host.alloc, text) {
         Ok(script) => script,
         Err(ScriptStop::Fault { line, rule }) => return Ended::with_flash(
             Status::Script { line, rule },
@@ -181,14 +170,5 @@ pub(crate) fn run_text<R: Threads + Wait + Sync, B: Bench, K: Sink, G: Gate>(
         Err(ScriptStop::Memory) => return Ended::with_flash(Status::Memory, flash),
     };
     let mut report = Report { hex: flags.hex };
-    run_script(
-        rt,
-        alloc,
-        flags.old,
-        &script,
-        &mut report,
-        sink,
-        flash,
-        gate,
-    )
+    run_script(host, flags.old, &script, &mut report, sink, flash)
 }

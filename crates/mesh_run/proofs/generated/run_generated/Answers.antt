@@ -7,7 +7,7 @@ use Rattle.run_steps.specs.Provisioned.{format_by}
 use Rattle.run_summary.specs.Telling.{Summarizes, SummarizesFront}
 use Rattle.script_generator.specs.Generated.{generated}
 use Rattle.store_definitions.specs.Provisioning.{provisioned}
-use Rattle.mesh_run.proofs.Generating.{front_summarized, left_then, silent_all, summarized}
+use Rattle.mesh_run.proofs.Generating.{all_unwritten, front_summarized, left_then, silent_all, summarized}
 use Rattle.mesh_run.proofs.generated.run_generated.Goals as goal
 
 pub run_script-ended-requires-clause-read : goal.run_script-ended-requires-clause-read
@@ -40,6 +40,15 @@ returns-in-Done-clause-front g c = λ fault.
 
 pub returns-in-Done-clause-memory : goal.returns-in-Done-clause-memory
 returns-in-Done-clause-memory g c = λ memory.
+    let chip = g.B.Flash.chip in
+    let view = view_of g.K.Sink.held g.K.Sink.pieces in
+    let s = script_of (generated c.args.count c.args.start) in
+    all_unwritten chip (node_role node_layers) s (format_by false) (provisioned s.node) (chip c.args.flash) (view c.args.sink.now) _ (view c.run_script-ended.new.sink) (view c.sum_up.new.sink)
+    (λ lives told. ap view (c.sum_up.ensures.memory memory) ∙ told.0)
+    c.run_script-ended.result.flash (c.run_script-ended.ensures.done c.in-Done.is)
+
+pub returns-in-Done-clause-unwritten : goal.returns-in-Done-clause-unwritten
+returns-in-Done-clause-unwritten g c = λ memory.
     let chip = g.B.Flash.chip in
     let view = view_of g.K.Sink.held g.K.Sink.pieces in
     let s = script_of (generated c.args.count c.args.start) in
