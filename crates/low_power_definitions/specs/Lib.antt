@@ -1,0 +1,4 @@
+pub mod State
+pub mod Polls
+pub mod Calls
+pub mod Friend

@@ -1,0 +1,5 @@
+//! A Low Power node and its Friend node.
+
+mod friendship;
+mod rows;
+mod sides;
