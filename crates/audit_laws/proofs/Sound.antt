@@ -274,7 +274,7 @@ module _ (own : Config) (written lines : List ReportLine) (safe : SafeLines own 
   reuse_at i j l m lt e f (inl r) = no_network_reuse i j l m lt e f r
   reuse_at i j l m lt e f (inr r) = no_upper_reuse i j l m lt e f r
 
-  none_wrong : (nets : List ScriptNet) (v : Verdict) → IsWrong nets lines v → TellsNothingTwice v
+  pub none_wrong : (nets : List ScriptNet) (v : Verdict) → IsWrong nets lines v → TellsNothingTwice v
   none_wrong nets (V.Sound count) two = tt
   none_wrong nets (V.Bad line) two = tt
   none_wrong nets (V.Reuse a b) two =
@@ -295,7 +295,7 @@ reports_safe layers safe sends s r asks run keys nets front hex given lines inpu
     none_wrong (node_of r) written lines (run_lines layers safe sends s r asks run hex) are given v h
 
 -- what a verdict tells is wrong, if it tells anything
-verdict_wrong : (nets : List ScriptNet) (lines : List ReportLine) → ((v : Verdict) → IsWrong nets lines v → TellsNothingTwice v) → (v : Verdict) → IsVerdictOf nets lines v → TellsNothingTwice v
+pub verdict_wrong : (nets : List ScriptNet) (lines : List ReportLine) → ((v : Verdict) → IsWrong nets lines v → TellsNothingTwice v) → (v : Verdict) → IsVerdictOf nets lines v → TellsNothingTwice v
 verdict_wrong nets lines k (V.Sound count) h = tt
 verdict_wrong nets lines k (V.Reuse a b) h = k (V.Reuse a b) h.0
 verdict_wrong nets lines k (V.Twice a b) h = k (V.Twice a b) h.0
