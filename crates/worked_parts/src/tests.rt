@@ -4,6 +4,7 @@ mod bearers;
 mod files;
 mod flaws;
 mod journals;
+mod lines;
 mod low_power;
 mod records;
 mod stores;

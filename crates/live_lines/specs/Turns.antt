@@ -1,0 +1,46 @@
+-- What a call of one move leaves, where octets of a line that isn't whole yet were used already.
+use Rattle.std.specs.Prelude.{◌≡◌, ℕ, List, [], take, Option, Some, None}
+use Rattle.mesh_base.specs.Outside.{Rose}
+use Rattle.report_writer.specs.Handing.{HandedFront}
+use Rattle.report_writer.specs.Writing.{SinkView}
+use Rattle.script_definitions.specs.declared.line.ScriptLine.{ScriptLine}
+use Rattle.live_lines.specs.Moves.{Does, HasNoLf, IsTold, LinesAt, Move}
+use Rattle.live_lines.specs.Saying.{IsSaid}
+use Rattle.live_lines.specs.Steps.{EndsAt, SaysEvent}
+use Rattle.live_lines.specs.Texts.{wrong_text}
+use Rattle.live_lines.specs.declared.lines.LineStop.{LineStop}
+use Rattle.live_lines.specs.declared.lines.LineStop.TheVariants as L
+use Rattle.live_lines.specs.declared.lines.Turn.{Turn}
+use Rattle.live_lines.specs.declared.lines.Turn.TheVariants as T
+use Rattle.live_lines.specs.declared.saying.Saying.{Saying}
+use Rattle.live_lines.specs.declared.saying.Saying.TheVariants as S
+
+-- a text wasn't told, or not all of it; these are the faults of the sink before and after
+abbrev pub IsUntold : LineStop → List ℕ → SinkView → ℕ → SinkView → ℕ → Type 0
+IsUntold L.Errors text old before new after = HandedFront text old new × Rose before after
+IsUntold L.Memory text old before new after = (new ≡ old) × (after ≡ before)
+IsUntold _ text old before new after = ⊥
+
+-- what became of a line with this number that says this: it's passed over, or it's an event
+abbrev pub IsTaken : Option ScriptLine → ℕ → List ℕ → Saying → SinkView → SinkView → Type 0
+IsTaken None number line saying old new = IsTold number line saying old new
+IsTaken (Some event) number line saying old new = (saying ≡ S.Happens event) × (new ≡ old)
+
+-- it was lost
+abbrev pub IsLost : LineStop → ℕ → List ℕ → Saying → SinkView → ℕ → SinkView → ℕ → Type 0
+IsLost L.Errors number line saying old before new after =
+    (rule : ℕ) × (saying ≡ S.Wrong rule) × HandedFront (wrong_text number rule line) old new × Rose before after
+IsLost L.Memory number line saying old before new after = (new ≡ old) × (after ≡ before)
+IsLost _ number line saying old before new after = ⊥
+
+-- these octets of a line were used already, and this front of them is kept
+abbrev pub IsFrontOf : List ℕ → List ℕ → Type 0
+IsFrontOf front octets = HasNoLf octets × (front ≡ take 1202 octets)
+
+-- the move that a turn was, from a state to the one in which octets of a line were used
+abbrev pub IsTurn : ℕ → ℕ → Turn → List ℕ → LinesAt → (List ℕ → LinesAt) → Type 0
+IsTurn bearers elements T.Moved front old new =
+    (used : List ℕ) × IsFrontOf front used × ((move : Move) × Does bearers elements move old (new used))
+IsTurn bearers elements (T.Happens line) front old new =
+    SaysEvent bearers elements line old (new []) × IsSaid elements (S.Happens line)
+IsTurn bearers elements T.Ended front old new = EndsAt old (new [])
