@@ -1,0 +1,4 @@
+mod Walking
+mod Forms
+mod Spelled
+mod Cuts

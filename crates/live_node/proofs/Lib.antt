@@ -1,0 +1,5 @@
+mod Said
+mod Behind
+mod Causes
+mod Statuses
+mod Opening

@@ -1,0 +1,5 @@
+pub mod Status
+pub mod Lived
+pub mod Ends
+pub mod Ending
+pub mod Begun

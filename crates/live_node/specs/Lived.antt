@@ -1,0 +1,216 @@
+-- What the life of a node leaves, whose phases are lines and whose report is written phase by phase.
+use Rattle.std.specs.Prelude.{◌≡◌, ◌⊎◌, ℕ, ◌<◌, ◌≤◌, true, false, if◌then◌else◌, All, Bool, List, [], ◌∷◌, ◌++◌, length, map, Option}
+use Rattle.flash_model.specs.Chip.{Chip, Keeps}
+use Rattle.mesh_types.specs.declared.events.Event.{Event}
+use Rattle.mesh_types.specs.declared.report.End.{End}
+use Rattle.mesh_types.specs.declared.report.End.TheVariants as E
+use Rattle.mesh_types.specs.declared.report.Opened.{Opened}
+use Rattle.mesh_types.specs.declared.report.Opened.TheVariants as W
+use Rattle.mesh_types.specs.declared.report.ReportLine.{ReportLine}
+use Rattle.machine_contract.specs.Opening.{IsNodeFlash}
+use Rattle.machine_contract.specs.Refused.{IsUntouched, WasReset}
+use Rattle.machine_contract.specs.Standing.{IsSameFlash}
+use Rattle.machine_contract.specs.View.{MachineView}
+use Rattle.record_types.specs.declared.records.StoreRecord.{StoreRecord}
+use Rattle.event_definitions.specs.Handling.{AreHandled}
+use Rattle.event_definitions.specs.History.{Told}
+use Rattle.event_definitions.specs.Role.{Role}
+use Rattle.report_definitions.specs.Report.{opened_line}
+use Rattle.run_definitions.specs.Order.{is_cut}
+use Rattle.seq_word.specs.Seen.{ClosedView}
+use Rattle.store_definitions.specs.Config.{config_of}
+use Rattle.store_definitions.specs.Recovered.{IsRecovered}
+use Rattle.locked_node.specs.Stands.{IsLater}
+use Rattle.mesh_node.specs.Lived.{IsAllTold, IsLifeTold, life_told}
+use Rattle.mesh_node.specs.Told.{ArePlaced, AreToldEach, BySteps, PhaseDid, entries_told}
+use Rattle.node_bearer.specs.Did.{AreEvents}
+use Rattle.live_lines.specs.Moves.{LinesAt}
+use Rattle.live_lines.specs.Steps.{Ends, Fails, GivesPhase}
+use Rattle.live_lines.specs.declared.lines.LineStop.{LineStop}
+use Rattle.live_lines.specs.declared.lines.LineStop.TheVariants as L
+use Rattle.live_report.specs.Lines.{phases_lines, told_lines}
+use Rattle.report_writer.specs.Writing.{SinkView, Written, WrittenFront, view_of}
+use Rattle.live_node.specs.declared.status.Streams.{Streams}
+
+-- The streams of lines, before a life and after it: the octets that the source still gives and what the sink of wrong lines tells, where they are
+-- told; and how many of their calls failed.
+pub record StreamsAt : Type 0 where
+  pub left : Option (List ℕ)
+  pub told : SinkView
+  pub source_faults : ℕ
+  pub sink_faults : ℕ
+
+abbrev pub streams_of : LinesAt → StreamsAt
+streams_of at =
+    record { left = at.left; told = at.told; source_faults = at.source_faults; sink_faults = at.sink_faults }
+
+-- where lines begin: nothing was read yet
+abbrev pub begun : StreamsAt → LinesAt
+begun at = record {
+  left = at.left;
+  held = [];
+  number = 0;
+  told = at.told;
+  source_faults = at.source_faults;
+  sink_faults = at.sink_faults;
+}
+
+abbrev pub streams_at : {S E K : Type 0} → (S → Option (List ℕ)) → (S → ℕ) → (E → Option (List ℕ)) → (E → Option (List (List ℕ)))
+    → (E → ℕ) → Streams S E K → StreamsAt
+streams_at left source_faults held pieces sink_faults streams = record {
+  left = left streams.source;
+  told = view_of held pieces streams.errors;
+  source_faults = source_faults streams.source;
+  sink_faults = sink_faults streams.errors;
+}
+
+-- a phase that the next line which says an event is
+abbrev pub by_line : ℕ → ℕ → LinesAt → List (List Event) → LinesAt → Type 0
+by_line bearers elements old lists new = GivesPhase bearers elements lists old new
+
+-- How the lines of a source go on behind the last phase of a life, of a node with so many bearers and elements.
+abbrev pub GoesOn : Type 1
+GoesOn = ℕ → ℕ → LinesAt → LinesAt → Type 0
+
+-- it came to its end
+abbrev pub at_end : GoesOn
+at_end bearers elements old new = Ends bearers elements old new
+
+-- it wasn't asked for one
+abbrev pub unasked : GoesOn
+unasked bearers elements old new = new ≡ old
+
+-- it failed, by this cause
+abbrev pub failed : LineStop → GoesOn
+failed why bearers elements old new = Fails bearers elements why old new
+
+-- no stream failed
+abbrev pub is_no_fault : LineStop → Bool
+is_no_fault L.Source = false
+is_no_fault L.Errors = false
+is_no_fault _ = true
+
+-- it wasn't asked, or gave no phase though no stream failed
+abbrev pub unended : GoesOn
+unended bearers elements old new = (new ≡ old) ⊎ ((why : LineStop) × (is_no_fault why ≡ true) × Fails bearers elements why old new)
+
+-- what was written of the lines of a life: all of them, or a front
+abbrev pub Writes : Type 1
+Writes = List ReportLine → SinkView → SinkView → Type 0
+
+module _ (hex : Bool) where
+  -- the lines of a life that ended, and of one that didn't
+  abbrev pub ended_lines : Opened → List PhaseDid → List ReportLine
+  ended_lines opened did = told_lines hex 1 opened did E.Ended
+
+  abbrev pub open_lines : Opened → List PhaseDid → List ReportLine
+  open_lines opened did = opened_line 1 opened ∷ phases_lines hex did
+
+-- which machines stand over records, by what they show of themselves
+abbrev pub Standing : Type 1
+Standing = List StoreRecord → MachineView → Type 0
+
+module _ (Stood : Standing) (role : Role) (image : List ℕ → Type 0) (hex : Bool) (bearers : ℕ) (start new : Chip) (from to : StreamsAt)
+    (before after : SinkView) where
+  -- A life was opened over what the flash recovered. Its phases are those that the lines of the source say, one after another, of events that a
+  -- node with its elements may have. What was written are its lines: of all that its machine handled, to the last entry, also where the life is
+  -- cut. Whatever an image of the flash recovers now, it is a life of these phases.
+  pub record LivedBy (closed : Bool) (goes : GoesOn) (lines : Opened → List PhaseDid → List ReportLine) (writes : Writes) : Type 0 where
+    pub over : List StoreRecord
+    pub recovered : IsRecovered start.now over
+    pub phases : List (List (List Event))
+    pub did : List PhaseDid
+    pub mid : LinesAt
+    pub said : BySteps (by_line bearers (config_of over).elements) (begun from) phases mid
+    pub events : All (All (AreEvents (config_of over).elements)) phases
+    pub last : LinesAt
+    pub goes_on : goes bearers (config_of over).elements mid last
+    pub streams : streams_of last ≡ to
+    pub refills : ℕ
+    pub drawn : ClosedView
+    pub placed : ArePlaced 0 did
+    pub each : AreToldEach closed phases did
+    pub all : IsAllTold Stood over did refills closed
+    pub life : (end : End) → is_cut end ≡ closed → IsLifeTold role phases over (life_told over bearers refills did end) new drawn
+    pub wrote : writes (lines (W.On (config_of over).iv (config_of over).mark) did) before after
+    pub node : IsNodeFlash image new
+    pub later : IsLater start new
+    pub cause : closed ≡ true → new.setting.faults < new.faults
+
+  -- the source came to its end, and all lines of the life were written
+  abbrev pub LivedOut : Type 0
+  LivedOut = LivedBy false at_end (ended_lines hex) Written
+
+  -- the flash failed: what was written are the lines of the opening and of all phases, and none of an end
+  abbrev pub WasCut : Type 0
+  WasCut = LivedBy true unasked (open_lines hex) Written
+
+  -- the source failed, or the sink of wrong lines: the same
+  abbrev pub LivedUnread : Type 0
+  LivedUnread = LivedBy false (failed L.Source) (open_lines hex) Written
+
+  abbrev pub LivedUntold : Type 0
+  LivedUntold = LivedBy false (failed L.Errors) (open_lines hex) Written
+
+  -- A front of the lines was written: with one of the end only where the source came to its end, so never of a life that was cut.
+  abbrev pub LivedBroken : Bool → Type 0
+  LivedBroken closed =
+      ((closed ≡ false) × LivedBy false at_end (ended_lines hex) WrittenFront) ⊎ LivedBy closed unended (open_lines hex) WrittenFront
+
+module _ (role : Role) (hex : Bool) (bearers : ℕ) (start : Chip) (from to : StreamsAt) (before after : SinkView) where
+  -- Memory ran out in a life: the lines of its opening and of the phases that were through were written, whose entries were handled in order
+  -- over what the flash recovered. One phase more may have come.
+  pub record LivedShort : Type 0 where
+    pub over : List StoreRecord
+    pub recovered : IsRecovered start.now over
+    pub phases : List (List (List Event))
+    pub in_hand : List (List (List Event))
+    pub one : length in_hand ≤ 1
+    pub did : List PhaseDid
+    pub last : LinesAt
+    pub said : BySteps (by_line bearers (config_of over).elements) (begun from) (phases ++ in_hand) last
+    pub streams : streams_of last ≡ to
+    pub placed : ArePlaced 0 did
+    pub each : AreToldEach false phases did
+    pub told : List Told
+    pub entries : map (λ t. t.entry) told ≡ entries_told did
+    pub handled : AreHandled role over [] told
+    pub wrote : Written (open_lines hex (W.On (config_of over).iv (config_of over).mark) did) before after
+
+-- how a life opens over records
+abbrev pub opened_over : List StoreRecord → Opened
+opened_over over = if (config_of over).reset then W.WasReset else W.On (config_of over).iv (config_of over).mark
+
+-- a front of the line of the opening was written
+pub record OpeningFront (start : Chip) (before after : SinkView) : Type 0 where
+  pub over : List StoreRecord
+  pub recovered : IsRecovered start.now over
+  pub front : WrittenFront (opened_line 1 (opened_over over) ∷ []) before after
+
+-- The life was given up before its first phase: no line was read, and nothing was written but a front of the line of its opening. The flash is
+-- as it was, or recovers what it did.
+pub record Unopened (image : List ℕ → Type 0) (start new : Chip) (from to : StreamsAt) (before after : SinkView) : Type 0 where
+  pub wrote : (after ≡ before) ⊎ OpeningFront start before after
+  pub unread : to ≡ from
+  pub kept : Keeps start new
+  pub untouched : IsSameFlash start new ⊎ IsUntouched image start new
+
+-- Memory ran out as the machine opened the life: no line was read and none written. Of what the flash recovers nothing is said.
+pub record StartFellShort (start new : Chip) (from to : StreamsAt) (before after : SinkView) : Type 0 where
+  pub unread : to ≡ from
+  pub unwritten : after ≡ before
+  pub kept : Keeps start new
+
+-- There was a Node Reset: the line of that was written, and nothing else was done.
+pub record ToldReset (image : List ℕ → Type 0) (start new : Chip) (from to : StreamsAt) (before after : SinkView) : Type 0 where
+  pub reset : WasReset start
+  pub wrote : Written (opened_line 1 W.WasReset ∷ []) before after
+  pub unread : to ≡ from
+  pub untouched : IsUntouched image start new
+
+-- The flash failed as the life was opened: no line was read and none written, and the flash recovers what it did.
+pub record FailsAtOpening (image : List ℕ → Type 0) (start new : Chip) (from to : StreamsAt) (before after : SinkView) : Type 0 where
+  pub failed : start.faults < new.faults
+  pub unread : to ≡ from
+  pub unwritten : after ≡ before
+  pub untouched : IsUntouched image start new

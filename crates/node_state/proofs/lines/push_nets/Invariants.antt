@@ -1,0 +1,7 @@
+use Rattle.std.proofs.Common.{◌≡◌, ◌++◌, take}
+use Rattle.std.specs.List.{flat_map}
+use Rattle.node_state.specs.State.{net_line, net_shown}
+use Rattle.node_state.proofs.lines.push_nets.Given as goal
+
+abbrev pub invariant-loop-row : goal.invariant-loop-row
+invariant-loop-row l = l.text ≡ l.fn.text ++ flat_map (λ row. net_line (net_shown row)) (take l.row-index l.rows)
