@@ -1,10 +1,11 @@
 """What the lines of a report tell: octets that go on air, messages that were delivered, numbers that were drawn."""
 from collections.abc import Iterable
-from typing import NamedTuple
+from typing import NamedTuple, TypeVar
 
 MESSAGE, BEACON = 0x2a, 0x2b
 NET_RESULTS = ('ctl', 'msg', 'seg', 'relay', 'rep')
 DRAWN = ('ctl', 'msg', 'seg')
+_Told = TypeVar('_Told')
 
 
 class OnAir(NamedTuple):
@@ -54,15 +55,20 @@ def delivered(line: str) -> bytes | None:
     return bytes.fromhex(words[-1]) if words[0] == 'e' and words[5] == 'delivered' else None
 
 
+def _twice(found: Iterable[_Told | None]) -> list[_Told]:
+    """Those that were there before."""
+    seen: set[_Told] = set()
+    twice = []
+    for it in filter(None, found):
+        if it in seen:
+            twice.append(it)
+        seen.add(it)
+    return twice
+
+
 def twice_accepted(lines: Iterable[str]) -> list[Name]:
     """The messages that were accepted more than once over all lives."""
-    seen: set[Name] = set()
-    twice = []
-    for name in filter(None, map(accepted, lines)):
-        if name in seen:
-            twice.append(name)
-        seen.add(name)
-    return twice
+    return _twice(map(accepted, lines))
 
 
 def drawn(line: str) -> tuple[int, int] | None:
@@ -73,10 +79,4 @@ def drawn(line: str) -> tuple[int, int] | None:
 
 def drawn_twice(lines: Iterable[str]) -> list[tuple[int, int]]:
     """The pairs that were drawn more than once over all lives."""
-    seen: set[tuple[int, int]] = set()
-    twice = []
-    for pair in filter(None, map(drawn, lines)):
-        if pair in seen:
-            twice.append(pair)
-        seen.add(pair)
-    return twice
+    return _twice(map(drawn, lines))

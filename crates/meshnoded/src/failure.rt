@@ -1,6 +1,8 @@
 //! What can go wrong.
 #![tactic(auto)]
 
+ghost use Rattle.std.specs.Prelude.{◌≡◌};
+
 use live_node::Status;
 use node_file::{MakeFault, OpenFault};
 use node_state::ShowFault;
@@ -77,8 +79,12 @@ impl From<ShowFault> for Failure {
 }
 
 impl Failure {
+    ghost use Rattle.meshnoded.specs.Numbers.{failure_number};
+
     /// The number that the program ends with.
-    pub fn number(&self) -> u8 {
+    pub fn number(&self) -> u8
+        ensures value { result ≡ failure_number self.now }
+    {
         match self {
             Failure::Usage => 2,
             Failure::Read => 4,

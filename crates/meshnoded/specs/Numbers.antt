@@ -1,0 +1,17 @@
+-- The number that the program ends with where not all was done.
+use Rattle.std.specs.Prelude.{ℕ}
+use Rattle.live_node.specs.Status.{exit_number}
+use Rattle.meshnoded.specs.declared.failure.Failure.{Failure}
+use Rattle.meshnoded.specs.declared.failure.Failure.TheVariants as F
+
+abbrev pub failure_number : Failure → ℕ
+failure_number F.Usage = 2
+failure_number F.Read = 4
+failure_number F.Write = 5
+failure_number F.Memory = 6
+failure_number F.Keys = 15
+failure_number (F.Open fault) = 16
+failure_number (F.Show fault) = 16
+failure_number (F.Make fault) = 17
+failure_number (F.Life status) = exit_number status
+failure_number (F.LifeAndFlash status) = exit_number status
