@@ -44,7 +44,7 @@ segment_refuses layers past r low n =
     (refuses_pick (layers.conflicts past n r low) _ _ (refused refl)
     (refuses_pick (ltb 0 (layers.missing past n low)) _ _ (refused refl) no_answer))
 
-replay_refuses : (kept : Option Pair) (p : Pair) → Refuses (replayed kept p)
+pub replay_refuses : (kept : Option Pair) (p : Pair) → Refuses (replayed kept p)
 replay_refuses None p = no_answer
 replay_refuses (Some q) p = refuses_pick (is_newer p q) _ _ no_answer (refused refl)
 
@@ -87,7 +87,7 @@ opened_accepts : (past : Past) (r : Reading) (m : Name) (opening : Option Openin
 opened_accepts past r m None n e = absurd cc
 opened_accepts past r m (Some o) n e = let (same, place) = placed_accepts past m _ n e in (some_is same, place)
 
-whole_accepts : (layers : Layers) (past : Past) (r : Reading) (low : Lower) (m : Name) (opening : Option Opening) (n : Name)
+pub whole_accepts : (layers : Layers) (past : Past) (r : Reading) (low : Lower) (m : Name) (opening : Option Opening) (n : Name)
     → accepted (whole_answer layers past r low m opening) ≡ Some n → (m ≡ n) × HasPlace past m
 whole_accepts layers past r (Access akf aid upper) m opening n e = opened_accepts past r m opening n e
 whole_accepts layers past r (AccessPart akf aid szmic seq_zero seg_o seg_n piece) m opening n e = opened_accepts past r m opening n e

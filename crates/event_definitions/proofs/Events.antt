@@ -14,6 +14,7 @@ use Rattle.mesh_types.specs.declared.events.Event.{Event}
 use Rattle.mesh_types.specs.declared.events.Event.TheVariants as E
 use Rattle.mesh_types.specs.declared.events.SendKey.{SendKey}
 use Rattle.mesh_types.specs.declared.events.SendKey.TheVariants as K
+use Rattle.mesh_types.specs.declared.low_power.LowPowerAnswer.TheVariants as P
 use Rattle.layer_states.specs.Names.{is_unicast}
 use Rattle.event_definitions.specs.Answers.{accepted, answer_of, beacon_answer, begin_answer, config_before, is_cached, is_mine, later, network_answer, pdu_answer, send_answer, unless_reset}
 use Rattle.store_definitions.specs.Config.{is_element}
@@ -39,7 +40,7 @@ pdu_accepts layers past r low opening n e =
 pub data Silent : Answer → Type 0 where
   silent : {a : Answer} → accepted a ≡ None → Silent a
 
-silent_pick : (b : Bool) (x y : Answer) → Silent x → Silent y → Silent (cond b x y)
+pub silent_pick : (b : Bool) (x y : Answer) → Silent x → Silent y → Silent (cond b x y)
 silent_pick true x y h k = h
 silent_pick false x y h k = k
 
@@ -77,3 +78,4 @@ nothing_silent layers past (E.Raw dst ttl tpdu) = unless_silent past A.Planned (
 nothing_silent layers past (E.Tick ticks) = unless_silent past (A.Ticked (later past ticks)) (silent refl)
 nothing_silent layers past (E.Begin m) = begin_silent layers past m.name.pair m.dst
 nothing_silent layers past (E.Kept lpn fsn name octets) = silent_pick (layers.is_noted past lpn fsn) _ _ (silent refl) (silent refl)
+nothing_silent layers past (E.LowPower event) = unless_silent past (A.LowPower P.NoFriend) (silent refl)

@@ -30,6 +30,7 @@ use Rattle.mesh_types.specs.declared.events.Event.{Event}
 use Rattle.mesh_types.specs.declared.events.Event.TheVariants as E
 use Rattle.mesh_types.specs.declared.events.SendKey.{SendKey}
 use Rattle.mesh_types.specs.declared.events.SendKey.TheVariants as K
+use Rattle.mesh_types.specs.declared.low_power.LowPowerAnswer.TheVariants as P
 use Rattle.store_definitions.specs.Config.{Config, config_of, is_element}
 use Rattle.store_definitions.specs.Entries.{entry_of, others_held, has_room}
 use Rattle.event_definitions.specs.History.{Reading, Opening, Insight, OfPdu, OfBeacon, Past, now_of}
@@ -67,6 +68,7 @@ accepted A.Befriended = None
 accepted (A.SendFull held) = None
 accepted A.Kept = None
 accepted A.Dropped = None
+accepted (A.LowPower answer) = None
 accepted A.Reset = None
 
 -- The first group: what the network layer says of a PDU that reads.
@@ -246,6 +248,7 @@ begin_answer layers past pair dst =
 abbrev pub unless_reset : Past → Answer → Answer
 unless_reset past answer = if (config_before past).reset then A.Reset else answer
 
+-- a node that isn't a Low Power node has no friend
 unfoldable pub answer_of : Layers → Past → Event → Insight → Answer
 answer_of layers past (E.Net octets) insight = unless_reset past (pdu_answer layers past insight)
 answer_of layers past (E.Bcn octets) insight = unless_reset past (beacon_answer layers past insight)
@@ -254,3 +257,4 @@ answer_of layers past (E.Raw dst ttl tpdu) insight = unless_reset past A.Planned
 answer_of layers past (E.Tick ticks) insight = unless_reset past (A.Ticked (later past ticks))
 answer_of layers past (E.Begin m) insight = begin_answer layers past m.name.pair m.dst
 answer_of layers past (E.Kept lpn fsn name pdu) insight = if layers.is_noted past lpn fsn then A.Kept else A.Dropped
+answer_of layers past (E.LowPower event) insight = unless_reset past (A.LowPower P.NoFriend)

@@ -112,6 +112,7 @@ own_silent past (E.Begin m) i h =
     record { nameless = tt; none = silent_none _ (nothing_silent node_layers past (E.Begin m)) }
 own_silent past (E.Kept lpn fsn name pdu) i h =
     record { nameless = tt; none = silent_none _ (nothing_silent node_layers past (E.Kept lpn fsn name pdu)) }
+own_silent past (E.LowPower event) i h = record { nameless = tt; none = silent_none _ (nothing_silent node_layers past (E.LowPower event)) }
 
 -- An accepted message: its IV Index is read, and its name is newer than the entry of its source.
 record IsFresh (past : Past) (n : Name) : Type 0 where
@@ -231,6 +232,7 @@ module _ (safe : AreSafe node_layers) (w : World) (past : Past) (p q : Persist) 
       by_silence (E.Begin m) i (own_silent past (E.Begin m) i tt) moves after
   goes_now (E.Kept lpn fsn name pdu) i sees moves after =
       by_silence (E.Kept lpn fsn name pdu) i (own_silent past (E.Kept lpn fsn name pdu) i tt) moves after
+  goes_now (E.LowPower event) i sees moves after = by_silence (E.LowPower event) i (own_silent past (E.LowPower event) i tt) moves after
 
   pub event_goes : (event : Event) (i : Insight) (answer : Answer) → Sees node_layers past event i → answer ≡ answer_of node_layers past event i
       → AreMoves (config_in p) (stores node_layers past event i answer) → IsMeaningOf (past.records ++ stores node_layers past event i answer) q

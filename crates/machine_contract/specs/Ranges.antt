@@ -33,6 +33,7 @@ IsEvent elements (E.Begin m) =
     (m.name.pair.seq < 2 ^ 24) × (m.ttl < 2 ^ 7) × (m.aid < 2 ^ 6) × (IsFalse m.akf → m.aid ≡ 0) × (5 ≤ length m.upper)
     × (length m.upper ≤ 384)
 IsEvent elements (E.Kept lpn fsn name octets) = ⊤
+IsEvent elements (E.LowPower event) = ⊤
 
 -- the key of an access message: AID has 6 bits
 abbrev pub IsUpperKey : UpperKey → Type 0

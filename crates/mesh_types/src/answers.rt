@@ -1,6 +1,7 @@
 //! What a node answers to an event.
 #![tactic(auto)]
 
+use crate::low_power::LowPowerAnswer;
 use mesh_base::address::Address;
 use mesh_base::iv_state::IvStep;
 use mesh_base::keys::UpperKey;
@@ -145,6 +146,8 @@ pub enum Answer {
     Kept,
     /// The octets weren't noted.
     Dropped,
+    /// What a Low Power node alone answers; to an event that only such a node is told, another one has the answer `NoFriend` of these.
+    LowPower(LowPowerAnswer),
     /// A Node Reset was delivered before in this life.
     Reset,
 }
@@ -206,6 +209,7 @@ impl Answer {
             Answer::SendFull { held } => Answer::SendFull { held: *held },
             Answer::Kept => Answer::Kept,
             Answer::Dropped => Answer::Dropped,
+            Answer::LowPower(answer) => Answer::LowPower(*answer),
             Answer::Reset => Answer::Reset,
         }
     }

@@ -1,6 +1,7 @@
 //! What happens to a node.
 #![tactic(auto)]
 
+use crate::low_power::LowPowerEvent;
 use mesh_base::address::Address;
 use mesh_base::octets::Octets;
 use mesh_base::pair::Name;
@@ -67,7 +68,7 @@ impl Outgoing {
     }
 }
 
-/// One event. The first five kinds come from outside; a `Begin` or `Kept` follows a line of one of the node's own jobs.
+/// One event. A `Begin` or `Kept` follows a line of one of the node's own jobs; the others come from outside.
 #[derive(Debug, Drop, PartialEq, Eq)]
 pub enum Event {
     /// These octets were heard as a network PDU.
@@ -111,6 +112,8 @@ pub enum Event {
         /// The octets of the network PDU.
         pdu: Octets<29>,
     },
+    /// A Low Power node is to do this for its friendship.
+    LowPower(LowPowerEvent),
 }
 
 /// The kind of an event.
@@ -130,6 +133,12 @@ pub enum Kind {
     Begin,
     /// The answer to a Poll.
     Kept,
+    /// A Low Power node looks for a friend.
+    Seek,
+    /// A Low Power node asks its friend for a stored message.
+    Poll,
+    /// A Low Power node asks its friend to store what goes to an address.
+    List,
 }
 
 impl Event {
@@ -148,6 +157,9 @@ impl Event {
             Event::Tick(_) => Kind::Tick,
             Event::Begin(_) => Kind::Begin,
             Event::Kept { .. } => Kind::Kept,
+            Event::LowPower(LowPowerEvent::Seek) => Kind::Seek,
+            Event::LowPower(LowPowerEvent::Poll) => Kind::Poll,
+            Event::LowPower(LowPowerEvent::List(_)) => Kind::List,
         }
     }
 
@@ -189,6 +201,7 @@ impl Event {
                 name: *name,
                 pdu: pdu.copied(),
             },
+            Event::LowPower(event) => Event::LowPower(*event),
         }
     }
 }

@@ -3,6 +3,7 @@
 //!
 //! - `events`: what happens to a node
 //! - `answers`: what it answers to an event
+//! - `low_power`: what a Low Power node is told to do, and what it answers to that
 //! - `jobs`: what it is to send for an event
 //! - `lines`: what became of a job
 //! - `history`: the entries of a life and the lines of its bearers
@@ -14,4 +15,5 @@ pub mod events;
 pub mod history;
 pub mod jobs;
 pub mod lines;
+pub mod low_power;
 pub mod report;

@@ -17,6 +17,8 @@ use Rattle.mesh_types.specs.declared.answers.KeyStep.{KeyStep}
 use Rattle.mesh_types.specs.declared.answers.KeyStep.TheVariants as S
 use Rattle.mesh_types.specs.declared.history.Entry.{Entry}
 use Rattle.mesh_types.specs.declared.history.Sent.{Sent}
+use Rattle.mesh_types.specs.declared.low_power.LowPowerAnswer.{LowPowerAnswer}
+use Rattle.mesh_types.specs.declared.low_power.LowPowerAnswer.TheVariants as P
 use Rattle.mesh_types.specs.declared.lines.Outcome.{Outcome}
 use Rattle.mesh_types.specs.declared.lines.Outcome.TheVariants as O
 use Rattle.mesh_types.specs.declared.report.Opened.{Opened}
@@ -77,6 +79,9 @@ kind_text K.Raw = codes " raw"
 kind_text K.Tick = codes " tick"
 kind_text K.Begin = codes " begin"
 kind_text K.Kept = codes " kept"
+kind_text K.Seek = codes " seek"
+kind_text K.Poll = codes " poll"
+kind_text K.List = codes " list"
 
 abbrev pub key_text : KeyName → List ℕ
 key_text N.Dev = codes " dev"
@@ -98,6 +103,16 @@ iv_step_text I.Wait = codes " wait"
 abbrev pub params_text : List ℕ → List ℕ
 params_text [] = codes " -"
 params_text (x ∷ xs) = octets_text (x ∷ xs)
+
+abbrev pub low_power_text : LowPowerAnswer → List ℕ
+low_power_text P.Segmented = codes " segmented"
+low_power_text P.Unasked = codes " unasked"
+low_power_text P.Repeat = codes " repeat"
+low_power_text P.Sought = codes " sought"
+low_power_text P.Polled = codes " polled"
+low_power_text P.NoFriend = codes " nofriend"
+low_power_text P.Listed = codes " listed"
+low_power_text (P.TooMany held) = codes " toomany " ++ decimal held
 
 unfoldable pub answer_text : Answer → List ℕ
 answer_text A.Unread = codes " unread"
@@ -129,6 +144,7 @@ answer_text A.Befriended = codes " befriended"
 answer_text (A.SendFull held) = codes " sendfull " ++ decimal held
 answer_text A.Kept = codes " kept"
 answer_text A.Dropped = codes " dropped"
+answer_text (A.LowPower answer) = low_power_text answer
 answer_text A.Reset = codes " reset"
 
 -- the octets of a network PDU, where they are to be shown

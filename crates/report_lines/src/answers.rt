@@ -5,7 +5,7 @@ ghost use Rattle.std.specs.Prelude.{◌≡◌, ◌++◌, OnOk};
 ghost use Rattle.std.specs.Fmt.{decimal};
 ghost use Rattle.std.specs.List.{flat_map};
 ghost use Rattle.mesh_types.specs.declared.answers.Answer.TheVariants as A;
-ghost use Rattle.report_definitions.specs.Report.{answer_text, key_text, key_step_text, iv_step_text, params_text};
+ghost use Rattle.report_definitions.specs.Report.{answer_text, low_power_text, key_text, key_step_text, iv_step_text, params_text};
 ghost use Rattle.report_definitions.specs.Text.{hex_digits, address_text, name_text, pair_text};
 
 use crate::text::LineText;
@@ -14,6 +14,7 @@ use mesh_base::iv_state::IvStep;
 use mesh_base::octets::Octets;
 use mesh_base::pair::{Name, Pair};
 use mesh_types::answers::{Answer, KeyName, KeyStep};
+use mesh_types::low_power::LowPowerAnswer;
 use std::alloc::AllocError;
 
 /// The words of an answer.
@@ -56,7 +57,23 @@ pub fn push_answer(text: &mut LineText, answer: &Answer) -> Result<(), AllocErro
         Answer::SendFull { held } => push_count(text, b" sendfull ", u64::from(*held)),
         Answer::Kept => text.push(b" kept"),
         Answer::Dropped => text.push(b" dropped"),
+        Answer::LowPower(answer) => push_low_power(text, *answer),
         Answer::Reset => text.push(b" reset"),
+    }
+}
+
+fn push_low_power(text: &mut LineText, answer: LowPowerAnswer) -> Result<(), AllocError>
+    ensures ok { OnOk result (text.new ≡ text.old ++ low_power_text answer) }
+{
+    match answer {
+        LowPowerAnswer::Segmented => text.push(b" segmented"),
+        LowPowerAnswer::Unasked => text.push(b" unasked"),
+        LowPowerAnswer::Repeat => text.push(b" repeat"),
+        LowPowerAnswer::Sought => text.push(b" sought"),
+        LowPowerAnswer::Polled => text.push(b" polled"),
+        LowPowerAnswer::NoFriend => text.push(b" nofriend"),
+        LowPowerAnswer::Listed => text.push(b" listed"),
+        LowPowerAnswer::TooMany { held } => push_count(text, b" toomany ", u64::from(held)),
     }
 }
 

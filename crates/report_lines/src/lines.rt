@@ -160,6 +160,9 @@ fn push_kind(text: &mut LineText, kind: Kind) -> Result<(), AllocError>
         Kind::Tick => text.push(b" tick"),
         Kind::Begin => text.push(b" begin"),
         Kind::Kept => text.push(b" kept"),
+        Kind::Seek => text.push(b" seek"),
+        Kind::Poll => text.push(b" poll"),
+        Kind::List => text.push(b" list"),
     }
 }
 

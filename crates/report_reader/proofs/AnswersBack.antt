@@ -16,11 +16,13 @@ use Rattle.mesh_types.specs.declared.answers.KeyStep.{KeyStep}
 use Rattle.mesh_types.specs.declared.answers.KeyStep.TheVariants as S
 use Rattle.mesh_types.specs.declared.events.Kind.{Kind}
 use Rattle.mesh_types.specs.declared.events.Kind.TheVariants as K
-use Rattle.report_definitions.specs.Report.{answer_text, key_text, key_step_text, iv_step_text, kind_text, params_text}
+use Rattle.mesh_types.specs.declared.low_power.LowPowerAnswer.{LowPowerAnswer}
+use Rattle.mesh_types.specs.declared.low_power.LowPowerAnswer.TheVariants as P
+use Rattle.report_definitions.specs.Report.{answer_text, low_power_text, key_text, key_step_text, iv_step_text, kind_text, params_text}
 use Rattle.report_definitions.specs.Text.{hex_digits, pair_text, name_text, octets_text, word_text}
 use Rattle.script_definitions.specs.Words.{word_at}
 use Rattle.report_reader.specs.Forms.{pair_at, name_at}
-use Rattle.report_reader.specs.Answers.{kind_word, plain_answer, no_room, delivered, params_word, control, key_step_word, iv_step_at, beacon, told_answer, answer_of}
+use Rattle.report_reader.specs.Answers.{kind_word, low_power_answer, plain_answer, no_room, delivered, params_word, control, key_step_word, iv_step_at, beacon, told_answer, answer_of}
 use Rattle.report_reader.specs.ReportLine.{IsName, IsOctets, IsToldAnswer}
 use Rattle.report_reader.proofs.Back.{number_back, address_back, octets_back, params_back, key_field, key_back}
 use Rattle.report_reader.proofs.Decimals.{decimal_back, below_back}
@@ -66,6 +68,9 @@ kind_field K.Raw = codes "raw"
 kind_field K.Tick = codes "tick"
 kind_field K.Begin = codes "begin"
 kind_field K.Kept = codes "kept"
+kind_field K.Seek = codes "seek"
+kind_field K.Poll = codes "poll"
+kind_field K.List = codes "list"
 
 pub adds_kind : (k : Kind) → Adds (kind_text k) (kind_field k ∷ [])
 adds_kind K.Net = adds_field 32 (codes "net") refl refl
@@ -75,6 +80,9 @@ adds_kind K.Raw = adds_field 32 (codes "raw") refl refl
 adds_kind K.Tick = adds_field 32 (codes "tick") refl refl
 adds_kind K.Begin = adds_field 32 (codes "begin") refl refl
 adds_kind K.Kept = adds_field 32 (codes "kept") refl refl
+adds_kind K.Seek = adds_field 32 (codes "seek") refl refl
+adds_kind K.Poll = adds_field 32 (codes "poll") refl refl
+adds_kind K.List = adds_field 32 (codes "list") refl refl
 
 pub kind_back : (k : Kind) → kind_word (kind_field k) ≡ Some k
 unfolding kind_word
@@ -85,6 +93,9 @@ kind_back K.Raw = refl
 kind_back K.Tick = refl
 kind_back K.Begin = refl
 kind_back K.Kept = refl
+kind_back K.Seek = refl
+kind_back K.Poll = refl
+kind_back K.List = refl
 
 abbrev key_step_field : KeyStep → List ℕ
 key_step_field S.Same = codes "same"
@@ -132,6 +143,16 @@ adds_names : (ns : List Name) → Adds (flat_map name_text ns) (names_fields ns)
 adds_names [] = adds_none
 adds_names (n ∷ ns) = adds_name n ⊕ adds_names ns
 
+abbrev low_power_fields : LowPowerAnswer → List (List ℕ)
+low_power_fields P.Segmented = codes "segmented" ∷ []
+low_power_fields P.Unasked = codes "unasked" ∷ []
+low_power_fields P.Repeat = codes "repeat" ∷ []
+low_power_fields P.Sought = codes "sought" ∷ []
+low_power_fields P.Polled = codes "polled" ∷ []
+low_power_fields P.NoFriend = codes "nofriend" ∷ []
+low_power_fields P.Listed = codes "listed" ∷ []
+low_power_fields (P.TooMany held) = codes "toomany" ∷ decimal held ∷ []
+
 abbrev pub answer_fields : Answer → List (List ℕ)
 answer_fields A.Unread = codes "unread" ∷ []
 answer_fields A.BadAddress = codes "badaddress" ∷ []
@@ -160,7 +181,18 @@ answer_fields A.Befriended = codes "befriended" ∷ []
 answer_fields (A.SendFull held) = codes "sendfull" ∷ decimal held ∷ []
 answer_fields A.Kept = codes "kept" ∷ []
 answer_fields A.Dropped = codes "dropped" ∷ []
+answer_fields (A.LowPower answer) = low_power_fields answer
 answer_fields A.Reset = codes "reset" ∷ []
+
+adds_low_power : (a : LowPowerAnswer) → Adds (low_power_text a) (low_power_fields a)
+adds_low_power P.Segmented = adds_field 32 (codes "segmented") refl refl
+adds_low_power P.Unasked = adds_field 32 (codes "unasked") refl refl
+adds_low_power P.Repeat = adds_field 32 (codes "repeat") refl refl
+adds_low_power P.Sought = adds_field 32 (codes "sought") refl refl
+adds_low_power P.Polled = adds_field 32 (codes "polled") refl refl
+adds_low_power P.NoFriend = adds_field 32 (codes "nofriend") refl refl
+adds_low_power P.Listed = adds_field 32 (codes "listed") refl refl
+adds_low_power (P.TooMany held) = adds_field 32 (codes "toomany") refl refl ⊕ adds_decimal held
 
 pub adds_answer : (a : Answer) → Adds (answer_text a) (answer_fields a)
 unfolding answer_text
@@ -192,6 +224,7 @@ adds_answer A.Befriended = adds_field 32 (codes "befriended") refl refl
 adds_answer (A.SendFull held) = adds_field 32 (codes "sendfull") refl refl ⊕ adds_decimal held
 adds_answer A.Kept = adds_field 32 (codes "kept") refl refl
 adds_answer A.Dropped = adds_field 32 (codes "dropped") refl refl
+adds_answer (A.LowPower answer) = adds_low_power answer
 adds_answer A.Reset = adds_field 32 (codes "reset") refl refl
 
 -- The answer that its fields give back.
@@ -239,7 +272,7 @@ params_any (x ∷ xs) h = params_back x xs h
 
 pub answer_back : (a b c d e : List ℕ) (x : Answer) (rest : List (List ℕ)) → IsToldAnswer x
     → answer_of (a ∷ b ∷ c ∷ d ∷ e ∷ answer_fields x ++ rest) ≡ Some x
-unfolding answer_of plain_answer told_answer delivered control beacon iv_step_at pair_at
+unfolding answer_of plain_answer low_power_answer told_answer delivered control beacon iv_step_at pair_at
 answer_back a b c d e A.Unread rest h = refl
 answer_back a b c d e A.BadAddress rest h = refl
 answer_back a b c d e A.Own rest h = refl
@@ -287,4 +320,12 @@ answer_back a b c d e A.Befriended rest h = refl
 answer_back a b c d e (A.SendFull held) rest h = rw (below_back (2 ^ 32) held h (omega arith)) refl
 answer_back a b c d e A.Kept rest h = refl
 answer_back a b c d e A.Dropped rest h = refl
+answer_back a b c d e (A.LowPower P.Segmented) rest h = refl
+answer_back a b c d e (A.LowPower P.Unasked) rest h = refl
+answer_back a b c d e (A.LowPower P.Repeat) rest h = refl
+answer_back a b c d e (A.LowPower P.Sought) rest h = refl
+answer_back a b c d e (A.LowPower P.Polled) rest h = refl
+answer_back a b c d e (A.LowPower P.NoFriend) rest h = refl
+answer_back a b c d e (A.LowPower P.Listed) rest h = refl
+answer_back a b c d e (A.LowPower (P.TooMany held)) rest h = rw (below_back (2 ^ 32) held h (omega arith)) refl
 answer_back a b c d e A.Reset rest h = refl

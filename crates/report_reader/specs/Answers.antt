@@ -11,6 +11,8 @@ use Rattle.mesh_types.specs.declared.answers.KeyStep.{KeyStep}
 use Rattle.mesh_types.specs.declared.answers.KeyStep.TheVariants as S
 use Rattle.mesh_types.specs.declared.events.Kind.{Kind}
 use Rattle.mesh_types.specs.declared.events.Kind.TheVariants as K
+use Rattle.mesh_types.specs.declared.low_power.LowPowerAnswer.{LowPowerAnswer}
+use Rattle.mesh_types.specs.declared.low_power.LowPowerAnswer.TheVariants as P
 use Rattle.script_definitions.specs.Digits.{◌>>=◌, number_word}
 use Rattle.script_definitions.specs.Forms.{address_word}
 use Rattle.script_definitions.specs.Words.{word_at}
@@ -26,6 +28,21 @@ kind_word word =
     else if bytes_eq word (codes "tick") then Some K.Tick
     else if bytes_eq word (codes "begin") then Some K.Begin
     else if bytes_eq word (codes "kept") then Some K.Kept
+    else if bytes_eq word (codes "seek") then Some K.Seek
+    else if bytes_eq word (codes "poll") then Some K.Poll
+    else if bytes_eq word (codes "list") then Some K.List
+    else None
+
+-- an answer of a Low Power node that is its word
+unfoldable pub low_power_answer : List ℕ → Option LowPowerAnswer
+low_power_answer word =
+    if bytes_eq word (codes "segmented") then Some P.Segmented
+    else if bytes_eq word (codes "unasked") then Some P.Unasked
+    else if bytes_eq word (codes "repeat") then Some P.Repeat
+    else if bytes_eq word (codes "sought") then Some P.Sought
+    else if bytes_eq word (codes "polled") then Some P.Polled
+    else if bytes_eq word (codes "nofriend") then Some P.NoFriend
+    else if bytes_eq word (codes "listed") then Some P.Listed
     else None
 
 -- an answer that is its word
@@ -46,7 +63,7 @@ plain_answer word =
     else if bytes_eq word (codes "kept") then Some A.Kept
     else if bytes_eq word (codes "dropped") then Some A.Dropped
     else if bytes_eq word (codes "reset") then Some A.Reset
-    else None
+    else option_map A.LowPower (low_power_answer word)
 
 -- eight names
 unfoldable pub no_room : List (List ℕ) → Option Answer
@@ -121,6 +138,8 @@ told_answer ws =
     else if bytes_eq (word_at ws 5) (codes "ticked") then option_map A.Ticked (decimal_from 0 (word_at ws 6))
     else if bytes_eq (word_at ws 5) (codes "moved") then option_map A.Moved (number_word 8 (word_at ws 6))
     else if bytes_eq (word_at ws 5) (codes "sendfull") then option_map A.SendFull (below_word (2 ^ 32) (word_at ws 6))
+    else if bytes_eq (word_at ws 5) (codes "toomany")
+    then option_map (λ held. A.LowPower (P.TooMany held)) (below_word (2 ^ 32) (word_at ws 6))
     else None
 
 abbrev pub plain_or : List (List ℕ) → Option Answer → Option Answer

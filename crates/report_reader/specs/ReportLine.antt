@@ -16,6 +16,7 @@ use Rattle.mesh_types.specs.declared.answers.KeyName.{KeyName}
 use Rattle.mesh_types.specs.declared.answers.KeyName.TheVariants as N
 use Rattle.mesh_types.specs.declared.lines.Outcome.{Outcome}
 use Rattle.mesh_types.specs.declared.lines.Outcome.TheVariants as O
+use Rattle.mesh_types.specs.declared.low_power.LowPowerAnswer.TheVariants as P
 use Rattle.mesh_types.specs.declared.report.ReportLine.{ReportLine}
 use Rattle.mesh_types.specs.declared.report.ReportLine.TheVariants as L
 use Rattle.report_definitions.specs.Report.{line_text}
@@ -63,6 +64,7 @@ IsToldAnswer (A.NoAppKey index) = index < 2 ^ 12
 IsToldAnswer (A.Ticked now) = now < 2 ^ 64
 IsToldAnswer (A.Moved iv) = iv < 2 ^ 32
 IsToldAnswer (A.SendFull held) = held < 2 ^ 32
+IsToldAnswer (A.LowPower (P.TooMany held)) = held < 2 ^ 32
 IsToldAnswer _ = Unit {0}
 
 abbrev pub IsToldOutcome : Outcome → Type 0

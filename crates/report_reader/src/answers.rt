@@ -2,7 +2,8 @@
 #![tactic(auto)]
 
 ghost use Rattle.std.specs.Prelude.{◌≡◌, ◌+◌, ◌<◌, map, IfSome};
-ghost use Rattle.report_reader.specs.Answers.{kind_word, plain_answer, no_room, delivered, params_word, control, key_step_word, iv_step_at, beacon, told_answer, answer_of};
+ghost use Rattle.mesh_types.specs.declared.answers.Answer.TheVariants as A;
+ghost use Rattle.report_reader.specs.Answers.{kind_word, low_power_answer, plain_answer, no_room, delivered, params_word, control, key_step_word, iv_step_at, beacon, told_answer, answer_of};
 ghost use Rattle.report_reader.specs.ReportLine.{IsToldAnswer, IsToldStep, IsOctets};
 
 use crate::forms::{count, decimal, field, key_name, name, octets, pair, small_count};
@@ -11,6 +12,7 @@ use mesh_base::octets::Octets;
 use mesh_base::pair::Name;
 use mesh_types::answers::{Answer, KeyStep};
 use mesh_types::events::Kind;
+use mesh_types::low_power::LowPowerAnswer;
 use script_reader::digits::number;
 use script_reader::forms::address;
 
@@ -33,6 +35,37 @@ pub fn kind(word: &[u8]) -> Option<Kind>
         Some(Kind::Begin)
     } else if word == b"kept".as_slice() {
         Some(Kind::Kept)
+    } else if word == b"seek".as_slice() {
+        Some(Kind::Seek)
+    } else if word == b"poll".as_slice() {
+        Some(Kind::Poll)
+    } else if word == b"list".as_slice() {
+        Some(Kind::List)
+    } else {
+        None
+    }
+}
+
+/// An answer of a Low Power node that is its word.
+#[tactic(auto, unfolding(crate::specs::Answers::low_power_answer))]
+fn low_power_answer(word: &[u8]) -> Option<LowPowerAnswer>
+    ensures value { result ≡ low_power_answer word.now }
+    ensures ranges { IfSome result (λ answer. IsToldAnswer (A.LowPower answer)) }
+{
+    if word == b"segmented".as_slice() {
+        Some(LowPowerAnswer::Segmented)
+    } else if word == b"unasked".as_slice() {
+        Some(LowPowerAnswer::Unasked)
+    } else if word == b"repeat".as_slice() {
+        Some(LowPowerAnswer::Repeat)
+    } else if word == b"sought".as_slice() {
+        Some(LowPowerAnswer::Sought)
+    } else if word == b"polled".as_slice() {
+        Some(LowPowerAnswer::Polled)
+    } else if word == b"nofriend".as_slice() {
+        Some(LowPowerAnswer::NoFriend)
+    } else if word == b"listed".as_slice() {
+        Some(LowPowerAnswer::Listed)
     } else {
         None
     }
@@ -75,7 +108,7 @@ fn plain_answer(word: &[u8]) -> Option<Answer>
     } else if word == b"reset".as_slice() {
         Some(Answer::Reset)
     } else {
-        None
+        low_power_answer(word).map(Answer::LowPower)
     }
 }
 
@@ -239,6 +272,8 @@ fn told_answer(fields: &[&[u8]]) -> Option<Answer>
         number(field(fields, 6), 8).map(|iv| Answer::Moved { iv })
     } else if word == b"sendfull".as_slice() {
         count(field(fields, 6)).map(|held| Answer::SendFull { held })
+    } else if word == b"toomany".as_slice() {
+        count(field(fields, 6)).map(|held| Answer::LowPower(LowPowerAnswer::TooMany { held }))
     } else {
         None
     }

@@ -21,6 +21,7 @@ is_outside (E.Raw dst ttl tpdu) = true
 is_outside (E.Tick ticks) = true
 is_outside (E.Begin m) = false
 is_outside (E.Kept lpn fsn name octets) = false
+is_outside (E.LowPower event) = true
 
 -- an entry, and its place in the history
 pub record Placed : Type 0 where

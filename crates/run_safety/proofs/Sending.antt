@@ -270,3 +270,4 @@ jobs_fit layers safe own c past (E.Tick ticks) insight _ h k = tt
 jobs_fit layers safe own c past (E.Begin m) insight A.Begun h k = begin_fits own c m
 jobs_fit layers safe own c past (E.Begin m) insight _ h k = tt
 jobs_fit layers safe own c past (E.Kept lpn fsn name octets) insight answer h k = tt
+jobs_fit layers safe own c past (E.LowPower event) insight answer h k = tt

@@ -182,6 +182,7 @@ fits_plain own (E.Send element dst ttl key payload) jobs e h = h
 fits_plain own (E.Raw dst ttl tpdu) jobs e h = h
 fits_plain own (E.Tick ticks) jobs e h = h
 fits_plain own (E.Kept lpn fsn name octets) jobs e h = h
+fits_plain own (E.LowPower event) jobs e h = h
 
 fits_begin : (own : Config) (event : Event) (p : Pair) (jobs : List Job) → begin_pair event ≡ Some p → JobsFit own event jobs → BeginFits own p jobs
 fits_begin own (E.Begin m) p jobs e h = subst (λ q. BeginFits own q jobs) (some_is e) h
@@ -191,6 +192,7 @@ fits_begin own (E.Send element dst ttl key payload) p jobs e h = absurd cc
 fits_begin own (E.Raw dst ttl tpdu) p jobs e h = absurd cc
 fits_begin own (E.Tick ticks) p jobs e h = absurd cc
 fits_begin own (E.Kept lpn fsn name octets) p jobs e h = absurd cc
+fits_begin own (E.LowPower event) p jobs e h = absurd cc
 
 outside_plain : (event : Event) → IsTrue (is_outside event) → begin_pair event ≡ None
 outside_plain (E.Begin m) h = absurd cc
@@ -200,6 +202,7 @@ outside_plain (E.Send element dst ttl key payload) h = refl
 outside_plain (E.Raw dst ttl tpdu) h = refl
 outside_plain (E.Tick ticks) h = refl
 outside_plain (E.Kept lpn fsn name octets) h = refl
+outside_plain (E.LowPower event) h = refl
 
 plain_tasks : (own : Config) (entries : List Entry) (p : Placed) (ts : List Task) → EntryFits own entries p → begin_pair p.entry.event ≡ None
     → AllByRecursion (TaskFits own entries) ts → AllByRecursion (TaskFits own entries) (job_tasks p ++ ts)

@@ -18,6 +18,7 @@ use Rattle.mesh_base.specs.declared.lower.Lower.TheVariants.{Access}
 use Rattle.mesh_base.specs.declared.upper.UpperFields.{UpperFields}
 use Rattle.mesh_types.specs.declared.events.Event.{Event}
 use Rattle.mesh_types.specs.declared.events.Event.TheVariants as E
+use Rattle.mesh_types.specs.declared.low_power.LowPowerEvent.TheVariants as W
 use Rattle.script_definitions.specs.declared.line.PeerLine.{PeerLine}
 use Rattle.script_definitions.specs.declared.line.ScriptLine.{ScriptLine}
 use Rattle.script_definitions.specs.declared.line.ScriptLine.TheVariants as L
@@ -106,7 +107,7 @@ pub record Happening : Type 0 where
 abbrev pub on : ℕ → Event → Option Happening
 on bearer event = Some (record { bearer = bearer; event = event })
 
--- What a line of a node's script stands for; `sync` and `arm` are no events, and neither are the lines of a Low Power node alone.
+-- what a line of a script stands for; `sync` and `arm` are no events
 abbrev pub happening_of : ScriptLine → Option Happening
 happening_of (L.Net bearer octets) = on bearer (E.Net octets)
 happening_of (L.Bcn bearer octets) = on bearer (E.Bcn octets)
@@ -116,6 +117,9 @@ happening_of (L.Beacon bearer beacon) = on bearer (E.Bcn (beacon_text beacon.net
 happening_of (L.Send bearer send) = on bearer (E.Send send.element send.dst send.ttl send.key send.payload)
 happening_of (L.Raw bearer raw) = on bearer (E.Raw raw.dst raw.ttl raw.tpdu)
 happening_of (L.Tick bearer ticks) = on bearer (E.Tick ticks)
+happening_of (L.Seek bearer) = on bearer (E.LowPower W.Seek)
+happening_of (L.Poll bearer) = on bearer (E.LowPower W.Poll)
+happening_of (L.List bearer address) = on bearer (E.LowPower (W.List address))
 happening_of _ = None
 
 abbrev pub event_on : ℕ → Option Happening → Option Event

@@ -12,6 +12,7 @@ ghost use Rattle.script_events.specs.Kept.{behind};
 use crate::outside::{OutsideNode, beacon_octets};
 use mesh_base::octets::Octets;
 use mesh_types::events::Event;
+use mesh_types::low_power::LowPowerEvent;
 use script_definitions::line::{RawLine, ScriptLine, SendLine};
 
 /// Something that happens on a bearer.
@@ -61,8 +62,7 @@ fn raw_sending(raw: &RawLine) -> Event
 }
 
 impl OutsideNode {
-    /// What a line stands for that a reader read: the bearer, and the event on it. There is none for `sync` and `arm`, and none for the
-    /// lines of a Low Power node alone, which are `seek`, `poll` and `list`.
+    /// What a line stands for that a reader read: the bearer, and the event on it. There is none for `sync` and `arm`.
     pub fn happening_of(&mut self, line: &ScriptLine) -> Option<Happening>
         requires ranges { IsRead line.now }
         ensures value { option_map said result ≡ Said.happening_of line.now }
@@ -84,11 +84,13 @@ impl OutsideNode {
             ScriptLine::Send { bearer, send } => (bearer, sending(send)),
             ScriptLine::Raw { bearer, raw } => (bearer, raw_sending(raw)),
             ScriptLine::Tick { bearer, ticks } => (bearer, Event::Tick(*ticks)),
-            ScriptLine::Sync
-            | ScriptLine::Arm(_)
-            | ScriptLine::Seek { .. }
-            | ScriptLine::Poll { .. }
-            | ScriptLine::List { .. } => return None,
+            ScriptLine::Seek { bearer } => (bearer, Event::LowPower(LowPowerEvent::Seek)),
+            ScriptLine::Poll { bearer } => (bearer, Event::LowPower(LowPowerEvent::Poll)),
+            ScriptLine::List { bearer, address } => (
+                bearer,
+                Event::LowPower(LowPowerEvent::List(*address)),
+            ),
+            ScriptLine::Sync | ScriptLine::Arm(_) => return None,
         };
         Some(Happening {
             bearer: *bearer,
