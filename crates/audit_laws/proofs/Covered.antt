@@ -24,16 +24,16 @@ use Rattle.record_types.specs.declared.records.StoreRecord.{StoreRecord}
 use Rattle.report_definitions.specs.Record.{Life, LifeOver, shown}
 use Rattle.report_definitions.specs.Report.{life_lines, lives_lines, report_text}
 use Rattle.event_definitions.specs.Answers.{pair_of}
-use Rattle.event_definitions.specs.Layers.{Layers}
 use Rattle.run_definitions.specs.Lines.{Shows, shows_bcn, shows_ctl, shows_first, shows_late, shows_long, shows_msg, shows_relay, shows_rep, shows_seg, shows_sent, shows_sent_long, shows_spent}
 use Rattle.run_definitions.specs.Order.{Step}
 use Rattle.run_definitions.specs.RunOf.{LivesOf}
 use Rattle.run_definitions.specs.Seals.{message_fields, own_fields}
 use Rattle.event_definitions.proofs.Accepting.{some_is}
 use Rattle.event_definitions.proofs.Each.{every_append, every_map}
-use Rattle.event_definitions.specs.Role.{node_role}
+use Rattle.event_definitions.specs.Role.{Role, node_role}
+use Rattle.audit_laws.proofs.OwnedRoles.{Owned, node_owned}
 use Rattle.script_definitions.specs.declared.line.ScriptNet.{ScriptNet}
-use Rattle.audit_laws.specs.Covered.{HasKey, IsCovered, ReportsAreSound}
+use Rattle.audit_laws.specs.Covered.{AreReportsSoundOf, HasKey, IsCovered, ReportsAreSound}
 use Rattle.audit_laws.specs.Laws.{TellsNothingTwice}
 use Rattle.audit_laws.specs.Reading.{as_told}
 use Rattle.audit_laws.proofs.Origins.{IsShown, Traced, life_traced}
@@ -42,7 +42,7 @@ use Rattle.audit_laws.proofs.Readable.{reports_read}
 use Rattle.audit_laws.proofs.ReportLines.{AskPlans}
 use Rattle.audit_laws.proofs.Runs.{ask_plans}
 use Rattle.audit_laws.proofs.Shown.{LineIs, all_hold, life_is}
-use Rattle.audit_laws.proofs.Sound.{verdicts_safe}
+use Rattle.audit_laws.proofs.Sound.{kind_verdicts_safe}
 
 -- The octets of a line are those of the PDU that it tells.
 
@@ -103,14 +103,14 @@ life_given nets elements l trace c hex n =
     (all_hold l.entries (IsCovered nets) (PduGiven nets) (λ s is covered. pdu_given nets is.found.entry is.event is.job s.outcome is.shows covered) l.sends
     (every_list (IsShown l.entries) l.sends trace.shown) c)
 
-lives_given : (layers : Layers) (nets : List ScriptNet) (elements : ℕ) (plans : List (List Step)) (lives : List LifeOver) (last : List StoreRecord) → LivesOf (node_role layers) plans lives last
+lives_given : (role : Role) (nets : List ScriptNet) (elements : ℕ) (plans : List (List Step)) (lives : List LifeOver) (last : List StoreRecord) → LivesOf role plans lives last
     → AskPlans elements plans → Every (λ (x : LifeOver). Every (IsCovered nets) (shown x.life)) lives → (hex : Bool) (n : ℕ) → Every (LineGiven nets) (lives_lines hex n lives)
 unfolding lives_lines
-lives_given layers nets elements plans [] last h asks c hex n = tt
-lives_given layers nets elements [] (x ∷ xs) last h asks c hex n = absurd h
-lives_given layers nets elements (plan ∷ plans) (x ∷ xs) last h asks c hex n =
+lives_given role nets elements plans [] last h asks c hex n = tt
+lives_given role nets elements [] (x ∷ xs) last h asks c hex n = absurd h
+lives_given role nets elements (plan ∷ plans) (x ∷ xs) last h asks c hex n =
     every_append (LineGiven nets) (life_lines hex n x.life) _ (life_given nets elements x.life (life_traced elements plan x.life asks.0 h.0.order h.0.idle) c.0 hex n)
-    (lives_given layers nets elements plans xs last h.1 asks.1 c.1 hex (n + 1))
+    (lives_given role nets elements plans xs last h.1 asks.1 c.1 hex (n + 1))
 
 -- What is read of them.
 
@@ -135,8 +135,8 @@ sound_of nets xs (V.Reuse a b) h k w = absurd k
 sound_of nets xs (V.Twice a b) h k w = absurd k
 sound_of nets xs (V.Bad b) h k w = absurd (none_bad nets xs h w.0.1.0 w.0.0 w.0.1.1 w.0.2)
 
-pub reports_sound : ReportsAreSound
-reports_sound layers safe sends s r asks run keys nets front told covered v h =
+pub kind_reports_sound : (role : Role) → Owned role → AreReportsSoundOf role
+kind_reports_sound role kind s r asks run keys nets front told covered v h =
     let xs : List ReportLine = lives_lines true 1 r.lives in
     let same = one_input (keys ++ report_text r true) h.nets h.lines nets (map as_told xs) h.input (reports_read r told keys nets front) in
     let here : IsVerdictOf nets h.lines v = subst (λ (ns : List ScriptNet). IsVerdictOf ns h.lines v) same.0 h.verdict in
@@ -144,5 +144,8 @@ reports_sound layers safe sends s r asks run keys nets front told covered v h =
     let lives : Every (λ (x : LifeOver). Every (IsCovered nets) (shown x.life)) r.lives =
     every_map (λ (x : LifeOver). All (IsCovered nets) (shown x.life)) (λ (x : LifeOver). Every (IsCovered nets) (shown x.life)) (λ x k. recursion_from_All (IsCovered nets) (shown x.life) k) r.lives
     (recursion_from_All (λ (x : LifeOver). All (IsCovered nets) (shown x.life)) r.lives covered) in
-    let given : Every (LineGiven nets) xs = lives_given layers nets s.node.elements s.lives r.lives r.last run.lives (ask_plans s.node.elements s.lives asks) lives true 1 in
-    sound_of nets xs v given (verdicts_safe layers safe sends s r asks run keys nets front true v h) there
+    let given : Every (LineGiven nets) xs = lives_given role nets s.node.elements s.lives r.lives r.last run.lives (ask_plans s.node.elements s.lives asks) lives true 1 in
+    sound_of nets xs v given (kind_verdicts_safe role kind s r asks run keys nets front true v h) there
+
+pub reports_sound : ReportsAreSound
+reports_sound layers safe sends = kind_reports_sound (node_role layers) (node_owned layers safe sends)

@@ -1,5 +1,6 @@
 pub mod Parts
 pub mod Sources
+pub mod OwnedRoles
 pub mod Origins
 pub mod Owners
 pub mod Shown

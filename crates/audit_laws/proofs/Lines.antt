@@ -24,10 +24,12 @@ use Rattle.mesh_types.specs.declared.events.Kind.{Kind}
 use Rattle.mesh_types.specs.declared.events.Kind.TheVariants as K
 use Rattle.mesh_types.specs.declared.lines.Outcome.{Outcome}
 use Rattle.mesh_types.specs.declared.lines.Outcome.TheVariants as O
+use Rattle.mesh_types.specs.declared.low_power.LowPowerAnswer.{LowPowerAnswer}
+use Rattle.mesh_types.specs.declared.low_power.LowPowerAnswer.TheVariants as P
 use Rattle.mesh_types.specs.declared.report.ReportLine.{ReportLine}
 use Rattle.mesh_types.specs.declared.report.ReportLine.TheVariants as L
 use Rattle.report_definitions.specs.Record.{Run}
-use Rattle.report_definitions.specs.Report.{answer_text, control_bit_text, iv_step_text, key_step_text, key_text, kind_text, line_text, lives_lines, outcome_text, params_text, pdu_text, report_text, state_text, words_text}
+use Rattle.report_definitions.specs.Report.{answer_text, control_bit_text, iv_step_text, key_step_text, key_text, kind_text, line_text, lives_lines, low_power_text, outcome_text, params_text, pdu_text, report_text, state_text, words_text}
 use Rattle.report_definitions.specs.Text.{hex_digits, name_text, octets_text, pair_text, route_text, word_text}
 use Rattle.report_reader.proofs.Parts.{is_whole, whole_decimal, whole_digits, whole_octets}
 use Rattle.report_reader.specs.Forms.{is_gap}
@@ -113,6 +115,9 @@ flat_kind K.Raw = record { flat = refl }
 flat_kind K.Tick = record { flat = refl }
 flat_kind K.Begin = record { flat = refl }
 flat_kind K.Kept = record { flat = refl }
+flat_kind K.Seek = record { flat = refl }
+flat_kind K.Poll = record { flat = refl }
+flat_kind K.List = record { flat = refl }
 
 flat_key_step : (s : KeyStep) → Flat (key_step_text s)
 flat_key_step S.Same = record { flat = refl }
@@ -131,6 +136,10 @@ flat_params : (xs : List ℕ) → Flat (params_text xs)
 flat_params [] = record { flat = refl }
 flat_params (x ∷ xs) = flat_octets (x ∷ xs)
 
+flat_low_power : (a : LowPowerAnswer) → Flat (low_power_text a)
+flat_low_power (P.TooMany held) = plain (codes " toomany ") refl ⊕ flat_decimal held
+flat_low_power _ = record { flat = refl }
+
 flat_answer : (a : Answer) → Flat (answer_text a)
 unfolding answer_text
 flat_answer (A.Replay kept) = plain (codes " replay") refl ⊕ flat_pair kept
@@ -146,6 +155,7 @@ flat_answer (A.NoAppKey index) = plain (codes " noappkey ") refl ⊕ flat_whole 
 flat_answer (A.Ticked now) = plain (codes " ticked ") refl ⊕ flat_decimal now
 flat_answer (A.Moved iv) = plain (codes " moved") refl ⊕ flat_digits 8 iv
 flat_answer (A.SendFull held) = plain (codes " sendfull ") refl ⊕ flat_decimal held
+flat_answer (A.LowPower answer) = flat_low_power answer
 flat_answer _ = record { flat = refl }
 
 flat_pdu : (hex : Bool) (pdu : List ℕ) → Flat (pdu_text hex pdu)

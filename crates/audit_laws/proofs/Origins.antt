@@ -83,6 +83,7 @@ module _ (elements : ℕ) (entries : List Entry) where
       fewer_begins : (event : Event) → Begins entries (p ∷ es) event → Begins entries es event
       fewer_begins (E.Begin m) h = h.1
       fewer_begins (E.Kept lpn fsn name octets) h = tt
+      fewer_begins (E.LowPower event) h = h
       fewer_begins (E.Net octets) h = h
       fewer_begins (E.Bcn octets) h = h
       fewer_begins (E.Send element dst ttl key payload) h = h
@@ -158,10 +159,12 @@ module _ (elements : ℕ) (entries : List Entry) where
   outside_origin at (E.Raw dst ttl tpdu) o h = tt
   outside_origin at (E.Tick ticks) o h = tt
   outside_origin at (E.Kept lpn fsn name octets) o h = tt
+  outside_origin at (E.LowPower event) o h = tt
 
   begun_origin : (p : Placed) (es : List Placed) (event : Event) → Begins entries (p ∷ es) event → Origin elements entries p.at event
   begun_origin p es (E.Begin m) h = h.0
   begun_origin p es (E.Kept lpn fsn name octets) h = tt
+  begun_origin p es (E.LowPower event) h = absurd h
   begun_origin p es (E.Net octets) h = absurd h
   begun_origin p es (E.Bcn octets) h = absurd h
   begun_origin p es (E.Send element dst ttl key payload) h = absurd h

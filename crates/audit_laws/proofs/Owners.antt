@@ -3,9 +3,9 @@ use Rattle.std.proofs.Common.{◌≡◌, suc, ◌<◌, ◌≤◌, true, List, []
 use Rattle.std.specs.Prelude.{slice_get}
 use Rattle.std.specs.List.{AllByRecursion as Every}
 use Rattle.std.proofs.lemmas.List.Elements.{All-from_recursion}
-use Rattle.layer_laws.proofs.Node.{IsSameNode, same_behind, same_element, same_filled, stores_none, then_same}
-use Rattle.layer_laws.proofs.Parts.{sees_here}
+use Rattle.layer_laws.proofs.Node.{IsNoIdentity, IsSameNode, same_behind, same_element, same_filled, then_same}
 use Rattle.mesh_base.specs.declared.address.Address.{Address}
+use Rattle.mesh_types.specs.declared.answers.Answer.{Answer}
 use Rattle.mesh_types.specs.declared.events.Event.{Event}
 use Rattle.mesh_types.specs.declared.events.Event.TheVariants as E
 use Rattle.mesh_types.specs.declared.history.Entry.{Entry}
@@ -16,18 +16,15 @@ use Rattle.event_definitions.proofs.Handling.{handled_more, left_more}
 use Rattle.event_definitions.specs.Fit.{IsOwn, IsOwnEvent}
 use Rattle.event_definitions.specs.Handling.{AreHandled, Handles, IsPast, past_of, records_after, records_left}
 use Rattle.event_definitions.specs.History.{Past, Told}
-use Rattle.event_definitions.specs.Jobs.{jobs_of}
-use Rattle.event_definitions.specs.Layers.{Layers}
 use Rattle.run_definitions.specs.Order.{placed_from}
 use Rattle.event_definitions.proofs.Each.{every_append, every_map}
-use Rattle.event_definitions.specs.Safe.{AreSafe}
-use Rattle.event_definitions.specs.Role.{node_role}
+use Rattle.event_definitions.specs.Role.{Role}
 use Rattle.store_definitions.specs.Config.{Config, config_of, is_element}
 use Rattle.store_definitions.specs.Numbers.{filled}
-use Rattle.audit_laws.specs.Laws.{IsOwnPast, SendOwn}
+use Rattle.audit_laws.specs.Laws.{IsOwnPast}
+use Rattle.audit_laws.proofs.OwnedRoles.{Owned}
 use Rattle.audit_laws.proofs.Origins.{Comes, HasOrigin, Origin}
 use Rattle.audit_laws.proofs.Parts.{every_at, every_of_map, get_front}
-use Rattle.audit_laws.proofs.Sources.{jobs_own}
 
 -- The same elements.
 
@@ -48,6 +45,7 @@ own_event_same c d s (E.Bcn octets) h = tt
 own_event_same c d s (E.Raw dst ttl tpdu) h = tt
 own_event_same c d s (E.Tick ticks) h = tt
 own_event_same c d s (E.Kept lpn fsn name octets) h = tt
+own_event_same c d s (E.LowPower event) h = tt
 
 -- What is known of an entry.
 pub record OwnEntry (own : Config) (e : Entry) : Type 0 where
@@ -57,11 +55,11 @@ pub record OwnEntry (own : Config) (e : Entry) : Type 0 where
 abbrev entries_told : List Told → List Entry
 entries_told ts = map (λ t. t.entry) ts
 
-module _ (layers : Layers) (safe : AreSafe layers) (sends : SendOwn layers) (own : Config) (some : 1 ≤ own.elements) (over : List StoreRecord) (entries : List Entry) where
+module _ (role : Role) (kind : Owned role) (own : Config) (some : 1 ≤ own.elements) (over : List StoreRecord) (entries : List Entry) where
   -- what was handled so far
   record SoFar (records : List StoreRecord) (before : List Told) : Type 0 where
-    handled : AreHandled (node_role layers) over [] before
-    records_are : records ≡ records_left (node_role layers) over [] before
+    handled : AreHandled role over [] before
+    records_are : records ≡ records_left role over [] before
     node : IsSameNode own (config_of records)
     owned : Every (λ (t : Told). OwnEntry own t.entry) before
 
@@ -87,45 +85,49 @@ module _ (layers : Layers) (safe : AreSafe layers) (sends : SendOwn layers) (own
   origin_own before rest (E.Raw dst ttl tpdu) is owned h = tt
   origin_own before rest (E.Tick ticks) is owned h = tt
   origin_own before rest (E.Kept lpn fsn name octets) is owned h = tt
+  origin_own before rest (E.LowPower event) is owned h = tt
 
   -- one entry
   record Next (records : List StoreRecord) (before : List Told) (t : Told) : Type 0 where
     owned : OwnEntry own t.entry
-    so_far : SoFar (records_after (node_role layers) (past_of before t) t) (before ++ t ∷ [])
+    so_far : SoFar (records_after role (past_of before t) t) (before ++ t ∷ [])
 
-  next : (records : List StoreRecord) (before : List Told) (t : Told) → SoFar records before → t.records ≡ filled t.entry.fills records → Handles (node_role layers) (past_of before t) t
+  next : (records : List StoreRecord) (before : List Told) (t : Told) → SoFar records before → t.records ≡ filled t.entry.fills records → Handles role (past_of before t) t
       → IsOwnEvent own t.entry.event → Next records before t
   next records before t so is handles event =
       let past : Past = past_of before t in
       let opened : IsSameNode own (config_of t.records) =
       subst (λ (l : List StoreRecord). IsSameNode own (config_of l)) (sym is) (then_same own (config_of records) (config_of (filled t.entry.fills records)) so.node (same_filled t.entry.fills records)) in
-      let after : List StoreRecord = records_after (node_role layers) past t in
-      let stored : IsSameNode (config_of t.records) (config_of after) = same_behind t.records _ (stores_none layers safe past t.entry.event t.insight t.entry.answer) in
+      let after : List StoreRecord = records_after role past t in
+      let stored_none : Every IsNoIdentity (role.stores past t.entry.event t.insight t.entry.answer) =
+      subst (λ (a : Answer). Every IsNoIdentity (role.stores past t.entry.event t.insight a)) (sym handles.answer) (kind.stores past t.entry.event t.insight) in
+      let stored : IsSameNode (config_of t.records) (config_of after) = same_behind t.records _ stored_none in
       let left : IsSameNode own (config_of after) = then_same own (config_of t.records) (config_of after) opened stored in
-      let filled_is : t.records ≡ filled t.entry.fills (records_left (node_role layers) over [] before) = is ∙ ap (filled t.entry.fills) so.records_are in
-      let is_past : IsPast (node_role layers) past = record { over = over; handled = so.handled; fills = t.entry.fills; records = filled_is } in
-      let own_past : IsOwnPast layers past (config_of after) =
+      let filled_is : t.records ≡ filled t.entry.fills (records_left role over [] before) = is ∙ ap (filled t.entry.fills) so.records_are in
+      let is_past : IsPast role past = record { over = over; handled = so.handled; fills = t.entry.fills; records = filled_is } in
+      let own_past : IsOwnPast role past (config_of after) =
       record {
         handled = is_past;
         some = let e = opened.elements in omega arith;
         asked = All-from_recursion _ before (every_map (λ (u : Told). OwnEntry own u.entry) (λ (u : Told). IsOwnEvent (config_of t.records) u.entry.event) (λ u o. own_event_same own (config_of t.records) opened u.entry.event o.event) before so.owned);
         elements = record { unicast = stored.unicast; elements = stored.elements };
       } in
-      let jobs : Every (IsOwn (config_of after)) (jobs_of layers past (config_of after) t.entry.event t.insight t.entry.answer) =
-      jobs_own layers sends past (config_of after) own_past t.entry.event t.insight t.entry.answer (sees_here layers past t.entry.event t.insight handles.sees) (own_event_same own (config_of t.records) opened t.entry.event event) in
+      let jobs : Every (IsOwn (config_of after)) (role.jobs past (config_of after) t.entry.event t.insight t.entry.answer) =
+      subst (λ (a : Answer). Every (IsOwn (config_of after)) (role.jobs past (config_of after) t.entry.event t.insight a)) (sym handles.answer)
+      (kind.jobs past (config_of after) t.entry.event t.insight own_past handles.sees (own_event_same own (config_of t.records) opened t.entry.event event)) in
       let here : Every (IsOwn (config_of after)) t.entry.jobs = subst (Every (IsOwn (config_of after))) (sym handles.jobs) jobs in
       let owned : OwnEntry own t.entry = record { event = event; jobs = every_map (IsOwn (config_of after)) (IsOwn own) (own_job_same own (config_of after) left) t.entry.jobs here } in
       record {
         owned = owned;
         so_far = record {
-          handled = handled_more (node_role layers) over [] before t so.handled filled_is handles;
-          records_are = sym (left_more (node_role layers) over [] before t);
+          handled = handled_more role over [] before t so.handled filled_is handles;
+          records_are = sym (left_more role over [] before t);
           node = left;
           owned = every_append (λ (u : Told). OwnEntry own u.entry) before (t ∷ []) so.owned (owned, tt);
         };
       }
 
-  entries_own : (records : List StoreRecord) (before ts : List Told) → entries ≡ entries_told before ++ entries_told ts → SoFar records before → AreHandled (node_role layers) records before ts
+  entries_own : (records : List StoreRecord) (before ts : List Told) → entries ≡ entries_told before ++ entries_told ts → SoFar records before → AreHandled role records before ts
       → Every (HasOrigin own.elements entries) (placed_from (length before) (entries_told ts)) → Every (λ (t : Told). OwnEntry own t.entry) ts
   entries_own records before [] is so h o = tt
   entries_own records before (t ∷ ts) is so h o =
@@ -133,15 +135,15 @@ module _ (layers : Layers) (safe : AreSafe layers) (sends : SendOwn layers) (own
       let further : entries ≡ entries_told (before ++ t ∷ []) ++ entries_told ts = is ∙ split before t ts in
       let places : Every (HasOrigin own.elements entries) (placed_from (length (before ++ t ∷ [])) (entries_told ts)) =
       subst (λ n. Every (HasOrigin own.elements entries) (placed_from n (entries_told ts))) (sym (length-append before (t ∷ []))) o.1 in
-      (one.owned, entries_own (records_after (node_role layers) (past_of before t) t) (before ++ t ∷ []) ts further one.so_far h.2 places)
+      (one.owned, entries_own (records_after role (past_of before t) t) (before ++ t ∷ []) ts further one.so_far h.2 places)
     where
       split : (xs : List Told) (t : Told) (ts : List Told) → entries_told xs ++ entries_told (t ∷ ts) ≡ entries_told (xs ++ t ∷ []) ++ entries_told ts
       split [] t ts = refl
       split (x ∷ xs) t ts = ap (λ l. x.entry ∷ l) (split xs t ts)
 
 -- All entries of a life, from what it opened over.
-pub life_own : (layers : Layers) → AreSafe layers → SendOwn layers → (own : Config) (over : List StoreRecord) (told : List Told) → 1 ≤ own.elements → IsSameNode own (config_of over)
-    → AreHandled (node_role layers) over [] told → Every (HasOrigin own.elements (entries_told told)) (placed_from 0 (entries_told told)) → Every (OwnEntry own) (entries_told told)
-life_own layers safe sends own over told some node h o =
+pub life_own : (role : Role) → Owned role → (own : Config) (over : List StoreRecord) (told : List Told) → 1 ≤ own.elements → IsSameNode own (config_of over)
+    → AreHandled role over [] told → Every (HasOrigin own.elements (entries_told told)) (placed_from 0 (entries_told told)) → Every (OwnEntry own) (entries_told told)
+life_own role kind own over told some node h o =
     every_of_map (OwnEntry own) (λ (t : Told). t.entry) told
-    (entries_own layers safe sends own some over (entries_told told) over [] told refl (record { handled = tt; records_are = refl; node = node; owned = tt }) h o)
+    (entries_own role kind own some over (entries_told told) over [] told refl (record { handled = tt; records_are = refl; node = node; owned = tt }) h o)

@@ -80,9 +80,9 @@ line_names g elements k (C.Raw bearer raw) h = on_bearer elements _ (bearer == k
 line_names g elements k (C.Tick bearer ticks) h = on_bearer elements _ (bearer == k) tt
 line_names g elements k C.Sync h = tt
 line_names g elements k (C.Arm arm) h = tt
-line_names g elements k (C.Seek bearer) h = tt
-line_names g elements k (C.Poll bearer) h = tt
-line_names g elements k (C.List bearer address) h = tt
+line_names g elements k (C.Seek bearer) h = on_bearer elements _ (bearer == k) tt
+line_names g elements k (C.Poll bearer) h = on_bearer elements _ (bearer == k) tt
+line_names g elements k (C.List bearer address) h = on_bearer elements _ (bearer == k) tt
 
 pub lives_name : LivesNameElements
 lives_name g elements life h k =

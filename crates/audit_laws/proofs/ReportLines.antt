@@ -1,5 +1,5 @@
 -- What a run says of the lines of its report: whose each PDU is, that no pair seals twice for one layer, and which names were accepted.
-use Rattle.std.proofs.Common.{◌≡◌, ℕ, ◌+◌, ◌^◌, ◌<◌, ◌≤◌, Bool, true, leb, ltb, ◌&&◌, List, [], ◌∷◌, ◌++◌, map, refl, ap, sym, subst, ◌∙◌, arith, None}
+use Rattle.std.proofs.Common.{◌≡◌, ℕ, ◌+◌, ◌^◌, ◌<◌, ◌≤◌, Bool, true, leb, ltb, ◌&&◌, List, [], ◌∷◌, ◌++◌, map, refl, ap, sym, subst, ◌∙◌, arith, Some, None}
 use Rattle.std.specs.Bool.{⊤}
 use Rattle.std.specs.List.{AllByRecursion as Every, cons_option, filter_map, flat_map}
 use Rattle.std.proofs.lemmas.Bool.Decides.{nat_tests}
@@ -12,7 +12,6 @@ use Rattle.mesh_base.specs.declared.pair.Name.{Name}
 use Rattle.mesh_types.specs.declared.answers.Answer.{Answer}
 use Rattle.mesh_types.specs.declared.answers.Answer.TheVariants as A
 use Rattle.mesh_types.specs.declared.events.Event.{Event}
-use Rattle.mesh_types.specs.declared.events.Event.TheVariants as E
 use Rattle.mesh_types.specs.declared.history.Entry.{Entry}
 use Rattle.mesh_types.specs.declared.history.Sent.{Sent}
 use Rattle.mesh_types.specs.declared.jobs.Job.{Job}
@@ -25,36 +24,34 @@ use Rattle.mesh_types.specs.declared.report.Opened.TheVariants as W
 use Rattle.mesh_types.specs.declared.report.ReportLine.{ReportLine}
 use Rattle.mesh_types.specs.declared.report.ReportLine.TheVariants as L
 use Rattle.record_types.specs.declared.records.StoreRecord.{StoreRecord}
+use Rattle.record_types.specs.declared.records.StoreRecord.TheVariants as R
 use Rattle.report_definitions.specs.Record.{Life, LifeOver, first_over, shown, shown_of}
 use Rattle.report_definitions.specs.Report.{bearer_lines, end_lines, entry_lines, life_lines, lives_lines, opened_line, send_lines}
-use Rattle.event_definitions.specs.Answers.{accepted as accepted_by, answer_of}
+use Rattle.event_definitions.specs.Answers.{accepted as accepted_by}
 use Rattle.event_definitions.specs.Fit.{IsOwn}
 use Rattle.event_definitions.specs.Handling.{AreHandled, past_of, records_after, records_left}
 use Rattle.event_definitions.specs.History.{Insight, Past, Told}
-use Rattle.event_definitions.specs.Layers.{Layers}
 use Rattle.run_definitions.specs.Lines.{Shows, shows_bcn, shows_ctl, shows_first, shows_late, shows_long, shows_msg, shows_relay, shows_rep, shows_seg, shows_sent, shows_sent_long, shows_spent}
 use Rattle.run_definitions.specs.Order.{Step, phases_of, placed_from}
-use Rattle.event_definitions.specs.Readings.{Sees, sees_beacon, sees_nothing, sees_pdu}
 use Rattle.run_definitions.specs.RunOf.{LifeOf, LivesOf, draws}
-use Rattle.event_definitions.specs.Stores.{stores}
 use Rattle.run_definitions.specs.Uses.{life_delivered}
-use Rattle.event_definitions.proofs.Events.{Silent, beacon_silent, nothing_silent, silent, unless_silent}
+use Rattle.event_definitions.proofs.Accepting.{some_is}
 use Rattle.run_safety.proofs.LifeLines as lines
 use Rattle.run_safety.proofs.Lists.{Sub, no_part, sub_append}
 use Rattle.event_definitions.proofs.Each.{every_append, every_back, every_front}
 use Rattle.run_safety.proofs.Lives.{life_later}
 use Rattle.run_safety.proofs.Names.{filled_is, left_is}
 use Rattle.run_safety.proofs.Rising.{Later, later_after}
-use Rattle.run_safety.specs.SafeRole.{Foreign}
+use Rattle.run_safety.specs.SafeRole.{Foreign, IsSafeRole}
 use Rattle.run_safety.proofs.Walking.{ForeignJob, ShownFits, Tag, doubled, tags, tags_of}
 use Rattle.run_safety.specs.Rules.{LifeBy, LivesBy, enough_rules}
 use Rattle.run_safety.specs.Safety.{all_draws}
-use Rattle.event_definitions.specs.Safe.{AreSafe}
-use Rattle.event_definitions.specs.Role.{node_role}
-use Rattle.run_safety.proofs.NodeRole.{node_is_safe}
+use Rattle.event_definitions.specs.Role.{Role}
+use Rattle.mesh_base.proofs.Every.{option_cases}
 use Rattle.store_definitions.specs.Config.{Config, config_of, is_element}
 use Rattle.store_definitions.specs.Ranges.{IsInRange, IsNameInRange}
-use Rattle.audit_laws.specs.Laws.{NamesElement, SendOwn}
+use Rattle.audit_laws.specs.Laws.{NamesElement}
+use Rattle.audit_laws.proofs.OwnedRoles.{Owned}
 use Rattle.audit_laws.proofs.Origins.{HasOrigin, IsShown, Traced, life_traced}
 use Rattle.audit_laws.proofs.Owners.{OwnEntry, life_own}
 use Rattle.audit_laws.proofs.Parts.{every_at, every_list}
@@ -131,31 +128,30 @@ unaccepted_fits (A.Delivered name dst key payload) e = absurd cc
 unaccepted_fits (A.Control name dst opcode params) e = absurd cc
 unaccepted_fits _ e = tt
 
-silent_fits : (a b : Answer) → a ≡ b → Silent b → AnswerFits a
-silent_fits a b e (silent k) = unaccepted_fits a (ap accepted_by e ∙ k)
+named_fits : (a : Answer) (n : Name) → accepted_by a ≡ Some n → IsNameInRange n → AnswerFits a
+named_fits (A.Delivered name dst key payload) n e h = subst IsNameInRange (sym (some_is e)) h
+named_fits (A.Control name dst opcode params) n e h = subst IsNameInRange (sym (some_is e)) h
+named_fits _ n e h = absurd cc
 
-stored_fits : (layers : Layers) (past : Past) (octets : List ℕ) (insight : Insight) (answer : Answer) → Every IsInRange (stores layers past (E.Net octets) insight answer) → AnswerFits answer
-unfolding stores
-stored_fits layers past octets insight (A.Delivered name dst key payload) h = h.0.0
-stored_fits layers past octets insight (A.Control name dst opcode params) h = h.0.0
-stored_fits layers past octets insight _ h = tt
+answer_fits : (role : Role) → IsSafeRole role → (past : Past) (event : Event) (insight : Insight) (answer : Answer) → role.sees past event insight
+    → answer ≡ role.answer past event insight → Every IsInRange (role.stores past event insight answer) → AnswerFits answer
+answer_fits role safe past event insight answer sees e h =
+    option_cases (AnswerFits answer) (accepted_by answer) (λ none. unaccepted_fits answer none)
+    (λ n some.
+    let replay = safe.replay past event insight n sees (ap accepted_by (sym e) ∙ some) in
+    let stored : Every IsInRange (R.Replay n None ∷ replay.0) =
+    subst (Every IsInRange) replay.1 (subst (λ (a : Answer). Every IsInRange (role.stores past event insight a)) e h) in
+    named_fits answer n some stored.0.0)
 
-answer_fits : (layers : Layers) (past : Past) (event : Event) (insight : Insight) (answer : Answer) → Sees layers past event insight → answer ≡ answer_of layers past event insight
-    → Every IsInRange (stores layers past event insight answer) → AnswerFits answer
-unfolding answer_of
-answer_fits layers past _ _ answer (sees_pdu {octets = octets} {reading = reading} {low = low} {opening = opening} reset r l o) e h = stored_fits layers past octets _ answer h
-answer_fits layers past _ _ answer (sees_beacon {b = b} reset k) e h = silent_fits answer _ e (unless_silent past _ (beacon_silent layers past b))
-answer_fits layers past _ _ answer (sees_nothing {event = event} k) e h = silent_fits answer _ e (nothing_silent layers past event)
-
-answers_fit : (layers : Layers) (records : List StoreRecord) (before ts : List Told) → AreHandled (node_role layers) records before ts → Every IsInRange (records_left (node_role layers) records before ts)
+answers_fit : (role : Role) → IsSafeRole role → (records : List StoreRecord) (before ts : List Told) → AreHandled role records before ts → Every IsInRange (records_left role records before ts)
     → Every (λ (e : Entry). AnswerFits e.answer) (map (λ t. t.entry) ts)
-answers_fit layers records before [] h r = tt
-answers_fit layers records before (t ∷ ts) h r =
+answers_fit role safe records before [] h r = tt
+answers_fit role safe records before (t ∷ ts) h r =
     let past : Past = past_of before t in
-    let left = left_is (node_role layers) (records_after (node_role layers) past t) (before ++ t ∷ []) ts h.2 in
-    let after : Every IsInRange (records_after (node_role layers) past t) = every_front IsInRange (records_after (node_role layers) past t) left.0 (subst (Every IsInRange) left.1 r) in
-    let stored : Every IsInRange (stores layers past t.entry.event t.insight t.entry.answer) = every_back IsInRange t.records _ after in
-    (answer_fits layers past t.entry.event t.insight t.entry.answer h.1.sees h.1.answer stored, answers_fit layers (records_after (node_role layers) past t) (before ++ t ∷ []) ts h.2 r)
+    let left = left_is role (records_after role past t) (before ++ t ∷ []) ts h.2 in
+    let after : Every IsInRange (records_after role past t) = every_front IsInRange (records_after role past t) left.0 (subst (Every IsInRange) left.1 r) in
+    let stored : Every IsInRange (role.stores past t.entry.event t.insight t.entry.answer) = every_back IsInRange t.records _ after in
+    (answer_fits role safe past t.entry.event t.insight t.entry.answer h.1.sees h.1.answer stored, answers_fit role safe (records_after role past t) (before ++ t ∷ []) ts h.2 r)
 
 -- A life.
 
@@ -167,21 +163,21 @@ record LifeFits (own : Config) (l : Life) : Type 0 where
 same_by : (own c : Config) → Later own c → IsSameNode own c
 same_by own c h = record { unicast = h.unicast; elements = h.elements }
 
-module _ (layers : Layers) (safe : AreSafe layers) (sends : SendOwn layers) (own : Config) (has : HasElement own) (plan : List Step) (over : List StoreRecord) (l : Life) (next : List StoreRecord)
-    (h : LifeOf (node_role layers) plan over l next) (by : LifeBy enough_rules (node_role layers) plan over l next) (later : Later own (config_of over)) (asks : Every (Every (Every (NamesElement own.elements))) (phases_of plan)) where
+module _ (role : Role) (kind : Owned role) (own : Config) (has : HasElement own) (plan : List Step) (over : List StoreRecord) (l : Life) (next : List StoreRecord)
+    (h : LifeOf role plan over l next) (by : LifeBy enough_rules role plan over l next) (later : Later own (config_of over)) (asks : Every (Every (Every (NamesElement own.elements))) (phases_of plan)) where
   trace : Traced own.elements l
   trace = life_traced own.elements plan l asks h.order h.idle
 
   owned : Every (OwnEntry own) l.entries
   owned =
       subst (Every (OwnEntry own)) h.entries
-      (life_own layers safe sends own over h.told has.some (same_by own (config_of over) later) h.handled
+      (life_own role kind own over h.told has.some (same_by own (config_of over) later) h.handled
       (subst (λ es. Every (HasOrigin own.elements es) (placed_from 0 es)) (sym h.entries) trace.origins))
 
-  ranges : Every IsInRange (records_left (node_role layers) over [] h.told)
+  ranges : Every IsInRange (records_left role over [] h.told)
   ranges =
       let whole = recursion_from_All IsInRange _ h.leaves.ranges in
-      let left : List StoreRecord = records_left (node_role layers) over [] h.told in
+      let left : List StoreRecord = records_left role over [] h.told in
       let filled = filled_is l.refills left in
       every_front IsInRange left filled.0 (subst (Every IsInRange) filled.1 (every_front IsInRange _ h.leaves.more whole))
 
@@ -190,8 +186,8 @@ module _ (layers : Layers) (safe : AreSafe layers) (sends : SendOwn layers) (own
 
   life_fits : LifeFits own l
   life_fits = record {
-    entries = subst (Every (λ (e : Entry). AnswerFits e.answer)) h.entries (answers_fit layers over [] h.told h.handled ranges);
-    sends = all_fit own has l.entries owned l.sends shown_all (lines.life_lines (node_role layers) (node_is_safe layers safe) plan over l next by own later).shown;
+    entries = subst (Every (λ (e : Entry). AnswerFits e.answer)) h.entries (answers_fit role kind.safe over [] h.told h.handled ranges);
+    sends = all_fit own has l.entries owned l.sends shown_all (lines.life_lines role kind.safe plan over l next by own later).shown;
     tagged = all_tagged l.entries l.sends shown_all;
   }
 
@@ -322,13 +318,13 @@ life_more own x xs h s k = record {
 abbrev pub AskPlans : ℕ → List (List Step) → Type 0
 AskPlans elements plans = Every (λ plan. Every (Every (Every (NamesElement elements))) (phases_of plan)) plans
 
-pub lives_fit : (layers : Layers) → AreSafe layers → SendOwn layers → (own : Config) → HasElement own → (plans : List (List Step)) (lives : List LifeOver) (last : List StoreRecord)
-    → LivesOf (node_role layers) plans lives last → LivesBy enough_rules (node_role layers) plans lives last → AskPlans own.elements plans → Later own (config_of (first_over lives last)) → LivesFit own lives
-lives_fit layers safe sends own has [] [] last h by asks later = no_life own
-lives_fit layers safe sends own has [] (x ∷ xs) last h by asks later = absurd h
-lives_fit layers safe sends own has (plan ∷ plans) [] last h by asks later = no_life own
-lives_fit layers safe sends own has (plan ∷ plans) (x ∷ xs) last h by asks later =
+pub lives_fit : (role : Role) → Owned role → (own : Config) → HasElement own → (plans : List (List Step)) (lives : List LifeOver) (last : List StoreRecord)
+    → LivesOf role plans lives last → LivesBy enough_rules role plans lives last → AskPlans own.elements plans → Later own (config_of (first_over lives last)) → LivesFit own lives
+lives_fit role kind own has [] [] last h by asks later = no_life own
+lives_fit role kind own has [] (x ∷ xs) last h by asks later = absurd h
+lives_fit role kind own has (plan ∷ plans) [] last h by asks later = no_life own
+lives_fit role kind own has (plan ∷ plans) (x ∷ xs) last h by asks later =
     let next : List StoreRecord = first_over xs last in
-    let after : Later own (config_of next) = later_after own (config_of x.over) (config_of next) later (life_later (node_role layers) (node_is_safe layers safe) plan x.over x.life next by.0) in
-    life_more own x xs (life_fits layers safe sends own has plan x.over x.life next h.0 by.0 later asks.0) (lines.life_lines (node_role layers) (node_is_safe layers safe) plan x.over x.life next by.0 own later).sub
-    (lives_fit layers safe sends own has plans xs last h.1 by.1 asks.1 after)
+    let after : Later own (config_of next) = later_after own (config_of x.over) (config_of next) later (life_later role kind.safe plan x.over x.life next by.0) in
+    life_more own x xs (life_fits role kind own has plan x.over x.life next h.0 by.0 later asks.0) (lines.life_lines role kind.safe plan x.over x.life next by.0 own later).sub
+    (lives_fit role kind own has plans xs last h.1 by.1 asks.1 after)

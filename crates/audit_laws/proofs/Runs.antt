@@ -9,7 +9,6 @@ use Rattle.record_types.specs.declared.records.StoreRecord.{StoreRecord}
 use Rattle.report_definitions.specs.Record.{Life, LifeOver, Run, first_over}
 use Rattle.report_definitions.specs.Report.{lives_lines}
 use Rattle.event_definitions.specs.Handling.{records_left}
-use Rattle.event_definitions.specs.Layers.{Layers}
 use Rattle.run_definitions.specs.Order.{Step, phases_of}
 use Rattle.run_definitions.specs.RunOf.{LifeOf, LivesOf, RunOf, Script}
 use Rattle.run_definitions.specs.Uses.{delivered, node_of}
@@ -24,9 +23,10 @@ use Rattle.run_safety.proofs.Rising.{later_same}
 use Rattle.run_safety.proofs.Walking.{Tag}
 use Rattle.run_safety.specs.Rules.{LivesBy, enough_rules}
 use Rattle.run_safety.specs.Safety.{all_draws}
+use Rattle.event_definitions.specs.Layers.{Layers}
+use Rattle.event_definitions.specs.Role.{Role, node_role}
 use Rattle.event_definitions.specs.Safe.{AreSafe}
-use Rattle.event_definitions.specs.Role.{node_role}
-use Rattle.run_safety.proofs.NodeRole.{node_is_safe}
+use Rattle.audit_laws.proofs.OwnedRoles.{Owned, node_owned}
 use Rattle.store_definitions.specs.Config.{Config, changed, config_of}
 use Rattle.store_definitions.specs.Provisioning.{Provisioning, provisioned}
 use Rattle.store_definitions.specs.Ranges.{IsInRange}
@@ -89,12 +89,12 @@ provisioned_node : (p : Provisioning) → ((config_of (provisioned p)).elements 
 unfolding changed
 provisioned_node p = (refl, refl)
 
-over_ranges : (layers : Layers) (plan : List Step) (over : List StoreRecord) (l : Life) (next : List StoreRecord) → LifeOf (node_role layers) plan over l next → Every IsInRange over
-over_ranges layers plan over l next h =
+over_ranges : (role : Role) (plan : List Step) (over : List StoreRecord) (l : Life) (next : List StoreRecord) → LifeOf role plan over l next → Every IsInRange over
+over_ranges role plan over l next h =
     let whole = recursion_from_All IsInRange _ h.leaves.ranges in
-    let left : List StoreRecord = records_left (node_role layers) over [] h.told in
+    let left : List StoreRecord = records_left role over [] h.told in
     let filled = filled_is l.refills left in
-    let rest = left_is (node_role layers) over [] h.told h.handled in
+    let rest = left_is role over [] h.told h.handled in
     every_front IsInRange over rest.0 (subst (Every IsInRange) rest.1 (every_front IsInRange left filled.0 (subst (Every IsInRange) filled.1 (every_front IsInRange _ h.leaves.more whole))))
 
 has_element : (p : Provisioning) → Every IsInRange (provisioned p) → HasElement (config_of (provisioned p))
@@ -113,16 +113,16 @@ ask_plans elements plans h =
     (recursion_from_All (λ phase. All (λ events. All (NamesElement elements) events) phase) (phases_of plan) k)) plans
     (recursion_from_All (λ plan. All (λ phase. All (λ events. All (NamesElement elements) events) phase) (phases_of plan)) plans h)
 
-run_fits : (layers : Layers) → AreSafe layers → SendOwn layers → (node : Provisioning) (plans : List (List Step)) (lives : List LifeOver) (last : List StoreRecord)
-    → first_over lives last ≡ provisioned node → LivesOf (node_role layers) plans lives last → LivesBy enough_rules (node_role layers) plans lives last → AskPlans node.elements plans
+run_fits : (role : Role) → Owned role → (node : Provisioning) (plans : List (List Step)) (lives : List LifeOver) (last : List StoreRecord)
+    → first_over lives last ≡ provisioned node → LivesOf role plans lives last → LivesBy enough_rules role plans lives last → AskPlans node.elements plans
     → LivesFit (config_of (first_over lives last)) lives
-run_fits layers safe sends node plans [] last first h by asks = no_life (config_of last)
-run_fits layers safe sends node [] (x ∷ xs) last first h by asks = absurd h
-run_fits layers safe sends node (plan ∷ plans) (x ∷ xs) last first h by asks =
-    let ranges : Every IsInRange (provisioned node) = subst (Every IsInRange) first (over_ranges layers plan x.over x.life (first_over xs last) h.0) in
+run_fits role kind node plans [] last first h by asks = no_life (config_of last)
+run_fits role kind node [] (x ∷ xs) last first h by asks = absurd h
+run_fits role kind node (plan ∷ plans) (x ∷ xs) last first h by asks =
+    let ranges : Every IsInRange (provisioned node) = subst (Every IsInRange) first (over_ranges role plan x.over x.life (first_over xs last) h.0) in
     let has : HasElement (config_of x.over) = subst (λ l. HasElement (config_of l)) (sym first) (has_element node ranges) in
     let elements : (config_of x.over).elements ≡ node.elements = ap (λ l. (config_of l).elements) first ∙ (provisioned_node node).0 in
-    lives_fit layers safe sends (config_of x.over) has (plan ∷ plans) (x ∷ xs) last h by (subst (λ n. AskPlans n (plan ∷ plans)) (sym elements) asks) (later_same (config_of x.over))
+    lives_fit role kind (config_of x.over) has (plan ∷ plans) (x ∷ xs) last h by (subst (λ n. AskPlans n (plan ∷ plans)) (sym elements) asks) (later_same (config_of x.over))
 
 -- The lines of a report.
 
@@ -138,19 +138,23 @@ pub record SafeLines (own : Config) (lines : List ReportLine) : Type 0 where
   pub seals : Apart SealApart lines
   pub accepts : Apart AcceptApart lines
 
-pub run_lines : (layers : Layers) → AreSafe layers → SendOwn layers → (s : Script) (r : Run) → NamesElements s → RunOf (node_role layers) s r → (hex : Bool) → SafeLines (node_of r) (lives_lines hex 1 r.lives)
-run_lines layers safe sends s r asks h hex =
-    let by = run_by_enough (node_role layers) s r h in
-    let fit : LivesFit (node_of r) r.lives = run_fits layers safe sends s.node s.lives r.lives r.last h.first h.lives by.lives (ask_plans s.node.elements s.lives asks) in
-    let drawn : Drawn r.lives r.last = lives_drawn (node_role layers) (node_is_safe layers safe) s.lives r.lives r.last by.lives in
+pub kind_lines : (role : Role) → Owned role → (s : Script) (r : Run) → NamesElements s → RunOf role s r → (hex : Bool) → SafeLines (node_of r) (lives_lines hex 1 r.lives)
+kind_lines role kind s r asks h hex =
+    let by = run_by_enough role s r h in
+    let fit : LivesFit (node_of r) r.lives = run_fits role kind s.node s.lives r.lives r.last h.first h.lives by.lives (ask_plans s.node.elements s.lives asks) in
+    let drawn : Drawn r.lives r.last = lives_drawn role kind.safe s.lives r.lives r.last by.lives in
     let once = apart_sub (λ s t. s ≢ t) fit.sub (doubled_apart (all_draws r.lives) drawn.once) in
     let wide = every_sub (λ (t : Tag). Wide t.pair) fit.sub (both_wide (all_draws r.lives) drawn.wide) in
     let lines : List ReportLine = lives_lines hex 1 r.lives in
     let tagged = fit.tagged hex 1 in
-    let differ = apart_from_pairs (λ m n. m ≢ n) (delivered r) (enough.at_most_once (node_role layers) (node_is_safe layers safe) s r h) in
+    let differ = apart_from_pairs (λ m n. m ≢ n) (delivered r) (enough.at_most_once role kind.safe s r h) in
     record {
       fits = fit.fits hex 1;
       wide = every_parts (λ (t : Tag). Wide t.pair) line_tags lines (subst (Every (λ (t : Tag). Wide t.pair)) (sym tagged) wide);
       seals = apart_parts (λ s t. s ≢ t) line_tags lines (subst (Apart (λ s t. s ≢ t)) (sym tagged) once);
       accepts = apart_chosen (λ m n. m ≢ n) accepted lines (subst (Apart (λ m n. m ≢ n)) (sym (accepted_lives hex 1 r.lives)) differ);
     }
+
+pub run_lines : (layers : Layers) → AreSafe layers → SendOwn layers → (s : Script) (r : Run) → NamesElements s → RunOf (node_role layers) s r → (hex : Bool)
+    → SafeLines (node_of r) (lives_lines hex 1 r.lives)
+run_lines layers safe sends = kind_lines (node_role layers) (node_owned layers safe sends)

@@ -31,11 +31,13 @@ use Rattle.script_definitions.specs.Digits.{number_word}
 use Rattle.script_definitions.specs.declared.line.ScriptNet.{ScriptNet}
 use Rattle.store_definitions.specs.Config.{Config, is_element}
 use Rattle.store_definitions.specs.Ranges.{IsNameInRange}
-use Rattle.audit_laws.specs.Laws.{ReportsAreSafe, TellsNothingTwice, VerdictsAreSafe}
+use Rattle.audit_laws.specs.Laws.{AreReportsSafeOf, AreVerdictsSafeOf, ReportsAreSafe, TellsNothingTwice, VerdictsAreSafe}
+use Rattle.audit_laws.proofs.OwnedRoles.{Owned, node_owned}
+use Rattle.event_definitions.specs.Role.{Role, node_role}
 use Rattle.audit_laws.proofs.Lines.{read_report}
 use Rattle.audit_laws.proofs.Parts.{every_at}
 use Rattle.audit_laws.proofs.ReportLines.{IsHomeSource, LineFits, OutcomeFits, line_tags}
-use Rattle.audit_laws.proofs.Runs.{AcceptApart, SafeLines, SealApart, run_lines}
+use Rattle.audit_laws.proofs.Runs.{AcceptApart, SafeLines, SealApart, kind_lines}
 use Rattle.audit_laws.proofs.Words.{NameDigits, Said, name_digits, said_of, same_told, source_digits}
 
 -- Numbers by their digits.
@@ -288,11 +290,14 @@ module _ (own : Config) (written lines : List ReportLine) (safe : SafeLines own 
 
 -- The law.
 
-pub reports_safe : ReportsAreSafe
-reports_safe layers safe sends s r asks run keys nets front hex given lines input v h =
+pub kind_reports_safe : (role : Role) → Owned role → AreReportsSafeOf role
+kind_reports_safe role kind s r asks run keys nets front hex given lines input v h =
     let written : List ReportLine = lives_lines hex 1 r.lives in
     let are : AreReportLines (map line_text written) lines = read_report keys nets given r hex lines front input in
-    none_wrong (node_of r) written lines (run_lines layers safe sends s r asks run hex) are given v h
+    none_wrong (node_of r) written lines (kind_lines role kind s r asks run hex) are given v h
+
+pub reports_safe : ReportsAreSafe
+reports_safe layers safe sends = kind_reports_safe (node_role layers) (node_owned layers safe sends)
 
 -- what a verdict tells is wrong, if it tells anything
 pub verdict_wrong : (nets : List ScriptNet) (lines : List ReportLine) → ((v : Verdict) → IsWrong nets lines v → TellsNothingTwice v) → (v : Verdict) → IsVerdictOf nets lines v → TellsNothingTwice v
@@ -301,6 +306,9 @@ verdict_wrong nets lines k (V.Reuse a b) h = k (V.Reuse a b) h.0
 verdict_wrong nets lines k (V.Twice a b) h = k (V.Twice a b) h.0
 verdict_wrong nets lines k (V.Bad line) h = tt
 
+pub kind_verdicts_safe : (role : Role) → Owned role → AreVerdictsSafeOf role
+kind_verdicts_safe role kind s r asks run keys nets front hex v h =
+    verdict_wrong h.nets h.lines (kind_reports_safe role kind s r asks run keys nets front hex h.nets h.lines h.input) v h.verdict
+
 pub verdicts_safe : VerdictsAreSafe
-verdicts_safe layers safe sends s r asks run keys nets front hex v h =
-    verdict_wrong h.nets h.lines (reports_safe layers safe sends s r asks run keys nets front hex h.nets h.lines h.input) v h.verdict
+verdicts_safe layers safe sends = kind_verdicts_safe (node_role layers) (node_owned layers safe sends)

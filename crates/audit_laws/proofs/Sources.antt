@@ -26,6 +26,7 @@ use Rattle.event_definitions.specs.Fit.{IsOwn, IsOwnEvent}
 use Rattle.event_definitions.specs.History.{Insight, OfBeacon, OfNothing, OfPdu, Opening, Past, Reading, now_of}
 use Rattle.event_definitions.specs.Jobs.{ack_asked, ack_job, ack_jobs, beacon_jobs, beacons_due, begin_jobs, block_asked, element_address, first_net, first_round_job, is_moved, is_refreshed, jobs_of, message_jobs, pdu_jobs, raw_jobs, refresh_jobs, relay_jobs, reply_ttl, segment_numbers, send_jobs, send_keys, sent_job, tick_jobs, under}
 use Rattle.event_definitions.specs.Layers.{Layers}
+use Rattle.event_definitions.specs.Role.{node_role}
 use Rattle.event_definitions.specs.Stores.{message_of}
 use Rattle.event_definitions.proofs.Each.{every_append}
 use Rattle.store_definitions.specs.Config.{Config, is_element}
@@ -72,7 +73,7 @@ sent_own c element dst ttl key h =
     every_or (IsOwn c) (sent_job c element dst ttl) (send_keys c key)
     (λ keys. every_under (IsOwn c) c keys.0 (λ m. J.Sent keys.0 m keys.1 ttl (element_address c element) dst) (λ m. place_own c element h))
 
-module _ (layers : Layers) (sends : SendOwn layers) (past : Past) (c : Config) (own : IsOwnPast layers past c) where
+module _ (layers : Layers) (sends : SendOwn layers) (past : Past) (c : Config) (own : IsOwnPast (node_role layers) past c) where
   same : IsSameNode (config_before past) c
   same = record { unicast = own.elements.unicast; elements = own.elements.elements }
 
@@ -134,3 +135,4 @@ module _ (layers : Layers) (sends : SendOwn layers) (past : Past) (c : Config) (
   jobs_own (E.Begin m) insight A.Begun h k = begin_own c m (still m.name.src.0 k)
   jobs_own (E.Begin m) insight _ h k = tt
   jobs_own (E.Kept lpn fsn name octets) insight answer h k = tt
+  jobs_own (E.LowPower event) insight answer h k = tt

@@ -13,6 +13,7 @@ use Rattle.mesh_types.specs.declared.answers.Answer.{Answer}
 use Rattle.mesh_types.specs.declared.answers.Answer.TheVariants as A
 use Rattle.mesh_types.specs.declared.events.Kind.{Kind}
 use Rattle.mesh_types.specs.declared.lines.Outcome.{Outcome}
+use Rattle.mesh_types.specs.declared.low_power.LowPowerAnswer.TheVariants as P
 use Rattle.mesh_types.specs.declared.lines.Outcome.TheVariants as O
 use Rattle.mesh_types.specs.declared.report.ReportLine.{ReportLine}
 use Rattle.mesh_types.specs.declared.report.ReportLine.TheVariants as L
@@ -163,6 +164,8 @@ entry_told at bearer number kind (A.Control name dst opcode params) = refl
 entry_told at bearer number kind (A.NoRoom held) = refl
 entry_told at bearer number kind (A.Replay kept) = refl
 entry_told at bearer number kind (A.Beacon index key iv) = refl
+entry_told at bearer number kind (A.LowPower (P.TooMany held)) = refl
+entry_told at bearer number kind (A.LowPower _) = refl
 entry_told at bearer number kind _ = refl
 
 pub line_told : (x : ReportLine) → said (fields_of (line_text x)) ≡ said_of x

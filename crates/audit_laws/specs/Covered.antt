@@ -19,7 +19,7 @@ use Rattle.run_definitions.specs.RunOf.{RunOf, Script}
 use Rattle.run_definitions.specs.Seals.{message_fields, own_fields}
 use Rattle.run_definitions.specs.Uses.{material_of, segment_of, upper_key_of}
 use Rattle.event_definitions.specs.Safe.{AreSafe}
-use Rattle.event_definitions.specs.Role.{node_role}
+use Rattle.event_definitions.specs.Role.{Role, node_role}
 use Rattle.script_definitions.specs.Events.{material_of as material_given}
 use Rattle.script_definitions.specs.declared.line.ScriptNet.{ScriptNet}
 use Rattle.audit_laws.specs.Laws.{NamesElements, SendOwn}
@@ -50,12 +50,15 @@ AreCovered nets r = All (λ x. All (IsCovered nets) (shown x.life)) r.lives
 
 -- The law: whatever run there is of a script whose `send` lines name elements, if its lines are within the widths of a report, and the keys
 -- given are those that sealed its PDUs, then an audit of its report finds it sound, and tells how many lines it has.
-abbrev pub AreReportsSound : Layers → Type 0
-AreReportsSound layers =
-    (s : Script) (r : Run) → NamesElements s → RunOf (node_role layers) s r
+abbrev pub AreReportsSoundOf : Role → Type 0
+AreReportsSoundOf role =
+    (s : Script) (r : Run) → NamesElements s → RunOf role s r
     → (keys : List ℕ) (nets : List ScriptNet) → IsInput keys nets []
     → All (λ line. IsTold (as_told line)) (report_lines r) → AreCovered nets r
     → (v : Verdict) → IsVerdict (keys ++ report_text r true) v → v ≡ V.Sound (length nets + length (report_lines r))
+
+abbrev pub AreReportsSound : Layers → Type 0
+AreReportsSound layers = AreReportsSoundOf (node_role layers)
 
 abbrev pub ReportsAreSound : Type 0
 ReportsAreSound = (layers : Layers) → AreSafe layers → SendOwn layers → AreReportsSound layers

@@ -19,7 +19,7 @@ use Rattle.event_definitions.specs.Layers.{AccessMessage, ControlMessage, Layers
 use Rattle.run_definitions.specs.Order.{phases_of}
 use Rattle.run_definitions.specs.RunOf.{RunOf, Script}
 use Rattle.event_definitions.specs.Safe.{AreSafe}
-use Rattle.event_definitions.specs.Role.{node_role}
+use Rattle.event_definitions.specs.Role.{Role, node_role}
 use Rattle.script_definitions.specs.declared.line.ScriptNet.{ScriptNet}
 use Rattle.store_definitions.specs.Config.{Config}
 
@@ -37,23 +37,23 @@ NamesElements s =
     s.lives
 
 -- What stands before an event in a node that has an element: what it was asked to send came from its elements, and they are still the same.
-pub record IsOwnPast (layers : Layers) (past : Past) (c : Config) : Type 0 where
-  pub handled : IsPast (node_role layers) past
+pub record IsOwnPast (role : Role) (past : Past) (c : Config) : Type 0 where
+  pub handled : IsPast role past
   pub some : 1 ≤ (config_before past).elements
   pub asked : HasOwnEvents past
   pub elements : HasElements past c
 
 -- After such a past the layers above the lower transport layer send from an element alone.
 pub record SendOwn (layers : Layers) : Type 0 where
-  pub acks_due : (past : Past) (c : Config) (ticks : ℕ) → IsOwnPast layers past c
+  pub acks_due : (past : Past) (c : Config) (ticks : ℕ) → IsOwnPast (node_role layers) past c
       → All (IsOwn c) (layers.acks_due past c ticks)
-  pub segments_due : (past : Past) (c : Config) (ticks : ℕ) → IsOwnPast layers past c
+  pub segments_due : (past : Past) (c : Config) (ticks : ℕ) → IsOwnPast (node_role layers) past c
       → All (IsOwn c) (layers.segments_due past c ticks)
-  pub control_jobs : (past : Past) (c : Config) (m : ControlMessage) → IsOwnPast layers past c
+  pub control_jobs : (past : Past) (c : Config) (m : ControlMessage) → IsOwnPast (node_role layers) past c
       → All (IsOwn c) (layers.control_jobs past c m)
-  pub replies : (past : Past) (c : Config) (m : AccessMessage) → IsOwnPast layers past c
+  pub replies : (past : Past) (c : Config) (m : AccessMessage) → IsOwnPast (node_role layers) past c
       → All (IsOwn c) (layers.replies past c m)
-  pub published : (past : Past) (c : Config) (ticks : ℕ) → IsOwnPast layers past c
+  pub published : (past : Past) (c : Config) (ticks : ℕ) → IsOwnPast (node_role layers) past c
       → All (IsOwn c) (layers.published past c ticks)
 
 abbrev pub NodeSendOwn : Type 0
@@ -69,22 +69,28 @@ TellsNothingTwice (V.Reuse a b) = ⊥
 TellsNothingTwice (V.Twice a b) = ⊥
 TellsNothingTwice (V.Bad line) = ⊤
 
--- The law. Take any script whose `send` lines name elements, any run of it, any lines of keys, and behind them the report of the run, with
+-- The law, of a kind of node. Take any script whose `send` lines name elements, any run of it, any lines of keys, and behind them the report of the run, with
 -- the octets of network PDUs or without. Of the lines that this text is read as no two use a nonce twice, and no two accept one message:
 -- whatever is wrong with them is a bad line.
-abbrev pub AreReportsSafe : Layers → Type 0
-AreReportsSafe layers =
-    (s : Script) (r : Run) → NamesElements s → RunOf (node_role layers) s r
+abbrev pub AreReportsSafeOf : Role → Type 0
+AreReportsSafeOf role =
+    (s : Script) (r : Run) → NamesElements s → RunOf role s r
     → (keys : List ℕ) (nets : List ScriptNet) → IsInput keys nets []
     → (hex : Bool) (given : List ScriptNet) (lines : List ReportLine) → IsInput (keys ++ report_text r hex) given lines
     → (v : Verdict) → IsWrong given lines v → TellsNothingTwice v
 
+abbrev pub AreReportsSafe : Layers → Type 0
+AreReportsSafe layers = AreReportsSafeOf (node_role layers)
+
 -- so no verdict of an audit on this text is one of the two
-abbrev pub AreVerdictsSafe : Layers → Type 0
-AreVerdictsSafe layers =
-    (s : Script) (r : Run) → NamesElements s → RunOf (node_role layers) s r
+abbrev pub AreVerdictsSafeOf : Role → Type 0
+AreVerdictsSafeOf role =
+    (s : Script) (r : Run) → NamesElements s → RunOf role s r
     → (keys : List ℕ) (nets : List ScriptNet) → IsInput keys nets []
     → (hex : Bool) (v : Verdict) → IsVerdict (keys ++ report_text r hex) v → TellsNothingTwice v
+
+abbrev pub AreVerdictsSafe : Layers → Type 0
+AreVerdictsSafe layers = AreVerdictsSafeOf (node_role layers)
 
 -- of all safe layers that send from an element alone
 abbrev pub ReportsAreSafe : Type 0

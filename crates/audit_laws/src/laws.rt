@@ -1,9 +1,10 @@
 //! Laws about the definitions. Each is the contract of a function that does nothing.
 #![tactic(auto)]
 
-ghost use Rattle.audit_laws.specs.Covered.{AreReportsSound, ReportsAreSound};
-ghost use Rattle.audit_laws.specs.Laws.{AreReportsSafe, AreVerdictsSafe, BuiltSendOwn, NodeSendOwn, ReportsAreSafe, VerdictsAreSafe};
+ghost use Rattle.audit_laws.specs.Covered.{AreReportsSound, AreReportsSoundOf, ReportsAreSound};
+ghost use Rattle.audit_laws.specs.Laws.{AreReportsSafe, AreReportsSafeOf, AreVerdictsSafe, AreVerdictsSafeOf, BuiltSendOwn, NodeSendOwn, ReportsAreSafe, VerdictsAreSafe};
 ghost use Rattle.audit_laws.specs.Reading.{LivesNameElements, ReportsAreRead};
+ghost use Rattle.low_power_role.specs.Role.{low_power_role};
 ghost use Rattle.node_layers.specs.BuiltLayers.{built_layers};
 ghost use Rattle.node_layers.specs.NodeLayers.{node_layers};
 
@@ -30,6 +31,14 @@ pub fn sound_law()
     ensures sound { ReportsAreSound }
     ensures node { AreReportsSound node_layers }
     ensures built { AreReportsSound built_layers }
+{}
+
+/// All three laws, of the runs of a Low Power node: of the lines of its report no two use a nonce twice, and no two accept one message; no
+/// verdict tells of either; and under the keys that sealed its PDUs an audit finds it sound.
+pub fn low_power_audit_law()
+    ensures safe { AreReportsSafeOf low_power_role }
+    ensures verdicts { AreVerdictsSafeOf low_power_role }
+    ensures sound { AreReportsSoundOf low_power_role }
 {}
 
 /// The report of a run with the octets of network PDUs, behind any lines of keys, is an input of an audit wherever its lines are within the

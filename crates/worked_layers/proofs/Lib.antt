@@ -4,3 +4,4 @@ pub mod Models
 pub mod Sending
 pub mod IvIndex
 pub mod Published
+pub mod LowPower

@@ -5,3 +5,4 @@ pub mod Models
 pub mod Sending
 pub mod IvIndex
 pub mod Published
+pub mod LowPower

@@ -1,4 +1,5 @@
--- An event of a life that is handled by layers of some kind, mostly by those of this node, where what its octets are read as is given.
+-- An event of a life that is handled by a node of some kind, mostly by one with the layers of this node, where what its octets are read as is
+-- given.
 use Rattle.std.specs.Prelude.{ℕ, ◌*◌, ◌^◌, false, List, [], ◌∷◌, ◌++◌, None}
 use Rattle.layer_definitions.specs.KeyRefresh.{master_material}
 use Rattle.mesh_base.specs.declared.address.Address.{Address}
@@ -12,8 +13,8 @@ use Rattle.record_types.specs.declared.records.StoreRecord.{StoreRecord}
 use Rattle.record_types.specs.declared.records.StoreRecord.TheVariants as R
 use Rattle.event_definitions.specs.Answers.{answer_of}
 use Rattle.event_definitions.specs.History.{Insight, Past, Reading}
-use Rattle.event_definitions.specs.Jobs.{jobs_of}
 use Rattle.event_definitions.specs.Layers.{Layers}
+use Rattle.event_definitions.specs.Role.{Role, node_role}
 use Rattle.event_definitions.specs.Stores.{stores}
 use Rattle.store_definitions.specs.Config.{config_of}
 
@@ -25,13 +26,17 @@ pub record Handled : Type 0 where
 abbrev pub stored_by : Layers → Past → Event → Insight → List StoreRecord
 stored_by layers past event insight = stores layers past event insight (answer_of layers past event insight)
 
-abbrev pub handled_by : Layers → Past → Event → Insight → Handled
-handled_by layers past event insight = record {
-  answer = answer_of layers past event insight;
+-- by a kind of node
+abbrev pub handled_in : Role → Past → Event → Insight → Handled
+handled_in role past event insight = record {
+  answer = role.answer past event insight;
   jobs =
-      jobs_of layers past (config_of (past.records ++ stored_by layers past event insight)) event insight
-      (answer_of layers past event insight);
+      role.jobs past (config_of (past.records ++ role.stores past event insight (role.answer past event insight))) event insight
+      (role.answer past event insight);
 }
+
+abbrev pub handled_by : Layers → Past → Event → Insight → Handled
+handled_by layers past event insight = handled_in (node_role layers) past event insight
 
 abbrev pub stored : Past → Event → Insight → List StoreRecord
 stored past event insight = stored_by node_layers past event insight

@@ -4,6 +4,7 @@
 ghost use Rattle.node_layers.specs.NodeLayers.{node_layers};
 ghost use Rattle.worked_layers.specs.Friendship.{FriendshipStands, MessagesAreStored};
 ghost use Rattle.worked_layers.specs.IvIndex.{PdusAreReadUnder, UpdateEnds};
+ghost use Rattle.worked_layers.specs.LowPower.{LowPowerBefriends, LowPowerHears, LowPowerLists};
 ghost use Rattle.worked_layers.specs.Models.{HeartBeats, LevelMoves, OnOffSwitches};
 ghost use Rattle.worked_layers.specs.Published.{LabelsAreHeard, StatusIsPublished};
 ghost use Rattle.worked_layers.specs.Segments.{SegmentsHeard, SegmentsRepeated, SegmentsTimed, SegmentsUnopened};
@@ -58,4 +59,13 @@ pub fn iv_index_rows()
 pub fn published_rows()
     ensures label { LabelsAreHeard }
     ensures publication { StatusIsPublished }
+{}
+
+/// A Low Power node sends its Request, answers the first Offer by a Poll and no other one, is updated, and polls with the same FSN until a PDU of
+/// its friend closes the Poll; that PDU isn't asked for after it, and is a repeat at the next Poll; in the next life there is no friend. An
+/// address that was listed is its own from then on, and of a full list nothing more is sent. And each row of its answers to a PDU has a case.
+pub fn low_power_rows()
+    ensures befriends { LowPowerBefriends }
+    ensures lists { LowPowerLists }
+    ensures hears { LowPowerHears }
 {}

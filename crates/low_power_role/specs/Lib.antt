@@ -1,0 +1,5 @@
+pub mod State
+pub mod Answers
+pub mod Readings
+pub mod Role
+pub mod Laws
