@@ -1,6 +1,6 @@
 -- What is stored for an accepted message: its SEQ has 24 bits, and there is a place for it.
-use Rattle.std.proofs.Common.{◌≡◌, ℕ, ◌-◌, ◌<◌, ◌^◌, inl, inr, Bool, true, false, cond, not, eqb, ◌||◌, List, refl, ap, sym, subst, ◌∙◌, arith, Option, Some, None}
-use Rattle.std.specs.Prelude.{IsTrue, IfSome, is_some, ◌%◌}
+use Rattle.std.proofs.Common.{◌≡◌, ℕ, ◌-◌, ◌<◌, ◌^◌, Bool, true, false, cond, not, eqb, ◌||◌, List, refl, ap, sym, subst, ◌∙◌, arith, Option, Some, None}
+use Rattle.std.specs.Prelude.{IfSome, ◌%◌}
 use Rattle.std.specs.Option.{option_map}
 use Rattle.layer_definitions.specs.Lower.{seq_auth}
 use Rattle.layer_states.specs.Names.{is_unicast}
@@ -13,7 +13,7 @@ use Rattle.mesh_types.specs.declared.answers.Answer.{Answer}
 use Rattle.mesh_types.specs.declared.answers.Answer.TheVariants as A
 use Rattle.mesh_types.specs.declared.events.Event.TheVariants as E
 use Rattle.node_layers.specs.NodeLayers.{node_layers}
-use Rattle.node_records.proofs.Room.{full_passes}
+use Rattle.message_answers.proofs.Places.{not_full}
 use Rattle.node_records.specs.Full.{IsFull}
 use Rattle.node_records.specs.Meaning.{IsMeaningOf}
 use Rattle.node_records.specs.declared.persist.Persist.{Persist}
@@ -23,8 +23,6 @@ use Rattle.event_definitions.specs.Answers.{accepted, answer_of, config_before, 
 use Rattle.event_definitions.specs.History.{Insight, OfBeacon, OfNothing, OfPdu, Opening, Past, Reading}
 use Rattle.event_definitions.specs.Readings.{Sees, sees_pdu}
 use Rattle.store_definitions.specs.Config.{is_element}
-use Rattle.store_definitions.specs.Entries.{entry_of, has_room}
-use Rattle.store_definitions.specs.Following.{PassesLimit}
 
 -- The SEQ of a message.
 
@@ -91,18 +89,6 @@ heard_taken past octets OfNothing n h e = absurd (none_taken (unless (config_bef
   where
     none_taken : accepted A.Unread ≡ Some n → ⊥
     none_taken e = cc
-
-has_no : (o : Option Pair) (room : Bool) → IsTrue (is_some o || room) → o ≡ None → room ≡ false → ⊥
-has_no None true h e f = absurd cc
-has_no None false h e f = absurd cc
-has_no (Some p) room h e f = absurd cc
-
-not_full : (past : Past) (p : Persist) (n : Name) → IsMeaningOf past.records p → HasPlace past n → IsFull p (R.Replay n None) → ⊥
-not_full past p n m place full = no_limit ((full_passes past.records p (R.Replay n None) m).0 full)
-  where
-    no_limit : PassesLimit past.records (R.Replay n None) → ⊥
-    no_limit (inl h) = has_no (entry_of past.records n.src.0) (has_room past.records n.src.0) place h.0 h.1
-    no_limit (inr h) = absurd h
 
 -- The records of an answer.
 

@@ -31,6 +31,8 @@ use Rattle.mesh_types.specs.declared.events.Event.{Event}
 use Rattle.mesh_types.specs.declared.events.Event.TheVariants as E
 use Rattle.mesh_types.specs.declared.events.SendKey.{SendKey}
 use Rattle.mesh_types.specs.declared.events.SendKey.TheVariants as K
+use Rattle.mesh_types.specs.declared.low_power.LowPowerAnswer.TheVariants as P
+use Rattle.mesh_types.specs.declared.low_power.LowPowerEvent.{LowPowerEvent}
 use Rattle.node_friends.specs.Steps.{AreFriendsOf}
 use Rattle.node_layers.specs.BuiltLayers.{built_layers}
 use Rattle.node_layers.specs.ConfiguredLayers.{configured_layers}
@@ -146,6 +148,7 @@ keyed_idle c (K.App index) = pick _
 
 pub asked_idle : (c : Config) (event : Event) → IsIdle (asked_row c event)
 asked_idle c (E.Send element dst ttl key payload) = unless_idle c.reset (keyed_row c key) (keyed_idle c key)
+asked_idle c (E.LowPower event) = unless_idle c.reset (A.LowPower P.NoFriend) tt
 asked_idle c _ = unless_idle c.reset A.Planned tt
 
 some_any : (index : ℕ) (rows : List AppKeyRow) → is_some (app_row rows index) ≡ list_any (λ (r : AppKeyRow). eqb r.index index) rows
@@ -209,6 +212,32 @@ raw_planned laws others past p t dst ttl tpdu h =
     let a = asked_row (config_in p) event in
     own_planned laws past event a false t t.friends h.tables refl (raw_is past p dst ttl tpdu h.meaning) (raw_stores past dst ttl tpdu a) (asked_idle (config_in p) event)
     (λ e is insight answer same. friends_stay others t.friends past.told event a OfNothing refl (raw_leaves (config_in p) dst ttl tpdu) h.tables.friends e is insight answer) tt
+
+-- What a Low Power node alone is told.
+
+low_power_is : (past : Past) (p : Persist) (what : LowPowerEvent) → IsMeaningOf past.records p
+    → asked_row (config_in p) (E.LowPower what) ≡ answer_of node_layers past (E.LowPower what) OfNothing
+unfolding answer_of
+low_power_is past p what m = ap (λ c. asked_row c (E.LowPower what)) m.config
+
+low_power_stores : (past : Past) (what : LowPowerEvent) (a : Answer) → [] ≡ stores node_layers past (E.LowPower what) OfNothing a
+unfolding stores
+low_power_stores past what a = refl
+
+low_power_leaves : (c : Config) (what : LowPowerEvent) → changes_friends (E.LowPower what) (asked_row c (E.LowPower what)) ≡ false
+low_power_leaves c what = pick c.reset
+  where
+    pick : (b : Bool) → changes_friends (E.LowPower what) (cond b A.Reset (A.LowPower P.NoFriend)) ≡ false
+    pick true = refl
+    pick false = refl
+
+pub low_power_planned : Laws → LeaveFriends → (past : Past) (p : Persist) (t : NodeTablesView) (what : LowPowerEvent) → IsStanding past p t
+    → IsPlanned past (E.LowPower what) (own_plan (asked_row (config_in p) (E.LowPower what)) false) t
+low_power_planned laws others past p t what h =
+    let event : Event = E.LowPower what in
+    let a = asked_row (config_in p) event in
+    own_planned laws past event a false t t.friends h.tables refl (low_power_is past p what h.meaning) (low_power_stores past what a) (asked_idle (config_in p) event)
+    (λ e is insight answer same. friends_stay others t.friends past.told event a OfNothing refl (low_power_leaves (config_in p) what) h.tables.friends e is insight answer) tt
 
 -- A segmented message that begins.
 
@@ -311,16 +340,17 @@ kept_planned laws past t lpn fsn name pdu a st h is friends =
 
 -- Which event it is.
 
--- one that is none of the others is a control PDU
+-- one that is none of the others is a control PDU, or told to a Low Power node
 pub raw_left : (event : Event) → IsOwn event
     → ((element : ℕ) (dst : Address) (ttl : ℕ) (key : SendKey) (payload : List ℕ) → event ≡ E.Send element dst ttl key payload → ⊥)
     → ((m : Outgoing) → event ≡ E.Begin m → ⊥)
     → ((lpn : Address) (fsn : Bool) (name : Name) (pdu : List ℕ) → event ≡ E.Kept lpn fsn name pdu → ⊥)
-    → (P : Event → Type 0) → ((dst : Address) (ttl : ℕ) (tpdu : List ℕ) → P (E.Raw dst ttl tpdu)) → P event
-raw_left (E.Net octets) own send begin kept P f = absurd own
-raw_left (E.Bcn octets) own send begin kept P f = absurd own
-raw_left (E.Tick ticks) own send begin kept P f = absurd own
-raw_left (E.Send element dst ttl key payload) own send begin kept P f = absurd (send element dst ttl key payload refl)
-raw_left (E.Begin m) own send begin kept P f = absurd (begin m refl)
-raw_left (E.Kept lpn fsn name pdu) own send begin kept P f = absurd (kept lpn fsn name pdu refl)
-raw_left (E.Raw dst ttl tpdu) own send begin kept P f = f dst ttl tpdu
+    → (P : Event → Type 0) → ((dst : Address) (ttl : ℕ) (tpdu : List ℕ) → P (E.Raw dst ttl tpdu)) → ((what : LowPowerEvent) → P (E.LowPower what)) → P event
+raw_left (E.Net octets) own send begin kept P f g = absurd own
+raw_left (E.Bcn octets) own send begin kept P f g = absurd own
+raw_left (E.Tick ticks) own send begin kept P f g = absurd own
+raw_left (E.Send element dst ttl key payload) own send begin kept P f g = absurd (send element dst ttl key payload refl)
+raw_left (E.Begin m) own send begin kept P f g = absurd (begin m refl)
+raw_left (E.Kept lpn fsn name pdu) own send begin kept P f g = absurd (kept lpn fsn name pdu refl)
+raw_left (E.Raw dst ttl tpdu) own send begin kept P f g = f dst ttl tpdu
+raw_left (E.LowPower what) own send begin kept P f g = g what

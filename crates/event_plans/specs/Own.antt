@@ -13,6 +13,7 @@ use Rattle.mesh_types.specs.declared.events.Event.{Event}
 use Rattle.mesh_types.specs.declared.events.Event.TheVariants as E
 use Rattle.mesh_types.specs.declared.events.SendKey.{SendKey}
 use Rattle.mesh_types.specs.declared.events.SendKey.TheVariants as K
+use Rattle.mesh_types.specs.declared.low_power.LowPowerAnswer.TheVariants as P
 use Rattle.store_definitions.specs.Config.{Config}
 
 -- a control PDU
@@ -29,9 +30,14 @@ keyed_row c (K.App index) =
 abbrev pub send_row : Config → SendKey → Answer
 send_row c key = if c.reset then A.Reset else keyed_row c key
 
--- an access message or a control PDU
+-- what a Low Power node alone is told
+abbrev pub low_power_row : Config → Answer
+low_power_row c = if c.reset then A.Reset else A.LowPower P.NoFriend
+
+-- an access message, what a Low Power node alone is told, or a control PDU
 abbrev pub asked_row : Config → Event → Answer
 asked_row c (E.Send element dst ttl key payload) = send_row c key
+asked_row c (E.LowPower event) = low_power_row c
 asked_row c _ = raw_row c
 
 -- a segmented message that begins while these are held, by whether its DST is an address of a friendship

@@ -88,6 +88,7 @@ IsBasisOf past (E.Send element dst ttl key payload) answer (B.Own befriended) = 
 IsBasisOf past (E.Raw dst ttl tpdu) answer (B.Own befriended) = ⊤
 IsBasisOf past (E.Begin m) answer (B.Own befriended) = ⊤
 IsBasisOf past (E.Kept lpn fsn name pdu) answer (B.Own befriended) = ⊤
+IsBasisOf past (E.LowPower event) answer (B.Own befriended) = ⊤
 IsBasisOf past _ answer _ = ⊥
 
 -- After a past, an event was read and answered so, and stores these records; and what is kept in memory stands for the

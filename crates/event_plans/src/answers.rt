@@ -3,7 +3,7 @@
 
 ghost use Rattle.std.specs.Prelude.{◌≡◌, fold};
 ghost use Rattle.mesh_base.specs.IvState.{HasTransmit};
-ghost use Rattle.event_plans.specs.Own.{asked_row, begin_calls, begin_row, raw_row, send_row};
+ghost use Rattle.event_plans.specs.Own.{asked_row, begin_calls, begin_row, low_power_row, raw_row, send_row};
 ghost use Rattle.layer_states.specs.Sending.{after};
 ghost use Rattle.node_records.specs.Tables.{config_in};
 ghost use Rattle.segment_sender.specs.Held.{IsOutgoing};
@@ -11,6 +11,7 @@ ghost use Rattle.segment_sender.specs.Held.{IsOutgoing};
 use mesh_hearing::Tables;
 use mesh_types::answers::Answer;
 use mesh_types::events::{Event, Outgoing, SendKey};
+use mesh_types::low_power::LowPowerAnswer;
 use node_records::Persist;
 
 // The answer to a control PDU that the node is asked to send.
@@ -42,12 +43,23 @@ fn send_answer(p: &Persist, key: &SendKey) -> Answer
     }
 }
 
-/// The answer to what the node is asked to send: an access message or a control PDU.
+// The answer to what a Low Power node alone is told: this node has no friend.
+fn low_power_answer(p: &Persist) -> Answer
+    ensures value { result ≡ low_power_row (config_in p.now) }
+{
+    if p.reset {
+        return Answer::Reset;
+    }
+    Answer::LowPower(LowPowerAnswer::NoFriend)
+}
+
+/// The answer to what the node is asked to send, an access message or a control PDU, and to what a Low Power node alone is told.
 pub(crate) fn asked_answer(p: &Persist, event: &Event) -> Answer
     ensures value { result ≡ asked_row (config_in p.now) event.now }
 {
     match event {
         Event::Send { key, .. } => send_answer(p, key),
+        Event::LowPower(_) => low_power_answer(p),
         _ => raw_answer(p),
     }
 }

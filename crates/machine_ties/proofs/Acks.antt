@@ -10,7 +10,7 @@ use Rattle.layer_states.specs.declared.reassembly.Assembly.{Assembly}
 use Rattle.layer_states.specs.declared.reassembly.DueAck.{DueAck}
 use Rattle.layer_states.specs.declared.reassembly.PartHeard.{PartHeard}
 use Rattle.layer_states.specs.declared.reassembly.Timer.{Timer}
-use Rattle.machine_ties.proofs.Lists.{Inside, every_append, every_chosen, every_filter, every_get, every_mapped, every_pick, every_set, through_fold}
+use Rattle.mesh_base.proofs.Every.{Inside, every_append, every_chosen, every_filter, every_get, every_mapped, every_pick, every_set, through_fold}
 use Rattle.mesh_base.specs.declared.lower.Lower.{Lower}
 use Rattle.mesh_base.specs.declared.pair.Name.{Name}
 use Rattle.mesh_types.specs.declared.answers.Answer.{Answer}

@@ -13,7 +13,7 @@ use Rattle.layer_states.specs.declared.friends.PollAnswer.{PollAnswer}
 use Rattle.layer_states.specs.declared.friends.PollAnswer.TheVariants as P
 use Rattle.machine_contract.specs.Ranges.{IsJob, IsUpperKey}
 use Rattle.machine_ties.proofs.Acks.{IsShort}
-use Rattle.machine_ties.proofs.Lists.{every_append, every_flat_any}
+use Rattle.mesh_base.proofs.Every.{every_append, every_flat_any}
 use Rattle.mesh_base.proofs.Every.{every_at}
 use Rattle.machine_ties.proofs.Widths.{every_under}
 use Rattle.mesh_base.specs.declared.address.Address.{Address}

@@ -16,7 +16,7 @@ use Rattle.layer_states.specs.declared.sending.Sending.{Sending}
 use Rattle.machine_contract.specs.Ranges.{IsEvent, IsJob, IsQuiet, IsUpperKey}
 use Rattle.machine_ties.proofs.Acks.{IsShort, IsShortTold, acks_short, reply_short}
 use Rattle.machine_ties.proofs.Acts.{HasAct, act_in, reading_nid}
-use Rattle.machine_ties.proofs.Lists.{Inside, every_append, every_flat, every_flat_any, every_made, every_pick}
+use Rattle.mesh_base.proofs.Every.{Inside, every_append, every_flat, every_flat_any, every_made, every_pick}
 use Rattle.machine_ties.proofs.Published.{published_in}
 use Rattle.machine_ties.proofs.Replied.{key_width, replied_in}
 use Rattle.machine_ties.proofs.Widths.{HasUpperKey, app_width, every_under, take_few}
@@ -249,6 +249,7 @@ every_job past c (E.Tick ticks) i _ elements s e h rows k r act = tt
 every_job past c (E.Begin m) i A.Begun elements s e h rows k r act = begin_in (E.Begin m) c m e.0 e.1
 every_job past c (E.Begin m) i _ elements s e h rows k r act = tt
 every_job past c (E.Kept lpn fsn name pdu) i a elements s e h rows k r act = tt
+every_job past c (E.LowPower event) i a elements s e h rows k r act = tt
 
 pub jobs_ranged : (past : Past) (c : Config) (event : Event) (i : Insight) (a : Answer) (elements : ℕ)
     → Sees node_layers past event i → IsEvent elements event → IsShort c.ttl
@@ -269,6 +270,7 @@ unfolding jobs_of
 every_quiet past c (E.Begin m) i A.Begun e = begun_quiet c m
 every_quiet past c (E.Begin m) i _ e = tt
 every_quiet past c (E.Kept lpn fsn name pdu) i a e = tt
+every_quiet past c (E.LowPower event) i a e = absurd cc
 every_quiet past c (E.Net octets) i a e = absurd cc
 every_quiet past c (E.Bcn octets) i a e = absurd cc
 every_quiet past c (E.Send element dst ttl key payload) i a e = absurd cc

@@ -18,12 +18,15 @@ use Rattle.machine_contract.specs.declared.answers.Hand.TheVariants as H
 use Rattle.machine_ties.proofs.Acks.{IsShortTold}
 use Rattle.machine_ties.proofs.Acts.{has_act}
 use Rattle.machine_ties.proofs.Asked.{HasActs, HasRounds, jobs_quiet, jobs_ranged}
-use Rattle.machine_ties.proofs.Fronts.{IsSameNode, all_ranges, all_whole, kept_node_of, puttable_kept}
-use Rattle.machine_ties.proofs.Lists.{every_map}
-use Rattle.machine_ties.proofs.Standings.{before_more, entered_stands, stopped_stands, told_by}
+use Rattle.machine_standing.proofs.Fronts.{IsSameNode, all_ranges, all_whole, kept_node_of, puttable_kept}
+use Rattle.machine_standing.proofs.Standings.{entered_stands, entry_handles, stopped_stands, told_by}
+use Rattle.machine_standing.specs.Kept.{AreKept, KeepWhole}
+use Rattle.machine_standing.specs.Ties.{IsCutIn}
+use Rattle.mesh_base.proofs.Every.{every_map}
+use Rattle.machine_ties.proofs.Standings.{before_more, node_kind}
 use Rattle.machine_ties.proofs.Stored.{stores_keep}
-use Rattle.machine_ties.specs.Kept.{AreKeeping, AreKept, IsBounded, KeepWhole}
-use Rattle.machine_ties.specs.Ties.{IsBefore, IsCutIn, IsReady, Stands, entered, stopped}
+use Rattle.machine_ties.specs.Kept.{AreKeeping, IsBounded}
+use Rattle.machine_ties.specs.Ties.{IsBefore, IsReady, Stands, entered, stopped}
 use Rattle.machine_ties.specs.Views.{NodeMachine}
 use Rattle.mesh_types.specs.declared.answers.Answer.{Answer}
 use Rattle.mesh_types.specs.declared.answers.Answer.TheVariants as A
@@ -79,17 +82,8 @@ pub record IsEntryOf (past : Past) (event : Event) (plan : Plan) (p : Persist) (
 plan_handles : (past : Past) (event : Event) (plan : Plan) (t : NodeTablesView) (p : Persist) (entry : Entry) → IsPlanned past event plan t → IsEntryOf past event plan p entry
     → IsMeaningOf (past.records ++ plan.records) p → Handles (node_role node_layers) past (told_by past entry (insight_in plan.basis))
 plan_handles past event plan t p entry planned e meaning =
-    let i = insight_in plan.basis in
-    let after : config_in p ≡ config_of (past.records ++ stores node_layers past entry.event i entry.answer) =
-    meaning.config ∙ ap (λ l. config_of (past.records ++ l))
-    (planned.records ∙ ap (λ x. stores node_layers past x i plan.answer) (sym e.is_of) ∙ ap (λ a. stores node_layers past entry.event i a) (sym e.has)) in
-    record {
-      sees = subst (λ x. Sees node_layers past x i) (sym e.is_of) planned.sees;
-      answer = e.has ∙ planned.answer ∙ ap (λ x. answer_of node_layers past x i) (sym e.is_of);
-      jobs = e.jobs ∙ ap (λ c. jobs_of node_layers past c event i plan.answer) after
-          ∙ ap (λ x. jobs_of node_layers past (config_of (past.records ++ stores node_layers past entry.event i entry.answer)) x i plan.answer) (sym e.is_of)
-          ∙ ap (λ a. jobs_of node_layers past (config_of (past.records ++ stores node_layers past entry.event i entry.answer)) entry.event i a) (sym e.has);
-    }
+    entry_handles (node_role node_layers) past event (insight_in plan.basis) plan.answer plan.records (config_in p) entry planned.sees planned.answer planned.records
+    meaning.config e.is_of e.has e.jobs
 
 plan_stores : (past : Past) (event : Event) (plan : Plan) (t : NodeTablesView) (p : Persist) (entry : Entry) → IsPlanned past event plan t → IsEntryOf past event plan p entry
     → plan.records ≡ stores node_layers past entry.event (insight_in plan.basis) entry.answer
@@ -118,6 +112,7 @@ event_sendable elements (E.Bcn octets) p after h = tt
 event_sendable elements (E.Raw dst ttl tpdu) p after h = tt
 event_sendable elements (E.Tick ticks) p after h = tt
 event_sendable elements (E.Kept lpn fsn name pdu) p after h = tt
+event_sendable elements (E.LowPower event) p after h = tt
 
 -- where time was told, there was no Node Reset
 told_running : (past : Past) (ticks now : ℕ) (i : Insight) → A.Ticked now ≡ answer_of node_layers past (E.Tick ticks) i → (config_before past).reset ≡ false
@@ -179,12 +174,14 @@ module _ (laws : AreKeeping) (m : NodeMachine) (event : Event) (plan : Plan) (pl
       let past : Past = past_now (node_role node_layers) over s.life.told m.fills in
       let h : IsBefore past m = (s.usable runs).before in
       let kept : AreKept (config_of past.records) plan.records = plan_kept laws past m event plan planned_tables h planned may bounded in
-      entered_stands laws old new over m s runs r tables entry (insight_in plan.basis) plan.records fills
-      (plan_handles past event plan planned_tables r.store.persist entry planned e meaning)
-      (plan_stores past event plan planned_tables r.store.persist entry planned e)
-      kept
+      let handles = plan_handles past event plan planned_tables r.store.persist entry planned e meaning in
+      let is = plan_stores past event plan planned_tables r.store.persist entry planned e in
+      entered_stands (node_role node_layers) IsBefore (node_kind laws) old new over m s runs r tables entry (insight_in plan.basis) plan.records fills
+      handles is
+      (before_more laws.whole past m r tables entry (insight_in plan.basis) plan.records h kept meaning
       (renewed _ (planned.tables (told_by past entry (insight_in plan.basis)) (past.records ++ plan.records) e.is_of refl e.has refl (kept_node_of past.records plan.records kept).elements))
-      few store published keeps meaning
+      handles.sees is)
+      few store published
       (omega (arith, s.began, keeps.later, ap (λ (x : Setting). x.faults) keeps.setting))
 
   -- where the flash failed
@@ -199,7 +196,7 @@ module _ (laws : AreKeeping) (m : NodeMachine) (event : Event) (plan : Plan) (pl
       let past : Past = past_now (node_role node_layers) over s.life.told m.fills in
       let h : IsBefore past m = (s.usable runs).before in
       let kept : AreKept (config_of past.records) plan.records = plan_kept laws past m event plan planned_tables h planned may bounded in
-      stopped_stands laws old new over m s runs r tables event (insight_in plan.basis) plan.records planned.sees
+      stopped_stands (node_role node_layers) IsBefore (node_kind laws) old new over m s runs r tables event (insight_in plan.basis) plan.records planned.sees
       (planned.records ∙ ap (λ a. stores node_layers past event (insight_in plan.basis) a) planned.answer)
       kept cut
       (omega (arith, s.began, rose, ap (λ (x : Setting). x.faults) keeps.setting))

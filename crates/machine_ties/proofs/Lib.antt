@@ -1,7 +1,3 @@
-pub mod Lists
-pub mod Lives
-pub mod Fronts
-pub mod Images
 pub mod Acks
 pub mod Widths
 pub mod Replied
@@ -11,6 +7,3 @@ pub mod Asked
 pub mod Stored
 pub mod Standings
 pub mod Events
-pub mod Refills
-pub mod Opened
-pub mod Taken

@@ -12,7 +12,7 @@ use Rattle.layer_laws.proofs.Lists.{and_true}
 use Rattle.layer_states.specs.Friends.{FriendsState, after, tick}
 use Rattle.machine_contract.specs.Ranges.{IsJob, IsUpperKey}
 use Rattle.machine_ties.proofs.Acks.{IsShort}
-use Rattle.machine_ties.proofs.Lists.{Inside, every_append, every_chosen, every_flat, every_pick}
+use Rattle.mesh_base.proofs.Every.{Inside, every_append, every_chosen, every_flat, every_pick}
 use Rattle.machine_ties.proofs.Replied.{acts}
 use Rattle.machine_ties.proofs.Widths.{HasUpperKey, app_width, every_under}
 use Rattle.mesh_base.specs.declared.keys.UpperKey.{UpperKey}

@@ -15,7 +15,7 @@ use Rattle.layer_states.specs.Friends.{FriendsState, after}
 use Rattle.layer_states.specs.Names.{is_unicast}
 use Rattle.machine_contract.specs.Ranges.{IsJob, IsUpperKey}
 use Rattle.machine_ties.proofs.Acks.{IsShort, reply_short}
-use Rattle.machine_ties.proofs.Lists.{every_append, every_flat, every_flat_any, every_made, every_mapped, every_pick}
+use Rattle.mesh_base.proofs.Every.{every_append, every_flat, every_flat_any, every_made, every_mapped, every_pick}
 use Rattle.machine_ties.proofs.Widths.{every_under}
 use Rattle.mesh_base.specs.declared.address.Address.{Address}
 use Rattle.mesh_base.specs.declared.keys.AppKeyRow.{AppKeyRow}

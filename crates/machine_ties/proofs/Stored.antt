@@ -7,7 +7,8 @@ use Rattle.std.proofs.lemmas.Bool.Decides.{nat_tests}
 use Rattle.std.proofs.lemmas.List.Elements.{All-from_recursion, recursion_from_All}
 use Rattle.layer_definitions.specs.KeyRefresh.{net_index, net_row}
 use Rattle.layer_laws.specs.Laws.{IsWithinLimits, StoreFitting}
-use Rattle.machine_ties.specs.Kept.{AreKeeping, HasOctets, IsNoIdentity, KeepWhole}
+use Rattle.machine_standing.specs.Kept.{IsNoIdentity, KeepWhole}
+use Rattle.machine_ties.specs.Kept.{AreKeeping, HasOctets}
 use Rattle.mesh_base.specs.declared.address.Address.{Address}
 use Rattle.mesh_base.specs.declared.beacon.Beacon.{Beacon}
 use Rattle.mesh_base.specs.declared.iv_state.IvStep.{IvStep}
@@ -177,6 +178,7 @@ other_keep past (E.Send element dst ttl key payload) i h = tt
 other_keep past (E.Raw dst ttl tpdu) i h = tt
 other_keep past (E.Begin m) i h = tt
 other_keep past (E.Kept lpn fsn name pdu) i h = tt
+other_keep past (E.LowPower event) i h = tt
 
 pub stores_keep : AreKeeping → (past : Past) (event : Event) (i : Insight) → IsWhole (config_of past.records) → IsWithinLimits (config_of past.records) → HasOctets i
     → KeepWhole (config_of past.records) (stores node_layers past event i (answer_of node_layers past event i))
@@ -187,3 +189,4 @@ stores_keep laws past (E.Send element dst ttl key payload) i whole limits h = ot
 stores_keep laws past (E.Raw dst ttl tpdu) i whole limits h = other_keep past (E.Raw dst ttl tpdu) i tt
 stores_keep laws past (E.Begin m) i whole limits h = other_keep past (E.Begin m) i tt
 stores_keep laws past (E.Kept lpn fsn name pdu) i whole limits h = other_keep past (E.Kept lpn fsn name pdu) i tt
+stores_keep laws past (E.LowPower event) i whole limits h = other_keep past (E.LowPower event) i tt

@@ -6,7 +6,7 @@ use Rattle.std.specs.Option.{option_map, option_to_list}
 use Rattle.layer_definitions.proofs.KeyLaws.{aid_width, nid_width}
 use Rattle.layer_definitions.specs.KeyRefresh.{app_key, app_row, master_material, net_row, transmit_app, transmit_key, transmit_value}
 use Rattle.machine_contract.specs.Ranges.{IsUpperKey}
-use Rattle.machine_ties.proofs.Lists.{Inside}
+use Rattle.mesh_base.proofs.Every.{Inside}
 use Rattle.mesh_base.specs.declared.fields.NetMaterial.{NetMaterial}
 use Rattle.mesh_base.specs.declared.keys.AppKeyRow.{AppKeyRow}
 use Rattle.mesh_base.specs.declared.keys.NetKeyRow.{NetKeyRow}

@@ -1,36 +1,13 @@
--- Records that may be put behind those of a node that can be run, and leave one.
-use Rattle.std.specs.Prelude.{◌<◌, ◌^◌, ⊤, List, [], ◌∷◌, All, Some}
+-- The laws by which a node stays one, and what the types of values in hand say.
+use Rattle.std.specs.Prelude.{◌<◌, ◌^◌, ⊤, All, Some}
 use Rattle.layer_laws.specs.Laws.{IsWithinLimits, StoreFitting}
+use Rattle.machine_standing.specs.Kept.{KeptLaw}
 use Rattle.node_layers.specs.NodeLayers.{node_layers}
 use Rattle.node_models.specs.Models.{StandRefilled}
 use Rattle.node_records.specs.Tables.{config_in}
 use Rattle.node_records.specs.declared.persist.Persist.{Persist}
-use Rattle.record_types.specs.declared.records.StoreRecord.{StoreRecord}
-use Rattle.record_types.specs.declared.records.StoreRecord.TheVariants as R
 use Rattle.event_definitions.specs.History.{Insight, OfPdu}
 use Rattle.event_definitions.specs.Safe.{AreSafe}
-use Rattle.store_definitions.specs.Config.{Config, changed}
-use Rattle.store_definitions.specs.Node.{IsWhole, KeepsWhole}
-use Rattle.store_definitions.specs.Ranges.{IsInRange}
-
--- no identity is said
-abbrev pub IsNoIdentity : StoreRecord → Type 0
-IsNoIdentity (R.Identity unicast elements dev_key) = ⊥
-IsNoIdentity _ = ⊤
-
--- Each record is in range, keeps a node whole over what those before it leave, and says no identity.
-abbrev pub AreKept : Config → List StoreRecord → Type 0
-AreKept c [] = ⊤
-AreKept c (item ∷ items) = IsInRange item × KeepsWhole c item × IsNoIdentity item × AreKept (changed c item) items
-
--- each keeps a node whole, and says no identity
-abbrev pub KeepWhole : Config → List StoreRecord → Type 0
-KeepWhole c [] = ⊤
-KeepWhole c (item ∷ items) = KeepsWhole c item × IsNoIdentity item × KeepWhole (changed c item) items
-
--- the law of such a record: what it leaves is whole
-abbrev pub KeptLaw : Type 0
-KeptLaw = (c : Config) (item : StoreRecord) → IsInRange item → KeepsWhole c item → IsWhole c → IsWhole (changed c item)
 
 -- The laws by which a node stays one: of a record that keeps it whole, of what the layers store for a message, and of
 -- the models behind refills.

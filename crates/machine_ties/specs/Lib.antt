@@ -1,4 +1,3 @@
 pub mod Views
 pub mod Kept
 pub mod Ties
-pub mod Opening

@@ -5,7 +5,7 @@ use Rattle.layer_states.specs.Reassembly.{release, take_part}
 use Rattle.layer_states.specs.declared.reassembly.PartHeard.{PartHeard}
 use Rattle.mesh_base.specs.declared.pair.Name.{Name}
 use Rattle.mesh_hearing.specs.Below.{heard_calls}
-use Rattle.mesh_hearing.specs.Kinds.{is_early, is_known, is_late, is_of_part, is_of_whole}
+use Rattle.message_answers.specs.Kinds.{is_early, is_known, is_late, is_of_part, is_of_whole}
 use Rattle.mesh_types.specs.declared.answers.Answer.{Answer}
 use Rattle.mesh_types.specs.declared.answers.Answer.TheVariants as A
 use Rattle.mesh_types.specs.declared.events.Event.{Event}
@@ -40,6 +40,7 @@ late_cached A.Befriended e = absurd (false≢true e)
 late_cached (A.SendFull held) e = absurd (false≢true e)
 late_cached A.Kept e = absurd (false≢true e)
 late_cached A.Dropped e = absurd (false≢true e)
+late_cached (A.LowPower answer) e = absurd (false≢true e)
 late_cached A.Reset e = absurd (false≢true e)
 
 pub late_ticks : (a : Answer) → is_late a ≡ true → tick_calls a ≡ []
@@ -68,6 +69,7 @@ late_ticks A.Befriended e = absurd (false≢true e)
 late_ticks (A.SendFull held) e = absurd (false≢true e)
 late_ticks A.Kept e = absurd (false≢true e)
 late_ticks A.Dropped e = absurd (false≢true e)
+late_ticks (A.LowPower answer) e = absurd (false≢true e)
 late_ticks A.Reset e = absurd (false≢true e)
 
 pub late_now : (a : Answer) (n : ℕ) → is_late a ≡ true → ticks_after n a ≡ n
@@ -96,6 +98,7 @@ late_now A.Befriended n e = absurd (false≢true e)
 late_now (A.SendFull held) n e = absurd (false≢true e)
 late_now A.Kept n e = absurd (false≢true e)
 late_now A.Dropped n e = absurd (false≢true e)
+late_now (A.LowPower answer) n e = absurd (false≢true e)
 late_now A.Reset n e = absurd (false≢true e)
 
 pub early_ticks : (a : Answer) → is_early a ≡ true → tick_calls a ≡ []
@@ -124,6 +127,7 @@ early_ticks A.Befriended e = absurd (false≢true e)
 early_ticks (A.SendFull held) e = absurd (false≢true e)
 early_ticks A.Kept e = absurd (false≢true e)
 early_ticks A.Dropped e = absurd (false≢true e)
+early_ticks (A.LowPower answer) e = absurd (false≢true e)
 early_ticks A.Reset e = absurd (false≢true e)
 
 pub early_now : (a : Answer) (n : ℕ) → is_early a ≡ true → ticks_after n a ≡ n
@@ -152,6 +156,7 @@ early_now A.Befriended n e = absurd (false≢true e)
 early_now (A.SendFull held) n e = absurd (false≢true e)
 early_now A.Kept n e = absurd (false≢true e)
 early_now A.Dropped n e = absurd (false≢true e)
+early_now (A.LowPower answer) n e = absurd (false≢true e)
 early_now A.Reset n e = absurd (false≢true e)
 
 pub whole_late : (a : Answer) → is_of_whole a ≡ true → is_late a ≡ true
@@ -180,6 +185,7 @@ whole_late A.Befriended e = absurd (false≢true e)
 whole_late (A.SendFull held) e = absurd (false≢true e)
 whole_late A.Kept e = absurd (false≢true e)
 whole_late A.Dropped e = absurd (false≢true e)
+whole_late (A.LowPower answer) e = absurd (false≢true e)
 whole_late A.Reset e = absurd (false≢true e)
 
 pub part_late : (a : Answer) → is_of_part a ≡ true → is_late a ≡ true
@@ -208,6 +214,7 @@ part_late A.Befriended e = absurd (false≢true e)
 part_late (A.SendFull held) e = absurd (false≢true e)
 part_late A.Kept e = absurd (false≢true e)
 part_late A.Dropped e = absurd (false≢true e)
+part_late (A.LowPower answer) e = absurd (false≢true e)
 part_late A.Reset e = absurd (false≢true e)
 
 pub known_late : (a : Answer) → is_known a ≡ true → is_late a ≡ true
@@ -236,6 +243,7 @@ known_late A.Befriended e = absurd (false≢true e)
 known_late (A.SendFull held) e = absurd (false≢true e)
 known_late A.Kept e = absurd (false≢true e)
 known_late A.Dropped e = absurd (false≢true e)
+known_late (A.LowPower answer) e = absurd (false≢true e)
 known_late A.Reset e = absurd (false≢true e)
 
 -- no call
@@ -265,6 +273,7 @@ known_parts A.Befriended n h e = absurd (false≢true e)
 known_parts (A.SendFull held) n h e = absurd (false≢true e)
 known_parts A.Kept n h e = absurd (false≢true e)
 known_parts A.Dropped n h e = absurd (false≢true e)
+known_parts (A.LowPower answer) n h e = absurd (false≢true e)
 known_parts A.Reset n h e = absurd (false≢true e)
 
 pub known_whole : (a : Answer) (n : Name) → is_known a ≡ true → whole_calls n a ≡ []
@@ -293,6 +302,7 @@ known_whole A.Befriended n e = absurd (false≢true e)
 known_whole (A.SendFull held) n e = absurd (false≢true e)
 known_whole A.Kept n e = absurd (false≢true e)
 known_whole A.Dropped n e = absurd (false≢true e)
+known_whole (A.LowPower answer) n e = absurd (false≢true e)
 known_whole A.Reset n e = absurd (false≢true e)
 
 -- a segment of a message that isn't whole by it makes one call
@@ -322,6 +332,7 @@ part_takes A.Befriended n h e = absurd (false≢true e)
 part_takes (A.SendFull held) n h e = absurd (false≢true e)
 part_takes A.Kept n h e = absurd (false≢true e)
 part_takes A.Dropped n h e = absurd (false≢true e)
+part_takes (A.LowPower answer) n h e = absurd (false≢true e)
 part_takes A.Reset n h e = absurd (false≢true e)
 
 -- a whole message is released
@@ -351,6 +362,7 @@ whole_takes A.Befriended n h e = absurd (false≢true e)
 whole_takes (A.SendFull held) n h e = absurd (false≢true e)
 whole_takes A.Kept n h e = absurd (false≢true e)
 whole_takes A.Dropped n h e = absurd (false≢true e)
+whole_takes (A.LowPower answer) n h e = absurd (false≢true e)
 whole_takes A.Reset n h e = absurd (false≢true e)
 
 pub whole_releases : (a : Answer) (n : Name) → is_of_whole a ≡ true → whole_calls n a ≡ release n ∷ []
@@ -379,6 +391,7 @@ whole_releases A.Befriended n e = absurd (false≢true e)
 whole_releases (A.SendFull held) n e = absurd (false≢true e)
 whole_releases A.Kept n e = absurd (false≢true e)
 whole_releases A.Dropped n e = absurd (false≢true e)
+whole_releases (A.LowPower answer) n e = absurd (false≢true e)
 whole_releases A.Reset n e = absurd (false≢true e)
 
 -- Own segmented messages: of the answers to a network PDU only an acknowledgment has to do with them.

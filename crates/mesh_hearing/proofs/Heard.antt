@@ -16,10 +16,10 @@ use Rattle.mesh_hearing.proofs.Entries.{goes_on}
 use Rattle.mesh_hearing.proofs.Groups.{early_ticks, late_cached, late_ticks}
 use Rattle.mesh_hearing.specs.Below.{IsNamedAs, IsReadAs, IsTransportAs, cache_after_row}
 use Rattle.mesh_hearing.specs.Heard.{IsHeard, delivered_from, insight_of}
-use Rattle.mesh_hearing.specs.Kinds.{is_early, is_late}
+use Rattle.message_answers.specs.Kinds.{is_early, is_late}
 use Rattle.mesh_hearing.specs.Tables.{AreTablesOf, TablesView, again_after, cache_after, tables_after}
 use Rattle.mesh_hearing.specs.declared.hearing.Hearing.{Hearing}
-use Rattle.mesh_hearing.specs.declared.whole.Judged.{Judged}
+use Rattle.message_answers.specs.declared.whole.Judged.{Judged}
 use Rattle.mesh_reading.specs.Held.{held_in, opening_of, pdu_insight, reading_in, reading_of}
 use Rattle.mesh_reading.specs.declared.heard.HeardPdu.{HeardPdu}
 use Rattle.mesh_reading.specs.declared.heard.HeardPdu.TheVariants as H

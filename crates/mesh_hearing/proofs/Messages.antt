@@ -6,7 +6,7 @@ use Rattle.mesh_base.specs.declared.lower.Lower.TheVariants.{Access, Control, Ac
 use Rattle.mesh_base.specs.declared.pair.Name.{Name}
 use Rattle.mesh_base.specs.declared.pair.Pair.{Pair}
 use Rattle.mesh_hearing.specs.Below.{IsAccessAs, IsWholeAs}
-use Rattle.mesh_hearing.specs.declared.whole.Judged.{Judged}
+use Rattle.message_answers.specs.declared.whole.Judged.{Judged}
 use Rattle.mesh_reading.specs.Held.{opening_of}
 use Rattle.mesh_reading.specs.declared.opening.Opened.{Opened}
 use Rattle.mesh_types.specs.KeyName.{key_name_of}

@@ -17,8 +17,8 @@ use Rattle.mesh_hearing.proofs.Groups.{known_parts, known_whole, part_takes, who
 use Rattle.mesh_hearing.proofs.Newest.{newest_tell}
 use Rattle.mesh_hearing.specs.Again.{AreRecorded, newest_of}
 use Rattle.mesh_hearing.specs.Below.{IsNamedAs, IsTakenAs, IsWholeAs, StandsBelow, known_answer, own_octets, part_answer, taken_calls, whole_octets}
-use Rattle.mesh_hearing.specs.Kinds.{is_known, is_of_part, is_of_whole}
-use Rattle.mesh_hearing.specs.declared.whole.Judged.{Judged}
+use Rattle.message_answers.specs.Kinds.{is_known, is_of_part, is_of_whole}
+use Rattle.message_answers.specs.declared.whole.Judged.{Judged}
 use Rattle.mesh_hearing.specs.Heard.{insight_of}
 use Rattle.mesh_hearing.specs.declared.hearing.Hearing.{Hearing}
 use Rattle.mesh_reading.specs.Held.{low_in, opening_of, pdu_insight}

@@ -8,7 +8,8 @@ use Rattle.layer_states.specs.Cache as cache
 use Rattle.mesh_base.specs.declared.address.Address.{Address}
 use Rattle.mesh_base.specs.declared.fields.NetFields.{NetFields}
 use Rattle.mesh_base.specs.declared.pair.Name.{Name}
-use Rattle.mesh_hearing.specs.Below.{own_address, sender_answer}
+use Rattle.mesh_hearing.specs.Below.{own_address}
+use Rattle.message_answers.specs.Sender.{sender_answer}
 use Rattle.mesh_types.specs.declared.answers.Answer.{Answer}
 use Rattle.mesh_types.specs.declared.answers.Answer.TheVariants as A
 use Rattle.node_layers.specs.Steps.{cached_names}

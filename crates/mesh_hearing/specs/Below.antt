@@ -1,5 +1,5 @@
 -- The answers to a network PDU layer by layer, and what the tables stand for there.
-use Rattle.std.specs.Prelude.{◌≡◌, ℕ, ◌&&◌, ◌==◌, ◌||◌, not, nat_lt, Bool, is_some, if◌then◌else◌, length, List, [], ◌∷◌, Option, Some, None, Result, MatchResult}
+use Rattle.std.specs.Prelude.{◌≡◌, ℕ, ◌&&◌, ◌==◌, ◌||◌, nat_lt, Bool, is_some, if◌then◌else◌, length, List, [], ◌∷◌, Option, Some, None, Result, MatchResult}
 use Rattle.std.specs.List.{list_any}
 use Rattle.std.specs.Option.{option_map}
 use Rattle.layer_definitions.specs.ControlReading.{control_of}
@@ -18,7 +18,7 @@ use Rattle.mesh_base.specs.declared.pair.Name.{Name}
 use Rattle.mesh_hearing.specs.Again.{AreRecorded, newest_of}
 use Rattle.mesh_hearing.specs.Tables.{cache_after}
 use Rattle.mesh_hearing.specs.declared.hearing.Hearing.{Hearing}
-use Rattle.mesh_hearing.specs.declared.whole.Judged.{Judged}
+use Rattle.message_answers.specs.declared.whole.Judged.{Judged}
 use Rattle.mesh_reading.specs.Held.{opening_of}
 use Rattle.mesh_hearing.specs.Heard.{insight_of}
 use Rattle.mesh_types.specs.declared.events.Event.TheVariants as E
@@ -30,7 +30,6 @@ use Rattle.node_layers.specs.Sending.{acknowledged, stepped_calls}
 use Rattle.node_layers.specs.Steps.{segmented_names}
 use Rattle.node_records.specs.Meaning.{IsMeaningOf}
 use Rattle.node_records.specs.declared.persist.Persist.{Persist}
-use Rattle.layer_states.specs.Names.{is_unicast}
 use Rattle.event_definitions.specs.Answers.{answer_of, config_before, is_again, is_before_cache, is_group, key_step, name_of, named_answer, opened_answer, replayed, segment_answer, transport_answer, whole_answer}
 use Rattle.event_definitions.specs.History.{Past, Reading, now_of, OfPdu, Opening}
 use Rattle.event_definitions.specs.Readings.{IsLowerPdu, IsOpened, IsOpenedFor, IsOpening, IsOpeningOf, Sees, fields_heard, keys_tried}
@@ -47,13 +46,6 @@ own_address c a =
     || (a.0 == 0xfffd && c.friend == 1)
     || (a.0 == 0xfffe && c.relay == 1)
     || list_any (λ s. is_group s.2 && s.2.0 == a.0) c.subs
-
--- the rows before the message cache is asked
-abbrev pub sender_answer : Config → NetFields → Option Answer
-sender_answer c f =
-    if not (is_unicast f.src) || f.dst.0 == 0 then Some A.BadAddress
-    else if is_element c f.src.0 then Some A.Own
-    else None
 
 -- the message cache after these rows: without one of them, the PDU goes on and is in it
 abbrev pub cache_after_row : List Name → NetFields → Option Answer → List Name

@@ -8,7 +8,7 @@ ghost use Rattle.layer_states.specs.Reassembly.{after};
 ghost use Rattle.mesh_hearing.specs.Again.{AreRecorded};
 ghost use Rattle.mesh_hearing.specs.Below.{IsReadAs, IsTransportAs, StandsBelow, heard_calls};
 ghost use Rattle.mesh_hearing.specs.Heard.{IsHeard, delivered_from, insight_of, message_delivered};
-ghost use Rattle.mesh_hearing.specs.Kinds.{is_late};
+ghost use Rattle.message_answers.specs.Kinds.{is_late};
 ghost use Rattle.mesh_hearing.specs.Tables.{cache_after, AreTablesOf, IsFit};
 ghost use Rattle.mesh_reading.specs.Held.{held_in, opened_in, reading_in, reading_of};
 ghost use Rattle.node_layers.specs.Friendship.{friend_keys};

@@ -2,35 +2,34 @@
 #![tactic(auto)]
 
 ghost use Rattle.std.specs.Prelude.{◌≡◌, ◌≤◌, ◌^◌, true, false, IsTrue, List, Some, fold, length, IfOk, IfErr, OnErr, IfSome, MatchResult};
-ghost use Rattle.std.specs.Option.{option_map};
 ghost use Rattle.layer_definitions.specs.Lower.{Fits, is_control};
 ghost use Rattle.layer_states.specs.Reassembly.{after, is_segment as is_segment_of};
 ghost use Rattle.layer_states.specs.declared.reassembly.Taken.TheVariants as T;
 ghost use Rattle.mesh_base.specs.declared.pair.Name.{Name as NameIn};
-ghost use Rattle.mesh_base.specs.declared.pair.Pair.{Pair as PairIn};
 ghost use Rattle.mesh_hearing.specs.Again.{AreRecorded, newest_of};
 ghost use Rattle.mesh_hearing.specs.Below.{known_answer, own_octets, taken_calls, IsNamedAs, IsTakenAs, StandsBelow};
 ghost use Rattle.mesh_hearing.specs.Heard.{insight_of};
-ghost use Rattle.mesh_hearing.specs.Kinds.{is_known, is_late, is_of_part};
+ghost use Rattle.message_answers.specs.Kinds.{is_known, is_late, is_of_part};
 ghost use Rattle.mesh_reading.specs.Held.{held_in, reading_of};
 ghost use Rattle.mesh_types.specs.declared.answers.Answer.TheVariants as A;
 ghost use Rattle.node_layers.specs.Reassembly.{named_calls, part_heard as part_heard_in};
 ghost use Rattle.node_layers.specs.Segments.{taken_answer};
 ghost use Rattle.node_layers.specs.Steps.{segmented_name, segmented_names};
-ghost use Rattle.node_records.specs.Tables.{config_in, entry_in};
-ghost use Rattle.event_definitions.specs.Answers.{accepted as accepted_in, is_again as is_again_in, is_entry as is_entry_in, message_name as message_name_in, message_pair as message_pair_in, replayed as replayed_in};
+ghost use Rattle.node_records.specs.Tables.{config_in};
+ghost use Rattle.event_definitions.specs.Answers.{accepted as accepted_in, is_again as is_again_in, is_entry as is_entry_in, message_name as message_name_in, message_pair as message_pair_in};
 ghost use Rattle.event_definitions.specs.History.{Past};
 ghost use Rattle.store_definitions.specs.Entries.{entry_of};
 
 use crate::again::has_name;
 use crate::hearing::Hearing;
-use crate::whole::{Judged, judge_whole};
+use crate::whole::judge_whole;
 use lower_transport::{Lower, seq_auth};
 use mesh_base::fields::NetFields;
 use mesh_base::octets::Octets;
 use mesh_base::pair::{Name, Pair};
 use mesh_reading::{Keys, NetReading};
 use mesh_types::answers::Answer;
+use message_answers::{Judged, replayed};
 use node_records::Persist;
 use segment_reassembly::{PartHeard, Parts, Taken};
 
@@ -81,16 +80,6 @@ fn is_again(again: &[Name], kept: Option<Pair>, name: &Name) -> bool
         → AreRecorded past → result ≡ is_again_in past name.now }
 {
     is_entry(kept, name.pair) && has_name(again, name)
-}
-
-// The entry of the source of a message that isn't newer than it, if there is one.
-fn replayed(kept: Option<Pair>, pair: Pair) -> Option<Pair>
-    ensures { replayed_in kept pair ≡ option_map (λ (k : PairIn). A.Replay k) result }
-{
-    match kept {
-        Some(kept) if pair <= kept => Some(kept),
-        _ => None,
-    }
 }
 
 // The answer that goes by names alone, if there is one.

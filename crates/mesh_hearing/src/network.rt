@@ -1,12 +1,12 @@
 //! The answers of the network layer (Mesh Profile 1.0.1, section 3.4.6.3).
 #![tactic(auto)]
 
-ghost use Rattle.std.specs.Prelude.{◌≡◌, ◌&&◌, ◌==◌, ℕ, true, List, IfOk, IfSome, OnErr};
+ghost use Rattle.std.specs.Prelude.{◌≡◌, ◌&&◌, ◌==◌, ℕ, true, IfOk, IfSome, OnErr};
 ghost use Rattle.std.specs.List.{list_any};
 ghost use Rattle.layer_states.specs.Cache.{last_of};
 ghost use Rattle.mesh_base.specs.declared.address.Address.{Address};
-ghost use Rattle.mesh_hearing.specs.Below.{cache_after_row, own_address, sender_answer};
-ghost use Rattle.mesh_hearing.specs.Kinds.{is_early};
+ghost use Rattle.mesh_hearing.specs.Below.{cache_after_row, own_address};
+ghost use Rattle.message_answers.specs.Kinds.{is_early};
 ghost use Rattle.node_layers.specs.Steps.{cached_names};
 ghost use Rattle.mesh_reading.specs.Held.{held_in, reading_of};
 ghost use Rattle.node_records.specs.Tables.{config_in};
@@ -16,10 +16,10 @@ ghost use Rattle.store_definitions.specs.Config.{config_of};
 ghost use Rattle.mesh_base.specs.Address.{is_group};
 
 use mesh_base::address::Address;
-use mesh_base::fields::NetFields;
 use mesh_base::pair::Pair;
 use mesh_reading::{Keys, NetReading};
 use mesh_types::answers::Answer;
+use message_answers::sender_row;
 use node_limits::MESSAGE_CACHE;
 use node_records::Persist;
 use relay_cache::Cache;
@@ -49,20 +49,6 @@ fn is_mine(keys: &Keys, p: &Persist, a: Address) -> bool
     ensures { result ≡ is_mine (config_in p.now) a }
 {
     is_own(p, a) || keys.is_labelled(a)
-}
-
-// The answer before the message cache is asked, if there is one.
-fn sender_row(p: &Persist, f: &NetFields) -> Option<Answer>
-    ensures value { result ≡ sender_answer (config_in p.now) f.now }
-    ensures early { IfSome result (λ a. is_early a ≡ true) }
-{
-    if !f.src.is_unicast() || f.dst.is_unassigned() {
-        Some(Answer::BadAddress)
-    } else if p.is_element(f.src) {
-        Some(Answer::Own)
-    } else {
-        None
-    }
 }
 
 /// The answer of the network layer to a PDU that reads, if it has one. The message cache has a PDU that isn't from this node's own elements.

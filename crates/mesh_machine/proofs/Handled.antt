@@ -23,14 +23,16 @@ use Rattle.machine_contract.specs.declared.answers.Hand.TheVariants as H
 use Rattle.machine_contract.specs.declared.answers.Stop.{Stop}
 use Rattle.machine_contract.specs.declared.answers.Stop.TheVariants as S
 use Rattle.machine_ties.proofs.Events.{IsAfter, IsEntryOf, event_after, event_jobs, event_node_over, event_quiet, event_ready, event_sendable, event_stands, event_stops, plan_kept, plan_leaves, ready_after}
-use Rattle.machine_ties.proofs.Fronts.{IsSameNode, all_whole}
-use Rattle.machine_ties.specs.Kept.{AreKeeping, AreKept, IsBounded}
-use Rattle.machine_ties.specs.Ties.{IsBefore, IsCutIn, IsOver, IsReady, Stands, entered, stopped}
+use Rattle.machine_standing.proofs.Fronts.{IsSameNode, all_whole}
+use Rattle.machine_standing.specs.Kept.{AreKept}
+use Rattle.machine_standing.specs.Ties.{IsCutIn}
+use Rattle.machine_ties.specs.Kept.{AreKeeping, IsBounded}
+use Rattle.machine_ties.specs.Ties.{IsBefore, IsOver, IsReady, Stands, entered, stopped}
 use Rattle.machine_ties.specs.Views.{NodeMachine, shown}
 use Rattle.mesh_machine.proofs.Within.{within_after}
 use Rattle.mesh_hearing.specs.Tables.{IsFit}
 use Rattle.mesh_machine.specs.Handling.{AreAsBefore, AreHalted, AreStored, IsActed, IsAsked, IsCutShort, IsDone, IsStopped, IsTurnOf, machine_of, planned_parts}
-use Rattle.mesh_machine.specs.declared.entering.Place.{Place}
+use Rattle.machine_standing.specs.declared.entering.Place.{Place}
 use Rattle.mesh_machine.specs.declared.parts.Parts.{Parts}
 use Rattle.mesh_reading.specs.Held.{AreHeldKeys}
 use Rattle.mesh_types.specs.declared.answers.Answer.{Answer}

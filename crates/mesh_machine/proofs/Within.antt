@@ -1,6 +1,6 @@
 -- The models stay within the bounds of what the store says, as long as it says the same elements.
 use Rattle.std.proofs.Common.{ap, sym, ◌∙◌}
-use Rattle.machine_ties.proofs.Fronts.{IsSameNode}
+use Rattle.machine_standing.proofs.Fronts.{IsSameNode}
 use Rattle.node_models.specs.Models.{AreWithin, ModelsView, StayWithin}
 use Rattle.node_records.specs.Meaning.{IsMeaningOf}
 use Rattle.node_records.specs.Tables.{config_in}

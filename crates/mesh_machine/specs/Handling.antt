@@ -15,8 +15,8 @@ use Rattle.machine_ties.specs.Kept.{IsBounded}
 use Rattle.machine_ties.specs.Ties.{IsReady}
 use Rattle.machine_ties.specs.Views.{NodeMachine}
 use Rattle.mesh_hearing.specs.Tables.{IsFit}
-use Rattle.mesh_machine.specs.declared.entering.Drafts.{Drafts}
-use Rattle.mesh_machine.specs.declared.entering.Place.{Place}
+use Rattle.machine_standing.specs.declared.entering.Drafts.{Drafts}
+use Rattle.machine_standing.specs.declared.entering.Place.{Place}
 use Rattle.mesh_machine.specs.declared.parts.Parts.{Parts}
 use Rattle.mesh_types.specs.declared.events.Event.{Event}
 use Rattle.node_layers.specs.NodeLayers.{node_layers}

@@ -8,7 +8,6 @@ ghost use Rattle.flash_model.specs.Chip.{Keeps};
 ghost use Rattle.mesh_machine.specs.Handling.{HasRoom, IsActed, IsDone, IsStopped, IsTurnOf};
 ghost use Rattle.mesh_types.specs.declared.events.Event.TheVariants as E;
 
-use crate::entering::{Drafts, Place, enter};
 use crate::parts::{Parts, store};
 use event_plans::{
     are_within, jobs_of_beacon, jobs_of_own, jobs_of_pdu, jobs_of_tick, plan_beacon, plan_own,
@@ -16,6 +15,7 @@ use event_plans::{
 };
 use flash_model::Flash;
 use machine_contract::{Answered, Stop};
+use machine_standing::{Drafts, Place, enter};
 use machine_ties::{are_bounded, ties_law};
 use mesh_base::octets::Octets;
 use mesh_reading::held_keys_law;

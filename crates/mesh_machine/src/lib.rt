@@ -8,7 +8,7 @@
 //! - `machine`: [`MeshMachine`], its calls
 //! - `kinds`: how an event is handled, by its kind
 //! - `parts`: what the machine keeps of its node, and how records are stored in it
-//! - `entering`: memory before, the keys behind the records, and the entry
+//! - `entering`: the keys behind the records
 //! - `waiting`: in how many ticks something is due
 //! - `opening`: how it is opened
 //!

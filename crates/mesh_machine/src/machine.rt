@@ -15,12 +15,12 @@ ghost use Rattle.run_definitions.specs.Order.{is_outside};
 ghost use Rattle.seq_word.specs.Word.{seq_of};
 ghost use Rattle.store_world.specs.Standing.{IsWorldOf};
 
-use crate::entering::{Place, room};
 use crate::kinds::handle;
 use crate::parts::Parts;
 use event_world::event_law;
 use flash_model::Flash;
 use machine_contract::{Answered, Hand, Stop};
+use machine_standing::{Place, room};
 use machine_ties::ties_law;
 use mesh_types::events::Event;
 use node_models::node_models_law;

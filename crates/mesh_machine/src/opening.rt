@@ -3,8 +3,8 @@
 
 ghost use Rattle.std.specs.Prelude.{◌≡◌, false, List, [], IfOk};
 ghost use Rattle.event_plans.specs.Memory.{AreNodeTablesOf};
-ghost use Rattle.machine_ties.specs.Opening.{start_fault_of};
-ghost use Rattle.machine_ties.specs.Ties.{IsNodeStore, Stands, opened};
+ghost use Rattle.machine_standing.specs.Ties.{IsNodeStore};
+ghost use Rattle.machine_ties.specs.Ties.{Stands, opened};
 ghost use Rattle.machine_ties.specs.Views.{shown};
 ghost use Rattle.event_definitions.specs.Role.{node_role};
 ghost use Rattle.next_due.specs.Quiet.{IsQuiet};
@@ -21,24 +21,14 @@ use entry_log::EntryLog;
 use event_plans::NodeTables;
 use flash_model::Flash;
 use machine_contract::{Answered, Hand, History, Machine, StartFault, Started, Stop};
+use machine_standing::mount_node;
 use mesh_reading::held_keys_law;
 use mesh_types::events::Event;
 use mesh_types::history::Entry;
-use node_store::laws::what_is_read_is_mounted;
-use node_store::{Store, StoreFault};
+use node_store::Store;
 use seq_reserve::Reserve;
 use seq_word::{Keeper, Numbers};
 use std::alloc::{AllocError, Global};
-
-// Why no machine is started, where its store isn't mounted.
-fn start_fault(fault: StoreFault) -> StartFault
-    ensures { result ≡ start_fault_of fault }
-{
-    match fault {
-        StoreFault::Flash => StartFault::Flash,
-        _ => StartFault::WasReset,
-    }
-}
 
 // Opens a life over a store that was mounted.
 fn open(alloc: Global, store: Store) -> Result<Started<MeshMachine>, AllocError>
@@ -96,12 +86,7 @@ impl Machine for MeshMachine {
     ghost stands = { Stands };
 
     fn start<F: Flash>(alloc: Global, flash: &mut F) -> Result<Started<Self>, StartFault> {
-        // It does nothing when it runs: the proof uses what it says.
-        what_is_read_is_mounted();
-        let store = match Store::mount(flash) {
-            Ok(store) => store,
-            Err(fault) => return Err(start_fault(fault)),
-        };
+        let store = mount_node(flash)?;
         match open(alloc, store) {
             Ok(started) => Ok(started),
             Err(_) => Err(StartFault::Memory),

@@ -20,3 +20,4 @@ pub use keys::Keys;
 pub use laws::held_keys_law;
 pub use network_layer::NetReading;
 pub use opening::{Opened, SealedBy};
+pub use reading::read_under;

@@ -1,5 +1,5 @@
 use Rattle.std.proofs.Common.{false, subst, sym}
-use Rattle.event_plans.proofs.Own.{own_plan, raw_left, raw_planned}
+use Rattle.event_plans.proofs.Own.{low_power_planned, own_plan, raw_left, raw_planned}
 use Rattle.event_plans.specs.Own.{asked_row}
 use Rattle.event_plans.specs.Plans.{IsPlanned}
 use Rattle.event_plans.specs.Sending.{IsSendable}
@@ -27,4 +27,5 @@ returns-in_default-clause-planned c past h =
     subst (λ (a : Answer). IsPlanned past event (own_plan a false) t) (sym c.asked_answer.ensures.value)
     (raw_left event c.requires.own c.in_default.not-Send c.in_default.not-Begin c.in_default.not-Kept
     (λ (e : Event). IsPlanned past e (own_plan (asked_row (config_in c.args.p.now) e) false) t)
-    (λ dst ttl tpdu. raw_planned (record { tables = c.tables_law.ensures.more; models = c.node_models_law.ensures.more }) c.friend_steps_law.ensures.others past c.args.p.now t dst ttl tpdu h))
+    (λ dst ttl tpdu. raw_planned (record { tables = c.tables_law.ensures.more; models = c.node_models_law.ensures.more }) c.friend_steps_law.ensures.others past c.args.p.now t dst ttl tpdu h)
+    (λ what. low_power_planned (record { tables = c.tables_law.ensures.more; models = c.node_models_law.ensures.more }) c.friend_steps_law.ensures.others past c.args.p.now t what h))

@@ -1,7 +1,9 @@
 use Rattle.std.proofs.Common.{◌≡◌, List, [], false, refl, ap, sym, subst}
 use Rattle.event_plans.specs.Memory.{IsFitFor}
-use Rattle.machine_ties.proofs.Opened.{opened_ready}
-use Rattle.machine_ties.specs.Ties.{IsNodeStore, IsReady, opened}
+use Rattle.machine_standing.proofs.Opened.{opened_ready}
+use Rattle.machine_standing.specs.Ties.{IsNodeStore}
+use Rattle.machine_ties.proofs.Standings.{opened_before}
+use Rattle.machine_ties.specs.Ties.{IsBefore, IsReady, opened}
 use Rattle.mesh_types.specs.declared.history.Entry.{Entry}
 use Rattle.node_records.specs.Meaning.{IsMeaningOf}
 use Rattle.node_records.specs.declared.persist.Persist.{Persist}
@@ -19,7 +21,8 @@ invariant_of-machine c e =
     let meaning : IsMeaningOf over c.persist.result.now =
     subst (λ (p : Persist). IsMeaningOf over p) (sym c.persist.ensures.value) node.meaning in
     let base : IsReady (opened r t c.persist-p.result.now.elements) =
-    opened_ready over r t c.persist-p.result.now.elements says.meaning says.ranges says.whole (c.in_ok-tables.ensures.opened (record { told = []; records = over }) meaning refl) c.in_ok-reserve.ensures.published
+    opened_ready IsBefore IsFitFor over r t c.persist-p.result.now.elements
+    (opened_before over r t c.persist-p.result.now.elements says (c.in_ok-tables.ensures.opened (record { told = []; records = over }) meaning refl)) c.in_ok-reserve.ensures.published
     (subst (λ (s : StoreView). IsFitFor t s.persist) store (subst (λ (p : Persist). IsFitFor t p) c.persist.ensures.value c.in_ok-tables.ensures.fit))
     (subst (λ (s : StoreView). s.journal.closed ≡ false) store c.requires.usable)
     (ap (λ (p : Persist). p.elements) c.persist-p.ensures.value) in

@@ -10,7 +10,7 @@ use Rattle.machine_ties.specs.Ties.{IsReady, IsSound, Stands}
 use Rattle.machine_ties.specs.Views.{NodeMachine, shown}
 use Rattle.mesh_machine.proofs.Handled.{closes_stopped, jobs_done, never_closed, of_flash, of_memory, quiet_done, ready_done, reserved_same, same_parts, shown_done, stands_done, stands_stopped}
 use Rattle.mesh_machine.specs.Handling.{AreAsBefore, machine_of}
-use Rattle.mesh_machine.specs.declared.entering.Place.{Place}
+use Rattle.machine_standing.specs.declared.entering.Place.{Place}
 use Rattle.mesh_machine.specs.declared.parts.Parts.{Parts}
 use Rattle.mesh_types.specs.declared.answers.Answer.{Answer}
 use Rattle.mesh_types.specs.declared.events.Event.{Event}

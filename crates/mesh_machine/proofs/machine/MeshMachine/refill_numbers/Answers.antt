@@ -3,9 +3,12 @@ use Rattle.std.proofs.lemmas.Bool.Decides.{nat_tests}
 use Rattle.machine_contract.specs.Refused.{Closes}
 use Rattle.machine_contract.specs.Standing.{past_now}
 use Rattle.machine_contract.specs.declared.answers.Hand.TheVariants as H
-use Rattle.machine_ties.proofs.Fronts.{IsSameNode}
-use Rattle.machine_ties.proofs.Refills.{put_cut, refill_node, refill_ready, refill_stands, refill_stops}
-use Rattle.machine_ties.specs.Ties.{IsCutIn, IsOver, IsReady, Stands, stopped}
+use Rattle.event_plans.specs.Memory.{IsFitFor}
+use Rattle.machine_standing.proofs.Fronts.{IsSameNode}
+use Rattle.machine_standing.proofs.Refills.{put_cut, refill_node, refill_ready, refill_stands, refill_stops}
+use Rattle.machine_standing.specs.Ties.{IsCutIn}
+use Rattle.machine_ties.proofs.Standings.{node_kind}
+use Rattle.machine_ties.specs.Ties.{IsBefore, IsOver, IsReady, Stands, stopped}
 use Rattle.machine_ties.specs.Views.{NodeMachine, shown}
 use Rattle.mesh_machine.proofs.Same.{fill_elements, fill_keys}
 use Rattle.mesh_machine.specs.Handling.{machine_of}
@@ -39,8 +42,8 @@ invariant_of-self g c e =
     let meaning : IsMeaningOf (ready.past.records ++ fill_of (config_of ready.past.records) ∷ []) r.store.persist =
     fill_meaning ready.past.records i.parts.reserve.store.persist r.store.persist ready.before.standing.meaning (c.in-Ok.ensures.puts seen).value in
     let node : IsSameNode (config_in i.parts.reserve.store.persist) (config_in r.store.persist) =
-    refill_node c.ties_law.ensures.laws m ready.past r.store.persist ready.before ready.published seq meaning in
-    refill_ready c.ties_law.ensures.laws m ready r seq meaning c.refill.ensures.published (c.in-Ok.ensures.puts seen).usable
+    refill_node (node_role node_layers) IsBefore (node_kind c.ties_law.ensures.laws) m ready.past r.store.persist ready.before ready.published seq meaning in
+    refill_ready (node_role node_layers) IsBefore (node_kind c.ties_law.ensures.laws) m IsFitFor ready r seq meaning c.refill.ensures.published (c.in-Ok.ensures.puts seen).usable
     (record {
       keys = ready.fit.keys ∙ sym (ap held_in change ∙ fill_keys (config_in i.parts.reserve.store.persist));
       models = within_refilled c.node_models_law.ensures.within i.parts.tables.models i.parts.reserve.store.persist r.store.persist node ready.fit.models;
@@ -65,7 +68,7 @@ returns-in-Ok-clause-kept g c over stands =
     let said = h.before.standing.meaning in
     let kept : IsStoreOf new c.refill.new.self.store (past.records ++ fill_of (config_of past.records) ∷ []) =
     subst (λ (item : StoreRecord). IsStoreOf new c.refill.new.self.store (past.records ++ item ∷ [])) (fill_said past.records i.parts.reserve.store.persist (fill_of (config_in i.parts.reserve.store.persist)) refl said) (puts.kept past.records h.store) in
-    refill_stands c.ties_law.ensures.laws m old new over s c.if-self.false c.refill.new.self ready.published seq kept
+    refill_stands (node_role node_layers) IsBefore (node_kind c.ties_law.ensures.laws) m old new over s c.if-self.false c.refill.new.self ready.published seq kept
     (fill_meaning past.records i.parts.reserve.store.persist c.refill.new.self.store.persist said puts.value) c.refill.ensures.published c.refill.ensures.leaves.frame
 
 pub returns-in-Err-clause-refused : goal.returns-in-Err-clause-refused
@@ -103,4 +106,4 @@ returns-in-Err-clause-kept g c over stands =
     subst (λ (item : StoreRecord). IsCutIn new past.records (item ∷ []) c.refill.new.self.keeper.mark) (fill_said past.records i.parts.reserve.store.persist (fill_of (config_in i.parts.reserve.store.persist)) refl h.before.standing.meaning)
     (put_cut new past.records (fill_of (config_in i.parts.reserve.store.persist)) c.refill.new.self.keeper.mark (c.refill.ensures.leaves.frame.honest ∙ s.life.node.honest)
     (λ image is. leaves.each image (g.met.F.Flash.counts_now c.refill.new.flash _ image leaves.later is)) (c.refill.ensures.durable past.records h.store)) in
-    refill_stops c.ties_law.ensures.laws m old new over s c.if-self.false c.refill.new.self ready.published seq cut (c.in-Err.ensures.fails seen ready.usable).cause.rose c.refill.ensures.leaves.frame
+    refill_stops (node_role node_layers) IsBefore (node_kind c.ties_law.ensures.laws) m old new over s c.if-self.false c.refill.new.self ready.published seq cut (c.in-Err.ensures.fails seen ready.usable).cause.rose c.refill.ensures.leaves.frame

@@ -1,72 +1,48 @@
-use Rattle.std.proofs.Common.{◌≡◌, false, ap, sym, subst, ◌∙◌, arith}
+use Rattle.std.proofs.Common.{ap, sym, subst, ◌∙◌, arith}
+use Rattle.event_definitions.specs.Role.{node_role}
 use Rattle.flash_model.specs.Chip.{Setting}
-use Rattle.machine_contract.specs.Refused.{IsStartCause, IsUntouched}
-use Rattle.machine_contract.specs.declared.opening.StartFault.{StartFault}
-use Rattle.machine_ties.proofs.Opened.{opened_stands, start_cause, untouched}
-use Rattle.machine_ties.specs.Ties.{Stands, opened}
+use Rattle.machine_standing.proofs.Opened.{opened_stands}
+use Rattle.machine_standing.specs.Opening.{IsNodeMounted}
+use Rattle.machine_standing.specs.Ties.{IsNodeStore}
+use Rattle.machine_ties.proofs.Standings.{opened_before}
+use Rattle.machine_ties.specs.Ties.{IsBefore, Stands, opened}
 use Rattle.machine_ties.specs.Views.{NodeMachine}
-use Rattle.node_records.specs.Meaning.{IsMeaningOf}
-use Rattle.node_store.proofs.Holding.{holds_exactly, store_meaning}
-use Rattle.node_store.specs.Mounted.{IsMounted}
-use Rattle.node_store.specs.Tie.{Holds, IsNode, IsStoreOf}
+use Rattle.node_layers.specs.NodeLayers.{node_layers}
+use Rattle.node_store.specs.Tie.{IsStoreOf}
 use Rattle.node_store.specs.View.{StoreView}
-use Rattle.store_definitions.specs.Config.{Config, config_of}
+use Rattle.store_definitions.specs.Config.{Config}
 use Rattle.mesh_machine.proofs.opening.MeshMachineMachine.start.Goals as goal
 
-pub returns-in-Err-clause-cause : goal.returns-in-Err-clause-cause
-returns-in-Err-clause-cause g c =
-    let old = g.F.Flash.chip c.args.flash.now in
-    let new = g.F.Flash.chip c.mount.new.flash in
-    let node : IsNode old.now = c.requires.node.each old.now (g.met.F.Flash.reads_image c.args.flash.now c.requires.fresh.honest) in
-    let holds : Holds old.now node.records = holds_exactly old.now node.records node.read in
-    let leaves = c.mount.ensures.any_moment c.requires.fresh node.tidy node.records holds in
-    let same : IsUntouched IsNode old new =
-    untouched old new node (λ image is. leaves.each image (g.met.F.Flash.counts_now c.mount.new.flash _ image leaves.later is)) (c.mount.ensures.frame.honest ∙ c.requires.fresh.honest) in
-    subst (λ (f : StartFault). IsStartCause IsNode old new f) (sym c.start_fault.ensures)
-    (start_cause old new node c.in-Err.fault c.what_is_read_is_mounted.ensures.stands c.requires.fresh.honest c.in-Err.ensures.cause same)
-
 pub open-requires-clause-node : goal.open-requires-clause-node
-open-requires-clause-node g c =
-    let old = g.F.Flash.chip c.args.flash.now in
-    let new = g.F.Flash.chip c.mount.new.flash in
-    let node : IsNode old.now = c.requires.node.each old.now (g.met.F.Flash.reads_image c.args.flash.now c.requires.fresh.honest) in
-    let holds : Holds old.now node.records = holds_exactly old.now node.records node.read in
-    let store : IsStoreOf new c.in-Ok.store node.records = c.in-Ok.ensures.kept c.requires.fresh node.tidy node.records holds in
-    let meaning : IsMeaningOf node.records c.in-Ok.store.persist = store_meaning new c.in-Ok.store node.records store in
-    let mounted : IsMounted old.now c.in-Ok.store.persist = c.in-Ok.ensures.mounted c.requires.fresh.honest in
-    let runs : (config_of node.records).reset ≡ false = ap (λ (x : Config). x.reset) (sym meaning.config ∙ mounted.meaning.config) ∙ mounted.stands in
-    (node.records, record { meaning = meaning; ranges = node.read.held.ranges; whole = node.whole runs })
+open-requires-clause-node g c = (c.in_ok-store.ensures.ok.over, c.in_ok-store.ensures.ok.node)
 
-pub returns-in-Ok-open-clause-ok : goal.returns-in-Ok-open-clause-ok
-returns-in-Ok-open-clause-ok g c =
+pub returns-in-Ok-clause-ok : goal.returns-in-Ok-clause-ok
+returns-in-Ok-clause-ok g c =
     let old = g.F.Flash.chip c.args.flash.now in
-    let new = g.F.Flash.chip c.mount.new.flash in
-    let node : IsNode old.now = c.requires.node.each old.now (g.met.F.Flash.reads_image c.args.flash.now c.requires.fresh.honest) in
-    let holds : Holds old.now node.records = holds_exactly old.now node.records node.read in
-    let store : IsStoreOf new c.in-Ok.store node.records = c.in-Ok.ensures.kept c.requires.fresh node.tidy node.records holds in
-    let meaning : IsMeaningOf node.records c.in-Ok.store.persist = store_meaning new c.in-Ok.store node.records store in
-    let mounted : IsMounted old.now c.in-Ok.store.persist = c.in-Ok.ensures.mounted c.requires.fresh.honest in
-    let runs : (config_of node.records).reset ≡ false = ap (λ (x : Config). x.reset) (sym meaning.config ∙ mounted.meaning.config) ∙ mounted.stands in
-    let started = c.in-Ok-open.started in
-    let says = c.in-Ok-open.ensures in
+    let new = g.F.Flash.chip c.mount_node.new.flash in
+    let store : StoreView = c.in_ok-store.store in
+    let node : IsNodeMounted old new store = c.in_ok-store.ensures.ok in
+    let started = c.in-Ok.started in
+    let says = c.in-Ok.ensures in
     let r = started.machine.reserve in
     let t = started.machine.tables in
-    let base : Stands new node.records (opened r t c.in-Ok.store.persist.elements) =
-    opened_stands new node.records r t c.in-Ok.store.persist.elements (subst (λ (s : StoreView). IsStoreOf new s node.records) (sym says.store) store) node.read.held.ranges (node.whole runs)
-    (says.tables node.records meaning) says.published (ap (λ (s : StoreView). s.persist.elements) (sym says.store))
-    (omega (arith, c.requires.began, c.mount.ensures.frame.later, ap (λ (x : Setting). x.faults) c.mount.ensures.frame.setting)) in
+    let said : IsNodeStore node.over r.store.persist = subst (λ (s : StoreView). IsNodeStore node.over s.persist) (sym says.store) node.node in
+    let base : Stands new node.over (opened r t store.persist.elements) =
+    opened_stands (node_role node_layers) IsBefore new node.over r t store.persist.elements (subst (λ (s : StoreView). IsStoreOf new s node.over) (sym says.store) node.kept) said
+    (opened_before node.over r t store.persist.elements said (says.tables node.over node.node.meaning)) says.published (ap (λ (s : StoreView). s.persist.elements) (sym says.store))
+    (omega (arith, c.requires.began, c.mount_node.ensures.frame.later, ap (λ (x : Setting). x.faults) c.mount_node.ensures.frame.setting)) in
     record {
-      over = node.records;
-      read = node.read.held;
-      runs = runs;
-      state = says.state ∙ ap (λ (x : Config). x.iv) meaning.config;
-      mark = says.mark ∙ ap (λ (x : Config). x.mark) meaning.config;
-      tie = subst (λ (v : NodeMachine). Stands new node.records v) (sym says.machine) base;
+      over = node.over;
+      read = node.read;
+      runs = node.runs;
+      state = says.state ∙ ap (λ (x : Config). x.iv) node.node.meaning.config;
+      mark = says.mark ∙ ap (λ (x : Config). x.mark) node.node.meaning.config;
+      tie = subst (λ (v : NodeMachine). Stands new node.over v) (sym says.machine) base;
       entries = ap (λ (v : NodeMachine). v.entries) says.machine;
       taken = ap (λ (v : NodeMachine). v.taken) says.machine;
       fills = ap (λ (v : NodeMachine). v.fills) says.machine;
       usable = ap (λ (v : NodeMachine). v.closed) says.machine;
       which = says.which;
-      opened = says.opened ∙ ap (λ (x : Config). x.mark) meaning.config;
+      opened = says.opened ∙ ap (λ (x : Config). x.mark) node.node.meaning.config;
       drawer = says.drawer;
     }

@@ -3,9 +3,9 @@ use Rattle.std.proofs.Common.{◌≡◌, ℕ, ◌≤◌, List, [], ◌++◌, app
 use Rattle.std.specs.Prelude.{All}
 use Rattle.flash_model.specs.Chip.{Chip}
 use Rattle.machine_contract.specs.Opening.{EachRecovered, IsLeft, IsNodeFlash}
-use Rattle.machine_ties.proofs.Fronts.{front_ranges, front_whole}
-use Rattle.machine_ties.proofs.Lists.{all_nothing}
-use Rattle.machine_ties.specs.Kept.{AreKept, KeptLaw}
+use Rattle.machine_standing.proofs.Fronts.{front_ranges, front_whole}
+use Rattle.machine_standing.proofs.Lists.{all_nothing}
+use Rattle.machine_standing.specs.Kept.{AreKept, KeptLaw}
 use Rattle.node_store.proofs.Holding.{alike_sym, held_node, holds_recovered, store_images, store_meaning}
 use Rattle.node_store.specs.Tie.{Holds, IsFront, IsHeld, IsNode, IsStoreOf}
 use Rattle.node_store.specs.View.{StoreView}

@@ -1,18 +1,16 @@
 -- What a life opens with, what a refused opening leaves, and what an arm leaves.
 use Rattle.std.proofs.Common.{◌≡◌, ℕ, ◌≤◌, Bool, true, false, List, [], append-nil, refl, ap, sym, subst, ◌∙◌, arith, true≢false}
-use Rattle.std.specs.Prelude.{All, IsTrue}
-use Rattle.std.proofs.lemmas.List.Elements.{All-from_recursion}
-use Rattle.event_plans.specs.Memory.{AreNodeTablesOf, IsFitFor, NodeTablesView}
+use Rattle.std.specs.Prelude.{IsTrue}
 use Rattle.flash_model.specs.Chip.{Chip}
 use Rattle.machine_contract.specs.Refused.{IsStartCause, IsUntouched, WasReset}
 use Rattle.machine_contract.specs.Standing.{IsSameFlash}
-use Rattle.machine_ties.proofs.Images.{held_left, store_left, store_mark, store_node}
-use Rattle.machine_ties.proofs.Lists.{all_nothing}
-use Rattle.machine_ties.specs.Opening.{start_fault_of}
-use Rattle.machine_ties.specs.Ties.{IsBefore, IsReady, Stands, opened}
-use Rattle.machine_ties.specs.Views.{NodeMachine}
-use Rattle.node_records.specs.Meaning.{IsMeaningOf}
-use Rattle.node_store.proofs.Holding.{held_node, store_meaning}
+use Rattle.machine_standing.proofs.Images.{held_left, store_left, store_mark, store_node}
+use Rattle.machine_standing.proofs.Lists.{all_nothing}
+use Rattle.machine_standing.specs.Opening.{start_fault_of}
+use Rattle.machine_standing.specs.Ties.{IsNodeStore, IsReadyBy, StandsBy, opened_by}
+use Rattle.machine_standing.specs.Views.{LifeMachine}
+use Rattle.node_records.specs.declared.persist.Persist.{Persist}
+use Rattle.node_store.proofs.Holding.{held_node}
 use Rattle.node_store.specs.Causes.{IsFoundAs, IsStoreCause}
 use Rattle.node_store.specs.declared.mounting.StoreFault.{StoreFault}
 use Rattle.node_store.specs.declared.mounting.StoreFault.TheVariants as F
@@ -20,49 +18,42 @@ use Rattle.node_store.specs.Mounted.{IsRead}
 use Rattle.node_store.specs.Tie.{Holds, IsHeld, IsNode, IsStoreOf}
 use Rattle.node_store.specs.View.{StoreView}
 use Rattle.record_types.specs.declared.records.StoreRecord.{StoreRecord}
-use Rattle.event_definitions.specs.History.{Told}
+use Rattle.event_definitions.specs.History.{Past}
+use Rattle.event_definitions.specs.Role.{Role}
 use Rattle.seq_reserve.specs.Reserving.{IsPublished}
 use Rattle.seq_reserve.specs.declared.reserve.Reserve.{Reserve}
 use Rattle.slot_journal.specs.Headers.{IsTidy}
 use Rattle.slot_journal.specs.Tie.{IsMounted as IsJournalMounted}
 use Rattle.store_definitions.specs.Config.{Config, config_of}
-use Rattle.store_definitions.specs.Node.{IsWhole}
 use Rattle.store_definitions.specs.Ranges.{IsInRange}
 
-opened_before : (over : List StoreRecord) (r : Reserve) (t : NodeTablesView) (elements : ℕ) → IsMeaningOf over r.store.persist → All IsInRange over → IsWhole (config_of over)
-    → AreNodeTablesOf t (record { told = []; records = over }) → IsBefore (record { told = []; records = over }) (opened r t elements)
-opened_before over r t elements meaning ranges whole tables = record {
-  standing = record { meaning = meaning; tables = tables; ranges = ranges; whole = whole; recorded = refl };
-  told = All-from_recursion (λ (x : Told). All IsInRange x.records) [] tt;
+pub opened_stands : {Memory : Type 0} (role : Role) (Before : Past → LifeMachine Memory → Type 0) (chip : Chip) (over : List StoreRecord) (r : Reserve) (t : Memory) (elements : ℕ)
+    → IsStoreOf chip r.store over → IsNodeStore over r.store.persist → Before (record { told = []; records = over }) (opened_by r t elements)
+    → IsPublished r.store r.keeper → elements ≡ r.store.persist.elements → chip.setting.faults ≤ chip.faults
+    → StandsBy role Before chip over (opened_by r t elements)
+opened_stands role Before chip over r t elements store node before published is began = record {
+  life = record {
+    told = [];
+    entries = refl;
+    handled = tt;
+    few = omega arith;
+    elements = is ∙ ap (λ (c : Config). c.elements) node.meaning.config;
+    node = store_node chip r.store over store node.whole;
+    left = λ image next held found. (store_left chip r.store over store node.ranges image next held found, store_mark chip r.store over r.keeper.mark store published image next held found);
+    idle = λ e. refl;
+    failed = λ e. absurd (true≢false (sym e));
+  };
+  usable = λ e. record { store = store; before = before };
+  began = began;
 }
 
-pub opened_stands : (chip : Chip) (over : List StoreRecord) (r : Reserve) (t : NodeTablesView) (elements : ℕ) → IsStoreOf chip r.store over → All IsInRange over → IsWhole (config_of over)
-    → AreNodeTablesOf t (record { told = []; records = over }) → IsPublished r.store r.keeper → elements ≡ r.store.persist.elements → chip.setting.faults ≤ chip.faults
-    → Stands chip over (opened r t elements)
-opened_stands chip over r t elements store ranges whole tables published is began =
-    let meaning = store_meaning chip r.store over store in
-    record {
-      life = record {
-        told = [];
-        entries = refl;
-        handled = tt;
-        few = omega arith;
-        elements = is ∙ ap (λ (c : Config). c.elements) meaning.config;
-        node = store_node chip r.store over store whole;
-        left = λ image next held found. (store_left chip r.store over store ranges image next held found, store_mark chip r.store over r.keeper.mark store published image next held found);
-        idle = λ e. refl;
-        failed = λ e. absurd (true≢false (sym e));
-      };
-      usable = λ e. record { store = store; before = opened_before over r t elements meaning ranges whole tables };
-      began = began;
-    }
-
-pub opened_ready : (over : List StoreRecord) (r : Reserve) (t : NodeTablesView) (elements : ℕ) → IsMeaningOf over r.store.persist → All IsInRange over → IsWhole (config_of over)
-    → AreNodeTablesOf t (record { told = []; records = over }) → IsPublished r.store r.keeper → IsFitFor t r.store.persist → r.store.journal.closed ≡ false → elements ≡ r.store.persist.elements
-    → IsReady (opened r t elements)
-opened_ready over r t elements meaning ranges whole tables published fit usable is = record {
+pub opened_ready : {Memory : Type 0} (Before : Past → LifeMachine Memory → Type 0) (Fits : Memory → Persist → Type 0) (over : List StoreRecord) (r : Reserve) (t : Memory) (elements : ℕ)
+    → Before (record { told = []; records = over }) (opened_by r t elements) → IsPublished r.store r.keeper → Fits t r.store.persist
+    → r.store.journal.closed ≡ false → elements ≡ r.store.persist.elements
+    → IsReadyBy Before Fits (opened_by r t elements)
+opened_ready Before Fits over r t elements before published fit usable is = record {
   past = record { told = []; records = over };
-  before = opened_before over r t elements meaning ranges whole tables;
+  before = before;
   published = published;
   fit = fit;
   usable = usable;
@@ -98,8 +89,9 @@ store_same old new store records same tie = record {
   alike = tie.alike;
 }
 
-pub stands_same : (old new : Chip) (over : List StoreRecord) (m : NodeMachine) → IsSameFlash old new → Stands old over m → Stands new over m
-stands_same old new over m same s = record {
+pub stands_same : {Memory : Type 0} (role : Role) (Before : Past → LifeMachine Memory → Type 0) (old new : Chip) (over : List StoreRecord) (m : LifeMachine Memory) → IsSameFlash old new
+    → StandsBy role Before old over m → StandsBy role Before new over m
+stands_same role Before old new over m same s = record {
   life = record {
     told = s.life.told;
     entries = s.life.entries;

@@ -5,8 +5,8 @@ use Rattle.std.specs.List.{AllByRecursion as Every}
 use Rattle.std.proofs.lemmas.Grind.{fold-append}
 use Rattle.std.proofs.lemmas.List.Elements.{All-from_recursion, recursion_from_All}
 use Rattle.event_records.specs.Putting.{ArePuttable}
-use Rattle.machine_ties.proofs.Lists.{every_append, every_take}
-use Rattle.machine_ties.specs.Kept.{AreKept, IsNoIdentity, KeepWhole, KeptLaw}
+use Rattle.machine_standing.proofs.Lists.{every_append, every_take}
+use Rattle.machine_standing.specs.Kept.{AreKept, IsNoIdentity, KeepWhole, KeptLaw}
 use Rattle.node_records.specs.Tables.{config_in}
 use Rattle.node_records.specs.declared.persist.Persist.{Persist}
 use Rattle.record_types.specs.declared.records.StoreRecord.{StoreRecord}

@@ -1,0 +1,10 @@
+pub mod Friend
+pub mod Short
+pub mod Recording
+pub mod Accepts
+pub mod Rows
+pub mod Fitting
+pub mod Quiet
+pub mod Told
+pub mod Kind
+pub mod Handled

@@ -1,0 +1,234 @@
+use Rattle.std.proofs.Common.{◌≡◌, ◌+◌, ◌<◌, true, List, [], ◌∷◌, ◌++◌, refl, ap, sym, subst, ◌∙◌, arith}
+use Rattle.std.specs.Prelude.{All}
+use Rattle.std.proofs.lemmas.Bool.Decides.{nat_tests}
+use Rattle.std.specs.List.{flat_map}
+use Rattle.std.specs.Option.{option_to_list}
+use Rattle.entry_log.specs.Log.{LogView}
+use Rattle.event_records.specs.Asked.{AreAskedFor}
+use Rattle.event_records.specs.Putting.{AreMoves, ArePuttable}
+use Rattle.low_power_machine.proofs.Accepts.{place_of_answer, seq_of_answer}
+use Rattle.low_power_machine.proofs.Handled.{IsMade, closes, plans_by, ready_made, stands_closed, stands_made}
+use Rattle.low_power_machine.proofs.Kind.{ArePlans}
+use Rattle.low_power_machine.proofs.Recording.{records_are}
+use Rattle.low_power_machine.proofs.Short.{job_short}
+use Rattle.low_power_machine.specs.Memory.{IsFitFor}
+use Rattle.low_power_machine.specs.Parts.{machine_of}
+use Rattle.low_power_machine.specs.Plans.{IsPlanned, records_by}
+use Rattle.low_power_machine.specs.Views.{IsBefore, LowPowerNode, Stands, shown}
+use Rattle.low_power_machine.specs.declared.memory.Memory.{Memory}
+use Rattle.low_power_machine.specs.declared.plan.Plan.{Plan}
+use Rattle.low_power_role.specs.Role.{jobs_under}
+use Rattle.low_power_role.specs.State.{event_calls, state_of}
+use Rattle.machine_contract.specs.Ranges.{IsJob}
+use Rattle.machine_contract.specs.Refused.{Closes}
+use Rattle.machine_contract.specs.declared.answers.Answered.{Answered}
+use Rattle.machine_contract.specs.declared.answers.Hand.TheVariants as H
+use Rattle.machine_standing.specs.Ties.{IsReadyBy}
+use Rattle.mesh_types.specs.declared.events.Event.{Event}
+use Rattle.mesh_types.specs.declared.history.Entry.{Entry}
+use Rattle.mesh_types.specs.declared.jobs.Job.{Job}
+use Rattle.node_records.specs.Tables.{config_in}
+use Rattle.node_records.specs.declared.persist.Persist.{Persist}
+use Rattle.node_store.specs.Tie.{IsFront}
+use Rattle.node_store.specs.Writing.{Puts}
+use Rattle.record_types.specs.declared.records.StoreRecord.{StoreRecord}
+use Rattle.seq_reserve.specs.declared.reserve.Reserve.{Reserve}
+use Rattle.low_power_machine.proofs.machine.LowPowerMachine.handle_event.Goals as goal
+
+pub heard_records-records-requires : goal.heard_records-records-requires
+heard_records-records-requires g c =
+    let i = c.self.inside in
+    let m : LowPowerNode = machine_of i.reserve i.memory i.history i.fills i.closed i.hand i.elements in
+    let ready : IsReadyBy IsBefore IsFitFor m = c.self.invariant c.if-self.false in
+    let event : Event = c.args.event.now in
+    let plans : ArePlans m event c.plan-plan.result c.plan-plan.new.memory = plans_by m event c.plan-plan.result c.plan-plan.new.memory c.persist.result.now c.persist.ensures.value c.plan-plan.ensures.planned in
+    let x = plans ready.past ready.before.node.meaning ready.before.state in
+    seq_of_answer ready.past event x.insight c.plan-plan.result.answer x.sees x.answer
+
+pub store_records-requires-clause-may : goal.store_records-requires-clause-may
+store_records-requires-clause-may g c =
+    let i = c.self.inside in
+    let m : LowPowerNode = machine_of i.reserve i.memory i.history i.fills i.closed i.hand i.elements in
+    let ready : IsReadyBy IsBefore IsFitFor m = c.self.invariant c.if-self.false in
+    let event : Event = c.args.event.now in
+    let plans : ArePlans m event c.plan-plan.result c.plan-plan.new.memory = plans_by m event c.plan-plan.result c.plan-plan.new.memory c.persist.result.now c.persist.ensures.value c.plan-plan.ensures.planned in
+    let x = plans ready.past ready.before.node.meaning ready.before.state in
+    c.heard_records-records.ensures.may i.reserve.store.persist (place_of_answer ready.past i.reserve.store.persist event x.insight c.plan-plan.result.answer ready.before.node.meaning x.sees x.answer)
+    (λ q is. subst (λ (l : List StoreRecord). ArePuttable q l) (sym c.new.ensures.value) tt)
+
+pub store_records-requires-clause-moves : goal.store_records-requires-clause-moves
+store_records-requires-clause-moves g c =
+    c.heard_records-records.ensures.moves (config_in c.self.inside.reserve.store.persist)
+    (subst (λ (l : List StoreRecord). AreMoves (config_in c.self.inside.reserve.store.persist) l) (sym c.new.ensures.value) tt)
+
+pub jobs_of-jobs-requires-clause-short : goal.jobs_of-jobs-requires-clause-short
+jobs_of-jobs-requires-clause-short g c =
+    let i = c.self.inside in
+    let m : LowPowerNode = machine_of i.reserve i.memory i.history i.fills i.closed i.hand i.elements in
+    let ready : IsReadyBy IsBefore IsFitFor m = c.self.invariant c.if-self.false in
+    let event : Event = c.args.event.now in
+    let plans : ArePlans m event c.plan-plan.result c.plan-plan.new.memory = plans_by m event c.plan-plan.result c.plan-plan.new.memory c.persist.result.now c.persist.ensures.value c.plan-plan.ensures.planned in
+    let x = plans ready.past ready.before.node.meaning ready.before.state in
+    job_short (state_of ready.past) (event_calls event x.insight c.plan-plan.result.answer) c.plan-plan.result.job x.job
+
+pub invariant_of-self-2 : goal.invariant_of-self-2
+invariant_of-self-2 g c e =
+    let i = c.self.inside in
+    let m : LowPowerNode = machine_of i.reserve i.memory i.history i.fills i.closed i.hand i.elements in
+    let event : Event = c.args.event.now in
+    let plan : Plan = c.plan-plan.result in
+    let memory : Memory = c.plan-plan.new.memory in
+    let old = g.F.Flash.chip c.args.flash.now in
+    let new = g.F.Flash.chip c.store_records.new.flash in
+    let r : Reserve = c.store_records.new.reserve in
+    let ready : IsReadyBy IsBefore IsFitFor m = c.self.invariant c.if-self.false in
+    let plans : ArePlans m event plan memory = plans_by m event plan memory c.persist.result.now c.persist.ensures.value c.plan-plan.ensures.planned in
+    let x : IsPlanned ready.past event plan memory.lpn = plans ready.past ready.before.node.meaning ready.before.state in
+    let records : c.heard_records-records.result ≡ records_by plan.answer =
+    records_are plan.answer c.heard_records-records.result (λ layers past octets insight asked.
+    c.heard_records-records.ensures.value layers past octets insight (subst (λ (l : List StoreRecord). AreAskedFor layers past insight plan.answer l) (sym c.new.ensures.value) asked)) in
+    let may : ArePuttable i.reserve.store.persist (records_by plan.answer) =
+    subst (λ (l : List StoreRecord). ArePuttable i.reserve.store.persist l) records
+    (c.heard_records-records.ensures.may i.reserve.store.persist (place_of_answer ready.past i.reserve.store.persist event x.insight plan.answer ready.before.node.meaning x.sees x.answer)
+    (λ q is. subst (λ (l : List StoreRecord). ArePuttable q l) (sym c.new.ensures.value) tt)) in
+    let log : LogView = c.enter-answered.new.history in
+    let a : Answered = c.enter-answered.result in
+    let entry : Entry = record { bearer = c.args.bearer; number = c.args.number; event = event; fills = i.fills; answer = a.answer; jobs = a.jobs } in
+    let made : IsMade m event plan memory r log entry old new = record {
+      plans = plans;
+      may = may;
+      puts = subst (λ (l : List StoreRecord). Puts l old new i.reserve.store r.store) records (c.in-Ok-store_records.ensures.puts ready.usable);
+      is_entry = record {
+        is_of = refl;
+        has = c.enter-answered.ensures.answer;
+        jobs = c.enter-answered.ensures.jobs ∙ c.jobs_of-jobs.ensures.value ∙ ap (λ (p : Persist). flat_map (jobs_under (config_in p)) (option_to_list plan.job)) c.persist-2.ensures.value;
+      };
+      fills = refl;
+      entries = c.enter-answered.ensures.entry
+          ∙ ap (λ (l : List Entry). l ++ (record entry { event = c.copied-2.result }) ∷ []) c.room.ensures.entries
+          ∙ ap (λ (e : Event). i.history.entries ++ (record entry { event = e }) ∷ []) c.copied-2.ensures.value;
+      taken = c.enter-answered.ensures.taken ∙ c.room.ensures.taken;
+      published = c.store_records.ensures.published;
+      made = c.store_records.ensures.made;
+      fit = subst (λ (p : Persist). IsFitFor memory p) c.persist.ensures.value c.plan-plan.ensures.fit;
+    } in
+    ready_made m event plan memory r log entry old new made c.node_law.ensures.kept c.low_power_state_law.ensures.goes_on ready
+
+pub returns-clause-jobs : goal.returns-clause-jobs
+returns-clause-jobs g c =
+    let i = c.self.inside in
+    let m : LowPowerNode = machine_of i.reserve i.memory i.history i.fills i.closed i.hand i.elements in
+    let event : Event = c.args.event.now in
+    let plan : Plan = c.plan-plan.result in
+    let memory : Memory = c.plan-plan.new.memory in
+    let old = g.F.Flash.chip c.args.flash.now in
+    let new = g.F.Flash.chip c.store_records.new.flash in
+    let r : Reserve = c.store_records.new.reserve in
+    let ready : IsReadyBy IsBefore IsFitFor m = c.self.invariant c.if-self.false in
+    let plans : ArePlans m event plan memory = plans_by m event plan memory c.persist.result.now c.persist.ensures.value c.plan-plan.ensures.planned in
+    let x : IsPlanned ready.past event plan memory.lpn = plans ready.past ready.before.node.meaning ready.before.state in
+    let records : c.heard_records-records.result ≡ records_by plan.answer =
+    records_are plan.answer c.heard_records-records.result (λ layers past octets insight asked.
+    c.heard_records-records.ensures.value layers past octets insight (subst (λ (l : List StoreRecord). AreAskedFor layers past insight plan.answer l) (sym c.new.ensures.value) asked)) in
+    let may : ArePuttable i.reserve.store.persist (records_by plan.answer) =
+    subst (λ (l : List StoreRecord). ArePuttable i.reserve.store.persist l) records
+    (c.heard_records-records.ensures.may i.reserve.store.persist (place_of_answer ready.past i.reserve.store.persist event x.insight plan.answer ready.before.node.meaning x.sees x.answer)
+    (λ q is. subst (λ (l : List StoreRecord). ArePuttable q l) (sym c.new.ensures.value) tt)) in
+    subst (λ (l : List Job). All (IsJob event) l) (sym c.enter-answered.ensures.jobs) (c.jobs_of-jobs.ensures.jobs event)
+
+pub returns-clause-kept : goal.returns-clause-kept
+returns-clause-kept g c over stands =
+    let i = c.self.inside in
+    let m : LowPowerNode = machine_of i.reserve i.memory i.history i.fills i.closed i.hand i.elements in
+    let event : Event = c.args.event.now in
+    let plan : Plan = c.plan-plan.result in
+    let memory : Memory = c.plan-plan.new.memory in
+    let old = g.F.Flash.chip c.args.flash.now in
+    let new = g.F.Flash.chip c.store_records.new.flash in
+    let r : Reserve = c.store_records.new.reserve in
+    let ready : IsReadyBy IsBefore IsFitFor m = c.self.invariant c.if-self.false in
+    let plans : ArePlans m event plan memory = plans_by m event plan memory c.persist.result.now c.persist.ensures.value c.plan-plan.ensures.planned in
+    let x : IsPlanned ready.past event plan memory.lpn = plans ready.past ready.before.node.meaning ready.before.state in
+    let records : c.heard_records-records.result ≡ records_by plan.answer =
+    records_are plan.answer c.heard_records-records.result (λ layers past octets insight asked.
+    c.heard_records-records.ensures.value layers past octets insight (subst (λ (l : List StoreRecord). AreAskedFor layers past insight plan.answer l) (sym c.new.ensures.value) asked)) in
+    let may : ArePuttable i.reserve.store.persist (records_by plan.answer) =
+    subst (λ (l : List StoreRecord). ArePuttable i.reserve.store.persist l) records
+    (c.heard_records-records.ensures.may i.reserve.store.persist (place_of_answer ready.past i.reserve.store.persist event x.insight plan.answer ready.before.node.meaning x.sees x.answer)
+    (λ q is. subst (λ (l : List StoreRecord). ArePuttable q l) (sym c.new.ensures.value) tt)) in
+    let log : LogView = c.enter-answered.new.history in
+    let a : Answered = c.enter-answered.result in
+    let entry : Entry = record { bearer = c.args.bearer; number = c.args.number; event = event; fills = i.fills; answer = a.answer; jobs = a.jobs } in
+    let made : IsMade m event plan memory r log entry old new = record {
+      plans = plans;
+      may = may;
+      puts = subst (λ (l : List StoreRecord). Puts l old new i.reserve.store r.store) records (c.in-Ok-store_records.ensures.puts ready.usable);
+      is_entry = record {
+        is_of = refl;
+        has = c.enter-answered.ensures.answer;
+        jobs = c.enter-answered.ensures.jobs ∙ c.jobs_of-jobs.ensures.value ∙ ap (λ (p : Persist). flat_map (jobs_under (config_in p)) (option_to_list plan.job)) c.persist-2.ensures.value;
+      };
+      fills = refl;
+      entries = c.enter-answered.ensures.entry
+          ∙ ap (λ (l : List Entry). l ++ (record entry { event = c.copied-2.result }) ∷ []) c.room.ensures.entries
+          ∙ ap (λ (e : Event). i.history.entries ++ (record entry { event = e }) ∷ []) c.copied-2.ensures.value;
+      taken = c.enter-answered.ensures.taken ∙ c.room.ensures.taken;
+      published = c.store_records.ensures.published;
+      made = c.store_records.ensures.made;
+      fit = subst (λ (p : Persist). IsFitFor memory p) c.persist.ensures.value c.plan-plan.ensures.fit;
+    } in
+    stands_made m event plan memory r log entry old new made c.node_law.ensures.kept c.low_power_state_law.ensures.goes_on over
+    (subst (λ (v : LowPowerNode). Stands old over v) (sym c.self.view_is) stands) c.if-self.false (grind (arith, nat_tests, c.if-count-ge-MOST_ENTRIES.false, c.count.ensures.value)) c.store_records.ensures.leaves.frame
+
+pub returns-in-Err-store_records-clause-refused : goal.returns-in-Err-store_records-clause-refused
+returns-in-Err-store_records-clause-refused g c =
+    let i = c.self.inside in
+    let m : LowPowerNode = machine_of i.reserve i.memory i.history i.fills i.closed i.hand i.elements in
+    let event : Event = c.args.event.now in
+    let plan : Plan = c.plan-plan.result in
+    let memory : Memory = c.plan-plan.new.memory in
+    let old = g.F.Flash.chip c.args.flash.now in
+    let new = g.F.Flash.chip c.store_records.new.flash in
+    let r : Reserve = c.store_records.new.reserve in
+    let ready : IsReadyBy IsBefore IsFitFor m = c.self.invariant c.if-self.false in
+    let plans : ArePlans m event plan memory = plans_by m event plan memory c.persist.result.now c.persist.ensures.value c.plan-plan.ensures.planned in
+    let x : IsPlanned ready.past event plan memory.lpn = plans ready.past ready.before.node.meaning ready.before.state in
+    let records : c.heard_records-records.result ≡ records_by plan.answer =
+    records_are plan.answer c.heard_records-records.result (λ layers past octets insight asked.
+    c.heard_records-records.ensures.value layers past octets insight (subst (λ (l : List StoreRecord). AreAskedFor layers past insight plan.answer l) (sym c.new.ensures.value) asked)) in
+    let may : ArePuttable i.reserve.store.persist (records_by plan.answer) =
+    subst (λ (l : List StoreRecord). ArePuttable i.reserve.store.persist l) records
+    (c.heard_records-records.ensures.may i.reserve.store.persist (place_of_answer ready.past i.reserve.store.persist event x.insight plan.answer ready.before.node.meaning x.sees x.answer)
+    (λ q is. subst (λ (l : List StoreRecord). ArePuttable q l) (sym c.new.ensures.value) tt)) in
+    let rose : old.faults < new.faults = (c.in-Err-store_records.ensures.fails ready.usable).cause.rose in
+    let log : LogView = c.room.new.history in
+    subst (λ (v : LowPowerNode). Closes (H.OfEvent event) (shown v) (shown (machine_of r memory log i.fills true (H.OfEvent c.copied.result) i.elements)) old new) c.self.view_is
+    (subst (λ (e : Event). Closes (H.OfEvent event) (shown m) (shown (machine_of r memory log i.fills true (H.OfEvent e) i.elements)) old new) (sym c.copied.ensures.value)
+    (closes c.node_law.ensures.kept c.low_power_state_law.ensures.goes_on m event plan memory r log old new plans may c.room.ensures.entries c.room.ensures.taken rose c.if-self.false c.store_records.ensures.made))
+
+pub returns-in-Err-store_records-clause-kept : goal.returns-in-Err-store_records-clause-kept
+returns-in-Err-store_records-clause-kept g c over stands =
+    let i = c.self.inside in
+    let m : LowPowerNode = machine_of i.reserve i.memory i.history i.fills i.closed i.hand i.elements in
+    let event : Event = c.args.event.now in
+    let plan : Plan = c.plan-plan.result in
+    let memory : Memory = c.plan-plan.new.memory in
+    let old = g.F.Flash.chip c.args.flash.now in
+    let new = g.F.Flash.chip c.store_records.new.flash in
+    let r : Reserve = c.store_records.new.reserve in
+    let ready : IsReadyBy IsBefore IsFitFor m = c.self.invariant c.if-self.false in
+    let plans : ArePlans m event plan memory = plans_by m event plan memory c.persist.result.now c.persist.ensures.value c.plan-plan.ensures.planned in
+    let x : IsPlanned ready.past event plan memory.lpn = plans ready.past ready.before.node.meaning ready.before.state in
+    let records : c.heard_records-records.result ≡ records_by plan.answer =
+    records_are plan.answer c.heard_records-records.result (λ layers past octets insight asked.
+    c.heard_records-records.ensures.value layers past octets insight (subst (λ (l : List StoreRecord). AreAskedFor layers past insight plan.answer l) (sym c.new.ensures.value) asked)) in
+    let may : ArePuttable i.reserve.store.persist (records_by plan.answer) =
+    subst (λ (l : List StoreRecord). ArePuttable i.reserve.store.persist l) records
+    (c.heard_records-records.ensures.may i.reserve.store.persist (place_of_answer ready.past i.reserve.store.persist event x.insight plan.answer ready.before.node.meaning x.sees x.answer)
+    (λ q is. subst (λ (l : List StoreRecord). ArePuttable q l) (sym c.new.ensures.value) tt)) in
+    let rose : old.faults < new.faults = (c.in-Err-store_records.ensures.fails ready.usable).cause.rose in
+    let log : LogView = c.room.new.history in
+    subst (λ (e : Event). Stands new over (machine_of r memory log i.fills true (H.OfEvent e) i.elements)) (sym c.copied.ensures.value)
+    (stands_closed c.node_law.ensures.kept c.low_power_state_law.ensures.goes_on m event plan memory r log old new plans may c.room.ensures.entries c.room.ensures.taken rose over
+    (subst (λ (v : LowPowerNode). Stands old over v) (sym c.self.view_is) stands) c.if-self.false c.store_records.ensures.leaves.frame
+    (λ before held image is. subst (λ (l : List StoreRecord). IsFront before l image) records (c.store_records.ensures.fronts before held image is)) c.store_records.ensures.durable)

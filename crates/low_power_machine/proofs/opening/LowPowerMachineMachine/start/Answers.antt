@@ -1,0 +1,48 @@
+use Rattle.std.proofs.Common.{ap, sym, subst, ◌∙◌, arith}
+use Rattle.flash_model.specs.Chip.{Setting}
+use Rattle.machine_standing.proofs.Opened.{opened_stands}
+use Rattle.machine_standing.specs.Opening.{IsNodeMounted}
+use Rattle.machine_standing.specs.Ties.{IsNodeStore, opened_by}
+use Rattle.low_power_definitions.specs.State.{no_friend}
+use Rattle.low_power_machine.proofs.Kind.{opened_before}
+use Rattle.low_power_machine.specs.Views.{IsBefore, LowPowerNode, Stands}
+use Rattle.low_power_role.specs.Role.{low_power_role}
+use Rattle.node_store.specs.Tie.{IsStoreOf}
+use Rattle.node_store.specs.View.{StoreView}
+use Rattle.store_definitions.specs.Config.{Config}
+use Rattle.low_power_machine.proofs.opening.LowPowerMachineMachine.start.Goals as goal
+
+pub open-requires-clause-node : goal.open-requires-clause-node
+open-requires-clause-node g c = (c.in_ok-store.ensures.ok.over, c.in_ok-store.ensures.ok.node)
+
+pub returns-in-Ok-clause-ok : goal.returns-in-Ok-clause-ok
+returns-in-Ok-clause-ok g c =
+    let old = g.F.Flash.chip c.args.flash.now in
+    let new = g.F.Flash.chip c.mount_node.new.flash in
+    let store : StoreView = c.in_ok-store.store in
+    let node : IsNodeMounted old new store = c.in_ok-store.ensures.ok in
+    let started = c.in-Ok.started in
+    let says = c.in-Ok.ensures in
+    let r = started.machine.reserve in
+    let t = started.machine.tables in
+    let said : IsNodeStore node.over r.store.persist = subst (λ (s : StoreView). IsNodeStore node.over s.persist) (sym says.store) node.node in
+    let base : Stands new node.over (opened_by r t store.persist.elements) =
+    opened_stands low_power_role IsBefore new node.over r t store.persist.elements (subst (λ (s : StoreView). IsStoreOf new s node.over) (sym says.store) node.kept) said
+    (opened_before node.over r t store.persist.elements said
+    (says.lpn ∙ ap (λ (s : StoreView). no_friend s.persist.unicast s.persist.elements) (sym says.store))) says.published (ap (λ (s : StoreView). s.persist.elements) (sym says.store))
+    (omega (arith, c.requires.began, c.mount_node.ensures.frame.later, ap (λ (x : Setting). x.faults) c.mount_node.ensures.frame.setting)) in
+    record {
+      over = node.over;
+      read = node.read;
+      runs = node.runs;
+      state = says.state ∙ ap (λ (x : Config). x.iv) node.node.meaning.config;
+      mark = says.mark ∙ ap (λ (x : Config). x.mark) node.node.meaning.config;
+      tie = subst (λ (v : LowPowerNode). Stands new node.over v) (sym says.machine) base;
+      entries = ap (λ (v : LowPowerNode). v.entries) says.machine;
+      taken = ap (λ (v : LowPowerNode). v.taken) says.machine;
+      fills = ap (λ (v : LowPowerNode). v.fills) says.machine;
+      usable = ap (λ (v : LowPowerNode). v.closed) says.machine;
+      which = says.which;
+      opened = says.opened ∙ ap (λ (x : Config). x.mark) node.node.meaning.config;
+      drawer = says.drawer;
+    }

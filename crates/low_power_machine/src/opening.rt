@@ -1,0 +1,142 @@
+//! A life is opened, and the machine as the layers above see it.
+#![tactic(auto)]
+
+ghost use Rattle.std.specs.Prelude.{◌≡◌, List, [], false, IfOk};
+ghost use Rattle.low_power_machine.specs.Views.{Stands, shown};
+ghost use Rattle.low_power_definitions.specs.State.{no_friend};
+ghost use Rattle.low_power_role.specs.Role.{low_power_role};
+ghost use Rattle.machine_contract.specs.Idle.{IsQuietTick};
+ghost use Rattle.machine_standing.specs.Ties.{IsNodeStore, opened_by};
+ghost use Rattle.node_store.specs.Tie.{IsNode};
+ghost use Rattle.record_types.specs.declared.records.StoreRecord.{StoreRecord};
+ghost use Rattle.seq_reserve.specs.Reserving.{IsPublished};
+ghost use Rattle.seq_word.specs.Seen.{fresh};
+
+use crate::machine::LowPowerMachine;
+use crate::memory::Memory;
+use entry_log::EntryLog;
+use flash_model::Flash;
+use machine_contract::{Answered, Hand, History, Machine, StartFault, Started, Stop};
+use machine_standing::mount_node;
+use mesh_types::events::Event;
+use mesh_types::history::Entry;
+use node_store::Store;
+use seq_reserve::Reserve;
+use seq_word::{Keeper, Numbers};
+use std::alloc::{AllocError, Global};
+
+// Opens a life over a store that was mounted.
+fn open(alloc: Global, store: Store) -> Result<Started<LowPowerMachine>, AllocError>
+    requires usable { store.journal.closed ≡ false }
+    requires node { (over : List StoreRecord) × IsNodeStore over store.persist }
+    ensures machine { IfOk result (λ s. s.machine ≡ opened_by s.machine.reserve s.machine.tables store.persist.elements) }
+    ensures store { IfOk result (λ s. s.machine.reserve.store ≡ store) }
+    ensures published { IfOk result (λ s. IsPublished s.machine.reserve.store s.machine.reserve.keeper) }
+    ensures lpn { IfOk result (λ s. s.machine.tables.lpn ≡ no_friend store.persist.unicast store.persist.elements) }
+    ensures which { IfOk result (λ s. s.machine.reserve.keeper.which ≡ s.numbers.which) }
+    ensures opened { IfOk result (λ s. s.numbers.opened ≡ store.persist.mark) }
+    ensures drawer { IfOk result (λ s. s.drawer ≡ fresh s.numbers.which [] 1024) }
+    ensures state { IfOk result (λ s. s.state ≡ store.persist.iv) }
+    ensures mark { IfOk result (λ s. s.mark ≡ store.persist.mark) }
+{
+    let memory = Memory::new(store.persist());
+    let history = EntryLog::new(alloc)?;
+    let (reserve, numbers, drawer) = Reserve::start(alloc, store)?;
+    let p = reserve.store.persist();
+    let state = p.iv;
+    let mark = p.mark;
+    let elements = p.elements;
+    let machine = LowPowerMachine {
+        reserve,
+        memory,
+        history,
+        fills: 0,
+        closed: false,
+        hand: Hand::Nothing,
+        elements,
+    };
+    Ok(Started {
+        machine,
+        numbers,
+        drawer,
+        state,
+        mark,
+    })
+}
+
+impl Machine for LowPowerMachine {
+    ghost role = { low_power_role };
+
+    ghost image = { IsNode };
+
+    ghost quiet = { λ past ticks. IsQuietTick low_power_role past ticks };
+
+    ghost view = { shown };
+
+    ghost stands = { Stands };
+
+    fn start<F: Flash>(alloc: Global, flash: &mut F) -> Result<Started<Self>, StartFault> {
+        let store = mount_node(flash)?;
+        match open(alloc, store) {
+            Ok(started) => Ok(started),
+            Err(_) => Err(StartFault::Memory),
+        }
+    }
+
+    fn handle<F: Flash>(
+        &mut self,
+        n: &Numbers,
+        flash: &mut F,
+        bearer: u8,
+        number: u32,
+        event: &Event,
+    ) -> Result<Answered, Stop> {
+        self.handle_event(n, flash, bearer, number, event)
+    }
+
+    fn refill<F: Flash>(&mut self, n: &Numbers, flash: &mut F, seen: u64) -> Result<u64, Stop> {
+        self.refill_numbers(n, flash, seen)
+    }
+
+    fn take_entries<F: Flash>(&mut self) -> Vec<Entry> {
+        self.history.take()
+    }
+
+    fn is_closed(&self) -> bool {
+        self.closed
+    }
+
+    // A Low Power node has no timers.
+    fn due<F: Flash>(&self) -> u32 {
+        u32::MAX
+    }
+
+    fn count(&self) -> u64 {
+        self.history.count()
+    }
+
+    fn elements(&self) -> u8 {
+        self.elements
+    }
+
+    fn finish(self) -> (History, Keeper) {
+        let LowPowerMachine {
+            reserve,
+            mut history,
+            fills,
+            ..
+        } = self;
+        let Reserve { store: _, keeper } = reserve;
+        (
+            History {
+                entries: history.take(),
+                refills: fills,
+            },
+            keeper,
+        )
+    }
+
+    fn tells<F: Flash>() {}
+
+    fn stays<F: Flash>() {}
+}

@@ -1,0 +1,41 @@
+use Rattle.std.proofs.Common.{◌≡◌, false, ap, sym, subst, ◌∙◌}
+use Rattle.machine_contract.specs.Refused.{IsStartCause, IsUntouched}
+use Rattle.machine_contract.specs.declared.opening.StartFault.{StartFault}
+use Rattle.machine_standing.proofs.Opened.{start_cause, untouched}
+use Rattle.node_records.specs.Meaning.{IsMeaningOf}
+use Rattle.node_store.proofs.Holding.{holds_exactly, store_meaning}
+use Rattle.node_store.specs.Mounted.{IsMounted}
+use Rattle.node_store.specs.Tie.{Holds, IsNode, IsStoreOf}
+use Rattle.store_definitions.specs.Config.{Config, config_of}
+use Rattle.machine_standing.proofs.opening.mount_node.Goals as goal
+
+pub returns-in-Err-clause-cause : goal.returns-in-Err-clause-cause
+returns-in-Err-clause-cause g c =
+    let old = g.F.Flash.chip c.args.flash.now in
+    let new = g.F.Flash.chip c.mount.new.flash in
+    let node : IsNode old.now = c.requires.node.each old.now (g.met.F.Flash.reads_image c.args.flash.now c.requires.fresh.honest) in
+    let holds : Holds old.now node.records = holds_exactly old.now node.records node.read in
+    let leaves = c.mount.ensures.any_moment c.requires.fresh node.tidy node.records holds in
+    let same : IsUntouched IsNode old new =
+    untouched old new node (λ image is. leaves.each image (g.met.F.Flash.counts_now c.mount.new.flash _ image leaves.later is)) (c.mount.ensures.frame.honest ∙ c.requires.fresh.honest) in
+    subst (λ (f : StartFault). IsStartCause IsNode old new f) (sym c.start_fault.ensures)
+    (start_cause old new node c.in-Err.fault c.what_is_read_is_mounted.ensures.stands c.requires.fresh.honest c.in-Err.ensures.cause same)
+
+pub returns-in-Ok-clause-ok : goal.returns-in-Ok-clause-ok
+returns-in-Ok-clause-ok g c =
+    let old = g.F.Flash.chip c.args.flash.now in
+    let new = g.F.Flash.chip c.mount.new.flash in
+    let node : IsNode old.now = c.requires.node.each old.now (g.met.F.Flash.reads_image c.args.flash.now c.requires.fresh.honest) in
+    let holds : Holds old.now node.records = holds_exactly old.now node.records node.read in
+    let store : IsStoreOf new c.in-Ok.store node.records = c.in-Ok.ensures.kept c.requires.fresh node.tidy node.records holds in
+    let meaning : IsMeaningOf node.records c.in-Ok.store.persist = store_meaning new c.in-Ok.store node.records store in
+    let mounted : IsMounted old.now c.in-Ok.store.persist = c.in-Ok.ensures.mounted c.requires.fresh.honest in
+    let runs : (config_of node.records).reset ≡ false = ap (λ (x : Config). x.reset) (sym meaning.config ∙ mounted.meaning.config) ∙ mounted.stands in
+    record {
+      over = node.records;
+      read = node.read.held;
+      runs = runs;
+      kept = store;
+      node = record { meaning = meaning; ranges = node.read.held.ranges; whole = node.whole runs };
+      usable = c.in-Ok.ensures.usable;
+    }

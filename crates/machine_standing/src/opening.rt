@@ -1,0 +1,42 @@
+//! The store of a node is mounted.
+#![tactic(auto)]
+
+ghost use Rattle.std.specs.Prelude.{◌≡◌, IfErr, IfOk};
+ghost use Rattle.flash_model.specs.Chip.{IsFresh, Keeps};
+ghost use Rattle.machine_contract.specs.Opening.{IsNodeFlash};
+ghost use Rattle.machine_contract.specs.Refused.{IsStartCause};
+ghost use Rattle.machine_standing.specs.Opening.{IsNodeMounted, start_fault_of};
+ghost use Rattle.node_store.specs.Tie.{IsNode};
+
+use flash_model::Flash;
+use machine_contract::StartFault;
+use node_store::laws::what_is_read_is_mounted;
+use node_store::{Store, StoreFault};
+
+// Why no machine is started, where its store isn't mounted.
+fn start_fault(fault: StoreFault) -> StartFault
+    ensures { result ≡ start_fault_of fault }
+{
+    match fault {
+        StoreFault::Flash => StartFault::Flash,
+        _ => StartFault::WasReset,
+    }
+}
+
+/// Mounts the store of a flash each image of which recovers a node or a reset: the store of a node that can be run. It takes no memory. The
+/// error is that the flash failed in this call, or that a Node Reset is stored; then each image recovers what was read, or records that say
+/// the same.
+pub fn mount_node<F: Flash>(flash: &mut F) -> Result<Store, StartFault>
+    requires fresh { IsFresh (F.chip flash.old) }
+    requires node { IsNodeFlash IsNode (F.chip flash.old) }
+    ensures ok { IfOk result (IsNodeMounted (F.chip flash.old) (F.chip flash.new)) }
+    ensures cause { IfErr result (IsStartCause IsNode (F.chip flash.old) (F.chip flash.new)) }
+    ensures frame { Keeps (F.chip flash.old) (F.chip flash.new) }
+{
+    // It does nothing when it runs: the proof uses what it says.
+    what_is_read_is_mounted();
+    match Store::mount(flash) {
+        Ok(store) => Ok(store),
+        Err(fault) => Err(start_fault(fault)),
+    }
+}
