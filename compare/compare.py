@@ -35,7 +35,7 @@ def first_difference(due: str, found: str) -> str:
 
 def difference(program: str, made: Made) -> str | None:
     """What is wrong with the program's report, None where nothing is."""
-    found, fault = run_program(program, ['run', '--hex'], made.text)
+    found, fault = run_program(program, [made.command, '--hex'], made.text)
     if found != made.report:
         return f'{first_difference(made.report, found)}\n{fault}'.strip()
     keys = ''.join(f'key {net}\n' for net in made.nets[:KEYS_OF_AUDIT])

@@ -3,20 +3,22 @@ from random import Random
 from typing import NamedTuple
 
 from friend_scripts import FriendScript
+from low_power_scripts import LowPowerScript
 from scripts import NET_KEYS, FullScript, OddScript, Script
 
 KINDS: dict[str, tuple[int, type[Script]]] = {
     'usual': (3, Script), 'full': (1, FullScript), 'odd': (3, OddScript),
-    'friend': (3, FriendScript)}
+    'friend': (3, FriendScript), 'lpn': (3, LowPowerScript)}
 """The kinds by name, with their weights."""
 
 
 class Made(NamedTuple):
-    """A script, the report that the node of oracle/ makes of it, and each NET that its PDUs go
-    under."""
+    """A script, the report that the node of oracle/ makes of it, each NET that its PDUs go
+    under, and the word of the command that runs it."""
     text: str
     report: str
     nets: list[str]
+    command: str = 'run'
 
 
 def kind_of(seed: int) -> str:
@@ -30,4 +32,7 @@ def make(seed: int, kind: str) -> Made:
     nets = [key.hex() for key in NET_KEYS]
     if isinstance(script, FriendScript):
         nets += script.credentials.values()
+    if isinstance(script, LowPowerScript):
+        nets = [NET_KEYS[0].hex(), *script.credentials]
+        return Made(script.text, script.run.report(), nets, 'lpn')
     return Made(script.text, script.run.report(), nets)

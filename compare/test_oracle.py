@@ -8,6 +8,8 @@ from types import ModuleType
 from oracle import ciphers, pdus
 from oracle.friends import Request
 from oracle.pdus import NetworkPdu, Segment, UpperFields
+from oracle.low_power import LowPowerLife
+from oracle.node import Life
 from oracle.report import report_of
 
 REPOSITORY = Path(__file__).resolve().parent.parent
@@ -277,7 +279,8 @@ class Worked(unittest.TestCase):
                 if re.search(r'\nb[1-7] ', row.script) or '--old' in row.words:
                     continue
                 with self.subTest(row.title):
-                    self.assertEqual(report_of(row.script, '--hex' in row.words), row.report)
+                    kind = LowPowerLife if row.words[0] == 'lpn' else Life
+                    self.assertEqual(report_of(row.script, '--hex' in row.words, kind), row.report)
                 compared += 1
         self.assertGreaterEqual(compared, 50)
 
@@ -290,10 +293,11 @@ class Examples(unittest.TestCase):
             script = path.read_text()
             if '\nb1 ' in script:
                 continue
-            shows_octets = '--hex' in script.split('\n')[0]
+            words = script.split('\n')[0].split()
+            kind = LowPowerLife if 'lpn' in words else Life
             with self.subTest(path.name):
                 report = path.with_suffix('.report').read_text()
-                self.assertEqual(report_of(script, shows_octets), report)
+                self.assertEqual(report_of(script, '--hex' in words, kind), report)
             compared += 1
         self.assertGreaterEqual(compared, 10)
 

@@ -6,9 +6,12 @@ from pathlib import Path
 
 from compare import difference, first_difference
 from kinds import KINDS, Made, kind_of, make
+from oracle.low_power import LowPowerLife
+from oracle.node import Life
 from oracle.report import report_of
 
 EVENT = re.compile(r'b0 (net|bcn|peer|talk|beacon|send|raw|tick)( [0-9a-f:v/]+| app:\w+| u)+')
+LOW_POWER_EVENT = re.compile(r'b0 ((net|peer|list)( [0-9a-f/]+)+|seek|poll)')
 LINES_OF_LIFE = 4096
 
 
@@ -26,8 +29,9 @@ class Scripts(unittest.TestCase):
         """Every script is of the form, within its bounds, and has the report of a run anew."""
         for kind in KINDS:
             with self.subTest(kind):
-                script, report, _ = make(7, kind)
-                self.assertEqual(report_of(script), report)
+                script, report, _, command = make(7, kind)
+                life, event = (LowPowerLife, LOW_POWER_EVENT) if command == 'lpn' else (Life, EVENT)
+                self.assertEqual(report_of(script, kind=life), report)
                 first, *lives = re.split(r'(?m)^life\n', script)
                 self.assertTrue(first.startswith('provision '))
                 for life in lives:
@@ -36,7 +40,7 @@ class Scripts(unittest.TestCase):
                     arms = [line for line in lines if line.startswith('arm ')]
                     self.assertLessEqual(len(arms), 1)
                     for line in lines:
-                        self.assertTrue(line in arms or EVENT.fullmatch(line), line)
+                        self.assertTrue(line in arms or event.fullmatch(line), line)
 
     def test_seed(self) -> None:
         self.assertEqual(make(8, 'odd'), make(8, 'odd'))

@@ -105,7 +105,25 @@ def at_every_call_of_four_lamps():
             )
 
 
-EVERY = [turned_bits, at_every_call_of_an_hour, at_every_call_of_a_beacon, at_every_call_of_four_lamps]
+def at_every_call_of_a_low_power_node():
+    """A Low Power node takes a message that its friend stored for it. The next life makes a friendship with the same credentials, and hears
+    that message again: it is taken where it wasn't recorded, and else a replay."""
+    offer = 'b0 peer NK 12345678 1 00 {:06x} 0100 1201 046410107f0000\n'.format
+    stored = 'b0 peer NK/1201/0100/0000/0000 12345678 1 01 000009 0300 1201 7f\n'
+    begun = 'e 1 b0 1 seek sought\ne 2 b0 2 net control 0100 1201 12345678 {:06x} 04 6410107f0000\n'.format
+    taken, replayed = 'e 3 b0 3 net control 0300 1201 12345678 000009 7f -\n', 'e 3 b0 3 net replay 12345678 000009\n'
+    sent = 's b0 1.1 ctl 12345678 {:06x} 00 1201 fffd 0301640002580000010000\ns b0 2.1 ctl 12345678 {:06x} 00 1201 0100 0100\n'.format
+    for calls in range(3):
+        for mask in MASKS:
+            last = f'cut {5 + calls}\n' if calls < 2 else 'end\n'
+            first = f'{LIFE}{begun(1)}{taken if calls == 2 else ""}{sent(0, 1)}{last}'
+            heard = replayed if count_after(calls, mask) else taken
+            second = f'life 2 12345678 n 12345678 000100\n{begun(2)}{heard}{sent(0x100, 0x101)}end\n'
+            script = f'START-000\nb0 seek\n{offer(1)}arm {calls} {mask}\n{stored}life\nb0 seek\n{offer(2)}{stored}'
+            yield Row(f'a Low Power node takes a message: arm {calls} {mask}', script, first + second, ['lpn'])
+
+
+EVERY = [turned_bits, at_every_call_of_an_hour, at_every_call_of_a_beacon, at_every_call_of_four_lamps, at_every_call_of_a_low_power_node]
 
 
 def all_made():

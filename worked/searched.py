@@ -3,15 +3,21 @@
 Bearers are served in any order. Whatever it is: no line shows a pair or a message that an earlier one shows, and where nothing is cut, each
 number is drawn once and none is left out.
 """
+import os
 import re
 
 from rows import Text, spelled
 
 TWO_PDUS = 'START-000\nb0 RAW\nb0 RAW\n'
+# a word of the one octet ff, which is no text
+NO_TEXT = os.fsdecode(b'\xff')
 
 # Words that are no command.
 NO_COMMANDS = [
     [],
+    [NO_TEXT],
+    ['run', NO_TEXT],
+    ['run', '--hex', NO_TEXT],
     [''],
     ['walk'],
     ['help'],
@@ -32,6 +38,16 @@ NO_COMMANDS = [
     ['run', '--hex=true'],
     ['run', '--hex', '--hex'],
     ['audit', '--hex'],
+    ['--hex', 'lpn'],
+    ['lpn', '--old'],
+    ['lpn', '--hex', '--old'],
+    ['lpn', '--hex', '--hex'],
+    ['lpn', '--hex=true'],
+    ['lpn', '--'],
+    ['lpn', '--help'],
+    ['lpn', 'run'],
+    ['lpnx'],
+    ['LPN'],
     ['gen'],
     ['gen', '4'],
     ['gen', '4', '1', '1'],

@@ -16,7 +16,9 @@ def _read_provisioning(words: list[str]) -> Records:
 class Run:
     """A run, line by line. `life` is None before the first one, and where a life isn't on."""
 
-    def __init__(self, provision: str, shows_octets: bool = True) -> None:
+    def __init__(self, provision: str, shows_octets: bool = True,
+                 kind: type[Life] = Life) -> None:
+        self.kind = kind
         self.records = _read_provisioning(provision.split()[1:])
         self.flash = Flash(self.records.snapshot_size, SLOTS_OF_PROVISIONING)
         self.shows_octets = shows_octets
@@ -41,7 +43,7 @@ class Run:
         if self.records.was_reset:
             self.lines.append(f'life {self.lives} wasreset')
             return
-        self.life = Life(self.records, self.flash)
+        self.life = self.kind(self.records, self.flash)
         iv, (_, seq) = self.records.iv, self.records.mark
         state = 'p' if iv.in_progress else 'n'
         self.lines.append(f'life {self.lives} {iv.current:08x} {state} {iv.transmit:08x} {seq:06x}')
@@ -68,10 +70,11 @@ class Run:
         return ''.join(line + '\n' for line in self.lines)
 
 
-def report_of(script: str, shows_octets: bool = True) -> str:
-    """The report of a script, as `run --hex` writes it, or `run` without the octets."""
+def report_of(script: str, shows_octets: bool = True, kind: type[Life] = Life) -> str:
+    """The report of a script, as `run --hex` writes it, or `run` without the octets; with a
+    LowPowerLife as `lpn` does."""
     lines = [line for line in script.splitlines() if line and not line.startswith('#')]
-    run = Run(lines[0], shows_octets)
+    run = Run(lines[0], shows_octets, kind)
     for line in lines[1:]:
         run.take(line)
     run.end()

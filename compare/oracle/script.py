@@ -4,11 +4,13 @@ What is taken is the grammar with one bearer, b0. Scripts that break a rule of i
 """
 from . import pdus
 from .ciphers import Material, k2, virtual_address
+from .low_power import LowPowerLife
 from .node import Life
 from .pdus import NetworkPdu, UpperFields
 
 KINDS = {'net': 'net', 'peer': 'net', 'talk': 'net', 'bcn': 'bcn', 'beacon': 'bcn',
-         'send': 'send', 'raw': 'raw', 'tick': 'tick'}
+         'send': 'send', 'raw': 'raw', 'tick': 'tick', 'seek': 'seek', 'poll': 'poll',
+         'list': 'list'}
 """The kind that the report tells of an event, by its word."""
 
 
@@ -68,6 +70,10 @@ def do_event(life: Life, word: str, words: list[str]) -> None:
     elif word == 'raw':
         dst, ttl, text = words
         life.send_control(int(dst, 16), int(ttl, 16), bytes.fromhex(text))
+    elif isinstance(life, LowPowerLife) and word in ('seek', 'poll'):
+        life.seek() if word == 'seek' else life.poll()
+    elif isinstance(life, LowPowerLife) and word == 'list':
+        life.add_to_list(int(words[0], 16))
     elif KINDS[word] == 'bcn':
         life.hear_beacon(heard_octets(word, words))
     else:

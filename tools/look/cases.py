@@ -8,7 +8,7 @@ from collections.abc import Iterator
 from typing import NamedTuple
 
 from .report import WITH_OCTETS
-from .second_node import REPOSITORY, make, report_of
+from .second_node import REPOSITORY, Life, LowPowerLife, make, report_of
 
 EXAMPLES = REPOSITORY / 'examples'
 
@@ -27,7 +27,8 @@ def _on_one_bearer(script: str) -> str:
 def with_octets(script: str, report: str) -> str:
     """A report of `meshnode run` as `run --hex` writes it."""
     shown = {}
-    for line in report_of(_on_one_bearer(script)).splitlines():
+    kind = LowPowerLife if 'lpn' in script.split('\n')[0].split() else Life
+    for line in report_of(_on_one_bearer(script), kind=kind).splitlines():
         words = line.split()
         if words[0] == 's' and words[3] in WITH_OCTETS:
             shown[' '.join(words[3:-1])] = words[-1]

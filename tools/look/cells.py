@@ -13,7 +13,8 @@ GUTTER, CELL, GAP = 118, 13, 2
 CELL_HEIGHT, JOBS_HEIGHT, LANE_GAP, ROW_GAP = 15, 13, 3, 7
 LANE = '#dfe3e8'
 MOST_STROKES = 5
-LETTERS = {'net': '', 'bcn': 'B', 'send': 'S', 'raw': 'R', 'tick': 'T', 'begin': 'b', 'kept': 'k'}
+LETTERS = {'net': '', 'bcn': 'B', 'send': 'S', 'raw': 'R', 'tick': 'T', 'begin': 'b', 'kept': 'k',
+           'seek': 'F', 'poll': 'P', 'list': 'L'}
 LEGEND = 'cells: ' + ', '.join(f'{letter} {kind}' if letter else f'none {kind}'
                                for kind, letter in LETTERS.items()) + '; a stroke a job'
 

@@ -27,10 +27,12 @@ TIME = Group('time passes', '#f7f7f4', '#9a9a90')
 GROUPS = (ACCEPTED, WAITING, PASSED, REFUSED, BEACON, OWN, TIME)
 
 _ANSWERS = {ACCEPTED: ('delivered', 'control'), WAITING: ('waiting',),
-            PASSED: ('cached', 'notmine', 'own', 'again', 'reset'),
+            PASSED: ('cached', 'notmine', 'own', 'again', 'repeat', 'reset'),
             REFUSED: ('unread', 'badaddress', 'malformed', 'replay', 'nokey', 'listfull', 'noroom',
-                      'conflict', 'noappkey', 'moved', 'befriended', 'sendfull', 'dropped'),
-            BEACON: ('beacon',), OWN: ('planned', 'begun', 'kept'), TIME: ('ticked',)}
+                      'conflict', 'noappkey', 'moved', 'befriended', 'sendfull', 'dropped',
+                      'segmented', 'unasked', 'nofriend', 'toomany'),
+            BEACON: ('beacon',), TIME: ('ticked',),
+            OWN: ('planned', 'begun', 'kept', 'sought', 'polled', 'listed')}
 GROUP_OF = {answer: group for group, answers in _ANSWERS.items() for answer in answers}
 SENT, SENT_FRAME = '#ffffff', '#37474f'
 NOT_SENT, NOT_SENT_FRAME = '#f4f4f4', '#9e9e9e'
@@ -65,7 +67,9 @@ def _of_script(event: Event | None) -> list[str]:
         return [f'→ {words[0]} TTL {words[1]}', transport_words('1', words[2])]
     if word == 'beacon':
         return [f'flags {words[1]}', f'IV Index {words[2]}']
-    return [f'{words[0]} ticks' if word == 'tick' else spaced(words[0])]
+    if word == 'tick':
+        return [f'{words[0]} ticks']
+    return [spaced(words[0])] if words else []
 
 
 def event_words(event: Event) -> str:

@@ -94,6 +94,23 @@ ANSWERS = {
     'begun': Meaning('The segments of an own message follow.'),
     'kept': Meaning('The octets that answered a Poll are kept, for a Poll with the same FSN.'),
     'dropped': Meaning('The octets that answered a Poll aren\'t awaited any more.'),
+    'segmented': Meaning(
+        'The transport PDU is a segment, and a Low Power node takes none.',
+        'Send at most 11 octets to it.'),
+    'unasked': Meaning(
+        'It came under friendship credentials, and no Poll of this Low Power node is open: it was '
+        'closed by an answer, or there was none.', 'Poll first: a Poll lets one PDU in.'),
+    'repeat': Meaning(
+        'It has the SRC, IV Index and SEQ of the PDU that closed the last Poll: the friend sent its '
+        'answer once more. The Poll stays open.', 'Nothing; the next Poll has the other FSN.'),
+    'sought': Meaning('A Friend Request goes out; a friendship that stood is over.'),
+    'polled': Meaning('A Friend Poll goes out, and one PDU of the friend is let in.'),
+    'listed': Meaning('A Friend Subscription List Add goes out, and the address is the node\'s.'),
+    'toomany': Meaning('So many other addresses were listed, which is all that the list holds.',
+                       'List fewer addresses in a life.'),
+    'nofriend': Meaning('This Low Power node has no friend: no Offer was taken since it last looked '
+                        'for one, or since the life began.',
+                        'Look for one (`seek`), and wait for an Offer.'),
     'reset': Meaning('There was a Node Reset in this life; nothing is heard or sent behind it.',
                      'Provision the node anew.')}
 

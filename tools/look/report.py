@@ -44,6 +44,9 @@ ANSWERS: dict[str, tuple[tuple[str, ...], tuple[Form, ...]]] = {
     'ticked': (('tick',), (decimal('NOW', DOUBLE_WORD),)), 'moved': (('begin',), (IV,)),
     'befriended': (('begin',), ()), 'sendfull': (('begin',), (decimal('N', BYTE),)),
     'begun': (('begin',), ()), 'kept': (('kept',), ()), 'dropped': (('kept',), ()),
+    'segmented': (('net',), ()), 'unasked': (('net',), ()), 'repeat': (('net',), ()),
+    'sought': (('seek',), ()), 'polled': (('poll',), ()), 'listed': (('list',), ()),
+    'toomany': (('list',), (decimal('N', WORD),)), 'nofriend': (('poll', 'list'), ()),
     'reset': (('net', 'bcn', 'send', 'raw', 'tick'), ())}
 """Of each answer the kinds of entries that have it, and the words behind it."""
 IGNORE_RULE = decimal('RULE', BYTE)
@@ -60,7 +63,7 @@ RESULTS: dict[str, tuple[Form, ...]] = {
 WITH_OCTETS = ('ctl', 'msg', 'seg', 'relay', 'rep')
 DRAWING = ('ctl', 'msg', 'seg', 'long', 'late')
 """The results that name a sequence number that the node drew."""
-KINDS = ('net', 'bcn', 'send', 'raw', 'tick', 'begin', 'kept')
+KINDS = ('net', 'bcn', 'send', 'raw', 'tick', 'begin', 'kept', 'seek', 'poll', 'list')
 OWN_KINDS = ('begin', 'kept')
 """The kinds of entries that no line of a script makes."""
 

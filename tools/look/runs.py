@@ -12,7 +12,8 @@ from .report import OWN_KINDS, Entry, Job, Life
 from .script import Event, LifePlan, Script
 
 KIND_OF_EVENT = {'net': 'net', 'peer': 'net', 'talk': 'net', 'bcn': 'bcn', 'beacon': 'bcn',
-                 'send': 'send', 'raw': 'raw', 'tick': 'tick'}
+                 'send': 'send', 'raw': 'raw', 'tick': 'tick', 'seek': 'seek', 'poll': 'poll',
+                 'list': 'list'}
 """The kind that an entry tells of an event, by its word in the script."""
 
 

@@ -176,6 +176,24 @@ EVENTS: dict[str, LineForm] = {
     'tick': LineForm((padded_decimal('N', 1, 100_000_000),), 'N ticks of 10 ms pass')}
 """The lines of a bearer, by the word behind `bK`."""
 
+
+class Grammar(NamedTuple):
+    """The lines of a kind of node, by their first word and by the word behind `bK`, and its bearers."""
+    lines: dict[str, LineForm]
+    events: dict[str, LineForm]
+    bearers: int
+
+
+NODE = Grammar(LINES, EVENTS, 8)
+LOW_POWER = Grammar(
+    {word: LINES[word] for word in ('provision', 'life', 'arm')},
+    {'net': EVENTS['net'], 'peer': EVENTS['peer'],
+     'seek': LineForm((), 'the node looks for a friend'),
+     'poll': LineForm((), 'it asks its friend for a stored message'),
+     'list': LineForm((narrowed(HEX.fixed('ADDR', 4), 'c000 to feff',
+                                lambda word: 0xc000 <= int(word, 16) <= 0xfeff),),
+                      'it asks its friend to store what goes to this address, too')}, 1)
+
 RULES = {
     1: 'a line, a comment too, has at most 1,200 octets without its end, all of them 20 to 7e',
     2: 'the first line that counts is `provision`; a line counts if it isn\'t empty and doesn\'t '
@@ -199,17 +217,19 @@ def counts(line: str) -> bool:
     return line != '' and not line.startswith('#')
 
 
-def form_of(words: list[str]) -> tuple[LineForm, int] | Failing:
+def form_of(words: list[str], grammar: Grammar = NODE) -> tuple[LineForm, int] | Failing:
     """The form of a line by its first words and how many these are, or the word that is unknown."""
-    if words[0] in LINES:
-        return LINES[words[0]], 1
-    if not re.fullmatch('b[0-7]', words[0]):
-        return Failing(1, f"one of {', '.join(LINES)}, or b0 to b7")
+    last = grammar.bearers - 1
+    if words[0] in grammar.lines:
+        return grammar.lines[words[0]], 1
+    if not re.fullmatch(f'b[0-{last}]', words[0]):
+        bearers = f'b0 to b{last}' if last else 'b0'
+        return Failing(1, f"one of {', '.join(grammar.lines)}, or {bearers}")
     if len(words) < 2:
-        return LineForm((one_of('EVENT', *EVENTS),), ''), 1
-    if words[1] not in EVENTS:
-        return Failing(2, f"one of {', '.join(EVENTS)}")
-    return EVENTS[words[1]], 2
+        return LineForm((one_of('EVENT', *grammar.events),), ''), 1
+    if words[1] not in grammar.events:
+        return Failing(2, f"one of {', '.join(grammar.events)}")
+    return grammar.events[words[1]], 2
 
 
 def _check_octets(number: int, line: str) -> None:
@@ -223,10 +243,11 @@ def _check_octets(number: int, line: str) -> None:
                   f'{odd.start() + 1}', line[:odd.start()].count(' ') + 1)
 
 
-def check_words(number: int, line: str, provision: Provision | None) -> list[str]:
+def check_words(number: int, line: str, provision: Provision | None,
+                grammar: Grammar = NODE) -> list[str]:
     """The words of a line that keeps the rules 3 to 5."""
     words = re.split(' +', line)
-    found = form_of(words)
+    found = form_of(words, grammar)
     if isinstance(found, Failing):
         raise Refused(number, 3, found.due, found.place)
     form, named = found
@@ -252,7 +273,8 @@ def _provision_of(words: list[str]) -> Provision:
 class _Reading:
     """What was read so far."""
 
-    def __init__(self) -> None:
+    def __init__(self, grammar: Grammar) -> None:
+        self.grammar = grammar
         self.provision: Provision | None = None
         self.lives: list[LifePlan] = []
         self.is_armed = False
@@ -261,7 +283,7 @@ class _Reading:
         """A line that counts, its octets looked at."""
         if self.provision is None and line.split(' ')[0] != 'provision':
             raise Refused(number, 2, 'provision', 1)
-        words = check_words(number, line, self.provision)
+        words = check_words(number, line, self.provision, self.grammar)
         if words[0] == 'provision':
             if self.provision:
                 raise Refused(number, 6, 'no second provision', 1)
@@ -290,11 +312,11 @@ class _Reading:
         events.append(Event(number, int(words[0][1]), words[1], tuple(words[2:]), line))
 
 
-def read_script(text: str) -> Script:
-    """The script that a text is; else raises `Refused`, or `TooLong`."""
+def read_script(text: str, grammar: Grammar = NODE) -> Script:
+    """The script of a kind of node that a text is; else raises `Refused`, or `TooLong`."""
     if len(text) > LONGEST_TEXT:
         raise TooLong(text[:0])
-    reading, lines = _Reading(), lines_of(text)
+    reading, lines = _Reading(grammar), lines_of(text)
     for number, line in enumerate(lines, 1):
         _check_octets(number, line)
         if counts(line):
@@ -304,10 +326,22 @@ def read_script(text: str) -> Script:
     return Script(reading.provision, reading.lives)
 
 
+def read_any(text: str) -> Script:
+    """The script that a text is, of a node or else of a Low Power node; else raises what it breaks
+    as a node's."""
+    try:
+        return read_script(text)
+    except Refused as refused:
+        try:
+            return read_script(text, LOW_POWER)
+        except Refused:
+            raise refused from None
+
+
 def script_of(path: str, text: str) -> Script:
     """The script of a file; a text that is none ends the tool."""
     try:
-        return read_script(text)
+        return read_any(text)
     except TooLong:
         raise Fault(NO_SCRIPT, f'{path}: toolong: more than {LONGEST_TEXT} octets') from None
     except Refused as refused:

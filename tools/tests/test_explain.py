@@ -56,9 +56,8 @@ class Formats(unittest.TestCase):
                 words = said.removeprefix('bK ').removeprefix('b0 ').split()
                 found[words[0]] = words[1:]
         due = {word: [form.name for form in it.words]
-               for word, it in {**script.LINES, **script.EVENTS}.items()}
-        for alone in ('seek', 'poll', 'list'):
-            found.pop(alone)
+               for grammar in (script.NODE, script.LOW_POWER)
+               for word, it in {**grammar.lines, **grammar.events}.items()}
         self.assertEqual(found, due)
 
     def test_ends(self) -> None:

@@ -3,15 +3,15 @@ import unittest
 
 from look.report import NotReport, read_report
 from look.runs import NotOfScript, run_of
-from look.script import Refused, TooLong, read_script
+from look.script import LOW_POWER, NODE, Grammar, Refused, TooLong, read_script
 
 from .worked import all_rows, answered
 
 
-def read(text: str) -> str:
+def read(text: str, grammar: Grammar) -> str:
     """What the program answers a text by."""
     try:
-        read_script(text)
+        read_script(text, grammar)
     except Refused as refused:
         return str(refused)
     except TooLong:
@@ -23,8 +23,9 @@ class Scripts(unittest.TestCase):
     def test_refused(self) -> None:
         """Each text of worked/ that is no script fails at the line and by the rule of the
         program, and its nearest texts that are scripts don't."""
-        for it in answered('run'):
-            self.assertEqual(read(it.text), it.answer, it.title)
+        for command, grammar in (('run', NODE), ('lpn', LOW_POWER)):
+            for it in answered(command):
+                self.assertEqual(read(it.text, grammar), it.answer, it.title)
 
     def test_failing_words(self) -> None:
         """The word that fails is marked."""
@@ -41,7 +42,8 @@ class Reports(unittest.TestCase):
     def test_worked(self) -> None:
         """The report of each worked script is read, and is one of that script."""
         for row in all_rows():
-            runs = run_of(read_report(row.report), read_script(row.script))
+            grammar = LOW_POWER if row.words[0] == 'lpn' else NODE
+            runs = run_of(read_report(row.report), read_script(row.script, grammar))
             shown = sum(len(run.steps) for run in runs)
             self.assertEqual(shown, row.report.count('\ne '), row.title)
 

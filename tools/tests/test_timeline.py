@@ -9,7 +9,7 @@ from look.numbers import Range, passed_over, refills
 from look.page import CELLS_FROM, WIDTH, page, picture
 from look.report import ANSWERS, Life, read_report
 from look.runs import run_of
-from look.script import read_script
+from look.script import read_any
 from look.second_node import REPOSITORY
 
 SVG = '{http://www.w3.org/2000/svg}'
@@ -22,7 +22,7 @@ def lives_of(name: str) -> list[Life]:
 
 def drawn(name: str, cells_from: int) -> ElementTree.Element:
     """The picture of an example."""
-    script = read_script((EXAMPLES / f'{name}.mesh').read_text())
+    script = read_any((EXAMPLES / f'{name}.mesh').read_text())
     return ElementTree.fromstring(picture(run_of(lives_of(name), script), name, 960, cells_from))
 
 
@@ -108,7 +108,7 @@ class Pictures(unittest.TestCase):
     def test_shown(self) -> None:
         """The pictures of docs/ are drawn by `timeline REPORT PICTURE --script SCRIPT`."""
         for path in (REPOSITORY / 'docs' / 'pictures').glob('*.svg'):
-            script = read_script((EXAMPLES / f'{path.stem}.mesh').read_text())
+            script = read_any((EXAMPLES / f'{path.stem}.mesh').read_text())
             due = picture(run_of(lives_of(path.stem), script), f'{path.stem}.mesh', WIDTH,
                           CELLS_FROM)
             self.assertEqual(path.read_text(), due)

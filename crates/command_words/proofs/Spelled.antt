@@ -7,7 +7,7 @@ use Rattle.std.proofs.lemmas.Slice.Eq.{bytes_eq-Decides}
 use Rattle.clap.specs.Simple.{subcommand_of}
 use Rattle.clap.specs.Takes.{takes}
 use Rattle.clap.proofs.OnLiterals.{clap_on_literals}
-use Rattle.command_words.specs.Commands.{HasFew, command_of, generate, generate_of, has_flag, has_flags, is_generate, is_number, is_spelled, is_word, kept, run, word_at}
+use Rattle.command_words.specs.Commands.{HasFew, command_of, generate, generate_of, has_flag, has_flags, is_generate, is_number, is_spelled, is_word, kept, low_power, run, word_at}
 use Rattle.command_words.specs.Numbers.{count_word, is_count, is_digits, number_word}
 use Rattle.command_words.proofs.Digits.{no_number}
 use Rattle.command_words.proofs.Walking.{no_flags, plain as is_plain, taken, tells}
@@ -26,6 +26,7 @@ use Rattle.command_words.specs.Reader.{AreFlags, IsFlag, reader, told, told_of}
 use Rattle.command_words.specs.Reader.{has_flag as flag_in}
 use Rattle.command_words.specs.declared.commands.Command.{Command}
 use Rattle.command_words.specs.declared.commands.Command.TheVariants as C
+use Rattle.command_words.specs.declared.commands.NodeKind.TheVariants as N
 
 same_text : (a b : List ℕ) → bytes_eq a b ≡ true → a ≡ b
 same_text a b e = (bytes_eq-Decides a b).0 e
@@ -49,14 +50,14 @@ one_word (x ∷ y ∷ ws) a e =
     let n : length (x ∷ y ∷ ws) ≡ 1 = eqb-true (length (x ∷ y ∷ ws)) 1 (both_left (length (x ∷ y ∷ ws) == 1) (bytes_eq x a) e) in
     absurd (omega arith)
 
-two_words : (ws : List (List ℕ)) (a : List ℕ) → has_flag ws a ≡ true → ws ≡ codes "run" ∷ a ∷ []
-two_words [] a e = absurd cc
-two_words (x ∷ []) a e = absurd cc
-two_words (x ∷ y ∷ []) a e =
-    ap₂ (λ v w. v ∷ w ∷ []) (same_text x (codes "run") (both_left (bytes_eq x (codes "run")) (bytes_eq y a) e)) (same_text y a (both_right (bytes_eq x (codes "run")) (bytes_eq y a) e))
-two_words (x ∷ y ∷ z ∷ ws) a e =
+two_words : (ws : List (List ℕ)) (c a : List ℕ) → has_flag ws c a ≡ true → ws ≡ c ∷ a ∷ []
+two_words [] c a e = absurd cc
+two_words (x ∷ []) c a e = absurd cc
+two_words (x ∷ y ∷ []) c a e =
+    ap₂ (λ v w. v ∷ w ∷ []) (same_text x c (both_left (bytes_eq x c) (bytes_eq y a) e)) (same_text y a (both_right (bytes_eq x c) (bytes_eq y a) e))
+two_words (x ∷ y ∷ z ∷ ws) c a e =
     let n : length (x ∷ y ∷ z ∷ ws) ≡ 2 = eqb-true (length (x ∷ y ∷ z ∷ ws)) 2
-    (both_left (length (x ∷ y ∷ z ∷ ws) == 2) (bytes_eq x (codes "run")) (both_left ((length (x ∷ y ∷ z ∷ ws) == 2) && bytes_eq x (codes "run")) (bytes_eq y a) e)) in
+    (both_left (length (x ∷ y ∷ z ∷ ws) == 2) (bytes_eq x c) (both_left ((length (x ∷ y ∷ z ∷ ws) == 2) && bytes_eq x c) (bytes_eq y a) e)) in
     absurd (omega arith)
 
 three_words : (ws : List (List ℕ)) (a b : List ℕ) → has_flags ws a b ≡ true → ws ≡ codes "run" ∷ a ∷ b ∷ []
@@ -98,6 +99,12 @@ hex_old = codes "run" ∷ codes "--hex" ∷ codes "--old" ∷ []
 abbrev old_hex : List (List ℕ)
 old_hex = codes "run" ∷ codes "--old" ∷ codes "--hex" ∷ []
 
+abbrev low : List (List ℕ)
+low = codes "lpn" ∷ []
+
+abbrev low_hexed : List (List ℕ)
+low_hexed = codes "lpn" ∷ codes "--hex" ∷ []
+
 abbrev audited : List (List ℕ)
 audited = codes "audit" ∷ []
 
@@ -121,6 +128,14 @@ right_old_hex : IsRight old_hex
 unfolding clap_on_literals
 right_old_hex = record { exact = λ o h. ap (λ c. kept c old_hex) (h (inl refl, inl refl)); taken = λ h. absurd (h refl) }
 
+right_low : IsRight low
+unfolding clap_on_literals
+right_low = record { exact = λ o h. ap (λ c. kept c low) (h (inr refl, tt)); taken = λ h. absurd (h refl) }
+
+right_low_hexed : IsRight low_hexed
+unfolding clap_on_literals
+right_low_hexed = record { exact = λ o h. ap (λ c. kept c low_hexed) (h (inl refl, tt)); taken = λ h. absurd (h refl) }
+
 right_audited : IsRight audited
 unfolding clap_on_literals
 right_audited = record { exact = λ o h. ap (λ c. kept c audited) (h (tt, tt)); taken = λ h. absurd (h refl) }
@@ -134,15 +149,23 @@ no_run ws a b c d true false = b
 no_run ws a b c d false true = c
 no_run ws a b c d true true = d
 
+no_low_power : (ws : List (List ℕ)) → is_spelled (low_power false) ws ≡ false → is_spelled (low_power true) ws ≡ false
+    → (hex old : Bool) → is_spelled (C.Run N.LowPower (record { hex = hex; old = old })) ws ≡ false
+no_low_power ws a b hex true = refl
+no_low_power ws a b false false = a
+no_low_power ws a b true false = b
+
 kept_not : (ws : List (List ℕ)) (c : Command) → is_spelled c ws ≡ false → kept (Some c) ws ≡ None
 kept_not ws c e = ap (λ t. if t then Some c else None) e
 
-none_kept : (ws : List (List ℕ)) → ((hex old : Bool) → is_spelled (run hex old) ws ≡ false) → is_spelled C.Audit ws ≡ false
+none_kept : (ws : List (List ℕ)) → ((hex old : Bool) → is_spelled (run hex old) ws ≡ false)
+    → ((hex old : Bool) → is_spelled (C.Run N.LowPower (record { hex = hex; old = old })) ws ≡ false) → is_spelled C.Audit ws ≡ false
     → ((count start : ℕ) → is_spelled (C.Generate count start) ws ≡ false) → (o : Option Command) → kept o ws ≡ None
-none_kept ws a e g None = refl
-none_kept ws a e g (Some (C.Run flags)) = kept_not ws (C.Run flags) (a flags.hex flags.old)
-none_kept ws a e g (Some C.Audit) = kept_not ws C.Audit e
-none_kept ws a e g (Some (C.Generate count start)) = kept_not ws (C.Generate count start) (g count start)
+none_kept ws a l e g None = refl
+none_kept ws a l e g (Some (C.Run N.Node flags)) = kept_not ws (C.Run N.Node flags) (a flags.hex flags.old)
+none_kept ws a l e g (Some (C.Run N.LowPower flags)) = kept_not ws (C.Run N.LowPower flags) (l flags.hex flags.old)
+none_kept ws a l e g (Some C.Audit) = kept_not ws C.Audit e
+none_kept ws a l e g (Some (C.Generate count start)) = kept_not ws (C.Generate count start) (g count start)
 
 -- The words of `gen`.
 
@@ -201,7 +224,7 @@ right_numbers count start m n e f =
 
 right_others : (count start : List ℕ) → generate (count_word count) (number_word start) ≡ None → IsRight (gen_words count start)
 right_others count start none = record {
-  exact = λ o h. none_kept (gen_words count start) (no_run (gen_words count start) refl refl refl refl) refl
+  exact = λ o h. none_kept (gen_words count start) (no_run (gen_words count start) refl refl refl refl) (no_low_power (gen_words count start) refl refl) refl
       (no_numbers count start (count_word count) (number_word start) refl refl none) o ∙ sym none;
   taken = λ h. sym none;
 }
@@ -212,11 +235,12 @@ right_gen count start (Some m) None e f = right_others count start (ap₂ genera
 right_gen count start (Some m) (Some n) e f = right_numbers count start m n e f
 
 right_none : (ws : List (List ℕ)) → is_spelled (run false false) ws ≡ false → is_spelled (run true false) ws ≡ false → is_spelled (run false true) ws ≡ false
-    → is_spelled (run true true) ws ≡ false → is_spelled C.Audit ws ≡ false → is_generate ws ≡ false → IsRight ws
-right_none ws a b c d e g =
-    let none : command_of ws ≡ None = rw (a, b, c, d, e, g) refl in
+    → is_spelled (run true true) ws ≡ false → is_spelled (low_power false) ws ≡ false → is_spelled (low_power true) ws ≡ false
+    → is_spelled C.Audit ws ≡ false → is_generate ws ≡ false → IsRight ws
+right_none ws a b c d k l e g =
+    let none : command_of ws ≡ None = rw (a, b, c, d, k, l, e, g) refl in
     record {
-      exact = λ o h. none_kept ws (no_run ws a b c d) e (λ count start. ap (λ t. t && is_number (count_word (word_at ws 1)) count && is_number (number_word (word_at ws 2)) start) g) o ∙ sym none;
+      exact = λ o h. none_kept ws (no_run ws a b c d) (no_low_power ws k l) e (λ count start. ap (λ t. t && is_number (count_word (word_at ws 1)) count && is_number (number_word (word_at ws 2)) start) g) o ∙ sym none;
       taken = λ h. sym none;
     }
 
@@ -232,19 +256,25 @@ pub right : (ws : List (List ℕ)) → IsRight ws
 right ws = elim (test (is_spelled (run false false) ws)) [
   | inl a ↦ subst IsRight (sym (one_word ws (codes "run") a)) right_plain
   | inr a ↦ elim (test (is_spelled (run true false) ws)) [
-    | inl b ↦ subst IsRight (sym (two_words ws (codes "--hex") b)) right_hexed
+    | inl b ↦ subst IsRight (sym (two_words ws (codes "run") (codes "--hex") b)) right_hexed
     | inr b ↦ elim (test (is_spelled (run false true) ws)) [
-      | inl c ↦ subst IsRight (sym (two_words ws (codes "--old") c)) right_olden
+      | inl c ↦ subst IsRight (sym (two_words ws (codes "run") (codes "--old") c)) right_olden
       | inr c ↦ elim (test (is_spelled (run true true) ws)) [
         | inl d ↦ elim (either (has_flags ws (codes "--hex") (codes "--old")) (has_flags ws (codes "--old") (codes "--hex")) d) [
           | inl d ↦ subst IsRight (sym (three_words ws (codes "--hex") (codes "--old") d)) right_hex_old
           | inr d ↦ subst IsRight (sym (three_words ws (codes "--old") (codes "--hex") d)) right_old_hex
         ]
-        | inr d ↦ elim (test (is_spelled C.Audit ws)) [
-          | inl e ↦ subst IsRight (sym (one_word ws (codes "audit") e)) right_audited
-          | inr e ↦ elim (test (is_generate ws)) [
-            | inl g ↦ subst IsRight (sym (gen_is ws g)) (right_gen (word_at ws 1) (word_at ws 2) (count_word (word_at ws 1)) (number_word (word_at ws 2)) refl refl)
-            | inr g ↦ right_none ws a b c d e g
+        | inr d ↦ elim (test (is_spelled (low_power false) ws)) [
+          | inl k ↦ subst IsRight (sym (one_word ws (codes "lpn") k)) right_low
+          | inr k ↦ elim (test (is_spelled (low_power true) ws)) [
+            | inl l ↦ subst IsRight (sym (two_words ws (codes "lpn") (codes "--hex") l)) right_low_hexed
+            | inr l ↦ elim (test (is_spelled C.Audit ws)) [
+              | inl e ↦ subst IsRight (sym (one_word ws (codes "audit") e)) right_audited
+              | inr e ↦ elim (test (is_generate ws)) [
+                | inl g ↦ subst IsRight (sym (gen_is ws g)) (right_gen (word_at ws 1) (word_at ws 2) (count_word (word_at ws 1)) (number_word (word_at ws 2)) refl refl)
+                | inr g ↦ right_none ws a b c d k l e g
+              ]
+            ]
           ]
         ]
       ]
@@ -271,17 +301,21 @@ count_few w o = by_number (number_word w)
 
 pub few : (ws : List (List ℕ)) → IfSome (command_of ws) HasFew
 few ws =
-    by_tests (is_spelled (run false false) ws) (is_spelled (run true false) ws) (is_spelled (run false true) ws) (is_spelled (run true true) ws) (is_spelled C.Audit ws) (is_generate ws)
+    by_tests (is_spelled (run false false) ws) (is_spelled (run true false) ws) (is_spelled (run false true) ws) (is_spelled (run true true) ws)
+    (is_spelled (low_power false) ws) (is_spelled (low_power true) ws) (is_spelled C.Audit ws) (is_generate ws)
   where
-    by_tests : (a b c d e g : Bool) → IfSome (if a then Some (run false false) else if b then Some (run true false) else if c then Some (run false true)
-        else if d then Some (run true true) else if e then Some C.Audit else if g then generate_of ws else None) HasFew
-    by_tests true b c d e g = tt
-    by_tests false true c d e g = tt
-    by_tests false false true d e g = tt
-    by_tests false false false true e g = tt
-    by_tests false false false false true g = tt
-    by_tests false false false false false true = count_few (word_at ws 1) (number_word (word_at ws 2))
-    by_tests false false false false false false = tt
+    by_tests : (a b c d k l e g : Bool) → IfSome (if a then Some (run false false) else if b then Some (run true false) else if c then Some (run false true)
+        else if d then Some (run true true) else if k then Some (low_power false) else if l then Some (low_power true)
+        else if e then Some C.Audit else if g then generate_of ws else None) HasFew
+    by_tests true b c d k l e g = tt
+    by_tests false true c d k l e g = tt
+    by_tests false false true d k l e g = tt
+    by_tests false false false true k l e g = tt
+    by_tests false false false false true l e g = tt
+    by_tests false false false false false true e g = tt
+    by_tests false false false false false false true g = tt
+    by_tests false false false false false false false true = count_few (word_at ws 1) (number_word (word_at ws 2))
+    by_tests false false false false false false false false = tt
 
 -- What is told of the flags.
 
@@ -313,6 +347,16 @@ told_run (Some p) f hex old name rows a b c d e g flags =
     let one : hex ≡ flag_in (codes "hex") (rows_of f) = flag f (codes "hex") hex a b c (subst (λ r. IsFlag (one_of (codes "hex") r)) are flags.0) in
     let two : old ≡ flag_in (codes "old") (rows_of f) = flag f (codes "old") old d e g (subst (λ r. IsFlag (one_of (codes "old") r)) are flags.1) in
     ap₂ (λ x y. Some (run x y)) one two ∙ rw (is, are) refl
+
+pub told_low : (o : Option (Text × List Row)) (f : Found) (hex : Bool) → option_map (λ p. p.0) o ≡ Some (codes "lpn") → option_map (λ p. p.1) o ≡ Some (rows_of f)
+    → (one_text f (codes "hex") ≡ None → hex ≡ false) → (one_text f (codes "hex") ≡ Some (codes "true") → hex ≡ true) → (one_text f (codes "hex") ≡ Some (codes "false") → hex ≡ false)
+    → AreFlags o → Some (low_power hex) ≡ told o
+told_low None f hex name rows a b c flags = absurd cc
+told_low (Some p) f hex name rows a b c flags =
+    let is : p.0 ≡ codes "lpn" = cc in
+    let are : p.1 ≡ rows_of f = cc in
+    let one : hex ≡ flag_in (codes "hex") (rows_of f) = flag f (codes "hex") hex a b c (subst (λ r. IsFlag (one_of (codes "hex") r)) are flags.0) in
+    ap (λ x. Some (low_power x)) one ∙ rw (is, are) refl
 
 -- and of the numbers of `gen`
 pub told_gen : (o : Option (Text × List Row)) (f : Found) → option_map (λ p. p.0) o ≡ Some (codes "gen") → option_map (λ p. p.1) o ≡ Some (rows_of f)

@@ -7,7 +7,8 @@ use Rattle.clap.specs.Simple.{App, new_app, new_rule, with_rule, with_subcommand
 use Rattle.clap.specs.declared.builder.action.ArgAction.TheVariants.{SetTrue}
 use Rattle.clap.specs.declared.builder.command.Command.{Command as ClapCommand}
 use Rattle.clap.specs.declared.builder.command.Command.TheViews.{out-Command}
-use Rattle.command_words.specs.Commands.{generate}
+use Rattle.command_words.specs.Commands.{generate, low_power}
+use Rattle.command_words.specs.Commands as Said
 use Rattle.command_words.specs.Numbers.{count_word, number_word}
 use Rattle.command_words.specs.declared.commands.Command.{Command}
 use Rattle.command_words.specs.declared.commands.Command.TheVariants as C
@@ -26,6 +27,12 @@ named_run = new_app (codes "run")
 
 abbrev pub run : App
 run = with_rule (with_rule named_run hex) old
+
+abbrev pub named_lpn : App
+named_lpn = new_app (codes "lpn")
+
+abbrev pub lpn : App
+lpn = with_rule named_lpn hex
 
 -- whether no argument of a command is one of its subcommands too
 abbrev pub IsLocal : ClapCommand → Type 0
@@ -48,7 +55,8 @@ abbrev pub bare : App
 bare = record (new_app (codes "meshnode")) { top = record (new_app (codes "meshnode")).top { no_binary_name = true } }
 
 abbrev pub reader : App
-reader = with_subcommand (with_subcommand (with_subcommand bare run.top) audit.top) gen.top
+reader =
+    with_subcommand (with_subcommand (with_subcommand (with_subcommand bare run.top) lpn.top) audit.top) gen.top
 
 -- whether a flag was given
 abbrev pub has_flag : Text → List Row → Bool
@@ -58,7 +66,8 @@ has_flag id rows = option_map_or (λ text. bytes_eq text (codes "true")) (one_of
 abbrev pub told_of : Text → List Row → Option Command
 told_of name rows =
     if bytes_eq name (codes "run")
-    then Some (C.Run (record { hex = has_flag (codes "hex") rows; old = has_flag (codes "old") rows }))
+    then Some (Said.run (has_flag (codes "hex") rows) (has_flag (codes "old") rows))
+    else if bytes_eq name (codes "lpn") then Some (low_power (has_flag (codes "hex") rows))
     else if bytes_eq name (codes "audit") then Some C.Audit
     else if bytes_eq name (codes "gen")
     then generate (option_and_then count_word (first_of (codes "COUNT") rows))

@@ -9,5 +9,5 @@ mod commands;
 mod numbers;
 mod reading;
 
-pub use commands::{Command, RunFlags};
+pub use commands::{Command, NodeKind, RunFlags};
 pub use reading::command_of;

@@ -3,12 +3,12 @@
 
 ghost use Rattle.std.specs.Prelude.{◌≡◌, ◌≢◌, ◌<◌, length, map, codes, IfOk, IfSome, None, false, option_and_then};
 ghost use Rattle.clap.specs.Words.{app_of, first_value, found_of, kind_of, rule_of, subcommand_rows_of};
-ghost use Rattle.command_words.specs.Commands.{HasFew, command_of, generate, has_flag, has_flags, is_at, is_number, is_run, is_spelled, is_word, kept};
+ghost use Rattle.command_words.specs.Commands.{HasFew, command_of, generate, has_flag, has_flags, is_at, is_low_power, is_number, is_run, is_spelled, is_word, kept};
 ghost use Rattle.command_words.specs.Numbers.{count_word, number_word};
-ghost use Rattle.command_words.specs.Reader.{AreFlags, IsLocal, flag, gen, place, reader, run, told};
+ghost use Rattle.command_words.specs.Reader.{AreFlags, IsLocal, flag, gen, lpn, place, reader, run, told};
 ghost use Rattle.command_words.specs.declared.commands.Command.TheVariants as C;
 
-use crate::commands::{Command, RunFlags};
+use crate::commands::{Command, NodeKind, RunFlags};
 use crate::numbers::{count, number};
 use clap::error::ErrorKind;
 use clap::{Arg, ArgAction, ArgMatches};
@@ -31,6 +31,13 @@ fn run_reader<'a>(alloc: Global) -> Result<clap::Command<'a>, AllocError>
         .arg(flag(alloc, "old"))
 }
 
+/// `lpn` with its flag.
+fn low_power_reader<'a>(alloc: Global) -> Result<clap::Command<'a>, AllocError>
+    ensures app { IfOk result (λ c. (app_of c ≡ lpn) × IsLocal c) }
+{
+    clap::Command::new(alloc, "lpn").arg(flag(alloc, "hex"))
+}
+
 /// A word that has to stand there.
 fn place<'a>(alloc: Global, name: &'a str) -> Arg<'a>
     ensures rule { rule_of result ≡ place name.entry.now }
@@ -48,15 +55,17 @@ fn gen_reader<'a>(alloc: Global) -> Result<clap::Command<'a>, AllocError>
         .arg(place(alloc, "START"))
 }
 
-/// The reader of words: `run` with its flags, `audit`, and `gen` with its numbers.
+/// The reader of words: `run` and `lpn` with their flags, `audit`, and `gen` with its numbers.
 fn reader<'a>(alloc: Global) -> Result<clap::Command<'a>, AllocError>
     ensures app { IfOk result (λ c. app_of c ≡ reader) }
 {
     let run = run_reader(alloc)?;
+    let low_power = low_power_reader(alloc)?;
     let generate = gen_reader(alloc)?;
     clap::Command::new(alloc, "meshnode")
         .no_binary_name(true)
         .subcommand(run)?
+        .subcommand(low_power)?
         .subcommand(clap::Command::new(alloc, "audit"))?
         .subcommand(generate)
 }
@@ -98,10 +107,22 @@ fn told(matches: &ArgMatches) -> Option<Command>
     ensures value { AreFlags (subcommand_rows_of matches.now) → result ≡ told (subcommand_rows_of matches.now) }
 {
     if let Some(run) = matches.subcommand_matches("run") {
-        return Some(Command::Run(RunFlags {
-            hex: run.get_flag("hex"),
-            old: run.get_flag("old"),
-        }));
+        return Some(Command::Run(
+            NodeKind::Node,
+            RunFlags {
+                hex: run.get_flag("hex"),
+                old: run.get_flag("old"),
+            },
+        ));
+    }
+    if let Some(low_power) = matches.subcommand_matches("lpn") {
+        return Some(Command::Run(
+            NodeKind::LowPower,
+            RunFlags {
+                hex: low_power.get_flag("hex"),
+                old: false,
+            },
+        ));
     }
     if let Some(_) = matches.subcommand_matches("audit") {
         return Some(Command::Audit);
@@ -120,11 +141,11 @@ fn is_at(words: &[&str], place: usize, word: &str) -> bool
     words[place] == word
 }
 
-/// Whether the words are `run` and one flag.
-fn has_flag(words: &[&str], flag: &str) -> bool
-    ensures value { result ≡ has_flag (map (λ w. w.now) words.now) flag.now }
+/// Whether the words are this command and one flag.
+fn has_flag(words: &[&str], command: &str, flag: &str) -> bool
+    ensures value { result ≡ has_flag (map (λ w. w.now) words.now) command.now flag.now }
 {
-    words.len() == 2 && is_at(words, 0, "run") && is_at(words, 1, flag)
+    words.len() == 2 && is_at(words, 0, command) && is_at(words, 1, flag)
 }
 
 /// Whether the words are `run` and two flags.
@@ -148,11 +169,24 @@ fn is_run(flags: RunFlags, words: &[&str]) -> bool
     if flags.hex && flags.old {
         has_flags(words, "--hex", "--old") || has_flags(words, "--old", "--hex")
     } else if flags.hex {
-        has_flag(words, "--hex")
+        has_flag(words, "run", "--hex")
     } else if flags.old {
-        has_flag(words, "--old")
+        has_flag(words, "run", "--old")
     } else {
         is_word(words, "run")
+    }
+}
+
+/// Whether these are the words of `lpn` with these flags.
+fn is_low_power(flags: RunFlags, words: &[&str]) -> bool
+    ensures value { result ≡ is_low_power flags (map (λ w. w.now) words.now) }
+{
+    if flags.old {
+        false
+    } else if flags.hex {
+        has_flag(words, "lpn", "--hex")
+    } else {
+        is_word(words, "lpn")
     }
 }
 
@@ -185,7 +219,8 @@ fn is_spelled(command: Command, words: &[&str]) -> bool
     ensures value { result ≡ is_spelled command (map (λ w. w.now) words.now) }
 {
     match command {
-        Command::Run(flags) => is_run(flags, words),
+        Command::Run(NodeKind::Node, flags) => is_run(flags, words),
+        Command::Run(NodeKind::LowPower, flags) => is_low_power(flags, words),
         Command::Audit => is_word(words, "audit"),
         Command::Generate { count, start } => is_generate(count, start, words),
     }
@@ -211,8 +246,8 @@ fn refused(error: &clap::Error) -> Result<Option<Command>, AllocError>
     }
 }
 
-/// The command that the words after the program's name are: `run`, with `--hex` and `--old` in any combination, `audit`, or `gen` with two
-/// numbers of 1 to 10 decimal digits, of which the first is 1 to 32,768 and the second has 32 bits; `None` exactly where they are none. What
+/// The command that the words after the program's name are: `run`, with `--hex` and `--old` in any combination, `lpn`, alone or with `--hex`,
+/// `audit`, or `gen` with two numbers of 1 to 10 decimal digits, of which the first is 1 to 32,768 and the second has 32 bits; `None` exactly where they are none. What
 /// `clap` reads and isn't spelled so, as a word `--`, is no command either.
 ///
 /// # Errors

@@ -71,9 +71,9 @@ bearer_of_eight (L.Raw bearer raw) r = within r.0 bearer r.2.0.0
 bearer_of_eight (L.Tick bearer ticks) r = within r.0 bearer r.2.0.0
 bearer_of_eight L.Sync r = tt
 bearer_of_eight (L.Arm arm) r = tt
-bearer_of_eight (L.Seek bearer) r = tt
-bearer_of_eight (L.Poll bearer) r = tt
-bearer_of_eight (L.List bearer address) r = tt
+bearer_of_eight (L.Seek bearer) r = within r.0 bearer r.2.0
+bearer_of_eight (L.Poll bearer) r = within r.0 bearer r.2.0
+bearer_of_eight (L.List bearer address) r = within r.0 bearer r.2.0.0
 
 pub starts : (all : List ScriptLine) → IsDraftOf all (record { steps = []; events = None }) all
 starts all = record { phase = []; shows = refl; steps = refl }

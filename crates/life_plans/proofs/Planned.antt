@@ -29,7 +29,7 @@ use Rattle.script_definitions.specs.Phases as Said
 use Rattle.script_definitions.specs.Phases.{phase_of, steps_from}
 use Rattle.script_definitions.specs.Ranges.{IsLife, IsLine, IsSendKey}
 use Rattle.script_definitions.specs.Reading.{is_arm}
-use Rattle.script_definitions.specs.declared.kind.Grammar.TheVariants as G
+use Rattle.script_definitions.specs.declared.kind.Grammar.{Grammar}
 use Rattle.script_definitions.specs.declared.line.ArmLine.{ArmLine}
 use Rattle.script_definitions.specs.declared.line.ScriptLine.{ScriptLine}
 use Rattle.script_definitions.specs.declared.line.ScriptLine.TheVariants as L
@@ -97,23 +97,23 @@ send_key (K.App index) h = h
 abbrev IsPlanned : ℕ → Event → Type 0
 IsPlanned elements event = IsTrue (is_outside event) × IsEvent elements event
 
-event_fits : (elements : ℕ) (line : ScriptLine) → IsLine G.Node elements line → IfSome (happening_of line) (λ h. IsPlanned elements h.event)
-event_fits elements (L.Net bearer octets) h = (refl, tt)
-event_fits elements (L.Bcn bearer octets) h = (refl, tt)
-event_fits elements (L.Peer bearer peer) h = (refl, tt)
-event_fits elements (L.Talk bearer talk) h = (refl, tt)
-event_fits elements (L.Beacon bearer beacon) h = (refl, tt)
-event_fits elements (L.Send bearer send) h =
+event_fits : (g : Grammar) (elements : ℕ) (line : ScriptLine) → IsLine g elements line → IfSome (happening_of line) (λ h. IsPlanned elements h.event)
+event_fits g elements (L.Net bearer octets) h = (refl, tt)
+event_fits g elements (L.Bcn bearer octets) h = (refl, tt)
+event_fits g elements (L.Peer bearer peer) h = (refl, tt)
+event_fits g elements (L.Talk bearer talk) h = (refl, tt)
+event_fits g elements (L.Beacon bearer beacon) h = (refl, tt)
+event_fits g elements (L.Send bearer send) h =
     let s = h.1 in
     let dst = send_dst send.dst.0 s.dst in
     (refl, (s.element, dst.0, dst.1, s.ttl, send_key send.key s.key, s.payload.0, s.payload.1))
-event_fits elements (L.Raw bearer raw) h = (refl, h.1)
-event_fits elements (L.Tick bearer ticks) h = (refl, tt)
-event_fits elements L.Sync h = tt
-event_fits elements (L.Arm order) h = tt
-event_fits elements (L.Seek bearer) h = tt
-event_fits elements (L.Poll bearer) h = tt
-event_fits elements (L.List bearer address) h = tt
+event_fits g elements (L.Raw bearer raw) h = (refl, h.1)
+event_fits g elements (L.Tick bearer ticks) h = (refl, tt)
+event_fits g elements L.Sync h = tt
+event_fits g elements (L.Arm order) h = tt
+event_fits g elements (L.Seek bearer) h = (refl, tt)
+event_fits g elements (L.Poll bearer) h = (refl, tt)
+event_fits g elements (L.List bearer address) h = (refl, tt)
 
 module _ (P : Event → Type 0) where
   kept : (t : Bool) (event : Event) → P event → IfSome (if t then Some event else None) P
@@ -128,44 +128,44 @@ module _ (P : Event → Type 0) where
   one_more None events h rest = rest
   one_more (Some event) events h rest = All-cons P event events h rest
 
-events_fit : (elements k : ℕ) (lines : List ScriptLine) → All (IsLine G.Node elements) lines → AreEvents elements (events_on k lines)
-events_fit elements k [] h = All-nil (IsPlanned elements)
-events_fit elements k (line ∷ lines) h =
+events_fit : (g : Grammar) (elements k : ℕ) (lines : List ScriptLine) → All (IsLine g elements) lines → AreEvents elements (events_on k lines)
+events_fit g elements k [] h = All-nil (IsPlanned elements)
+events_fit g elements k (line ∷ lines) h =
     one_more (IsPlanned elements) (event_on k (happening_of line)) (events_on k lines)
-    (on_bearer (IsPlanned elements) k (happening_of line) (event_fits elements line (All-head (IsLine G.Node elements) line lines h)))
-    (events_fit elements k lines (All-tail (IsLine G.Node elements) line lines h))
+    (on_bearer (IsPlanned elements) k (happening_of line) (event_fits g elements line (All-head (IsLine g elements) line lines h)))
+    (events_fit g elements k lines (All-tail (IsLine g elements) line lines h))
 
-phase_fits : (elements : ℕ) (lines : List ScriptLine) → All (IsLine G.Node elements) lines → Fits elements (phase (lists_of lines))
-phase_fits elements lines h = (
+phase_fits : (g : Grammar) (elements : ℕ) (lines : List ScriptLine) → All (IsLine g elements) lines → Fits elements (phase (lists_of lines))
+phase_fits g elements lines h = (
   length-map-range_with_len (λ k. events_on k lines) 0 BEARERS,
-  All-map (AreEvents elements) (λ k. events_on k lines) (range_with_len 0 BEARERS) (λ i d l. events_fit elements (get_or (range_with_len 0 BEARERS) i d) lines h),
+  All-map (AreEvents elements) (λ k. events_on k lines) (range_with_len 0 BEARERS) (λ i d l. events_fit g elements (get_or (range_with_len 0 BEARERS) i d) lines h),
 )
 
-last_fits : (elements : ℕ) (lines : List ScriptLine) → All (IsLine G.Node elements) lines → All (Fits elements) (map step_of (phase_of lines))
-last_fits elements [] h = All-nil (Fits elements)
-last_fits elements (line ∷ lines) h = All-cons (Fits elements) (phase (lists_of (line ∷ lines))) [] (phase_fits elements (line ∷ lines) h) (All-nil (Fits elements))
+last_fits : (g : Grammar) (elements : ℕ) (lines : List ScriptLine) → All (IsLine g elements) lines → All (Fits elements) (map step_of (phase_of lines))
+last_fits g elements [] h = All-nil (Fits elements)
+last_fits g elements (line ∷ lines) h = All-cons (Fits elements) (phase (lists_of (line ∷ lines))) [] (phase_fits g elements (line ∷ lines) h) (All-nil (Fits elements))
 
-behind_fits : (elements : ℕ) (lines : List ScriptLine) (more : List Said.PlanStep) → All (IsLine G.Node elements) lines
+behind_fits : (g : Grammar) (elements : ℕ) (lines : List ScriptLine) (more : List Said.PlanStep) → All (IsLine g elements) lines
     → All (Fits elements) (map step_of more) → All (Fits elements) (map step_of (phase_of lines ++ more))
-behind_fits elements [] more h rest = rest
-behind_fits elements (line ∷ lines) more h rest =
-    All-cons (Fits elements) (phase (lists_of (line ∷ lines))) (map step_of more) (phase_fits elements (line ∷ lines) h) rest
+behind_fits g elements [] more h rest = rest
+behind_fits g elements (line ∷ lines) more h rest =
+    All-cons (Fits elements) (phase (lists_of (line ∷ lines))) (map step_of more) (phase_fits g elements (line ∷ lines) h) rest
 
-steps_fit : (elements : ℕ) (lines more : List ScriptLine) → All (IsLine G.Node elements) lines → All (IsLine G.Node elements) more
+steps_fit : (g : Grammar) (elements : ℕ) (lines more : List ScriptLine) → All (IsLine g elements) lines → All (IsLine g elements) more
     → All (Fits elements) (map step_of (steps_from lines more))
 unfolding steps_from
-steps_fit elements lines [] h rest = last_fits elements lines h
-steps_fit elements lines (L.Sync ∷ more) h rest =
-    behind_fits elements lines (steps_from [] more) h
-    (steps_fit elements [] more (All-nil (IsLine G.Node elements)) (All-tail (IsLine G.Node elements) L.Sync more rest))
-steps_fit elements lines (L.Arm line ∷ more) h rest =
-    behind_fits elements lines (Said.arms line ∷ steps_from [] more) h
+steps_fit g elements lines [] h rest = last_fits g elements lines h
+steps_fit g elements lines (L.Sync ∷ more) h rest =
+    behind_fits g elements lines (steps_from [] more) h
+    (steps_fit g elements [] more (All-nil (IsLine g elements)) (All-tail (IsLine g elements) L.Sync more rest))
+steps_fit g elements lines (L.Arm line ∷ more) h rest =
+    behind_fits g elements lines (Said.arms line ∷ steps_from [] more) h
     (All-cons (Fits elements) (arm line.calls line.mask) (map step_of (steps_from [] more)) tt
-    (steps_fit elements [] more (All-nil (IsLine G.Node elements)) (All-tail (IsLine G.Node elements) (L.Arm line) more rest)))
-steps_fit elements lines (line ∷ more) h rest =
-    steps_fit elements (lines ++ line ∷ []) more
-    (All-push (IsLine G.Node elements) lines line h (All-head (IsLine G.Node elements) line more rest))
-    (All-tail (IsLine G.Node elements) line more rest)
+    (steps_fit g elements [] more (All-nil (IsLine g elements)) (All-tail (IsLine g elements) (L.Arm line) more rest)))
+steps_fit g elements lines (line ∷ more) h rest =
+    steps_fit g elements (lines ++ line ∷ []) more
+    (All-push (IsLine g elements) lines line h (All-head (IsLine g elements) line more rest))
+    (All-tail (IsLine g elements) line more rest)
 
 -- what holds of a run's steps holds of the steps that they stand for
 
@@ -191,17 +191,17 @@ steps_fit_of elements steps h k d l =
     step_fits_of elements (get_or steps k d)
     (subst (Fits elements) (get_or-map Plan.step_of steps k d (Plan.step_of d) l) (h k (Plan.step_of d) (omega (arith, length-map steps Plan.step_of))))
 
-pub planned : (elements : ℕ) (lines : List ScriptLine) (plan : LifePlan) → IsLife G.Node elements lines → steps_of plan.steps.items ≡ plan_of_lines lines
+pub planned : (g : Grammar) (elements : ℕ) (lines : List ScriptLine) (plan : LifePlan) → IsLife g elements lines → steps_of plan.steps.items ≡ plan_of_lines lines
     → plan.bearers ≡ BEARERS → IsPlanFor elements plan
-planned elements lines plan life value bearers = record {
+planned g elements lines plan life value bearers = record {
   arm = one_arm_of plan.steps.items (subst OneArm (sym value) (one_arm [] lines life.arms));
   steps =
       subst (λ (n : ℕ). All (IsStep n elements) plan.steps.items) (sym bearers)
       (steps_fit_of elements plan.steps.items
-      (subst (All (Fits elements)) (sym value) (steps_fit elements [] lines (All-nil (IsLine G.Node elements)) life.lines)));
+      (subst (All (Fits elements)) (sym value) (steps_fit g elements [] lines (All-nil (IsLine g elements)) life.lines)));
 }
 
-pub planned_if_ok : {E : Type 0} (elements : ℕ) (lines : List ScriptLine) (r : Result LifePlan E) → IsLife G.Node elements lines
+pub planned_if_ok : {E : Type 0} (g : Grammar) (elements : ℕ) (lines : List ScriptLine) (r : Result LifePlan E) → IsLife g elements lines
     → IfOk r (λ p. steps_of p.steps.items ≡ plan_of_lines lines) → IfOk r (λ p. p.bearers ≡ BEARERS) → IfOk r (IsPlanFor elements)
-planned_if_ok elements lines (Ok plan) life value bearers = planned elements lines plan life value bearers
-planned_if_ok elements lines (Err e) life value bearers = tt
+planned_if_ok g elements lines (Ok plan) life value bearers = planned g elements lines plan life value bearers
+planned_if_ok g elements lines (Err e) life value bearers = tt

@@ -5,7 +5,7 @@ ghost use Rattle.std.specs.Prelude.{◌≡◌, All};
 ghost use Rattle.life_plans.specs.Plans as Said;
 ghost use Rattle.node_store.specs.Provisioning.{IsProvision};
 ghost use Rattle.script_definitions.specs.Ranges.{IsLife, IsScriptOf};
-ghost use Rattle.script_definitions.specs.declared.kind.Grammar.TheVariants as G;
+ghost use Rattle.script_definitions.specs.declared.kind.Grammar.{Grammar};
 ghost use Rattle.script_definitions.specs.declared.script.Script.{Script as ScriptValue};
 ghost use Rattle.script_events.specs.Happenings.{IsRead};
 
@@ -27,9 +27,10 @@ pub fn provision_of(line: &ProvisionLine) -> Provision
     }
 }
 
-/// Of a script that was read for a node: the lines of each life are those that `plan_of` asks for, and the node can be provisioned.
+/// Of a script of either grammar that was read: the lines of each life are those that `plan_of` asks for, and the node can be provisioned.
 pub fn script_law()
-    ensures lives { (s : ScriptValue) → IsScriptOf G.Node s
-        → All (λ lines. All IsRead lines × IsLife G.Node (Said.script_of s).node.elements lines) s.lives }
-    ensures node { (s : ScriptValue) → IsScriptOf G.Node s → IsProvision (Said.provision_of s.provision) }
+    ensures lives { (grammar : Grammar) (s : ScriptValue) → IsScriptOf grammar s
+        → All (λ lines. All IsRead lines × IsLife grammar (Said.script_of s).node.elements lines) s.lives }
+    ensures node { (grammar : Grammar) (s : ScriptValue) → IsScriptOf grammar s
+        → IsProvision (Said.provision_of s.provision) }
 {}

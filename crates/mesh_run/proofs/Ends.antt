@@ -10,14 +10,14 @@ use Rattle.node_store.specs.Tie.{IsMade}
 use Rattle.node_store.specs.declared.provision.Provision.{Provision}
 use Rattle.store_definitions.specs.Provisioning.{provisioned}
 use Rattle.record_types.specs.declared.records.StoreRecord.{StoreRecord}
-use Rattle.event_definitions.specs.Role.{Role}
 use Rattle.report_definitions.specs.Record.{Life, LifeOver}
 use Rattle.report_writer.specs.Writing.{SinkView}
 use Rattle.run_definitions.specs.RunOf.{Script}
+use Rattle.mesh_run.specs.Kind.{MachineKind}
 use Rattle.mesh_run.specs.Ran.{FromProvisioned, Ran, RanFirst, RanFront}
 use Rattle.script_definitions.specs.Reading.{Reading, reading}
 use Rattle.script_definitions.specs.Reading.Reading.{Fails, IsScript}
-use Rattle.script_definitions.specs.declared.kind.Grammar.TheVariants as G
+use Rattle.script_definitions.specs.declared.kind.Grammar.{Grammar}
 use Rattle.script_definitions.specs.declared.script.Script as Said
 use Rattle.std.proofs.lemmas.Bool.{lt-ltb}
 use Rattle.run_steps.specs.Reads.{ReadsMoreThan}
@@ -109,9 +109,9 @@ was_provisioned format p q old mid new of count image setting erased keeps same 
 }
 
 -- what was told is a report
-module _ {F : Type 0} (chip : F → Chip) (role : Role) (s : Script) (T U : List LifeOver → SinkView → SinkView → Type 0)
+module _ {F : Type 0} (chip : F → Chip) (kind : MachineKind) (s : Script) (T U : List LifeOver → SinkView → SinkView → Type 0)
     (into : (lives : List LifeOver) (before after : SinkView) → T lives before after → U lives before after) where
-  pub ran_as : (start : F) (before : SinkView) (left : F) (after : SinkView) → Ran chip role s T start before left after → Ran chip role s U start before left after
+  pub ran_as : (start : F) (before : SinkView) (left : F) (after : SinkView) → Ran chip kind s T start before left after → Ran chip kind s U start before left after
   ran_as start before left after ran = record {
     run = ran.run;
     is_run = ran.is_run;
@@ -121,7 +121,7 @@ module _ {F : Type 0} (chip : F → Chip) (role : Role) (s : Script) (T U : List
     at_most_once = ran.at_most_once;
   }
 
-  pub first_as : (start : F) (before : SinkView) (left : Option F) (after : SinkView) → RanFirst chip role s T start before left after → RanFirst chip role s U start before left after
+  pub first_as : (start : F) (before : SinkView) (left : Option F) (after : SinkView) → RanFirst chip kind s T start before left after → RanFirst chip kind s U start before left after
   first_as start before left after ran = record {
     n = ran.n;
     fewer = ran.fewer;
@@ -134,7 +134,7 @@ module _ {F : Type 0} (chip : F → Chip) (role : Role) (s : Script) (T U : List
   }
 
   pub front_as : (P Q : ℕ → Life → SinkView → SinkView → Type 0) → ((n : ℕ) (life : Life) (old new : SinkView) → P n life old new → Q n life old new)
-      → (start : F) (before : SinkView) (left : F) (after : SinkView) → RanFront chip role s T P start before left after → RanFront chip role s U Q start before left after
+      → (start : F) (before : SinkView) (left : F) (after : SinkView) → RanFront chip kind s T P start before left after → RanFront chip kind s U Q start before left after
   front_as P Q so start before left after ran = record {
     n = ran.n;
     fewer = ran.fewer;
@@ -165,20 +165,20 @@ too_long (Some text) None (read, consumed, more) = absurd consumed
 too_long (Some text) (Some rest) (read, consumed, more) =
     let many : length text ≡ length read + length rest = ap (λ (v : List ℕ). length v) consumed ∙ length-append read rest in omega (arith, many, more)
 
-pub read_due : (stop : ReadStop) (old new : Option (List ℕ)) → (stop ≡ R.TooLong → ReadsMoreThan old new 4194304) → IfSome old (λ text. IsDue text (read_end stop))
-read_due stop None new long = tt
-read_due R.Fault (Some text) new long = inl refl
-read_due R.Memory (Some text) new long = inr (inl refl)
-read_due R.TooLong (Some text) new long =
-    inr (inr (subst (λ b. IsDueIf b text S.TooLong) (sym (lt-ltb 4194304 (length text) (too_long (Some text) new (long refl)))) refl))
+pub read_due : (g : Grammar) (stop : ReadStop) (old new : Option (List ℕ)) → (stop ≡ R.TooLong → ReadsMoreThan old new 4194304) → IfSome old (λ text. IsDue g text (read_end stop))
+read_due g stop None new long = tt
+read_due g R.Fault (Some text) new long = inl refl
+read_due g R.Memory (Some text) new long = inr (inl refl)
+read_due g R.TooLong (Some text) new long =
+    inr (inr (subst (λ b. IsDueIf b g text S.TooLong) (sym (lt-ltb 4194304 (length text) (too_long (Some text) new (long refl)))) refl))
 
 if_any : (r : Reading) (P : Said.Script → Type 0) → ((s : Said.Script) → P s) → IfScript r P
 if_any (IsScript s) P h = h s
 if_any (Fails line rule) P h = tt
 
-pub read_complete : (stop : ReadStop) (old new : Option (List ℕ)) → (stop ≡ R.Fault → ⊥) → (stop ≡ R.TooLong → ReadsMoreThan old new 4194304)
-    → IfSome old (λ text. length text ≤ 4194304 → IfScript (reading G.Node text) (λ s. (read_end stop ≡ S.Done) ⊎ (read_end stop ≡ S.Memory) ⊎ (read_end stop ≡ S.FlashFault)))
-read_complete stop None new fails long = tt
-read_complete R.Fault (Some text) new fails long = absurd (fails refl)
-read_complete R.Memory (Some text) new fails long = λ few. if_any (reading G.Node text) _ (λ s. inr (inl refl))
-read_complete R.TooLong (Some text) new fails long = λ few. absurd (let many : 4194304 < length text = too_long (Some text) new (long refl) in omega (arith, few, many))
+pub read_complete : (g : Grammar) (stop : ReadStop) (old new : Option (List ℕ)) → (stop ≡ R.Fault → ⊥) → (stop ≡ R.TooLong → ReadsMoreThan old new 4194304)
+    → IfSome old (λ text. length text ≤ 4194304 → IfScript (reading g text) (λ s. (read_end stop ≡ S.Done) ⊎ (read_end stop ≡ S.Memory) ⊎ (read_end stop ≡ S.FlashFault)))
+read_complete g stop None new fails long = tt
+read_complete g R.Fault (Some text) new fails long = absurd (fails refl)
+read_complete g R.Memory (Some text) new fails long = λ few. if_any (reading g text) _ (λ s. inr (inl refl))
+read_complete g R.TooLong (Some text) new fails long = λ few. absurd (let many : 4194304 < length text = too_long (Some text) new (long refl) in omega (arith, few, many))

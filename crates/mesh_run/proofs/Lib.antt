@@ -3,4 +3,3 @@ pub mod Living
 pub mod Progress
 pub mod Ends
 pub mod Generating
-pub mod Machines

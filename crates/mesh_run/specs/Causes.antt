@@ -3,11 +3,12 @@ use Rattle.std.specs.Prelude.{◌≡◌, ◌⊎◌, ℕ, ◌≤◌, nat_lt, Bool
 use Rattle.flash_model.specs.Chip.{Chip, Remembers}
 use Rattle.script_definitions.specs.Reading.{Reading, reading}
 use Rattle.script_definitions.specs.Reading.Reading.{Fails, IsScript}
-use Rattle.script_definitions.specs.declared.kind.Grammar.TheVariants as G
+use Rattle.script_definitions.specs.declared.kind.Grammar.{Grammar}
 use Rattle.script_definitions.specs.declared.script.Script.{Script}
 use Rattle.slot_journal.specs.Format.{IsErased, IsFirstWritten}
 use Rattle.command_words.specs.declared.commands.Command.{Command}
 use Rattle.command_words.specs.declared.commands.Command.TheVariants as C
+use Rattle.command_words.specs.declared.commands.NodeKind.{NodeKind}
 use Rattle.run_steps.specs.declared.reading.ReadStop.{ReadStop}
 use Rattle.run_steps.specs.declared.reading.ReadStop.TheVariants as R
 use Rattle.run_steps.specs.declared.status.Status.{Status}
@@ -52,6 +53,11 @@ read_end R.Fault = S.ReadFault
 read_end R.TooLong = S.TooLong
 read_end R.Memory = S.Memory
 
+-- a script is to be run, and this holds of the kind of node
+abbrev pub IsRunAnd : Option Command → (NodeKind → Type 0) → Type 0
+IsRunAnd (Some (C.Run kind flags)) P = P kind
+IsRunAnd _ P = ⊥
+
 -- a script is to be generated
 abbrev pub IsGenerate : Option Command → Type 0
 IsGenerate (Some (C.Generate count start)) = ⊤
@@ -79,13 +85,14 @@ IsDueBy (IsScript s) status = IsFromFlash status
 IsDueBy (Fails line rule) status = status ≡ S.Script line rule
 
 -- how a run ends whose text is too long or not
-abbrev pub IsDueIf : Bool → List ℕ → Status → Type 0
-IsDueIf true text status = status ≡ S.TooLong
-IsDueIf false text status = IsDueBy (reading G.Node text) status
+abbrev pub IsDueIf : Bool → Grammar → List ℕ → Status → Type 0
+IsDueIf true grammar text status = status ≡ S.TooLong
+IsDueIf false grammar text status = IsDueBy (reading grammar text) status
 
--- How a run of this text ends, where the source doesn't fail and there is memory: each cause in its order.
-abbrev pub IsDue : List ℕ → Status → Type 0
-IsDue text status = (status ≡ S.ReadFault) ⊎ (status ≡ S.Memory) ⊎ IsDueIf (nat_lt 4194304 (length text)) text status
+-- How a run of this text ends, as one of this grammar, where the source doesn't fail and there is memory: each cause in its order.
+abbrev pub IsDue : Grammar → List ℕ → Status → Type 0
+IsDue grammar text status =
+    (status ≡ S.ReadFault) ⊎ (status ≡ S.Memory) ⊎ IsDueIf (nat_lt 4194304 (length text)) grammar text status
 
 -- every image of the flash is erased
 abbrev pub IsErasedFlash : Chip → Type 0

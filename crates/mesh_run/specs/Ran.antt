@@ -1,11 +1,9 @@
 -- What a whole run leaves: the record of its lives, told by the report that was written and by what its flash recovers.
 use Rattle.std.specs.Prelude.{◌≡◌, ◌⊎◌, ℕ, ◌+◌, ◌<◌, ◌≤◌, true, IsTrue, List, [], ◌∷◌, ◌++◌, All, length, take, count_by, ⊤, Option, IfSome, IsSomeAnd}
 use Rattle.std.specs.List.{Contains}
-use Rattle.event_definitions.specs.Role.{Role}
 use Rattle.flash_model.specs.Chip.{Chip}
 use Rattle.machine_contract.specs.Opening.{EachRecovered, IsNodeFlash}
 use Rattle.mesh_node.specs.Lives.{cut_calls}
-use Rattle.node_store.specs.Tie.{IsNode}
 use Rattle.record_types.specs.declared.records.StoreRecord.{StoreRecord}
 use Rattle.report_definitions.specs.Record.{Life, LifeOver, Run}
 use Rattle.report_writer.specs.Writing.{SinkView}
@@ -14,6 +12,7 @@ use Rattle.run_definitions.specs.RunOf.{RunOf, Script}
 use Rattle.run_definitions.specs.Uses.{AtMostOnce, NoReuse, delivered, uses}
 use Rattle.run_steps.specs.Provisioned.{WasProvisioned}
 use Rattle.store_definitions.specs.Recovered.{IsRecovered}
+use Rattle.mesh_run.specs.Kind.{MachineKind}
 use Rattle.mesh_run.specs.Lived.{Chained}
 
 -- how many lives were cut
@@ -44,53 +43,53 @@ abbrev pub first_lives : ℕ → Script → Script
 first_lives n s = record { node = s.node; lives = take n s.lives }
 
 -- The lives of the script were run from one flash to another.
-pub record RanAll {F : Type 0} (chip : F → Chip) (role : Role) (s : Script) (start : F) (lives : List LifeOver) (left : F) : Type 0 where
+pub record RanAll {F : Type 0} (chip : F → Chip) (kind : MachineKind) (s : Script) (start : F) (lives : List LifeOver) (left : F) : Type 0 where
   -- each on the flash that the one before left
-  pub lived : Chained chip role s.lives start lives left
+  pub lived : Chained chip kind s.lives start lives left
   -- each image of the flash is one that a life can be opened from
-  pub node : IsNodeFlash IsNode (chip left)
+  pub node : IsNodeFlash kind.image (chip left)
   pub found : AreFound (chip start) (chip left) lives
   -- whatever an image of the flash recovers, the run may end with it
-  pub at_exit : EachRecovered (chip left) (λ last. RunOf role s (record { lives = lives; last = last }))
+  pub at_exit : EachRecovered (chip left) (λ last. RunOf kind.role s (record { lives = lives; last = last }))
   -- at most as many lives were cut as the flash failed, and over a steady flash only those that were to be
   pub faults : cuts lives + (chip start).faults ≤ (chip left).faults
   pub armed : IsTrue (chip start).steady → AreArmed s.lives lives
 
 -- The lives of the script were run, and all of them were told.
-pub record Ran {F : Type 0} (chip : F → Chip) (role : Role) (s : Script) (told : List LifeOver → SinkView → SinkView → Type 0)
+pub record Ran {F : Type 0} (chip : F → Chip) (kind : MachineKind) (s : Script) (told : List LifeOver → SinkView → SinkView → Type 0)
     (start : F) (before : SinkView) (left : F) (after : SinkView) : Type 0 where
   pub run : Run
-  pub is_run : RunOf role s run
-  pub ran : RanAll chip role s start run.lives left
+  pub is_run : RunOf kind.role s run
+  pub ran : RanAll chip kind s start run.lives left
   pub report : told run.lives before after
   -- no run of the script seals two plaintexts under one key and nonce, or delivers a message twice
-  pub no_reuse : (q : Run) → RunOf role s q → NoReuse (uses q)
-  pub at_most_once : (q : Run) → RunOf role s q → AtMostOnce (delivered q)
+  pub no_reuse : (q : Run) → RunOf kind.role s q → NoReuse (uses q)
+  pub at_most_once : (q : Run) → RunOf kind.role s q → AtMostOnce (delivered q)
 
 -- The first lives of the script were told, and of the others, of which there is one, nothing. Where the flash is left, one life more was
 -- run on it.
-pub record RanFirst {F : Type 0} (chip : F → Chip) (role : Role) (s : Script) (told : List LifeOver → SinkView → SinkView → Type 0)
+pub record RanFirst {F : Type 0} (chip : F → Chip) (kind : MachineKind) (s : Script) (told : List LifeOver → SinkView → SinkView → Type 0)
     (start : F) (before : SinkView) (left : Option F) (after : SinkView) : Type 0 where
   pub n : ℕ
   pub fewer : n < length s.lives
   pub run : Run
-  pub is_run : RunOf role (first_lives n s) run
+  pub is_run : RunOf kind.role (first_lives n s) run
   pub reached : F
-  pub ran : RanAll chip role (first_lives n s) start run.lives reached
+  pub ran : RanAll chip kind (first_lives n s) start run.lives reached
   pub report : told run.lives before after
   pub more : IfSome left
-      (λ f. (x : LifeOver) × RanAll chip role (first_lives (n + 1) s) start (run.lives ++ x ∷ []) f)
+      (λ f. (x : LifeOver) × RanAll chip kind (first_lives (n + 1) s) start (run.lives ++ x ∷ []) f)
 
 -- The first lives of the script were told, as above, or all of them.
-abbrev pub RanFirstOrAll : {F : Type 0} → (F → Chip) → Role → Script → (List LifeOver → SinkView → SinkView → Type 0)
+abbrev pub RanFirstOrAll : {F : Type 0} → (F → Chip) → MachineKind → Script → (List LifeOver → SinkView → SinkView → Type 0)
     → F → SinkView → Option F → SinkView → Type 0
-RanFirstOrAll {F} chip role s told start before left after =
-    RanFirst chip role s told start before left after
-    ⊎ IsSomeAnd left (λ f. Ran chip role s told start before f after)
+RanFirstOrAll {F} chip kind s told start before left after =
+    RanFirst chip kind s told start before left after
+    ⊎ IsSomeAnd left (λ f. Ran chip kind s told start before f after)
 
 -- The lives of the script were run up to one that wasn't told to its end: those before it were, and of this one a front of what is told
 -- stands behind them.
-pub record RanFront {F : Type 0} (chip : F → Chip) (role : Role) (s : Script) (told : List LifeOver → SinkView → SinkView → Type 0)
+pub record RanFront {F : Type 0} (chip : F → Chip) (kind : MachineKind) (s : Script) (told : List LifeOver → SinkView → SinkView → Type 0)
     (broken : ℕ → Life → SinkView → SinkView → Type 0) (start : F) (before : SinkView) (left : F) (after : SinkView)
     : Type 0 where
   pub n : ℕ
@@ -98,8 +97,8 @@ pub record RanFront {F : Type 0} (chip : F → Chip) (role : Role) (s : Script) 
   pub lives : List LifeOver
   pub x : LifeOver
   pub last : List StoreRecord
-  pub is_run : RunOf role (first_lives (n + 1) s) (record { lives = lives ++ x ∷ []; last = last })
-  pub ran : RanAll chip role (first_lives (n + 1) s) start (lives ++ x ∷ []) left
+  pub is_run : RunOf kind.role (first_lives (n + 1) s) (record { lives = lives ++ x ∷ []; last = last })
+  pub ran : RanAll chip kind (first_lives (n + 1) s) start (lives ++ x ∷ []) left
   pub mid : SinkView
   pub report : told lives before mid
   pub front : broken (n + 1) x.life mid after

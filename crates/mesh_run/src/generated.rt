@@ -2,10 +2,8 @@
 #![tactic(auto)]
 
 ghost use Rattle.std.specs.Prelude.{◌≡◌, ◌≢◌, ◌⊎◌, ◌<◌, ◌≤◌, ℕ, false, None, IfSome, IsSomeAnd, IsTrue};
-ghost use Rattle.event_definitions.specs.Role.{node_role};
 ghost use Rattle.life_plans.specs.Plans.{script_of};
 ghost use Rattle.mesh_base.specs.Outside.{Rose};
-ghost use Rattle.node_layers.specs.NodeLayers.{node_layers};
 ghost use Rattle.report_writer.specs.Handing.{HandedFront, IsHanded};
 ghost use Rattle.report_writer.specs.Writing.{view_of};
 ghost use Rattle.run_steps.specs.Provisioned.{FailsEarly, format_by};
@@ -14,10 +12,13 @@ ghost use Rattle.run_summary.specs.Telling.{Summarizes, SummarizesFront};
 ghost use Rattle.script_generator.specs.Generated.{generated};
 ghost use Rattle.store_definitions.specs.Provisioning.{provisioned};
 ghost use Rattle.mesh_run.specs.Causes.{IsBeforeLives, IsErasedFlash, IsFromFlash, IsSameFlash, IsSumEnd, IsWrittenAt, WasErased};
+ghost use Rattle.mesh_run.specs.Kind.{node_kind};
 ghost use Rattle.mesh_run.specs.Ran.{FromProvisioned, Ran, RanFirstOrAll};
 ghost use Rattle.mesh_run.specs.Reporting.{Unwritten};
 
 use crate::host::Host;
+use crate::laws::node_kind_law;
+use crate::machine::ScriptMachine;
 use crate::scripts::run_script;
 use flash_model::Bench;
 use mesh_base::outside::Sink;
@@ -81,17 +82,17 @@ pub(crate) fn run_generated<R: Threads + Wait + Sync, B: Bench, K: Sink, G: Gate
         → IsSomeAnd result.flash
         (λ f. FromProvisioned B.chip (format_by false) (provisioned (script_of (generated count start)).node)
         (B.chip flash)
-        (λ from. Ran B.chip (node_role node_layers) (script_of (generated count start)) Summarizes from
+        (λ from. Ran B.chip node_kind (script_of (generated count start)) Summarizes from
         (view_of K.held K.pieces sink.old) f (view_of K.held K.pieces sink.new))) }
     ensures front { result.status ≡ Status.WriteFault
         → IsSomeAnd result.flash
         (λ f. FromProvisioned B.chip (format_by false) (provisioned (script_of (generated count start)).node)
         (B.chip flash)
-        (λ from. Ran B.chip (node_role node_layers) (script_of (generated count start)) SummarizesFront from
+        (λ from. Ran B.chip node_kind (script_of (generated count start)) SummarizesFront from
         (view_of K.held K.pieces sink.old) f (view_of K.held K.pieces sink.new))) }
     ensures memory { result.status ≡ Status.Memory
         → FromProvisioned B.chip (format_by false) (provisioned (script_of (generated count start)).node) (B.chip flash)
-        (λ from. RanFirstOrAll B.chip (node_role node_layers) (script_of (generated count start)) Unwritten from
+        (λ from. RanFirstOrAll B.chip node_kind (script_of (generated count start)) Unwritten from
         (view_of K.held K.pieces sink.old) result.flash (view_of K.held K.pieces sink.new)) }
     ensures unwritten { result.status ≡ Status.Memory
         → view_of K.held K.pieces sink.new ≡ view_of K.held K.pieces sink.old }
@@ -103,11 +104,19 @@ pub(crate) fn run_generated<R: Threads + Wait + Sync, B: Bench, K: Sink, G: Gate
     ensures no_fault { result.status ≢ Status.WriteFault → K.faults sink.new ≡ K.faults sink.old }
     ensures later { K.faults sink.old ≤ K.faults sink.new }
 {
-    // It does nothing when it runs: the proof uses what it says.
+    // They do nothing when they run: the proof uses what they say.
     generated_law();
+    node_kind_law();
     let script = GeneratedScript { count, start };
     let mut summary = Summary::new();
-    let ended = run_script(host, false, &script, &mut summary, sink, flash);
+    let ended = run_script::<ScriptMachine, R, GeneratedScript, B, Summary, K, G>(
+        host,
+        false,
+        &script,
+        &mut summary,
+        sink,
+        flash,
+    );
     let Ended { status, flash } = ended;
     match status {
         Status::Done => Ended {

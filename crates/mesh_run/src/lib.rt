@@ -1,19 +1,23 @@
 //! The run of a whole script: from the octets of a source to the report in a sink, over the lives of one flash.
 //!
 //! - `running`: `run`, the top call of the program
+//! - `kinds`: the script of a text, run by the machines of a kind of node
 //! - `scripts`: the script of a text, over a flash that is provisioned for it
 //! - `generated`: a script that is generated, run and summed up
 //! - `lives`: the lives of a script, one after another
-//! - `machine`: the machine of those lives
+//! - `machine`: the machine of a node's lives
+//! - `laws`: what holds of the runs of a kind of node
 //! - `host`: what they are run with
 //!
 //! A caller to begin with: `run_words` in `crates/meshnode/src/main.rt`.
 //!
-//! In `specs/`, `Ran` says what a whole run leaves, and `Causes` where each status comes.
+//! In `specs/`, `Kind` says what lives are run by, `Ran` what a whole run leaves, and `Causes` where each status comes.
 #![tactic(auto)]
 
 mod generated;
 mod host;
+mod kinds;
+mod laws;
 mod lives;
 mod machine;
 mod running;

@@ -1,4 +1,4 @@
-//! The machine of the lives of a script.
+//! The machine of the lives of a node's script.
 #![tactic(auto)]
 
 ghost use Rattle.std.specs.Prelude.{◌≡◌, ◌≢◌, ℕ, ◌+◌, ◌<◌, ◌^◌, List, [], ◌∷◌, ◌++◌, length, drop, All, true, false, Ok, Err, IsErr, IfOk, OnOk, IfErr, ◌-◌};

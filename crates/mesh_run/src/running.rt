@@ -5,17 +5,18 @@ ghost use Rattle.std.specs.Prelude.{◌≡◌, ◌≢◌, ◌⊎◌, ◌<◌, �
 ghost use Rattle.std.specs.Io.KnownBytes.{IsAtEnd};
 ghost use Rattle.life_plans.specs.Plans.{script_of};
 ghost use Rattle.mesh_base.specs.Outside.{Rose};
-ghost use Rattle.node_layers.specs.NodeLayers.{node_layers};
 ghost use Rattle.report_writer.specs.Writing.{view_of};
 ghost use Rattle.script_definitions.specs.Reading.{reading};
 ghost use Rattle.script_definitions.specs.Reading.Reading.{Fails};
-ghost use Rattle.script_definitions.specs.declared.kind.Grammar.TheVariants as Grammars;
 ghost use Rattle.run_steps.specs.Audited.{Audited, AuditedFront, IsAuditEnd};
-ghost use Rattle.mesh_run.specs.Causes.{IfScript, IsBeforeFlash, IsBeforeLives, IsDue, IsErasedFlash, IsFromFlash, IsGenerate, IsReadingStop, IsSameFlash, IsScriptAnd, IsWrittenAt, WasErased, read_end};
+ghost use Rattle.mesh_run.specs.Causes.{IfScript, IsBeforeFlash, IsBeforeLives, IsDue, IsErasedFlash, IsFromFlash, IsGenerate, IsReadingStop, IsRunAnd, IsSameFlash, IsScriptAnd, IsWrittenAt, WasErased, read_end};
 ghost use Rattle.command_words.specs.Commands.{command_of};
 ghost use Rattle.command_words.specs.declared.commands.Command.TheVariants as C;
+ghost use Rattle.command_words.specs.declared.commands.NodeKind.{NodeKind as Kinds};
 ghost use Rattle.command_words.specs.declared.commands.RunFlags.{RunFlags as Flags};
 ghost use Rattle.audit_definitions.specs.Input.{IsFirstOther};
+ghost use Rattle.mesh_run.specs.Kind.{grammar_of, machines_of, node_kind};
+ghost use Rattle.low_power_role.specs.Laws.{FsnCountsAnswers};
 ghost use Rattle.mesh_run.specs.Ran.{FromProvisioned, Ran, RanFirst, RanFirstOrAll, RanFront};
 ghost use Rattle.mesh_run.specs.Reporting.{ReportsFront, Unwritten};
 ghost use Rattle.report_writer.specs.Reporting.{Reports};
@@ -23,14 +24,14 @@ ghost use Rattle.run_steps.specs.Provisioned.{FailsEarly, format_by};
 ghost use Rattle.run_steps.specs.Reads.{ReadsMoreThan};
 ghost use Rattle.run_summary.specs.Telling.{Summarizes, SummarizesFront};
 ghost use Rattle.script_generator.specs.Generated.{generated};
-ghost use Rattle.event_definitions.specs.Role.{node_role};
 ghost use Rattle.store_definitions.specs.Provisioning.{provisioned};
 
 use crate::generated::run_generated;
 use crate::host::Host;
-use crate::scripts::run_text;
+use crate::kinds::run_by;
 use command_words::{Command, command_of};
 use flash_model::Bench;
+use low_power_role::low_power_fsn_law;
 use mesh_base::outside::{Sink, Source};
 use mesh_node::Gate;
 use run_steps::{Ended, ReadStop, Status, audit_text, read_whole};
@@ -49,8 +50,8 @@ fn read_end(stop: ReadStop) -> Status
     }
 }
 
-/// Runs a command. The words after the program's name are `run`, with `--hex` and `--old` in any combination, `audit`, or `gen COUNT START`;
-/// every other list is `Usage`. What the source has is read to its end before the flash is touched; `gen` reads nothing.
+/// Runs a command. The words after the program's name are `run`, with `--hex` and `--old` in any combination, `lpn`, alone or with `--hex`,
+/// `audit`, or `gen COUNT START`; every other list is `Usage`. What the source has is read to its end before the flash is touched; `gen` reads nothing.
 ///
 /// `run` reads a script from the source, runs it over the flash, and writes its report into the sink: the power of the flash is cycled, the
 /// node of the script is provisioned on it, and the lives are run one after another; the report of a life is written once it is over, each
@@ -60,6 +61,9 @@ fn read_end(stop: ReadStop) -> Status
 /// Each life opens over what an image of this very flash recovers, and so can the next one, over the flash that is handed back. `FlashFault`
 /// is a fault before the first life: the flash then recovers nothing, or what the node is provisioned with. With `--old` the node is
 /// provisioned in format 01, else in format 02.
+///
+/// `lpn` is what `run` is for the script of a Low Power node, which it runs as one: on one bearer, with the lines `b0 seek`, `b0 poll` and
+/// `b0 list ADDR`. What is stored, drawn and refused by the replay list is the same.
 ///
 /// `audit` reads a log, and writes the line of its verdict.
 ///
@@ -85,59 +89,71 @@ pub fn run<R: Threads + Wait + Sync, S: Source, K: Sink, B: Bench, G: Gate>(
     ensures read_fault { result.status ≡ Status.ReadFault → Rose (S.faults source.old) (S.faults source.new) }
     ensures too_long { result.status ≡ Status.TooLong → ReadsMoreThan (S.left source.old) (S.left source.new) 4194304 }
     ensures script { (line rule : ℕ) → result.status ≡ Status.Script line rule
-        → IfSome (S.left source.old) (λ text. reading Grammars.Node text ≡ Fails line rule) }
+        → IsRunAnd (command_of (map (λ w. w.now) words.now))
+        (λ kind. IfSome (S.left source.old) (λ text. reading (grammar_of kind) text ≡ Fails line rule)) }
     ensures flash_fault { result.status ≡ Status.FlashFault
         → IsSomeAnd result.flash (λ f. (B.chip flash).faults < (B.chip f).faults) × (IsTrue (B.chip flash).steady → ⊥) }
-    ensures early { (flags : Flags) → command_of (map (λ w. w.now) words.now) ≡ Some (C.Run flags)
+    ensures early { (kind : Kinds) (flags : Flags)
+        → command_of (map (λ w. w.now) words.now) ≡ Some (C.Run kind flags)
         → result.status ≡ Status.FlashFault
         → IfSome (S.left source.old)
-        (λ text. IsScriptAnd (reading Grammars.Node text)
+        (λ text. IsScriptAnd (reading (grammar_of kind) text)
         (λ s. IsSomeAnd result.flash (λ f. FailsEarly (provisioned (script_of s).node) (B.chip flash) (B.chip f)))) }
     ensures not_erased { (at : ℕ) → result.status ≡ Status.NotErased at
         → IsSomeAnd result.flash (λ f. IsWrittenAt at (B.chip flash) (B.chip f)) }
-    ensures erased { (flags : Flags) → command_of (map (λ w. w.now) words.now) ≡ Some (C.Run flags)
+    ensures erased { (kind : Kinds) (flags : Flags)
+        → command_of (map (λ w. w.now) words.now) ≡ Some (C.Run kind flags)
         → (result.status ≡ Status.Done) ⊎ (result.status ≡ Status.WriteFault) → WasErased (B.chip flash) }
     ensures report { (line : ℕ) → result.status ≡ Status.Report line
         → IfSome (S.left source.old) (λ text. IsFirstOther text line) }
     ensures write_fault { result.status ≡ Status.WriteFault → Rose (K.faults sink.old) (K.faults sink.new) }
 
     // Where nothing fails, it is the one that the octets of the source ask for; and where the flash is erased, the report is written.
-    ensures due { (flags : Flags) → command_of (map (λ w. w.now) words.now) ≡ Some (C.Run flags)
-        → IfSome (S.left source.old) (λ text. IsDue text result.status) }
-    ensures complete { (flags : Flags) → command_of (map (λ w. w.now) words.now) ≡ Some (C.Run flags)
+    ensures due { (kind : Kinds) (flags : Flags)
+        → command_of (map (λ w. w.now) words.now) ≡ Some (C.Run kind flags)
+        → IfSome (S.left source.old) (λ text. IsDue (grammar_of kind) text result.status) }
+    ensures complete { (kind : Kinds) (flags : Flags)
+        → command_of (map (λ w. w.now) words.now) ≡ Some (C.Run kind flags)
         → ¬ Rose (S.faults source.old) (S.faults source.new) → ¬ Rose (K.faults sink.old) (K.faults sink.new)
         → IsErasedFlash (B.chip flash)
         → IfSome (S.left source.old)
         (λ text. length text ≤ 4194304
-        → IfScript (reading Grammars.Node text)
+        → IfScript (reading (grammar_of kind) text)
         (λ s. (result.status ≡ Status.Done) ⊎ (result.status ≡ Status.Memory) ⊎ (result.status ≡ Status.FlashFault))) }
 
     // What is written is the report of a record of a run of the script, or a front of it.
-    ensures done { (flags : Flags) → command_of (map (λ w. w.now) words.now) ≡ Some (C.Run flags)
+    ensures done { (kind : Kinds) (flags : Flags)
+        → command_of (map (λ w. w.now) words.now) ≡ Some (C.Run kind flags)
         → result.status ≡ Status.Done
         → IfSome (S.left source.old)
-        (λ text. IsScriptAnd (reading Grammars.Node text)
+        (λ text. IsScriptAnd (reading (grammar_of kind) text)
         (λ s. IsSomeAnd result.flash
         (λ f. FromProvisioned B.chip (format_by flags.old) (provisioned (script_of s).node) (B.chip flash)
-        (λ start. Ran B.chip (node_role node_layers) (script_of s) (Reports flags.hex) start
+        (λ start. Ran B.chip (machines_of kind) (script_of s) (Reports flags.hex) start
         (view_of K.held K.pieces sink.old) f (view_of K.held K.pieces sink.new))))) }
-    ensures front { (flags : Flags) → command_of (map (λ w. w.now) words.now) ≡ Some (C.Run flags)
+    ensures front { (kind : Kinds) (flags : Flags)
+        → command_of (map (λ w. w.now) words.now) ≡ Some (C.Run kind flags)
         → result.status ≡ Status.WriteFault
         → IfSome (S.left source.old)
-        (λ text. IsScriptAnd (reading Grammars.Node text)
+        (λ text. IsScriptAnd (reading (grammar_of kind) text)
         (λ s. IsSomeAnd result.flash
         (λ f. FromProvisioned B.chip (format_by flags.old) (provisioned (script_of s).node) (B.chip flash)
-        (λ start. RanFront B.chip (node_role node_layers) (script_of s) (Reports flags.hex) (ReportsFront flags.hex)
+        (λ start. RanFront B.chip (machines_of kind) (script_of s) (Reports flags.hex) (ReportsFront flags.hex)
         start (view_of K.held K.pieces sink.old) f (view_of K.held K.pieces sink.new))))) }
-    ensures whole { (flags : Flags) → command_of (map (λ w. w.now) words.now) ≡ Some (C.Run flags)
+    ensures whole { (kind : Kinds) (flags : Flags)
+        → command_of (map (λ w. w.now) words.now) ≡ Some (C.Run kind flags)
         → result.status ≡ Status.Memory
         → ((sink.new ≡ sink.old) × (result.flash ≡ Some flash))
         ⊎ IfSome (S.left source.old)
-        (λ text. IsScriptAnd (reading Grammars.Node text)
+        (λ text. IsScriptAnd (reading (grammar_of kind) text)
         (λ s. FromProvisioned B.chip (format_by flags.old) (provisioned (script_of s).node) (B.chip flash)
-        (λ start. RanFirst B.chip (node_role node_layers) (script_of s) (Reports flags.hex) start
+        (λ start. RanFirst B.chip (machines_of kind) (script_of s) (Reports flags.hex) start
         (view_of K.held K.pieces sink.old) result.flash (view_of K.held K.pieces sink.new)))) }
     ensures nothing_written { IsBeforeLives result.status → sink.new ≡ sink.old }
+
+    // In each life of a run of a Low Power node two Polls of one friendship have the same FSN exactly where an even number of Polls was closed
+    // between them.
+    ensures fsn { FsnCountsAnswers }
 
     // An audit writes the line of the verdict on what is read, or a front of it, and leaves the flash.
     ensures verdict { command_of (map (λ w. w.now) words.now) ≡ Some C.Audit → result.status ≡ Status.Done
@@ -164,20 +180,20 @@ pub fn run<R: Threads + Wait + Sync, S: Source, K: Sink, B: Bench, G: Gate>(
         → IsSomeAnd result.flash
         (λ f. FromProvisioned B.chip (format_by false) (provisioned (script_of (generated count start)).node)
         (B.chip flash)
-        (λ from. Ran B.chip (node_role node_layers) (script_of (generated count start)) Summarizes from
+        (λ from. Ran B.chip node_kind (script_of (generated count start)) Summarizes from
         (view_of K.held K.pieces sink.old) f (view_of K.held K.pieces sink.new))) }
     ensures summary_front { (count start : ℕ)
         → command_of (map (λ w. w.now) words.now) ≡ Some (C.Generate count start) → result.status ≡ Status.WriteFault
         → IsSomeAnd result.flash
         (λ f. FromProvisioned B.chip (format_by false) (provisioned (script_of (generated count start)).node)
         (B.chip flash)
-        (λ from. Ran B.chip (node_role node_layers) (script_of (generated count start)) SummarizesFront from
+        (λ from. Ran B.chip node_kind (script_of (generated count start)) SummarizesFront from
         (view_of K.held K.pieces sink.old) f (view_of K.held K.pieces sink.new))) }
     ensures summary_memory { (count start : ℕ)
         → command_of (map (λ w. w.now) words.now) ≡ Some (C.Generate count start) → result.status ≡ Status.Memory
         → ((sink.new ≡ sink.old) × (result.flash ≡ Some flash))
         ⊎ FromProvisioned B.chip (format_by false) (provisioned (script_of (generated count start)).node) (B.chip flash)
-        (λ from. RanFirstOrAll B.chip (node_role node_layers) (script_of (generated count start)) Unwritten from
+        (λ from. RanFirstOrAll B.chip node_kind (script_of (generated count start)) Unwritten from
         (view_of K.held K.pieces sink.old) result.flash (view_of K.held K.pieces sink.new)) }
     ensures summary_unwritten { IsGenerate (command_of (map (λ w. w.now) words.now)) → result.status ≡ Status.Memory
         → view_of K.held K.pieces sink.new ≡ view_of K.held K.pieces sink.old }
@@ -210,6 +226,8 @@ pub fn run<R: Threads + Wait + Sync, S: Source, K: Sink, B: Bench, G: Gate>(
     ensures source_later { S.faults source.old ≤ S.faults source.new }
     ensures sink_later { K.faults sink.old ≤ K.faults sink.new }
 {
+    // It does nothing when it runs: the proof uses what it says.
+    low_power_fsn_law();
     let command = match command_of(alloc, words) {
         Ok(Some(command)) => command,
         Ok(None) => return Ended::with_flash(Status::Usage, flash),
@@ -217,8 +235,8 @@ pub fn run<R: Threads + Wait + Sync, S: Source, K: Sink, B: Bench, G: Gate>(
     };
     let host = Host { rt, alloc, gate };
     match command {
-        Command::Run(flags) => match read_whole(alloc, source) {
-            Ok(bytes) => run_text(&host, flags, bytes.as_slice(), sink, flash),
+        Command::Run(kind, flags) => match read_whole(alloc, source) {
+            Ok(bytes) => run_by(&host, kind, flags, bytes.as_slice(), sink, flash),
             Err(stop) => Ended::with_flash(read_end(stop), flash),
         },
         Command::Audit => match read_whole(alloc, source) {

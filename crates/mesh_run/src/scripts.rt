@@ -1,21 +1,21 @@
 //! The script of a text, over a flash that is provisioned for it.
 #![tactic(auto)]
 
-ghost use Rattle.std.specs.Prelude.{◌≡◌, ◌≢◌, ◌⊎◌, ◌<◌, ◌≤◌, ℕ, false, None, Some, IfSome, IsSomeAnd, IsTrue, length};
+ghost use Rattle.std.specs.Prelude.{◌≡◌, ◌≢◌, ◌⊎◌, ◌<◌, ◌≤◌, ℕ, false, None, Some, IfErr, IfOk, IfSome, IsSomeAnd, IsTrue, length};
 ghost use Rattle.life_plans.specs.Plans.{script_of};
 ghost use Rattle.mesh_base.specs.Outside.{Rose};
-ghost use Rattle.node_layers.specs.NodeLayers.{node_layers};
 ghost use Rattle.report_writer.specs.Writing.{view_of};
 ghost use Rattle.script_definitions.specs.Ranges.{IsScriptOf};
 ghost use Rattle.script_definitions.specs.Reading.{reading};
-ghost use Rattle.script_definitions.specs.Reading.Reading.{Fails};
-ghost use Rattle.script_definitions.specs.declared.kind.Grammar.TheVariants as Grammars;
+ghost use Rattle.script_definitions.specs.Reading.Reading.{Fails, IsScript};
+ghost use Rattle.script_definitions.specs.declared.kind.Grammar.{Grammar as ScriptGrammar};
 ghost use Rattle.mesh_run.specs.Causes.{IfScript, IsBeforeFlash, IsBeforeLives, IsDueBy, IsErasedFlash, IsFromFlash, IsSameFlash, IsScriptAnd, IsWrittenAt, WasErased};
+ghost use Rattle.mesh_run.specs.Kind.{IsSafeKind, kind_of};
 ghost use Rattle.mesh_run.specs.Ran.{FromProvisioned, Ran, RanFirst, RanFront};
 ghost use Rattle.mesh_run.specs.Reporting.{ReportsFront};
 ghost use Rattle.report_writer.specs.Reporting.{Reports};
 ghost use Rattle.run_steps.specs.Provisioned.{FailsEarly, format_by};
-ghost use Rattle.event_definitions.specs.Role.{node_role};
+ghost use Rattle.script_reader.specs.Stops.{IsFault};
 ghost use Rattle.store_definitions.specs.Provisioning.{provisioned};
 
 use crate::host::Host;
@@ -24,18 +24,23 @@ use command_words::RunFlags;
 use flash_model::Bench;
 use life_plans::{provision_of, script_law};
 use life_sources::LifeSource;
+use machine_contract::Machine;
 use mesh_base::outside::Sink;
 use mesh_node::Gate;
 use report_writer::{LifeSink, Report};
 use run_steps::{Ended, Status, provision};
-use script_reader::{ScriptStop, read_script};
+use script_definitions::kind::Grammar;
+use script_definitions::script::Script;
+use script_reader::{ScriptStop, read_low_power_script, read_script};
 use slot_journal::FormatFault;
+use std::alloc::Global;
 use std::sync::Wait;
 use std::thread::Threads;
 
 /// Runs a script: power is cycled, the node is provisioned, in format 01 where it is to be the old one, and the lives are run one after
-/// another. Each is told of once it is over.
+/// another, by machines of this kind. Each is told of once it is over.
 pub(crate) fn run_script<
+    M: Machine,
     R: Threads + Wait + Sync,
     S: LifeSource,
     B: Bench,
@@ -44,7 +49,8 @@ pub(crate) fn run_script<
     G: Gate,
 >(host: &Host<R, G>, old: bool, script: &S, lives: &mut L, sink: &mut K, flash: B) -> Ended<B>
     requires honest { IsTrue (B.chip flash).honest }
-    requires read { IsScriptOf Grammars.Node (S.script script.now) }
+    requires read { (grammar : ScriptGrammar) × IsScriptOf grammar (S.script script.now) }
+    requires kind { IsSafeKind (kind_of M.view M.stands M.role M.image) }
 
     // Each status has its cause.
     ensures due { IsFromFlash result.status ⊎ (result.status ≡ Status.Memory) }
@@ -64,16 +70,16 @@ pub(crate) fn run_script<
     ensures done { result.status ≡ Status.Done
         → IsSomeAnd result.flash
         (λ f. FromProvisioned B.chip (format_by old) (provisioned (script_of (S.script script.now)).node) (B.chip flash)
-        (λ start. Ran B.chip (node_role node_layers) (script_of (S.script script.now)) (L.told lives.old lives.new) start
+        (λ start. Ran B.chip (kind_of M.view M.stands M.role M.image) (script_of (S.script script.now)) (L.told lives.old lives.new) start
         (view_of K.held K.pieces sink.old) f (view_of K.held K.pieces sink.new))) }
     ensures front { result.status ≡ Status.WriteFault
         → IsSomeAnd result.flash
         (λ f. FromProvisioned B.chip (format_by old) (provisioned (script_of (S.script script.now)).node) (B.chip flash)
-        (λ start. RanFront B.chip (node_role node_layers) (script_of (S.script script.now)) (L.told lives.old lives.new)
+        (λ start. RanFront B.chip (kind_of M.view M.stands M.role M.image) (script_of (S.script script.now)) (L.told lives.old lives.new)
         (L.broken lives.new) start (view_of K.held K.pieces sink.old) f (view_of K.held K.pieces sink.new))) }
     ensures whole { result.status ≡ Status.Memory
         → FromProvisioned B.chip (format_by old) (provisioned (script_of (S.script script.now)).node) (B.chip flash)
-        (λ start. RanFirst B.chip (node_role node_layers) (script_of (S.script script.now)) (L.told lives.old lives.new) start
+        (λ start. RanFirst B.chip (kind_of M.view M.stands M.role M.image) (script_of (S.script script.now)) (L.told lives.old lives.new) start
         (view_of K.held K.pieces sink.old) result.flash (view_of K.held K.pieces sink.new)) }
     ensures nothing_written { IsBeforeLives result.status → sink.new ≡ sink.old }
 
@@ -95,7 +101,7 @@ pub(crate) fn run_script<
             flash,
         ),
     }
-    match live_all(host, script, lives, sink, flash) {
+    match live_all::<M, R, S, B, L, K, G>(host, script, lives, sink, flash) {
         Ok(flash) => Ended::with_flash(Status::Done, flash),
         Err(Stopped::Fault(flash)) => Ended::with_flash(Status::WriteFault, flash),
         Err(Stopped::Memory(flash)) => Ended {
@@ -105,9 +111,23 @@ pub(crate) fn run_script<
     }
 }
 
-/// Runs the script that a text is, if it is one.
-pub(crate) fn run_text<R: Threads + Wait + Sync, B: Bench, K: Sink, G: Gate>(
+/// Reads the script of this grammar that a text is.
+fn read_by(alloc: Global, grammar: Grammar, text: &[u8]) -> Result<Script, ScriptStop>
+    requires short { length text.now ≤ 4194304 }
+    ensures ok { IfOk result (λ s. reading grammar text.now ≡ IsScript s) }
+    ensures cause { IfErr result (IsFault (reading grammar text.now)) }
+    ensures ranges { IfOk result (IsScriptOf grammar) }
+{
+    match grammar {
+        Grammar::Node => read_script(alloc, text),
+        Grammar::LowPower => read_low_power_script(alloc, text),
+    }
+}
+
+/// Runs the script of this grammar that a text is, if it is one, by machines of this kind.
+pub(crate) fn run_text<M: Machine, R: Threads + Wait + Sync, B: Bench, K: Sink, G: Gate>(
     host: &Host<R, G>,
+    grammar: Grammar,
     flags: RunFlags,
     text: &[u8],
     sink: &mut K,
@@ -115,42 +135,43 @@ pub(crate) fn run_text<R: Threads + Wait + Sync, B: Bench, K: Sink, G: Gate>(
 ) -> Ended<B>
     requires honest { IsTrue (B.chip flash).honest }
     requires short { length text.now ≤ 4194304 }
+    requires kind { IsSafeKind (kind_of M.view M.stands M.role M.image) }
 
     // Each status has its cause.
-    ensures due { IsDueBy (reading Grammars.Node text.now) result.status ⊎ (result.status ≡ Status.Memory) }
+    ensures due { IsDueBy (reading grammar text.now) result.status ⊎ (result.status ≡ Status.Memory) }
     ensures script { (line rule : ℕ) → result.status ≡ Status.Script line rule
-        → reading Grammars.Node text.now ≡ Fails line rule }
+        → reading grammar text.now ≡ Fails line rule }
     ensures write_fault { result.status ≡ Status.WriteFault → Rose (K.faults sink.old) (K.faults sink.new) }
     ensures not_erased { (at : ℕ) → result.status ≡ Status.NotErased at
         → IsSomeAnd result.flash (λ f. IsWrittenAt at (B.chip flash) (B.chip f)) }
     ensures flash_fault { result.status ≡ Status.FlashFault
         → IsSomeAnd result.flash (λ f. (B.chip flash).faults < (B.chip f).faults) × (IsTrue (B.chip flash).steady → ⊥) }
     ensures early { result.status ≡ Status.FlashFault
-        → IsScriptAnd (reading Grammars.Node text.now)
+        → IsScriptAnd (reading grammar text.now)
         (λ s. IsSomeAnd result.flash (λ f. FailsEarly (provisioned (script_of s).node) (B.chip flash) (B.chip f))) }
     ensures erased { (result.status ≡ Status.Done) ⊎ (result.status ≡ Status.WriteFault) → WasErased (B.chip flash) }
     ensures complete { ¬ Rose (K.faults sink.old) (K.faults sink.new) → IsErasedFlash (B.chip flash)
-        → IfScript (reading Grammars.Node text.now)
+        → IfScript (reading grammar text.now)
         (λ s. (result.status ≡ Status.Done) ⊎ (result.status ≡ Status.Memory) ⊎ (result.status ≡ Status.FlashFault)) }
 
     // What is written is the report of a record of a run of the script, or a front of it.
     ensures done { result.status ≡ Status.Done
-        → IsScriptAnd (reading Grammars.Node text.now)
+        → IsScriptAnd (reading grammar text.now)
         (λ s. IsSomeAnd result.flash
         (λ f. FromProvisioned B.chip (format_by flags.old) (provisioned (script_of s).node) (B.chip flash)
-        (λ start. Ran B.chip (node_role node_layers) (script_of s) (Reports flags.hex) start
+        (λ start. Ran B.chip (kind_of M.view M.stands M.role M.image) (script_of s) (Reports flags.hex) start
         (view_of K.held K.pieces sink.old) f (view_of K.held K.pieces sink.new)))) }
     ensures front { result.status ≡ Status.WriteFault
-        → IsScriptAnd (reading Grammars.Node text.now)
+        → IsScriptAnd (reading grammar text.now)
         (λ s. IsSomeAnd result.flash
         (λ f. FromProvisioned B.chip (format_by flags.old) (provisioned (script_of s).node) (B.chip flash)
-        (λ start. RanFront B.chip (node_role node_layers) (script_of s) (Reports flags.hex) (ReportsFront flags.hex)
+        (λ start. RanFront B.chip (kind_of M.view M.stands M.role M.image) (script_of s) (Reports flags.hex) (ReportsFront flags.hex)
         start (view_of K.held K.pieces sink.old) f (view_of K.held K.pieces sink.new)))) }
     ensures whole { result.status ≡ Status.Memory
         → ((sink.new ≡ sink.old) × (result.flash ≡ Some flash))
-        ⊎ IsScriptAnd (reading Grammars.Node text.now)
+        ⊎ IsScriptAnd (reading grammar text.now)
         (λ s. FromProvisioned B.chip (format_by flags.old) (provisioned (script_of s).node) (B.chip flash)
-        (λ start. RanFirst B.chip (node_role node_layers) (script_of s) (Reports flags.hex) start
+        (λ start. RanFirst B.chip (kind_of M.view M.stands M.role M.image) (script_of s) (Reports flags.hex) start
         (view_of K.held K.pieces sink.old) result.flash (view_of K.held K.pieces sink.new))) }
     ensures nothing_written { IsBeforeLives result.status → sink.new ≡ sink.old }
 
@@ -161,7 +182,7 @@ pub(crate) fn run_text<R: Threads + Wait + Sync, B: Bench, K: Sink, G: Gate>(
     ensures no_fault { result.status ≢ Status.WriteFault → K.faults sink.new ≡ K.faults sink.old }
     ensures later { K.faults sink.old ≤ K.faults sink.new }
 {
-    let script = match read_script(host.alloc, text) {
+    let script = match read_by(host.alloc, grammar, text) {
         Ok(script) => script,
         Err(ScriptStop::Fault { line, rule }) => return Ended::with_flash(
             Status::Script { line, rule },
@@ -170,5 +191,5 @@ pub(crate) fn run_text<R: Threads + Wait + Sync, B: Bench, K: Sink, G: Gate>(
         Err(ScriptStop::Memory) => return Ended::with_flash(Status::Memory, flash),
     };
     let mut report = Report { hex: flags.hex };
-    run_script(host, flags.old, &script, &mut report, sink, flash)
+    run_script::<M, R, Script, B, Report, K, G>(host, flags.old, &script, &mut report, sink, flash)
 }

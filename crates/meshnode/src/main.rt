@@ -1,7 +1,8 @@
-//! The program: a mesh node that runs the script on its standard input and prints the report on its standard output.
+//! The program: a mesh node, or a Low Power node, that runs the script on its standard input and prints the report on its standard output.
 //!
 //! `meshnode run` is the command, with `--hex` where the report is to show the octets of network PDUs, and `--old` where the node is to be
-//! provisioned in format 01. `meshnode audit` reads a log, as `run --hex` writes it, and prints the verdict on it. `meshnode gen COUNT START`
+//! provisioned in format 01. `meshnode lpn`, alone or with `--hex`, runs the script of a Low Power node instead. `meshnode audit` reads a log, as
+//! `run --hex` writes it, and prints the verdict on it. `meshnode gen COUNT START`
 //! reads nothing: it runs a script of COUNT lines of bearers that is generated, whose numbers begin behind START, and prints what is counted
 //! of it in eight lines. The flash is one in memory, erased at the beginning. The program ends with the number of its status, and prints the
 //! status's name and numbers on standard error where it isn't `done`.

@@ -42,8 +42,8 @@ returns-clause-value c =
     (subst (λ (rest : List ScriptLine). IsDraftOf lines c.loop-line.draft rest) (drop_all c.loop-line.line-index lines (omega arith)) c.loop-line.invariant)
 
 pub returns-clause-planned : goal.returns-clause-planned
-returns-clause-planned c elements life =
+returns-clause-planned c grammar elements life =
     let lines = c.args.lines.now in
     let done : IsDraftOf lines c.loop-line.draft [] =
     subst (λ (rest : List ScriptLine). IsDraftOf lines c.loop-line.draft rest) (drop_all c.loop-line.line-index lines (omega arith)) c.loop-line.invariant in
-    planned_if_ok elements lines c.into_plan.result life (made c.into_plan.result lines c.loop-line.draft c.into_plan.ensures.steps done) c.into_plan.ensures.bearers
+    planned_if_ok grammar elements lines c.into_plan.result life (made c.into_plan.result lines c.loop-line.draft c.into_plan.ensures.steps done) c.into_plan.ensures.bearers

@@ -5,7 +5,6 @@ use Rattle.node_store.specs.Provisioning.{IsProvision}
 use Rattle.script_definitions.specs.Forms.{flags_fit}
 use Rattle.script_definitions.specs.Lines.{elements_fit}
 use Rattle.script_definitions.specs.Ranges as Asked
-use Rattle.script_definitions.specs.declared.kind.Grammar.TheVariants as G
 use Rattle.script_definitions.specs.declared.script.ProvisionLine.{ProvisionLine}
 use Rattle.life_plans.proofs.scripts.script_law.Goals as goal
 
@@ -31,6 +30,6 @@ node line h =
 
 pub returns : goal.returns
 returns c = record {
-  lives = λ s script k d l. (λ i e m. (G.Node, s.provision.elements, (script.lives k d l).lines i e m), script.lives k d l);
-  node = λ s script. node s.provision script.provision;
+  lives = λ grammar s script k d l. (λ i e m. (grammar, s.provision.elements, (script.lives k d l).lines i e m), script.lives k d l);
+  node = λ grammar s script. node s.provision script.provision;
 }

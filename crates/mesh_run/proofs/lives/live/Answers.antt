@@ -1,15 +1,7 @@
 use Rattle.std.proofs.Common.{refl, sym, subst}
-use Rattle.life_laws.specs.Plan.{steps_of}
-use Rattle.machine_ties.specs.Ties.{Stands}
-use Rattle.machine_ties.specs.Views.{shown}
 use Rattle.mesh_node.specs.Lives.{Lives}
-use Rattle.node_layers.specs.NodeLayers.{node_layers}
-use Rattle.node_store.specs.Tie.{IsNode}
 use Rattle.mesh_run.proofs.Living.{planned}
-use Rattle.mesh_run.proofs.Machines.{lives_of}
 use Rattle.mesh_run.proofs.lives.live.Goals as goal
-use Rattle.mesh_run.specs.declared.machine.ScriptMachine.{ScriptMachine}
-use Rattle.event_definitions.specs.Role.{node_role}
 
 pub life-requires-clause-plan : goal.life-requires-clause-plan
 life-requires-clause-plan g c κs within =
@@ -18,9 +10,7 @@ life-requires-clause-plan g c κs within =
 pub returns-clause-lived : goal.returns-clause-lived
 returns-clause-lived g c =
     let chip = g.B.Flash.chip in
-    let steps = steps_of c.in_ok-plan.plan.steps.items in
-    let ran = lives_of (λ (m : ScriptMachine). m.machine) shown Stands chip (node_role node_layers) IsNode steps (chip c.args.flash) c.in_ok-log.log c.in_ok-log.flash c.in_ok-log.ensures.life in
-    let lived = subst (λ steps. Lives shown Stands chip (node_role node_layers) IsNode steps (chip c.args.flash) c.in_ok-log.log c.in_ok-log.flash) c.in_ok-plan.ensures.value ran in (
+    let lived = subst (λ steps. Lives g.M.Machine.view g.M.Machine.stands chip g.M.Machine.role g.M.Machine.image steps (chip c.args.flash) c.in_ok-log.log c.in_ok-log.flash) c.in_ok-plan.ensures.value c.in_ok-log.ensures.life in (
       lived.over,
       record {
         log = c.in_ok-log.log;

@@ -1,8 +1,6 @@
 use Rattle.std.proofs.Common.{◌∙◌, Err, ap, subst, sym}
 use Rattle.std.specs.Prelude.{IfSome, IsSomeAnd}
-use Rattle.event_definitions.specs.Role.{node_role}
 use Rattle.life_plans.specs.Plans.{provision_of, script_of}
-use Rattle.node_layers.specs.NodeLayers.{node_layers}
 use Rattle.node_store.specs.Provisioning.{provisioning}
 use Rattle.node_store.specs.declared.provision.Provision.{Provision}
 use Rattle.report_writer.specs.Writing.{view_of}
@@ -10,6 +8,7 @@ use Rattle.run_steps.specs.Provisioned.{FailsEarly, WasProvisioned, format_by}
 use Rattle.slot_journal.specs.Causes.{IsFormatCause}
 use Rattle.store_definitions.specs.Provisioning.{provisioned}
 use Rattle.mesh_run.specs.Causes.{IsSameFlash}
+use Rattle.mesh_run.specs.Kind.{kind_of}
 use Rattle.mesh_run.specs.Lived.{IsMemory, IsSinkFault, flash_left}
 use Rattle.mesh_run.specs.Ran.{FromProvisioned, Ran, RanFirst, RanFront}
 use Rattle.mesh_run.proofs.Ends.{cycled, fails_early, same_left, through, was_provisioned}
@@ -38,7 +37,7 @@ pub returns-in-Ok-live_all-clause-done : goal.returns-in-Ok-live_all-clause-done
 returns-in-Ok-live_all-clause-done g c = λ is.
     let chip = g.B.Flash.chip in
     let view = view_of g.K.Sink.held g.K.Sink.pieces in
-    let role = node_role node_layers in
+    let kind = kind_of g.M.Machine.view g.M.Machine.stands g.M.Machine.role g.M.Machine.image in
     let s = script_of (g.S.LifeSource.script c.args.script.now) in
     let told = g.L.LifeSink.told c.args.lives.now c.live_all.new.lives in
     let broken = g.L.LifeSink.broken c.live_all.new.lives in
@@ -52,14 +51,14 @@ returns-in-Ok-live_all-clause-done g c = λ is.
     let was : WasProvisioned format (provisioned s.node) old start =
     was_provisioned format c.provision_of.result (provision_of (g.S.LifeSource.script c.args.script.now).provision) old (chip c.power_cycle.new.self) start (c.provision_of.ensures.value ∙ ap provision_of c.node.ensures.value) cycle.frame
     (cycle.image c.requires.honest) cycle.setting (c.in-Ok.ensures.erased fresh.honest) c.provision.ensures.frame c.in-Ok.ensures.no_fault (c.in-Ok.ensures.provisioned fresh) (c.in-Ok.ensures.format fresh) in
-    subst (λ e. IsSomeAnd e.flash (λ f. FromProvisioned chip format (provisioned s.node) old (λ from. Ran chip role s told from before f after)))
+    subst (λ e. IsSomeAnd e.flash (λ f. FromProvisioned chip format (provisioned s.node) old (λ from. Ran chip kind s told from before f after)))
     (sym c.with_flash-in-Ok-live_all.ensures.value) (record { start = c.provision.new.flash; provisioned = was; ran = c.in-Ok-live_all.ensures.all })
 
 pub returns-in-Err-Fault-clause-front : goal.returns-in-Err-Fault-clause-front
 returns-in-Err-Fault-clause-front g c = λ is.
     let chip = g.B.Flash.chip in
     let view = view_of g.K.Sink.held g.K.Sink.pieces in
-    let role = node_role node_layers in
+    let kind = kind_of g.M.Machine.view g.M.Machine.stands g.M.Machine.role g.M.Machine.image in
     let s = script_of (g.S.LifeSource.script c.args.script.now) in
     let told = g.L.LifeSink.told c.args.lives.now c.live_all.new.lives in
     let broken = g.L.LifeSink.broken c.live_all.new.lives in
@@ -73,16 +72,16 @@ returns-in-Err-Fault-clause-front g c = λ is.
     let was : WasProvisioned format (provisioned s.node) old start =
     was_provisioned format c.provision_of.result (provision_of (g.S.LifeSource.script c.args.script.now).provision) old (chip c.power_cycle.new.self) start (c.provision_of.ensures.value ∙ ap provision_of c.node.ensures.value) cycle.frame
     (cycle.image c.requires.honest) cycle.setting (c.in-Ok.ensures.erased fresh.honest) c.provision.ensures.frame c.in-Ok.ensures.no_fault (c.in-Ok.ensures.provisioned fresh) (c.in-Ok.ensures.format fresh) in
-    let ran : RanFront chip role s told broken c.provision.new.flash before c.in-Err-Fault.flash after =
-    subst (λ e. IsSinkFault (Err e) → IsSomeAnd (flash_left (Err e)) (λ f. RanFront chip role s told broken c.provision.new.flash before f after)) c.in-Err-Fault.field-0-is c.in-Err-Fault.ensures.front tt in
-    subst (λ e. IsSomeAnd e.flash (λ f. FromProvisioned chip format (provisioned s.node) old (λ from. RanFront chip role s told broken from before f after)))
+    let ran : RanFront chip kind s told broken c.provision.new.flash before c.in-Err-Fault.flash after =
+    subst (λ e. IsSinkFault (Err e) → IsSomeAnd (flash_left (Err e)) (λ f. RanFront chip kind s told broken c.provision.new.flash before f after)) c.in-Err-Fault.field-0-is c.in-Err-Fault.ensures.front tt in
+    subst (λ e. IsSomeAnd e.flash (λ f. FromProvisioned chip format (provisioned s.node) old (λ from. RanFront chip kind s told broken from before f after)))
     (sym c.with_flash-in-Err-Fault.ensures.value) (record { start = c.provision.new.flash; provisioned = was; ran = ran })
 
 pub returns-in-Err-Memory-clause-whole : goal.returns-in-Err-Memory-clause-whole
 returns-in-Err-Memory-clause-whole g c = λ is.
     let chip = g.B.Flash.chip in
     let view = view_of g.K.Sink.held g.K.Sink.pieces in
-    let role = node_role node_layers in
+    let kind = kind_of g.M.Machine.view g.M.Machine.stands g.M.Machine.role g.M.Machine.image in
     let s = script_of (g.S.LifeSource.script c.args.script.now) in
     let told = g.L.LifeSink.told c.args.lives.now c.live_all.new.lives in
     let broken = g.L.LifeSink.broken c.live_all.new.lives in
@@ -99,7 +98,7 @@ returns-in-Err-Memory-clause-whole g c = λ is.
     record {
       start = c.provision.new.flash;
       provisioned = was;
-      ran = subst (λ e. IsMemory (Err e) → RanFirst chip role s told c.provision.new.flash before (flash_left (Err e)) after) c.in-Err-Memory.field-0-is c.in-Err-Memory.ensures.whole tt;
+      ran = subst (λ e. IsMemory (Err e) → RanFirst chip kind s told c.provision.new.flash before (flash_left (Err e)) after) c.in-Err-Memory.field-0-is c.in-Err-Memory.ensures.whole tt;
     }
 
 pub returns-in-Err-Memory-clause-frame : goal.returns-in-Err-Memory-clause-frame
