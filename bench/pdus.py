@@ -91,17 +91,19 @@ def control_pdu(seq):
     return seal((0x68, bytes([1] * 16), bytes([2] * 16)), 1, 0, seq, 0x1201, 0xfffd, bytes.fromhex('034b50057e400000010000'))
 
 
-def message(seq):
-    """A network PDU with an access message under the device key."""
+def message(seq, payload=b'\x80\x08\0'):
+    """A network PDU with an access message under the device key, a Composition Data Get if it isn't said."""
     nonce = b'\2\0' + seq.to_bytes(3, 'big') + b'\0\3' + b'\x12\1' + IV.to_bytes(4, 'big')
-    return seal(MASTER, 0, 4, seq, 0x0003, 0x1201, b'\0' + ccm(bytes.fromhex(DEV_KEY), nonce, b'\x80\x08\0', 4))
+    return seal(MASTER, 0, 4, seq, 0x0003, 0x1201, b'\0' + ccm(bytes.fromhex(DEV_KEY), nonce, payload, 4))
 
 
 # The name, what it is, and the line of the event with a number.
 EVENTS = [
     ('raw', '`raw`: a control PDU is sent', lambda i: 'b0 raw fffd 00 034b50057e400000010000\n'),
     ('send', '`send`: an access message is sent', lambda i: 'b0 send 0 0003 04 dev 800800\n'),
-    ('heard', 'heard and delivered, one more entry', lambda i: f'b0 net {message(i + 1)}\n'),
+    ('taken', 'heard and delivered, a message of no model', lambda i: f'b0 net {message(i + 1, bytes([0x7e, 1]))}\n'),
+    ('control', 'heard, a control PDU accepted', lambda i: f'b0 net {seal(MASTER, 1, 1, i + 1, 5, 0x1201, bytes([0x7f]))}\n'),
+    ('heard', 'heard and delivered, a Composition Data Get, and its reply', lambda i: f'b0 net {message(i + 1)}\n'),
     ('notmine', 'heard, not for this node', lambda i: f'b0 net {seal(MASTER, 1, 1, i + 1, 5, 9, bytes([0x7f]))}\n'),
     ('again', 'heard once more (cached)', lambda i: f'b0 net {seal(MASTER, 1, 1, 1, 5, 9, bytes([0x7f]))}\n'),
     ('foreign', 'another network, another NID', lambda i: f'b0 net {seal((0x7f, *ALIKE[1:]), 1, 1, i + 1, 5, 9, bytes([0x7f] * 11))}\n'),

@@ -55,6 +55,10 @@ impl EntryLog {
         ensures entries { self.new.entries ≡ self.old.entries }
         ensures taken { self.new.taken ≡ self.old.taken }
     {
+        // Where none is kept, it takes that for one alone: entries may be taken one by one.
+        if self.fresh.is_empty() {
+            return self.fresh.reserve_exact(1);
+        }
         self.fresh.reserve(1)
     }
 

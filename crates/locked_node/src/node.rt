@@ -31,10 +31,16 @@ use turn_lock::Logged;
 /// Its entries are those of the machine's history, and behind them a mark for each bearer that stopped since the flash failed. So where a
 /// bearer stopped, the history grows no more.
 ///
-/// The machine is boxed, so that a turn at the lock moves no tables.
+/// All of it is boxed, so that a turn at the lock moves a word.
 #[derive(Drop)]
 pub struct Node<M: Machine, F: Flash + Send + Drop> {
-    pub(crate) machine: Box<M>,
+    pub(crate) held: Box<Held<M, F>>,
+}
+
+/// What a node has.
+#[derive(Drop)]
+pub(crate) struct Held<M: Machine, F: Flash + Send + Drop> {
+    pub(crate) machine: M,
     flash: F,
     start: Known<F>,
     stops: u32,
@@ -47,13 +53,14 @@ impl<M: Machine, F: Flash + Send + Drop> Model for Node<M, F> {
     ghost Value = { NodeView F };
 
     ghost view = { λ n. record {
-      machine = M.view n.machine.value;
-      start = n.start;
-      flash = n.flash;
-      stops = n.stops;
+      machine = M.view n.held.value.machine;
+      start = n.held.value.start;
+      flash = n.held.value.flash;
+      stops = n.held.value.stops;
     } };
 
-    ghost invariant = { λ n. Holds M.stands M.view F.chip n.machine.value n.start n.flash n.stops };
+    ghost invariant = { λ n.
+        Holds M.stands M.view F.chip n.held.value.machine n.held.value.start n.held.value.flash n.held.value.stops };
 }
 
 impl<M: Machine, F: Flash + Send + Drop> Logged for Node<M, F> {
@@ -66,7 +73,7 @@ impl<M: Machine, F: Flash + Send + Drop> Logged for Node<M, F> {
     ghost origin = { λ n. origin_of F.chip n };
 
     fn count(&self) -> u64 {
-        self.machine.count() + u64::from(self.stops)
+        self.held.machine.count() + u64::from(self.held.stops)
     }
 }
 
@@ -80,12 +87,14 @@ impl<M: Machine, F: Flash + Send + Drop> Node<M, F> {
         ensures value { IfOk result
             (λ node. node ≡ record { machine = M.view machine; start = start; flash = flash; stops = 0 }) }
     {
-        let machine = Box::new(alloc, machine)?;
-        Ok(Node {
+        let held = Held {
             machine,
             flash,
             start,
             stops: 0,
+        };
+        Ok(Node {
+            held: Box::new(alloc, held)?,
         })
     }
 
@@ -113,21 +122,22 @@ impl<M: Machine, F: Flash + Send + Drop> Node<M, F> {
         ensures stopped { IfErr result
             (λ e. OnStop e (IsStopped event.now (node_marks self.old) (node_marks self.new))) }
     {
-        if self.stops == u32::MAX {
+        if self.held.stops == u32::MAX {
             return Err(Stop::Memory);
         }
-        match self
+        let held = &mut *self.held;
+        match held
             .machine
-            .handle(n, &mut self.flash, bearer, number, event)
+            .handle(n, &mut held.flash, bearer, number, event)
         {
             Ok(answered) => Ok(answered),
             Err(Stop::Memory) => Err(Stop::Memory),
             Err(Stop::Closed) => {
-                self.stops += 1;
+                self.held.stops += 1;
                 Err(Stop::Closed)
             }
             Err(Stop::Flash) => {
-                self.stops += 1;
+                self.held.stops += 1;
                 Err(Stop::Flash)
             }
         }
@@ -157,18 +167,19 @@ impl<M: Machine, F: Flash + Send + Drop> Node<M, F> {
         ensures ok { OnOk result (node_marks self.new ≡ node_marks self.old) }
         ensures stopped { IfErr result (λ e. OnStop e (IsStoppedBare (node_marks self.old) (node_marks self.new))) }
     {
-        if self.stops == u32::MAX {
+        if self.held.stops == u32::MAX {
             return Err(Stop::Memory);
         }
-        match self.machine.refill(n, &mut self.flash, seen) {
+        let held = &mut *self.held;
+        match held.machine.refill(n, &mut held.flash, seen) {
             Ok(mark) => Ok(Raised { seen, mark }),
             Err(Stop::Memory) => Err(Stop::Memory),
             Err(Stop::Closed) => {
-                self.stops += 1;
+                self.held.stops += 1;
                 Err(Stop::Closed)
             }
             Err(Stop::Flash) => {
-                self.stops += 1;
+                self.held.stops += 1;
                 Err(Stop::Flash)
             }
         }
@@ -180,7 +191,7 @@ impl<M: Machine, F: Flash + Send + Drop> Node<M, F> {
         ensures stands { HasMachine M.stands M.view F.chip self.now }
         ensures few { length (node_marks self.now) < 2 ^ 64 }
     {
-        let _ = &self.machine;
+        let _ = &self.held;
         // It does nothing when it runs: the proof uses what it says.
         M::tells::<F>();
     }
@@ -192,14 +203,14 @@ impl<M: Machine, F: Flash + Send + Drop> Node<M, F> {
         ensures frame { self.new
             ≡ record self.old { machine = record self.old.machine { taken = length self.old.machine.entries } } }
     {
-        self.machine.take_entries::<F>()
+        self.held.machine.take_entries::<F>()
     }
 
     /// Whether the flash failed.
     pub fn is_closed(&self) -> bool
         ensures value { result ≡ self.now.machine.closed }
     {
-        self.machine.is_closed()
+        self.held.machine.is_closed()
     }
 
     /// The machine and the flash, over which it stands.
@@ -209,13 +220,14 @@ impl<M: Machine, F: Flash + Send + Drop> Node<M, F> {
         ensures stands { (over : List StoreRecord) × IsRecovered (F.chip self.start).now over
             × M.stands (F.chip result.1) over result.0 }
     {
-        let Node {
+        let Node { held } = self;
+        let Held {
             machine,
             flash,
             start: _,
             stops: _,
-        } = self;
-        (Box::into_inner(machine), flash)
+        } = Box::into_inner(held);
+        (machine, flash)
     }
 }
 
@@ -227,7 +239,7 @@ impl<M: Machine, F: Bench> Node<M, F> {
             ≡ Some (record { calls = calls; mask = mask; changes = (F.chip self.old.flash).changes }) }
         ensures frame { self.new ≡ record self.old { flash = self.new.flash } }
     {
-        self.flash.arm(calls, mask);
+        self.held.flash.arm(calls, mask);
         // They do nothing when they run: the proof uses what they say.
         M::tells::<F>();
         M::stays::<F>();

@@ -16,6 +16,6 @@ impl<M: Machine, F: Flash + Send + Drop> Node<M, F> {
         ensures least { self.now.machine.closed ≡ false → IsDueNode M.role M.quiet F.chip self.now result }
         ensures closed { self.now.machine.closed ≡ true → result ≡ 2 ^ 32 - 1 }
     {
-        self.machine.due::<F>()
+        self.held.machine.due::<F>()
     }
 }

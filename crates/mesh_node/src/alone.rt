@@ -24,7 +24,7 @@ use flash_model::Flash;
 use locked_node::Node;
 use machine_contract::Machine;
 use mesh_types::events::Event;
-use node_phase::run_alone;
+use node_phase::{FreeGate, run_alone};
 use std::alloc::{AllocError, Global};
 
 /// One phase of a life of one bearer, in the thread that calls: it has these events. It is what `one_phase` does for one list of events.
@@ -74,13 +74,15 @@ pub fn one_phase_alone<M: Machine, F: Flash + Send + Drop>(
 {
     let (mut node, done) = run_alone(
         alloc,
+        &FreeGate,
         &seats.numbers,
         &mut seats.drawer,
         node,
         events,
         seats.counts[0],
+        &mut seats.kept,
     )?;
-    let mut dones = Vec::new(alloc);
+    let mut dones = Vec::with_capacity(alloc, 1)?;
     dones.push(done)?;
     let closed = has_stopped(dones.as_slice())?;
     let log = take_log(alloc, &mut node, seats, dones)?;

@@ -138,6 +138,7 @@ pub fn end_life<M: Machine, F: Flash + Send + Drop, S: PhaseSource, T: PhaseSink
         drawer,
         counts: _,
         entries: _,
+        kept: _,
     } = seats;
     let drawn = numbers.close(keeper, drawer);
     LifeLeft {

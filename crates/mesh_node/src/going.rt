@@ -86,6 +86,7 @@ pub fn one_phase<M: Machine, F: Flash + Send + Drop, G: Gate, R: Threads + Wait 
         gate,
         lists,
         seats.counts.as_slice(),
+        &mut seats.kept,
     )?;
     let closed = has_stopped(dones.as_slice())?;
     let log = take_log(alloc, &mut node, seats, dones)?;

@@ -143,6 +143,7 @@ fn run_life<M: Machine, F: Bench, G: Gate, R: Threads + Wait + Sync>(
         drawer,
         counts: _,
         entries: _,
+        kept: _,
     } = seats;
     let drawn = numbers.close(keeper, drawer);
     let log = LifeLog {

@@ -80,7 +80,7 @@ pub fn take_lines(
     ensures lines { IfOk result (λ r. map (λ v. v.items) r.items ≡ map lines_of dones.items) }
     ensures numbers { OnOk result (counts.new ≡ map (λ x. x.number) dones.items) }
 {
-    let mut sends = Vec::new(alloc);
+    let mut sends = Vec::with_capacity(alloc, dones.len())?;
     let mut k = 0;
     for done in dones {
         let Done {

@@ -10,7 +10,7 @@ use crate::told::PhaseLog;
 use flash_model::Flash;
 use locked_node::Node;
 use machine_contract::Machine;
-use node_phase::Done;
+use node_phase::{Done, KeptByBearers};
 use seq_word::{Drawer, Numbers};
 use std::alloc::{AllocError, Global};
 
@@ -25,6 +25,8 @@ pub struct Seats {
     pub counts: Vec<u32>,
     /// The number of entries of this life.
     pub entries: u32,
+    /// What the bearers keep of keys from phase to phase.
+    pub kept: KeptByBearers,
 }
 
 impl Seats {
@@ -45,6 +47,7 @@ impl Seats {
             drawer,
             counts,
             entries: 0,
+            kept: KeptByBearers::new(alloc),
         })
     }
 }

@@ -19,8 +19,8 @@ pub struct Bearer<T: Logged> {
     pub lines: Vec<Sent>,
     /// The number of its last entry in this life, or 0.
     pub number: u32,
-    /// The schedules of the keys that it sealed with last.
-    pub kept: KeptSeals,
+    /// The schedules of the keys that it sealed with last, in a box, so that they go from phase to phase without a copy.
+    pub kept: Box<KeptSeals>,
     /// Why it stopped.
     pub stop: Option<Stop>,
 }

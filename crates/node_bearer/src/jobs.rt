@@ -44,7 +44,7 @@ fn plain_job<M: Machine, F: Flash + Send + Drop>(
     ensures own { IfOk result (λ next. next ≡ None) }
     ensures memory { IfErr result (λ e. e ≡ Stop.Memory) }
 {
-    let outcome = plain_line(&mut b.kept, event, job);
+    let outcome = plain_line(&mut *b.kept, event, job);
     match b.lines.push(Sent {
         entry: at,
         job: j,
@@ -105,7 +105,7 @@ fn drawn_job<M: Machine, F: Flash + Send + Drop>(
     ensures quiet { IsQuiet job.now → IfOk result (λ next. next ≡ None) }
     ensures memory { IfErr result (λ e. e ≡ Stop.Memory) }
 {
-    let line = drawn_line(&mut b.kept, event, job, pair);
+    let line = drawn_line(&mut *b.kept, event, job, pair);
     match b.lines.push(Sent {
         entry: at,
         job: j,

@@ -7,27 +7,29 @@ ghost use Rattle.node_bearer.specs.Did.{AreEvents};
 ghost use Rattle.node_phase.specs.Worked.{WasPhase};
 
 use crate::bearers::{Done, work_phase};
+use crate::kept::KeptByBearers;
 use flash_model::Flash;
-use job_sealing::KeptSeals;
 use locked_node::Node;
 use machine_contract::Machine;
 use mesh_types::events::Event;
-use node_bearer::{Alone, Bearer, FreeGate};
+use node_bearer::{Alone, Bearer, Gate};
 use seq_word::{Drawer, Numbers};
 use std::alloc::{AllocError, Global};
 use turn_lock::Turn;
 
 /// Has the one bearer of a phase do all these events; and returns the node behind them, with what is left of the bearer. `number` is that of
-/// its last entry so far.
+/// its last entry so far. What the bearer keeps of keys is taken from `kept`, and put there again.
 ///
 /// It is the phase that `run_phase` is for one list of events. It starts no thread and waits for none, so it asks for no handle.
-pub fn run_alone<M: Machine, F: Flash + Send + Drop>(
+pub fn run_alone<M: Machine, F: Flash + Send + Drop, G: Gate>(
     alloc: Global,
+    gate: &G,
     n: &Numbers,
     drawer: &mut Drawer,
     node: Node<M, F>,
     events: &[Event],
     number: u32,
+    kept: &mut KeptByBearers,
 ) -> Result<(Node<M, F>, Done), AllocError>
     requires made { node.machine.which ≡ n.now.which }
     requires draws { drawer.old.which ≡ n.now.which }
@@ -39,25 +41,28 @@ pub fn run_alone<M: Machine, F: Flash + Send + Drop>(
 {
     // It does nothing when it runs: the proof uses what it says.
     node.known();
+    let lines = Vec::with_capacity(alloc, events.len())?;
+    let seals = kept.take(alloc)?;
     let (turn, pass) = Turn::start(alloc, node)?;
     let mut bearer = Bearer {
         drawer: n.split(drawer),
         pass,
-        lines: Vec::new(alloc),
+        lines,
         number,
-        kept: KeptSeals::new(),
+        kept: seals,
         stop: None,
     };
-    work_phase(&Alone, n, &turn, &FreeGate, 0, &mut bearer, events);
+    work_phase(&Alone, n, &turn, gate, 0, &mut bearer, events);
     let Bearer {
         drawer: seat,
         mut pass,
         lines,
         number,
-        kept: _,
+        kept: seals,
         stop,
     } = bearer;
     n.join(drawer, seat);
+    kept.put(seals);
     let node = turn.enter_alone(&mut pass);
     turn.close(pass);
     let done = Done {

@@ -9,8 +9,8 @@ ghost use Rattle.locked_node.specs.declared.marks.Mark.{Mark};
 ghost use Rattle.node_bearer.specs.Did.{AreEvents, IsRider};
 ghost use Rattle.node_phase.specs.Worked.{IsFresh, Worked, done_of, drawn_by, looks_by, own_of, parts_by};
 
+use crate::kept::KeptByBearers;
 use flash_model::Flash;
-use job_sealing::KeptSeals;
 use locked_node::{Mark, Node};
 use machine_contract::{Machine, Stop};
 use mesh_types::events::Event;
@@ -40,8 +40,8 @@ fn events_of(plan: &[Vec<Event>], k: usize) -> usize {
     }
 }
 
-/// A bearer for each of these numbers, which is that of its last entry so far. Memory for a line of each event that it has in the plan is taken
-/// here: so its thread takes none where no event has more lines.
+/// A bearer for each of these numbers, which is that of its last entry so far, with what it kept in the phase before. Memory for a line of each
+/// event that it has in the plan is taken here: so its thread takes none where no event has more lines.
 pub fn split_all<M: Machine, F: Flash + Send + Drop>(
     alloc: Global,
     n: &Numbers,
@@ -50,6 +50,7 @@ pub fn split_all<M: Machine, F: Flash + Send + Drop>(
     pass: &mut Pass<Node<M, F>>,
     counts: &[u32],
     plan: &[Vec<Event>],
+    kept: &mut KeptByBearers,
 ) -> Result<Vec<Bearer<Node<M, F>>>, AllocError>
     requires made { turn.now.first.machine.which ≡ n.now.which }
     requires draws { drawer.old.which ≡ n.now.which }
@@ -66,9 +67,10 @@ pub fn split_all<M: Machine, F: Flash + Send + Drop>(
         → IfOk result
         (λ v. (drawer.new.parts + length v.items ≡ drawer.old.parts) × All (λ b. b.drawer.parts ≡ 1) v.items) }
 {
-    let mut bearers = Vec::new(alloc);
+    let mut bearers = Vec::with_capacity(alloc, counts.len())?;
     for number in counts {
         let lines = Vec::with_capacity(alloc, events_of(plan, bearers.len()))?;
+        let seals = kept.take(alloc)?;
         let seat = n.split(drawer);
         let own = turn.split(pass);
         bearers.push(Bearer {
@@ -76,7 +78,7 @@ pub fn split_all<M: Machine, F: Flash + Send + Drop>(
             pass: own,
             lines,
             number: *number,
-            kept: KeptSeals::new(),
+            kept: seals,
             stop: None,
         })?;
     }
@@ -102,7 +104,7 @@ pub fn work_phase<M: Machine, F: Flash + Send + Drop, G: Gate, S: Sharing>(
     b.stop = work(sharing, n, turn, gate, k, b, events).err();
 }
 
-/// Takes all bearers in: what they drew and saw goes to the drawer, and their entries to the pass.
+/// Takes all bearers in: what they drew and saw goes to the drawer, their entries to the pass, and what they keep is kept.
 pub fn join_all<M: Machine, F: Flash + Send + Drop>(
     alloc: Global,
     n: &Numbers,
@@ -110,6 +112,7 @@ pub fn join_all<M: Machine, F: Flash + Send + Drop>(
     drawer: &mut Drawer,
     pass: &mut Pass<Node<M, F>>,
     bearers: Vec<Bearer<Node<M, F>>>,
+    kept: &mut KeptByBearers,
 ) -> Result<Vec<Done>, AllocError>
     requires draws { drawer.old.which ≡ n.now.which }
     requires pass { IsPassOf turn.now pass.old × (pass.old.inside ≡ false) }
@@ -131,18 +134,19 @@ pub fn join_all<M: Machine, F: Flash + Send + Drop>(
     // They do nothing when they run: the proof uses what they say.
     kept_law::<Mark>();
     merge_law::<Mark>();
-    let mut dones = Vec::new(alloc);
+    let mut dones = Vec::with_capacity(alloc, bearers.len())?;
     for bearer in bearers {
         let Bearer {
             drawer: seat,
             pass: own,
             lines,
             number,
-            kept: _,
+            kept: seals,
             stop,
         } = bearer;
         n.join(drawer, seat);
         turn.join(pass, own);
+        kept.put(seals);
         dones.push(Done {
             lines,
             number,

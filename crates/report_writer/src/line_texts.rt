@@ -1,7 +1,7 @@
 //! The texts of lines, one behind another.
 #![tactic(auto)]
 
-ghost use Rattle.std.specs.Prelude.{◌≡◌, ◌+◌, ◌-◌, ◌<◌, ◌^◌, ◌≤◌, [], ◌∷◌, ◌++◌, length, Ok, OnOk, OnErr};
+ghost use Rattle.std.specs.Prelude.{◌≡◌, ◌+◌, ◌-◌, ◌<◌, ◌^◌, ◌≤◌, [], ◌∷◌, ◌++◌, length, Ok, IfOk, OnOk, OnErr};
 ghost use Rattle.mesh_types.specs.Kind.{kind_of};
 ghost use Rattle.mesh_types.specs.declared.report.ReportLine.TheVariants as L;
 ghost use Rattle.report_definitions.specs.Report.{line_text};
@@ -63,6 +63,16 @@ impl LineTexts {
             text: LineText::new(alloc),
             lengths: Vec::new(alloc),
         }
+    }
+
+    /// No texts, with room for so many octets.
+    pub(crate) fn with_room(alloc: Global, room: usize) -> Result<LineTexts, AllocError>
+        ensures value { IfOk result (λ texts. texts ≡ []) }
+    {
+        Ok(LineTexts {
+            text: LineText::with_room(alloc, room)?,
+            lengths: Vec::new(alloc),
+        })
     }
 
     /// The octets of all texts, and how many of them each text has.

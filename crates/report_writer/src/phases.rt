@@ -17,6 +17,9 @@ use mesh_types::history::{Entry, Sent};
 use mesh_types::report::{End, Opened};
 use std::alloc::{AllocError, Global};
 
+/// The octets that the texts of a phase have room for at first: those of an event and the PDU that it sends.
+const PHASE_ROOM: usize = 256;
+
 /// Writes the texts of lines, if there was memory for them. It says what `write_life` says of its lines.
 pub(crate) fn write_made<K: Sink>(
     sink: &mut K,
@@ -62,7 +65,7 @@ fn phase_texts(
     ensures value { IfOk result
         (λ texts. texts ≡ map line_text (phase_lines hex first entries.now (map (λ v. v.items) sends.now))) }
 {
-    let mut texts = LineTexts::new(alloc);
+    let mut texts = LineTexts::with_room(alloc, PHASE_ROOM)?;
     push_entries(&mut texts, first, entries)?;
     push_sends(&mut texts, hex, sends)?;
     Ok(texts)

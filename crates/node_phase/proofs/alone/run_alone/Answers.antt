@@ -17,7 +17,7 @@ returns-clause-was g c =
     let seat = c.split.ensures in
     let joined = c.join.ensures in
     let entered = c.enter_alone-node.ensures in
-    let old : BearerOf g.row.F.Denot = record { drawer = c.split.result; pass = c.in_ok-turn.pass; lines = c.new.result; number = c.args.number; kept = tt; stop = None } in
+    let old : BearerOf g.row.F.Denot = record { drawer = c.split.result; pass = c.in_ok-turn.pass; lines = c.in_ok-lines.lines; number = c.args.number; kept = c.in_ok-seals.seals; stop = None } in
     let b : BearerOf g.row.F.Denot = c.work_phase.new.b in
     let new = node_marks c.enter_alone-node.result in
     let first = ap node_marks c.in_ok-turn.ensures.first in
@@ -41,6 +41,6 @@ returns-clause-was g c =
       left = refl;
     }
   where
-    only : (k : ℕ) (x : BearerOf g.row.F.Denot) → k < 1 → Worked k (list_at (c.args.events.now ∷ []) k) (slice_index_or (record { drawer = c.split.result; pass = c.in_ok-turn.pass; lines = c.new.result; number = c.args.number; kept = tt; stop = None } ∷ []) k x) (slice_index_or (c.work_phase.new.b ∷ []) k x)
+    only : (k : ℕ) (x : BearerOf g.row.F.Denot) → k < 1 → Worked k (list_at (c.args.events.now ∷ []) k) (slice_index_or (record { drawer = c.split.result; pass = c.in_ok-turn.pass; lines = c.in_ok-lines.lines; number = c.args.number; kept = c.in_ok-seals.seals; stop = None } ∷ []) k x) (slice_index_or (c.work_phase.new.b ∷ []) k x)
     only zero x lt = c.work_phase.ensures.worked
     only (suc k) x lt = absurd (omega (arith, lt))

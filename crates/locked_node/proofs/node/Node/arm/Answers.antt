@@ -1,18 +1,20 @@
 use Rattle.std.proofs.Common.{◌≤◌, ap, subst, sym, ◌∙◌}
 use Rattle.flash_model.proofs.Runs.{past_more}
+use Rattle.locked_node.specs.Stands.{Holds}
 use Rattle.locked_node.proofs.node.Node.arm.Goals as goal
 
 pub invariant_of-self : goal.invariant_of-self
 invariant_of-self g c =
-    let h = c.self.invariant in
-    let life = c.tells.ensures.known c.self.inside.flash h.over c.self.inside.machine.value h.tie in
+    let held = c.deref_mut.result.now in
+    let h = subst (λ x. Holds g.M.Machine.stands g.M.Machine.view g.F.Flash.chip x.machine x.start x.flash x.stops) (sym c.deref_mut.ensures.value) c.self.invariant in
+    let life = c.tells.ensures.known held.flash h.over held.machine h.tie in
     let kept = c.arm.ensures.frame in
     let stays = c.arm.ensures.stays life.node.honest in
     let began = ap (λ s. s.faults) c.arm.ensures.setting in
     record {
       over = h.over;
       read = h.read;
-      tie = c.stays.ensures.kept c.self.inside.flash c.arm.new.self h.over c.self.inside.machine.value (record {
+      tie = c.stays.ensures.kept held.flash c.arm.new.self h.over held.machine (record {
         honest = kept.honest;
         stays = stays.images;
         now = stays.now;
@@ -23,9 +25,9 @@ invariant_of-self g c =
       live = h.live;
       stopped = h.stopped;
       later = record {
-        faults = subst (λ n. (g.F.Flash.chip c.self.inside.start).faults ≤ n) (sym kept.faults) h.later.faults;
+        faults = subst (λ n. (g.F.Flash.chip held.start).faults ≤ n) (sym kept.faults) h.later.faults;
         steady = kept.steady ∙ h.later.steady;
         began = began ∙ h.later.began;
-        past = past_more (g.F.Flash.chip c.self.inside.start) (g.F.Flash.chip c.self.inside.flash) (g.F.Flash.chip c.arm.new.self) h.later.past kept.past;
+        past = past_more (g.F.Flash.chip held.start) (g.F.Flash.chip held.flash) (g.F.Flash.chip c.arm.new.self) h.later.past kept.past;
       };
     }

@@ -1,4 +1,4 @@
-use Rattle.std.proofs.Common.{◌+◌, refl, subst}
+use Rattle.std.proofs.Common.{◌∙◌, ◌+◌, ap, subst}
 use Rattle.machine_contract.specs.declared.answers.Hand.TheVariants as H
 use Rattle.machine_contract.specs.Refused.{IsRefused}
 use Rattle.turn_lock.specs.Entries.{IsPrefix}
@@ -9,10 +9,13 @@ use Rattle.locked_node.proofs.node.Node.handle.Goals as goal
 pub returns-in-Err-Closed-clause-front : goal.returns-in-Err-Closed-clause-front
 returns-in-Err-Closed-clause-front g c =
     let view = g.M.Machine.view in
-    let inside = c.self.inside in
-    let old : NodeView g.row.F.Denot = record { machine = view inside.machine.value; start = inside.start; flash = inside.flash; stops = inside.stops } in
-    let new : NodeView g.row.F.Denot = record { machine = view c.handle.new.self; start = inside.start; flash = c.handle.new.flash; stops = inside.stops + 1 } in
-    -- the machine that was called is the one in the box
-    let called = subst (λ m. IsRefused g.F.Flash.chip (H.OfEvent c.args.event.now) (view m) new.machine inside.flash c.handle.new.flash c.in-Err-Closed.field-0) c.deref_mut.ensures.value c.in-Err-Closed.ensures.refused in
-    let refused = subst (λ s. IsRefused g.F.Flash.chip (H.OfEvent c.args.event.now) old.machine new.machine inside.flash c.handle.new.flash s) c.in-Err-Closed.field-0-is called in
-    subst (λ v. IsPrefix (node_marks v) (node_marks new)) c.self.view_is (front_more old new refused.1 refl (c.self.invariant.stopped refused.0))
+    let was = c.self.inside.held.value in
+    let left = c.deref_mut.result.now in
+    let old : NodeView g.row.F.Denot = record { machine = view was.machine; start = was.start; flash = was.flash; stops = was.stops } in
+    let new : NodeView g.row.F.Denot = record { machine = view left.machine; start = left.start; flash = left.flash; stops = left.stops + 1 } in
+    -- the machine and the flash that were called are those in the box
+    let called = subst (λ h. IsRefused g.F.Flash.chip (H.OfEvent c.args.event.now) (view h.machine) (view c.handle.new.self) h.flash c.handle.new.flash c.in-Err-Closed.field-0) c.deref_mut-held.ensures.value c.in-Err-Closed.ensures.refused in
+    let refused = subst (λ s. IsRefused g.F.Flash.chip (H.OfEvent c.args.event.now) (view was.machine) (view c.handle.new.self) was.flash c.handle.new.flash s) c.in-Err-Closed.field-0-is called in
+    let same = ap (λ h. view h.machine) c.deref_mut.ensures.value ∙ refused.1 in
+    let more = ap (λ h. h.stops + 1) c.deref_mut.ensures.value ∙ ap (λ h. h.stops + 1) c.deref_mut-held.ensures.value in
+    subst (λ v. IsPrefix (node_marks v) (node_marks new)) c.self.view_is (front_more old new same more (c.self.invariant.stopped refused.0))

@@ -7,5 +7,5 @@ returns-clause-stands g c =
     let h = c.self.invariant in (
       h.over,
       subst (λ v. IsRecovered (g.F.Flash.chip v.start).now h.over) c.self.view_is h.read,
-      subst (g.M.Machine.stands (g.F.Flash.chip c.self.inside.flash) h.over) (sym c.into_inner.ensures) h.tie,
+      subst (λ x. g.M.Machine.stands (g.F.Flash.chip x.flash) h.over x.machine) (sym c.into_inner-machine.ensures) h.tie,
     )

@@ -10,7 +10,7 @@ returns-clause-known g c =
     subst (λ v. IsNode g.M.Machine.role g.M.Machine.image g.F.Flash.chip v) c.self.view_is (record {
       over = h.over;
       read = h.read;
-      life = c.tells.ensures.known c.self.inside.flash h.over c.self.inside.machine.value h.tie;
+      life = c.tells.ensures.known c.self.inside.held.value.flash h.over c.self.inside.held.value.machine h.tie;
       few = h.few;
       live = h.live;
       stopped = h.stopped;
@@ -23,7 +23,7 @@ returns-clause-stands g c =
     subst (λ v. HasMachine g.M.Machine.stands g.M.Machine.view g.F.Flash.chip v) c.self.view_is (record {
       over = h.over;
       read = h.read;
-      machine = c.self.inside.machine.value;
+      machine = c.self.inside.held.value.machine;
       shows = refl;
       tie = h.tie;
     })
@@ -31,5 +31,5 @@ returns-clause-stands g c =
 pub returns-clause-few : goal.returns-clause-few
 returns-clause-few g c =
     let h = c.self.invariant in
-    let life = c.tells.ensures.known c.self.inside.flash h.over c.self.inside.machine.value h.tie in
+    let life = c.tells.ensures.known c.self.inside.held.value.flash h.over c.self.inside.held.value.machine h.tie in
     subst (λ v. length (node_marks v) < 2 ^ 64) c.self.view_is (few_marks _ _ _ life.few h.few)
