@@ -136,6 +136,19 @@ class Test:
         self.over(node, True)
         self.follow(node, self.client.sent[begin:])
 
+    def kill_by_clock(self) -> None:
+        """A life with a clock that is killed at a moment of its own."""
+        node = Living(self.program, self.file, words=('--hex', '--clock'))
+        begin = len(self.client.sent)
+        for _ in range(self.client.rng.randrange(0, 20)):
+            if not node.say(self.client.line()):
+                break
+        time.sleep(self.client.rng.random() * 0.25)
+        node.kill()
+        self.over(node, True)
+        self.counts['killed with a clock'] += 1
+        self.follow(node, self.client.sent[begin:])
+
     def kill_at_call(self, at: int, lines: int) -> None:
         """A life that is killed at a call to its file, over a disk that loses what wasn't synced."""
         node = self.living({'LD_PRELOAD': str(self.losing), 'LOSING_FILE': str(self.file), 'LOSING_AT': str(at),
@@ -194,13 +207,16 @@ def built_losing(folder: Path) -> Path | None:
 
 
 def tried(program: Path, audit: Path, kills: int, seed: int, folder: Path) -> Test:
-    """The kills over one file: half of them at random moments, half at a call to the file. Then those of new files as they migrate."""
+    """The kills over one file: half of them at random moments, some of these with a clock, half at a call to the file. Then those of new files as they
+    migrate."""
     losing = built_losing(folder)
     client = Client(random.Random(seed))
     test = Test(program, folder / 'lamp.node', client, losing)
     test.make()
     for number in range(kills):
-        if losing is None or number % 2:
+        if number % 10 == 5:
+            test.kill_by_clock()
+        elif losing is None or number % 2:
             test.kill_at_random()
         else:
             test.kill_at_call(client.rng.randrange(1, 1200 if client.rng.random() < 0.2 else 60), 400)

@@ -4,7 +4,7 @@ import signal
 import subprocess
 import tempfile
 import threading
-from collections.abc import Iterable, Iterator
+from collections.abc import Callable, Iterable, Iterator
 from dataclasses import dataclass, field
 from pathlib import Path
 
@@ -46,6 +46,24 @@ def init(program: Path, file: Path, elements: int = 1) -> Ended:
     return run(program, 'init', str(file), UNICAST, str(elements), IV_INDEX, '00', '000', given=f'{NET_KEY}\n{DEV_KEY}\n')
 
 
+def slot(kind: int, body: bytes) -> bytes:
+    """A gated slot of the flash: its kind, 30 octets, its gate (docs/FORMATS.md, Flash)."""
+    return bytes([kind]) + body.ljust(30, b'\0') + b'\0'
+
+
+def image(mark: int, hours: int = 0) -> bytes:
+    """The flash of a node with the sample keys, whose mark has this SEQ, in Normal Operation for so many hours: as a new node's but for these two."""
+    iv = int(IV_INDEX, 16)
+    word = iv * 2 ** 25 + mark
+    slots = [
+        slot(0xf0, bytes([2]) + (1).to_bytes(4, 'big') + (2 ** 32 - 2).to_bytes(4, 'big')),
+        slot(0x01, bytes.fromhex(UNICAST) + bytes([1]) + bytes.fromhex(DEV_KEY)),
+        slot(0x02, iv.to_bytes(4, 'big') + bytes([0]) + word.to_bytes(8, 'big') + hours.to_bytes(2, 'big') + (192).to_bytes(2, 'big')),
+        slot(0x05, bytes([1]) + bytes(2) + bytes.fromhex(NET_KEY)),
+    ]
+    return b''.join(slots).ljust(65536, b'\xff')
+
+
 def talk(key: str, seq: int, payload: str) -> str:
     """The line of an unsegmented message of the client with this number."""
     return f'talk {NET_KEY} {key} {IV_INDEX} 04 {seq:06x} {seq:06x} {CLIENT} {UNICAST} u {payload}'
@@ -57,6 +75,12 @@ def configuring(seq: int) -> list[str]:
     segments = [f'talk {NET_KEY} dev:{DEV_KEY} {IV_INDEX} 04 {seq:06x} {seq + place:06x} {CLIENT} {UNICAST} {place} {add}'
                 for place in range(2)]
     return [*segments, talk(f'dev:{DEV_KEY}', seq + 2, f'803d{UNICAST[2:]}{UNICAST[:2]}01000010')]
+
+
+def publishing(seq: int, steps: int) -> list[str]:
+    """The lines that have the lamp publish its state to the group c000, every so many steps of 100 ms. They take two numbers."""
+    payload = f'03{UNICAST[2:]}{UNICAST[:2]}00c0010005{steps:02x}000010'
+    return [f'talk {NET_KEY} dev:{DEV_KEY} {IV_INDEX} 04 {seq:06x} {seq + place:06x} {CLIENT} {UNICAST} {place} {payload}' for place in range(2)]
 
 
 def switching(seq: int, on: bool, transaction: int) -> str:
@@ -123,6 +147,22 @@ class Living:
                     return None
                 if not self._more.wait(timeout):
                     raise TimeoutError(f'no line {begin} in {timeout} s')
+
+    def write(self, octets: bytes) -> None:
+        """Hands it octets as they are."""
+        assert self.process.stdin
+        self.process.stdin.write(octets)
+        self.process.stdin.flush()
+
+    def wait_until(self, is_it: Callable[[list[str]], bool], timeout: float = 20.0) -> bool:
+        """Whether this becomes true of what it said, before it ends."""
+        with self._more:
+            return self._more.wait_for(lambda: self._ended or is_it(self.lines), timeout) and is_it(self.lines)
+
+    def processor_time(self) -> float:
+        """How many seconds of a processor it took so far."""
+        fields = Path(f'/proc/{self.process.pid}/stat').read_text(encoding='ascii').rpartition(')')[2].split()
+        return (int(fields[11]) + int(fields[12])) / os.sysconf('SC_CLK_TCK')
 
     def kill(self) -> None:
         """Kills it, as a power cut would."""

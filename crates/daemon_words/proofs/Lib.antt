@@ -2,3 +2,4 @@ mod Walking
 mod Forms
 mod Spelled
 mod Cuts
+mod Clocks

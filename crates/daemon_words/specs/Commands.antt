@@ -1,5 +1,5 @@
 -- The commands of the program, by the words after its name.
-use Rattle.std.specs.Prelude.{ℕ, ◌==◌, ◌&&◌, ◌||◌, not, if◌then◌else◌, Bool, true, false, List, [], ◌∷◌, length, slice_index_or, codes, Option, Some, None, ⊤}
+use Rattle.std.specs.Prelude.{ℕ, ◌==◌, ◌+◌, ◌-◌, ◌++◌, ◌&&◌, ◌||◌, not, nat_le, nat_lt, take, drop, if◌then◌else◌, Bool, true, false, List, [], ◌∷◌, length, slice_index_or, codes, Option, Some, None, ⊤}
 use Rattle.std.specs.Str.{bytes_eq}
 use Rattle.daemon_words.specs.Numbers.{IsBearers, IsNumbers, bearers_word, node_numbers}
 use Rattle.daemon_words.specs.declared.commands.Command.{Command}
@@ -67,9 +67,9 @@ init_with (Some numbers) = Some (C.Init numbers)
 
 abbrev pub run_with : Bool → Option ℕ → Option Command
 run_with shown None = None
-run_with shown (Some n) = Some (C.Run (record { bearers = n; hex = shown }))
+run_with shown (Some n) = Some (C.Run (record { bearers = n; hex = shown; clock = false }))
 
--- the command that words are which name a file
+-- the command that words are which name a file, without a clock
 abbrev pub file_command : List (List ℕ) → Option Command
 file_command words =
     if is_like init words
@@ -83,11 +83,33 @@ file_command words =
     else if is_like check words then Some C.Check
     else None
 
+-- `run FILE` with `--clock` among its options: behind FILE, but not behind `--bearers`, which has a word of its own. It is the command of the words
+-- without the first `--clock`, with a clock.
+abbrev pub clock_place : List (List ℕ) → ℕ
+clock_place [] = 0
+clock_place (word ∷ words) = if bytes_eq word (codes "--clock") then 0 else clock_place words + 1
+
+abbrev pub is_clocked : List (List ℕ) → ℕ → Bool
+is_clocked words place =
+    nat_lt place (length words) && (nat_le 2 place && not (bytes_eq (word_at words (place - 1)) (codes "--bearers")))
+
+abbrev pub without_place : List (List ℕ) → ℕ → List (List ℕ)
+without_place words place = take place words ++ drop (place + 1) words
+
+abbrev pub with_clock : Option Command → Option Command
+with_clock (Some (C.Run ways)) = Some (C.Run (record ways { clock = true }))
+with_clock _ = None
+
+abbrev pub option_command : List (List ℕ) → Option Command
+option_command words =
+    if is_clocked words (clock_place words) then with_clock (file_command (without_place words (clock_place words)))
+    else file_command words
+
 abbrev pub command_of : List (List ℕ) → Option Command
 command_of words =
     if is_like help words then Some C.Help
     else if is_like version words then Some C.Version
-    else file_command words
+    else option_command words
 
 abbrev pub is_run : List (List ℕ) → Bool
 is_run words =

@@ -10,6 +10,8 @@ pub struct RunWays {
     pub bearers: u8,
     /// `--hex`: what it tells shows the octets of network PDUs.
     pub hex: bool,
+    /// `--clock`: it tells itself what time passed.
+    pub clock: bool,
 }
 
 /// A command of the program. All but `Help` and `Version` name a file, which isn't part of this value (`file_of`).

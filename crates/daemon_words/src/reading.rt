@@ -1,9 +1,10 @@
 //! Words to the command that they are.
 #![tactic(auto)]
 
-ghost use Rattle.std.specs.Prelude.{◌≡◌, ◌≢◌, ◌<◌, length, map, codes, IfOk, IfSome, None, false};
+ghost use Rattle.std.specs.Prelude.{◌≡◌, ◌≢◌, ◌<◌, ◌≤◌, length, map, codes, IfOk, IfSome, None, false};
+ghost use Rattle.std.specs.Str.{bytes_eq};
 ghost use Rattle.clap.specs.Words.{app_of, first_value, found_of, kind_of, rule_of, subcommand_rows_of};
-ghost use Rattle.daemon_words.specs.Commands.{HasNumbers, command_of, file_command, fits, init_with, is_like, is_plain, is_run, is_spelled, kept, run_with, word_at};
+ghost use Rattle.daemon_words.specs.Commands.{HasNumbers, clock_place, command_of, file_command, fits, init_with, is_clocked, is_like, is_plain, is_run, is_spelled, kept, run_with, with_clock, without_place, word_at};
 ghost use Rattle.daemon_words.specs.Numbers.{IsBearers, IsNumbers};
 ghost use Rattle.daemon_words.specs.Reader.{AreFlags, IsLocal, choice, file_reader, flag, init, place, read_bearers, read_numbers, reader, run, told};
 
@@ -120,13 +121,17 @@ fn init_with(numbers: Option<NodeNumbers>) -> Option<Command>
     }
 }
 
-/// `run` with so many bearers.
+/// `run` with so many bearers, without a clock.
 fn run_with(hex: bool, bearers: Option<u8>) -> Option<Command>
     ensures value { result ≡ run_with hex bearers }
     ensures numbers { IfSome bearers IsBearers → IfSome result HasNumbers }
 {
     match bearers {
-        Some(bearers) => Some(Command::Run(RunWays { bearers, hex })),
+        Some(bearers) => Some(Command::Run(RunWays {
+            bearers,
+            hex,
+            clock: false,
+        })),
         None => None,
     }
 }
@@ -240,7 +245,7 @@ fn refused(error: &clap::Error) -> Result<Option<Command>, AllocError>
     }
 }
 
-/// The command that words are which name a file.
+/// The command that words are which name a file, without a clock.
 fn file_command<'a>(alloc: Global, words: &'a [&'a str]) -> Result<Option<Command>, AllocError>
     ensures value { IfOk result (λ c. c ≡ file_command (map (λ w. w.now) words.now)) }
     ensures numbers { IfOk result (λ c. IfSome c HasNumbers) }
@@ -251,10 +256,69 @@ fn file_command<'a>(alloc: Global, words: &'a [&'a str]) -> Result<Option<Comman
     }
 }
 
+/// Whether a word is `--clock`.
+fn is_clock(word: &str) -> bool
+    ensures value { result ≡ bytes_eq word.now (codes "--clock") }
+{
+    word == "--clock"
+}
+
+/// The place of the first word `--clock`, or the number of words where none is.
+fn clock_place(words: &[&str]) -> usize
+    ensures value { result ≡ clock_place (map (λ w. w.now) words.now) }
+    ensures bound { result ≤ length words.now }
+{
+    for i in 0..words.len() {
+        if is_clock(words[i]) {
+            return i;
+        }
+    }
+    words.len()
+}
+
+/// Whether the word at a place is an option behind FILE, and not the word of `--bearers`.
+fn is_clocked(words: &[&str], place: usize) -> bool
+    ensures value { result ≡ is_clocked (map (λ w. w.now) words.now) place }
+{
+    place < words.len() && place >= 2 && words[place - 1] != "--bearers"
+}
+
+/// The words but the one at a place.
+fn without_place<'a>(
+    alloc: Global,
+    words: &[&'a str],
+    place: usize,
+) -> Result<Vec<&'a str>, AllocError>
+    requires place { place < length words.now }
+    ensures value { IfOk result
+        (λ v. map (λ w. w.now) v.items ≡ without_place (map (λ w. w.now) words.now) place) }
+{
+    let (front, _) = words.split_at(place);
+    let (_, back) = words.split_at(place + 1);
+    let mut rest = Vec::new(alloc);
+    rest.extend_from_slice(front)?;
+    rest.extend_from_slice(back)?;
+    Ok(rest)
+}
+
+/// The command with a clock, where it is `run`.
+fn with_clock(command: Option<Command>) -> Option<Command>
+    ensures value { result ≡ with_clock command }
+    ensures numbers { IfSome command HasNumbers → IfSome result HasNumbers }
+{
+    match command {
+        Some(Command::Run(ways)) => Some(Command::Run(RunWays {
+            clock: true,
+            ..ways
+        })),
+        _ => None,
+    }
+}
+
 /// The command that the words after the program's name are; `None` exactly where they are none:
 ///
 /// - `init FILE UNICAST ELEMENTS IV FLAGS NETIDX`, the numbers as in a script's line `provision`
-/// - `run FILE`, behind which `--bearers N` and `--hex` may stand, in any order, N 1 to 8
+/// - `run FILE`, behind which `--bearers N`, `--hex` and `--clock` may stand, in any order, N 1 to 8
 /// - `show FILE`, `check FILE`, `--help`, `--version`
 ///
 /// FILE is a word that doesn't begin with a dash.
@@ -272,7 +336,12 @@ pub fn command_of<'a>(alloc: Global, words: &'a [&'a str]) -> Result<Option<Comm
     if is_like(words, &["--version"]) {
         return Ok(Some(Command::Version));
     }
-    file_command(alloc, words)
+    let place = clock_place(words);
+    if !is_clocked(words, place) {
+        return file_command(alloc, words);
+    }
+    let rest = without_place(alloc, words, place)?;
+    Ok(with_clock(file_command(alloc, rest.as_slice())?))
 }
 
 /// The file that the words of a command name: the second word.

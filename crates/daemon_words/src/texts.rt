@@ -14,10 +14,11 @@ meshnoded: a Bluetooth mesh node whose state is in a file
       UNICAST (4 digits) is the address of the first of 1 to 4 ELEMENTS, IV (8) the
       IV Index, FLAGS 00 to 03 (02 is IV Update in Progress), NETIDX (3) the index
       of the network key
-  meshnoded run FILE [--bearers N] [--hex]
+  meshnoded run FILE [--bearers N] [--hex] [--clock]
       runs the node: a line of standard input is a phase, and what becomes of it is
       told on standard output before the next line is read. N is 1 to 8; without it
-      there is one bearer. --hex shows the octets of network PDUs
+      there is one bearer. --hex shows the octets of network PDUs. With --clock the
+      node tells itself what time passed; without it time is what lines tick say
   meshnoded show FILE
       tells what the file stores, but no key
   meshnoded check FILE

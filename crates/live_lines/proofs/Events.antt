@@ -46,9 +46,9 @@ event_fits elements (L.Raw bearer raw) h = (refl, h.1)
 event_fits elements (L.Tick bearer ticks) h = (refl, tt)
 event_fits elements L.Sync h = tt
 event_fits elements (L.Arm order) h = tt
-event_fits elements (L.Seek bearer) h = tt
-event_fits elements (L.Poll bearer) h = tt
-event_fits elements (L.List bearer address) h = tt
+event_fits elements (L.Seek bearer) h = (refl, tt)
+event_fits elements (L.Poll bearer) h = (refl, tt)
+event_fits elements (L.List bearer address) h = (refl, tt)
 
 module _ (P : Event → Type 0) where
   kept : (t : Bool) (event : Event) → P event → IfSome (if t then Some event else None) P

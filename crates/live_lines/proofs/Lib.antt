@@ -3,6 +3,8 @@ pub mod Moving
 pub mod Phases
 pub mod Ranges
 pub mod Turning
+pub mod Rounds
+pub mod Nexts
 pub mod Events
 pub mod Together
 pub mod Own

@@ -1,8 +1,10 @@
 pub mod Saying
 pub mod Texts
 pub mod Moves
+pub mod Clock
 pub mod Steps
 pub mod States
 pub mod Turns
+pub mod Nexts
 pub mod Sources
 pub mod Laws

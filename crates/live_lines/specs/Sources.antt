@@ -1,44 +1,64 @@
--- A source of lines as a source of phases.
-use Rattle.std.specs.Prelude.{◌≡◌, ℕ, List, Option, Some, None}
+-- Phases from lines as a source of phases.
+use Rattle.std.specs.Prelude.{◌≡◌, ℕ, Bool, List, [], Option, Some, None}
 use Rattle.mesh_node.specs.Told.{SourceSteps}
-use Rattle.live_lines.specs.States.{IsSameNode, lines_at}
+use Rattle.mesh_types.specs.declared.events.Event.{Event}
+use Rattle.live_lines.specs.Nexts.{Used}
+use Rattle.live_lines.specs.States.{IsSameNode, lines_at, lines_behind}
 use Rattle.live_lines.specs.Steps.{Ends, Fails, GivesPhase}
-use Rattle.live_lines.specs.declared.lines.LineSource.{LineSource}
+use Rattle.live_lines.specs.Turns.{IsFrontOf}
 use Rattle.live_lines.specs.declared.lines.LineStop.{LineStop}
 use Rattle.live_lines.specs.declared.lines.LineStop.TheVariants as L
+use Rattle.live_lines.specs.declared.line_phases.LinePhases.{LinePhases}
 
 -- it is of the same node, and didn't fail
-abbrev pub IsLive : {S E : Type 0} → LineSource S E → LineSource S E → Type 0
-IsLive old new = (old.why ≡ None) × IsSameNode old new
+abbrev pub IsLive : {S E : Type 0} → LinePhases S E → LinePhases S E → Type 0
+IsLive old new = (old.lines.why ≡ None) × IsSameNode old.lines new.lines
 
-module _ {S E : Type 0} (left : S → Option (List ℕ)) (source_faults : S → ℕ) (took : E → Option (List ℕ))
+module _ {S E : Type 0} (clocked : Bool) (left : S → Option (List ℕ)) (source_faults : S → ℕ) (took : E → Option (List ℕ))
     (pieces : E → Option (List (List ℕ))) (sink_faults : E → ℕ) where
+  -- it gave a phase, whichever octets of the next line were used before
+  abbrev pub Gives : LinePhases S E → List (List Event) → LinePhases S E → Type 0
+  Gives old lists new = (used : List ℕ) → IsFrontOf old.front used
+      → Used new.front
+      (λ now. GivesPhase old.lines.bearers old.lines.elements clocked lists
+      (lines_behind left source_faults took pieces sink_faults used old.lines)
+      (lines_behind left source_faults took pieces sink_faults now new.lines))
+
+  -- it came to the end
+  abbrev pub ComesToEnd : LinePhases S E → LinePhases S E → Type 0
+  ComesToEnd old new = (used : List ℕ) → IsFrontOf old.front used
+      → Ends old.lines.bearers old.lines.elements
+      (lines_behind left source_faults took pieces sink_faults used old.lines)
+      (lines_at left source_faults took pieces sink_faults new.lines)
+
   -- It failed, or it was asked for a phase of another node, and did nothing.
-  abbrev pub FailsAs : LineStop → LineSource S E → LineSource S E → Type 0
-  FailsAs L.OtherNode old new =
-      lines_at left source_faults took pieces sink_faults new ≡ lines_at left source_faults took pieces sink_faults old
-  FailsAs why old new =
-      Fails old.bearers old.elements why (lines_at left source_faults took pieces sink_faults old)
-      (lines_at left source_faults took pieces sink_faults new)
+  abbrev pub FailsFrom : LineStop → List ℕ → LinePhases S E → LinePhases S E → Type 0
+  FailsFrom L.OtherNode used old new =
+      (lines_behind left source_faults took pieces sink_faults used new.lines
+      ≡ lines_behind left source_faults took pieces sink_faults used old.lines)
+      × (new.front ≡ old.front)
+  FailsFrom why used old new =
+      Fails old.lines.bearers old.lines.elements clocked why
+      (lines_behind left source_faults took pieces sink_faults used old.lines)
+      (lines_at left source_faults took pieces sink_faults new.lines)
+
+  abbrev pub FailsAs : LineStop → LinePhases S E → LinePhases S E → Type 0
+  FailsAs why old new = (used : List ℕ) → IsFrontOf old.front used → FailsFrom why used old new
 
   -- why it failed is kept
-  pub record FailsFor (why : LineStop) (old new : LineSource S E) : Type 0 where
-    pub kept : new.why ≡ Some why
-    pub node : (new.bearers ≡ old.bearers) × (new.elements ≡ old.elements)
+  pub record FailsFor (why : LineStop) (old new : LinePhases S E) : Type 0 where
+    pub kept : new.lines.why ≡ Some why
+    pub node : (new.lines.bearers ≡ old.lines.bearers) × (new.lines.elements ≡ old.lines.elements)
     pub fails : FailsAs why old new
 
   -- where it had failed before, it does nothing
-  abbrev pub FailsBehind : Option LineStop → LineSource S E → LineSource S E → Type 0
+  abbrev pub FailsBehind : Option LineStop → LinePhases S E → LinePhases S E → Type 0
   FailsBehind None old new = (why : LineStop) × FailsFor why old new
   FailsBehind (Some why) old new = new ≡ old
 
-  abbrev pub line_steps : SourceSteps (LineSource S E)
+  abbrev pub line_steps : SourceSteps (LinePhases S E)
   line_steps = record {
-    gives = λ old lists new. IsLive old new
-        × GivesPhase old.bearers old.elements lists (lines_at left source_faults took pieces sink_faults old)
-        (lines_at left source_faults took pieces sink_faults new);
-    ends = λ old new. IsLive old new
-        × Ends old.bearers old.elements (lines_at left source_faults took pieces sink_faults old)
-        (lines_at left source_faults took pieces sink_faults new);
-    fails = λ old new. FailsBehind old.why old new;
+    gives = λ old lists new. IsLive old new × Gives old lists new;
+    ends = λ old new. IsLive old new × ComesToEnd old new;
+    fails = λ old new. FailsBehind old.lines.why old new;
   }

@@ -1,5 +1,5 @@
 -- How a source of lines gives a phase, ends, and fails, each behind moves.
-use Rattle.std.specs.Prelude.{◌≡◌, ℕ, ◌^◌, ◌-◌, List, [], ◌∷◌, ◌++◌, length, Option, Some, None, ◌⊎◌}
+use Rattle.std.specs.Prelude.{◌≡◌, ℕ, ◌^◌, ◌-◌, Bool, true, List, [], ◌∷◌, ◌++◌, length, Option, Some, None, ◌⊎◌}
 use Rattle.std.specs.Io.KnownBytes.{Consumes, IsAtEnd}
 use Rattle.mesh_base.specs.Outside.{Rose, one_more}
 use Rattle.mesh_types.specs.declared.events.Event.{Event}
@@ -7,6 +7,7 @@ use Rattle.report_writer.specs.Handing.{HandedFront, IsHanded}
 use Rattle.report_writer.specs.Writing.{SinkView}
 use Rattle.script_definitions.specs.Words.{without_cr}
 use Rattle.script_definitions.specs.declared.line.ScriptLine.{ScriptLine}
+use Rattle.live_lines.specs.Clock.{IsTimeLine}
 use Rattle.live_lines.specs.Moves.{DoesAll, HasNoLf, LinesAt, Move, TakesLine}
 use Rattle.live_lines.specs.Saying.{IsSaid, line_says, phase_of}
 use Rattle.live_lines.specs.Texts.{unended_text, wrong_text}
@@ -30,6 +31,15 @@ pub record EndsAt (old new : LinesAt) : Type 0 where
   pub at_end : IsAtEnd new.left
   pub told : IsRestTold old.number old.held old.told new.told
   pub same : new ≡ record old { left = new.left; held = []; number = with_rest old.number old.held; told = new.told }
+
+-- For want of memory time that passed is lost, of which nothing is told.
+pub record LosesTime (old new : LinesAt) : Type 0 where
+  pub same : new ≡ record old { held = new.held }
+
+-- the source failed when it was waited for
+pub record FailsToWait (old new : LinesAt) : Type 0 where
+  pub cause : Rose old.source_faults new.source_faults
+  pub same : new ≡ record old { held = new.held; source_faults = new.source_faults }
 
 module _ (bearers elements : ℕ) where
   -- the first line that is held says an event, of which nothing is told
@@ -89,12 +99,11 @@ module _ (bearers elements : ℕ) where
     pub before : DoesAll bearers elements moves old mid
     pub says : SaysEvent line mid new
 
-  -- by moves to a line in range that says an event
-  pub record GivesPhase (lists : List (List Event)) (old new : LinesAt) : Type 0 where
-    pub line : ScriptLine
-    pub gives : GivesLine line old new
-    pub said : IsSaid elements (S.Happens line)
-    pub phase : lists ≡ phase_of bearers line
+  -- by moves, behind which time passed: this line says how much
+  pub record GivesTime (line : ScriptLine) (old new : LinesAt) : Type 0 where
+    pub passed : IsTimeLine line
+    pub moves : List Move
+    pub before : DoesAll bearers elements moves old new
 
   pub record Ends (old new : LinesAt) : Type 0 where
     pub moves : List Move
@@ -102,18 +111,26 @@ module _ (bearers elements : ℕ) where
     pub before : DoesAll bearers elements moves old mid
     pub ends : EndsAt mid new
 
-  pub record Fails (why : LineStop) (old new : LinesAt) : Type 0 where
-    pub moves : List Move
-    pub mid : LinesAt
-    pub before : DoesAll bearers elements moves old mid
-    pub fails : FailsBy why (length moves) mid new
+  module _ (clocked : Bool) where
+    -- a line that was read, or time that passed, which is told by a source alone that tells time
+    abbrev pub Comes : ScriptLine → LinesAt → LinesAt → Type 0
+    Comes line old new = GivesLine line old new ⊎ ((clocked ≡ true) × GivesTime line old new)
 
-  -- the next line that says an event, or the end
-  abbrev pub IsNextLine : Option ScriptLine → LinesAt → LinesAt → Type 0
-  IsNextLine None old new = Ends old new
-  IsNextLine (Some line) old new = GivesLine line old new × IsSaid elements (S.Happens line)
+    -- by what came, of a range that a node may have
+    pub record GivesPhase (lists : List (List Event)) (old new : LinesAt) : Type 0 where
+      pub line : ScriptLine
+      pub gives : Comes line old new
+      pub said : IsSaid elements (S.Happens line)
+      pub phase : lists ≡ phase_of bearers line
 
-  -- the next phase, or the end
-  abbrev pub IsNextPhase : Option (List (List Event)) → LinesAt → LinesAt → Type 0
-  IsNextPhase None old new = Ends old new
-  IsNextPhase (Some lists) old new = GivesPhase lists old new
+    -- why it failed, behind so many moves, where it was waited for too
+    abbrev pub FailsAt : LineStop → ℕ → LinesAt → LinesAt → Type 0
+    FailsAt L.Source n old new = FailsToRead old new ⊎ ((clocked ≡ true) × FailsToWait old new)
+    FailsAt L.Memory n old new = LacksMemory old new ⊎ ((clocked ≡ true) × LosesTime old new)
+    FailsAt why n old new = FailsBy why n old new
+
+    pub record Fails (why : LineStop) (old new : LinesAt) : Type 0 where
+      pub moves : List Move
+      pub mid : LinesAt
+      pub before : DoesAll bearers elements moves old mid
+      pub fails : FailsAt why (length moves) mid new

@@ -1,5 +1,5 @@
 -- What a call of one move leaves, where octets of a line that isn't whole yet were used already.
-use Rattle.std.specs.Prelude.{◌≡◌, ℕ, List, [], take, Option, Some, None}
+use Rattle.std.specs.Prelude.{◌≡◌, ℕ, List, [], take, Option, Some, None, ⊤}
 use Rattle.mesh_base.specs.Outside.{Rose}
 use Rattle.report_writer.specs.Handing.{HandedFront}
 use Rattle.report_writer.specs.Writing.{SinkView}
@@ -37,10 +37,15 @@ IsLost _ number line saying old before new after = ⊥
 abbrev pub IsFrontOf : List ℕ → List ℕ → Type 0
 IsFrontOf front octets = HasNoLf octets × (front ≡ take 1202 octets)
 
+-- an event that a turn came to is in range
+abbrev pub IsTurnSaid : ℕ → Turn → Type 0
+IsTurnSaid elements (T.Happens line) = IsSaid elements (S.Happens line)
+IsTurnSaid elements _ = ⊤
+
 -- the move that a turn was, from a state to the one in which octets of a line were used
 abbrev pub IsTurn : ℕ → ℕ → Turn → List ℕ → LinesAt → (List ℕ → LinesAt) → Type 0
 IsTurn bearers elements T.Moved front old new =
     (used : List ℕ) × IsFrontOf front used × ((move : Move) × Does bearers elements move old (new used))
 IsTurn bearers elements (T.Happens line) front old new =
-    SaysEvent bearers elements line old (new []) × IsSaid elements (S.Happens line)
+    SaysEvent bearers elements line old (new []) × IsSaid elements (S.Happens line) × (front ≡ [])
 IsTurn bearers elements T.Ended front old new = EndsAt old (new [])

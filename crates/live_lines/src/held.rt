@@ -87,6 +87,11 @@ impl Held {
         }
     }
 
+    /// Whether a whole line is held.
+    pub fn has_line(&self) -> bool {
+        first_lf(self.as_slice()).is_some()
+    }
+
     /// Takes the octets of the first line and its LF, or all where no line ends in them, and answers whether one does. They are put behind the
     /// front of the line, as long as there is room.
     pub fn take_line(&mut self, front: &mut LineFront) -> bool

@@ -1,37 +1,34 @@
-//! The source of lines, and its moves.
+//! The lines of a source, and its moves.
 #![tactic(auto)]
 
-ghost use Rattle.std.specs.Prelude.{◌≡◌, ℕ, ◌<◌, List, [], ◌∷◌, ◌++◌, length, map, None, IfOk, IfSome, IfErr, OnOk, OnErr};
-ghost use Rattle.std.specs.Option.{option_map};
+ghost use Rattle.std.specs.Prelude.{◌≡◌, ℕ, ◌<◌, List, [], ◌∷◌, ◌++◌, length, IfOk, IfSome, IfErr, OnOk, OnErr};
 ghost use Rattle.mesh_base.specs.Outside.{one_more};
 ghost use Rattle.report_writer.specs.Handing.{IsHanded};
 ghost use Rattle.report_writer.specs.Writing.{view_of};
 ghost use Rattle.script_definitions.specs.Words.{without_cr};
-ghost use Rattle.live_lines.specs.Saying.{IsPhaseOfLine, IsSaid, line_says};
+ghost use Rattle.live_lines.specs.Saying.{IsSaid, line_says};
 ghost use Rattle.live_lines.specs.States.{IsSameNode, lines_at, lines_behind};
-ghost use Rattle.live_lines.specs.Steps.{Fails, FailsBy, IsNextLine, IsNextPhase, IsRestTold, with_rest};
+ghost use Rattle.live_lines.specs.Steps.{FailsBy, IsRestTold, with_rest};
 ghost use Rattle.live_lines.specs.Texts.{unended_text, wrong_text};
-ghost use Rattle.live_lines.specs.Turns.{IsFrontOf, IsLost, IsTaken, IsTurn, IsUntold};
+ghost use Rattle.live_lines.specs.Turns.{IsFrontOf, IsLost, IsTaken, IsTurn, IsTurnSaid, IsUntold};
 ghost use Rattle.live_lines.specs.declared.saying.Saying.TheVariants as said;
 
 use crate::front::LineFront;
 use crate::held::Held;
-use crate::phase::phase_of;
 use crate::saying::{Saying, line_says};
 use crate::texts::{unended_text, wrong_text};
 use mesh_base::outside::{Sink, Source};
-use mesh_types::events::Event;
 use report_writer::write_text;
 use script_definitions::line::ScriptLine;
 use script_events::OutsideNode;
 use script_reader::counted::Rule;
 use script_reader::words::without_cr;
-use std::alloc::{AllocError, Global};
+use std::alloc::Global;
 
-/// Why a source of lines gave no phase.
+/// Why the lines of a source gave no phase.
 #[derive(Clone, Copy, Debug, PartialEq, Eq)]
 pub enum LineStop {
-    /// Its source failed.
+    /// Its source failed, when it was read or waited for.
     Source,
     /// The sink of wrong lines failed.
     Errors,
@@ -43,9 +40,8 @@ pub enum LineStop {
     OtherNode,
 }
 
-/// Phases of a node from the lines of a source, of which each is one phase. What is wrong with a line is told on a sink, as one text.
-///
-/// It keeps at most 4,096 octets that it read and didn't use, and within a call the first 1,202 of a line. Once it failed it stays so.
+/// The lines of a source, for a node. What is wrong with a line is told on a sink, as one text. It keeps at most 4,096 octets that it read and
+/// didn't use.
 #[derive(Drop)]
 pub struct LineSource<S, E> {
     /// Where the lines come from.
@@ -70,7 +66,7 @@ pub struct LineSource<S, E> {
 
 /// What a move came to.
 #[derive(Drop)]
-enum Turn {
+pub(crate) enum Turn {
     /// Octets were read, or a line was passed over.
     Moved,
     /// A line says an event.
@@ -130,34 +126,6 @@ fn tell_unended<E: Sink>(alloc: Global, errors: &mut E, number: u64) -> Result<(
     }
 }
 
-impl<S: Source + Drop, E: Sink + Drop> LineSource<S, E> {
-    /// The lines of a source, for a node with so many bearers and elements. What is wrong with a line is told on `errors`.
-    pub fn new(
-        alloc: Global,
-        source: S,
-        errors: E,
-        bearers: u8,
-        elements: u8,
-    ) -> Result<Self, AllocError>
-        ensures streams { IfOk result (λ l. (l.source ≡ source) × (l.errors ≡ errors)) }
-        ensures begins { IfOk result (λ l. (l.held ≡ []) × (l.number ≡ 0) × (l.why ≡ None)) }
-        ensures node { IfOk result (λ l. (l.bearers ≡ bearers) × (l.elements ≡ elements)) }
-    {
-        let held = Held::new(alloc)?;
-        Ok(LineSource {
-            source,
-            errors,
-            held,
-            number: 0,
-            outside: OutsideNode::new(),
-            why: None,
-            bearers,
-            elements,
-            alloc,
-        })
-    }
-}
-
 impl<S: Source, E: Sink> LineSource<S, E> {
     /// Counts a line, by its front, and passes over it, unless it says an event.
     fn take(&mut self, front: &[u8]) -> Result<Option<ScriptLine>, LineStop>
@@ -213,6 +181,7 @@ impl<S: Source, E: Sink> LineSource<S, E> {
     /// Takes the line whose front is there whole.
     fn take_whole(&mut self, front: &mut LineFront) -> Result<Turn, LineStop>
         ensures frame { IsSameNode self.old self.new }
+        ensures ranges { IfOk result (IsTurnSaid self.old.elements) }
         ensures ok { (raw : List ℕ) → IsFrontOf front.old raw → IfOk result
             (λ t. IsTurn self.old.bearers self.old.elements t front.new
             (lines_behind S.left S.faults E.held E.pieces E.faults (raw ++ 10 ∷ []) self.old)
@@ -235,6 +204,7 @@ impl<S: Source, E: Sink> LineSource<S, E> {
     fn read_on(&mut self, front: &LineFront) -> Result<Turn, LineStop>
         requires none { self.old.held ≡ [] }
         ensures frame { IsSameNode self.old self.new }
+        ensures ranges { IfOk result (IsTurnSaid self.old.elements) }
         ensures ok { (used : List ℕ) → IsFrontOf front.now used → IfOk result
             (λ t. IsTurn self.old.bearers self.old.elements t front.now
             (lines_behind S.left S.faults E.held E.pieces E.faults used self.old)
@@ -255,8 +225,9 @@ impl<S: Source, E: Sink> LineSource<S, E> {
     }
 
     /// One move: the first line that is held is taken; where no whole line is held, more is read.
-    fn turn(&mut self, front: &mut LineFront) -> Result<Turn, LineStop>
+    pub(crate) fn turn(&mut self, front: &mut LineFront) -> Result<Turn, LineStop>
         ensures frame { IsSameNode self.old self.new }
+        ensures ranges { IfOk result (IsTurnSaid self.old.elements) }
         ensures ok { (used : List ℕ) → IsFrontOf front.old used → IfOk result
             (λ t. IsTurn self.old.bearers self.old.elements t front.new
             (lines_behind S.left S.faults E.held E.pieces E.faults used self.old)
@@ -270,62 +241,6 @@ impl<S: Source, E: Sink> LineSource<S, E> {
             self.take_whole(front)
         } else {
             self.read_on(front)
-        }
-    }
-
-    /// The next line that says an event; None where there is none more.
-    fn next_line(&mut self) -> Result<Option<ScriptLine>, LineStop>
-        ensures frame { IsSameNode self.old self.new }
-        ensures ok { IfOk result
-            (λ r. IsNextLine self.old.bearers self.old.elements r
-            (lines_at S.left S.faults E.held E.pieces E.faults self.old)
-            (lines_at S.left S.faults E.held E.pieces E.faults self.new)) }
-        ensures stop { IfErr result
-            (λ why. Fails self.old.bearers self.old.elements why
-            (lines_at S.left S.faults E.held E.pieces E.faults self.old)
-            (lines_at S.left S.faults E.held E.pieces E.faults self.new)) }
-    {
-        let mut front = LineFront::new();
-        for _move in 0..u64::MAX {
-            match self.turn(&mut front) {
-                Ok(Turn::Moved) => {}
-                Ok(Turn::Happens(line)) => return Ok(Some(line)),
-                Ok(Turn::Ended) => return Ok(None),
-                Err(why) => return Err(why),
-            }
-        }
-        Err(LineStop::Endless)
-    }
-
-    /// The phase of the next line that says an event; None where there is none more. Each other line is passed over, and where it is wrong, that is
-    /// told. It reads only where it holds no whole line.
-    ///
-    /// # Errors
-    ///
-    /// `Source` and `Errors` only where the count of faults of that stream rose. `Memory` where there is no memory. `Endless` after 2^64 - 1 moves.
-    pub fn next_phase(&mut self) -> Result<Option<Vec<Vec<Event>>>, LineStop>
-        ensures frame { IsSameNode self.old self.new }
-        ensures ok { IfOk result
-            (λ r. IsNextPhase self.old.bearers self.old.elements (option_map (λ lists. map (λ v. v.items) lists.items) r)
-            (lines_at S.left S.faults E.held E.pieces E.faults self.old)
-            (lines_at S.left S.faults E.held E.pieces E.faults self.new)) }
-        ensures line { IfOk result
-            (λ r. IfSome r
-            (λ lists. IsPhaseOfLine self.old.bearers self.old.elements (map (λ v. v.items) lists.items))) }
-        ensures stop { IfErr result
-            (λ why. Fails self.old.bearers self.old.elements why
-            (lines_at S.left S.faults E.held E.pieces E.faults self.old)
-            (lines_at S.left S.faults E.held E.pieces E.faults self.new)) }
-    {
-        match self.next_line() {
-            Ok(Some(line)) => {
-                match phase_of(self.alloc, self.bearers, &mut self.outside, &line) {
-                    Ok(lists) => Ok(Some(lists)),
-                    Err(_) => Err(LineStop::Memory),
-                }
-            }
-            Ok(None) => Ok(None),
-            Err(why) => Err(why),
         }
     }
 }

@@ -14,7 +14,7 @@ use std::alloc::{AllocError, Global};
 fn no_events(alloc: Global, bearers: u8) -> Result<Vec<Vec<Event>>, AllocError>
     ensures value { IfOk result (λ lists. map (λ v. v.items) lists.items ≡ replicate bearers []) }
 {
-    let mut lists = Vec::new(alloc);
+    let mut lists = Vec::with_capacity(alloc, usize::from(bearers))?;
     for _ in 0..bearers {
         lists.push(Vec::new(alloc))?;
     }
@@ -30,7 +30,9 @@ fn push_event(lists: &mut Vec<Vec<Event>>, happening: Happening) -> Result<(), A
 {
     let at = usize::from(happening.bearer);
     if at < lists.len() {
-        lists[at].push(happening.event)?;
+        let list = &mut lists[at];
+        list.reserve_exact(1)?;
+        list.push(happening.event)?;
     }
     Ok(())
 }

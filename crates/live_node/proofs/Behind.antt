@@ -22,7 +22,8 @@ use Rattle.report_writer.proofs.Written.{front_behind, front_whole, written_more
 use Rattle.live_lines.specs.Moves.{LinesAt}
 use Rattle.live_lines.specs.Sources.{FailsAs, FailsBehind}
 use Rattle.live_lines.specs.Steps.{Ends, Fails}
-use Rattle.live_lines.specs.declared.lines.LineSource.{LineSource}
+use Rattle.live_lines.specs.Turns.{IsFrontOf}
+use Rattle.live_lines.specs.declared.line_phases.LinePhases.{LinePhases}
 use Rattle.live_lines.specs.declared.lines.LineStop.{LineStop}
 use Rattle.live_lines.specs.declared.lines.LineStop.TheVariants as L
 use Rattle.live_report.specs.Laws.{AllIsWritten, EndIsFront}
@@ -42,49 +43,52 @@ pub record Laws : Type 0 where
   pub whole : AllIsWritten
   pub end : EndIsFront
 
-module _ {S E K : Type 0} (left : S → Option (List ℕ)) (source_faults : S → ℕ) (took : E → Option (List ℕ)) (told_pieces : E → Option (List (List ℕ))) (errors_faults : E → ℕ)
+module _ {S E K : Type 0} (clocked : Bool) (left : S → Option (List ℕ)) (source_faults : S → ℕ) (took : E → Option (List ℕ)) (told_pieces : E → Option (List (List ℕ))) (errors_faults : E → ℕ)
     (held : K → Option (List ℕ)) (pieces : K → Option (List (List ℕ))) (faults : K → ℕ)
     (Stood : List StoreRecord → MachineView → Type 0) (role : Role) (image : List ℕ → Type 0) (sinks : SinkSteps (LiveReport K)) (bearers : ℕ) (start new : Chip)
-    (lines lines' : LineSource S E) (report report' : LiveReport K) (sink : K) (refills : ℕ) (drawn : ClosedView) (closed : Bool) where
-  abbrev at : LineSource S E → LinesAt
-  at l = Said.at left source_faults took told_pieces errors_faults l
+    (lines lines' : LinePhases S E) (report report' : LiveReport K) (sink : K) (refills : ℕ) (drawn : ClosedView) (closed : Bool) where
+  abbrev at : LinePhases S E → LinesAt
+  at l = Said.at clocked left source_faults took told_pieces errors_faults l
+
+  abbrev behind : List ℕ → LinePhases S E → LinesAt
+  behind used l = Said.behind clocked left source_faults took told_pieces errors_faults used l
 
   abbrev view : K → SinkView
   view k = view_of held pieces k
 
   abbrev Lived : LastStep → Type 0
-  Lived last = LivedOn Stood role image (Said.line_steps left source_faults took told_pieces errors_faults) sinks lines lines' report report' bearers start new refills drawn closed last
+  Lived last = LivedOn Stood role image (Said.line_steps clocked left source_faults took told_pieces errors_faults) sinks lines lines' report report' bearers start new refills drawn closed last
 
-  module _ (from : StreamsAt) (before : SinkView) (opened : Opened) (laws : Laws) (first : Written (opened_line 1 opened ∷ []) before (view report.sink)) (begins : at lines ≡ begun from) (unfailed_yet : lines.why ≡ None) where
+  module _ (from : StreamsAt) (before : SinkView) (opened : Opened) (laws : Laws) (first : Written (opened_line 1 opened ∷ []) before (view report.sink)) (begins : at lines ≡ begun from) (unfailed_yet : lines.lines.why ≡ None) (unused : IsFrontOf lines.front []) where
     abbrev to : StreamsAt
     to = streams_of (at lines')
 
     abbrev Over : Status → Type 0
-    Over status = EndsOver role image report.hex bearers start from to before (view sink) Stood status closed new
+    Over status = EndsOver role image report.hex bearers clocked start from to before (view sink) Stood status closed new
 
-    module _ (last : LastStep) (lived : Lived last) (is : opened ≡ W.On (config_of lived.over).iv (config_of lived.over).mark) (elements : lines.elements ≡ (config_of lived.over).elements) (many : lines.bearers ≡ bearers) where
+    module _ (last : LastStep) (lived : Lived last) (is : opened ≡ W.On (config_of lived.over).iv (config_of lived.over).mark) (elements : lines.lines.elements ≡ (config_of lived.over).elements) (many : lines.lines.bearers ≡ bearers) where
       -- the phases that the lines say, of a node with the elements of the records
-      said_over : (mid : LinesAt) → BySteps (by_line lines.bearers lines.elements) (at lines) lived.phases mid
-          → BySteps (by_line bearers (config_of lived.over).elements) (begun from) lived.phases mid
+      said_over : (mid : LinesAt) → BySteps (by_line lines.lines.bearers lines.lines.elements clocked) (at lines) lived.phases mid
+          → BySteps (by_line bearers (config_of lived.over).elements clocked) (begun from) lived.phases mid
       said_over mid said =
-          subst (λ a. BySteps (by_line bearers (config_of lived.over).elements) a lived.phases mid) begins
-          (subst (λ e. BySteps (by_line bearers e) (at lines) lived.phases mid) elements (subst (λ b. BySteps (by_line b lines.elements) (at lines) lived.phases mid) many said))
+          subst (λ a. BySteps (by_line bearers (config_of lived.over).elements clocked) a lived.phases mid) begins
+          (subst (λ e. BySteps (by_line bearers e clocked) (at lines) lived.phases mid) elements (subst (λ b. BySteps (by_line b lines.lines.elements clocked) (at lines) lived.phases mid) many said))
 
-      build : (goes : GoesOn) (shown : Opened → List PhaseDid → List ReportLine) (writes : Writes) (mid : LinesAt)
-          → BySteps (by_line lines.bearers lines.elements) (at lines) lived.phases mid
-          → goes lines.bearers lines.elements mid (at lines') → writes (shown opened lived.did) before (view sink)
-          → LivedBy Stood role image report.hex bearers start new from to before (view sink) closed goes shown writes
-      build goes shown writes mid said goes_on wrote = record {
+      build : (goes : GoesOn) (shown : Opened → List PhaseDid → List ReportLine) (writes : Writes) (mid last : LinesAt) → streams_of last ≡ to
+          → BySteps (by_line lines.lines.bearers lines.lines.elements clocked) (at lines) lived.phases mid
+          → goes lines.lines.bearers lines.lines.elements clocked mid last → writes (shown opened lived.did) before (view sink)
+          → LivedBy Stood role image report.hex bearers clocked start new from to before (view sink) closed goes shown writes
+      build goes shown writes mid last same said goes_on wrote = record {
         over = lived.over;
         recovered = lived.recovered;
         phases = lived.phases;
         did = lived.did;
         mid = mid;
         said = said_over mid said;
-        events = Said.said_events bearers (config_of lived.over).elements lived.phases (begun from) mid (said_over mid said);
-        last = at lines';
-        goes_on = subst (λ e. goes bearers e mid (at lines')) elements (subst (λ b. goes b lines.elements mid (at lines')) many goes_on);
-        streams = refl;
+        events = Said.said_events bearers (config_of lived.over).elements clocked lived.phases (begun from) mid (said_over mid said);
+        last = last;
+        goes_on = subst (λ e. goes bearers e clocked mid last) elements (subst (λ b. goes b lines.lines.elements clocked mid last) many goes_on);
+        streams = same;
         refills = refills;
         drawn = drawn;
         placed = lived.placed;
@@ -97,59 +101,67 @@ module _ {S E K : Type 0} (left : S → Option (List ℕ)) (source_faults : S �
         cause = lived.cause;
       }
 
+      abbrev Gave : LinePhases S E → Type 0
+      Gave mid = BySteps (Said.line_steps clocked left source_faults took told_pieces errors_faults).gives lines lived.phases mid
+
       -- the source came to its end
-      ended : (mid : LineSource S E) → BySteps (Said.line_steps left source_faults took told_pieces errors_faults).gives lines lived.phases mid
-          → Ends mid.bearers mid.elements (at mid) (at lines')
+      ended : (mid : LinePhases S E) → Gave mid
+          → ((used : List ℕ) → IsFrontOf mid.front used → Ends mid.lines.bearers mid.lines.elements (behind used mid) (at lines'))
           → (shown : Opened → List PhaseDid → List ReportLine) (writes : Writes) → writes (shown opened lived.did) before (view sink)
-          → (goes : GoesOn) → ((m : LinesAt) → Ends lines.bearers lines.elements m (at lines') → goes lines.bearers lines.elements m (at lines'))
-          → LivedBy Stood role image report.hex bearers start new from to before (view sink) closed goes shown writes
-      ended mid gave ends shown writes wrote goes is_so =
-          let said = Said.said_all left source_faults took told_pieces errors_faults lines mid lived.phases gave in
-          build goes shown writes (at mid) said.said
-          (is_so (at mid) (subst (λ e. Ends lines.bearers e (at mid) (at lines')) said.elements (subst (λ b. Ends b mid.elements (at mid) (at lines')) said.bearers ends))) wrote
+          → LivedBy Stood role image report.hex bearers clocked start new from to before (view sink) closed at_end shown writes
+      ended mid gave ends shown writes wrote =
+          let said = Said.said_all clocked left source_faults took told_pieces errors_faults [] lines mid lived.phases unused gave in
+          let here = behind said.used mid in
+          build at_end shown writes here (at lines') refl said.said
+          (subst (λ e. Ends lines.lines.bearers e here (at lines')) said.elements
+          (subst (λ b. Ends b mid.lines.elements here (at lines')) said.bearers (ends said.used said.is))) wrote
 
       -- it failed, for this cause
-      gave_up : (mid : LineSource S E) → BySteps (Said.line_steps left source_faults took told_pieces errors_faults).gives lines lived.phases mid
-          → (why : LineStop) → Fails mid.bearers mid.elements why (at mid) (at lines')
+      gave_up : (mid : LinePhases S E) → Gave mid
+          → (why : LineStop) → ((used : List ℕ) → IsFrontOf mid.front used → Fails mid.lines.bearers mid.lines.elements clocked why (behind used mid) (at lines'))
           → (shown : Opened → List PhaseDid → List ReportLine) (writes : Writes) → writes (shown opened lived.did) before (view sink)
-          → (goes : GoesOn) → ((m : LinesAt) → Fails lines.bearers lines.elements why m (at lines') → goes lines.bearers lines.elements m (at lines'))
-          → LivedBy Stood role image report.hex bearers start new from to before (view sink) closed goes shown writes
+          → (goes : GoesOn)
+          → ((m : LinesAt) → Fails lines.lines.bearers lines.lines.elements clocked why m (at lines') → goes lines.lines.bearers lines.lines.elements clocked m (at lines'))
+          → LivedBy Stood role image report.hex bearers clocked start new from to before (view sink) closed goes shown writes
       gave_up mid gave why fails shown writes wrote goes is_so =
-          let said = Said.said_all left source_faults took told_pieces errors_faults lines mid lived.phases gave in
-          build goes shown writes (at mid) said.said
-          (is_so (at mid) (subst (λ e. Fails lines.bearers e why (at mid) (at lines')) said.elements
-          (subst (λ b. Fails b mid.elements why (at mid) (at lines')) said.bearers fails))) wrote
+          let said = Said.said_all clocked left source_faults took told_pieces errors_faults [] lines mid lived.phases unused gave in
+          let here = behind said.used mid in
+          build goes shown writes here (at lines') refl said.said
+          (is_so here (subst (λ e. Fails lines.lines.bearers e clocked why here (at lines')) said.elements
+          (subst (λ b. Fails b mid.lines.elements clocked why here (at lines')) said.bearers (fails said.used said.is)))) wrote
 
       -- it gave none, and nothing moved
-      stayed : (mid : LineSource S E) → BySteps (Said.line_steps left source_faults took told_pieces errors_faults).gives lines lived.phases mid
-          → at lines' ≡ at mid → (shown : Opened → List PhaseDid → List ReportLine) (writes : Writes) → writes (shown opened lived.did) before (view sink)
-          → LivedBy Stood role image report.hex bearers start new from to before (view sink) closed unended shown writes
+      stayed : (mid : LinePhases S E) → Gave mid
+          → ((used : List ℕ) → IsFrontOf mid.front used → behind used lines' ≡ behind used mid) → (shown : Opened → List PhaseDid → List ReportLine) (writes : Writes) → writes (shown opened lived.did) before (view sink)
+          → LivedBy Stood role image report.hex bearers clocked start new from to before (view sink) closed unended shown writes
       stayed mid gave same shown writes wrote =
-          let said = Said.said_all left source_faults took told_pieces errors_faults lines mid lived.phases gave in
-          build unended shown writes (at mid) said.said (inl same) wrote
+          let said = Said.said_all clocked left source_faults took told_pieces errors_faults [] lines mid lived.phases unused gave in
+          let here = behind said.used mid in
+          build unended shown writes here here (ap streams_of (sym (same said.used said.is))) said.said (inl refl) wrote
 
       -- it wasn't asked any more
-      asked : BySteps (Said.line_steps left source_faults took told_pieces errors_faults).gives lines lived.phases lines'
+      asked : Gave lines'
           → (shown : Opened → List PhaseDid → List ReportLine) (writes : Writes) → writes (shown opened lived.did) before (view sink)
-          → (goes : GoesOn) → goes lines.bearers lines.elements (at lines') (at lines')
-          → LivedBy Stood role image report.hex bearers start new from to before (view sink) closed goes shown writes
+          → (goes : GoesOn) → ((m : LinesAt) → goes lines.lines.bearers lines.lines.elements clocked m m)
+          → LivedBy Stood role image report.hex bearers clocked start new from to before (view sink) closed goes shown writes
       asked gave shown writes wrote goes is_so =
-          let said = Said.said_all left source_faults took told_pieces errors_faults lines lines' lived.phases gave in
-          build goes shown writes (at lines') said.said is_so wrote
+          let said = Said.said_all clocked left source_faults took told_pieces errors_faults [] lines lines' lived.phases unused gave in
+          let here = behind said.used lines' in
+          build goes shown writes here here refl said.said (is_so here) wrote
 
     -- what stands in the sink behind the opening
     abbrev Shown : Bool → (Opened → List PhaseDid → List ReportLine) → GoesOn → Writes → Type 0
-    Shown b shown goes writes = LivedBy Stood role image report.hex bearers start new from to before (view sink) b goes shown writes
+    Shown b shown goes writes = LivedBy Stood role image report.hex bearers clocked start new from to before (view sink) b goes shown writes
 
     -- a front of the line of the end was written
-    end_broken : (lived : Lived T.Ended) → opened ≡ W.On (config_of lived.over).iv (config_of lived.over).mark → lines.elements ≡ (config_of lived.over).elements → lines.bearers ≡ bearers
+    end_broken : (lived : Lived T.Ended) → opened ≡ W.On (config_of lived.over).iv (config_of lived.over).mark → lines.lines.elements ≡ (config_of lived.over).elements → lines.lines.bearers ≡ bearers
         → Written (phases_lines report.hex lived.did) (view report.sink) (view report'.sink) → WrittenFront (end_lines opened Z.Ended) (view report'.sink) (view sink)
         → Shown false (ended_lines report.hex) at_end WrittenFront
     end_broken lived is el many wrote front =
         let (mid, gave, ends) = lived.gave in
         subst (λ b. Shown b (ended_lines report.hex) at_end WrittenFront) lived.end
         (ended T.Ended lived is el many mid gave ends.1 (ended_lines report.hex) WrittenFront
-        (laws.end report.hex 1 opened lived.did Z.Ended before (view report.sink) (view report'.sink) (view sink) first wrote front) at_end (λ m e. e))
+        (laws.end report.hex 1 opened lived.did Z.Ended before (view report.sink) (view report'.sink) (view sink) first wrote front))
 
     -- the lines of the opening and of the phases, as a front of themselves
     open_front : (did : List PhaseDid) → Written (phases_lines report.hex did) (view report.sink) (view sink) → WrittenFront (open_lines report.hex opened did) before (view sink)
@@ -157,14 +169,14 @@ module _ {S E K : Type 0} (left : S → Option (List ℕ)) (source_faults : S �
         front_whole (open_lines report.hex opened did) before (view sink)
         (written_more (opened_line 1 opened ∷ []) (phases_lines report.hex did) before (view report.sink) (view sink) first wrote)
 
-    behind_end : (lived : Lived T.Ended) → opened ≡ W.On (config_of lived.over).iv (config_of lived.over).mark → lines.elements ≡ (config_of lived.over).elements → lines.bearers ≡ bearers
+    behind_end : (lived : Lived T.Ended) → opened ≡ W.On (config_of lived.over).iv (config_of lived.over).mark → lines.lines.elements ≡ (config_of lived.over).elements → lines.lines.bearers ≡ bearers
         → WroteTo held pieces faults T.Ended (phases_lines report.hex lived.did) report report'
         → (status : Status) → IsEndTold opened status (view report'.sink) (faults report'.sink) (view sink) (faults sink) → Over status
     behind_end lived is el many wrote V.Done h =
         let (mid, gave, ends) = lived.gave in
         subst (λ b. Shown b (ended_lines report.hex) at_end Written) lived.end
         (ended T.Ended lived is el many mid gave ends.1 (ended_lines report.hex) Written
-        (laws.whole report.hex 1 opened lived.did Z.Ended before (view report.sink) (view report'.sink) (view sink) first wrote.written h.0) at_end (λ m e. e))
+        (laws.whole report.hex 1 opened lived.did Z.Ended before (view report.sink) (view report'.sink) (view sink) first wrote.written h.0))
     behind_end lived is el many wrote V.WriteFault h = inr (inl (lived.end, end_broken lived is el many wrote.written h.0))
     behind_end lived is el many wrote V.Memory h = inr (inr (inl (lived.end, end_broken lived is el many wrote.written h.0)))
     behind_end lived is el many wrote V.ReadFault h = absurd h
@@ -173,10 +185,10 @@ module _ {S E K : Type 0} (left : S → Option (List ℕ)) (source_faults : S �
     behind_end lived is el many wrote V.ErrorsFault h = absurd h
     behind_end lived is el many wrote V.WasReset h = absurd h
 
-    behind_failure : (lived : Lived T.Unread) → opened ≡ W.On (config_of lived.over).iv (config_of lived.over).mark → lines.elements ≡ (config_of lived.over).elements → lines.bearers ≡ bearers
+    behind_failure : (lived : Lived T.Unread) → opened ≡ W.On (config_of lived.over).iv (config_of lived.over).mark → lines.lines.elements ≡ (config_of lived.over).elements → lines.lines.bearers ≡ bearers
         → Written (phases_lines report.hex lived.did) (view report.sink) (view sink)
-        → (mid : LineSource S E) → BySteps (Said.line_steps left source_faults took told_pieces errors_faults).gives lines lived.phases mid
-        → (why : LineStop) → FailsAs left source_faults took told_pieces errors_faults why mid lines' → Over (line_status why)
+        → (mid : LinePhases S E) → BySteps (Said.line_steps clocked left source_faults took told_pieces errors_faults).gives lines lived.phases mid
+        → (why : LineStop) → FailsAs clocked left source_faults took told_pieces errors_faults why mid lines' → Over (line_status why)
     behind_failure lived is el many wrote mid gave L.Source fails =
         subst (λ b. Shown b (open_lines report.hex) (failed L.Source) Written) lived.end
         (gave_up T.Unread lived is el many mid gave L.Source fails (open_lines report.hex) Written
@@ -192,35 +204,35 @@ module _ {S E K : Type 0} (left : S → Option (List ℕ)) (source_faults : S �
         inr (inr (inr (gave_up T.Unread lived is el many mid gave L.Endless fails (open_lines report.hex) WrittenFront (open_front lived.did wrote)
         unended (λ m k. inr (L.Endless, refl, k)))))
     behind_failure lived is el many wrote mid gave L.OtherNode fails =
-        inr (inr (inr (stayed T.Unread lived is el many mid gave fails (open_lines report.hex) WrittenFront (open_front lived.did wrote))))
+        inr (inr (inr (stayed T.Unread lived is el many mid gave (λ used k. (fails used k).0) (open_lines report.hex) WrittenFront (open_front lived.did wrote))))
 
-    behind_cut : (lived : Lived T.Cut) → opened ≡ W.On (config_of lived.over).iv (config_of lived.over).mark → lines.elements ≡ (config_of lived.over).elements → lines.bearers ≡ bearers
+    behind_cut : (lived : Lived T.Cut) → opened ≡ W.On (config_of lived.over).iv (config_of lived.over).mark → lines.lines.elements ≡ (config_of lived.over).elements → lines.lines.bearers ≡ bearers
         → Written (phases_lines report.hex lived.did) (view report.sink) (view sink) → Over V.Cut
     behind_cut lived is el many wrote =
         subst (λ b. Shown b (open_lines report.hex) unasked Written) lived.end
         (asked T.Cut lived is el many lived.gave (open_lines report.hex) Written
-        (written_more (opened_line 1 opened ∷ []) (phases_lines report.hex lived.did) before (view report.sink) (view sink) first wrote) unasked refl)
+        (written_more (opened_line 1 opened ∷ []) (phases_lines report.hex lived.did) before (view report.sink) (view sink) first wrote) unasked (λ m. refl))
 
-    behind_untold : (lived : Lived T.Untold) → opened ≡ W.On (config_of lived.over).iv (config_of lived.over).mark → lines.elements ≡ (config_of lived.over).elements → lines.bearers ≡ bearers
+    behind_untold : (lived : Lived T.Untold) → opened ≡ W.On (config_of lived.over).iv (config_of lived.over).mark → lines.lines.elements ≡ (config_of lived.over).elements → lines.lines.bearers ≡ bearers
         → WrittenFront (phases_lines report.hex lived.did) (view report.sink) (view sink) → (why : WriteStop) → Over (stop_status why)
     behind_untold lived is el many wrote stop.Fault =
         inr (inr (asked T.Untold lived is el many lived.gave (open_lines report.hex) WrittenFront
-        (front_behind (opened_line 1 opened ∷ []) (phases_lines report.hex lived.did) before (view report.sink) (view sink) first wrote) unended (inl refl)))
+        (front_behind (opened_line 1 opened ∷ []) (phases_lines report.hex lived.did) before (view report.sink) (view sink) first wrote) unended (λ m. inl refl)))
     behind_untold lived is el many wrote stop.Memory =
         inr (inr (inr (asked T.Untold lived is el many lived.gave (open_lines report.hex) WrittenFront
-        (front_behind (opened_line 1 opened ∷ []) (phases_lines report.hex lived.did) before (view report.sink) (view sink) first wrote) unended (inl refl))))
+        (front_behind (opened_line 1 opened ∷ []) (phases_lines report.hex lived.did) before (view report.sink) (view sink) first wrote) unended (λ m. inl refl))))
 
     -- whatever its last step was
-    pub over : (last : LastStep) (lived : Lived last) → opened ≡ W.On (config_of lived.over).iv (config_of lived.over).mark → lines.elements ≡ (config_of lived.over).elements → lines.bearers ≡ bearers
+    pub over : (last : LastStep) (lived : Lived last) → opened ≡ W.On (config_of lived.over).iv (config_of lived.over).mark → lines.lines.elements ≡ (config_of lived.over).elements → lines.lines.bearers ≡ bearers
         → WroteTo held pieces faults last (phases_lines report.hex lived.did) report report' → (status : Status)
         → (last ≡ T.Ended → IsEndTold opened status (view report'.sink) (faults report'.sink) (view sink) (faults sink))
-        → ((last ≡ T.Ended → ⊥) → (status ≡ status_behind last lines'.why report'.stopped) × (sink ≡ report'.sink)) → Over status
+        → ((last ≡ T.Ended → ⊥) → (status ≡ status_behind last lines'.lines.why report'.stopped) × (sink ≡ report'.sink)) → Over status
     over T.Ended lived is el many wrote status told up = behind_end lived is el many wrote status (told refl)
     over T.Unread lived is el many wrote status told up =
         let (same, still) = up (λ e. cc) in
         let (mid, gave, fails) = lived.gave in
-        let said = Said.said_all left source_faults took told_pieces errors_faults lines mid lived.phases gave in
-        let (why, f) = subst (λ o. FailsBehind left source_faults took told_pieces errors_faults o mid lines') (said.why ∙ unfailed_yet) fails in
+        let said = Said.said_all clocked left source_faults took told_pieces errors_faults [] lines mid lived.phases unused gave in
+        let (why, f) = subst (λ o. FailsBehind clocked left source_faults took told_pieces errors_faults o mid lines') (said.why ∙ unfailed_yet) fails in
         subst Over (sym (same ∙ ap (λ o. status_behind T.Unread o report'.stopped) f.kept))
         (behind_failure lived is el many (subst (λ k. Written (phases_lines report.hex lived.did) (view report.sink) (view k)) (sym still) wrote.written) mid gave why f.fails)
     over T.Cut lived is el many wrote status told up =
@@ -228,15 +240,16 @@ module _ {S E K : Type 0} (left : S → Option (List ℕ)) (source_faults : S �
         subst Over (sym same) (behind_cut lived is el many (subst (λ k. Written (phases_lines report.hex lived.did) (view report.sink) (view k)) (sym still) wrote.written))
     over T.Untold lived is el many wrote status told up =
         let (same, still) = up (λ e. cc) in
-        subst Over (sym (same ∙ ap (λ o. status_behind T.Untold lines'.why o) wrote.stopped))
+        subst Over (sym (same ∙ ap (λ o. status_behind T.Untold lines'.lines.why o) wrote.stopped))
         (behind_untold lived is el many (subst (λ k. WrittenFront (phases_lines report.hex lived.did) (view report.sink) (view k)) (sym still) wrote.front) wrote.why)
 
     -- where memory ran out
-    pub short : (fell : FellShort role (Said.line_steps left source_faults took told_pieces errors_faults) sinks lines lines' report report' start) → opened ≡ W.On (config_of fell.over).iv (config_of fell.over).mark
-        → lines.elements ≡ (config_of fell.over).elements → lines.bearers ≡ bearers → Written (phases_lines report.hex fell.did) (view report.sink) (view report'.sink)
-        → LivedShort role report.hex bearers start from to before (view report'.sink)
+    pub short : (fell : FellShort role (Said.line_steps clocked left source_faults took told_pieces errors_faults) sinks lines lines' report report' start) → opened ≡ W.On (config_of fell.over).iv (config_of fell.over).mark
+        → lines.lines.elements ≡ (config_of fell.over).elements → lines.lines.bearers ≡ bearers → Written (phases_lines report.hex fell.did) (view report.sink) (view report'.sink)
+        → LivedShort role report.hex bearers clocked start from to before (view report'.sink)
     short fell is elements many wrote =
-        let said = Said.said_all left source_faults took told_pieces errors_faults lines lines' (fell.phases ++ fell.in_hand) fell.gave in
+        let said = Said.said_all clocked left source_faults took told_pieces errors_faults [] lines lines' (fell.phases ++ fell.in_hand) unused fell.gave in
+        let here = behind said.used lines' in
         record {
           over = fell.over;
           recovered = fell.recovered;
@@ -245,10 +258,10 @@ module _ {S E K : Type 0} (left : S → Option (List ℕ)) (source_faults : S �
           one = fell.one;
           did = fell.did;
           placed = fell.placed;
-          last = at lines';
-          said = subst (λ a. BySteps (by_line bearers (config_of fell.over).elements) a (fell.phases ++ fell.in_hand) (at lines')) begins
-              (subst (λ e. BySteps (by_line bearers e) (at lines) (fell.phases ++ fell.in_hand) (at lines')) elements
-              (subst (λ b. BySteps (by_line b lines.elements) (at lines) (fell.phases ++ fell.in_hand) (at lines')) many said.said));
+          last = here;
+          said = subst (λ a. BySteps (by_line bearers (config_of fell.over).elements clocked) a (fell.phases ++ fell.in_hand) here) begins
+              (subst (λ e. BySteps (by_line bearers e clocked) (at lines) (fell.phases ++ fell.in_hand) here) elements
+              (subst (λ b. BySteps (by_line b lines.lines.elements clocked) (at lines) (fell.phases ++ fell.in_hand) here) many said.said));
           streams = refl;
           each = fell.each;
           told = fell.told;

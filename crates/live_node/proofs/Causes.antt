@@ -100,7 +100,7 @@ module _ {K : Type 0} (held : K → Option (List ℕ)) (pieces : K → Option (L
 
 -- The streams of lines.
 
-module _ (role : Role) (image : List ℕ → Type 0) (hex : Bool) (bearers : ℕ) (start : Chip) (from to : StreamsAt) (before after : SinkView) where
+module _ (role : Role) (image : List ℕ → Type 0) (hex : Bool) (bearers : ℕ) (clocked : Bool) (start : Chip) (from to : StreamsAt) (before after : SinkView) where
   -- what a life asked of its streams
   record Kept : Type 0 where
     source : to.source_faults ≡ from.source_faults
@@ -120,10 +120,10 @@ module _ (role : Role) (image : List ℕ → Type 0) (hex : Bool) (bearers : ℕ
 
   module _ (Stood : Standing) (new : Chip) (closed : Bool) (shown : Opened → List PhaseDid → List ReportLine) (writes : Writes) where
     abbrev By : GoesOn → Type 0
-    By goes = LivedBy Stood role image hex bearers start new from to before after closed goes shown writes
+    By goes = LivedBy Stood role image hex bearers clocked start new from to before after closed goes shown writes
 
     base : (goes : GoesOn) (l : By goes) → NoFault (begun from) l.mid
-    base goes l = said_faults bearers (config_of l.over).elements l.phases (begun from) l.mid l.said
+    base goes l = said_faults bearers (config_of l.over).elements clocked l.phases (begun from) l.mid l.said
 
     at_end_kept : By at_end → Kept
     at_end_kept l = then_kept l.mid l.last (base at_end l) (ends_faults bearers (config_of l.over).elements l.mid l.last l.goes_on) l.streams
@@ -135,7 +135,7 @@ module _ (role : Role) (image : List ℕ → Type 0) (hex : Bool) (bearers : ℕ
     unended_kept : By unended → Kept
     unended_kept l = elim l.goes_on [
       | inl same ↦ then_kept l.mid l.last (base unended l) (record { source = ap (λ (a : LinesAt). a.source_faults) same; sink = ap (λ (a : LinesAt). a.sink_faults) same }) l.streams
-      | inr fails ↦ then_kept l.mid l.last (base unended l) (no_fault fails.0 fails.1 l.mid l.last (fails_faults bearers (config_of l.over).elements fails.0 l.mid l.last fails.2)) l.streams
+      | inr fails ↦ then_kept l.mid l.last (base unended l) (no_fault fails.0 fails.1 l.mid l.last (fails_faults bearers (config_of l.over).elements clocked fails.0 l.mid l.last fails.2)) l.streams
     ]
       where
         no_fault : (why : LineStop) → is_no_fault why ≡ true → (a b : LinesAt) → FaultsBy why a b → NoFault a b
@@ -148,7 +148,7 @@ module _ (role : Role) (image : List ℕ → Type 0) (hex : Bool) (bearers : ℕ
     read_causes : By (failed L.Source) → Rose from.source_faults to.source_faults × (to.sink_faults ≡ from.sink_faults)
     read_causes l =
         let b = base (failed L.Source) l in
-        let f = fails_faults bearers (config_of l.over).elements L.Source l.mid l.last l.goes_on in (
+        let f = fails_faults bearers (config_of l.over).elements clocked L.Source l.mid l.last l.goes_on in (
           subst (λ (s : StreamsAt). Rose from.source_faults s.source_faults) l.streams (subst (λ n. Rose n l.last.source_faults) b.source f.0),
           sym (ap (λ (s : StreamsAt). s.sink_faults) l.streams) ∙ f.1 ∙ b.sink,
         )
@@ -156,17 +156,17 @@ module _ (role : Role) (image : List ℕ → Type 0) (hex : Bool) (bearers : ℕ
     errors_causes : By (failed L.Errors) → (to.source_faults ≡ from.source_faults) × Rose from.sink_faults to.sink_faults
     errors_causes l =
         let b = base (failed L.Errors) l in
-        let f = fails_faults bearers (config_of l.over).elements L.Errors l.mid l.last l.goes_on in (
+        let f = fails_faults bearers (config_of l.over).elements clocked L.Errors l.mid l.last l.goes_on in (
           sym (ap (λ (s : StreamsAt). s.source_faults) l.streams) ∙ f.0 ∙ b.source,
           subst (λ (s : StreamsAt). Rose from.sink_faults s.sink_faults) l.streams (subst (λ n. Rose n l.last.sink_faults) b.sink f.1),
         )
 
-  short_kept : LivedShort role hex bearers start from to before after → Kept
+  short_kept : LivedShort role hex bearers clocked start from to before after → Kept
   short_kept l =
-      let h = said_faults bearers (config_of l.over).elements (l.phases ++ l.in_hand) (begun from) l.last l.said in
+      let h = said_faults bearers (config_of l.over).elements clocked (l.phases ++ l.in_hand) (begun from) l.last l.said in
       kept_at l.last l.streams h.source h.sink
 
-  broken_kept : (Stood : Standing) (new : Chip) (closed : Bool) → LivedBroken Stood role image hex bearers start new from to before after closed → Kept
+  broken_kept : (Stood : Standing) (new : Chip) (closed : Bool) → LivedBroken Stood role image hex bearers clocked start new from to before after closed → Kept
   broken_kept Stood new closed h = elim h [
     | inl e ↦ at_end_kept Stood new false (ended_lines hex) WrittenFront e.1
     | inr l ↦ unended_kept Stood new closed (open_lines hex) WrittenFront l
@@ -175,7 +175,7 @@ module _ (role : Role) (image : List ℕ → Type 0) (hex : Bool) (bearers : ℕ
   abbrev Both : Status → Type 0
   Both status = IsSourceCause status from.source_faults to.source_faults × IsErrorsCause status from.sink_faults to.sink_faults
 
-  over_causes : (Stood : Standing) (status : Status) (closed : Bool) (new : Chip) → EndsOver role image hex bearers start from to before after Stood status closed new → Both status
+  over_causes : (Stood : Standing) (status : Status) (closed : Bool) (new : Chip) → EndsOver role image hex bearers clocked start from to before after Stood status closed new → Both status
   over_causes Stood S.Done closed new h = let k = at_end_kept Stood new false (ended_lines hex) Written h in (k.source, k.sink)
   over_causes Stood S.Cut closed new h = let k = unasked_kept Stood new true (open_lines hex) Written h in (k.source, k.sink)
   over_causes Stood S.ReadFault closed new h = read_causes Stood new false (open_lines hex) Written h
@@ -194,7 +194,7 @@ module _ (role : Role) (image : List ℕ → Type 0) (hex : Bool) (bearers : ℕ
   over_causes Stood S.FlashFault closed new h = let k = unread h.unread in (k.source, k.sink)
   over_causes Stood S.WasReset closed new h = let k = unread h.unread in (k.source, k.sink)
 
-  lost_causes : (status : Status) → EndsLost role image hex bearers start from to before after status → Both status
+  lost_causes : (status : Status) → EndsLost role image hex bearers clocked start from to before after status → Both status
   lost_causes S.Memory h = let k = short_kept h in (k.source, k.sink)
   lost_causes S.Done h = absurd h
   lost_causes S.Cut h = absurd h
@@ -205,6 +205,6 @@ module _ (role : Role) (image : List ℕ → Type 0) (hex : Bool) (bearers : ℕ
   lost_causes S.WasReset h = absurd h
 
   pub stream_causes : {F : Type 0} (chip : F → Chip) (Stood : F → Standing) (status : Status) (closed : Bool) (flash : Option F)
-      → EndsAs role image hex bearers start from to before after chip Stood status closed flash → Both status
+      → EndsAs role image hex bearers clocked start from to before after chip Stood status closed flash → Both status
   stream_causes chip Stood status closed (Some flash) h = over_causes (Stood flash) status closed (chip flash) h
   stream_causes chip Stood status closed None h = lost_causes status h

@@ -1,5 +1,5 @@
 -- The phases that a source of lines gave, and the faults of its streams meanwhile.
-use Rattle.std.proofs.Common.{◌≡◌, ◌∙◌, ℕ, List, [], ◌∷◌, Option, refl, ap, subst}
+use Rattle.std.proofs.Common.{◌≡◌, ◌∙◌, ℕ, Bool, List, [], ◌∷◌, Option, refl, sym, ap, subst, inl, inr}
 use Rattle.std.specs.Prelude.{All}
 use Rattle.std.proofs.lemmas.List.Elements.{All-cons, All-nil}
 use Rattle.mesh_base.specs.Outside.{Rose}
@@ -9,47 +9,58 @@ use Rattle.node_bearer.specs.Did.{AreEvents}
 use Rattle.live_lines.proofs.Events.{phase_fits}
 use Rattle.live_lines.specs.Moves.{Does, DoesAll, LinesAt, Move}
 use Rattle.live_lines.specs.Moves.Move.{passes, reads}
-use Rattle.live_lines.specs.States.{lines_at}
+use Rattle.live_lines.specs.States.{lines_at, lines_behind}
 use Rattle.live_lines.specs.Steps.{Ends, Fails, GivesPhase}
 use Rattle.live_lines.specs.Sources.{line_steps as source_steps}
-use Rattle.live_lines.specs.declared.lines.LineSource.{LineSource}
+use Rattle.live_lines.specs.Turns.{IsFrontOf}
+use Rattle.live_lines.specs.declared.line_phases.LinePhases.{LinePhases}
 use Rattle.live_node.specs.Lived.{by_line}
 use Rattle.live_lines.specs.declared.lines.LineStop.{LineStop}
 use Rattle.live_lines.specs.declared.lines.LineStop.TheVariants as L
 
-module _ {S E : Type 0} (left : S → Option (List ℕ)) (source_faults : S → ℕ) (took : E → Option (List ℕ)) (pieces : E → Option (List (List ℕ))) (sink_faults : E → ℕ) where
-  abbrev pub at : LineSource S E → LinesAt
-  at l = lines_at left source_faults took pieces sink_faults l
+module _ {S E : Type 0} (clocked : Bool) (left : S → Option (List ℕ)) (source_faults : S → ℕ) (took : E → Option (List ℕ)) (pieces : E → Option (List (List ℕ))) (sink_faults : E → ℕ) where
+  abbrev pub at : LinePhases S E → LinesAt
+  at l = lines_at left source_faults took pieces sink_faults l.lines
 
-  abbrev pub line_steps : SourceSteps (LineSource S E)
-  line_steps = source_steps left source_faults took pieces sink_faults
+  abbrev pub behind : List ℕ → LinePhases S E → LinesAt
+  behind used l = lines_behind left source_faults took pieces sink_faults used l.lines
 
-  -- phases that were given by lines
-  pub record Said (old : LineSource S E) (phases : List (List (List Event))) (new : LineSource S E) : Type 0 where
-    pub said : BySteps (by_line old.bearers old.elements) (at old) phases (at new)
-    pub why : new.why ≡ old.why
-    pub bearers : new.bearers ≡ old.bearers
-    pub elements : new.elements ≡ old.elements
+  abbrev pub line_steps : SourceSteps (LinePhases S E)
+  line_steps = source_steps clocked left source_faults took pieces sink_faults
 
-  pub said_all : (old new : LineSource S E) (phases : List (List (List Event))) → BySteps line_steps.gives old phases new → Said old phases new
-  said_all old new [] h = record {
-    said = ap at h;
-    why = ap (λ (l : LineSource S E). l.why) h;
-    bearers = ap (λ (l : LineSource S E). l.bearers) h;
-    elements = ap (λ (l : LineSource S E). l.elements) h;
+  -- phases that were given by lines and time, where these octets of a line were used before
+  pub record Said (begun : List ℕ) (old : LinePhases S E) (phases : List (List (List Event))) (new : LinePhases S E) : Type 0 where
+    pub used : List ℕ
+    pub is : IsFrontOf new.front used
+    pub said : BySteps (by_line old.lines.bearers old.lines.elements clocked) (behind begun old) phases (behind used new)
+    pub why : new.lines.why ≡ old.lines.why
+    pub bearers : new.lines.bearers ≡ old.lines.bearers
+    pub elements : new.lines.elements ≡ old.lines.elements
+
+  pub said_all : (begun : List ℕ) (old new : LinePhases S E) (phases : List (List (List Event))) → IsFrontOf old.front begun → BySteps line_steps.gives old phases new → Said begun old phases new
+  said_all begun old new [] is h = record {
+    used = begun;
+    is = subst (λ (l : LinePhases S E). IsFrontOf l.front begun) (sym h) is;
+    said = ap (behind begun) h;
+    why = ap (λ (l : LinePhases S E). l.lines.why) h;
+    bearers = ap (λ (l : LinePhases S E). l.lines.bearers) h;
+    elements = ap (λ (l : LinePhases S E). l.lines.elements) h;
   }
-  said_all old new (p ∷ phases) h =
+  said_all begun old new (p ∷ phases) is h =
       let (mid, step, more) = h in
       let (live, gives) = step in
       let (none, same) = live in
       let (why, bearers, elements) = same in
-      let rest = said_all mid new phases more in
+      let given = gives begun is in
+      let rest = said_all given.0 mid new phases given.1 more in
       record {
+        used = rest.used;
+        is = rest.is;
         said = (
-          at mid,
-          gives,
-          subst (λ b. BySteps (by_line b old.elements) (at mid) phases (at new)) bearers
-              (subst (λ e. BySteps (by_line mid.bearers e) (at mid) phases (at new)) elements rest.said),
+          behind given.0 mid,
+          given.2,
+          subst (λ b. BySteps (by_line b old.lines.elements clocked) (behind given.0 mid) phases (behind rest.used new)) bearers
+              (subst (λ e. BySteps (by_line mid.lines.bearers e clocked) (behind given.0 mid) phases (behind rest.used new)) elements rest.said),
         );
         why = rest.why ∙ why;
         bearers = rest.bearers ∙ bearers;
@@ -57,14 +68,14 @@ module _ {S E : Type 0} (left : S → Option (List ℕ)) (source_faults : S → 
       }
 
 -- the phases of lines have events that a node with so many elements may have
-pub said_events : (bearers elements : ℕ) (phases : List (List (List Event))) (old new : LinesAt) → BySteps (by_line bearers elements) old phases new
+pub said_events : (bearers elements : ℕ) (clocked : Bool) (phases : List (List (List Event))) (old new : LinesAt) → BySteps (by_line bearers elements clocked) old phases new
     → All (All (AreEvents elements)) phases
-said_events bearers elements [] old new h = All-nil (All (AreEvents elements))
-said_events bearers elements (p ∷ phases) old new h =
+said_events bearers elements clocked [] old new h = All-nil (All (AreEvents elements))
+said_events bearers elements clocked (p ∷ phases) old new h =
     let g = h.1 in
     All-cons (All (AreEvents elements)) p phases
     (phase_fits bearers elements p (record { line = g.line; said = g.said; is = g.phase }))
-    (said_events bearers elements phases h.0 new h.2)
+    (said_events bearers elements clocked phases h.0 new h.2)
 
 -- no call of a stream failed
 pub record NoFault (old new : LinesAt) : Type 0 where
@@ -89,18 +100,20 @@ moves_faults bearers elements [] old new h =
 moves_faults bearers elements (move ∷ moves) old new h =
     then old h.0 new (move_faults bearers elements move old h.0 h.1) (moves_faults bearers elements moves h.0 new h.2)
 
-gives_faults : (bearers elements : ℕ) (lists : List (List Event)) (old new : LinesAt) → GivesPhase bearers elements lists old new → NoFault old new
-gives_faults bearers elements lists old new h =
-    let gives = h.gives in
-    let same = gives.says.takes.same in
-    then old gives.mid new (moves_faults bearers elements gives.moves old gives.mid gives.before)
-    (record { source = ap (λ (at : LinesAt). at.source_faults) same; sink = ap (λ (at : LinesAt). at.sink_faults) same })
+gives_faults : (bearers elements : ℕ) (clocked : Bool) (lists : List (List Event)) (old new : LinesAt) → GivesPhase bearers elements clocked lists old new → NoFault old new
+gives_faults bearers elements clocked lists old new h = elim h.gives [
+  | inl gives ↦
+      let same = gives.says.takes.same in
+      then old gives.mid new (moves_faults bearers elements gives.moves old gives.mid gives.before)
+      (record { source = ap (λ (at : LinesAt). at.source_faults) same; sink = ap (λ (at : LinesAt). at.sink_faults) same })
+  | inr time ↦ moves_faults bearers elements time.1.moves old new time.1.before
+]
 
-pub said_faults : (bearers elements : ℕ) (phases : List (List (List Event))) (old new : LinesAt) → BySteps (by_line bearers elements) old phases new → NoFault old new
-said_faults bearers elements [] old new h =
+pub said_faults : (bearers elements : ℕ) (clocked : Bool) (phases : List (List (List Event))) (old new : LinesAt) → BySteps (by_line bearers elements clocked) old phases new → NoFault old new
+said_faults bearers elements clocked [] old new h =
     record { source = ap (λ (at : LinesAt). at.source_faults) h; sink = ap (λ (at : LinesAt). at.sink_faults) h }
-said_faults bearers elements (p ∷ phases) old new h =
-    then old h.0 new (gives_faults bearers elements p old h.0 h.1) (said_faults bearers elements phases h.0 new h.2)
+said_faults bearers elements clocked (p ∷ phases) old new h =
+    then old h.0 new (gives_faults bearers elements clocked p old h.0 h.1) (said_faults bearers elements clocked phases h.0 new h.2)
 
 pub ends_faults : (bearers elements : ℕ) (old new : LinesAt) → Ends bearers elements old new → NoFault old new
 ends_faults bearers elements old new h =
@@ -114,21 +127,25 @@ FaultsBy L.Source old new = Rose old.source_faults new.source_faults × (new.sin
 FaultsBy L.Errors old new = (new.source_faults ≡ old.source_faults) × Rose old.sink_faults new.sink_faults
 FaultsBy _ old new = NoFault old new
 
-pub fails_faults : (bearers elements : ℕ) (why : LineStop) (old new : LinesAt) → Fails bearers elements why old new → FaultsBy why old new
-fails_faults bearers elements L.Source old new h =
-    let before = moves_faults bearers elements h.moves old h.mid h.before in (
-      subst (λ n. Rose n new.source_faults) before.source h.fails.cause,
-      ap (λ (at : LinesAt). at.sink_faults) h.fails.same ∙ before.sink,
-    )
-fails_faults bearers elements L.Errors old new h =
+pub fails_faults : (bearers elements : ℕ) (clocked : Bool) (why : LineStop) (old new : LinesAt) → Fails bearers elements clocked why old new → FaultsBy why old new
+fails_faults bearers elements clocked L.Source old new h =
+    let before = moves_faults bearers elements h.moves old h.mid h.before in
+    elim h.fails [
+      | inl read ↦ (subst (λ n. Rose n new.source_faults) before.source read.cause, ap (λ (at : LinesAt). at.sink_faults) read.same ∙ before.sink)
+      | inr wait ↦ (subst (λ n. Rose n new.source_faults) before.source wait.1.cause, ap (λ (at : LinesAt). at.sink_faults) wait.1.same ∙ before.sink)
+    ]
+fails_faults bearers elements clocked L.Errors old new h =
     let before = moves_faults bearers elements h.moves old h.mid h.before in (
       ap (λ (at : LinesAt). at.source_faults) h.fails.same ∙ before.source,
       subst (λ n. Rose n new.sink_faults) before.sink h.fails.cause,
     )
-fails_faults bearers elements L.Memory old new h =
+fails_faults bearers elements clocked L.Memory old new h =
     then old h.mid new (moves_faults bearers elements h.moves old h.mid h.before)
-    (record { source = ap (λ (at : LinesAt). at.source_faults) h.fails.same; sink = ap (λ (at : LinesAt). at.sink_faults) h.fails.same })
-fails_faults bearers elements L.Endless old new h =
+    (elim h.fails [
+      | inl line ↦ record { source = ap (λ (at : LinesAt). at.source_faults) line.same; sink = ap (λ (at : LinesAt). at.sink_faults) line.same }
+      | inr time ↦ record { source = ap (λ (at : LinesAt). at.source_faults) time.1.same; sink = ap (λ (at : LinesAt). at.sink_faults) time.1.same }
+    ])
+fails_faults bearers elements clocked L.Endless old new h =
     then old h.mid new (moves_faults bearers elements h.moves old h.mid h.before)
     (record { source = ap (λ (at : LinesAt). at.source_faults) h.fails.1; sink = ap (λ (at : LinesAt). at.sink_faults) h.fails.1 })
-fails_faults bearers elements L.OtherNode old new h = absurd h.fails
+fails_faults bearers elements clocked L.OtherNode old new h = absurd h.fails

@@ -8,24 +8,24 @@ use Rattle.live_node.specs.Lived.{FailsAtOpening, LivedBroken, LivedOut, LivedSh
 use Rattle.live_node.specs.declared.status.Status.{Status}
 use Rattle.live_node.specs.declared.status.Status.TheVariants as S
 
-module _ (role : Role) (image : List ℕ → Type 0) (hex : Bool) (bearers : ℕ) (start : Chip) (from to : StreamsAt) (before after : SinkView) where
+module _ (role : Role) (image : List ℕ → Type 0) (hex : Bool) (bearers : ℕ) (clocked : Bool) (start : Chip) (from to : StreamsAt) (before after : SinkView) where
   -- what a life left that ended so, with a flash that failed in it or didn't
   abbrev pub EndsOver : Standing → Status → Bool → Chip → Type 0
-  EndsOver Stood S.Done closed new = LivedOut Stood role image hex bearers start new from to before after
-  EndsOver Stood S.Cut closed new = WasCut Stood role image hex bearers start new from to before after
-  EndsOver Stood S.ReadFault closed new = LivedUnread Stood role image hex bearers start new from to before after
-  EndsOver Stood S.ErrorsFault closed new = LivedUntold Stood role image hex bearers start new from to before after
+  EndsOver Stood S.Done closed new = LivedOut Stood role image hex bearers clocked start new from to before after
+  EndsOver Stood S.Cut closed new = WasCut Stood role image hex bearers clocked start new from to before after
+  EndsOver Stood S.ReadFault closed new = LivedUnread Stood role image hex bearers clocked start new from to before after
+  EndsOver Stood S.ErrorsFault closed new = LivedUntold Stood role image hex bearers clocked start new from to before after
   EndsOver Stood S.WriteFault closed new =
-      Unopened image start new from to before after ⊎ LivedBroken Stood role image hex bearers start new from to before after closed
+      Unopened image start new from to before after ⊎ LivedBroken Stood role image hex bearers clocked start new from to before after closed
   EndsOver Stood S.Memory closed new =
       Unopened image start new from to before after
-      ⊎ (StartFellShort start new from to before after ⊎ LivedBroken Stood role image hex bearers start new from to before after closed)
+      ⊎ (StartFellShort start new from to before after ⊎ LivedBroken Stood role image hex bearers clocked start new from to before after closed)
   EndsOver Stood S.FlashFault closed new = FailsAtOpening image start new from to before after
   EndsOver Stood S.WasReset closed new = ToldReset image start new from to before after
 
   -- and where the flash was lost: memory ran out in the life
   abbrev pub EndsLost : Status → Type 0
-  EndsLost S.Memory = LivedShort role hex bearers start from to before after
+  EndsLost S.Memory = LivedShort role hex bearers clocked start from to before after
   EndsLost _ = ⊥
 
   abbrev pub EndsAs : {F : Type 0} → (F → Chip) → (F → Standing) → Status → Bool → Option F → Type 0

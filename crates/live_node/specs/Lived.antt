@@ -64,25 +64,25 @@ streams_at left source_faults held pieces sink_faults streams = record {
   sink_faults = sink_faults streams.errors;
 }
 
--- a phase that the next line which says an event is
-abbrev pub by_line : ℕ → ℕ → LinesAt → List (List Event) → LinesAt → Type 0
-by_line bearers elements old lists new = GivesPhase bearers elements lists old new
+-- A phase that the next line is which says an event; where the source tells time, time that passed is one too.
+abbrev pub by_line : ℕ → ℕ → Bool → LinesAt → List (List Event) → LinesAt → Type 0
+by_line bearers elements clocked old lists new = GivesPhase bearers elements clocked lists old new
 
--- How the lines of a source go on behind the last phase of a life, of a node with so many bearers and elements.
+-- How the lines of a source go on behind the last phase of a life, of a node with so many bearers and elements, where the source tells time or not.
 abbrev pub GoesOn : Type 1
-GoesOn = ℕ → ℕ → LinesAt → LinesAt → Type 0
+GoesOn = ℕ → ℕ → Bool → LinesAt → LinesAt → Type 0
 
 -- it came to its end
 abbrev pub at_end : GoesOn
-at_end bearers elements old new = Ends bearers elements old new
+at_end bearers elements clocked old new = Ends bearers elements old new
 
 -- it wasn't asked for one
 abbrev pub unasked : GoesOn
-unasked bearers elements old new = new ≡ old
+unasked bearers elements clocked old new = new ≡ old
 
 -- it failed, by this cause
 abbrev pub failed : LineStop → GoesOn
-failed why bearers elements old new = Fails bearers elements why old new
+failed why bearers elements clocked old new = Fails bearers elements clocked why old new
 
 -- no stream failed
 abbrev pub is_no_fault : LineStop → Bool
@@ -92,7 +92,8 @@ is_no_fault _ = true
 
 -- it wasn't asked, or gave no phase though no stream failed
 abbrev pub unended : GoesOn
-unended bearers elements old new = (new ≡ old) ⊎ ((why : LineStop) × (is_no_fault why ≡ true) × Fails bearers elements why old new)
+unended bearers elements clocked old new =
+    (new ≡ old) ⊎ ((why : LineStop) × (is_no_fault why ≡ true) × Fails bearers elements clocked why old new)
 
 -- what was written of the lines of a life: all of them, or a front
 abbrev pub Writes : Type 1
@@ -110,7 +111,7 @@ module _ (hex : Bool) where
 abbrev pub Standing : Type 1
 Standing = List StoreRecord → MachineView → Type 0
 
-module _ (Stood : Standing) (role : Role) (image : List ℕ → Type 0) (hex : Bool) (bearers : ℕ) (start new : Chip) (from to : StreamsAt)
+module _ (Stood : Standing) (role : Role) (image : List ℕ → Type 0) (hex : Bool) (bearers : ℕ) (clocked : Bool) (start new : Chip) (from to : StreamsAt)
     (before after : SinkView) where
   -- A life was opened over what the flash recovered. Its phases are those that the lines of the source say, one after another, of events that a
   -- node with its elements may have. What was written are its lines: of all that its machine handled, to the last entry, also where the life is
@@ -121,10 +122,10 @@ module _ (Stood : Standing) (role : Role) (image : List ℕ → Type 0) (hex : B
     pub phases : List (List (List Event))
     pub did : List PhaseDid
     pub mid : LinesAt
-    pub said : BySteps (by_line bearers (config_of over).elements) (begun from) phases mid
+    pub said : BySteps (by_line bearers (config_of over).elements clocked) (begun from) phases mid
     pub events : All (All (AreEvents (config_of over).elements)) phases
     pub last : LinesAt
-    pub goes_on : goes bearers (config_of over).elements mid last
+    pub goes_on : goes bearers (config_of over).elements clocked mid last
     pub streams : streams_of last ≡ to
     pub refills : ℕ
     pub drawn : ClosedView
@@ -157,7 +158,7 @@ module _ (Stood : Standing) (role : Role) (image : List ℕ → Type 0) (hex : B
   LivedBroken closed =
       ((closed ≡ false) × LivedBy false at_end (ended_lines hex) WrittenFront) ⊎ LivedBy closed unended (open_lines hex) WrittenFront
 
-module _ (role : Role) (hex : Bool) (bearers : ℕ) (start : Chip) (from to : StreamsAt) (before after : SinkView) where
+module _ (role : Role) (hex : Bool) (bearers : ℕ) (clocked : Bool) (start : Chip) (from to : StreamsAt) (before after : SinkView) where
   -- Memory ran out in a life: the lines of its opening and of the phases that were through were written, whose entries were handled in order
   -- over what the flash recovered. One phase more may have come.
   pub record LivedShort : Type 0 where
@@ -168,7 +169,7 @@ module _ (role : Role) (hex : Bool) (bearers : ℕ) (start : Chip) (from to : St
     pub one : length in_hand ≤ 1
     pub did : List PhaseDid
     pub last : LinesAt
-    pub said : BySteps (by_line bearers (config_of over).elements) (begun from) (phases ++ in_hand) last
+    pub said : BySteps (by_line bearers (config_of over).elements clocked) (begun from) (phases ++ in_hand) last
     pub streams : streams_of last ≡ to
     pub placed : ArePlaced 0 did
     pub each : AreToldEach false phases did

@@ -23,18 +23,17 @@ ghost use Rattle.live_node.specs.Lived.{FailsAtOpening, LivedBroken, LivedOut, L
 use crate::ending::end_status;
 use crate::status::{Ended, Status, Streams, stop_status};
 use flash_model::Flash;
-use live_lines::LineSource;
 use live_lines::held::Held;
+use live_lines::{ClockedSource, LinePhases, LineSource};
 use live_report::LiveReport;
 use live_report::laws::{life_law, told_law};
 use locked_node::Known;
 use machine_contract::{Machine, StartFault, Started};
-use mesh_base::outside::{Sink, Source};
+use mesh_base::outside::Sink;
 use mesh_machine::MeshMachine;
 use mesh_node::{Beginning, Gate, live_on};
 use mesh_types::report::Opened;
 use report_writer::write_opening;
-use script_events::OutsideNode;
 use std::alloc::Global;
 use std::sync::Wait;
 use std::thread::Threads;
@@ -81,30 +80,20 @@ fn tell_reset<F, S, E, K: Sink>(
     unopened(status, flash, streams)
 }
 
-/// The lines of a source, for a machine.
-fn lines_for<M: Machine, S: Source + Drop, E: Sink + Drop>(
+/// The phases of a source, for a machine.
+fn phases_for<M: Machine, S: ClockedSource + Drop, E: Sink + Drop>(
     alloc: Global,
     held: Held,
     machine: &M,
     bearers: u8,
     source: S,
     errors: E,
-) -> LineSource<S, E>
+) -> LinePhases<S, E>
     requires held { held ≡ [] }
-    ensures streams { (result.source ≡ source) × (result.errors ≡ errors) }
+    ensures streams { (result.lines.source ≡ source) × (result.lines.errors ≡ errors) }
     ensures begun { IsBegun result bearers (M.view machine.now).elements }
 {
-    LineSource {
-        source,
-        errors,
-        held,
-        number: 0,
-        outside: OutsideNode::new(),
-        why: None,
-        bearers,
-        elements: machine.elements(),
-        alloc,
-    }
+    LinePhases::with_held(alloc, held, source, errors, bearers, machine.elements())
 }
 
 /// Runs a life that was opened, whose line was written.
@@ -112,7 +101,7 @@ fn go_on<
     M: Machine,
     R: Threads + Wait + Sync,
     F: Flash + Send + Drop,
-    S: Source + Drop,
+    S: ClockedSource + Drop,
     E: Sink + Drop,
     K: Sink + Drop,
     G: Gate,
@@ -122,7 +111,7 @@ fn go_on<
     gate: &G,
     beginning: Beginning<M, F>,
     opened: Opened,
-    lines: LineSource<S, E>,
+    lines: LinePhases<S, E>,
     report: LiveReport<K>,
 ) -> Ended<F, S, E, K>
     requires started { IsStarted M.view M.stands (F.chip beginning.start) (F.chip beginning.flash) beginning.started }
@@ -133,9 +122,9 @@ fn go_on<
     requires report { report.stopped ≡ None }
     ensures ended { (before : SinkView)
         → Written (opened_line 1 opened ∷ []) before (view_of K.held K.pieces report.sink)
-        → EndsAs M.role M.image report.hex beginning.bearers (F.chip beginning.start)
+        → EndsAs M.role M.image report.hex beginning.bearers S.clocked (F.chip beginning.start)
         (streams_at S.left S.faults E.held E.pieces E.faults
-        (record { source = lines.source; errors = lines.errors; sink = report.sink }))
+        (record { source = lines.lines.source; errors = lines.lines.errors; sink = report.sink }))
         (streams_at S.left S.faults E.held E.pieces E.faults result.streams) before
         (view_of K.held K.pieces result.streams.sink) F.chip (Stood M.view M.stands F.chip) result.status
         result.closed result.flash }
@@ -150,6 +139,7 @@ fn go_on<
     let mut lines = lines;
     let mut report = report;
     let lived = live_on(rt, alloc, gate, beginning, &mut lines, &mut report);
+    let LinePhases { lines, .. } = lines;
     let LineSource {
         source,
         errors,
@@ -193,7 +183,7 @@ fn run_started<
     M: Machine,
     R: Threads + Wait + Sync,
     F: Flash + Send + Drop,
-    S: Source + Drop,
+    S: ClockedSource + Drop,
     E: Sink + Drop,
     K: Sink + Drop,
     G: Gate,
@@ -208,7 +198,7 @@ fn run_started<
     requires started { IsStarted M.view M.stands (F.chip beginning.start) (F.chip beginning.flash) beginning.started }
     requires kept { Keeps (F.chip beginning.start) (F.chip beginning.flash) }
     requires few { beginning.bearers ≤ BEARERS }
-    ensures ended { EndsAs M.role M.image hex beginning.bearers (F.chip beginning.start)
+    ensures ended { EndsAs M.role M.image hex beginning.bearers S.clocked (F.chip beginning.start)
         (streams_at S.left S.faults E.held E.pieces E.faults streams)
         (streams_at S.left S.faults E.held E.pieces E.faults result.streams)
         (view_of K.held K.pieces streams.sink) (view_of K.held K.pieces result.streams.sink) F.chip
@@ -238,7 +228,7 @@ fn run_started<
             return unopened(stop_status(stop), beginning.flash, streams);
         }
     }
-    let lines = lines_for(
+    let lines = phases_for(
         alloc,
         held,
         &beginning.started.machine,
@@ -255,7 +245,7 @@ fn run_machine<
     M: Machine,
     R: Threads + Wait + Sync,
     F: Flash + Send + Drop,
-    S: Source + Drop,
+    S: ClockedSource + Drop,
     E: Sink + Drop,
     K: Sink + Drop,
     G: Gate,
@@ -272,7 +262,7 @@ fn run_machine<
     requires node { IsNodeFlash M.image (F.chip flash) }
     requires began { (F.chip flash).setting.faults ≤ (F.chip flash).faults }
     requires few { bearers ≤ BEARERS }
-    ensures ended { EndsAs M.role M.image hex bearers (F.chip flash)
+    ensures ended { EndsAs M.role M.image hex bearers S.clocked (F.chip flash)
         (streams_at S.left S.faults E.held E.pieces E.faults streams)
         (streams_at S.left S.faults E.held E.pieces E.faults result.streams)
         (view_of K.held K.pieces streams.sink) (view_of K.held K.pieces result.streams.sink) F.chip
@@ -303,7 +293,8 @@ fn run_machine<
 }
 
 /// Runs one life of a node with so many bearers: it is opened over what its flash recovers; each line of the source that says an event is a phase,
-/// and what became of it is written before the next line is read. At the end of the source the life ends in order.
+/// and what became of it is written before the next line is read. Where the source tells time, time that passed is a phase between lines, as the
+/// line `b0 tick N` would be. At the end of the source the life ends in order.
 ///
 /// The report is that of the life with number 1: its opening, for each phase a line for each entry and then one for each job that was done in it,
 /// and its end. A life that is given up has no line of an end. With `hex` the octets of network PDUs are shown. A line that is wrong is told on
@@ -315,7 +306,7 @@ fn run_machine<
 pub fn run_node<
     R: Threads + Wait + Sync,
     F: Flash + Send + Drop,
-    S: Source + Drop,
+    S: ClockedSource + Drop,
     E: Sink + Drop,
     K: Sink + Drop,
     G: Gate,
@@ -336,25 +327,25 @@ pub fn run_node<
     // What each status says of the life, of its lines and of what was written.
     ensures done { result.status ≡ Status.Done
         → IsSomeAnd result.flash
-        (λ f. LivedOut (Stood shown Stands F.chip f) (node_role node_layers) IsNode hex bearers (F.chip flash) (F.chip f)
+        (λ f. LivedOut (Stood shown Stands F.chip f) (node_role node_layers) IsNode hex bearers S.clocked (F.chip flash) (F.chip f)
         (streams_at S.left S.faults E.held E.pieces E.faults streams)
         (streams_at S.left S.faults E.held E.pieces E.faults result.streams) (view_of K.held K.pieces streams.sink)
         (view_of K.held K.pieces result.streams.sink)) }
     ensures cut { result.status ≡ Status.Cut
         → IsSomeAnd result.flash
-        (λ f. WasCut (Stood shown Stands F.chip f) (node_role node_layers) IsNode hex bearers (F.chip flash) (F.chip f)
+        (λ f. WasCut (Stood shown Stands F.chip f) (node_role node_layers) IsNode hex bearers S.clocked (F.chip flash) (F.chip f)
         (streams_at S.left S.faults E.held E.pieces E.faults streams)
         (streams_at S.left S.faults E.held E.pieces E.faults result.streams) (view_of K.held K.pieces streams.sink)
         (view_of K.held K.pieces result.streams.sink)) }
     ensures read_fault { result.status ≡ Status.ReadFault
         → IsSomeAnd result.flash
-        (λ f. LivedUnread (Stood shown Stands F.chip f) (node_role node_layers) IsNode hex bearers (F.chip flash) (F.chip f)
+        (λ f. LivedUnread (Stood shown Stands F.chip f) (node_role node_layers) IsNode hex bearers S.clocked (F.chip flash) (F.chip f)
         (streams_at S.left S.faults E.held E.pieces E.faults streams)
         (streams_at S.left S.faults E.held E.pieces E.faults result.streams) (view_of K.held K.pieces streams.sink)
         (view_of K.held K.pieces result.streams.sink)) }
     ensures errors_fault { result.status ≡ Status.ErrorsFault
         → IsSomeAnd result.flash
-        (λ f. LivedUntold (Stood shown Stands F.chip f) (node_role node_layers) IsNode hex bearers (F.chip flash) (F.chip f)
+        (λ f. LivedUntold (Stood shown Stands F.chip f) (node_role node_layers) IsNode hex bearers S.clocked (F.chip flash) (F.chip f)
         (streams_at S.left S.faults E.held E.pieces E.faults streams)
         (streams_at S.left S.faults E.held E.pieces E.faults result.streams) (view_of K.held K.pieces streams.sink)
         (view_of K.held K.pieces result.streams.sink)) }
@@ -363,7 +354,7 @@ pub fn run_node<
         (λ f. Unopened IsNode (F.chip flash) (F.chip f) (streams_at S.left S.faults E.held E.pieces E.faults streams)
         (streams_at S.left S.faults E.held E.pieces E.faults result.streams) (view_of K.held K.pieces streams.sink)
         (view_of K.held K.pieces result.streams.sink)
-        ⊎ LivedBroken (Stood shown Stands F.chip f) (node_role node_layers) IsNode hex bearers (F.chip flash) (F.chip f)
+        ⊎ LivedBroken (Stood shown Stands F.chip f) (node_role node_layers) IsNode hex bearers S.clocked (F.chip flash) (F.chip f)
         (streams_at S.left S.faults E.held E.pieces E.faults streams)
         (streams_at S.left S.faults E.held E.pieces E.faults result.streams) (view_of K.held K.pieces streams.sink)
         (view_of K.held K.pieces result.streams.sink) result.closed) }
@@ -375,13 +366,13 @@ pub fn run_node<
         ⊎ (StartFellShort (F.chip flash) (F.chip f) (streams_at S.left S.faults E.held E.pieces E.faults streams)
         (streams_at S.left S.faults E.held E.pieces E.faults result.streams) (view_of K.held K.pieces streams.sink)
         (view_of K.held K.pieces result.streams.sink)
-        ⊎ LivedBroken (Stood shown Stands F.chip f) (node_role node_layers) IsNode hex bearers (F.chip flash) (F.chip f)
+        ⊎ LivedBroken (Stood shown Stands F.chip f) (node_role node_layers) IsNode hex bearers S.clocked (F.chip flash) (F.chip f)
         (streams_at S.left S.faults E.held E.pieces E.faults streams)
         (streams_at S.left S.faults E.held E.pieces E.faults result.streams) (view_of K.held K.pieces streams.sink)
         (view_of K.held K.pieces result.streams.sink) result.closed)) }
     ensures lost { result.flash ≡ None
         → (result.status ≡ Status.Memory)
-        × LivedShort (node_role node_layers) hex bearers (F.chip flash)
+        × LivedShort (node_role node_layers) hex bearers S.clocked (F.chip flash)
         (streams_at S.left S.faults E.held E.pieces E.faults streams)
         (streams_at S.left S.faults E.held E.pieces E.faults result.streams) (view_of K.held K.pieces streams.sink)
         (view_of K.held K.pieces result.streams.sink) }

@@ -1,1 +1,4 @@
 pub mod Numbers
+pub mod Failing
+pub mod Answering
+pub mod Running

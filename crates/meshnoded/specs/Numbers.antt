@@ -13,5 +13,6 @@ failure_number F.Keys = 15
 failure_number (F.Open fault) = 16
 failure_number (F.Show fault) = 16
 failure_number (F.Make fault) = 17
+failure_number (F.Clock error) = 18
 failure_number (F.Life status) = exit_number status
 failure_number (F.LifeAndFlash status) = exit_number status

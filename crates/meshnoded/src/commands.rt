@@ -1,36 +1,62 @@
-//! What each command does.
+//! What each command does, over whatever its streams and files are.
 #![tactic(auto)]
 
+ghost use Rattle.std.specs.Prelude.{◌≡◌, ◌⊎◌, ℕ, IfErr, IfOk, OnErr, OnOk};
 ghost use Rattle.daemon_words.specs.Commands.{HasNumbers};
-ghost use Rattle.daemon_words.specs.Numbers.{IsBearers, IsNumbers};
+ghost use Rattle.daemon_words.specs.Numbers.{IsNumbers};
+ghost use Rattle.mesh_base.specs.Outside.{Rose};
+ghost use Rattle.report_writer.specs.Handing.{HandedFront, IsHanded};
+ghost use Rattle.report_writer.specs.Writing.{view_of};
+ghost use Rattle.meshnoded.specs.Answering.{IsMade, IsOpened, IsTold, IsUntold};
+ghost use Rattle.meshnoded.specs.declared.failure.Failure.TheVariants as failures;
 
 use crate::failure::Failure;
-use daemon_words::{
-    Command, HELP, NodeKeys, NodeNumbers, RunWays, VERSION, keys_of, provision_with,
-};
-use live_node::{Status, Streams, run_node};
+use crate::files::NodeFiles;
+use daemon_words::{HELP, NodeKeys, NodeNumbers, VERSION, keys_of, provision_with};
+use flash_model::Flash;
 use mesh_base::outside::{Sink, Source};
-use mesh_base::standard::{StdSink, StdSource};
-use mesh_node::FreeGate;
-use node_file::{make_node, open_node};
+use node_file::NodeFlash;
 use node_state::show;
 use report_writer::write_text;
 use std::alloc::Global;
-use std::fs::File;
-use std::io::{Read, Write};
-use std::rt::Files;
-use std::sync::Wait;
-use std::thread::Threads;
 
 /// More octets than two keys have with what parts them.
 const MOST_OCTETS: usize = 256;
 
 /// Writes a text.
-fn print<K: Sink>(sink: &mut K, text: &[u8]) -> Result<(), Failure> {
+pub fn print<K: Sink>(sink: &mut K, text: &[u8]) -> Result<(), Failure>
+    ensures ok { OnOk result (IsHanded text.now (view_of K.held K.pieces sink.old) (view_of K.held K.pieces sink.new)) }
+    ensures err { IfErr result
+        (λ failure. (failure ≡ failures.Write)
+        × HandedFront text.now (view_of K.held K.pieces sink.old) (view_of K.held K.pieces sink.new)) }
+    ensures cause { OnErr result (Rose (K.faults sink.old) (K.faults sink.new)) }
+    ensures no_fault { OnOk result (K.faults sink.new ≡ K.faults sink.old) }
+{
     match write_text(sink, text) {
         Ok(()) => Ok(()),
         Err(_) => Err(Failure::Write),
     }
+}
+
+/// `--help`: the commands are told.
+pub fn tell_help<K: Sink>(sink: &mut K) -> Result<(), Failure>
+    ensures ok { OnOk result (IsHanded HELP.now (view_of K.held K.pieces sink.old) (view_of K.held K.pieces sink.new)) }
+    ensures err { IfErr result
+        (λ failure. (failure ≡ failures.Write)
+        × HandedFront HELP.now (view_of K.held K.pieces sink.old) (view_of K.held K.pieces sink.new)) }
+{
+    print(sink, HELP.as_bytes())
+}
+
+/// `--version`: the version is told.
+pub fn tell_version<K: Sink>(sink: &mut K) -> Result<(), Failure>
+    ensures ok { OnOk result
+        (IsHanded VERSION.now (view_of K.held K.pieces sink.old) (view_of K.held K.pieces sink.new)) }
+    ensures err { IfErr result
+        (λ failure. (failure ≡ failures.Write)
+        × HandedFront VERSION.now (view_of K.held K.pieces sink.old) (view_of K.held K.pieces sink.new)) }
+{
+    print(sink, VERSION.as_bytes())
 }
 
 /// The keys that a source has, up to its end.
@@ -51,84 +77,44 @@ fn read_keys<S: Source>(alloc: Global, source: &mut S) -> Result<NodeKeys, Failu
     Err(Failure::Keys)
 }
 
-/// Makes the file of a new node.
-fn init<R: AllocGlobal + Files<File = File>, S: Source>(
-    rt: &R,
+/// `init`: the file of a new node is made, with the keys that a source has.
+pub fn init<H: NodeFiles, S: Source>(
+    files: &H,
+    alloc: Global,
     file: &str,
     numbers: NodeNumbers,
     source: &mut S,
 ) -> Result<(), Failure>
     requires numbers { IsNumbers numbers }
+    ensures made { OnOk result (IsMade (H.makes files.now file.now) numbers) }
 {
-    let keys = read_keys(rt.alloc(), source)?;
-    make_node(rt, rt.alloc(), file, &provision_with(numbers, keys))?;
+    let keys = read_keys(alloc, source)?;
+    files.make(alloc, file, &provision_with(numbers, keys))?;
     Ok(())
 }
 
-/// Runs the node of a file.
-fn run<
-    R: AllocGlobal + Threads + Wait + Sync + Files<File = File>,
-    S: Source + Drop,
-    E: Sink + Drop,
-    K: Sink + Drop,
->(rt: &R, file: &str, ways: RunWays, source: S, errors: E, sink: K) -> Result<(), Failure>
-    requires bearers { IsBearers ways.bearers }
-{
-    let flash = open_node(rt, rt.alloc(), file)?;
-    let streams = Streams {
-        source,
-        errors,
-        sink,
-    };
-    let ended = run_node(
-        rt,
-        rt.alloc(),
-        flash,
-        ways.bearers,
-        ways.hex,
-        streams,
-        &FreeGate,
-    );
-    if ended.status == Status::Done {
-        Ok(())
-    } else if ended.closed && ended.status != Status::Cut {
-        Err(Failure::LifeAndFlash(ended.status))
-    } else {
-        Err(Failure::Life(ended.status))
-    }
-}
-
-/// Tells what a file stores.
-fn tell<R: AllocGlobal + Files<File = File>, K: Sink>(
-    rt: &R,
+/// `show`: what the file stores is told, but no key.
+pub fn tell<H: NodeFiles, K: Sink>(
+    files: &H,
+    alloc: Global,
     file: &str,
     sink: &mut K,
-) -> Result<(), Failure> {
-    let mut flash = open_node(rt, rt.alloc(), file)?;
-    let text = show(rt.alloc(), &mut flash)?;
+) -> Result<(), Failure>
+    ensures ok { OnOk result
+        (IsTold (⟦<NodeFlash as Flash>⟧.chip) (H.opens files.now file.now)
+        (λ text. IsHanded text (view_of K.held K.pieces sink.old) (view_of K.held K.pieces sink.new))) }
+    ensures err { IfErr result
+        (IsUntold (⟦<NodeFlash as Flash>⟧.chip) (H.opens files.now file.now) (view_of K.held K.pieces sink.old) (view_of K.held K.pieces sink.new)) }
+{
+    let mut flash = files.open(alloc, file)?;
+    let text = show(alloc, &mut flash)?;
     print(sink, text.as_slice())
 }
 
-/// Does what a command asks for.
-pub(crate) fn run_command<
-    R: AllocGlobal + Threads + Wait + Sync + Files<File = File>,
-    I: Read + Drop,
-    O: Write + Drop,
-    E: Write + Drop,
->(rt: &R, command: Command, file: &str, stdin: I, stdout: O, stderr: E) -> Result<(), Failure>
-    requires numbers { HasNumbers command }
+/// `check`: it is told by the answer whether the file holds a node.
+pub fn check<H: NodeFiles>(files: &H, alloc: Global, file: &str) -> Result<(), Failure>
+    ensures opened { OnOk result (IsOpened (⟦<NodeFlash as Flash>⟧.chip) (H.opens files.now file.now)) }
 {
-    let mut source = StdSource::new(stdin);
-    let mut sink = StdSink::new(stdout);
-    match command {
-        Command::Init(numbers) => init(rt, file, numbers, &mut source),
-        Command::Run(ways) => run(rt, file, ways, source, StdSink::new(stderr), sink),
-        Command::Show => tell(rt, file, &mut sink),
-        Command::Check => {
-            open_node(rt, rt.alloc(), file)?;
-            Ok(())
-        }
-        Command::Help => print(&mut sink, HELP.as_bytes()),
-        Command::Version => print(&mut sink, VERSION.as_bytes()),
-    }
+    files.open(alloc, file)?;
+    Ok(())
 }

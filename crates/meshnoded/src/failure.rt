@@ -2,12 +2,15 @@
 #![tactic(auto)]
 
 ghost use Rattle.std.specs.Prelude.{◌≡◌};
+ghost use Rattle.meshnoded.specs.Failing.{make_failure, open_failure, show_failure};
+ghost use Rattle.meshnoded.specs.declared.failure.Failure.TheVariants as failures;
 
 use live_node::Status;
 use node_file::{MakeFault, OpenFault};
 use node_state::ShowFault;
 use node_store::ImageFault;
 use std::alloc::AllocError;
+use std::io;
 use thiserror::Error;
 
 /// Why the program ends with another number than 0.
@@ -37,6 +40,9 @@ pub enum Failure {
     /// What the file stores isn't told.
     #[error("nofile: {0}")]
     Show(ImageFault),
+    /// There is no thread to read with, or no clock.
+    #[error("noclock: {0}")]
+    Clock(io::Error),
     /// A life ended so.
     #[error("{0}")]
     Life(Status),
@@ -46,12 +52,16 @@ pub enum Failure {
 }
 
 impl From<AllocError> for Failure {
+    ghost from_gives = { λ _ e. e ≡ failures.Memory };
+
     fn from(_: AllocError) -> Self {
         Failure::Memory
     }
 }
 
 impl From<OpenFault> for Failure {
+    ghost from_gives = { λ fault e. e ≡ open_failure fault };
+
     fn from(fault: OpenFault) -> Self {
         match fault {
             OpenFault::Memory => Failure::Memory,
@@ -61,6 +71,8 @@ impl From<OpenFault> for Failure {
 }
 
 impl From<MakeFault> for Failure {
+    ghost from_gives = { λ fault e. e ≡ make_failure fault };
+
     fn from(fault: MakeFault) -> Self {
         match fault {
             MakeFault::Memory => Failure::Memory,
@@ -70,6 +82,8 @@ impl From<MakeFault> for Failure {
 }
 
 impl From<ShowFault> for Failure {
+    ghost from_gives = { λ fault e. e ≡ show_failure fault };
+
     fn from(fault: ShowFault) -> Self {
         match fault {
             ShowFault::Image(fault) => Failure::Show(fault),
@@ -93,6 +107,7 @@ impl Failure {
             Failure::Keys => 15,
             Failure::Open(_) | Failure::Show(_) => 16,
             Failure::Make(_) => 17,
+            Failure::Clock(_) => 18,
             Failure::Life(status) | Failure::LifeAndFlash(status) => status.number(),
         }
     }

@@ -1,8 +1,7 @@
 //! Lines of a living node: the phases and what is told of wrong lines, in whatever pieces a source gives its octets, and where a stream fails.
 
-use live_lines::{LineSource, LineStop};
+use live_lines::{ClockedSource, LinePhases, LineStop};
 use mesh_base::memory::{MemSink, MemSource};
-use mesh_base::outside::Source;
 use mesh_base::standard::StdSource;
 use mesh_types::events::Event;
 use std::alloc::Global;
@@ -28,15 +27,15 @@ fn ticks_of(lists: &[Vec<Event>]) -> Option<u32> {
 }
 
 /// The phases of the lines of a source, and what is told of wrong ones.
-fn all_of<S: Source + Drop>(alloc: Global, source: S) -> Option<(Vec<u32>, Vec<u8>)> {
+fn all_of<S: ClockedSource + Drop>(alloc: Global, source: S) -> Option<(Vec<u32>, Vec<u8>)> {
     let errors = MemSink::new(alloc, &[]).ok()?;
-    let mut lines = LineSource::new(alloc, source, errors, 1, 1).ok()?;
+    let mut lines = LinePhases::new(alloc, source, errors, 1, 1).ok()?;
     let mut phases = Vec::new(alloc);
     for _ in 0..16 {
         match lines.next_phase().ok()? {
             Some(lists) => phases.push(ticks_of(lists.as_slice())?).ok()?,
             None => {
-                let told = lines.errors.octets().to_vec(alloc).ok()?;
+                let told = lines.lines.errors.octets().to_vec(alloc).ok()?;
                 return Some((phases, told));
             }
         }
@@ -67,7 +66,7 @@ fn long_line(alloc: Global, octets: usize) -> Option<Vec<u8>> {
 fn stop_of(alloc: Global, source: &[u32], sink: &[u32]) -> Option<LineStop> {
     let errors = MemSink::new(alloc, sink).ok()?;
     let source = MemSource::new(b"life\n", source);
-    let mut lines = LineSource::new(alloc, source, errors, 1, 1).ok()?;
+    let mut lines = LinePhases::new(alloc, source, errors, 1, 1).ok()?;
     lines.next_phase().err()
 }
 

@@ -18,6 +18,7 @@ pushed lists i k old new event place within read is =
 pub returns-in_ok-push : goal.returns-in_ok-push
 returns-in_ok-push c = record {
   ok =
-      pushed c.args.lists.now.items c.from-at.result c.args.happening.bearer c.index_mut.result.now c.push.new.self c.args.happening.event
-      c.from-at.ensures (omega arith) c.index_mut.ensures.value c.in_ok-push.ensures.items;
+      pushed c.args.lists.now.items c.from-at.result c.args.happening.bearer c.index_mut-list.result.now c.push.new.self c.args.happening.event
+      c.from-at.ensures (omega arith) c.index_mut-list.ensures.value
+      (c.in_ok-push.ensures.items ∙ ap (λ (l : List Event). l ++ c.args.happening.event ∷ []) c.reserve_exact.ensures.items);
 }

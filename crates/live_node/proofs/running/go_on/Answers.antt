@@ -1,5 +1,6 @@
 use Rattle.std.proofs.Common.{◌≡◌, ◌∙◌, ◌∷◌, [], ℕ, List, refl, sym, ap, ap₂, subst}
 use Rattle.std.specs.Prelude.{⊤}
+use Rattle.std.proofs.lemmas.List.Elements.{All-nil}
 use Rattle.mesh_types.specs.declared.report.Opened.{Opened}
 use Rattle.mesh_types.specs.declared.report.Opened.TheVariants as W
 use Rattle.mesh_node.specs.Given.{Stood}
@@ -28,19 +29,19 @@ returns-in-Ok-clause-ended g c before first =
     let same = c.one_list_is_recovered.ensures.one_list (chip c.args.beginning.start).now lives.over s.over lives.recovered s.read in
     let life = c.tells.ensures.known c.args.beginning.flash s.over c.args.beginning.started.machine s.tie in
     let laws = c.life_law.ensures in
-    over g.S.Source.left g.S.Source.faults g.E.Sink.held g.E.Sink.pieces g.E.Sink.faults g.K.Sink.held g.K.Sink.pieces g.K.Sink.faults
+    over g.S.ClockedSource.clocked g.S.Source.left g.S.Source.faults g.E.Sink.held g.E.Sink.pieces g.E.Sink.faults g.K.Sink.held g.K.Sink.pieces g.K.Sink.faults
     (Stood g.M.Machine.view g.M.Machine.stands chip lived.flash) g.M.Machine.role g.M.Machine.image _ c.args.beginning.bearers (chip c.args.beginning.start) (chip lived.flash)
     lines c.live_on-lived.new.source c.args.report c.live_on-lived.new.sink c.end_status-status.new.sink lived.refills lived.drawn lived.closed
-    (streams_at g.S.Source.left g.S.Source.faults g.E.Sink.held g.E.Sink.pieces g.E.Sink.faults (record { source = lines.source; errors = lines.errors; sink = c.args.report.sink }))
+    (streams_at g.S.Source.left g.S.Source.faults g.E.Sink.held g.E.Sink.pieces g.E.Sink.faults (record { source = lines.lines.source; errors = lines.lines.errors; sink = c.args.report.sink }))
     before c.args.opened (record { whole = laws.whole; end = laws.end }) first
     (ap₂ (λ h n. record {
-      left = g.S.Source.left lines.source;
+      left = g.S.Source.left lines.lines.source;
       held = h;
       number = n;
-      told = view_of g.E.Sink.held g.E.Sink.pieces lines.errors;
-      source_faults = g.S.Source.faults lines.source;
-      sink_faults = g.E.Sink.faults lines.errors;
-    }) begins.held begins.number) begins.why
+      told = view_of g.E.Sink.held g.E.Sink.pieces lines.lines.errors;
+      source_faults = g.S.Source.faults lines.lines.source;
+      sink_faults = g.E.Sink.faults lines.lines.errors;
+    }) begins.held begins.number) begins.why (All-nil (λ b. b ≡ 10 → ⊥), begins.front)
     lived.last lives (opens lives.over s.over c.args.opened c.args.beginning.started.state c.args.beginning.started.mark same c.requires.opened s.state s.mark)
     (begins.elements_are ∙ life.elements ∙ ap (λ o. (config_of o).elements) (sym same)) begins.bearers_are
     (c.told_law.ensures.told lived.last c.args.report c.live_on-lived.new.sink lives.did lives.took)
@@ -52,7 +53,7 @@ returns-in-Ok-clause-sink g c =
     let lived = c.in-Ok.lived in
     sink_cause g.K.Sink.held g.K.Sink.pieces g.K.Sink.faults c.args.opened (phases_lines c.args.report.hex lives.did) c.args.report c.live_on-lived.new.sink c.end_status-status.new.sink
     lived.last (c.told_law.ensures.told lived.last c.args.report c.live_on-lived.new.sink lives.did lives.took)
-    c.end_status-status.result c.end_status-status.ensures.told c.live_on-lived.new.source.why c.end_status-status.ensures.given_up
+    c.end_status-status.result c.end_status-status.ensures.told c.live_on-lived.new.source.lines.why c.end_status-status.ensures.given_up
 
 pub returns-clause-ended : goal.returns-clause-ended
 returns-clause-ended g c before first =
@@ -64,19 +65,19 @@ returns-clause-ended g c before first =
     let same = c.one_list_is_recovered.ensures.one_list (chip c.args.beginning.start).now fell.over s.over fell.recovered s.read in
     let life = c.tells.ensures.known c.args.beginning.flash s.over c.args.beginning.started.machine s.tie in
     let laws = c.life_law.ensures in
-    short g.S.Source.left g.S.Source.faults g.E.Sink.held g.E.Sink.pieces g.E.Sink.faults g.K.Sink.held g.K.Sink.pieces g.K.Sink.faults
+    short g.S.ClockedSource.clocked g.S.Source.left g.S.Source.faults g.E.Sink.held g.E.Sink.pieces g.E.Sink.faults g.K.Sink.held g.K.Sink.pieces g.K.Sink.faults
     (λ _ _. ⊤) g.M.Machine.role g.M.Machine.image _ c.args.beginning.bearers (chip c.args.beginning.start) (chip c.args.beginning.start)
     lines c.live_on-lived.new.source c.args.report c.live_on-lived.new.sink c.live_on-lived.new.sink.sink 0 (record { next = 0; mark = 0; drawn = []; looks = []; advances = [] }) Rattle.std.proofs.Common.false
-    (streams_at g.S.Source.left g.S.Source.faults g.E.Sink.held g.E.Sink.pieces g.E.Sink.faults (record { source = lines.source; errors = lines.errors; sink = c.args.report.sink }))
+    (streams_at g.S.Source.left g.S.Source.faults g.E.Sink.held g.E.Sink.pieces g.E.Sink.faults (record { source = lines.lines.source; errors = lines.lines.errors; sink = c.args.report.sink }))
     before c.args.opened (record { whole = laws.whole; end = laws.end }) first
     (ap₂ (λ h n. record {
-      left = g.S.Source.left lines.source;
+      left = g.S.Source.left lines.lines.source;
       held = h;
       number = n;
-      told = view_of g.E.Sink.held g.E.Sink.pieces lines.errors;
-      source_faults = g.S.Source.faults lines.source;
-      sink_faults = g.E.Sink.faults lines.errors;
-    }) begins.held begins.number) begins.why
+      told = view_of g.E.Sink.held g.E.Sink.pieces lines.lines.errors;
+      source_faults = g.S.Source.faults lines.lines.source;
+      sink_faults = g.E.Sink.faults lines.lines.errors;
+    }) begins.held begins.number) begins.why (All-nil (λ b. b ≡ 10 → ⊥), begins.front)
     fell (opens fell.over s.over c.args.opened c.args.beginning.started.state c.args.beginning.started.mark same c.requires.opened s.state s.mark)
     (begins.elements_are ∙ life.elements ∙ ap (λ o. (config_of o).elements) (sym same)) begins.bearers_are
     (c.told_law.ensures.taken c.args.report c.live_on-lived.new.sink fell.did fell.took).written
@@ -91,4 +92,4 @@ returns-in-Ok-clause-closed g c =
     let lives = c.in-Ok.ensures.lived in
     let lived = c.in-Ok.lived in
     closed_cause g.K.Sink.held g.K.Sink.pieces g.K.Sink.faults c.args.opened (phases_lines c.args.report.hex lives.did) c.args.report c.live_on-lived.new.sink c.end_status-status.new.sink
-    lived.last lived.closed lives.end c.end_status-status.result c.end_status-status.ensures.told c.live_on-lived.new.source.why c.end_status-status.ensures.given_up
+    lived.last lived.closed lives.end c.end_status-status.result c.end_status-status.ensures.told c.live_on-lived.new.source.lines.why c.end_status-status.ensures.given_up

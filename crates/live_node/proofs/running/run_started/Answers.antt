@@ -15,7 +15,7 @@ returns-in-Err-clause-ended g c =
     let after = view_of g.K.Sink.held g.K.Sink.pieces c.write_opening.new.sink in
     let life = c.tells.ensures.known b.flash s.over b.started.machine s.tie in
     rw (c.unopened-in-Err.ensures.value, c.stop_status.ensures.value)
-    (unopened_over g.M.Machine.role g.M.Machine.image c.args.hex b.bearers (chip b.start) (chip b.flash) from from before after
+    (unopened_over g.M.Machine.role g.M.Machine.image c.args.hex b.bearers g.S.ClockedSource.clocked (chip b.start) (chip b.flash) from from before after
     (Stood g.M.Machine.view g.M.Machine.stands chip b.flash) false (record {
       wrote = inr (opening_front (chip b.start) before after s.over b.started.state b.started.mark s.read s.runs s.state s.mark c.in-Err.ensures.err);
       unread = refl;

@@ -19,6 +19,7 @@ returns-in-Ok-Some-clause-ok g c = λ raw is.
           (g.E.Sink.faults self.errors) (view self.errors) front c.in-Ok-Some.line (view next.errors) (g.E.Sink.faults next.errors)
           c.in-Ok-Some.ensures.no_fault taken),
       rw c.in-Ok-Some.field-0-is at c.in-Ok-Some.ensures.ranges,
+      c.new.ensures.value,
     )
 
 pub returns-in-Ok-None-clause-ok : goal.returns-in-Ok-None-clause-ok

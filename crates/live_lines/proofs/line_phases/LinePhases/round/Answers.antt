@@ -1,0 +1,35 @@
+use Rattle.std.proofs.Common.{◌≡◌, ◌<◌, List, ℕ, subst, sym, refl, arith, inr}
+use Rattle.live_lines.specs.States.{lines_at, lines_behind}
+use Rattle.live_lines.specs.Turns.{IsFrontOf}
+use Rattle.live_lines.proofs.Rounds.{rounds_of, waits_fail}
+use Rattle.live_lines.proofs.line_phases.LinePhases.round.Goals as goal
+
+pub returns-in-Ok-Input-clause-ok : goal.returns-in-Ok-Input-clause-ok
+returns-in-Ok-Input-clause-ok g c = λ used is.
+    let at = lines_behind g.S.Source.left g.S.Source.faults g.E.Sink.held g.E.Sink.pieces g.E.Sink.faults in
+    let first = c.args.self.now.lines in
+    let mid = c.wait.new.self.lines in
+    let waited = c.in-Ok-Input.ensures in
+    rounds_of first.bearers first.elements g.S.ClockedSource.clocked mid.bearers mid.elements c.turn.result c.turn.new.self.front
+    (at used first) (at used mid) (λ now. at now c.turn.new.self.lines) waited.frame.1 waited.frame.2 (waited.still used)
+    (c.turn.ensures.ok used (subst (λ (f : List ℕ). IsFrontOf f used) (sym waited.front) is))
+
+pub returns-in-Ok-Passed-clause-ok : goal.returns-in-Ok-Passed-clause-ok
+returns-in-Ok-Passed-clause-ok g c = λ used is.
+    let waited = c.in-Ok-Passed.ensures in
+    let passed = rw c.in-Ok-Passed.field-0-is at waited.passed in (
+      (
+        used,
+        subst (λ (f : List ℕ). IsFrontOf f used) (sym waited.front) is,
+        inr (passed.0, record { ticks = c.in-Ok-Passed.ticks; some = passed.1; is = refl }, waited.still used),
+      ),
+      ((omega arith, refl), passed.1.0, passed.1.1),
+    )
+
+pub returns-in-Err-clause-stop : goal.returns-in-Err-clause-stop
+returns-in-Err-clause-stop g c = λ used n is.
+    let lines = c.args.self.now.lines in
+    let h = c.in-Err.ensures.stop used in
+    waits_fail lines.bearers lines.elements g.S.ClockedSource.clocked c.in-Err.why n
+    (lines_behind g.S.Source.left g.S.Source.faults g.E.Sink.held g.E.Sink.pieces g.E.Sink.faults used lines)
+    (lines_at g.S.Source.left g.S.Source.faults g.E.Sink.held g.E.Sink.pieces g.E.Sink.faults c.wait.new.self.lines) h.0 h.1 h.2

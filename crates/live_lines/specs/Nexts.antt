@@ -1,0 +1,44 @@
+-- What a round of a source of phases comes to, and what it gives next, where octets of a line that isn't whole yet were used already.
+use Rattle.std.specs.Prelude.{◌≡◌, ◌⊎◌, ℕ, Bool, true, List, [], Option, Some, None, ⊤}
+use Rattle.mesh_types.specs.declared.events.Event.{Event}
+use Rattle.script_definitions.specs.declared.line.ScriptLine.{ScriptLine}
+use Rattle.live_lines.specs.Clock.{IsTimeLine}
+use Rattle.live_lines.specs.Moves.{LinesAt}
+use Rattle.live_lines.specs.Saying.{IsSaid}
+use Rattle.live_lines.specs.Steps.{Comes, Ends, EndsAt, GivesPhase, SaysEvent}
+use Rattle.live_lines.specs.Turns.{IsFrontOf, IsTurn}
+use Rattle.live_lines.specs.declared.lines.Turn.TheVariants as T
+use Rattle.live_lines.specs.declared.line_phases.Round.{Round}
+use Rattle.live_lines.specs.declared.line_phases.Round.TheVariants as R
+use Rattle.live_lines.specs.declared.saying.Saying.TheVariants as S
+
+-- these octets of the next line are used, of which this front is kept
+abbrev pub Used : List ℕ → (List ℕ → Type 0) → Type 0
+Used front holds = (used : List ℕ) × IsFrontOf front used × holds used
+
+-- what a round came to is in range
+abbrev pub IsRoundSaid : ℕ → Round → Type 0
+IsRoundSaid elements (R.Comes line) = IsSaid elements (S.Happens line)
+IsRoundSaid elements _ = ⊤
+
+module _ (bearers elements : ℕ) (clocked : Bool) where
+  -- the first line that is held says this, or so much time passed
+  abbrev pub ComesNow : ScriptLine → LinesAt → LinesAt → Type 0
+  ComesNow line old new = SaysEvent bearers elements line old new ⊎ ((clocked ≡ true) × IsTimeLine line × (new ≡ old))
+
+  abbrev pub IsRound : Round → List ℕ → LinesAt → (List ℕ → LinesAt) → Type 0
+  IsRound R.Moved front old new = IsTurn bearers elements T.Moved front old new
+  IsRound (R.Comes line) front old new =
+      Used front (λ used. ComesNow line old (new used)) × IsSaid elements (S.Happens line)
+  IsRound R.Ended front old new = EndsAt old (new []) × (front ≡ [])
+
+  -- the next line that came, or the end
+  abbrev pub IsNextLine : Option ScriptLine → List ℕ → LinesAt → (List ℕ → LinesAt) → Type 0
+  IsNextLine None front old new = Ends bearers elements old (new []) × (front ≡ [])
+  IsNextLine (Some line) front old new =
+      Used front (λ used. Comes bearers elements clocked line old (new used)) × IsSaid elements (S.Happens line)
+
+  -- the next phase, or the end
+  abbrev pub IsNextPhase : Option (List (List Event)) → List ℕ → LinesAt → (List ℕ → LinesAt) → Type 0
+  IsNextPhase None front old new = Ends bearers elements old (new []) × (front ≡ [])
+  IsNextPhase (Some lists) front old new = Used front (λ used. GivesPhase bearers elements clocked lists old (new used))
