@@ -1,0 +1,25 @@
+//! What a program in C, or in any language that calls C, can call of the layers of a node: numbers and slices of octets alone, nothing is kept.
+//! `bindings/c/meshnode.h` is written from these files by `bindings/header`.
+//!
+//! - `status`: what a call answers
+//! - `arrays`: octets of a slice as an array
+//! - `ciphers`: AES-CCM and AES-CMAC
+//! - `derivations`: s1, k1 to k4, virtual addresses
+//! - `network`: network PDUs
+//! - `beacons`: Secure Network beacons
+//! - `audit`: the audit of a log
+//!
+//! A call whose slices haven't the lengths that it asks for, or whose numbers are out of range, is refused and leaves all that it was given as it
+//! was (`refused`). It is exact when it is (`when`; of `meshnode_audit` `length` and `too_long`). Two calls that give no answer write all the same:
+//! `meshnode_ccm_open` leaves zeros in place of a text whose MIC is wrong (`zeros`), and `meshnode_audit` tells the first line that isn't of the
+//! form (`not_report`). What C must uphold is what the types say: a pointer is to as many octets as the length behind it, and what is written to
+//! isn't given to another parameter too.
+#![tactic(auto)]
+
+mod arrays;
+mod audit;
+mod beacons;
+mod ciphers;
+mod derivations;
+mod network;
+pub mod status;
