@@ -7,6 +7,7 @@ use Rattle.flash_model.specs.Arming.{Follows, ObeysArm, is_cut, mask_of, tearing
 use Rattle.flash_model.specs.Chip.{Chip, Cut, IsCut, Setting, Stays}
 use Rattle.flash_model.specs.Octets.{IsMixed, IsTorn}
 use Rattle.flash_model.proofs.Mixed.{torn_none}
+use Rattle.file_flash.specs.declared.saved.Saved.{Saved}
 use Rattle.file_flash.specs.Backed.{backed_chip}
 
 -- mask 00 takes nothing
@@ -20,16 +21,16 @@ module _ {T E : Type 0} where
   follows_none false None change old new result e h = absurd (cc)
 
   -- the torn call under mask 00 leaves what is read
-  pub now_stays : (change : List ℕ → List ℕ) (m1 m2 : Chip) (result : Result T E) (faults k : ℕ) → m1.left ≡ 0
-      → m1.setting ≡ record { faults = faults; arm = Some (record { calls = 0; mask = 0; changes = k }) }
+  pub now_stays : (change : List ℕ → List ℕ) (m0 m1 m2 : Chip) (result : Result T E) (k : ℕ) → m1.left ≡ 0
+      → m1.setting ≡ record m0.setting { arm = Some (record { calls = 0; mask = 0; changes = k }) }
       → ObeysArm change m1 m2 result → m2.now ≡ m1.now
-  now_stays change m1 m2 result faults k left setting obeys =
+  now_stays change m0 m1 m2 result k left setting obeys =
       let torn : tearing m1 ≡ Some 0 = ap (λ (s : Setting). mask_of (m1.left == 0) s.arm) setting ∙ ap (λ (n : ℕ). mask_of (n == 0) (Some (record { calls = 0; mask = 0; changes = k }))) left in
       follows_none (is_cut m1) (tearing m1) change m1.now m2.now result torn obeys.course
 
-pub refused : (m0 m1 m2 g0 g : Chip) (change : List ℕ → List ℕ) (failed : Bool) → failed ≡ false → Stays m0 m1 → IsCut change m1 m2 → m2.now ≡ m1.now → m0.images m0.now → g.now ≡ change m0.now
-    → IsCut change (backed_chip m0 g0 failed) (backed_chip m2 g true)
-refused m0 m1 m2 g0 g change failed off stays any same image goal = record {
+pub refused : (m0 m1 m2 g0 g : Chip) (change : List ℕ → List ℕ) (saved : Saved) (failed : Bool) → failed ≡ false → Stays m0 m1 → IsCut change m1 m2 → m2.now ≡ m1.now → m0.images m0.now → g.now ≡ change m0.now
+    → IsCut change (backed_chip m0 g0 failed saved) (backed_chip m2 g true saved)
+refused m0 m1 m2 g0 g change saved failed off stays any same image goal = record {
   images = λ c h. ⊎_elim (λ i. old_image c i) (λ rest. torn c rest.1) h;
   time = record {
     later = omega (arith, stays.time.later, any.time.later);
@@ -47,15 +48,15 @@ refused m0 m1 m2 g0 g change failed off stays any same image goal = record {
     not_failed : IsTrue failed → ⊥
     not_failed is = true≢false (sym is ∙ off)
 
-    old_image : (c : List ℕ) → m2.images c → Cut change (backed_chip m0 g0 failed).images c
+    old_image : (c : List ℕ) → m2.images c → Cut change (backed_chip m0 g0 failed saved).images c
     old_image c i = let cut = any.images c i in (cut.0, inl (stays.images cut.0 cut.1), cut.2)
 
-    torn : (c : List ℕ) → IsTorn m2.now g.now c → Cut change (backed_chip m0 g0 failed).images c
+    torn : (c : List ℕ) → IsTorn m2.now g.now c → Cut change (backed_chip m0 g0 failed saved).images c
     torn c h = (m0.now, inl image, subst (λ (l : List ℕ). IsTorn m0.now l c) goal (subst (λ (l : List ℕ). IsTorn l g.now c) (same ∙ stays.now) h))
 
 -- a call that the place took
-pub done : (m0 m2 g0 g : Chip) (change : List ℕ → List ℕ) (failed : Bool) → failed ≡ false → IsCut change m0 m2 → IsCut change (backed_chip m0 g0 failed) (backed_chip m2 g failed)
-done m0 m2 g0 g change failed off any = record {
+pub done : (m0 m2 g0 g : Chip) (change : List ℕ → List ℕ) (saved : Saved) (failed : Bool) → failed ≡ false → IsCut change m0 m2 → IsCut change (backed_chip m0 g0 failed saved) (backed_chip m2 g failed saved)
+done m0 m2 g0 g change saved failed off any = record {
   images = λ c h. ⊎_elim (λ i. let cut = any.images c i in (cut.0, inl cut.1, cut.2)) (λ rest. absurd (not_failed rest.0)) h;
   time = record {
     later = any.time.later;

@@ -7,6 +7,7 @@ use Rattle.flash_model.specs.Chip.{Chip}
 use Rattle.flash_model.specs.Octets.{IsTorn, programmed, blanked}
 use Rattle.file_flash.specs.Backed.{IsKept, IsTied}
 use Rattle.file_flash.specs.Backing.{WasPut, WasTorn, put_at}
+use Rattle.file_flash.specs.Noted.{AreNoted, Put, and_put, written}
 
 -- what is put is what is to be
 pub put_programmed : (at : ℕ) (bytes old : List ℕ) → put_at at (take (length bytes) (drop at (programmed at bytes old))) old ≡ programmed at bytes old
@@ -104,3 +105,32 @@ put_part at k bytes old is h =
     let back = drop-put_mid at k old bytes e (omega (arith, is)) low (sym is) in
     sym (take_drop e (put_mid at k old bytes)) ∙ ap (λ l. l ++ drop e (put_mid at k old bytes)) front ∙ ap (λ l. (take at old ++ bytes) ++ l) back
     ∙ append_assoc (take at old) bytes (drop e old) ∙ put_whole at e bytes old refl h
+
+-- ---- the writes that are noted
+written_more : (puts : List Put) (at : ℕ) (bytes old : List ℕ) → written (puts ++ record { at = at; octets = bytes } ∷ []) old ≡ put_at at bytes (written puts old)
+written_more [] at bytes old = refl
+written_more (p ∷ puts) at bytes old = written_more puts at bytes (put_at p.at p.octets old)
+
+some_is : {A : Type 0} (a b : A) → ◌≡◌ {A = Option A} (Some a) (Some b) → a ≡ b
+some_is a b is = cc
+
+none_some : {A : Type 0} (a : A) → ◌≡◌ {A = Option A} None (Some a) → ⊥
+none_some a is = cc
+
+-- one write more
+pub noted_put : (at : ℕ) (bytes saved now next : List ℕ) (old new : Option (List Put)) → new ≡ and_put at bytes old → AreNoted old saved now → put_at at bytes now ≡ next → AreNoted new saved next
+noted_put at bytes saved now next None new is h same puts some = absurd (none_some puts (sym is ∙ some))
+noted_put at bytes saved now next (Some before) new is h same puts some =
+    let all = some_is (before ++ record { at = at; octets = bytes } ∷ []) puts (sym is ∙ some) in
+    subst (λ (l : List Put). written l saved ≡ next) all (written_more before at bytes saved ∙ ap (put_at at bytes) (h before refl) ∙ same)
+
+-- none more
+pub noted_same : (saved now next : List ℕ) (old new : Option (List Put)) → new ≡ old → AreNoted old saved now → next ≡ now → AreNoted new saved next
+noted_same saved now next old new is h same puts some = h puts (sym is ∙ some) ∙ sym same
+
+-- none at all, where what is read was saved
+pub noted_none : (saved now : List ℕ) (waiting : Option (List Put)) → ((puts : List Put) → waiting ≡ Some puts → puts ≡ []) → saved ≡ now → AreNoted waiting saved now
+noted_none saved now waiting none same puts some = ap (λ (l : List Put). written l saved) (none puts some) ∙ same
+
+pub some_none : (puts : List Put) → ◌≡◌ {A = Option (List Put)} (Some []) (Some puts) → puts ≡ []
+some_none puts is = sym (some_is [] puts is)

@@ -3,14 +3,15 @@ use Rattle.std.specs.Prelude.{◌≡◌, ◌⊎◌, ℕ, ◌<◌, ◌≤◌, Boo
 use Rattle.std.specs.Int.{bit_at}
 use Rattle.flash_model.specs.Chip.{Chip}
 use Rattle.flash_model.specs.Octets.{IsTorn}
+use Rattle.file_flash.specs.declared.saved.Saved.{Saved}
 
 -- Where a write to the place was refused, any mixture of what was there (the mirror's content) and what was to be (the goal's); no more calls
 -- change the place then.
 abbrev pub IsRest : Bool → Chip → Chip → List ℕ → Type 0
 IsRest failed mirror goal c = IsTrue failed × IsTorn mirror.now goal.now c
 
-abbrev pub backed_chip : Chip → Chip → Bool → Chip
-backed_chip mirror goal failed = record {
+abbrev pub backed_chip : Chip → Chip → Bool → Saved → Chip
+backed_chip mirror goal failed saved = record {
   now = mirror.now;
   images = λ c. mirror.images c ⊎ IsRest failed mirror goal c;
   moment = mirror.moment;
@@ -19,7 +20,7 @@ backed_chip mirror goal failed = record {
   sure = false;
   faults = mirror.faults;
   steady = false;
-  setting = record { faults = mirror.setting.faults; arm = None };
+  setting = record { faults = mirror.setting.faults; arm = None; saved = saved.octets; moment = saved.moment; cycles = 0 };
   changes = mirror.changes;
   left = 0;
   reads = mirror.reads;

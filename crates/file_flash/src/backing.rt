@@ -1,6 +1,7 @@
 // A place of 65,536 octets that outlives the process. A flash doesn't know what it is: it only puts octets there.
 ghost use Rattle.std.specs.Prelude.{◌≡◌, ℕ, ◌+◌, ◌≤◌, List, Option, Some, None, length, OnOk, OnErr};
 ghost use Rattle.file_flash.specs.Backing.{WasPut, WasTorn, put_at};
+ghost use Rattle.file_flash.specs.Noted.{Put, and_put};
 
 use flash_model::FLASH_OCTETS;
 use std::fs::File;
@@ -19,7 +20,10 @@ pub trait Backing: Drop {
     // The octets that whoever comes after this process finds there, where contracts know them.
     ghost held: { Self → Option (List ℕ) };
 
-    /// Puts octets at an offset. They are durable once it answers Ok (`ok`).
+    // The writes that the caller of the flash is still to make, where the place only notes them.
+    ghost waiting: { Self → Option (List Put) };
+
+    /// Puts octets at an offset. They are durable once it answers Ok (`ok`), but for a place that only notes its writes.
     ///
     /// # Errors
     ///
@@ -27,7 +31,9 @@ pub trait Backing: Drop {
     fn put(&mut self, at: u32, bytes: &[u8]) -> Result<(), Refused>
         requires within { at + length bytes.now ≤ FLASH_OCTETS }
         ensures ok { OnOk result (WasPut at bytes.now (held self.old) (held self.new)) }
-        ensures err { OnErr result (WasTorn at bytes.now (held self.old) (held self.new)) };
+        ensures err { OnErr result (WasTorn at bytes.now (held self.old) (held self.new)) }
+        ensures noted { OnOk result (waiting self.new ≡ and_put at bytes.now (waiting self.old)) }
+        ensures unnoted { OnErr result (waiting self.new ≡ waiting self.old) };
 }
 
 /// A file of the system, open for reading and writing, with 65,536 octets. It tells nothing of what it holds: that what it answers is so, is
@@ -40,6 +46,8 @@ pub struct StdBacking {
 
 impl Backing for StdBacking {
     ghost held = { λ _. None };
+
+    ghost waiting = { λ _. None };
 
     fn put(&mut self, at: u32, bytes: &[u8]) -> Result<(), Refused> {
         if self.file.write_all_at(bytes, u64::from(at)).is_err() {
@@ -80,6 +88,8 @@ impl MemBacking {
 
 impl Backing for MemBacking {
     ghost held = { λ b. Some b.octets.items };
+
+    ghost waiting = { λ _. None };
 
     fn put(&mut self, at: u32, bytes: &[u8]) -> Result<(), Refused>
         requires within { at + length bytes.now ≤ FLASH_OCTETS }

@@ -3,15 +3,19 @@
 // A program or erase call is done on the goal first, in memory: that is what the place is to hold. Then the place takes the range. Where it does,
 // the mirror is done so too, and is what the place holds. Where it refuses, the mirror stays and fails from then on, and the place holds each
 // bit of the mirror's or of the goal's.
-ghost use Rattle.std.specs.Prelude.{◌≡◌, ◌+◌, ◌≤◌, ℕ, List, length, replicate, true, false, IfOk, IsOk, IsTrue, None, Some, slice_range};
+ghost use Rattle.std.specs.Prelude.{◌≡◌, ◌+◌, ◌≤◌, ℕ, All, List, [], length, map, replicate, true, false, IfOk, IsOk, IsTrue, None, Some, slice_range};
 ghost use Rattle.std.proofs.Common.{inl};
 ghost use Rattle.std.proofs.Math.Nat.{le_refl};
 ghost use Rattle.flash_model.specs.Chip.{IsFresh, Keeps, Stays};
 ghost use Rattle.file_flash.specs.Backing.{WasPut, WasTorn};
 ghost use Rattle.file_flash.specs.Backed.{IsMirrored, IsTied, backed_chip};
+ghost use Rattle.file_flash.specs.Handed.{IsHandedOut};
+ghost use Rattle.file_flash.specs.Noted.{AreNoted, IsInside, Put, and_put, put_of, written};
 ghost use Rattle.file_flash.specs.Laws.{content_law, counts_now_law, only_now_law};
 
 use crate::backing::Backing;
+use crate::noted::{NotedPlace, Write};
+use crate::saved::Keeper;
 use flash_model::{Bench, FLASH_OCTETS, Flash, FlashFailed, MemFlash, SECTOR_OCTETS, SECTORS};
 use std::alloc::{AllocError, Global};
 
@@ -28,21 +32,34 @@ pub struct FileFlash<F: Bench, B: Backing> {
     backing: B,
     /// Whether the place refused a write.
     failed: bool,
+    /// What was read when it was made, or when its writes were handed out last.
+    saved: Keeper,
     ghost mirrored: { IsMirrored (F.chip mirror) (F.chip goal) failed },
     ghost tied: { IsTied failed (F.chip mirror) (F.chip goal) (B.held backing) },
+    ghost noted: { AreNoted (B.waiting backing) saved.octets (F.chip mirror).now },
 }
 
+/// A flash whose writes are made by its caller.
+pub type NotedFlash = FileFlash<MemFlash, NotedPlace>;
+
 impl<B: Backing> FileFlash<MemFlash, B> {
-    /// A flash over a place, with the image of 65,536 octets that was read of it (`told`). A new one's are all ff.
+    /// A flash over a place, with the image of 65,536 octets that was read of it (`told`). A new one's are all ff. No write waits there.
     pub fn new(alloc: Global, backing: B, image: &[u8]) -> Result<Self, AllocError>
         requires size { length image.now ≡ FLASH_OCTETS }
         requires told { (c : List ℕ) → B.held backing ≡ Some c → c ≡ image.now }
+        requires none { (puts : List Put) → B.waiting backing ≡ Some puts → puts ≡ [] }
 
         ensures now { IfOk result (λ f. (⟦<FileFlash<MemFlash, B> as Flash>⟧.chip f).now ≡ image.now) }
         ensures fresh { IfOk result (λ f. IsFresh (⟦<FileFlash<MemFlash, B> as Flash>⟧.chip f)) }
         ensures setting { IfOk result
             (λ f. (⟦<FileFlash<MemFlash, B> as Flash>⟧.chip f).setting
-            ≡ record { faults = (⟦<FileFlash<MemFlash, B> as Flash>⟧.chip f).faults; arm = None }) }
+            ≡ record {
+              faults = (⟦<FileFlash<MemFlash, B> as Flash>⟧.chip f).faults;
+              arm = None;
+              saved = image.now;
+              moment = (⟦<FileFlash<MemFlash, B> as Flash>⟧.chip f).moment;
+              cycles = 0;
+            }) }
         ensures changes { IfOk result (λ f. (⟦<FileFlash<MemFlash, B> as Flash>⟧.chip f).changes ≡ 0) }
         ensures reads { IfOk result (λ f. (⟦<FileFlash<MemFlash, B> as Flash>⟧.chip f).reads ≡ 0) }
     {
@@ -50,11 +67,14 @@ impl<B: Backing> FileFlash<MemFlash, B> {
         fill(&mut mirror, image);
         let mut goal = MemFlash::new(alloc)?;
         fill(&mut goal, image);
+        let mut saved = Keeper::new(alloc)?;
+        saved.save(&mirror);
         Ok(FileFlash {
             mirror,
             goal,
             backing,
             failed: false,
+            saved,
         })
     }
 }
@@ -65,6 +85,25 @@ impl<F: Bench, B: Backing> FileFlash<F, B> {
         ensures image { (c : List ℕ) → B.held result.now ≡ Some c → (⟦<FileFlash<F, B> as Flash>⟧.chip self.now).images c }
     {
         &self.backing
+    }
+}
+
+impl<F: Bench> FileFlash<F, NotedPlace> {
+    /// The writes since this was called last, or since the flash was made, in their order: made one after another on what was read then, they give
+    /// what is read now (`writes`), each within the 65,536 octets (`inside`). Nothing else changes than what is saved, and it takes no memory. A
+    /// flash that failed hands out its writes too: none of the call in which it failed.
+    ///
+    /// Whoever takes them makes them durable, in their order, before anything leaves that this flash was written for.
+    pub fn take_writes(&mut self) -> Vec<Write>
+        ensures writes { written (map put_of result.items) (⟦<FileFlash<F, NotedPlace> as Flash>⟧.chip self.old).setting.saved
+            ≡ (⟦<FileFlash<F, NotedPlace> as Flash>⟧.chip self.old).now }
+        ensures inside { All IsInside result.items }
+        ensures noted { Some (map put_of result.items) ≡ ⟦<NotedPlace as Backing>⟧.waiting self.old.backing }
+        ensures frame { IsHandedOut (⟦<FileFlash<F, NotedPlace> as Flash>⟧.chip self.old)
+            (⟦<FileFlash<F, NotedPlace> as Flash>⟧.chip self.new) }
+    {
+        self.saved.save(&self.mirror);
+        self.backing.take()
     }
 }
 
@@ -80,7 +119,14 @@ fn fill<F: Bench>(flash: &mut F, image: &[u8])
     ensures fresh { IsFresh (F.chip flash.new) }
     ensures sure { IsTrue (F.chip flash.new).sure }
     ensures steady { IsTrue (F.chip flash.new).steady }
-    ensures setting { (F.chip flash.new).setting ≡ record { faults = (F.chip flash.new).faults; arm = None } }
+    ensures setting { (F.chip flash.new).setting
+        ≡ record {
+          faults = (F.chip flash.new).faults;
+          arm = None;
+          saved = image.now;
+          moment = (F.chip flash.new).moment;
+          cycles = (F.chip flash.old).setting.cycles + 1;
+        } }
     ensures changes { (F.chip flash.new).changes ≡ 0 }
     ensures reads { (F.chip flash.new).reads ≡ 0 }
 {
@@ -108,6 +154,10 @@ fn put_range<F: Flash, B: Backing>(
     ensures refused { IfOk result
         (λ taken. taken ≡ false
         → WasTorn at (slice_range (F.chip goal.old).now at (at + len)) (B.held backing.old) (B.held backing.new)) }
+    ensures noted { IfOk result
+        (λ taken. taken ≡ true
+        → B.waiting backing.new ≡ and_put at (slice_range (F.chip goal.old).now at (at + len)) (B.waiting backing.old)) }
+    ensures unnoted { IfOk result (λ taken. taken ≡ false → B.waiting backing.new ≡ B.waiting backing.old) }
     ensures stays { IsTrue (F.chip goal.old).honest → Stays (F.chip goal.old) (F.chip goal.new) }
     ensures sure { IsTrue (F.chip goal.old).sure → IsOk result }
     ensures frame { Keeps (F.chip goal.old) (F.chip goal.new) }
@@ -117,23 +167,23 @@ fn put_range<F: Flash, B: Backing>(
 }
 
 impl<F: Bench, B: Backing> Flash for FileFlash<F, B> {
-    ghost chip = { λ f. backed_chip (F.chip f.mirror) (F.chip f.goal) f.failed };
+    ghost chip = { λ f. backed_chip (F.chip f.mirror) (F.chip f.goal) f.failed f.saved };
 
     ghost reads_image = { λ f honest. inl (F.reads_image f.mirror honest) };
 
-    ghost content = { λ f t c honest. content_law (F.chip f.mirror) (F.chip f.goal) f.failed t c
+    ghost content = { λ f t c honest. content_law (F.chip f.mirror) (F.chip f.goal) f.failed f.saved t c
         (λ d since. F.content f.mirror t d honest since)
         (F.content f.mirror (F.chip f.mirror).moment (F.chip f.mirror).now honest
         (F.counts_now f.mirror (F.chip f.mirror).moment (F.chip f.mirror).now (le_refl (F.chip f.mirror).moment) (F.reads_image f.mirror honest)))
         (F.content f.goal (F.chip f.goal).moment (F.chip f.goal).now f.mirrored.sound
         (F.counts_now f.goal (F.chip f.goal).moment (F.chip f.goal).now (le_refl (F.chip f.goal).moment) (F.reads_image f.goal f.mirrored.sound))) };
 
-    ghost counts_now = { λ f t c le image. counts_now_law (F.chip f.mirror) (F.chip f.goal) f.failed t c
+    ghost counts_now = { λ f t c le image. counts_now_law (F.chip f.mirror) (F.chip f.goal) f.failed f.saved t c
         (λ is. F.counts_now f.mirror t c le is) image };
 
     ghost counted = { λ f. F.counted f.mirror };
 
-    ghost only_now = { λ f c. only_now_law (F.chip f.mirror) (F.chip f.goal) f.failed c (F.only_now f.mirror c) };
+    ghost only_now = { λ f c. only_now_law (F.chip f.mirror) (F.chip f.goal) f.failed f.saved c (F.only_now f.mirror c) };
 
     fn read(&mut self, at: u32, buf: &mut [u8]) -> Result<(), FlashFailed> {
         self.mirror.read(at, buf)

@@ -1,14 +1,16 @@
 //! A flash in a file: each program and erase call is durable on a place that outlives the process before it answers.
 //!
 //! - `backing`: the place, as the trait [`Backing`]; one over a file of the system, and one in memory for tests
+//! - `noted`: [`NotedPlace`], a place whose writes are made by the caller of its flash
 //! - `flash`: [`FileFlash`], which is proved to be a flash over any place
+//! - `saved`: what was read when the flash was made, or its writes were handed out last
 //!
 //! A caller to begin with: `all_taken` in `crates/worked_parts/src/tests/files.rt`.
 //!
 //! # What a place must give
 //!
-//! A place is a type with `impl Backing`: one call, `put`, and a meaning, `held`, that nobody runs: the 65,536 octets that whoever comes after
-//! this process finds there, or `None` where contracts can't know.
+//! A place is a type with `impl Backing`: one call, `put`, and two meanings that nobody runs: `held`, the 65,536 octets that whoever comes after
+//! this process finds there, or `None` where contracts can't know; and `waiting`, `None` but for a place that only notes its writes.
 //!
 //! It may count on a range that lies within the 65,536 octets (`within`).
 //!
@@ -37,6 +39,9 @@
 
 mod backing;
 mod flash;
+mod noted;
+mod saved;
 
 pub use backing::{Backing, MemBacking, Refused, StdBacking};
-pub use flash::FileFlash;
+pub use flash::{FileFlash, NotedFlash};
+pub use noted::{NotedPlace, Write};

@@ -8,10 +8,19 @@ pub record Arm : Type 0 where
   pub mask : ℕ
   pub changes : ℕ
 
--- since the last power cycle: the count of faults then, or when the flash was made if there was none, and the one arm
+-- What was so when this setting was made: at the last power cycle, or when the writes of a flash were handed out last, or when it was made if
+-- there was neither. No other call changes it, but for the one arm.
 pub record Setting : Type 0 where
+  -- the count of faults at the last power cycle, or when the flash was made
   pub faults : ℕ
+  -- the one arm since then
   pub arm : Option Arm
+  -- what a read gave
+  pub saved : List ℕ
+  -- the moment
+  pub moment : ℕ
+  -- how often power was cycled till now
+  pub cycles : ℕ
 
 pub record Chip : Type 1 where
   -- what a read gives

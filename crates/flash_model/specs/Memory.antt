@@ -28,7 +28,7 @@ mem_chip past octets changes reads arm = record {
   sure = is_none arm;
   faults = past.faults;
   steady = true;
-  setting = record { faults = past.cycled; arm = option_map arm_of arm };
+  setting = record { faults = past.cycled; arm = option_map arm_of arm; saved = past.saved; moment = past.moment; cycles = past.cycles };
   changes = changes;
   left = left_of arm;
   reads = reads;

@@ -1,11 +1,11 @@
 -- The past of a flash in memory: the content that each call found, and the counts of faults.
-use Rattle.std.specs.Prelude.{◌≡◌, ◌⊎◌, ℕ, ◌+◌, List, [], ◌∷◌, ◌++◌, ◌==◌, if◌then◌else◌}
+use Rattle.std.specs.Prelude.{◌≡◌, ◌⊎◌, ℕ, ◌+◌, List, [], ◌∷◌, ◌++◌, length, replicate, ◌==◌, if◌then◌else◌}
 use Rattle.atomic_table.specs.Table.{State, Step, Me}
 use Rattle.flash_model.specs.declared.past.Past.{Past}
 
--- of a flash that was just made
+-- of an erased flash that was just made
 abbrev pub beginning : Past
-beginning = record { contents = []; faults = 0; cycled = 0 }
+beginning = record { contents = []; faults = 0; cycled = 0; saved = replicate 65536 255; moment = 0; cycles = 0 }
 
 -- one call more: 1 for one that fails, 2 for a power cycle, 0 for any other
 abbrev pub noted : ℕ → List ℕ → Past → Past
@@ -13,6 +13,9 @@ noted call content past = record {
   contents = past.contents ++ content ∷ [];
   faults = if call == 1 then past.faults + 1 else past.faults;
   cycled = if call == 2 then past.faults else past.cycled;
+  saved = if call == 2 then content else past.saved;
+  moment = if call == 2 then length past.contents + 1 else past.moment;
+  cycles = if call == 2 then past.cycles + 1 else past.cycles;
 }
 
 -- no rule binds the one word

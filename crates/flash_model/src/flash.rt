@@ -135,8 +135,7 @@ pub trait Bench: Flash + Send + Drop {
     fn arm(&mut self, calls: u32, mask: u8)
         requires { (Self.chip self.old).setting.arm ≡ None }
         ensures setting { (Self.chip self.new).setting
-            ≡ record {
-              faults = (Self.chip self.old).setting.faults;
+            ≡ record (Self.chip self.old).setting {
               arm = Some (record { calls = calls; mask = mask; changes = (Self.chip self.old).changes });
             } }
         ensures left { (Self.chip self.new).left ≡ calls }
@@ -152,7 +151,14 @@ pub trait Bench: Flash + Send + Drop {
         ensures fresh { IsTrue (Self.chip self.old).honest → IsFresh (Self.chip self.new) }
         ensures any_moment { IsTrue (Self.chip self.old).honest
             → Elapses (Self.chip self.old) (Self.chip self.new) (Self.chip self.old).images }
-        ensures setting { (Self.chip self.new).setting ≡ record { faults = (Self.chip self.old).faults; arm = None } }
+        ensures setting { (Self.chip self.new).setting
+            ≡ record {
+              faults = (Self.chip self.old).faults;
+              arm = None;
+              saved = (Self.chip self.new).now;
+              moment = (Self.chip self.new).moment;
+              cycles = (Self.chip self.old).setting.cycles + 1;
+            } }
         ensures changes { (Self.chip self.new).changes ≡ 0 }
         ensures reads { (Self.chip self.new).reads ≡ 0 }
         ensures sure { IsTrue (Self.chip self.old).steady → IsTrue (Self.chip self.new).sure }

@@ -39,7 +39,13 @@ impl MemFlash {
         ensures steady { IfOk result (λ m. IsTrue (⟦<MemFlash as Flash>⟧.chip m).steady) }
         ensures unarmed { IfOk result
             (λ m. (⟦<MemFlash as Flash>⟧.chip m).setting
-            ≡ record { faults = (⟦<MemFlash as Flash>⟧.chip m).faults; arm = None }) }
+            ≡ record {
+              faults = (⟦<MemFlash as Flash>⟧.chip m).faults;
+              arm = None;
+              saved = replicate 65536 255;
+              moment = (⟦<MemFlash as Flash>⟧.chip m).moment;
+              cycles = 0;
+            }) }
         ensures changes { IfOk result (λ m. (⟦<MemFlash as Flash>⟧.chip m).changes ≡ 0) }
         ensures reads { IfOk result (λ m. (⟦<MemFlash as Flash>⟧.chip m).reads ≡ 0) }
     {

@@ -17,6 +17,12 @@ pub struct Past {
     pub faults: u64,
     /// How many had failed at the last power cycle.
     pub cycled: u64,
+    /// The content at the last power cycle, or when the flash was made.
+    pub saved: LinkedList<u8>,
+    /// The moment then.
+    pub moment: u64,
+    /// How often power was cycled.
+    pub cycles: u64,
 }
 
 /// What one call adds to the past, as the number that its step stores.

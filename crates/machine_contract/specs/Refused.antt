@@ -11,7 +11,7 @@ use Rattle.machine_contract.specs.declared.opening.StartFault.{StartFault}
 use Rattle.machine_contract.specs.declared.opening.StartFault.TheVariants as F
 use Rattle.machine_contract.specs.Opening.{EachRecovered, IsLeft, IsNodeFlash}
 use Rattle.machine_contract.specs.View.{MachineView}
-use Rattle.std.specs.Prelude.{[], ⊤}
+use Rattle.std.specs.Prelude.{[]}
 
 -- a call that has this in hand closed the machine; the mark may have risen before
 pub record Closes (hand : Hand) (old new : MachineView) (before after : Chip) : Type 0 where
@@ -38,7 +38,17 @@ pub record WasReset (old : Chip) : Type 0 where
   pub read : IsRecovered old.now over
   pub reset : (config_of over).reset ≡ true
 
+-- the records that are read say a node that runs
+pub record HasNode (old : Chip) : Type 0 where
+  pub over : List StoreRecord
+  pub read : IsRecovered old.now over
+  pub runs : (config_of over).reset ≡ false
+
+-- Why no machine was started: the flash failed in the call, or it did not, and a Node Reset is stored, or a node is, and memory ran out. In
+-- each case the flash recovers what it did.
 abbrev pub IsStartCause : (List ℕ → Type 0) → Chip → Chip → StartFault → Type 0
 IsStartCause IsNodeImage old new F.Flash = (old.faults < new.faults) × IsUntouched IsNodeImage old new
-IsStartCause IsNodeImage old new F.WasReset = WasReset old × IsUntouched IsNodeImage old new
-IsStartCause IsNodeImage old new F.Memory = ⊤
+IsStartCause IsNodeImage old new F.WasReset =
+    WasReset old × IsUntouched IsNodeImage old new × (new.faults ≡ old.faults)
+IsStartCause IsNodeImage old new F.Memory =
+    HasNode old × IsUntouched IsNodeImage old new × (new.faults ≡ old.faults)

@@ -1,4 +1,4 @@
-use Rattle.std.proofs.Common.{◌≡◌, ◌∙◌, ◌+◌, ◌*◌, ◌≤◌, ℕ, length, take, sym, ap, subst, arith}
+use Rattle.std.proofs.Common.{◌≡◌, ◌∙◌, ◌+◌, ◌*◌, ◌≤◌, ℕ, None, length, take, refl, sym, ap, subst, arith}
 use Rattle.std.specs.Prelude.{IsTrue, slice_range}
 use Rattle.flash_model.specs.Octets.{programmed}
 use Rattle.file_flash.proofs.Filling.{filled_more, filled_whole, fresh_changed, programmed_none}
@@ -11,6 +11,7 @@ loop-sector-init g c = record {
   fresh = c.requires.fresh;
   sure = c.requires.sure;
   steady = c.requires.steady;
+  setting = refl;
 }
 
 pub loop-sector-preserved : goal.loop-sector-preserved
@@ -30,6 +31,7 @@ loop-sector-preserved g c =
       fresh = fresh_changed change (chip c.loop-sector.flash) (chip c.program.new.self) before.fresh frame.honest done;
       sure = (frame.sure before.sure).0;
       steady = subst IsTrue (sym frame.steady) before.steady;
+      setting = frame.setting ∙ before.setting;
     }
 
 pub returns-clause-now : goal.returns-clause-now
@@ -39,6 +41,14 @@ returns-clause-now g c =
     let at : ℕ = 4096 * c.loop-sector.sector in
     end.fresh.only now (c.power_cycle.ensures.image end.fresh.honest) ∙ end.now
     ∙ filled_whole 65536 c.args.image.now (g.F.Flash.chip c.args.flash.now).now at (omega (arith, c.loop-sector-test.false)) c.requires.size c.requires.erased (λ i. (c.type_inv.image i).fits)
+
+pub returns-clause-setting : goal.returns-clause-setting
+returns-clause-setting g c =
+    let new = g.F.Flash.chip c.power_cycle.new.self in
+    let faults = sym c.power_cycle.ensures.frame.faults in
+    let saved = returns-clause-now g c in
+    let before = c.loop-sector.invariant.setting in
+    c.power_cycle.ensures.setting ∙ (λ i. record { faults = faults i; arm = None; saved = saved i; moment = new.moment; cycles = (before i).cycles + 1 })
 
 pub returns-clause-fresh : goal.returns-clause-fresh
 returns-clause-fresh g c = c.power_cycle.ensures.fresh c.loop-sector.invariant.fresh.honest

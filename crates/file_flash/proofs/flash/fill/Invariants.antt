@@ -10,4 +10,5 @@ invariant-loop-sector g l = record {
   fresh : IsFresh (g.F.Flash.chip l.flash);
   sure : IsTrue (g.F.Flash.chip l.flash).sure;
   steady : IsTrue (g.F.Flash.chip l.flash).steady;
+  setting : (g.F.Flash.chip l.flash).setting ≡ (g.F.Flash.chip l.initial.flash).setting;
 }

@@ -1,5 +1,6 @@
-use Rattle.std.proofs.Common.{◌≡◌, refl, sym, subst, true≢false, arith}
+use Rattle.std.proofs.Common.{◌≡◌, refl, sym, subst, length, replicate, None, true≢false, arith}
 use Rattle.flash_model.specs.declared.past.Past.{Past}
+use Rattle.flash_model.specs.Chip.{Setting}
 use Rattle.flash_model.specs.Past.{HadBeen}
 use Rattle.flash_model.proofs.Mixed.{blank_content}
 use Rattle.flash_model.proofs.memory.MemFlash.new.Goals as goal
@@ -18,3 +19,13 @@ invariant_of-result c =
 
 pub returns-clause-erased : goal.returns-clause-erased
 returns-clause-erased c = c.in_ok-octets.ensures.items_if_clones_equal (λ y e. e)
+
+abbrev SameSetting : Setting → Setting → Type 0
+SameSetting a b = a ≡ b
+
+pub returns-clause-unarmed : goal.returns-clause-unarmed
+returns-clause-unarmed c =
+    subst (λ (p : Past). SameSetting
+    (record { faults = p.cycled; arm = None; saved = p.saved; moment = p.moment; cycles = p.cycles })
+    (record { faults = p.faults; arm = None; saved = replicate 65536 255; moment = length p.contents; cycles = 0 }))
+    (sym c.in_ok-past.ensures) refl

@@ -1,0 +1,30 @@
+-- Writes that a place only notes, for its caller to make.
+use Rattle.std.specs.Prelude.{◌≡◌, ℕ, ◌+◌, ◌≤◌, List, [], ◌∷◌, ◌++◌, length, Option, Some, None}
+use Rattle.file_flash.specs.declared.noted.Write.{Write}
+use Rattle.file_flash.specs.Backing.{put_at}
+
+-- octets that are to stand at an offset
+pub record Put : Type 0 where
+  pub at : ℕ
+  pub octets : List ℕ
+
+abbrev pub put_of : Write → Put
+put_of write = record { at = write.at; octets = write.octets.items }
+
+-- what the octets of a place become by these writes, one after another
+abbrev pub written : List Put → List ℕ → List ℕ
+written [] old = old
+written (p ∷ puts) old = written puts (put_at p.at p.octets old)
+
+-- one more is noted, where the place notes them
+abbrev pub and_put : ℕ → List ℕ → Option (List Put) → Option (List Put)
+and_put at octets None = None
+and_put at octets (Some puts) = Some (puts ++ record { at = at; octets = octets } ∷ [])
+
+-- a write lies within the 65,536 octets
+abbrev pub IsInside : Write → Type 0
+IsInside write = write.at + length write.octets.items ≤ 65536
+
+-- Where a place notes writes, those that wait make what was saved what is read.
+abbrev pub AreNoted : Option (List Put) → List ℕ → List ℕ → Type 0
+AreNoted waiting saved now = (puts : List Put) → waiting ≡ Some puts → written puts saved ≡ now

@@ -1,0 +1,80 @@
+// A place that notes the writes which its caller makes.
+ghost use Rattle.std.specs.Prelude.{◌≡◌, ◌+◌, ◌≤◌, All, [], ◌∷◌, ◌++◌, length, map, Some, None, OnOk, OnErr};
+ghost use Rattle.file_flash.specs.Backing.{WasPut, WasTorn};
+ghost use Rattle.file_flash.specs.Noted.{IsInside, and_put, put_of};
+
+use crate::backing::{Backing, Refused};
+use flash_model::FLASH_OCTETS;
+use std::alloc::{AllocError, Global};
+use std::mem;
+
+/// A write that the caller of a flash makes.
+#[derive(Drop)]
+pub struct Write {
+    /// The offset of its first octet.
+    pub at: u32,
+    /// Its octets. An erase is a write of 4,096 octets ff.
+    pub octets: Vec<u8>,
+}
+
+/// A place whose writes are made by the caller of its flash: it notes them, in their order. Of what whoever comes next finds there it tells nothing.
+#[derive(Drop)]
+pub struct NotedPlace {
+    alloc: Global,
+    writes: Vec<Write>,
+    ghost inside: { All IsInside writes.items },
+}
+
+impl NotedPlace {
+    /// A place of which no write is noted.
+    pub fn new(alloc: Global) -> Self
+        ensures held { ⟦<NotedPlace as Backing>⟧.held result ≡ None }
+        ensures waiting { ⟦<NotedPlace as Backing>⟧.waiting result ≡ Some [] }
+    {
+        NotedPlace {
+            alloc,
+            writes: Vec::new(alloc),
+        }
+    }
+
+    /// Notes a write.
+    ///
+    /// # Errors
+    ///
+    /// `AllocError`: nothing was noted.
+    fn note(&mut self, at: u32, bytes: &[u8]) -> Result<(), AllocError>
+        requires within { at + length bytes.now ≤ FLASH_OCTETS }
+        ensures ok { OnOk result
+            (map put_of self.new.writes.items
+            ≡ map put_of self.old.writes.items ++ record { at = at; octets = bytes.now } ∷ []) }
+        ensures err { OnErr result (self.new.writes.items ≡ self.old.writes.items) }
+    {
+        let octets = bytes.to_vec(self.alloc)?;
+        self.writes.push(Write { at, octets })?;
+        Ok(())
+    }
+
+    /// The writes that were noted since this was called last, in their order. It takes no memory.
+    pub fn take(&mut self) -> Vec<Write>
+        ensures taken { Some (map put_of result.items) ≡ ⟦<NotedPlace as Backing>⟧.waiting self.old }
+        ensures inside { All IsInside result.items }
+        ensures waiting { ⟦<NotedPlace as Backing>⟧.waiting self.new ≡ Some [] }
+        ensures held { ⟦<NotedPlace as Backing>⟧.held self.new ≡ None }
+    {
+        mem::replace(&mut self.writes, Vec::new(self.alloc))
+    }
+}
+
+impl Backing for NotedPlace {
+    ghost held = { λ _. None };
+
+    ghost waiting = { λ p. Some (map put_of p.writes.items) };
+
+    /// Notes the write. It is refused for want of memory alone.
+    fn put(&mut self, at: u32, bytes: &[u8]) -> Result<(), Refused> {
+        match self.note(at, bytes) {
+            Ok(()) => Ok(()),
+            Err(AllocError) => Err(Refused),
+        }
+    }
+}
