@@ -5,8 +5,10 @@
 //! - `raised`: what a refill answers
 //! - `node`: the value, with its calls
 //! - `waiting`: in how many ticks something is due
+//! - `handing`: the writes of a flash that its caller makes
 #![tactic(auto)]
 
+mod handing;
 mod known;
 mod marks;
 mod node;

@@ -21,7 +21,7 @@ use flash_model::{Bench, Flash};
 use machine_contract::{Answered, Machine, Stop};
 use mesh_types::events::Event;
 use mesh_types::history::Entry;
-use seq_word::Numbers;
+use seq_word::{Dry, Numbers};
 use std::alloc::{AllocError, Global};
 use std::marker::Model;
 use turn_lock::Logged;
@@ -41,7 +41,7 @@ pub struct Node<M: Machine, F: Flash + Send + Drop> {
 #[derive(Drop)]
 pub(crate) struct Held<M: Machine, F: Flash + Send + Drop> {
     pub(crate) machine: M,
-    flash: F,
+    pub(crate) flash: F,
     start: Known<F>,
     stops: u32,
 }
@@ -98,7 +98,12 @@ impl<M: Machine, F: Flash + Send + Drop> Node<M, F> {
         })
     }
 
-    /// Handles an event of a bearer. Where the flash failed, now or before, the bearer's mark is put.
+    /// Renews a reader, which reads octets without the node as the machine does in this moment.
+    pub fn reader(&self, reader: &mut M::Reader) {
+        self.held.machine.reader(reader);
+    }
+
+    /// Handles an event of a bearer, of which this was read before. Where the flash failed, now or before, the bearer's mark is put.
     ///
     /// An event is refused for want of memory too where 2^32 - 1 bearers have stopped.
     pub fn handle(
@@ -107,9 +112,11 @@ impl<M: Machine, F: Flash + Send + Drop> Node<M, F> {
         bearer: u8,
         number: u32,
         event: &Event,
+        early: M::Early,
     ) -> Result<Answered, Stop>
         requires made { self.old.machine.which ≡ n.now.which }
         requires event { IsEvent self.old.machine.elements event.now }
+        requires early { M.fits early event.now }
         ensures origin { origin_of F.chip self.new ≡ origin_of F.chip self.old }
         ensures front { IsPrefix (node_marks self.old) (node_marks self.new) }
         ensures ok { IfOk result
@@ -128,7 +135,7 @@ impl<M: Machine, F: Flash + Send + Drop> Node<M, F> {
         let held = &mut *self.held;
         match held
             .machine
-            .handle(n, &mut held.flash, bearer, number, event)
+            .handle(n, &mut held.flash, bearer, number, event, early)
         {
             Ok(answered) => Ok(answered),
             Err(Stop::Memory) => Err(Stop::Memory),
@@ -143,20 +150,24 @@ impl<M: Machine, F: Flash + Send + Drop> Node<M, F> {
         }
     }
 
-    /// Stores a refill where `seen` is the mark that was published last (`filled`); else one came between, and nothing changes (`nothing`).
-    /// It answers the mark that is published then, which is another one than `seen`. Where the flash failed, the bearer's mark is put.
+    /// Stores a refill where the mark that a draw reached is still the one that was published last (`filled`); else one came between, and
+    /// nothing changes (`nothing`). It answers the mark that is published then, another one. Where the flash failed, the bearer's mark is put.
+    ///
+    /// It takes what the draw answered: so for each time that a bearer reached the mark, one refill is stored at most, and none without a look
+    /// at it.
     ///
     /// It is refused for want of memory only where 2^32 - 1 bearers have stopped.
-    pub fn refill(&mut self, n: &Numbers, seen: u64) -> Result<Raised, Stop>
+    pub fn refill(&mut self, n: &Numbers, dry: Dry) -> Result<Raised, Stop>
         requires made { self.old.machine.which ≡ n.now.which }
-        requires seq { seq_of seen < 2 ^ 24 }
-        ensures filled { seen ≡ self.old.machine.mark
+        requires reached { dry.which ≡ n.now.which }
+        requires seq { seq_of dry.mark < 2 ^ 24 }
+        ensures filled { dry.mark ≡ self.old.machine.mark
             → OnOk result
             (self.new.machine
-            ≡ record self.old.machine { fills = self.old.machine.fills + 1; mark = seen + 256 }) }
-        ensures nothing { seen ≢ self.old.machine.mark → self.old.machine.closed ≡ false
-            → (result ≡ Ok (record { seen = seen; mark = self.old.machine.mark })) × (self.new ≡ self.old) }
-        ensures value { IfOk result (λ r. r ≡ record { seen = seen; mark = self.new.machine.mark }) }
+            ≡ record self.old.machine { fills = self.old.machine.fills + 1; mark = dry.mark + 256 }) }
+        ensures nothing { dry.mark ≢ self.old.machine.mark → self.old.machine.closed ≡ false
+            → (result ≡ Ok (record { seen = dry.mark; mark = self.old.machine.mark })) × (self.new ≡ self.old) }
+        ensures value { IfOk result (λ r. r ≡ record { seen = dry.mark; mark = self.new.machine.mark }) }
         ensures raised { IfOk result (λ r. r.mark ≢ r.seen) }
         ensures usable { OnOk result (self.old.machine.closed ≡ false) }
         ensures closed { self.old.machine.closed ≡ true → self.old.stops + 1 < 2 ^ 32
@@ -170,6 +181,7 @@ impl<M: Machine, F: Flash + Send + Drop> Node<M, F> {
         if self.held.stops == u32::MAX {
             return Err(Stop::Memory);
         }
+        let seen = dry.mark();
         let held = &mut *self.held;
         match held.machine.refill(n, &mut held.flash, seen) {
             Ok(mark) => Ok(Raised { seen, mark }),

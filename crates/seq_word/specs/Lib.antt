@@ -1,3 +1,4 @@
 pub mod Word
 pub mod Rule
 pub mod Seen
+pub mod Dry

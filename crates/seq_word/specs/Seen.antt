@@ -65,8 +65,9 @@ pub record Finds (p : Pair) (v w : DrawerView) : Type 0 where
 abbrev pub HasCause : Miss → DrawerView → DrawerView → Type 0
 HasCause (missed.Spent iv) v w =
     (mark : ℕ) × (w.looks ≡ v.looks ++ saw.Mark mark ∷ saw.Counter (iv * 2 ^ 25 + 2 ^ 24) ∷ [])
-HasCause (missed.Dry next mark) v w =
-    (w.looks ≡ v.looks ++ saw.Mark mark ∷ saw.Counter next ∷ []) × (mark ≤ next) × (seq_of next < 2 ^ 24)
+HasCause (missed.Dry dry) v w =
+    (w.looks ≡ v.looks ++ saw.Mark dry.mark ∷ saw.Counter dry.next ∷ []) × (dry.mark ≤ dry.next) × (seq_of dry.next < 2 ^ 24)
+    × (dry.which ≡ w.which)
 HasCause (missed.Lost expected found) v w =
     (mark : ℕ) × (w.looks ≡ v.looks ++ saw.Mark mark ∷ saw.Counter expected ∷ saw.Counter found ∷ [])
     × (expected < found) × (expected < mark) × (seq_of expected < 2 ^ 24)
@@ -90,4 +91,4 @@ AfterLost Done v w = (tries : List (ℕ × ℕ)) × (u : DrawerView) × LostTrie
 
 abbrev pub miss_of : DrawStop → Miss
 miss_of (stopped.Spent iv) = missed.Spent iv
-miss_of (stopped.Dry next mark) = missed.Dry next mark
+miss_of (stopped.Dry dry) = missed.Dry dry

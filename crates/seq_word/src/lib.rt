@@ -5,6 +5,7 @@
 //! - `rule`: what the words and the seats at them keep between any two atomic steps
 //! - `looks`: what a seat notes of what it saw
 //! - `miss`: why a draw gave no number
+//! - `dry`: that the counter had reached the mark, for which one refill may be asked
 //! - `drawer`, `keeper`, `closed`: a seat that draws, the one seat that moves the mark, and what the words held at the end
 //! - `numbers`: the two words, with all calls
 //! - `laws`: what follows from the rule
@@ -20,6 +21,7 @@
 
 mod closed;
 mod drawer;
+mod dry;
 mod keeper;
 pub mod laws;
 mod looks;
@@ -30,6 +32,7 @@ pub mod word;
 
 pub use closed::Closed;
 pub use drawer::Drawer;
+pub use dry::Dry;
 pub use keeper::Keeper;
 pub use looks::Look;
 pub use miss::{DrawStop, Miss};

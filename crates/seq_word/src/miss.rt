@@ -1,10 +1,11 @@
 //! Why a draw gave no number.
 #![tactic(auto)]
 
+use crate::dry::Dry;
 use thiserror::Error;
 
 /// Why one try to draw gave no number. Words are those of `crate::word`.
-#[derive(Clone, Copy, Debug, PartialEq, Eq, Error)]
+#[derive(Debug, Error, Drop)]
 pub enum Miss {
     /// The counter stood at SEQ 2^24 of this IV Index.
     #[error("no sequence number is left under IV Index {iv:08x}")]
@@ -13,13 +14,8 @@ pub enum Miss {
         iv: u32,
     },
     /// The counter had reached the mark.
-    #[error("the counter {next:x} has reached the mark {mark:x}")]
-    Dry {
-        /// The word that was found in the counter.
-        next: u64,
-        /// The word that was found as the mark, before that.
-        mark: u64,
-    },
+    #[error("{0}")]
+    Dry(Dry),
     /// Another seat moved the counter between the look and the exchange.
     #[error("the counter went from {expected:x} to {found:x}")]
     Lost {
@@ -31,7 +27,7 @@ pub enum Miss {
 }
 
 /// Why a draw that tries again gave no number.
-#[derive(Clone, Copy, Debug, PartialEq, Eq, Error)]
+#[derive(Debug, Error, Drop)]
 pub enum DrawStop {
     /// The counter stood at SEQ 2^24 of this IV Index.
     #[error("no sequence number is left under IV Index {iv:08x}")]
@@ -40,11 +36,6 @@ pub enum DrawStop {
         iv: u32,
     },
     /// The counter had reached the mark.
-    #[error("the counter {next:x} has reached the mark {mark:x}")]
-    Dry {
-        /// The word that was found in the counter.
-        next: u64,
-        /// The word that was found as the mark, before that.
-        mark: u64,
-    },
+    #[error("{0}")]
+    Dry(Dry),
 }

@@ -10,6 +10,7 @@ ghost use Rattle.seq_word.specs.Seen.{fresh, IsAbove, IsPrefix, Finds, HasCause,
 
 use crate::closed::Closed;
 use crate::drawer::Drawer;
+use crate::dry::Dry;
 use crate::keeper::Keeper;
 use crate::miss::{DrawStop, Miss};
 use crate::rule::{
@@ -110,7 +111,8 @@ impl Numbers {
             return Err(Miss::Spent { iv: pair.iv });
         }
         if next >= mark {
-            return Err(Miss::Dry { next, mark });
+            let seat = Snapshot::of(&d.seat);
+            return Err(Miss::Dry(Dry { next, mark, seat }));
         }
         let words = &self.table.shared;
         let found = words.compare_exchange::<Draws>(&mut d.seat, COUNTER, next, next + 1);
@@ -143,7 +145,7 @@ impl Numbers {
             match self.try_draw(d) {
                 Ok(pair) => return Ok(pair),
                 Err(Miss::Spent { iv }) => return Err(DrawStop::Spent { iv }),
-                Err(Miss::Dry { next, mark }) => return Err(DrawStop::Dry { next, mark }),
+                Err(Miss::Dry(dry)) => return Err(DrawStop::Dry(dry)),
                 Err(Miss::Lost { .. }) => {}
             }
         }

@@ -4,7 +4,7 @@ use Rattle.seq_word.proofs.Moves.{draws}
 use Rattle.seq_word.proofs.numbers.Numbers.try_draw.Goals as goal
 
 pub returns-then-next-mark-clause-cause : goal.returns-then-next-mark-clause-cause
-returns-then-next-mark-clause-cause c = (c.look-mark.ensures.looks, omega arith, omega (arith, c.pair_of-pair.ensures.seq, c.look-mark.ensures.word.1))
+returns-then-next-mark-clause-cause c = (c.look-mark.ensures.looks, omega arith, omega (arith, c.pair_of-pair.ensures.seq, c.look-mark.ensures.word.1), ap (λ s. s.table_id) c.of-seat.ensures ∙ ap (λ d. d.which) c.d.view_is)
 
 pub compare_exchange-found-requires : goal.compare_exchange-found-requires
 compare_exchange-found-requires c =
