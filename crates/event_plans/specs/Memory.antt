@@ -1,5 +1,7 @@
 -- What a node keeps in memory in a life: what it stands for, and when it is fit for a store.
-use Rattle.layer_states.specs.Friends.{FriendsState}
+use Rattle.early_reading.specs.Views.{view_of}
+use Rattle.early_reading.specs.declared.view.KeyView.{KeyView}
+use Rattle.layer_states.specs.Friends.{FriendsState, friend_keys}
 use Rattle.mesh_hearing.specs.Tables.{AreTablesOf, IsFit, TablesView}
 use Rattle.node_friends.specs.Steps.{AreFriendsOf}
 use Rattle.node_models.specs.Models.{AreNodeModelsOf, AreWithin, ModelsView}
@@ -22,3 +24,7 @@ pub record AreNodeTablesOf (t : NodeTablesView) (past : Past) : Type 0 where
 pub record IsFitFor (t : NodeTablesView) (p : Persist) : Type 0 where
   pub keys : IsFit t.hearing p
   pub models : AreWithin t.models p
+
+-- by what octets are read, under a store of this value: its network keys, the credentials of its friendships and offers, and the known IV Index
+abbrev pub view_in : NodeTablesView → Persist → KeyView
+view_in t p = view_of t.hearing.keys.nets (friend_keys t.friends.slots) p.iv.current

@@ -2,7 +2,8 @@
 #![tactic(auto)]
 
 ghost use Rattle.std.specs.Prelude.{◌≡◌, ◌+◌, ◌≤◌, ◌^◌, min, IfOk, OnErr};
-ghost use Rattle.event_plans.specs.Memory.{IsFitFor};
+ghost use Rattle.early_reading.specs.Known.{IsKnown};
+ghost use Rattle.event_plans.specs.Memory.{IsFitFor, view_in};
 ghost use Rattle.event_plans.specs.Plans.{IsPlanned, IsSomePast, IsStanding, of_beacon, of_own, of_pdu, of_tick};
 ghost use Rattle.event_plans.specs.Sending.{IsOwn, IsSendable};
 ghost use Rattle.event_records.specs.Putting.{AreMoves, ArePuttable};
@@ -18,6 +19,7 @@ use crate::answers::{asked_answer, begin_answer};
 use crate::models::{publish_due, take_heard};
 use crate::plan::{BeaconPlan, OwnPlan, PduPlan, TickPlan};
 use crate::tables::NodeTables;
+use early_reading::Known;
 use event_records::{beacon_records, heard_records, tick_records};
 use friend_steps::{friend_steps_law, hear_friends, keep_octets, store_send};
 use iv_update::steps_law;
@@ -36,14 +38,20 @@ use std::alloc::AllocError;
 /// The ticks of a life stop here.
 const MOST_TICKS: u64 = 1 << 48;
 
-/// The plan of a network PDU heard, where the records before it say `p`, and what is kept in memory with it. An error says
-/// that memory ran out, and then all is as before.
+/// The plan of a network PDU heard, where the records before it say `p`, and what is kept in memory with it. What is known of
+/// its reading is used. An error says that memory ran out, and then all is as before.
 ///
 /// `p` and what is kept stand for some past of a node that is whole. Each record of the plan may be put behind those before
 /// it, and each Numbers record is a move to an IV state that may follow.
-pub fn plan_pdu(tables: &mut NodeTables, p: &Persist, octets: &[u8]) -> Result<PduPlan, AllocError>
+pub fn plan_pdu(
+    tables: &mut NodeTables,
+    p: &Persist,
+    known: Known,
+    octets: &[u8],
+) -> Result<PduPlan, AllocError>
     requires standing { IsSomePast p.now tables.old }
     requires fit { IsFitFor tables.old p.now }
+    requires known { IsKnown (view_in tables.old p.now) octets.now known }
     ensures planned { (past : Past) → IsStanding past p.now tables.old
         → IfOk result (λ plan. IsPlanned past (E.Net octets.now) (of_pdu plan) tables.new) }
     ensures may { IfOk result (λ plan. ArePuttable p.now plan.records) }
@@ -55,7 +63,7 @@ pub fn plan_pdu(tables: &mut NodeTables, p: &Persist, octets: &[u8]) -> Result<P
     let now = tables.hearing.ticks();
     let polls = tables.friends.polls();
     let keys = tables.friends.keys();
-    let heard = tables.hearing.hear(p, keys.as_slice(), octets)?;
+    let heard = tables.hearing.hear(p, known, keys.as_slice(), octets)?;
     let taken = take_heard(&mut tables.models, p, now, polls.as_slice(), &heard);
     let records = heard_records(&heard.answer, &taken.changes);
     let left = hear_friends(&mut tables.friends, p, now, &heard, taken);

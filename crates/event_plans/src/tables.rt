@@ -1,13 +1,14 @@
 //! What a node keeps in memory in a life.
 #![tactic(auto)]
 
-ghost use Rattle.std.specs.Prelude.{◌≡◌, List, [], IfOk};
-ghost use Rattle.event_plans.specs.Memory.{AreNodeTablesOf, IsFitFor};
+ghost use Rattle.std.specs.Prelude.{◌≡◌, ◌↔◌, List, [], Some, IfOk, IsTrue};
+ghost use Rattle.event_plans.specs.Memory.{AreNodeTablesOf, IsFitFor, view_in};
 ghost use Rattle.mesh_reading.specs.Held.{AreHeldKeys, held_in};
 ghost use Rattle.node_records.specs.Meaning.{IsMeaningOf, IsSaid};
 ghost use Rattle.node_records.specs.Tables.{config_in};
 ghost use Rattle.event_definitions.specs.History.{Past};
 
+use early_reading::{KeyView, Reader};
 use mesh_hearing::{Keys, Tables};
 use node_friends::NodeFriends;
 use node_models::NodeModels;
@@ -63,6 +64,39 @@ impl NodeTables {
         ensures value { result.now ≡ self.now.hearing.keys }
     {
         self.hearing.keys()
+    }
+
+    /// By what octets are read now, under a store of this value.
+    pub fn key_view(&self, p: &Persist) -> KeyView
+        ensures value { result ≡ view_in self.now p.now }
+    {
+        KeyView::of(
+            self.hearing.keys().nets(),
+            self.friends.keys().as_slice(),
+            p.iv.current,
+        )
+    }
+
+    /// Whether octets are read by this view now, under a store of this value.
+    pub fn is_view(&self, p: &Persist, view: &KeyView) -> bool
+        ensures value { IsTrue result ↔ (view.now ≡ view_in self.now p.now) }
+    {
+        view.is_of(
+            self.hearing.keys().nets(),
+            self.friends.keys().as_slice(),
+            p.iv.current,
+        )
+    }
+
+    /// Has a reader take the view by which octets are read now, under a store of this value.
+    pub fn renew_reader(&self, p: &Persist, reader: &mut Reader)
+        ensures value { reader.new ≡ Some (view_in self.now p.now) }
+    {
+        reader.renew(
+            self.hearing.keys().nets(),
+            self.friends.keys().as_slice(),
+            p.iv.current,
+        );
     }
 
     /// The tables of what was heard and what is sent.

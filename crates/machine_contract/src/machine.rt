@@ -3,6 +3,8 @@
 
 ghost use Rattle.std.specs.Prelude.{◌≡◌, ◌≢◌, ℕ, ◌+◌, ◌<◌, ◌≤◌, ◌^◌, List, [], ◌∷◌, ◌++◌, length, drop, All, true, false, Ok, Err, IsErr, IfOk, OnOk, IfErr, ◌-◌};
 ghost use Rattle.flash_model.specs.Chip.{Chip, IsFresh, Keeps};
+ghost use Rattle.mesh_types.specs.declared.events.Event.{Event as AnEvent};
+ghost use Rattle.mesh_types.specs.declared.events.Event.TheVariants as E;
 ghost use Rattle.record_types.specs.declared.records.StoreRecord.{StoreRecord};
 ghost use Rattle.event_definitions.specs.History.{Past};
 ghost use Rattle.event_definitions.specs.Role.{Role};
@@ -17,9 +19,11 @@ ghost use Rattle.machine_contract.specs.Started.{IsStarted};
 ghost use Rattle.machine_contract.specs.View.{MachineView, entry_for, with_entry};
 
 use crate::answers::{Answered, Hand, Stop};
+use crate::early::EarlyReads;
 use crate::history::History;
 use crate::opening::{StartFault, Started};
 use flash_model::Flash;
+use mesh_base::octets::Octets;
 use mesh_types::events::Event;
 use mesh_types::history::Entry;
 use seq_word::{Keeper, Numbers};
@@ -30,7 +34,16 @@ use std::alloc::Global;
 ///
 /// `stands` ties a machine to its flash and to the records that its life opened over. `start` gives it, each call keeps it whatever the
 /// call answers, and `tells` says what it means in terms of what the machine shows, its `view`.
+///
+/// A network PDU can be read before the machine handles it, without the machine: by a reader, which was renewed from the machine earlier. `handle`
+/// then takes what was read, and its clauses are the same whatever that is: so no clause says that anything is read before.
 pub trait Machine: Send + Drop {
+    /// By what a machine reads octets heard as a network PDU, apart from the machine.
+    type Reader: Send + Drop;
+
+    /// What was read before an event is handled, if anything was.
+    type Early: Send + Drop;
+
     // What kind of node it is.
     ghost role: { Role };
 
@@ -45,6 +58,9 @@ pub trait Machine: Send + Drop {
 
     ghost stands: { Chip → List StoreRecord → Self → Type 0 };
 
+    // What was read may be handed to `handle` with this event.
+    ghost fits: { Self.Early → AnEvent → Type 0 };
+
     /// Opens a life over what the flash recovers. The flash went through a power cycle, since when its count of faults didn't fall, and each
     /// image of it recovers a node or a reset.
     ///
@@ -57,7 +73,22 @@ pub trait Machine: Send + Drop {
         ensures cause { IfErr result (IsStartCause image (F.chip flash.old) (F.chip flash.new)) }
         ensures frame { Keeps (F.chip flash.old) (F.chip flash.new) };
 
-    /// Handles an event of a bearer, which is the one with this number among its events, from 1 on.
+    /// A reader that was renewed from no machine yet. It takes no memory.
+    fn new_reader() -> Self::Reader;
+
+    /// Renews a reader: from now on it reads as the machine does in this moment. It takes no memory.
+    fn reader(&self, reader: &mut Self::Reader);
+
+    /// Nothing was read. It goes with each event.
+    fn unread() -> Self::Early
+        ensures fits { (event : AnEvent) → fits result event };
+
+    /// Reads octets that were heard as a network PDU, as the machine did when the reader was renewed last. It goes with the event of these octets.
+    fn early(reader: &mut Self::Reader, bytes: &Octets<40>) -> Self::Early
+        ensures fits { fits result (E.Net bytes.now) };
+
+    /// Handles an event of a bearer, which is the one with this number among its events, from 1 on. What was read before is used where the machine
+    /// would read the same now; else it reads again.
     fn handle<F: Flash>(
         &mut self,
         n: &Numbers,
@@ -65,9 +96,11 @@ pub trait Machine: Send + Drop {
         bearer: u8,
         number: u32,
         event: &Event,
+        early: Self::Early,
     ) -> Result<Answered, Stop>
         requires made { (view self.old).which ≡ n.now.which }
         requires event { IsEvent (view self.old).elements event.now }
+        requires early { fits early event.now }
 
         ensures ok { IfOk result
             (λ r. view self.new
@@ -141,6 +174,9 @@ pub trait Machine: Send + Drop {
     /// The number of elements of the node, as the records say that its life opened over.
     fn elements(&self) -> u8
         ensures value { result ≡ (view self.now).elements };
+
+    /// How many network PDUs that were read before they were handled were read again, and how many weren't, since the life began.
+    fn early_reads(&self) -> EarlyReads;
 
     /// Ends the machine. The entries are those that weren't taken.
     fn finish(self) -> (History, Keeper)

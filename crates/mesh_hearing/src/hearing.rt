@@ -3,6 +3,8 @@
 
 ghost use Rattle.std.specs.Prelude.{◌≡◌, ℕ, ◌≤◌, ◌<◌, ◌^◌, ◌++◌, true, IsFalse, Some, fold, IfOk, IfSome, OnErr, vec_len, vec_capacity};
 ghost use Rattle.std.specs.Option.{option_map};
+ghost use Rattle.early_reading.specs.Known.{IsKnown};
+ghost use Rattle.early_reading.specs.Views.{view_of};
 ghost use Rattle.layer_states.specs.Cache.{last_of};
 ghost use Rattle.layer_states.specs.Reassembly.{after};
 ghost use Rattle.mesh_hearing.specs.Again.{AreRecorded};
@@ -26,6 +28,7 @@ use crate::lower::{accepted_part, hear_low};
 use crate::network::network_row;
 use crate::own::acknowledge;
 use crate::tables::Tables;
+use early_reading::{Known, read_unless};
 use mesh_base::address::Address;
 use mesh_base::fields::Heard;
 use mesh_base::pair::Name;
@@ -126,10 +129,12 @@ fn hear_octets(
     parts: &mut Parts,
     again: &[Name],
     now: u64,
+    known: Known,
     more: &[Heard],
     octets: &[u8],
 ) -> Result<Hearing, AllocError>
     requires fit { keys.now ≡ held_in (config_in p.now) }
+    requires known { IsKnown (view_of keys.now.nets more.now p.now.iv.current) octets.now known }
     requires time { now ≤ 2 ^ 48 }
     ensures heard { (past : Past) → IsFalse p.now.reset → cache.old ≡ last_of MESSAGE_CACHE (cached_names past.told)
         → StandsBelow past p.now parts.old again.now now → more.now ≡ friend_keys past
@@ -143,7 +148,7 @@ fn hear_octets(
     ensures time { IfOk result (λ h. ticks_after now h.answer ≡ now) }
     ensures unchanged { OnErr result ((cache.new ≡ cache.old) × (parts.new ≡ parts.old)) }
 {
-    let Some(reading) = keys.read(more, p.iv.current, octets) else {
+    let Some(reading) = read_unless(keys, known, more, p.iv.current, octets) else {
         return Ok(Hearing {
             pdu: HeardPdu::Unread,
             answer: Answer::Unread,
@@ -160,15 +165,17 @@ fn hear_octets(
 
 impl Tables {
     /// What a node with a store of this value answers to octets heard as a network PDU, and what its tables become. They are read under the
-    /// network keys and behind them under `more`, the credentials of the friendships and offers before the event. The error is for want of
-    /// memory, and then nothing changes.
+    /// network keys and behind them under `more`, the credentials of the friendships and offers before the event; what is known of that reading
+    /// is used. The error is for want of memory, and then nothing changes.
     pub fn hear(
         &mut self,
         p: &Persist,
+        known: Known,
         more: &[Heard],
         octets: &[u8],
     ) -> Result<Hearing, AllocError>
-        requires { IsFit self.old p.now }
+        requires fit { IsFit self.old p.now }
+        requires known { IsKnown (view_of self.old.keys.nets more.now p.now.iv.current) octets.now known }
         ensures heard { (past : Past) → IsMeaningOf past.records p.now → AreTablesOf self.old past.told
             → AreRecorded past → more.now ≡ friend_keys past
             → IfOk result (λ h. IsHeard past octets.now h self.new) }
@@ -189,6 +196,7 @@ impl Tables {
             &mut self.parts,
             self.again.as_slice(),
             self.ticks,
+            known,
             more,
             octets,
         )?;

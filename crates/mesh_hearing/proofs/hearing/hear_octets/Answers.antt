@@ -7,7 +7,7 @@ use Rattle.mesh_hearing.proofs.hearing.hear_octets.Goals as goal
 pub returns-in_default-clause-heard : goal.returns-in_default-clause-heard
 returns-in_default-clause-heard c = λ past unreset e h k.
     heard_unread past c.args.p.now c.args.octets.now h.meaning unreset
-    (reads_none past c.args.p.now c.args.keys.now c.args.more.now c.args.octets.now h.meaning c.requires.fit k (c.read.ensures.none (subst (λ (o : Option NetReading). IsNone o) (sym c.in_default.is) refl)))
+    (reads_none past c.args.p.now c.args.keys.now c.args.more.now c.args.octets.now h.meaning c.requires.fit k (c.read_unless.ensures.none (subst (λ (o : Option NetReading). IsNone o) (sym c.in_default.is) refl)))
 
 pub returns-in-Some-2-clause-heard : goal.returns-in-Some-2-clause-heard
 returns-in-Some-2-clause-heard c = λ past unreset e h k.

@@ -1,0 +1,6 @@
+-- The keys before this one are kept.
+use Rattle.std.proofs.Common.{◌≡◌, take}
+use Rattle.early_reading.proofs.reader.kept_nets.Given as goal
+
+abbrev pub invariant-loop-key : goal.invariant-loop-key
+invariant-loop-key l = l.kept.items ≡ take l.key-index l.keys
