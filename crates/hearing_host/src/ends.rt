@@ -37,6 +37,7 @@ impl PhaseSource for HeardPdus {
         &mut self,
         bearers: u8,
         _elements: u8,
+        _due: u32,
     ) -> Result<Option<Vec<Vec<Event>>>, SourceFailed> {
         if bearers != 1 {
             return Err(SourceFailed);

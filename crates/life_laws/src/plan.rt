@@ -1,7 +1,7 @@
 //! What a life has to do, and what it leaves.
 #![tactic(auto)]
 
-use machine_contract::History;
+use machine_contract::{EarlyReads, History};
 use mesh_types::events::Event;
 use mesh_types::history::Sent;
 use mesh_types::report::{End, Opened};
@@ -43,4 +43,7 @@ pub struct LifeLog {
     pub drawn: Option<Closed>,
     /// How it ended.
     pub end: End,
+    /// How many network PDUs its bearers read before they took the lock, and how many of these were read again under it: zero both where the life
+    /// wasn't run.
+    pub early: EarlyReads,
 }

@@ -1,7 +1,7 @@
 //! A life is opened, and the machine as the layers above see it.
 #![tactic(auto)]
 
-ghost use Rattle.std.specs.Prelude.{◌≡◌, List, [], false, IfOk};
+ghost use Rattle.std.specs.Prelude.{◌≡◌, ⊤, List, [], false, IfOk};
 ghost use Rattle.low_power_machine.specs.Views.{Stands, shown};
 ghost use Rattle.low_power_definitions.specs.State.{no_friend};
 ghost use Rattle.low_power_role.specs.Role.{low_power_role};
@@ -16,8 +16,9 @@ use crate::machine::LowPowerMachine;
 use crate::memory::Memory;
 use entry_log::EntryLog;
 use flash_model::Flash;
-use machine_contract::{Answered, Hand, History, Machine, StartFault, Started, Stop};
+use machine_contract::{Answered, EarlyReads, Hand, History, Machine, StartFault, Started, Stop};
 use machine_standing::mount_node;
+use mesh_base::octets::Octets;
 use mesh_types::events::Event;
 use mesh_types::history::Entry;
 use node_store::Store;
@@ -75,6 +76,13 @@ impl Machine for LowPowerMachine {
 
     ghost stands = { Stands };
 
+    // Nothing is read before an event is handled.
+    ghost fits = { λ _ _. ⊤ };
+
+    type Reader = ();
+
+    type Early = ();
+
     fn start<F: Flash>(alloc: Global, flash: &mut F) -> Result<Started<Self>, StartFault> {
         let store = mount_node(flash)?;
         match open(alloc, store) {
@@ -83,6 +91,14 @@ impl Machine for LowPowerMachine {
         }
     }
 
+    fn new_reader() {}
+
+    fn reader(&self, _reader: &mut ()) {}
+
+    fn unread() {}
+
+    fn early(_reader: &mut (), _bytes: &Octets<40>) {}
+
     fn handle<F: Flash>(
         &mut self,
         n: &Numbers,
@@ -90,6 +106,7 @@ impl Machine for LowPowerMachine {
         bearer: u8,
         number: u32,
         event: &Event,
+        _early: (),
     ) -> Result<Answered, Stop> {
         self.handle_event(n, flash, bearer, number, event)
     }
@@ -117,6 +134,14 @@ impl Machine for LowPowerMachine {
 
     fn elements(&self) -> u8 {
         self.elements
+    }
+
+    // Nothing is read before an event is handled.
+    fn early_reads(&self) -> EarlyReads {
+        EarlyReads {
+            again: 0,
+            before: 0,
+        }
     }
 
     fn finish(self) -> (History, Keeper) {

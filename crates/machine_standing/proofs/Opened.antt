@@ -11,7 +11,7 @@ use Rattle.machine_standing.specs.Ties.{IsNodeStore, IsReadyBy, StandsBy, opened
 use Rattle.machine_standing.specs.Views.{LifeMachine}
 use Rattle.node_records.specs.declared.persist.Persist.{Persist}
 use Rattle.node_store.proofs.Holding.{held_node}
-use Rattle.node_store.specs.Causes.{IsFoundAs, IsStoreCause}
+use Rattle.node_store.specs.Causes.{IsFoundAs, IsNotFlash, IsStoreCause}
 use Rattle.node_store.specs.declared.mounting.StoreFault.{StoreFault}
 use Rattle.node_store.specs.declared.mounting.StoreFault.TheVariants as F
 use Rattle.node_store.specs.Mounted.{IsRead}
@@ -123,8 +123,8 @@ was_reset : (old : Chip) (node : IsNode old.now) (fault : StoreFault) → AreMou
 was_reset old node fault law found = record { over = node.records; read = node.read.held; reset = found_reset old.now node.records fault law node.read found }
 
 pub start_cause : (old new : Chip) (node : IsNode old.now) (fault : StoreFault) → AreMounted → IsTrue old.honest → IsStoreCause old new fault → IsUntouched IsNode old new
-    → IsStartCause IsNode old new (start_fault_of fault)
-start_cause old new node F.Flash law honest cause same = (cause, same)
-start_cause old new node F.NoNode law honest cause same = (was_reset old node F.NoNode law (cause honest), same)
-start_cause old new node (F.Damaged n) law honest cause same = (was_reset old node (F.Damaged n) law (cause honest), same)
-start_cause old new node F.WasReset law honest cause same = (was_reset old node F.WasReset law (cause honest), same)
+    → (IsNotFlash fault → new.faults ≡ old.faults) → IsStartCause IsNode old new (start_fault_of fault)
+start_cause old new node F.Flash law honest cause same sound = (cause, same)
+start_cause old new node F.NoNode law honest cause same sound = (was_reset old node F.NoNode law (cause honest), same, sound tt)
+start_cause old new node (F.Damaged n) law honest cause same sound = (was_reset old node (F.Damaged n) law (cause honest), same, sound tt)
+start_cause old new node F.WasReset law honest cause same sound = (was_reset old node F.WasReset law (cause honest), same, sound tt)

@@ -1,10 +1,10 @@
 //! The store of a node is mounted.
 #![tactic(auto)]
 
-ghost use Rattle.std.specs.Prelude.{◌≡◌, IfErr, IfOk};
+ghost use Rattle.std.specs.Prelude.{◌≡◌, IfErr, IfOk, OnOk};
 ghost use Rattle.flash_model.specs.Chip.{IsFresh, Keeps};
 ghost use Rattle.machine_contract.specs.Opening.{IsNodeFlash};
-ghost use Rattle.machine_contract.specs.Refused.{IsStartCause};
+ghost use Rattle.machine_contract.specs.Refused.{IsStartCause, IsUntouched};
 ghost use Rattle.machine_standing.specs.Opening.{IsNodeMounted, start_fault_of};
 ghost use Rattle.node_store.specs.Tie.{IsNode};
 
@@ -24,13 +24,15 @@ fn start_fault(fault: StoreFault) -> StartFault
 }
 
 /// Mounts the store of a flash each image of which recovers a node or a reset: the store of a node that can be run. It takes no memory. The
-/// error is that the flash failed in this call, or that a Node Reset is stored; then each image recovers what was read, or records that say
-/// the same.
+/// error is that the flash failed in this call, or that a Node Reset is stored. Whatever it answers, each image recovers what was read, or
+/// records that say the same (`untouched`).
 pub fn mount_node<F: Flash>(flash: &mut F) -> Result<Store, StartFault>
     requires fresh { IsFresh (F.chip flash.old) }
     requires node { IsNodeFlash IsNode (F.chip flash.old) }
     ensures ok { IfOk result (IsNodeMounted (F.chip flash.old) (F.chip flash.new)) }
     ensures cause { IfErr result (IsStartCause IsNode (F.chip flash.old) (F.chip flash.new)) }
+    ensures untouched { IsUntouched IsNode (F.chip flash.old) (F.chip flash.new) }
+    ensures no_fault { OnOk result ((F.chip flash.new).faults ≡ (F.chip flash.old).faults) }
     ensures frame { Keeps (F.chip flash.old) (F.chip flash.new) }
 {
     // It does nothing when it runs: the proof uses what it says.

@@ -1,5 +1,5 @@
 -- What follows for a machine of the plan of an event, and of what was made of it.
-use Rattle.std.proofs.Common.{◌≡◌, ℕ, ◌+◌, ◌-◌, ◌<◌, ◌^◌, Bool, true, false, List, [], ◌∷◌, ◌++◌, fold, length, refl, ap, sym, subst, ◌∙◌, append-nil, arith, Option}
+use Rattle.std.proofs.Common.{◌≡◌, ℕ, ◌-◌, ◌<◌, ◌^◌, Bool, true, false, List, [], ◌∷◌, ◌++◌, fold, length, refl, ap, sym, subst, ◌∙◌, append-nil, arith, Option}
 use Rattle.std.proofs.lemmas.List.Sums.{fold-append}
 use Rattle.std.specs.Prelude.{All}
 use Rattle.entry_log.specs.Log.{LogView}
@@ -9,7 +9,6 @@ use Rattle.event_plans.specs.Memory.{IsFitFor, NodeTablesView}
 use Rattle.event_plans.specs.Plans.{IsPlanned, IsSomePlan, IsStanding, LeavesConfig, insight_in, of_own}
 use Rattle.event_plans.specs.Sending.{IsOwn, IsSendable}
 use Rattle.event_records.specs.Putting.{AreMoves, ArePuttable}
-use Rattle.event_world.specs.Stepping.{HasStepped}
 use Rattle.flash_model.specs.Chip.{Chip, Keeps}
 use Rattle.layer_laws.specs.Laws.{IsWithinLimits}
 use Rattle.mesh_base.specs.declared.beacon.Beacon.{Beacon}
@@ -27,7 +26,7 @@ use Rattle.machine_standing.proofs.Fronts.{IsSameNode, all_whole}
 use Rattle.machine_standing.specs.Kept.{AreKept}
 use Rattle.machine_standing.specs.Ties.{IsCutIn}
 use Rattle.machine_ties.specs.Kept.{AreKeeping, IsBounded}
-use Rattle.machine_ties.specs.Ties.{IsBefore, IsOver, IsReady, Stands, entered, stopped}
+use Rattle.machine_ties.specs.Ties.{IsOver, IsReady, Stands, entered, stopped}
 use Rattle.machine_ties.specs.Views.{NodeMachine, shown}
 use Rattle.mesh_machine.proofs.Within.{within_after}
 use Rattle.mesh_hearing.specs.Tables.{IsFit}
@@ -35,7 +34,6 @@ use Rattle.mesh_machine.specs.Handling.{AreAsBefore, AreHalted, AreStored, IsAct
 use Rattle.machine_standing.specs.declared.entering.Place.{Place}
 use Rattle.mesh_machine.specs.declared.parts.Parts.{Parts}
 use Rattle.mesh_reading.specs.Held.{AreHeldKeys}
-use Rattle.mesh_types.specs.declared.answers.Answer.{Answer}
 use Rattle.mesh_types.specs.declared.events.Event.{Event}
 use Rattle.mesh_types.specs.declared.events.Event.TheVariants as E
 use Rattle.mesh_types.specs.declared.history.Entry.{Entry}
@@ -47,14 +45,14 @@ use Rattle.node_records.specs.Tables.{config_in}
 use Rattle.node_records.specs.declared.persist.Persist.{Persist}
 use Rattle.record_types.specs.declared.records.StoreRecord.{StoreRecord}
 use Rattle.event_definitions.specs.Answers.{config_before}
-use Rattle.event_definitions.specs.History.{Insight, OfNothing, Past}
+use Rattle.event_definitions.specs.History.{OfNothing, Past}
 use Rattle.event_definitions.specs.Jobs.{jobs_of}
 use Rattle.event_definitions.specs.Role.{node_role}
 use Rattle.node_store.specs.Tie.{IsStoreOf}
 use Rattle.run_definitions.specs.Order.{is_outside}
 use Rattle.seq_reserve.specs.Reserving.{IsPublished}
 use Rattle.seq_reserve.specs.declared.reserve.Reserve.{Reserve}
-use Rattle.store_definitions.specs.Config.{Config, changed, config_of, no_config}
+use Rattle.store_definitions.specs.Config.{changed, config_of, no_config}
 use Rattle.store_definitions.specs.Node.{IsWhole}
 
 -- The plan of an event.

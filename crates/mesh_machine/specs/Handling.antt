@@ -1,7 +1,9 @@
 -- How an event is handled, whatever its kind: what the calls of one kind give to the call over all kinds.
-use Rattle.std.specs.Prelude.{◌≡◌, ℕ, ◌+◌, ◌-◌, ◌<◌, ◌^◌, Bool, false, fold, List, [], ◌∷◌, ◌++◌, length}
+use Rattle.std.specs.Prelude.{◌≡◌, ℕ, ◌+◌, ◌-◌, ◌<◌, ◌^◌, Bool, false, List, [], ◌∷◌, ◌++◌, length}
 use Rattle.event_plans.specs.Basis.{Plan}
-use Rattle.event_plans.specs.Memory.{AreNodeTablesOf, IsFitFor, NodeTablesView}
+use Rattle.early_reading.specs.Known.{IsKnown}
+use Rattle.early_reading.specs.declared.early.Known.{Known}
+use Rattle.event_plans.specs.Memory.{AreNodeTablesOf, IsFitFor, NodeTablesView, view_in}
 use Rattle.event_plans.specs.Plans.{IsPlanned, IsStanding, LeavesConfig, insight_in, of_own}
 use Rattle.event_plans.specs.declared.plan.OwnPlan.{OwnPlan}
 use Rattle.event_records.specs.Putting.{AreMoves, ArePuttable}
@@ -19,6 +21,7 @@ use Rattle.machine_standing.specs.declared.entering.Drafts.{Drafts}
 use Rattle.machine_standing.specs.declared.entering.Place.{Place}
 use Rattle.mesh_machine.specs.declared.parts.Parts.{Parts}
 use Rattle.mesh_types.specs.declared.events.Event.{Event}
+use Rattle.mesh_types.specs.declared.events.Event.TheVariants as E
 use Rattle.node_layers.specs.NodeLayers.{node_layers}
 use Rattle.node_records.specs.Meaning.{IsMeaningOf}
 use Rattle.node_records.specs.Tables.{config_in}
@@ -29,7 +32,6 @@ use Rattle.event_definitions.specs.Answers.{config_before}
 use Rattle.event_definitions.specs.History.{OfNothing, Past}
 use Rattle.event_definitions.specs.Jobs.{jobs_of}
 use Rattle.seq_reserve.specs.Reserving.{IsDurable, IsPublished}
-use Rattle.store_definitions.specs.Config.{changed}
 
 -- a machine of these parts
 abbrev pub machine_of : Parts → ℕ → Bool → Hand → ℕ → NodeMachine
@@ -52,6 +54,10 @@ pub record IsTurnOf (parts : Parts) (event : Event) : Type 0 where
   pub elements : ℕ
   pub ready : IsReady (machine_of parts fills closed hand elements)
   pub given : IsEvent elements event
+
+-- What is known of the octets of a network PDU is their reading by the tables and what the store says.
+abbrev pub IsKnownFor : NodeTablesView → Persist → Event → Known → Type 0
+IsKnownFor tables p event known = (octets : List ℕ) → event ≡ E.Net octets → IsKnown (view_in tables p) octets known
 
 -- there is memory for an entry and its jobs
 pub record HasRoom (parts : Parts) (drafts : Drafts) : Type 0 where

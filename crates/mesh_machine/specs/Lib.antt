@@ -1,2 +1,4 @@
 pub mod Keys
 pub mod Handling
+pub mod Early
+pub mod Machine

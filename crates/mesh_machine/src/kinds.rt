@@ -3,12 +3,15 @@
 #![tactic(auto)]
 
 ghost use Rattle.std.specs.Prelude.{◌≡◌, IfOk, IfErr};
+ghost use Rattle.early_reading.specs.Known.{IsKnown};
+ghost use Rattle.event_plans.specs.Memory.{view_in};
 ghost use Rattle.event_plans.specs.Sending.{IsOwn};
 ghost use Rattle.flash_model.specs.Chip.{Keeps};
-ghost use Rattle.mesh_machine.specs.Handling.{HasRoom, IsActed, IsDone, IsStopped, IsTurnOf};
+ghost use Rattle.mesh_machine.specs.Handling.{HasRoom, IsActed, IsDone, IsKnownFor, IsStopped, IsTurnOf};
 ghost use Rattle.mesh_types.specs.declared.events.Event.TheVariants as E;
 
 use crate::parts::{Parts, store};
+use early_reading::Known;
 use event_plans::{
     are_within, jobs_of_beacon, jobs_of_own, jobs_of_pdu, jobs_of_tick, plan_beacon, plan_own,
     plan_pdu, plan_tick,
@@ -28,10 +31,12 @@ fn hear<F: Flash>(
     n: &Numbers,
     flash: &mut F,
     octets: &Octets<40>,
+    known: Known,
     place: Place,
     drafts: Drafts,
 ) -> Result<Answered, Stop>
     requires turn { IsTurnOf parts.old (E.Net octets.now) }
+    requires known { IsKnown (view_in parts.old.tables parts.old.reserve.store.persist) octets.now known }
     requires made { parts.old.reserve.keeper.which ≡ n.now.which }
     requires room { HasRoom parts.old drafts }
     ensures done { IfOk result
@@ -46,6 +51,7 @@ fn hear<F: Flash>(
     match plan_pdu(
         &mut parts.tables,
         parts.reserve.store.persist(),
+        known,
         octets.as_slice(),
     ) {
         Ok(plan) => {
@@ -173,16 +179,19 @@ fn act(parts: &mut Parts, event: &Event, place: Place, drafts: Drafts) -> Answer
     )
 }
 
-/// Handles an event over the parts of a machine, where there is memory for its entry and its jobs.
+/// Handles an event over the parts of a machine, where there is memory for its entry and its jobs. What is known of the reading of a network
+/// PDU is used.
 pub(crate) fn handle<F: Flash>(
     parts: &mut Parts,
     n: &Numbers,
     flash: &mut F,
     event: &Event,
+    known: Known,
     place: Place,
     drafts: Drafts,
 ) -> Result<Answered, Stop>
     requires turn { IsTurnOf parts.old event.now }
+    requires known { IsKnownFor parts.old.tables parts.old.reserve.store.persist event.now known }
     requires made { parts.old.reserve.keeper.which ≡ n.now.which }
     requires room { HasRoom parts.old drafts }
     ensures done { IfOk result
@@ -191,7 +200,7 @@ pub(crate) fn handle<F: Flash>(
     ensures frame { Keeps (F.chip flash.old) (F.chip flash.new) }
 {
     match event {
-        Event::Net(octets) => hear(parts, n, flash, octets, place, drafts),
+        Event::Net(octets) => hear(parts, n, flash, octets, known, place, drafts),
         Event::Bcn(octets) => hear_beacon(parts, n, flash, octets, place, drafts),
         Event::Tick(ticks) => pass(parts, n, flash, *ticks, place, drafts),
         _ => Ok(act(parts, event, place, drafts)),

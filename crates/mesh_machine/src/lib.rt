@@ -5,7 +5,11 @@
 //! for want of memory comes first, so after it nothing changed; what fails at the flash closes the machine. So nothing is answered before what
 //! it stores is durable. Each kind of event has a function of its own, so that none pays for the values of another.
 //!
-//! - `machine`: [`MeshMachine`], its calls
+//! A network PDU may be read before, without the machine, by a view that was taken from it: where that view is the machine's still, what was read
+//! is used, and else the PDU is read again.
+//!
+//! - `machine`: [`MeshMachine`], and what it makes of network PDUs that were read before
+//! - `state`: what it is between two calls, apart from its counts of early reading, and how it handles an event
 //! - `kinds`: how an event is handled, by its kind
 //! - `parts`: what the machine keeps of its node, and how records are stored in it
 //! - `entering`: the keys behind the records
@@ -20,6 +24,8 @@ mod kinds;
 mod machine;
 mod opening;
 mod parts;
+mod state;
 mod waiting;
 
+pub use early_reading::{Early, KeyView, Reader};
 pub use machine::MeshMachine;

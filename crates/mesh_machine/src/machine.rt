@@ -1,68 +1,85 @@
 //! The machine.
 #![tactic(auto)]
 
-ghost use Rattle.std.specs.Prelude.{◌≡◌, ◌≢◌, ◌+◌, ◌<◌, ◌^◌, List, All, length, true, false, Ok, Err, IfOk, OnOk, IfErr};
-ghost use Rattle.event_world.specs.Stepping.{HasStepped};
+ghost use Rattle.std.specs.Prelude.{◌≡◌, ◌+◌, ℕ, List, All, length, true, false, Err, Some, IfErr, IfOk, IfSome, IsTrue, OnOk, ◌↔◌};
+ghost use Rattle.early_reading.specs.Known.{IsKnown};
 ghost use Rattle.flash_model.specs.Chip.{Keeps};
+ghost use Rattle.event_world.specs.Stepping.{HasStepped};
 ghost use Rattle.machine_contract.specs.Ranges.{IsEvent, IsJob, IsQuiet};
 ghost use Rattle.machine_contract.specs.Refused.{IsRefused};
 ghost use Rattle.machine_contract.specs.View.{entry_for, with_entry};
-ghost use Rattle.machine_ties.specs.Ties.{Stands};
-ghost use Rattle.machine_ties.specs.Views.{shown};
+ghost use Rattle.mesh_machine.specs.Early.{IsCounted, IsCountedOf, view_now};
+ghost use Rattle.mesh_machine.specs.Machine.{Stands, persist_of, shown};
+ghost use Rattle.mesh_types.specs.declared.events.Event.TheVariants as E;
 ghost use Rattle.mesh_world.specs.World.{World};
 ghost use Rattle.record_types.specs.declared.records.StoreRecord.{StoreRecord};
 ghost use Rattle.run_definitions.specs.Order.{is_outside};
-ghost use Rattle.seq_word.specs.Word.{seq_of};
 ghost use Rattle.store_world.specs.Standing.{IsWorldOf};
 
-use crate::kinds::handle;
-use crate::parts::Parts;
-use event_world::event_law;
+use crate::state::MeshState;
+use early_reading::{Early, KeyView, Known, Reader};
 use flash_model::Flash;
-use machine_contract::{Answered, Hand, Stop};
-use machine_standing::{Place, room};
-use machine_ties::ties_law;
+use machine_contract::{Answered, EarlyReads, Hand, Stop};
 use mesh_types::events::Event;
-use node_models::node_models_law;
 use seq_word::Numbers;
-use std::alloc::AllocError;
-use std::marker::Model;
-
-/// A history has at most so many entries.
-const MOST_ENTRIES: u64 = 0xffff_ffff;
 
 /// The machine of a node. The flash stays with the caller, and is passed to each call.
 #[derive(Drop)]
 pub struct MeshMachine {
-    pub(crate) parts: Parts,
-    pub(crate) fills: u32,
-    pub(crate) closed: bool,
-    pub(crate) hand: Hand,
-    pub(crate) elements: u8,
-}
-
-impl Model for MeshMachine {
-    ghost use Rattle.machine_ties.specs.Ties.{IsSound};
-    ghost use Rattle.machine_ties.specs.Views.{NodeMachine};
-    ghost use Rattle.mesh_machine.specs.Handling.{machine_of};
-
-    ghost Value = { NodeMachine };
-
-    ghost view = { λ m. machine_of m.parts m.fills m.closed m.hand m.elements };
-
-    ghost invariant = { λ m. IsSound (machine_of m.parts m.fills m.closed m.hand m.elements) };
+    pub(crate) state: MeshState,
+    // How often network PDUs were read before they were handled.
+    pub(crate) reads: EarlyReads,
 }
 
 impl MeshMachine {
-    /// Takes memory for so many entries more, so that events take none for their entries. Nothing else changes; the error is for want of memory.
-    pub fn reserve_entries(&mut self, count: usize) -> Result<(), AllocError>
-        ensures same { self.new ≡ self.old }
+    /// By what it reads octets now: the network keys, the credentials of friendships, and the known IV Index.
+    pub fn view(&self) -> KeyView
+        ensures value { result ≡ view_now self.now }
     {
-        self.parts.history.reserve_all(count)
+        let parts = &self.state.parts;
+        parts.tables.key_view(parts.reserve.store.persist())
     }
 
-    /// Handles an event of a bearer, which is the one with this number among its events, from 1 on: `handle` of `Machine` is this call. Its
-    /// records and what it accepts are steps of the world (`mesh_world`) from any world of the store before it to one of the store after it.
+    /// Has a reader take that view. `reader` of `Machine` is this call.
+    pub fn renew_reader(&self, reader: &mut Reader)
+        ensures value { reader.new ≡ Some (view_now self.now) }
+    {
+        let parts = &self.state.parts;
+        parts
+            .tables
+            .renew_reader(parts.reserve.store.persist(), reader);
+    }
+
+    // Whether it reads by this view now.
+    fn is_view(&self, view: &KeyView) -> bool
+        ensures value { IsTrue result ↔ (view.now ≡ view_now self.now) }
+    {
+        let parts = &self.state.parts;
+        parts.tables.is_view(parts.reserve.store.persist(), view)
+    }
+
+    /// What is known of octets that were read before, if any were: their reading, where it was by the view of now. It is counted.
+    pub(crate) fn take_early(&mut self, early: Option<Early>) -> Known
+        ensures known { (octets : List ℕ) → IfSome early (λ e. e.octets ≡ octets) → IsKnown (view_now self.old) octets result }
+        ensures reads { IsCounted (view_now self.old) early self.old.reads self.new.reads }
+        ensures state { self.new.state ≡ self.old.state }
+    {
+        let Some(early) = early else {
+            return Known::Nothing;
+        };
+        if self.is_view(early.key_view()) {
+            self.reads.before = self.reads.before.saturating_add(1);
+            early.into_reading()
+        } else {
+            self.reads.again = self.reads.again.saturating_add(1);
+            Known::Nothing
+        }
+    }
+
+    /// Handles an event of a bearer, which is the one with this number among its events, from 1 on, and of which this was read before, if anything
+    /// was: `handle` of `Machine` is this call. What was read is used where it was by the view of now, and else octets are read again; both are
+    /// counted. The records of an event and what it accepts are steps of the world (`mesh_world`) from any world of the store before it to one
+    /// of the store after it.
     pub fn handle_event<F: Flash>(
         &mut self,
         n: &Numbers,
@@ -70,9 +87,11 @@ impl MeshMachine {
         bearer: u8,
         number: u32,
         event: &Event,
+        early: Option<Early>,
     ) -> Result<Answered, Stop>
         requires made { (shown self.old).which ≡ n.now.which }
         requires event { IsEvent (shown self.old).elements event.now }
+        requires early { IfSome early (λ e. event.now ≡ E.Net e.octets) }
 
         ensures ok { IfOk result
             (λ r. shown self.new
@@ -82,101 +101,65 @@ impl MeshMachine {
         ensures usable { OnOk result ((shown self.old).closed ≡ false) }
         ensures jobs { IfOk result (λ r. All (IsJob event.now) r.jobs) }
         ensures quiet { is_outside event.now ≡ false → IfOk result (λ r. All IsQuiet r.jobs) }
-        ensures steps { (w : World) → IsWorldOf w self.old.reserve.store.persist self.old.reserve.store.persist.mark
-            → IfOk result
-            (λ r. HasStepped w self.old.reserve.store.persist self.new.reserve.store.persist event.now r.answer) }
+        ensures steps { (w : World) → IsWorldOf w (persist_of self.old) (persist_of self.old).mark
+            → IfOk result (λ r. HasStepped w (persist_of self.old) (persist_of self.new) event.now r.answer) }
         ensures refused { IfErr result
             (IsRefused F.chip (Hand.OfEvent event.now) (shown self.old) (shown self.new) flash.old flash.new) }
         ensures closed { (shown self.old).closed ≡ true → result ≡ Err Stop.Closed }
+        ensures reads { IsCounted (view_now self.old) early self.old.reads self.new.reads }
         ensures kept { (over : List StoreRecord) → Stands (F.chip flash.old) over self.old
             → Stands (F.chip flash.new) over self.new }
         ensures frame { Keeps (F.chip flash.old) (F.chip flash.new) }
     {
-        if self.closed {
-            return Err(Stop::Closed);
-        }
-        if self.parts.history.count() >= MOST_ENTRIES {
-            return Err(Stop::Memory);
-        }
-        // They do nothing when they run: the proof uses what they say.
-        ties_law();
-        node_models_law();
-        event_law();
-        let drafts = match room(&mut self.parts.history) {
-            Ok(drafts) => drafts,
-            Err(_) => return Err(Stop::Memory),
-        };
-        let place = Place {
-            bearer,
-            number,
-            fills: self.fills,
-        };
-        match handle(&mut self.parts, n, flash, event, place, drafts) {
-            Ok(answered) => {
-                self.fills = 0;
-                Ok(answered)
-            }
-            Err(stop) => match stop {
-                Stop::Flash => {
-                    self.closed = true;
-                    self.hand = Hand::OfEvent(event.copied());
-                    Err(Stop::Flash)
-                }
-                Stop::Memory => Err(Stop::Memory),
-                Stop::Closed => Err(Stop::Closed),
-            },
-        }
+        let known = self.take_early(early);
+        self.state
+            .handle_event(n, flash, bearer, number, event, known)
     }
 
-    /// Stores a refill, and publishes its mark, 256 higher, where `seen` is the mark published last; else nothing changes. Returns the mark
-    /// that is published then. It takes no memory: the refills behind one entry lie under one IV Index, so they are at most 65,536.
-    pub(crate) fn refill_numbers<F: Flash>(
+    /// Handles the network PDU of octets that were read before, as `handle` of `Machine` handles the event of these octets. The reading is used
+    /// where it was by the view of now, and else they are read again; both are counted.
+    pub fn handle_early<F: Flash>(
         &mut self,
         n: &Numbers,
         flash: &mut F,
-        seen: u64,
-    ) -> Result<u64, Stop>
+        bearer: u8,
+        number: u32,
+        early: Early,
+    ) -> Result<Answered, Stop>
         requires made { (shown self.old).which ≡ n.now.which }
-        requires seq { seq_of seen < 2 ^ 24 }
+        requires event { IsEvent (shown self.old).elements (E.Net early.octets) }
 
-        ensures filled { seen ≡ (shown self.old).mark
-            → OnOk result
-            (shown self.new ≡ record (shown self.old) { fills = (shown self.old).fills + 1; mark = seen + 256 }) }
-        ensures nothing { seen ≢ (shown self.old).mark → (shown self.old).closed ≡ false
-            → (result ≡ Ok (shown self.old).mark) × (shown self.new ≡ shown self.old) × (flash.new ≡ flash.old) }
-        ensures value { IfOk result (λ mark. mark ≡ (shown self.new).mark) }
-        ensures ok { OnOk result
-            (shown self.new
-            ≡ record (shown self.old) { fills = (shown self.new).fills; mark = (shown self.new).mark }) }
+        ensures ok { IfOk result
+            (λ r. shown self.new
+            ≡ with_entry (shown self.old) (entry_for (shown self.old) bearer number (E.Net early.octets) r.answer r.jobs)
+            (shown self.new).mark) }
+        ensures place { IfOk result (λ r. r.at ≡ length (shown self.old).entries) }
         ensures usable { OnOk result ((shown self.old).closed ≡ false) }
-        ensures closed { (shown self.old).closed ≡ true → result ≡ Err Stop.Closed }
-        ensures memory { result ≢ Err Stop.Memory }
+        ensures jobs { IfOk result (λ r. All (IsJob (E.Net early.octets)) r.jobs) }
         ensures refused { IfErr result
-            (IsRefused F.chip Hand.OfRefill (shown self.old) (shown self.new) flash.old flash.new) }
+            (IsRefused F.chip (Hand.OfEvent (E.Net early.octets)) (shown self.old) (shown self.new) flash.old flash.new) }
+        ensures closed { (shown self.old).closed ≡ true → result ≡ Err Stop.Closed }
         ensures kept { (over : List StoreRecord) → Stands (F.chip flash.old) over self.old
             → Stands (F.chip flash.new) over self.new }
+        ensures reads { IsCountedOf (view_now self.old) early self.old.reads self.new.reads }
         ensures frame { Keeps (F.chip flash.old) (F.chip flash.new) }
     {
-        if self.closed {
-            return Err(Stop::Closed);
-        }
-        let mark = self.parts.reserve.store.persist().mark;
-        if seen != mark {
-            return Ok(mark);
-        }
-        // They do nothing when they run: the proof uses what they say.
-        ties_law();
-        node_models_law();
-        match self.parts.reserve.refill(n, flash, seen) {
-            Ok(mark) => {
-                self.fills += 1;
-                Ok(mark)
-            }
-            Err(_) => {
-                self.closed = true;
-                self.hand = Hand::OfRefill;
-                Err(Stop::Flash)
-            }
-        }
+        let event = Event::Net(early.octets().copied());
+        self.handle_event(n, flash, bearer, number, &event, Some(early))
+    }
+
+    /// The number of network PDUs that were read before they were handled and then read again, since the view of before wasn't the one of then.
+    /// At 2^64 - 1 it stays.
+    pub fn read_again(&self) -> u64
+        ensures value { result ≡ self.now.reads.again }
+    {
+        self.reads.again
+    }
+
+    /// The number of network PDUs that were read before they were handled, by the view of then. At 2^64 - 1 it stays.
+    pub fn read_before(&self) -> u64
+        ensures value { result ≡ self.now.reads.before }
+    {
+        self.reads.before
     }
 }

@@ -1,11 +1,16 @@
 //! A life is opened, and the machine as the layers above see it.
 #![tactic(auto)]
 
-ghost use Rattle.std.specs.Prelude.{◌≡◌, false, List, [], IfOk};
+ghost use Rattle.std.specs.Prelude.{◌≡◌, ◌≤◌, false, List, [], IfErr, IfOk, IfSome};
+ghost use Rattle.flash_model.specs.Chip.{IsFresh, Keeps};
+ghost use Rattle.machine_contract.specs.Opening.{IsNodeFlash};
+ghost use Rattle.machine_contract.specs.Refused.{IsStartCause};
+ghost use Rattle.machine_contract.specs.Started.{IsStarted};
 ghost use Rattle.event_plans.specs.Memory.{AreNodeTablesOf};
 ghost use Rattle.machine_standing.specs.Ties.{IsNodeStore};
-ghost use Rattle.machine_ties.specs.Ties.{Stands, opened};
-ghost use Rattle.machine_ties.specs.Views.{shown};
+ghost use Rattle.machine_ties.specs.Ties.{opened};
+ghost use Rattle.mesh_machine.specs.Machine.{Stands, shown};
+ghost use Rattle.mesh_types.specs.declared.events.Event.TheVariants as E;
 ghost use Rattle.event_definitions.specs.Role.{node_role};
 ghost use Rattle.next_due.specs.Quiet.{IsQuiet};
 ghost use Rattle.node_layers.specs.NodeLayers.{node_layers};
@@ -17,11 +22,14 @@ ghost use Rattle.seq_word.specs.Seen.{fresh};
 
 use crate::machine::MeshMachine;
 use crate::parts::Parts;
+use crate::state::MeshState;
+use early_reading::{Early, Reader};
 use entry_log::EntryLog;
 use event_plans::NodeTables;
 use flash_model::Flash;
-use machine_contract::{Answered, Hand, History, Machine, StartFault, Started, Stop};
+use machine_contract::{Answered, EarlyReads, Hand, History, Machine, StartFault, Started, Stop};
 use machine_standing::mount_node;
+use mesh_base::octets::Octets;
 use mesh_reading::held_keys_law;
 use mesh_types::events::Event;
 use mesh_types::history::Entry;
@@ -30,16 +38,17 @@ use seq_reserve::Reserve;
 use seq_word::{Keeper, Numbers};
 use std::alloc::{AllocError, Global};
 
-// Opens a life over a store that was mounted.
-fn open(alloc: Global, store: Store) -> Result<Started<MeshMachine>, AllocError>
+// Opens a life over a store that was mounted, with memory for so many entries.
+fn open(alloc: Global, store: Store, entries: usize) -> Result<Started<MeshMachine>, AllocError>
     requires usable { store.journal.closed ≡ false }
     requires node { (over : List StoreRecord) × IsNodeStore over store.persist }
-    ensures machine { IfOk result (λ s. s.machine ≡ opened s.machine.reserve s.machine.tables store.persist.elements) }
-    ensures store { IfOk result (λ s. s.machine.reserve.store ≡ store) }
-    ensures published { IfOk result (λ s. IsPublished s.machine.reserve.store s.machine.reserve.keeper) }
+    ensures machine { IfOk result (λ s. s.machine.state ≡ opened s.machine.state.reserve s.machine.state.tables store.persist.elements) }
+    ensures reads { IfOk result (λ s. s.machine.reads ≡ record { again = 0; before = 0 }) }
+    ensures store { IfOk result (λ s. s.machine.state.reserve.store ≡ store) }
+    ensures published { IfOk result (λ s. IsPublished s.machine.state.reserve.store s.machine.state.reserve.keeper) }
     ensures tables { (over : List StoreRecord) → IsMeaningOf over store.persist
-        → IfOk result (λ s. AreNodeTablesOf s.machine.tables (record { told = []; records = over })) }
-    ensures which { IfOk result (λ s. s.machine.reserve.keeper.which ≡ s.numbers.which) }
+        → IfOk result (λ s. AreNodeTablesOf s.machine.state.tables (record { told = []; records = over })) }
+    ensures which { IfOk result (λ s. s.machine.state.reserve.keeper.which ≡ s.numbers.which) }
     ensures opened { IfOk result (λ s. s.numbers.opened ≡ store.persist.mark) }
     ensures drawer { IfOk result (λ s. s.drawer ≡ fresh s.numbers.which [] 1024) }
     ensures state { IfOk result (λ s. s.state ≡ store.persist.iv) }
@@ -48,13 +57,14 @@ fn open(alloc: Global, store: Store) -> Result<Started<MeshMachine>, AllocError>
     // It does nothing when it runs: the proof uses what it says.
     held_keys_law();
     let tables = NodeTables::new(alloc, store.persist())?;
-    let history = EntryLog::new(alloc)?;
+    let mut history = EntryLog::new(alloc)?;
+    history.reserve_all(entries)?;
     let (reserve, numbers, drawer) = Reserve::start(alloc, store)?;
     let p = reserve.store.persist();
     let state = p.iv;
     let mark = p.mark;
     let elements = p.elements;
-    let machine = MeshMachine {
+    let apart = MeshState {
         parts: Parts {
             reserve,
             tables,
@@ -65,13 +75,42 @@ fn open(alloc: Global, store: Store) -> Result<Started<MeshMachine>, AllocError>
         hand: Hand::Nothing,
         elements,
     };
+    let reads = EarlyReads {
+        again: 0,
+        before: 0,
+    };
     Ok(Started {
-        machine,
+        machine: MeshMachine {
+            state: apart,
+            reads,
+        },
         numbers,
         drawer,
         state,
         mark,
     })
+}
+
+impl MeshMachine {
+    /// `start` of `Machine`, which takes memory for so many entries besides: so as many events take none for their entries.
+    pub fn start_with_room<F: Flash>(
+        alloc: Global,
+        flash: &mut F,
+        entries: usize,
+    ) -> Result<Started<Self>, StartFault>
+        requires fresh { IsFresh (F.chip flash.old) }
+        requires node { IsNodeFlash IsNode (F.chip flash.old) }
+        requires began { (F.chip flash.old).setting.faults ≤ (F.chip flash.old).faults }
+        ensures ok { IfOk result (IsStarted shown Stands (F.chip flash.old) (F.chip flash.new)) }
+        ensures cause { IfErr result (IsStartCause IsNode (F.chip flash.old) (F.chip flash.new)) }
+        ensures frame { Keeps (F.chip flash.old) (F.chip flash.new) }
+    {
+        let store = mount_node(flash)?;
+        match open(alloc, store, entries) {
+            Ok(started) => Ok(started),
+            Err(_) => Err(StartFault::Memory),
+        }
+    }
 }
 
 impl Machine for MeshMachine {
@@ -85,12 +124,31 @@ impl Machine for MeshMachine {
 
     ghost stands = { Stands };
 
+    // What was read was read of the octets of the event.
+    ghost fits = { λ early event. IfSome early (λ e. event ≡ E.Net e.octets) };
+
+    type Reader = Reader;
+
+    type Early = Option<Early>;
+
     fn start<F: Flash>(alloc: Global, flash: &mut F) -> Result<Started<Self>, StartFault> {
-        let store = mount_node(flash)?;
-        match open(alloc, store) {
-            Ok(started) => Ok(started),
-            Err(_) => Err(StartFault::Memory),
-        }
+        MeshMachine::start_with_room(alloc, flash, 0)
+    }
+
+    fn new_reader() -> Reader {
+        Reader::new()
+    }
+
+    fn reader(&self, reader: &mut Reader) {
+        self.renew_reader(reader);
+    }
+
+    fn unread() -> Option<Early> {
+        None
+    }
+
+    fn early(reader: &mut Reader, bytes: &Octets<40>) -> Option<Early> {
+        reader.early(bytes)
     }
 
     fn handle<F: Flash>(
@@ -100,36 +158,42 @@ impl Machine for MeshMachine {
         bearer: u8,
         number: u32,
         event: &Event,
+        early: Option<Early>,
     ) -> Result<Answered, Stop> {
-        self.handle_event(n, flash, bearer, number, event)
+        self.handle_event(n, flash, bearer, number, event, early)
     }
 
     fn refill<F: Flash>(&mut self, n: &Numbers, flash: &mut F, seen: u64) -> Result<u64, Stop> {
-        self.refill_numbers(n, flash, seen)
+        self.state.refill_numbers(n, flash, seen)
     }
 
     fn take_entries<F: Flash>(&mut self) -> Vec<Entry> {
-        self.parts.history.take()
+        self.state.take::<F>()
     }
 
     fn is_closed(&self) -> bool {
-        self.closed
+        self.state.closed
     }
 
     fn due<F: Flash>(&self) -> u32 {
-        self.ticks_left()
+        self.state.ticks_left()
     }
 
     fn count(&self) -> u64 {
-        self.parts.history.count()
+        self.state.parts.history.count()
     }
 
     fn elements(&self) -> u8 {
-        self.elements
+        self.state.elements
+    }
+
+    fn early_reads(&self) -> EarlyReads {
+        self.reads
     }
 
     fn finish(self) -> (History, Keeper) {
-        let MeshMachine { parts, fills, .. } = self;
+        let MeshMachine { state, reads: _ } = self;
+        let MeshState { parts, fills, .. } = state;
         let Parts {
             reserve,
             mut history,

@@ -6,10 +6,10 @@ ghost use Rattle.event_definitions.specs.History.{Past};
 ghost use Rattle.machine_ties.specs.Ties.{IsBefore};
 ghost use Rattle.next_due.specs.Quiet.{IsQuiet};
 
-use crate::machine::MeshMachine;
+use crate::state::MeshState;
 use next_due::due;
 
-impl MeshMachine {
+impl MeshState {
     /// In how many ticks of 10 ms something is due: the least number of ticks of which an event isn't quiet, at most 2^32 - 1. Of a closed machine
     /// nothing is due any more. `due` of `Machine` is this call.
     pub fn ticks_left(&self) -> u32

@@ -1,5 +1,5 @@
 -- The order that stands first in a plan, and the flash that a life finds.
-use Rattle.std.proofs.Common.{◌≡◌, ◌∙◌, inl, inr, ℕ, suc, List, [], ◌∷◌, Option, Some, None, refl, sym, ap, subst, arith}
+use Rattle.std.proofs.Common.{◌≡◌, ◌∙◌, inl, inr, ℕ, suc, ◌+◌, List, [], ◌∷◌, Option, Some, None, refl, sym, ap, subst, arith}
 use Rattle.std.specs.Prelude.{All, IsTrue}
 use Rattle.std.specs.List.{Contains}
 use Rattle.std.proofs.lemmas.List.Elements.{All-tail}
@@ -57,7 +57,7 @@ first_given (P.Phase lists ∷ xs) n = tt
 
 -- the flash with the order, and without one
 pub armed_by_first : (old new : Chip) (calls mask : ℕ) (xs : List PlanStep)
-    → new.setting ≡ record { faults = old.setting.faults; arm = Some (record { calls = calls; mask = mask; changes = old.changes }) } → KeepsCount old new → (IsTrue old.honest → Stays old new)
+    → new.setting ≡ record old.setting { arm = Some (record { calls = calls; mask = mask; changes = old.changes }) } → KeepsCount old new → (IsTrue old.honest → Stays old new)
     → IsArmedFirst (P.Arm calls mask ∷ xs) old new
 armed_by_first old new calls mask xs setting count stays = record {
   order = ap (λ (s : Setting). s.arm) setting;
@@ -82,7 +82,7 @@ pub record Powered (image : List ℕ → Type 0) (steps : List PlanStep) (old st
   pub may : HasOneArm steps → MayFollow (behind_arm steps) start.setting.arm
 
 pub powered : (image : List ℕ → Type 0) (steps : List PlanStep) (old cycled start : Chip) → IsNodeFlash image old → KeepsCount old cycled → (IsTrue old.honest → IsFresh cycled) → (IsTrue old.honest → old.images cycled.now)
-    → cycled.setting ≡ record { faults = old.faults; arm = None } → cycled.changes ≡ 0 → IsArmedFirst steps cycled start → Powered image steps old start
+    → cycled.setting ≡ record { faults = old.faults; arm = None; saved = cycled.now; moment = cycled.moment; cycles = old.setting.cycles + 1 } → cycled.changes ≡ 0 → IsArmedFirst steps cycled start → Powered image steps old start
 powered image steps old cycled start h count fresh is setting none armed =
     let cold = fresh h.honest in
     let same = armed.same cold.honest in

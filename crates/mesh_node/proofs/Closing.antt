@@ -38,6 +38,10 @@ use Rattle.mesh_node.proofs.Ending.{each_life}
 use Rattle.mesh_node.proofs.Giving.{given_one, reached_some}
 use Rattle.mesh_node.proofs.Printing.{idle_printable, sends_short}
 
+-- nothing was read before an event was handled
+abbrev pub IsUnread : LifeLog → Type 0
+IsUnread log = log.early ≡ record { again = 0; before = 0 }
+
 -- a life that was run
 module _ {M F : Type 0} (view : M → MachineView) (stands : Chip → List StoreRecord → M → Type 0) (role : Role) (image : List ℕ → Type 0) (chip : F → Chip) (plan : List Step) (start : F) (node : NodeView F) (d : DrawerView) (log : LifeLog)
     (one : (content : List ℕ) (rs ss : List StoreRecord) → IsRecovered content rs → IsRecovered content ss → rs ≡ ss)
@@ -100,6 +104,7 @@ module _ {M F : Type 0} (view : M → MachineView) (stands : Chip → List Store
       refills = ap (λ m. m.fills) held.shows ∙ sym refills;
       closed = ap (λ m. m.closed) held.shows ∙ sym cut;
     };
+    on = ap is_on opened;
   }
 
 module _ {M F : Type 0} (view : M → MachineView) (stands : Chip → List StoreRecord → M → Type 0) (chip : F → Chip)
@@ -133,12 +138,13 @@ module _ {M F : Type 0} (view : M → MachineView) (stands : Chip → List Store
         armed = λ steady other. given_one items new.setting.arm single r.arm (r.armed (subst IsTrue (sym (r.later.steady ∙ count.steady)) steady));
         given = r.given;
         told = λ on. r.told;
+        early = λ off. absurd (true≢false (sym r.on ∙ off));
       }
 
   -- a life that wasn't run
   pub lives_idle : Keeps start new → (IsTrue old.steady → log.opened ≢ W.WasReset → IsGiven plan new.setting.arm) → (u : IsUntouched image start new) → is_on log.opened ≡ false → log.drawn ≡ None → log.history.entries.items ≡ [] → log.history.refills ≡ 0 → log.sends.items ≡ []
-      → Opens (config_of u.over) log.opened log.end → (is_cut log.end ≡ true → start.faults < new.faults) → IfSome (cut_calls log.end) (λ n. n ≡ new.changes) → Lives view stands chip role image plan old log left
-  lives_idle keeps armed u off none entries refills sends opening failed calls =
+      → Opens (config_of u.over) log.opened log.end → (is_cut log.end ≡ true → start.faults < new.faults) → IfSome (cut_calls log.end) (λ n. n ≡ new.changes) → IsUnread log → Lives view stands chip role image plan old log left
+  lives_idle keeps armed u off none entries refills sends opening failed calls early =
       record {
         over = u.over;
         image = start.now;
@@ -158,24 +164,25 @@ module _ {M F : Type 0} (view : M → MachineView) (stands : Chip → List Store
         armed = armed;
         given = subst (λ o. IfSome o (WasGiven view stands chip u.over plan)) (sym (ap (λ (s : Setting). s.arm) keeps.setting ∙ first)) (given_first view stands chip u.over items);
         told = λ on. absurd (true≢false (sym on ∙ off));
+        early = λ off. early;
       }
 
   -- it was cut while it opened
   pub lives_cut : Keeps start new → IsExplained new → IsUntouched image start new → start.faults < new.faults → log.opened ≡ W.CutAtStart → log.end ≡ Ends.Cut new.changes
-      → log.drawn ≡ None → log.history.entries.items ≡ [] → log.history.refills ≡ 0 → log.sends.items ≡ [] → Lives view stands chip role image plan old log left
-  lives_cut keeps explained u failed opened end none entries refills sends =
+      → log.drawn ≡ None → log.history.entries.items ≡ [] → log.history.refills ≡ 0 → log.sends.items ≡ [] → IsUnread log → Lives view stands chip role image plan old log left
+  lives_cut keeps explained u failed opened end none entries refills sends early =
       let later : IsTrue old.steady → new.setting.faults < new.faults → HasGiven plan new.setting.arm =
       λ steady more calls mask among. reached_some new.setting.arm new.changes (explained (subst IsTrue (sym (keeps.steady ∙ count.steady)) steady) more) in
       let now : new.setting.faults < new.faults = subst (λ n. n < new.faults) (count.faults ∙ sym began ∙ sym (ap (λ (s : Setting). s.faults) keeps.setting)) failed in
       let order' : IsOfPlan plan new.setting.arm = subst (IsOfPlan plan) (sym (ap (λ (s : Setting). s.arm) keeps.setting)) order in
       lives_idle keeps (λ steady other. given_one items new.setting.arm single order' (later steady now)) u (ap is_on opened) none entries refills sends
       (subst (λ o. Opens (config_of u.over) o log.end) (sym opened) (subst (λ e. Opens (config_of u.over) W.CutAtStart e) (sym end) cut_at_start))
-      (λ cut. failed) (subst (λ e. IfSome (cut_calls e) (λ n. n ≡ new.changes)) (sym end) refl)
+      (λ cut. failed) (subst (λ e. IfSome (cut_calls e) (λ n. n ≡ new.changes)) (sym end) refl) early
 
   -- there was a Node Reset
   pub lives_reset : Keeps start new → (u : IsUntouched image start new) → (config_of u.over).reset ≡ true → log.opened ≡ W.WasReset → log.end ≡ Ends.Ended
-      → log.drawn ≡ None → log.history.entries.items ≡ [] → log.history.refills ≡ 0 → log.sends.items ≡ [] → Lives view stands chip role image plan old log left
-  lives_reset keeps u reset opened end none entries refills sends =
+      → log.drawn ≡ None → log.history.entries.items ≡ [] → log.history.refills ≡ 0 → log.sends.items ≡ [] → IsUnread log → Lives view stands chip role image plan old log left
+  lives_reset keeps u reset opened end none entries refills sends early =
       lives_idle keeps (λ steady other. absurd (other opened)) u (ap is_on opened) none entries refills sends
       (subst (λ o. Opens (config_of u.over) o log.end) (sym opened) (subst (λ e. Opens (config_of u.over) W.WasReset e) (sym end) (was_reset reset)))
-      (λ cut. absurd (true≢false (sym cut ∙ ap is_cut end))) (subst (λ e. IfSome (cut_calls e) (λ n. n ≡ new.changes)) (sym end) tt)
+      (λ cut. absurd (true≢false (sym cut ∙ ap is_cut end))) (subst (λ e. IfSome (cut_calls e) (λ n. n ≡ new.changes)) (sym end) tt) early

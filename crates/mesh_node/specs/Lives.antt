@@ -1,5 +1,5 @@
 -- A life between a flash and the flash.
-use Rattle.std.specs.Prelude.{◌≡◌, ℕ, ◌+◌, ◌^◌, ◌<◌, ◌≤◌, ◌≢◌, length, true, IsTrue, List, Option, None, IfSome}
+use Rattle.std.specs.Prelude.{◌≡◌, ℕ, ◌+◌, ◌^◌, ◌<◌, ◌≤◌, ◌≢◌, length, true, false, IsTrue, List, Option, None, IfSome}
 use Rattle.flash_model.specs.Chip.{Chip, Remembers}
 use Rattle.machine_contract.specs.Opening.{EachRecovered, IsNodeFlash}
 use Rattle.mesh_types.specs.declared.history.Sent.{Sent}
@@ -68,3 +68,5 @@ pub record Lives {M F : Type 0} (view : M → MachineView) (stands : Chip → Li
   pub given : IfSome (chip new).setting.arm (WasGiven view stands chip over plan)
   -- what is told of the life is all that its machine handled
   pub told : is_on log.opened ≡ true → IsTold view stands chip over (life_of log) new
+  -- a life that wasn't run read nothing
+  pub early : is_on log.opened ≡ false → log.early ≡ record { again = 0; before = 0 }

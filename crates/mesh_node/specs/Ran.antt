@@ -5,7 +5,7 @@ use Rattle.machine_contract.specs.Opening.{EachRecovered, IsNodeFlash}
 use Rattle.record_types.specs.declared.records.StoreRecord.{StoreRecord}
 use Rattle.event_definitions.specs.Role.{Role}
 use Rattle.run_definitions.specs.Order.{Step, is_cut}
-use Rattle.run_definitions.specs.RunOf.{LifeOf}
+use Rattle.run_definitions.specs.RunOf.{LifeOf, is_on}
 use Rattle.store_definitions.specs.Recovered.{IsRecovered}
 use Rattle.locked_node.specs.Stands.{IsLater}
 use Rattle.life_laws.specs.declared.plan.LifeLog.{LifeLog}
@@ -31,3 +31,4 @@ pub record Ran {M F : Type 0} (view : M → MachineView) (stands : Chip → List
   pub armed : IsTrue (chip new).steady → HasGiven plan (chip new).setting.arm
   pub given : IfSome (chip new).setting.arm (WasGiven view stands chip over plan)
   pub told : IsTold view stands chip over (life_of log) new
+  pub on : is_on log.opened ≡ true

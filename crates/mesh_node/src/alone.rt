@@ -24,7 +24,7 @@ use flash_model::Flash;
 use locked_node::Node;
 use machine_contract::Machine;
 use mesh_types::events::Event;
-use node_phase::{FreeGate, run_alone};
+use node_phase::{Alone, FreeGate, run_alone};
 use std::alloc::{AllocError, Global};
 
 /// One phase of a life of one bearer, in the thread that calls: it has these events. It is what `one_phase` does for one list of events.
@@ -35,7 +35,7 @@ use std::alloc::{AllocError, Global};
 pub fn one_phase_alone<M: Machine, F: Flash + Send + Drop>(
     alloc: Global,
     node: Node<M, F>,
-    seats: &mut Seats,
+    seats: &mut Seats<M>,
     events: &[Event],
 ) -> Result<PhaseDone<M, F>, AllocError>
     requires between { IsBetween seats.old node }
@@ -74,6 +74,7 @@ pub fn one_phase_alone<M: Machine, F: Flash + Send + Drop>(
 {
     let (mut node, done) = run_alone(
         alloc,
+        &Alone { reads_early: false },
         &FreeGate,
         &seats.numbers,
         &mut seats.drawer,
@@ -122,7 +123,7 @@ fn go_on_alone<M: Machine, F: Flash + Send + Drop, S: PhaseSource, T: PhaseSink>
     // It does nothing when it runs: the proof uses what it says.
     node.known();
     for _phase in 0..u64::MAX {
-        let lists = match ask(source, bearers, elements) {
+        let lists = match ask(source, bearers, elements, node.due()) {
             Ok(lists) => lists,
             Err(last) => return Ok(Gone { node, seats, last }),
         };

@@ -38,7 +38,7 @@ pub struct Beginning<M: Machine, F: Flash + Send + Drop> {
 #[derive(Drop)]
 pub struct Going<M: Machine, F: Flash + Send + Drop> {
     pub node: Node<M, F>,
-    pub seats: Seats,
+    pub seats: Seats<M>,
     pub bearers: u8,
     pub elements: u8,
 }
@@ -47,7 +47,7 @@ pub struct Going<M: Machine, F: Flash + Send + Drop> {
 #[derive(Drop)]
 pub struct Gone<M: Machine, F: Flash + Send + Drop> {
     pub node: Node<M, F>,
-    pub seats: Seats,
+    pub seats: Seats<M>,
     pub last: LastStep,
 }
 

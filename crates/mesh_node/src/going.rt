@@ -40,7 +40,7 @@ pub fn one_phase<M: Machine, F: Flash + Send + Drop, G: Gate, R: Threads + Wait 
     alloc: Global,
     gate: &G,
     node: Node<M, F>,
-    seats: &mut Seats,
+    seats: &mut Seats<M>,
     lists: &[Vec<Event>],
 ) -> Result<PhaseDone<M, F>, AllocError>
     requires between { IsBetween seats.old node }
@@ -134,7 +134,7 @@ fn go_on<
     // It does nothing when it runs: the proof uses what it says.
     node.known();
     for _phase in 0..u64::MAX {
-        let lists = match ask(source, bearers, elements) {
+        let lists = match ask(source, bearers, elements, node.due()) {
             Ok(lists) => lists,
             Err(last) => return Ok(Gone { node, seats, last }),
         };

@@ -19,7 +19,7 @@ use crate::steps::{arm_first, do_steps};
 use flash_model::Bench;
 use life_laws::plan::{LifeLog, LifePlan, PlanStep};
 use locked_node::{Known, Node};
-use machine_contract::{History, Machine, StartFault, Started};
+use machine_contract::{EarlyReads, History, Machine, StartFault, Started};
 use mesh_types::report::{End, Opened};
 use node_limits::BEARERS;
 use node_phase::Gate;
@@ -70,6 +70,7 @@ fn idle_log(alloc: Global, opened: Opened, end: End) -> LifeLog
     ensures sends { result.sends.items ≡ [] }
     ensures drawn { result.drawn ≡ None }
     ensures end { result.end ≡ end }
+    ensures early { result.early ≡ record { again = 0; before = 0 } }
 {
     LifeLog {
         opened,
@@ -80,6 +81,10 @@ fn idle_log(alloc: Global, opened: Opened, end: End) -> LifeLog
         sends: Vec::new(alloc),
         drawn: None,
         end,
+        early: EarlyReads {
+            again: 0,
+            before: 0,
+        },
     }
 }
 
@@ -136,6 +141,7 @@ fn run_life<M: Machine, F: Bench, G: Gate, R: Threads + Wait + Sync>(
     node.known();
     let (machine, flash) = node.into_parts();
     let end = end_of(machine.is_closed(), flash.changes());
+    let early = machine.early_reads();
     // All its entries were taken.
     let (left, keeper) = machine.finish();
     let Seats {
@@ -155,6 +161,7 @@ fn run_life<M: Machine, F: Bench, G: Gate, R: Threads + Wait + Sync>(
         sends: told.sends,
         drawn: Some(drawn),
         end,
+        early,
     };
     Ok((log, flash))
 }

@@ -16,7 +16,7 @@ use std::alloc::{AllocError, Global};
 
 /// What the bearers of a life share, and how far each is.
 #[derive(Drop)]
-pub struct Seats {
+pub struct Seats<M: Machine> {
     /// The counter and the mark.
     pub numbers: Numbers,
     /// The seat that takes in what bearers draw.
@@ -25,11 +25,11 @@ pub struct Seats {
     pub counts: Vec<u32>,
     /// The number of entries of this life.
     pub entries: u32,
-    /// What the bearers keep of keys from phase to phase.
-    pub kept: KeptByBearers,
+    /// What the bearers keep of keys, and read by, from phase to phase.
+    pub kept: KeptByBearers<M>,
 }
 
-impl Seats {
+impl<M: Machine> Seats<M> {
     /// Seats for so many bearers, none of which has an entry yet.
     pub fn new(
         alloc: Global,
@@ -67,7 +67,7 @@ pub struct PhaseDone<M: Machine, F: Flash + Send + Drop> {
 pub fn take_log<M: Machine, F: Flash + Send + Drop>(
     alloc: Global,
     node: &mut Node<M, F>,
-    seats: &mut Seats,
+    seats: &mut Seats<M>,
     dones: Vec<Done>,
 ) -> Result<PhaseLog, AllocError>
     requires counts { length seats.old.counts.items ≡ length dones.items }

@@ -47,7 +47,7 @@ fn do_phase<M: Machine, F: Bench, G: Gate, R: Threads + Wait + Sync>(
     alloc: Global,
     gate: &G,
     node: Node<M, F>,
-    seats: &mut Seats,
+    seats: &mut Seats<M>,
     log: &mut PhaseLog,
     lists: &[Vec<Event>],
 ) -> Result<(Node<M, F>, bool), AllocError>
@@ -91,7 +91,7 @@ pub fn do_step<M: Machine, F: Bench, G: Gate, R: Threads + Wait + Sync>(
     alloc: Global,
     gate: &G,
     node: Node<M, F>,
-    seats: &mut Seats,
+    seats: &mut Seats<M>,
     log: &mut PhaseLog,
     step: &PlanStep,
 ) -> Result<(Node<M, F>, bool), AllocError>
@@ -140,7 +140,7 @@ pub fn do_steps<M: Machine, F: Bench, G: Gate, R: Threads + Wait + Sync>(
     alloc: Global,
     gate: &G,
     node: Node<M, F>,
-    seats: &mut Seats,
+    seats: &mut Seats<M>,
     bearers: u8,
     steps: &[PlanStep],
 ) -> Result<(Node<M, F>, PhaseLog), AllocError>

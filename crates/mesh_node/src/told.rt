@@ -84,8 +84,14 @@ pub trait PhaseSource {
     // How it goes from one state to another. A source over octets says here what it read of them.
     ghost steps: { SourceSteps Self };
 
-    /// The next phase: a list of events for each of so many bearers, of a node with so many elements; or None where there is none more.
-    fn next(&mut self, bearers: u8, elements: u8) -> Result<Option<Vec<Vec<Event>>>, SourceFailed>
+    /// The next phase: a list of events for each of so many bearers, of a node with so many elements; or None where there is none more. `due` is in
+    /// how many ticks of 10 ms something of the node is due, behind the phases so far: a source that tells time needn't tell it before.
+    fn next(
+        &mut self,
+        bearers: u8,
+        elements: u8,
+        due: u32,
+    ) -> Result<Option<Vec<Vec<Event>>>, SourceFailed>
         ensures gives { IfOk result
             (λ r. IfSome r (λ lists. steps.gives self.old (map (λ v. v.items) lists.items) self.new)) }
         ensures long { IfOk result (λ r. IfSome r (λ lists. length lists.items ≡ bearers)) }
@@ -107,18 +113,19 @@ pub trait PhaseSink {
         ensures fails { OnErr result (steps.fails self.old (did_of log) self.new) };
 }
 
-/// Asks a source for a phase. An error says why there is none.
+/// Asks a source for a phase, of a node of which something is due in so many ticks. An error says why there is none.
 pub fn ask<S: PhaseSource>(
     source: &mut S,
     bearers: u8,
     elements: u8,
+    due: u32,
 ) -> Result<Vec<Vec<Event>>, LastStep>
     ensures gives { IfOk result (λ lists. S.steps.gives source.old (map (λ v. v.items) lists.items) source.new) }
     ensures long { IfOk result (λ lists. length lists.items ≡ bearers) }
     ensures events { IfOk result (λ lists. All (λ v. AreEvents elements v.items) lists.items) }
     ensures none { IfErr result (λ last. GivesNone S.steps last source.old source.new) }
 {
-    match source.next(bearers, elements) {
+    match source.next(bearers, elements, due) {
         Ok(Some(lists)) => Ok(lists),
         Ok(None) => Err(LastStep::Ended),
         Err(_) => Err(LastStep::Unread),

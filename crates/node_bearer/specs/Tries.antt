@@ -1,15 +1,16 @@
 -- The draws of a job: each before the last found the counter at the mark, and what became of that mark.
 use Rattle.std.specs.Prelude.{◌≡◌, ℕ, List, [], ◌∷◌, Option, Some, None}
 use Rattle.locked_node.specs.Node.{Rise}
+use Rattle.seq_word.specs.Dry.{DryView}
 use Rattle.seq_word.specs.Seen.{AfterLost, DrawerView, Finds, HasCause}
 use Rattle.seq_word.specs.declared.miss.Miss.TheVariants as missed
 use Rattle.node_bearer.specs.declared.bearer.Drawn.{Drawn}
 use Rattle.node_bearer.specs.declared.bearer.Drawn.TheVariants as D
 
--- between v and w each of these draws, the latest first, found this word in the counter at or above this mark, and nothing else was done
-abbrev pub DryDraws : List (ℕ × ℕ) → DrawerView → DrawerView → Type 0
+-- between v and w each of these draws, the latest first, found the counter at or above the mark, and nothing else was done
+abbrev pub DryDraws : List DryView → DrawerView → DrawerView → Type 0
 DryDraws [] v w = w ≡ v
-DryDraws (t ∷ tries) v w = (u : DrawerView) × DryDraws tries v u × AfterLost (HasCause (missed.Dry t.0 t.1)) u w
+DryDraws (t ∷ tries) v w = (u : DrawerView) × DryDraws tries v u × AfterLost (HasCause (missed.Dry t)) u w
 
 -- the draw that ended them gave this pair, or found that the IV Index is spent
 abbrev pub EndsIn : Drawn → DrawerView → DrawerView → Type 0
@@ -18,7 +19,7 @@ EndsIn (D.Spent iv) v w = AfterLost (HasCause (missed.Spent iv)) v w
 
 -- some draws found the counter at the mark, and the next ended them
 abbrev pub DrawsUntil : Drawn → DrawerView → DrawerView → Type 0
-DrawsUntil drawn v w = (tries : List (ℕ × ℕ)) × (u : DrawerView) × DryDraws tries v u × EndsIn drawn u w
+DrawsUntil drawn v w = (tries : List DryView) × (u : DrawerView) × DryDraws tries v u × EndsIn drawn u w
 
 -- a refill was asked for where this mark was seen
 abbrev pub IsRaised : ℕ → Option Rise → Type 0

@@ -15,10 +15,32 @@ use flash_model::Flash;
 use locked_node::{Node, Raised};
 use machine_contract::{Answered, Machine, Stop};
 use mesh_types::events::Event;
-use seq_word::Numbers;
+use seq_word::{Dry, Numbers};
 use turn_lock::Turn;
 
-/// Has an event handled. The bearer is the one of this place, `k`.
+/// What a bearer read of an event before its turn: of a network PDU what its reader says, where it reads early.
+pub fn read<M: Machine, S: Sharing>(sharing: &S, reader: &mut M::Reader, event: &Event) -> M::Early
+    ensures fits { M.fits result event.now }
+{
+    match event {
+        Event::Net(octets) if sharing.reads_early() => M::early(reader, octets),
+        _ => M::unread(),
+    }
+}
+
+// Renews a bearer's reader, where it reads early.
+fn renew<M: Machine, F: Flash + Send + Drop, S: Sharing>(
+    sharing: &S,
+    node: &Node<M, F>,
+    reader: &mut M::Reader,
+) {
+    if sharing.reads_early() {
+        node.reader(reader);
+    }
+}
+
+/// Has an event handled, of which this was read before, and renews the bearer's reader under the same lock. The bearer is the one of this place,
+/// `k`.
 pub fn act<M: Machine, F: Flash + Send + Drop, S: Sharing>(
     sharing: &S,
     n: &Numbers,
@@ -26,9 +48,12 @@ pub fn act<M: Machine, F: Flash + Send + Drop, S: Sharing>(
     k: u8,
     b: &mut Bearer<Node<M, F>>,
     event: &Event,
+    early: M::Early,
+    reader: &mut M::Reader,
 ) -> Result<Answered, Stop>
     requires rider { IsRider S.parts n.now turn.now b.old }
     requires event { IsEvent turn.now.first.machine.elements event.now }
+    requires early { M.fits early event.now }
     ensures rider { IsRider S.parts n.now turn.now b.new }
     ensures on { GoesOn b.old b.new }
     ensures frame { (b.new.lines ≡ b.old.lines) × (b.new.drawer ≡ b.old.drawer) }
@@ -46,7 +71,8 @@ pub fn act<M: Machine, F: Flash + Send + Drop, S: Sharing>(
         return Err(Stop::Memory);
     }
     let mut node = sharing.enter(turn, &mut b.pass);
-    let result = node.handle(n, k, b.number + 1, event);
+    let result = node.handle(n, k, b.number + 1, event, early);
+    renew(sharing, &node, reader);
     node.known();
     turn.leave(&mut b.pass, node);
     let answered = result?;
@@ -54,27 +80,29 @@ pub fn act<M: Machine, F: Flash + Send + Drop, S: Sharing>(
     Ok(answered)
 }
 
-/// Has a refill stored, where `mark` is still the mark that was published last, and can be raised. Then another mark is published.
+/// Has a refill stored, where the mark that was reached is still the one that was published last, and can be raised. Then another mark is
+/// published.
 pub fn refill<M: Machine, F: Flash + Send + Drop, S: Sharing>(
     sharing: &S,
     n: &Numbers,
     turn: &Turn<Node<M, F>>,
     b: &mut Bearer<Node<M, F>>,
-    mark: u64,
+    dry: Dry,
 ) -> Result<Raised, Stop>
     requires rider { IsRider S.parts n.now turn.now b.old }
-    requires seq { seq_of mark < 2 ^ 24 }
+    requires reached { dry.which ≡ n.now.which }
+    requires seq { seq_of dry.mark < 2 ^ 24 }
     ensures rider { IsRider S.parts n.now turn.now b.new }
     ensures on { GoesOn b.old b.new }
     ensures frame { (b.new.lines ≡ b.old.lines) × (b.new.drawer ≡ b.old.drawer) }
-    ensures raised { IfOk result (λ r. r.seen ≡ mark) }
+    ensures raised { IfOk result (λ r. r.seen ≡ dry.mark) }
     ensures did { (k first : ℕ) (tasks rest : List Task) → DidBy k first tasks rest b.old
         → OnOk result (DidBy k first tasks rest b.new) }
     ensures stopped { (k first : ℕ) (tasks rest : List Task) → DidBy k first tasks rest b.old
         → IfErr result (λ e. OnStop e (Broke k first tasks b.new)) }
 {
     let mut node = sharing.enter(turn, &mut b.pass);
-    let result = node.refill(n, mark);
+    let result = node.refill(n, dry);
     node.known();
     turn.leave(&mut b.pass, node);
     result

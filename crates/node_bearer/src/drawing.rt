@@ -17,7 +17,7 @@ use flash_model::Flash;
 use locked_node::{Node, Raised};
 use machine_contract::{Machine, Stop};
 use mesh_base::pair::Pair;
-use seq_word::{DrawStop, Drawer, Miss, Numbers};
+use seq_word::{DrawStop, Drawer, Dry, Miss, Numbers};
 use turn_lock::Turn;
 
 /// The SEQ at which an IV Index has no number left.
@@ -36,22 +36,23 @@ fn raise<M: Machine, F: Flash + Send + Drop, S: Sharing>(
     n: &Numbers,
     turn: &Turn<Node<M, F>>,
     b: &mut Bearer<Node<M, F>>,
-    mark: u64,
+    dry: Dry,
 ) -> Result<Option<Raised>, Stop>
     requires rider { IsRider S.parts n.now turn.now b.old }
+    requires reached { dry.which ≡ n.now.which }
     ensures rider { IsRider S.parts n.now turn.now b.new }
     ensures on { GoesOn b.old b.new }
     ensures frame { (b.new.lines ≡ b.old.lines) × (b.new.drawer ≡ b.old.drawer) }
-    ensures raised { seq_of mark < 2 ^ 24 → IfOk result (IsRaised mark) }
-    ensures last { 2 ^ 24 ≤ seq_of mark → (result ≡ Ok None) × (b.new ≡ b.old) }
+    ensures raised { seq_of dry.mark < 2 ^ 24 → IfOk result (IsRaised dry.mark) }
+    ensures last { 2 ^ 24 ≤ seq_of dry.mark → (result ≡ Ok None) × (b.new ≡ b.old) }
     ensures did { (k first : ℕ) (tasks rest : List Task) → DidBy k first tasks rest b.old
         → OnOk result (DidBy k first tasks rest b.new) }
     ensures stopped { (k first : ℕ) (tasks rest : List Task) → DidBy k first tasks rest b.old
         → IfErr result (λ e. OnStop e (Broke k first tasks b.new)) }
 {
     // Else the mark is at the end of its IV Index, and the counter under the next one: its mark was published since.
-    if mark % WORDS_PER_IV < SPENT_SEQ {
-        Ok(Some(refill(sharing, n, turn, b, mark)?))
+    if dry.mark() % WORDS_PER_IV < SPENT_SEQ {
+        Ok(Some(refill(sharing, n, turn, b, dry)?))
     } else {
         Ok(None)
     }
@@ -74,7 +75,7 @@ fn draw_below(n: &Numbers, d: &mut Drawer) -> Result<Pair, Option<DrawStop>>
         match n.try_draw(d) {
             Ok(pair) => return Ok(pair),
             Err(Miss::Spent { iv }) => return Err(Some(DrawStop::Spent { iv })),
-            Err(Miss::Dry { next, mark }) => return Err(Some(DrawStop::Dry { next, mark })),
+            Err(Miss::Dry(dry)) => return Err(Some(DrawStop::Dry(dry))),
             Err(Miss::Lost { .. }) => {}
         }
     }
@@ -104,8 +105,8 @@ pub fn draw<M: Machine, F: Flash + Send + Drop, S: Sharing>(
         match draw_below(n, &mut b.drawer) {
             Ok(pair) => return Ok(Drawn::Pair(pair)),
             Err(Some(DrawStop::Spent { iv })) => return Ok(Drawn::Spent(iv)),
-            Err(Some(DrawStop::Dry { next: _, mark })) => {
-                raise(sharing, n, turn, b, mark)?;
+            Err(Some(DrawStop::Dry(dry))) => {
+                raise(sharing, n, turn, b, dry)?;
             }
             Err(None) => return Err(Stop::Memory),
         }

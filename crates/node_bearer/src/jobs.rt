@@ -189,6 +189,7 @@ fn do_next<M: Machine, F: Flash + Send + Drop, S: Sharing>(
     k: u8,
     b: &mut Bearer<Node<M, F>>,
     event: &Event,
+    reader: &mut M::Reader,
 ) -> Result<(), Stop>
     requires rider { IsRider S.parts n.now turn.now b.old }
     requires event { IsEvent turn.now.first.machine.elements event.now }
@@ -200,7 +201,7 @@ fn do_next<M: Machine, F: Flash + Send + Drop, S: Sharing>(
     ensures stopped { (first : ℕ) (tasks rest : List Task) → DidBy k first tasks (follow event.now ∷ rest) b.old
         → IfErr result (λ e. OnStop e (Broke k first tasks b.new)) }
 {
-    let answered = act(sharing, n, turn, k, b, event)?;
+    let answered = act(sharing, n, turn, k, b, event, M::unread(), reader)?;
     do_quiet_jobs(
         sharing,
         n,
@@ -223,6 +224,7 @@ fn do_whole_job<M: Machine, F: Flash + Send + Drop, S: Sharing>(
     j: u8,
     event: &Event,
     job: &Job,
+    reader: &mut M::Reader,
 ) -> Result<(), Stop>
     requires rider { IsRider S.parts n.now turn.now b.old }
     requires job { IsJob event.now job.now }
@@ -237,7 +239,7 @@ fn do_whole_job<M: Machine, F: Flash + Send + Drop, S: Sharing>(
 {
     match do_job(sharing, n, turn, b, at, j, event, job)? {
         None => Ok(()),
-        Some(next) => do_next(sharing, n, turn, k, b, &next),
+        Some(next) => do_next(sharing, n, turn, k, b, &next, reader),
     }
 }
 
@@ -251,6 +253,7 @@ pub fn do_jobs<M: Machine, F: Flash + Send + Drop, S: Sharing>(
     at: u32,
     event: &Event,
     jobs: &[Job],
+    reader: &mut M::Reader,
 ) -> Result<(), Stop>
     requires rider { IsRider S.parts n.now turn.now b.old }
     requires entry { HasEntry b.old.pass.seen at event.now jobs.now }
@@ -266,7 +269,7 @@ pub fn do_jobs<M: Machine, F: Flash + Send + Drop, S: Sharing>(
         → IfErr result (λ e. OnStop e (Broke k first tasks b.new)) }
 {
     for j in 0..jobs.len() {
-        do_whole_job(sharing, n, turn, k, b, at, j as u8, event, &jobs[j])?;
+        do_whole_job(sharing, n, turn, k, b, at, j as u8, event, &jobs[j], reader)?;
     }
     Ok(())
 }

@@ -13,6 +13,9 @@ pub trait Sharing {
     /// How many parts of the lock a bearer's pass has.
     ghost parts: { ℕ };
 
+    /// Whether a bearer reads its network PDUs before it comes to its turn, so that others wait no longer than they have to.
+    fn reads_early(&self) -> bool;
+
     /// Has the value handed out.
     fn enter<T: Logged + Drop>(&self, turn: &Turn<T>, p: &mut Pass<T>) -> T
         requires pass { IsPassOf turn.now p.old }
@@ -28,16 +31,28 @@ pub trait Sharing {
 impl<R: Wait> Sharing for R {
     ghost parts = { 1 };
 
+    fn reads_early(&self) -> bool {
+        true
+    }
+
     fn enter<T: Logged + Drop>(&self, turn: &Turn<T>, p: &mut Pass<T>) -> T {
         turn.enter(self, p)
     }
 }
 
 /// A bearer that has the whole lock, so that it waits for nobody, and needs no handle.
-pub struct Alone;
+#[derive(Clone, Copy)]
+pub struct Alone {
+    /// Whether it reads network PDUs before its turn all the same.
+    pub reads_early: bool,
+}
 
 impl Sharing for Alone {
     ghost parts = { 1024 };
+
+    fn reads_early(&self) -> bool {
+        self.reads_early
+    }
 
     fn enter<T: Logged + Drop>(&self, turn: &Turn<T>, p: &mut Pass<T>) -> T {
         turn.enter_alone(p)

@@ -7,7 +7,7 @@ ghost use Rattle.run_definitions.specs.Order.{Task, handle, is_outside};
 ghost use Rattle.locked_node.specs.Node.{OnStop};
 ghost use Rattle.node_bearer.specs.Did.{AreEvents, Broke, DidBy, GoesOn, IsRider};
 
-use crate::acting::act;
+use crate::acting::{act, read};
 use crate::bearer::Bearer;
 use crate::gate::Gate;
 use crate::jobs::do_jobs;
@@ -19,7 +19,7 @@ use mesh_types::events::Event;
 use seq_word::Numbers;
 use turn_lock::Turn;
 
-/// Has an event from outside handled, and does all that follows from it.
+/// Has an event from outside handled, and does all that follows from it. It is read before the lock is taken.
 fn do_event<M: Machine, F: Flash + Send + Drop, G: Gate, S: Sharing>(
     sharing: &S,
     n: &Numbers,
@@ -28,6 +28,7 @@ fn do_event<M: Machine, F: Flash + Send + Drop, G: Gate, S: Sharing>(
     k: u8,
     b: &mut Bearer<Node<M, F>>,
     event: &Event,
+    reader: &mut M::Reader,
 ) -> Result<(), Stop>
     requires rider { IsRider S.parts n.now turn.now b.old }
     requires event { IsEvent turn.now.first.machine.elements event.now }
@@ -41,16 +42,17 @@ fn do_event<M: Machine, F: Flash + Send + Drop, G: Gate, S: Sharing>(
 {
     let number = b.number.saturating_add(1);
     gate.before(k, number);
-    let answered = act(sharing, n, turn, k, b, event)?;
+    let early = read::<M, S>(sharing, reader, event);
+    let answered = act(sharing, n, turn, k, b, event, early, reader)?;
     gate.between(k, number);
     let jobs = answered.jobs.as_slice();
-    let done = do_jobs(sharing, n, turn, k, b, answered.at, event, jobs);
+    let done = do_jobs(sharing, n, turn, k, b, answered.at, event, jobs, reader);
     gate.after(k, number);
     done
 }
 
 /// Has all events of a bearer handled, in their order, and does all that follows from each before it comes to the next. It stops at the
-/// first refusal.
+/// first refusal. Each is read by what `reader` is from the one before.
 pub fn work<M: Machine, F: Flash + Send + Drop, G: Gate, S: Sharing>(
     sharing: &S,
     n: &Numbers,
@@ -59,6 +61,7 @@ pub fn work<M: Machine, F: Flash + Send + Drop, G: Gate, S: Sharing>(
     k: u8,
     b: &mut Bearer<Node<M, F>>,
     events: &[Event],
+    reader: &mut M::Reader,
 ) -> Result<(), Stop>
     requires rider { IsRider S.parts n.now turn.now b.old }
     requires events { AreEvents turn.now.first.machine.elements events.now }
@@ -70,7 +73,7 @@ pub fn work<M: Machine, F: Flash + Send + Drop, G: Gate, S: Sharing>(
         → IfErr result (λ e. OnStop e (Broke k first tasks b.new)) }
 {
     for event in events {
-        do_event(sharing, n, turn, gate, k, b, event)?;
+        do_event(sharing, n, turn, gate, k, b, event, reader)?;
     }
     Ok(())
 }

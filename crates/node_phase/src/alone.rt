@@ -6,7 +6,7 @@ ghost use Rattle.locked_node.specs.Node.{origin_of};
 ghost use Rattle.node_bearer.specs.Did.{AreEvents};
 ghost use Rattle.node_phase.specs.Worked.{WasPhase};
 
-use crate::bearers::{Done, work_phase};
+use crate::bearers::{Done, Seated, work_phase};
 use crate::kept::KeptByBearers;
 use flash_model::Flash;
 use locked_node::Node;
@@ -18,18 +18,20 @@ use std::alloc::{AllocError, Global};
 use turn_lock::Turn;
 
 /// Has the one bearer of a phase do all these events; and returns the node behind them, with what is left of the bearer. `number` is that of
-/// its last entry so far. What the bearer keeps of keys is taken from `kept`, and put there again.
+/// its last entry so far. What the bearer keeps of keys, and what it reads octets by before its turn, where `alone` says that it does, is taken
+/// from `kept`, and put there again.
 ///
 /// It is the phase that `run_phase` is for one list of events. It starts no thread and waits for none, so it asks for no handle.
 pub fn run_alone<M: Machine, F: Flash + Send + Drop, G: Gate>(
     alloc: Global,
+    alone: &Alone,
     gate: &G,
     n: &Numbers,
     drawer: &mut Drawer,
     node: Node<M, F>,
     events: &[Event],
     number: u32,
-    kept: &mut KeptByBearers,
+    kept: &mut KeptByBearers<M>,
 ) -> Result<(Node<M, F>, Done), AllocError>
     requires made { node.machine.which ≡ n.now.which }
     requires draws { drawer.old.which ≡ n.now.which }
@@ -43,8 +45,9 @@ pub fn run_alone<M: Machine, F: Flash + Send + Drop, G: Gate>(
     node.known();
     let lines = Vec::with_capacity(alloc, events.len())?;
     let seals = kept.take(alloc)?;
+    let reader = kept.take_reader(alloc)?;
     let (turn, pass) = Turn::start(alloc, node)?;
-    let mut bearer = Bearer {
+    let bearer = Bearer {
         drawer: n.split(drawer),
         pass,
         lines,
@@ -52,7 +55,9 @@ pub fn run_alone<M: Machine, F: Flash + Send + Drop, G: Gate>(
         kept: seals,
         stop: None,
     };
-    work_phase(&Alone, n, &turn, gate, 0, &mut bearer, events);
+    let mut seated = Seated { bearer, reader };
+    work_phase(alone, n, &turn, gate, 0, &mut seated, events);
+    let (bearer, reader) = seated.into_parts();
     let Bearer {
         drawer: seat,
         mut pass,
@@ -63,6 +68,7 @@ pub fn run_alone<M: Machine, F: Flash + Send + Drop, G: Gate>(
     } = bearer;
     n.join(drawer, seat);
     kept.put(seals);
+    kept.put_reader(reader);
     let node = turn.enter_alone(&mut pass);
     turn.close(pass);
     let done = Done {

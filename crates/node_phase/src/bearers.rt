@@ -18,6 +18,7 @@ use mesh_types::history::Sent;
 use node_bearer::{Bearer, Gate, Sharing, work};
 use seq_word::{Drawer, Numbers};
 use std::alloc::{AllocError, Global};
+use std::marker::Model;
 use turn_lock::laws::{kept_law, merge_law};
 use turn_lock::{Pass, Turn};
 
@@ -30,6 +31,31 @@ pub struct Done {
     pub number: u32,
     /// Why it stopped.
     pub stop: Option<Stop>,
+}
+
+/// A bearer with what it reads octets by before its turn. What is handled is the same whatever that is, so a clause sees the bearer alone.
+#[derive(Drop)]
+pub struct Seated<M: Machine, F: Flash + Send + Drop> {
+    pub(crate) bearer: Bearer<Node<M, F>>,
+    pub(crate) reader: Box<M::Reader>,
+}
+
+impl<M: Machine, F: Flash + Send + Drop> Model for Seated<M, F> {
+    ghost use Rattle.node_bearer.specs.Did.{BearerOf};
+
+    ghost Value = { BearerOf F };
+
+    ghost view = { λ s. s.bearer };
+}
+
+impl<M: Machine, F: Flash + Send + Drop> Seated<M, F> {
+    /// The bearer, and what it reads by.
+    pub(crate) fn into_parts(self) -> (Bearer<Node<M, F>>, Box<M::Reader>)
+        ensures bearer { result.0 ≡ self }
+    {
+        let Seated { bearer, reader } = self;
+        (bearer, reader)
+    }
 }
 
 /// How many events the bearer at this place has.
@@ -50,8 +76,8 @@ pub fn split_all<M: Machine, F: Flash + Send + Drop>(
     pass: &mut Pass<Node<M, F>>,
     counts: &[u32],
     plan: &[Vec<Event>],
-    kept: &mut KeptByBearers,
-) -> Result<Vec<Bearer<Node<M, F>>>, AllocError>
+    kept: &mut KeptByBearers<M>,
+) -> Result<Vec<Seated<M, F>>, AllocError>
     requires made { turn.now.first.machine.which ≡ n.now.which }
     requires draws { drawer.old.which ≡ n.now.which }
     requires pass { IsPassOf turn.now pass.old × (pass.old.inside ≡ false) }
@@ -71,16 +97,18 @@ pub fn split_all<M: Machine, F: Flash + Send + Drop>(
     for number in counts {
         let lines = Vec::with_capacity(alloc, events_of(plan, bearers.len()))?;
         let seals = kept.take(alloc)?;
+        let reader = kept.take_reader(alloc)?;
         let seat = n.split(drawer);
         let own = turn.split(pass);
-        bearers.push(Bearer {
+        let bearer = Bearer {
             drawer: seat,
             pass: own,
             lines,
             number: *number,
             kept: seals,
             stop: None,
-        })?;
+        };
+        bearers.push(Seated { bearer, reader })?;
     }
     Ok(bearers)
 }
@@ -92,7 +120,7 @@ pub fn work_phase<M: Machine, F: Flash + Send + Drop, G: Gate, S: Sharing>(
     turn: &Turn<Node<M, F>>,
     gate: &G,
     k: u8,
-    b: &mut Bearer<Node<M, F>>,
+    b: &mut Seated<M, F>,
     events: &[Event],
 )
     requires rider { IsRider S.parts n.now turn.now b.old }
@@ -101,7 +129,8 @@ pub fn work_phase<M: Machine, F: Flash + Send + Drop, G: Gate, S: Sharing>(
     ensures rider { IsRider S.parts n.now turn.now b.new }
     ensures worked { Worked k events.now b.old b.new }
 {
-    b.stop = work(sharing, n, turn, gate, k, b, events).err();
+    let reader = &mut *b.reader;
+    b.bearer.stop = work(sharing, n, turn, gate, k, &mut b.bearer, events, reader).err();
 }
 
 /// Takes all bearers in: what they drew and saw goes to the drawer, their entries to the pass, and what they keep is kept.
@@ -111,8 +140,8 @@ pub fn join_all<M: Machine, F: Flash + Send + Drop>(
     turn: &Turn<Node<M, F>>,
     drawer: &mut Drawer,
     pass: &mut Pass<Node<M, F>>,
-    bearers: Vec<Bearer<Node<M, F>>>,
-    kept: &mut KeptByBearers,
+    bearers: Vec<Seated<M, F>>,
+    kept: &mut KeptByBearers<M>,
 ) -> Result<Vec<Done>, AllocError>
     requires draws { drawer.old.which ≡ n.now.which }
     requires pass { IsPassOf turn.now pass.old × (pass.old.inside ≡ false) }
@@ -136,6 +165,7 @@ pub fn join_all<M: Machine, F: Flash + Send + Drop>(
     merge_law::<Mark>();
     let mut dones = Vec::with_capacity(alloc, bearers.len())?;
     for bearer in bearers {
+        let (bearer, reader) = bearer.into_parts();
         let Bearer {
             drawer: seat,
             pass: own,
@@ -147,6 +177,7 @@ pub fn join_all<M: Machine, F: Flash + Send + Drop>(
         n.join(drawer, seat);
         turn.join(pass, own);
         kept.put(seals);
+        kept.put_reader(reader);
         dones.push(Done {
             lines,
             number,

@@ -2,17 +2,19 @@
 #![tactic(auto)]
 
 use job_sealing::KeptSeals;
+use machine_contract::Machine;
 use std::alloc::{AllocError, Global};
 use std::marker::Model;
 
-/// The schedules of the keys that the bearers of a life sealed with last, those of the first bearer first, for its next phase. What is sealed
-/// is the same whatever is kept, so a clause sees nothing of it.
+/// The schedules of the keys that the bearers of a life sealed with last, and what each reads octets by before its turn, those of the first
+/// bearer first, for its next phase. What is sealed and handled is the same whatever is kept, so a clause sees nothing of it.
 #[derive(Drop)]
-pub struct KeptByBearers {
+pub struct KeptByBearers<M: Machine> {
     seals: Vec<Box<KeptSeals>>,
+    readers: Vec<Box<M::Reader>>,
 }
 
-impl Model for KeptByBearers {
+impl<M: Machine> Model for KeptByBearers<M> {
     ghost use Rattle.std.specs.Prelude.{⊤};
 
     ghost Value = { ⊤ };
@@ -20,11 +22,12 @@ impl Model for KeptByBearers {
     ghost view = { λ _. tt };
 }
 
-impl KeptByBearers {
-    /// Nothing was sealed yet. It takes no memory.
-    pub fn new(alloc: Global) -> KeptByBearers {
+impl<M: Machine> KeptByBearers<M> {
+    /// Nothing was sealed or read yet. It takes no memory.
+    pub fn new(alloc: Global) -> KeptByBearers<M> {
         KeptByBearers {
             seals: Vec::new(alloc),
+            readers: Vec::new(alloc),
         }
     }
 
@@ -39,5 +42,18 @@ impl KeptByBearers {
     /// Keeps what a bearer has, behind that of the bearers before it. Where there is no memory, it is dropped, and made anew.
     pub(crate) fn put(&mut self, kept: Box<KeptSeals>) {
         let _ = self.seals.push(kept);
+    }
+
+    /// What the first bearer read by whose wasn't taken yet. The error is for want of memory, which is taken where no bearer read by anything.
+    pub(crate) fn take_reader(&mut self, alloc: Global) -> Result<Box<M::Reader>, AllocError> {
+        if self.readers.is_empty() {
+            return Ok(Box::new(alloc, M::new_reader())?);
+        }
+        Ok(self.readers.remove(0))
+    }
+
+    /// Keeps what a bearer reads by, behind that of the bearers before it. Where there is no memory, it is dropped, and made anew.
+    pub(crate) fn put_reader(&mut self, reader: Box<M::Reader>) {
+        let _ = self.readers.push(reader);
     }
 }

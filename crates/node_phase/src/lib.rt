@@ -18,5 +18,5 @@ mod threads;
 pub use alone::run_alone;
 pub use bearers::Done;
 pub use kept::KeptByBearers;
-pub use node_bearer::{FreeGate, Gate};
+pub use node_bearer::{Alone, FreeGate, Gate};
 pub use phase::run_phase;

@@ -14,7 +14,7 @@ use flash_model::Flash;
 use locked_node::Node;
 use machine_contract::Machine;
 use mesh_types::events::Event;
-use node_bearer::Gate;
+use node_bearer::{Alone, Gate};
 use node_limits::BEARERS;
 use seq_word::{Drawer, Numbers};
 use std::alloc::{AllocError, Global};
@@ -32,7 +32,7 @@ fn run_beside<M: Machine, F: Flash + Send + Drop, G: Gate, R: Threads + Wait + S
     gate: &G,
     plan: &[Vec<Event>],
     counts: &[u32],
-    kept: &mut KeptByBearers,
+    kept: &mut KeptByBearers<M>,
 ) -> Result<(Node<M, F>, Vec<Done>), AllocError>
     requires made { node.machine.which ≡ n.now.which }
     requires draws { drawer.old.which ≡ n.now.which }
@@ -64,7 +64,7 @@ fn run_lone<M: Machine, F: Flash + Send + Drop, G: Gate>(
     gate: &G,
     plan: &[Vec<Event>],
     counts: &[u32],
-    kept: &mut KeptByBearers,
+    kept: &mut KeptByBearers<M>,
 ) -> Result<(Node<M, F>, Vec<Done>), AllocError>
     requires made { node.machine.which ≡ n.now.which }
     requires draws { drawer.old.which ≡ n.now.which }
@@ -77,8 +77,11 @@ fn run_lone<M: Machine, F: Flash + Send + Drop, G: Gate>(
         (λ r. WasPhase node r.0 drawer.old drawer.new (map (λ v. v.items) plan.now) counts.now r.1.items) }
 {
     let mut dones = Vec::with_capacity(alloc, 1)?;
+    // It reads before its turn, as bearers do that share the lock.
+    let alone = Alone { reads_early: true };
     let (node, done) = run_alone(
         alloc,
+        &alone,
         gate,
         n,
         drawer,
@@ -104,7 +107,7 @@ pub fn run_phase<M: Machine, F: Flash + Send + Drop, G: Gate, R: Threads + Wait 
     gate: &G,
     plan: &[Vec<Event>],
     counts: &[u32],
-    kept: &mut KeptByBearers,
+    kept: &mut KeptByBearers<M>,
 ) -> Result<(Node<M, F>, Vec<Done>), AllocError>
     requires made { node.machine.which ≡ n.now.which }
     requires draws { drawer.old.which ≡ n.now.which }

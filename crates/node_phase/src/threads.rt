@@ -5,12 +5,12 @@ ghost use Rattle.std.specs.Prelude.{◌≡◌, ℕ, ◌<◌, ◌≤◌, length, 
 ghost use Rattle.node_bearer.specs.Did.{AreEvents, IsRider};
 ghost use Rattle.node_phase.specs.Worked.{IsFresh, Worked};
 
-use crate::bearers::work_phase;
+use crate::bearers::{Seated, work_phase};
 use flash_model::Flash;
 use locked_node::Node;
 use machine_contract::Machine;
 use mesh_types::events::Event;
-use node_bearer::{Bearer, Gate};
+use node_bearer::Gate;
 use node_limits::BEARERS;
 use seq_word::Numbers;
 use std::sync::Wait;
@@ -25,7 +25,7 @@ pub fn work_all<M: Machine, F: Flash + Send + Drop, G: Gate, R: Threads + Wait +
     turn: &Turn<Node<M, F>>,
     gate: &G,
     plan: &[Vec<Event>],
-    bearers: &mut [Bearer<Node<M, F>>],
+    bearers: &mut [Seated<M, F>],
 )
     requires few { length bearers.old ≤ BEARERS }
     requires plan { length plan.now ≡ length bearers.old }
@@ -42,7 +42,7 @@ pub fn work_all<M: Machine, F: Flash + Send + Drop, G: Gate, R: Threads + Wait +
         rt,
         bearers,
         BEARERS,
-        &|i, b: &mut Bearer<Node<M, F>>|
+        &|i, b: &mut Seated<M, F>|
             requires at { i < length plan.now }
             requires few { length plan.now ≤ BEARERS }
             requires rider { IsRider 1 n.now turn.now b.now }

@@ -9,17 +9,32 @@ use Rattle.node_store.specs.Tie.{Holds, IsNode, IsStoreOf}
 use Rattle.store_definitions.specs.Config.{Config, config_of}
 use Rattle.machine_standing.proofs.opening.mount_node.Goals as goal
 
+pub returns-in-Err-clause-untouched : goal.returns-in-Err-clause-untouched
+returns-in-Err-clause-untouched g c =
+    let old = g.F.Flash.chip c.args.flash.now in
+    let new = g.F.Flash.chip c.mount.new.flash in
+    let node : IsNode old.now = c.requires.node.each old.now (g.met.F.Flash.reads_image c.args.flash.now c.requires.fresh.honest) in
+    let leaves = c.mount.ensures.any_moment c.requires.fresh node.tidy node.records (holds_exactly old.now node.records node.read) in
+    untouched old new node (λ image is. leaves.each image (g.met.F.Flash.counts_now c.mount.new.flash _ image leaves.later is)) (c.mount.ensures.frame.honest ∙ c.requires.fresh.honest)
+
+pub returns-in-Ok-clause-untouched : goal.returns-in-Ok-clause-untouched
+returns-in-Ok-clause-untouched g c =
+    let old = g.F.Flash.chip c.args.flash.now in
+    let new = g.F.Flash.chip c.mount.new.flash in
+    let node : IsNode old.now = c.requires.node.each old.now (g.met.F.Flash.reads_image c.args.flash.now c.requires.fresh.honest) in
+    let leaves = c.mount.ensures.any_moment c.requires.fresh node.tidy node.records (holds_exactly old.now node.records node.read) in
+    untouched old new node (λ image is. leaves.each image (g.met.F.Flash.counts_now c.mount.new.flash _ image leaves.later is)) (c.mount.ensures.frame.honest ∙ c.requires.fresh.honest)
+
 pub returns-in-Err-clause-cause : goal.returns-in-Err-clause-cause
 returns-in-Err-clause-cause g c =
     let old = g.F.Flash.chip c.args.flash.now in
     let new = g.F.Flash.chip c.mount.new.flash in
     let node : IsNode old.now = c.requires.node.each old.now (g.met.F.Flash.reads_image c.args.flash.now c.requires.fresh.honest) in
-    let holds : Holds old.now node.records = holds_exactly old.now node.records node.read in
-    let leaves = c.mount.ensures.any_moment c.requires.fresh node.tidy node.records holds in
+    let leaves = c.mount.ensures.any_moment c.requires.fresh node.tidy node.records (holds_exactly old.now node.records node.read) in
     let same : IsUntouched IsNode old new =
     untouched old new node (λ image is. leaves.each image (g.met.F.Flash.counts_now c.mount.new.flash _ image leaves.later is)) (c.mount.ensures.frame.honest ∙ c.requires.fresh.honest) in
     subst (λ (f : StartFault). IsStartCause IsNode old new f) (sym c.start_fault.ensures)
-    (start_cause old new node c.in-Err.fault c.what_is_read_is_mounted.ensures.stands c.requires.fresh.honest c.in-Err.ensures.cause same)
+    (start_cause old new node c.in-Err.fault c.what_is_read_is_mounted.ensures.stands c.requires.fresh.honest c.in-Err.ensures.cause same (λ other. (c.in-Err.ensures.refused other).0))
 
 pub returns-in-Ok-clause-ok : goal.returns-in-Ok-clause-ok
 returns-in-Ok-clause-ok g c =

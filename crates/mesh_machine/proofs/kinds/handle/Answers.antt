@@ -8,6 +8,9 @@ use Rattle.mesh_machine.proofs.kinds.handle.Goals as goal
 pub hear-requires-clause-turn : goal.hear-requires-clause-turn
 hear-requires-clause-turn g c = subst (λ (e : Event). IsTurnOf c.args.parts.now e) c.in-Net.is c.requires.turn
 
+pub hear-requires-clause-known : goal.hear-requires-clause-known
+hear-requires-clause-known g c = c.requires.known c.in-Net.octets c.in-Net.is
+
 pub returns-in-Net-clause-done : goal.returns-in-Net-clause-done
 returns-in-Net-clause-done g c =
     subst (λ (e : Event). IfOk c.hear.result (IsDone c.args.parts.now c.hear.new.parts e c.args.place (g.F.Flash.chip c.args.flash.now) (g.F.Flash.chip c.hear.new.flash)))

@@ -1,5 +1,4 @@
 use Rattle.std.proofs.Common.{List, ℕ, ◌<◌, ◌^◌, ap, refl, subst, sym}
-use Rattle.event_plans.specs.Basis.{Plan}
 use Rattle.event_plans.specs.Plans.{IsPlanned, of_pdu}
 use Rattle.machine_ties.specs.Kept.{IsBounded}
 use Rattle.mesh_machine.proofs.Handled.{asked_by, asked_keys, asked_unicast, cut_by, done_by, some_plan}

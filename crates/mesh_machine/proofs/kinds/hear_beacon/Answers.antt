@@ -1,8 +1,6 @@
-use Rattle.std.proofs.Common.{List, ℕ, ◌<◌, ◌^◌, ap, refl, subst, sym}
-use Rattle.event_plans.specs.Basis.{Plan}
+use Rattle.std.proofs.Common.{List, ℕ, ap, refl, subst}
 use Rattle.event_plans.specs.Plans.{IsPlanned, of_beacon}
-use Rattle.machine_ties.specs.Kept.{IsBounded}
-use Rattle.mesh_machine.proofs.Handled.{asked_by, asked_keys, asked_unicast, cut_by, done_by, some_plan}
+use Rattle.mesh_machine.proofs.Handled.{asked_by, asked_keys, cut_by, done_by}
 use Rattle.mesh_machine.specs.Handling.{IsAsked}
 use Rattle.mesh_types.specs.declared.events.Event.{Event}
 use Rattle.mesh_types.specs.declared.events.Event.TheVariants as E

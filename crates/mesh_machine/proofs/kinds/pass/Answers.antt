@@ -1,7 +1,5 @@
-use Rattle.std.proofs.Common.{List, ℕ, ◌<◌, ◌^◌, ap, refl, subst, sym}
-use Rattle.event_plans.specs.Basis.{Plan}
-use Rattle.event_plans.specs.Plans.{IsPlanned, of_tick}
-use Rattle.machine_ties.specs.Kept.{IsBounded}
+use Rattle.std.proofs.Common.{◌<◌, ◌^◌, refl, subst, sym}
+use Rattle.event_plans.specs.Plans.{of_tick}
 use Rattle.mesh_machine.proofs.Handled.{asked_by, asked_keys, asked_unicast, cut_by, done_by, some_plan}
 use Rattle.mesh_machine.specs.Handling.{IsAsked}
 use Rattle.mesh_types.specs.declared.events.Event.{Event}

@@ -1,4 +1,4 @@
-use Rattle.std.proofs.Common.{◌≡◌, List, [], false, refl, ap, sym, subst}
+use Rattle.std.proofs.Common.{◌≡◌, ◌∙◌, List, [], false, refl, ap, sym, subst}
 use Rattle.event_plans.specs.Memory.{IsFitFor}
 use Rattle.machine_standing.proofs.Opened.{opened_ready}
 use Rattle.machine_standing.specs.Ties.{IsNodeStore}
@@ -10,12 +10,12 @@ use Rattle.node_records.specs.declared.persist.Persist.{Persist}
 use Rattle.node_store.specs.View.{StoreView}
 use Rattle.mesh_machine.proofs.opening.open.Goals as goal
 
-pub invariant_of-machine : goal.invariant_of-machine
-invariant_of-machine c e =
+pub invariant_of-apart : goal.invariant_of-apart
+invariant_of-apart c e =
     let (over, node) = c.requires.node in
     let r = c.in_ok-reserve.reserve in
     let t = c.in_ok-tables.tables in
-    let log = c.in_ok-history.history in
+    let log = c.reserve_all.new.self in
     let store : c.args.store ≡ r.store = sym c.in_ok-reserve.ensures.store in
     let says : IsNodeStore over r.store.persist = subst (λ (s : StoreView). IsNodeStore over s.persist) store node in
     let meaning : IsMeaningOf over c.persist.result.now =
@@ -26,8 +26,8 @@ invariant_of-machine c e =
     (subst (λ (s : StoreView). IsFitFor t s.persist) store (subst (λ (p : Persist). IsFitFor t p) c.persist.ensures.value c.in_ok-tables.ensures.fit))
     (subst (λ (s : StoreView). s.journal.closed ≡ false) store c.requires.usable)
     (ap (λ (p : Persist). p.elements) c.persist-p.ensures.value) in
-    subst (λ n. IsReady (record (opened r t c.persist-p.result.now.elements) { entries = log.entries; taken = n })) (sym c.in_ok-history.ensures.taken)
-    (subst (λ (l : List Entry). IsReady (record (opened r t c.persist-p.result.now.elements) { entries = l })) (sym c.in_ok-history.ensures.entries) base)
+    subst (λ n. IsReady (record (opened r t c.persist-p.result.now.elements) { entries = log.entries; taken = n })) (sym (c.reserve_all.ensures.taken ∙ c.in_ok-history.ensures.taken))
+    (subst (λ (l : List Entry). IsReady (record (opened r t c.persist-p.result.now.elements) { entries = l })) (sym (c.reserve_all.ensures.entries ∙ c.in_ok-history.ensures.entries)) base)
 
 pub returns-clause-tables : goal.returns-clause-tables
 returns-clause-tables c over meaning =

@@ -61,7 +61,7 @@ returns g c =
     let order = order_whole items before (chip node.flash).setting.arm c.requires.order
     (subst (λ xs. IsSameOrOf (steps_of xs) before (chip node.flash).setting.arm) c.requires.behind
     (subst (λ n. IsSameOrOf (steps_of c.args.steps.now) (chip n.flash).setting.arm (chip node.flash).setting.arm) c.in_ok-opened.ensures.value did.arm)) in
-    let log : LifeLog = record { opened = W.On started.state started.mark; history = record { entries = c.in_ok-node.told.entries; refills = c.finish-left.result.0.refills }; sends = c.in_ok-node.told.sends; drawn = Some c.close-drawn.result; end = c.end_of-end.result } in
+    let log : LifeLog = record { opened = W.On started.state started.mark; history = record { entries = c.in_ok-node.told.entries; refills = c.finish-left.result.0.refills }; sends = c.in_ok-node.told.sends; drawn = Some c.close-drawn.result; end = c.end_of-end.result; early = c.early_reads-early.result } in
     let opened : log.opened ≡ W.On (config_of s.over).iv (config_of s.over).mark = ap (λ v. W.On v started.mark) s.state ∙ ap (W.On (config_of s.over).iv) s.mark in
     let held = subst (λ n. (chip n.flash).setting.arm ≢ None → (chip node.flash).setting.arm ≢ None) c.in_ok-opened.ensures.value did.held in
     let given : node.stops ≡ 0 → HasGiven plan (chip node.flash).setting.arm =

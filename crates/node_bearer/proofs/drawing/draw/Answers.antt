@@ -22,6 +22,13 @@ returns-in-Err-Some-Spent-clause-tries g c =
 pub returns-in-Ok-clause-tries : goal.returns-in-Ok-clause-tries
 returns-in-Ok-clause-tries g c = (c.loop.invariant.dry.0, c.loop.b.drawer, c.loop.invariant.dry.1, c.in-Ok.ensures.found)
 
+-- what is asked with was found at these words
+pub raise-requires-clause-reached : goal.raise-requires-clause-reached
+raise-requires-clause-reached g c κs lives =
+    let e = c.in-Err-Some-Dry.ensures in
+    let cause = rw c.in-Err-Some-Dry.field-0-0-is at rw c.in-Err-Some-Dry.field-0-is at e.cause in
+    cause.3.3 ∙ e.frame.0 ∙ c.loop.invariant.rider.draws
+
 pub loop-preserved : goal.loop-preserved
 loop-preserved g c =
     let b = c.loop.b in
@@ -37,7 +44,7 @@ loop-preserved g c =
         parts = c.raise.ensures.on.parts ∙ e.err.parts ∙ was.on.parts;
         stop = c.raise.ensures.on.stop ∙ was.on.stop;
       };
-      dry = ((c.in-Err-Some-Dry.field-0-0-0, c.in-Err-Some-Dry.mark) ∷ was.dry.0, (b.drawer, was.dry.1, subst (λ (d : DrawerView). AfterLost (HasCause (missed.Dry c.in-Err-Some-Dry.field-0-0-0 c.in-Err-Some-Dry.mark)) b.drawer d) (sym c.raise.ensures.frame.1) cause));
+      dry = (c.in-Err-Some-Dry.dry ∷ was.dry.0, (b.drawer, was.dry.1, subst (λ (d : DrawerView). AfterLost (HasCause (missed.Dry c.in-Err-Some-Dry.dry)) b.drawer d) (sym c.raise.ensures.frame.1) cause));
       frame = c.raise.ensures.frame.0 ∙ was.frame;
       did = λ k first tasks rest h. c.in_ok-raise-in-Err-Some-Dry.ensures.did k first tasks rest
           (did_looked k first tasks rest b.pass.own b.pass.seen b.lines.items b.number b.drawer c.draw_below.new.d e.err.drawn e.err.noted e.looks (was.did k first tasks rest h));

@@ -1,6 +1,7 @@
 -- What the bearer did is as it was before the tries so far.
 use Rattle.std.proofs.Common.{◌≡◌, ℕ, List}
 use Rattle.run_definitions.specs.Order.{Task}
+use Rattle.seq_word.specs.Dry.{DryView}
 use Rattle.node_bearer.specs.Did.{DidBy, GoesOn, IsRider}
 use Rattle.node_bearer.specs.Tries.{DryDraws}
 use Rattle.node_bearer.proofs.drawing.draw.Given as goal
@@ -9,7 +10,7 @@ abbrev pub invariant-loop : goal.invariant-loop
 invariant-loop g l = record {
   rider : IsRider g.S.Sharing.parts l.n l.turn l.b;
   on : GoesOn l.initial.b l.b;
-  dry : (tries : List (ℕ × ℕ)) × DryDraws tries l.initial.b.drawer l.b.drawer;
+  dry : (tries : List DryView) × DryDraws tries l.initial.b.drawer l.b.drawer;
   frame : l.b.lines ≡ l.initial.b.lines;
   did : (k first : ℕ) (tasks rest : List Task) → DidBy k first tasks rest l.initial.b → DidBy k first tasks rest l.b;
 }

@@ -18,7 +18,8 @@ returns-clause-was g c =
     let joined = c.join.ensures in
     let entered = c.enter_alone-node.ensures in
     let old : BearerOf g.row.F.Denot = record { drawer = c.split.result; pass = c.in_ok-turn.pass; lines = c.in_ok-lines.lines; number = c.args.number; kept = c.in_ok-seals.seals; stop = None } in
-    let b : BearerOf g.row.F.Denot = c.work_phase.new.b in
+    let b : BearerOf g.row.F.Denot = c.into_parts-bearer.result.0 in
+    let same : b.drawer.parts ≡ c.work_phase.new.b.drawer.parts = ap (λ (x : BearerOf g.row.F.Denot). x.drawer.parts) c.into_parts-bearer.ensures.bearer in
     let new = node_marks c.enter_alone-node.result in
     let first = ap node_marks c.in_ok-turn.ensures.first in
     let places : b.pass.own ≡ added (node_marks c.args.node) new = entered.places ∙ ap (λ ms. added ms new) first in
@@ -32,7 +33,7 @@ returns-clause-was g c =
       drawn = joined.drawn ∙ ap (λ x. x.drawn ++ b.drawer.drawn) seat.frame ∙ ap (λ l. d.drawn ++ l) (sym (append-nil b.drawer.drawn));
       looks = joined.looks ∙ ap (λ x. x.looks ++ b.drawer.looks) seat.frame ∙ ap (λ l. d.looks ++ l) (sym (append-nil b.drawer.looks));
       same = joined.noted ∙ ap (λ x. x.noted ++ b.drawer.noted) seat.frame ∙ ap (λ l. d.noted ++ l) (sym (append-nil b.drawer.noted));
-      parts = λ few. let one = part_of-one d.parts few in omega (arith, joined.parts, ap (λ x. x.parts) seat.frame, ap (λ x. x.parts) seat.value, one, few, c.work_phase.ensures.worked.parts);
+      parts = λ few. let one = part_of-one d.parts few in omega (arith, joined.parts, ap (λ x. x.parts) seat.frame, ap (λ x. x.parts) seat.value, one, few, same, c.work_phase.ensures.worked.parts);
       front = record { rest = entries_of b.pass.own; is = entered.whole ∙ ap (λ ms. ms ++ entries_of b.pass.own) first };
       kept = λ keep ys h. ap (filter keep) (sym places) ∙ kept_one keep b.pass.own ys h;
       seen = All-cons (λ (x : BearerOf g.row.F.Denot). IsPrefix x.pass.seen new) b [] entered.seen (All-nil (λ (x : BearerOf g.row.F.Denot). IsPrefix x.pass.seen new));
@@ -41,6 +42,7 @@ returns-clause-was g c =
       left = refl;
     }
   where
-    only : (k : ℕ) (x : BearerOf g.row.F.Denot) → k < 1 → Worked k (list_at (c.args.events.now ∷ []) k) (slice_index_or (record { drawer = c.split.result; pass = c.in_ok-turn.pass; lines = c.in_ok-lines.lines; number = c.args.number; kept = c.in_ok-seals.seals; stop = None } ∷ []) k x) (slice_index_or (c.work_phase.new.b ∷ []) k x)
-    only zero x lt = c.work_phase.ensures.worked
+    only : (k : ℕ) (x : BearerOf g.row.F.Denot) → k < 1 → Worked k (list_at (c.args.events.now ∷ []) k) (slice_index_or (record { drawer = c.split.result; pass = c.in_ok-turn.pass; lines = c.in_ok-lines.lines; number = c.args.number; kept = c.in_ok-seals.seals; stop = None } ∷ []) k x) (slice_index_or (c.into_parts-bearer.result.0 ∷ []) k x)
+    only zero x lt =
+        subst (λ (y : BearerOf g.row.F.Denot). Worked 0 c.args.events.now (record { drawer = c.split.result; pass = c.in_ok-turn.pass; lines = c.in_ok-lines.lines; number = c.args.number; kept = c.in_ok-seals.seals; stop = None }) y) (sym c.into_parts-bearer.ensures.bearer) c.work_phase.ensures.worked
     only (suc k) x lt = absurd (omega (arith, lt))

@@ -15,9 +15,10 @@ pub loop-bearer-preserved : goal.loop-bearer-preserved
 loop-bearer-preserved g c =
     let was = c.loop-bearer in
     let inv = was.invariant in
-    let b = c.in-Some.bearer in
+    let b = c.into_parts-bearer.result.0 in
     let left = into_iter_items c.next.new.self in
-    let items = c.in-Some.ensures.steps.0 in
+    -- the bearer of the next seat
+    let items = c.in-Some.ensures.steps.0 ∙ ap (λ x. x ∷ left) (sym c.into_parts-bearer.ensures.bearer) in
     let drew = c.join.ensures in
     let turn = c.join-in-loop-bearer.ensures in
     let mine = c.join-in-loop-bearer.new.p in

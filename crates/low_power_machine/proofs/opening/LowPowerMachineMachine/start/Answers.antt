@@ -46,3 +46,8 @@ returns-in-Ok-clause-ok g c =
       opened = says.opened ∙ ap (λ (x : Config). x.mark) node.node.meaning.config;
       drawer = says.drawer;
     }
+
+pub returns-in-Err-clause-cause : goal.returns-in-Err-clause-cause
+returns-in-Err-clause-cause g c =
+    let node = c.in_ok-store.ensures.ok in
+    (record { over = node.over; read = node.read; runs = node.runs }, c.mount_node.ensures.untouched, c.in_ok-store.ensures.no_fault)

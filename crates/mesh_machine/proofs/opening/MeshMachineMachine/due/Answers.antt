@@ -7,7 +7,7 @@ use Rattle.mesh_machine.proofs.opening.MeshMachineMachine.due.Goals as goal
 pub returns : goal.returns
 returns g c = record {
   idle = λ live f over s.
-      let past = past_now (node_role node_layers) over s.life.told c.args.self.now.fills in
+      let past = past_now (node_role node_layers) over s.life.told c.args.self.now.state.fills in
       record {
         told = s.life.told;
         entries = s.life.entries;
@@ -15,7 +15,7 @@ returns g c = record {
         quiet = λ ticks l. quiet_tick past ticks (c.ticks_left.ensures.quiet past live (s.usable live).before ticks l);
       };
   least = λ live f over s.
-      let past = past_now (node_role node_layers) over s.life.told c.args.self.now.fills in
+      let past = past_now (node_role node_layers) over s.life.told c.args.self.now.state.fills in
       record {
         told = s.life.told;
         entries = s.life.entries;

@@ -11,7 +11,7 @@ use Rattle.node_layers.specs.NodeLayers.{node_layers}
 use Rattle.node_store.specs.Tie.{IsStoreOf}
 use Rattle.node_store.specs.View.{StoreView}
 use Rattle.store_definitions.specs.Config.{Config}
-use Rattle.mesh_machine.proofs.opening.MeshMachineMachine.start.Goals as goal
+use Rattle.mesh_machine.proofs.machine.MeshMachine.start_with_room.Goals as goal
 
 pub open-requires-clause-node : goal.open-requires-clause-node
 open-requires-clause-node g c = (c.in_ok-store.ensures.ok.over, c.in_ok-store.ensures.ok.node)
@@ -24,8 +24,8 @@ returns-in-Ok-clause-ok g c =
     let node : IsNodeMounted old new store = c.in_ok-store.ensures.ok in
     let started = c.in-Ok.started in
     let says = c.in-Ok.ensures in
-    let r = started.machine.reserve in
-    let t = started.machine.tables in
+    let r = started.machine.state.reserve in
+    let t = started.machine.state.tables in
     let said : IsNodeStore node.over r.store.persist = subst (λ (s : StoreView). IsNodeStore node.over s.persist) (sym says.store) node.node in
     let base : Stands new node.over (opened r t store.persist.elements) =
     opened_stands (node_role node_layers) IsBefore new node.over r t store.persist.elements (subst (λ (s : StoreView). IsStoreOf new s node.over) (sym says.store) node.kept) said
@@ -46,3 +46,8 @@ returns-in-Ok-clause-ok g c =
       opened = says.opened ∙ ap (λ (x : Config). x.mark) node.node.meaning.config;
       drawer = says.drawer;
     }
+
+pub returns-in-Err-clause-cause : goal.returns-in-Err-clause-cause
+returns-in-Err-clause-cause g c =
+    let node = c.in_ok-store.ensures.ok in
+    (record { over = node.over; read = node.read; runs = node.runs }, c.mount_node.ensures.untouched, c.in_ok-store.ensures.no_fault)

@@ -1,12 +1,12 @@
-use Rattle.std.proofs.Common.{◌≡◌, subst, sym}
+use Rattle.std.proofs.Common.{subst, sym}
 use Rattle.event_definitions.specs.History.{Past}
 use Rattle.event_plans.specs.Memory.{AreNodeTablesOf}
 use Rattle.machine_ties.specs.Ties.{IsBefore}
 use Rattle.machine_ties.specs.Views.{NodeMachine}
 use Rattle.node_records.specs.Meaning.{IsMeaningOf}
 use Rattle.node_records.specs.declared.persist.Persist.{Persist}
-use Rattle.mesh_machine.proofs.machine.MeshMachine.ticks_left.Goals as goal
-use Rattle.mesh_machine.proofs.machine.MeshMachine.ticks_left.Goals.{After-due}
+use Rattle.mesh_machine.proofs.state.MeshState.ticks_left.Goals as goal
+use Rattle.mesh_machine.proofs.state.MeshState.ticks_left.Goals.{After-due}
 
 tables : (c : After-due) (past : Past) → IsBefore past c.args.self.now → AreNodeTablesOf c.self.inside.parts.tables past
 tables c past b =

@@ -1,0 +1,20 @@
+-- The machine of a node: what it shows, and how it stands over its flash and over the records that its life opened over.
+use Rattle.std.specs.Prelude.{List}
+use Rattle.flash_model.specs.Chip.{Chip}
+use Rattle.machine_contract.specs.View.{MachineView}
+use Rattle.machine_ties.specs.Ties as ties
+use Rattle.machine_ties.specs.Views as views
+use Rattle.mesh_machine.specs.declared.machine.MeshMachine.{MeshMachine}
+use Rattle.node_records.specs.declared.persist.Persist.{Persist}
+use Rattle.record_types.specs.declared.records.StoreRecord.{StoreRecord}
+
+-- The counts of early reading are in nothing that it shows.
+abbrev pub shown : MeshMachine → MachineView
+shown m = views.shown m.state
+
+abbrev pub Stands : Chip → List StoreRecord → MeshMachine → Type 0
+Stands chip over m = ties.Stands chip over m.state
+
+-- what is stored
+abbrev pub persist_of : MeshMachine → Persist
+persist_of m = m.state.reserve.store.persist

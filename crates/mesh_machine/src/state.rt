@@ -1,0 +1,190 @@
+//! What a machine is between two calls.
+#![tactic(auto)]
+
+ghost use Rattle.std.specs.Prelude.{◌≡◌, ◌≢◌, ◌+◌, ◌<◌, ◌^◌, List, All, drop, length, true, false, Ok, Err, IfOk, OnOk, IfErr};
+ghost use Rattle.event_world.specs.Stepping.{HasStepped};
+ghost use Rattle.flash_model.specs.Chip.{Keeps};
+ghost use Rattle.machine_contract.specs.Ranges.{IsEvent, IsJob, IsQuiet};
+ghost use Rattle.machine_contract.specs.Refused.{IsRefused};
+ghost use Rattle.machine_contract.specs.View.{entry_for, with_entry};
+ghost use Rattle.machine_ties.specs.Ties.{Stands};
+ghost use Rattle.machine_ties.specs.Views.{shown};
+ghost use Rattle.mesh_machine.specs.Handling.{IsKnownFor};
+ghost use Rattle.mesh_world.specs.World.{World};
+ghost use Rattle.record_types.specs.declared.records.StoreRecord.{StoreRecord};
+ghost use Rattle.run_definitions.specs.Order.{is_outside};
+ghost use Rattle.seq_word.specs.Word.{seq_of};
+ghost use Rattle.store_world.specs.Standing.{IsWorldOf};
+
+use crate::kinds::handle;
+use crate::parts::Parts;
+use early_reading::Known;
+use event_world::event_law;
+use flash_model::Flash;
+use machine_contract::{Answered, Hand, Stop};
+use machine_standing::{Place, room};
+use machine_ties::ties_law;
+use mesh_types::events::Event;
+use mesh_types::history::Entry;
+use node_models::node_models_law;
+use seq_word::Numbers;
+use std::marker::Model;
+
+/// A history has at most so many entries.
+const MOST_ENTRIES: u64 = 0xffff_ffff;
+
+/// What the machine of a node is between two calls, apart from its counts of early reading. The flash stays with the caller, and is passed to
+/// each call.
+#[derive(Drop)]
+pub struct MeshState {
+    pub(crate) parts: Parts,
+    pub(crate) fills: u32,
+    pub(crate) closed: bool,
+    pub(crate) hand: Hand,
+    pub(crate) elements: u8,
+}
+
+impl Model for MeshState {
+    ghost use Rattle.machine_ties.specs.Ties.{IsSound};
+    ghost use Rattle.machine_ties.specs.Views.{NodeMachine};
+    ghost use Rattle.mesh_machine.specs.Handling.{machine_of};
+
+    ghost Value = { NodeMachine };
+
+    ghost view = { λ m. machine_of m.parts m.fills m.closed m.hand m.elements };
+
+    ghost invariant = { λ m. IsSound (machine_of m.parts m.fills m.closed m.hand m.elements) };
+}
+
+impl MeshState {
+    /// Handles an event of a bearer, which is the one with this number among its events, from 1 on: `handle` of `Machine` is this call. What is
+    /// known of the reading of a network PDU is used. Its records and what it accepts are steps of the world (`mesh_world`) from any world of the store before it to one of the store after it.
+    pub fn handle_event<F: Flash>(
+        &mut self,
+        n: &Numbers,
+        flash: &mut F,
+        bearer: u8,
+        number: u32,
+        event: &Event,
+        known: Known,
+    ) -> Result<Answered, Stop>
+        requires made { (shown self.old).which ≡ n.now.which }
+        requires event { IsEvent (shown self.old).elements event.now }
+        requires known { IsKnownFor self.old.tables self.old.reserve.store.persist event.now known }
+
+        ensures ok { IfOk result
+            (λ r. shown self.new
+            ≡ with_entry (shown self.old) (entry_for (shown self.old) bearer number event.now r.answer r.jobs)
+            (shown self.new).mark) }
+        ensures place { IfOk result (λ r. r.at ≡ length (shown self.old).entries) }
+        ensures usable { OnOk result ((shown self.old).closed ≡ false) }
+        ensures jobs { IfOk result (λ r. All (IsJob event.now) r.jobs) }
+        ensures quiet { is_outside event.now ≡ false → IfOk result (λ r. All IsQuiet r.jobs) }
+        ensures steps { (w : World) → IsWorldOf w self.old.reserve.store.persist self.old.reserve.store.persist.mark
+            → IfOk result
+            (λ r. HasStepped w self.old.reserve.store.persist self.new.reserve.store.persist event.now r.answer) }
+        ensures refused { IfErr result
+            (IsRefused F.chip (Hand.OfEvent event.now) (shown self.old) (shown self.new) flash.old flash.new) }
+        ensures closed { (shown self.old).closed ≡ true → result ≡ Err Stop.Closed }
+        ensures kept { (over : List StoreRecord) → Stands (F.chip flash.old) over self.old
+            → Stands (F.chip flash.new) over self.new }
+        ensures frame { Keeps (F.chip flash.old) (F.chip flash.new) }
+    {
+        if self.closed {
+            return Err(Stop::Closed);
+        }
+        if self.parts.history.count() >= MOST_ENTRIES {
+            return Err(Stop::Memory);
+        }
+        // They do nothing when they run: the proof uses what they say.
+        ties_law();
+        node_models_law();
+        event_law();
+        let drafts = match room(&mut self.parts.history) {
+            Ok(drafts) => drafts,
+            Err(_) => return Err(Stop::Memory),
+        };
+        let place = Place {
+            bearer,
+            number,
+            fills: self.fills,
+        };
+        match handle(&mut self.parts, n, flash, event, known, place, drafts) {
+            Ok(answered) => {
+                self.fills = 0;
+                Ok(answered)
+            }
+            Err(stop) => match stop {
+                Stop::Flash => {
+                    self.closed = true;
+                    self.hand = Hand::OfEvent(event.copied());
+                    Err(Stop::Flash)
+                }
+                Stop::Memory => Err(Stop::Memory),
+                Stop::Closed => Err(Stop::Closed),
+            },
+        }
+    }
+
+    /// The entries since this was called last: `take_entries` of `Machine` is this call. `F` is the type
+    /// of the flash that it stands over, which isn't called.
+    pub(crate) fn take<F: Flash>(&mut self) -> Vec<Entry>
+        ensures entries { result.items ≡ drop (shown self.old).taken (shown self.old).entries }
+        ensures shown { shown self.new ≡ record (shown self.old) { taken = length (shown self.old).entries } }
+        ensures kept { (f : F) (over : List StoreRecord) → Stands (F.chip f) over self.old → Stands (F.chip f) over self.new }
+    {
+        self.parts.history.take()
+    }
+
+    /// Stores a refill, and publishes its mark, 256 higher, where `seen` is the mark published last; else nothing changes. Returns the mark
+    /// that is published then. It takes no memory: the refills behind one entry lie under one IV Index, so they are at most 65,536.
+    pub(crate) fn refill_numbers<F: Flash>(
+        &mut self,
+        n: &Numbers,
+        flash: &mut F,
+        seen: u64,
+    ) -> Result<u64, Stop>
+        requires made { (shown self.old).which ≡ n.now.which }
+        requires seq { seq_of seen < 2 ^ 24 }
+
+        ensures filled { seen ≡ (shown self.old).mark
+            → OnOk result
+            (shown self.new ≡ record (shown self.old) { fills = (shown self.old).fills + 1; mark = seen + 256 }) }
+        ensures nothing { seen ≢ (shown self.old).mark → (shown self.old).closed ≡ false
+            → (result ≡ Ok (shown self.old).mark) × (shown self.new ≡ shown self.old) × (flash.new ≡ flash.old) }
+        ensures value { IfOk result (λ mark. mark ≡ (shown self.new).mark) }
+        ensures ok { OnOk result
+            (shown self.new
+            ≡ record (shown self.old) { fills = (shown self.new).fills; mark = (shown self.new).mark }) }
+        ensures usable { OnOk result ((shown self.old).closed ≡ false) }
+        ensures closed { (shown self.old).closed ≡ true → result ≡ Err Stop.Closed }
+        ensures memory { result ≢ Err Stop.Memory }
+        ensures refused { IfErr result
+            (IsRefused F.chip Hand.OfRefill (shown self.old) (shown self.new) flash.old flash.new) }
+        ensures kept { (over : List StoreRecord) → Stands (F.chip flash.old) over self.old
+            → Stands (F.chip flash.new) over self.new }
+        ensures frame { Keeps (F.chip flash.old) (F.chip flash.new) }
+    {
+        if self.closed {
+            return Err(Stop::Closed);
+        }
+        let mark = self.parts.reserve.store.persist().mark;
+        if seen != mark {
+            return Ok(mark);
+        }
+        // They do nothing when they run: the proof uses what they say.
+        ties_law();
+        node_models_law();
+        match self.parts.reserve.refill(n, flash, seen) {
+            Ok(mark) => {
+                self.fills += 1;
+                Ok(mark)
+            }
+            Err(_) => {
+                self.closed = true;
+                self.hand = Hand::OfRefill;
+                Err(Stop::Flash)
+            }
+        }
+    }
+}
