@@ -3,7 +3,7 @@ use Rattle.std.proofs.Common.{◌≡◌, ◌⊎◌, ◌<◌, ◌≤◌, ◌+◌,
 use Rattle.std.specs.Prelude.{IfSome, IsSomeAnd}
 use Rattle.std.specs.Io.KnownBytes.{Consumes, IsAtEnd}
 use Rattle.flash_model.proofs.Runs.{past_more}
-use Rattle.flash_model.specs.Chip.{Chip, IsFresh, Keeps, KeepsCount, LeavesOnly, Stays}
+use Rattle.flash_model.specs.Chip.{Chip, IsFresh, Keeps, KeepsCount, LeavesOnly, Setting, Stays}
 use Rattle.slot_journal.specs.Format.{IsErased, IsFirstWritten}
 use Rattle.node_store.specs.Provisioning.{provisioning}
 use Rattle.node_store.specs.Tie.{IsMade}
@@ -23,6 +23,7 @@ use Rattle.std.proofs.lemmas.Bool.{lt-ltb}
 use Rattle.run_steps.specs.Reads.{ReadsMoreThan}
 use Rattle.run_steps.specs.declared.reading.ReadStop.{ReadStop}
 use Rattle.run_steps.specs.declared.reading.ReadStop.TheVariants as R
+use Rattle.run_steps.specs.declared.status.Status.{Status}
 use Rattle.run_steps.specs.declared.status.Status.TheVariants as S
 use Rattle.mesh_run.specs.Causes.{IfScript, IsDue, IsDueIf, IsErasedFlash, IsSameFlash, IsScriptAnd, IsWrittenAt, WasErased, read_end}
 use Rattle.run_steps.specs.Provisioned.{FailsEarly, IsInFormat, IsProvisioned, WasProvisioned}
@@ -71,6 +72,16 @@ written_at old mid new at image first unchanged =
     let stays = unchanged (λ erased. first.written (erased at first.within)) in
     (subst old.images (sym stays.now) image, subst (λ c. IsFirstWritten c at) (sym stays.now) first)
 
+-- the octet that a status names, if it names one
+abbrev octet_named : Status → ℕ
+octet_named (S.NotErased at) = at
+octet_named status = 0
+
+-- a status that names an octet names this one
+pub written_as : {F : Type 0} (chip : F → Chip) (old : Chip) (flash : F) (at : ℕ) → IsWrittenAt at old (chip flash)
+    → (k : ℕ) → S.NotErased at ≡ S.NotErased k → IsSomeAnd (Some flash) (λ f. IsWrittenAt k old (chip f))
+written_as chip old flash at said k is = subst (λ (n : ℕ). IsWrittenAt n old (chip flash)) (ap octet_named is) said
+
 -- so the flash wasn't erased
 pub not_erased : (old mid : Chip) (at : ℕ) → old.images mid.now → IsFirstWritten mid.now at → IsErasedFlash old → ⊥
 not_erased old mid at image first erased = first.written (erased mid.now image at first.within)
@@ -78,14 +89,19 @@ not_erased old mid at image first erased = first.written (erased mid.now image a
 pub was_erased : (old mid : Chip) → old.images mid.now → IsErased mid.now → WasErased old
 was_erased old mid image erased = (mid.now, image, erased)
 
+-- what was set when power was cycled is set still
+set_after : (old mid new : Chip) → new.setting ≡ mid.setting → mid.setting ≡ record { faults = old.faults; arm = None; saved = mid.now; moment = mid.moment; cycles = old.setting.cycles + 1 }
+    → new.setting ≡ record { faults = old.faults; arm = None; saved = mid.now; moment = new.setting.moment; cycles = old.setting.cycles + 1 }
+set_after old mid new kept is = subst (λ (s : Setting). s ≡ record { faults = old.faults; arm = None; saved = mid.now; moment = s.moment; cycles = old.setting.cycles + 1 }) (sym (kept ∙ is)) refl
+
 -- the flash failed while the node was provisioned
 pub fails_early : (records : List StoreRecord) (old mid new : Chip) → KeepsCount old mid → old.images mid.now → IsFresh mid
-    → mid.setting ≡ record { faults = old.faults; arm = None } → Keeps mid new → mid.faults < new.faults
+    → mid.setting ≡ record { faults = old.faults; arm = None; saved = mid.now; moment = mid.moment; cycles = old.setting.cycles + 1 } → Keeps mid new → mid.faults < new.faults
     → ((t : ℕ) (c : List ℕ) → t ≤ new.moment → new.images c → new.since t c)
     → (IsErased mid.now → LeavesOnly mid new (IsMade records)) → ((IsErased mid.now → ⊥) → Stays mid new) → FailsEarly records old new
 fails_early records old mid new count image fresh setting keeps failed counts made unchanged = record {
   failed = omega (arith, count.faults, failed);
-  setting = keeps.setting ∙ setting;
+  setting = set_after old mid new keeps.setting setting;
   found = mid.now;
   was = image;
   made = λ erased c among. let left = made erased in left.each c (counts mid.moment c left.later among);
@@ -94,7 +110,7 @@ fails_early records old mid new count image fresh setting keeps failed counts ma
 
 -- the node was provisioned on it in this format
 pub was_provisioned : (format : ℕ) (p q : Provision) (old mid new : Chip) → p ≡ q → KeepsCount old mid → old.images mid.now
-    → mid.setting ≡ record { faults = old.faults; arm = None } → IsErased mid.now → Keeps mid new → new.faults ≡ mid.faults
+    → mid.setting ≡ record { faults = old.faults; arm = None; saved = mid.now; moment = mid.moment; cycles = old.setting.cycles + 1 } → IsErased mid.now → Keeps mid new → new.faults ≡ mid.faults
     → IsProvisioned new (provisioned (provisioning p)) → IsInFormat format new → WasProvisioned format (provisioned (provisioning q)) old new
 was_provisioned format p q old mid new of count image setting erased keeps same made is = record {
   found = mid.now;
@@ -103,7 +119,7 @@ was_provisioned format p q old mid new of count image setting erased keeps same 
   made = subst (λ (r : Provision). IsProvisioned new (provisioned (provisioning r))) of made;
   in_format = is;
   faults = same ∙ count.faults;
-  setting = keeps.setting ∙ setting;
+  setting = set_after old mid new keeps.setting setting;
   steady = keeps.steady ∙ count.steady;
   past = past_more old mid new count.past keeps.past;
 }

@@ -7,8 +7,7 @@ use Rattle.flash_model.specs.Chip.{Chip}
 use Rattle.low_power_machine.specs.Views as LowPower
 use Rattle.low_power_role.specs.Role.{low_power_role}
 use Rattle.machine_contract.specs.View.{MachineView}
-use Rattle.machine_ties.specs.Ties.{Stands}
-use Rattle.machine_ties.specs.Views.{shown}
+use Rattle.mesh_machine.specs.Machine.{Stands, shown}
 use Rattle.node_layers.specs.NodeLayers.{node_layers}
 use Rattle.node_store.specs.Tie.{IsNode}
 use Rattle.record_types.specs.declared.records.StoreRecord.{StoreRecord}

@@ -3,14 +3,14 @@
 
 ghost use Rattle.std.specs.Prelude.{◌≡◌, ◌≢◌, ℕ, ◌+◌, ◌<◌, ◌^◌, List, [], ◌∷◌, ◌++◌, length, drop, All, true, false, Ok, Err, IsErr, IfOk, OnOk, IfErr, ◌-◌};
 ghost use Rattle.event_definitions.specs.Role.{node_role};
-ghost use Rattle.machine_ties.specs.Ties.{Stands};
-ghost use Rattle.machine_ties.specs.Views.{shown};
+ghost use Rattle.mesh_machine.specs.Machine.{Stands, shown};
 ghost use Rattle.next_due.specs.Quiet.{IsQuiet};
 ghost use Rattle.node_layers.specs.NodeLayers.{node_layers};
 ghost use Rattle.node_store.specs.Tie.{IsNode};
 
 use flash_model::Flash;
-use machine_contract::{Answered, History, Machine, StartFault, Started, Stop};
+use machine_contract::{Answered, EarlyReads, History, Machine, StartFault, Started, Stop};
+use mesh_base::octets::Octets;
 use mesh_machine::MeshMachine;
 use mesh_types::events::Event;
 use mesh_types::history::Entry;
@@ -37,24 +37,43 @@ impl Machine for ScriptMachine {
 
     ghost stands = { λ chip over m. Stands chip over m.machine };
 
+    ghost fits = { ⟦<MeshMachine as Machine>⟧.fits };
+
+    type Reader = <MeshMachine as Machine>::Reader;
+
+    type Early = <MeshMachine as Machine>::Early;
+
     fn start<F: Flash>(alloc: Global, flash: &mut F) -> Result<Started<Self>, StartFault> {
         let Started {
-            mut machine,
+            machine,
             numbers,
             drawer,
             state,
             mark,
-        } = MeshMachine::start(alloc, flash)?;
-        match machine.reserve_entries(BEARER_LINES) {
-            Ok(()) => Ok(Started {
-                machine: ScriptMachine { machine },
-                numbers,
-                drawer,
-                state,
-                mark,
-            }),
-            Err(_) => Err(StartFault::Memory),
-        }
+        } = MeshMachine::start_with_room(alloc, flash, BEARER_LINES)?;
+        Ok(Started {
+            machine: ScriptMachine { machine },
+            numbers,
+            drawer,
+            state,
+            mark,
+        })
+    }
+
+    fn new_reader() -> Self::Reader {
+        MeshMachine::new_reader()
+    }
+
+    fn reader(&self, reader: &mut Self::Reader) {
+        self.machine.reader(reader);
+    }
+
+    fn unread() -> Self::Early {
+        MeshMachine::unread()
+    }
+
+    fn early(reader: &mut Self::Reader, bytes: &Octets<40>) -> Self::Early {
+        MeshMachine::early(reader, bytes)
     }
 
     fn handle<F: Flash>(
@@ -64,8 +83,9 @@ impl Machine for ScriptMachine {
         bearer: u8,
         number: u32,
         event: &Event,
+        early: Self::Early,
     ) -> Result<Answered, Stop> {
-        self.machine.handle(n, flash, bearer, number, event)
+        self.machine.handle(n, flash, bearer, number, event, early)
     }
 
     fn refill<F: Flash>(&mut self, n: &Numbers, flash: &mut F, seen: u64) -> Result<u64, Stop> {
@@ -90,6 +110,10 @@ impl Machine for ScriptMachine {
 
     fn elements(&self) -> u8 {
         self.machine.elements()
+    }
+
+    fn early_reads(&self) -> EarlyReads {
+        self.machine.early_reads()
     }
 
     fn finish(self) -> (History, Keeper) {

@@ -1,2 +1,3 @@
 pub mod KeyName
 pub mod Kind
+pub mod Printed

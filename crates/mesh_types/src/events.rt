@@ -21,11 +21,15 @@ pub enum SendKey {
 
 /// Without the device key of another node, which is secret.
 impl Debug for SendKey {
+    ghost use Rattle.mesh_types.specs.Printed.{key_printed};
+
+    ghost debug_output = { λ key. key_printed key };
+
     fn fmt<W: fmt::Write>(&self, f: &mut Formatter<W>) -> fmt::Result {
         match self {
             SendKey::Own => f.write_str("Own"),
             SendKey::Other(_) => f.write_str("Other(..)"),
-            SendKey::App(index) => f.debug_tuple("App").field(index).finish(),
+            SendKey::App(index) => write!(f, "App({index})"),
         }
     }
 }

@@ -203,10 +203,12 @@ pub struct Jobs {
 
 /// How many they are; a job may hold a key.
 impl Debug for Jobs {
+    ghost use Rattle.mesh_types.specs.Printed.{jobs_printed};
+
+    ghost debug_output = { λ jobs. jobs_printed jobs };
+
     fn fmt<W: fmt::Write>(&self, f: &mut Formatter<W>) -> fmt::Result {
-        f.debug_struct("Jobs")
-            .field("length", &self.table.len())
-            .finish_non_exhaustive()
+        write!(f, "Jobs {{ length: {}, .. }}", self.table.len())
     }
 }
 

@@ -1,5 +1,5 @@
 -- A flash on which a node was provisioned, and one that failed before that.
-use Rattle.std.specs.Prelude.{◌≡◌, ℕ, ◌<◌, Bool, true, false, List, None}
+use Rattle.std.specs.Prelude.{◌≡◌, ℕ, ◌+◌, ◌<◌, Bool, true, false, List, None}
 use Rattle.flash_model.specs.Chip.{Chip, Remembers}
 use Rattle.machine_contract.specs.Opening.{EachRecovered, IsNodeFlash}
 use Rattle.node_store.specs.Mounted.{HasFormat}
@@ -30,7 +30,8 @@ pub record WasProvisioned (format : ℕ) (records : List StoreRecord) (old new :
   pub made : IsProvisioned new records
   pub in_format : IsInFormat format new
   pub faults : new.faults ≡ old.faults
-  pub setting : new.setting ≡ record { faults = old.faults; arm = None }
+  pub setting : new.setting
+      ≡ record { faults = old.faults; arm = None; saved = found; moment = new.setting.moment; cycles = old.setting.cycles + 1 }
   pub steady : new.steady ≡ old.steady
   pub past : Remembers old new
 
@@ -38,8 +39,9 @@ pub record WasProvisioned (format : ℕ) (records : List StoreRecord) (old new :
 -- tear a call. Where it was erased, an image recovers nothing, or what the node is provisioned with; else it is as it was.
 pub record FailsEarly (records : List StoreRecord) (old new : Chip) : Type 0 where
   pub failed : old.faults < new.faults
-  pub setting : new.setting ≡ record { faults = old.faults; arm = None }
   pub found : List ℕ
   pub was : old.images found
+  pub setting : new.setting
+      ≡ record { faults = old.faults; arm = None; saved = found; moment = new.setting.moment; cycles = old.setting.cycles + 1 }
   pub made : IsErased found → (image : List ℕ) → new.images image → IsMade records image
   pub stays : (IsErased found → ⊥) → (image : List ℕ) → new.images image → image ≡ found

@@ -34,67 +34,110 @@ fn heard(octets: &[u8]) -> Octets<40>
     heard
 }
 
-/// The event of a line `send`.
-fn sending(send: &SendLine) -> Event
+/// A network PDU heard on a bearer.
+fn pdu_on(bearer: u8, octets: &[u8]) -> Option<Happening>
+    requires most { length octets.now ≤ 40 }
+    ensures value { option_map said result ≡ Said.on bearer (E.Net octets.now) }
+{
+    Some(Happening {
+        bearer,
+        event: Event::Net(heard(octets)),
+    })
+}
+
+/// A beacon heard on a bearer.
+fn beacon_on(bearer: u8, octets: &[u8]) -> Option<Happening>
+    requires most { length octets.now ≤ 40 }
+    ensures value { option_map said result ≡ Said.on bearer (E.Bcn octets.now) }
+{
+    Some(Happening {
+        bearer,
+        event: Event::Bcn(heard(octets)),
+    })
+}
+
+/// What a line `send` asks for on a bearer.
+fn sending_on(bearer: u8, send: &SendLine) -> Option<Happening>
     requires payload { IsPayload send.now.payload }
-    ensures value { result ≡ E.Send send.now.element send.now.dst send.now.ttl send.now.key send.now.payload }
+    ensures value { option_map said result
+        ≡ Said.on bearer (E.Send send.now.element send.now.dst send.now.ttl send.now.key send.now.payload) }
 {
     let mut payload = Octets::new();
     payload.extend(send.payload.as_slice());
-    Event::Send {
-        element: send.element,
-        dst: send.dst,
-        ttl: send.ttl,
-        key: send.key,
-        payload,
-    }
+    Some(Happening {
+        bearer,
+        event: Event::Send {
+            element: send.element,
+            dst: send.dst,
+            ttl: send.ttl,
+            key: send.key,
+            payload,
+        },
+    })
 }
 
-/// The event of a line `raw`.
-fn raw_sending(raw: &RawLine) -> Event
-    ensures value { result ≡ E.Raw raw.now.dst raw.now.ttl raw.now.tpdu }
+/// What a line `raw` asks for on a bearer.
+fn raw_on(bearer: u8, raw: &RawLine) -> Option<Happening>
+    ensures value { option_map said result ≡ Said.on bearer (E.Raw raw.now.dst raw.now.ttl raw.now.tpdu) }
 {
-    Event::Raw {
-        dst: raw.dst,
-        ttl: raw.ttl,
-        tpdu: raw.tpdu.copied(),
-    }
+    Some(Happening {
+        bearer,
+        event: Event::Raw {
+            dst: raw.dst,
+            ttl: raw.ttl,
+            tpdu: raw.tpdu.copied(),
+        },
+    })
+}
+
+/// Time that passes on a bearer.
+fn tick_on(bearer: u8, ticks: u32) -> Option<Happening>
+    ensures value { option_map said result ≡ Said.on bearer (E.Tick ticks) }
+{
+    Some(Happening {
+        bearer,
+        event: Event::Tick(ticks),
+    })
+}
+
+/// What a Low Power node is asked for on a bearer.
+fn low_power_on(bearer: u8, event: LowPowerEvent) -> Option<Happening>
+    ensures value { option_map said result ≡ Said.on bearer (E.LowPower event) }
+{
+    Some(Happening {
+        bearer,
+        event: Event::LowPower(event),
+    })
 }
 
 impl OutsideNode {
     /// What a line stands for that a reader read: the bearer, and the event on it. There is none for `sync` and `arm`.
+    ///
+    /// Each kind of line makes its own event, in a function of its own: a function clears the room of each event that stands in its text.
     pub fn happening_of(&mut self, line: &ScriptLine) -> Option<Happening>
         requires ranges { IsRead line.now }
         ensures value { option_map said result ≡ Said.happening_of line.now }
         ensures kept { self.new ≡ behind self.old line.now }
     {
-        let (bearer, event) = match line {
-            ScriptLine::Net { bearer, octets } => (bearer, Event::Net(octets.copied())),
-            ScriptLine::Bcn { bearer, octets } => (bearer, Event::Bcn(octets.copied())),
+        match line {
+            ScriptLine::Net { bearer, octets } => pdu_on(*bearer, octets.as_slice()),
+            ScriptLine::Bcn { bearer, octets } => beacon_on(*bearer, octets.as_slice()),
             ScriptLine::Peer { bearer, peer } => {
-                (bearer, Event::Net(heard(self.peer_octets(peer).as_slice())))
+                pdu_on(*bearer, self.peer_octets(peer).as_slice())
             }
             ScriptLine::Talk { bearer, talk } => {
-                (bearer, Event::Net(heard(self.talk_octets(talk).as_slice())))
+                pdu_on(*bearer, self.talk_octets(talk).as_slice())
             }
-            ScriptLine::Beacon { bearer, beacon } => (
-                bearer,
-                Event::Bcn(heard(&beacon_octets(beacon))),
-            ),
-            ScriptLine::Send { bearer, send } => (bearer, sending(send)),
-            ScriptLine::Raw { bearer, raw } => (bearer, raw_sending(raw)),
-            ScriptLine::Tick { bearer, ticks } => (bearer, Event::Tick(*ticks)),
-            ScriptLine::Seek { bearer } => (bearer, Event::LowPower(LowPowerEvent::Seek)),
-            ScriptLine::Poll { bearer } => (bearer, Event::LowPower(LowPowerEvent::Poll)),
-            ScriptLine::List { bearer, address } => (
-                bearer,
-                Event::LowPower(LowPowerEvent::List(*address)),
-            ),
-            ScriptLine::Sync | ScriptLine::Arm(_) => return None,
-        };
-        Some(Happening {
-            bearer: *bearer,
-            event,
-        })
+            ScriptLine::Beacon { bearer, beacon } => beacon_on(*bearer, &beacon_octets(beacon)),
+            ScriptLine::Send { bearer, send } => sending_on(*bearer, send),
+            ScriptLine::Raw { bearer, raw } => raw_on(*bearer, raw),
+            ScriptLine::Tick { bearer, ticks } => tick_on(*bearer, *ticks),
+            ScriptLine::Seek { bearer } => low_power_on(*bearer, LowPowerEvent::Seek),
+            ScriptLine::Poll { bearer } => low_power_on(*bearer, LowPowerEvent::Poll),
+            ScriptLine::List { bearer, address } => {
+                low_power_on(*bearer, LowPowerEvent::List(*address))
+            }
+            ScriptLine::Sync | ScriptLine::Arm(_) => None,
+        }
     }
 }

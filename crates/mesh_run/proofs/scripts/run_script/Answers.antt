@@ -1,4 +1,5 @@
-use Rattle.std.proofs.Common.{◌∙◌, Err, ap, subst, sym}
+use Rattle.std.proofs.Common.{◌≡◌, ◌∙◌, ℕ, Err, ap, subst, sym}
+use Rattle.run_steps.specs.declared.status.Status.TheVariants as Statuses
 use Rattle.std.specs.Prelude.{IfSome, IsSomeAnd}
 use Rattle.life_plans.specs.Plans.{provision_of, script_of}
 use Rattle.node_store.specs.Provisioning.{provisioning}
@@ -7,11 +8,11 @@ use Rattle.report_writer.specs.Writing.{view_of}
 use Rattle.run_steps.specs.Provisioned.{FailsEarly, WasProvisioned, format_by}
 use Rattle.slot_journal.specs.Causes.{IsFormatCause}
 use Rattle.store_definitions.specs.Provisioning.{provisioned}
-use Rattle.mesh_run.specs.Causes.{IsSameFlash}
+use Rattle.mesh_run.specs.Causes.{IsSameFlash, IsWrittenAt}
 use Rattle.mesh_run.specs.Kind.{kind_of}
 use Rattle.mesh_run.specs.Lived.{IsMemory, IsSinkFault, flash_left}
 use Rattle.mesh_run.specs.Ran.{FromProvisioned, Ran, RanFirst, RanFront}
-use Rattle.mesh_run.proofs.Ends.{cycled, fails_early, same_left, through, was_provisioned}
+use Rattle.mesh_run.proofs.Ends.{cycled, fails_early, same_left, through, was_provisioned, written_as, written_at}
 use Rattle.mesh_run.proofs.scripts.run_script.Goals as goal
 
 pub returns-in-Err-Flash-clause-early : goal.returns-in-Err-Flash-clause-early
@@ -31,6 +32,20 @@ returns-in-Err-Flash-clause-early g c = λ is.
     let records = provisioned (provisioning (provision_of (g.S.LifeSource.script c.args.script.now).provision)) in
     let said : FailsEarly records old new = subst (λ (p : Provision). FailsEarly (provisioned (provisioning p)) old new) (c.provision_of.ensures.value ∙ ap provision_of c.node.ensures.value) early in
     subst (λ e. IsSomeAnd e.flash (λ f. FailsEarly records old (chip f))) (sym c.with_flash.ensures.value) said
+
+pub returns-in-Err-NotErased-clause-not_erased : goal.returns-in-Err-NotErased-clause-not_erased
+returns-in-Err-NotErased-clause-not_erased g c = λ at is.
+    let chip = g.B.Flash.chip in
+    let old = chip c.args.flash in
+    let mid = chip c.power_cycle.new.self in
+    let new = chip c.provision.new.flash in
+    let cycle = c.power_cycle.ensures in
+    let fresh = cycle.fresh c.requires.honest in
+    let cause = subst (IsFormatCause mid new) c.in-Err-NotErased.field-0-is c.in-Err-NotErased.ensures.cause in
+    let said : IsWrittenAt c.in-Err-NotErased.at old new =
+    written_at old mid new c.in-Err-NotErased.at (cycle.image c.requires.honest) (cause.1 fresh.honest) (c.provision.ensures.unchanged fresh.honest) in
+    subst (λ e. (k : ℕ) → e.status ≡ Statuses.NotErased k → IsSomeAnd e.flash (λ f. IsWrittenAt k old (chip f))) (sym c.with_flash-in-Err-NotErased.ensures.value)
+    (written_as chip old c.provision.new.flash c.in-Err-NotErased.at said) at is
 
 -- what was run was run from the flash that provisioning left
 pub returns-in-Ok-live_all-clause-done : goal.returns-in-Ok-live_all-clause-done
