@@ -4,16 +4,17 @@
 ghost use Rattle.std.specs.Prelude.{◌≡◌, ℕ, ◌≤◌, length, true, None, IfOk, OnOk, OnErr};
 ghost use Rattle.mesh_base.specs.Outside.{Rose};
 ghost use Rattle.live_lines.specs.Clock.{HasPassed};
+ghost use Rattle.clocked_input.specs.Telling.{IsTold, is_time, with_told};
 
 use crate::desk::{Desk, Laid, PIECE_OCTETS};
-use crate::ticks::{Ticks, to_next, told_now};
+use crate::watch::{Sight, Watch, await_told};
 use live_lines::{Awaited, ClockedSource};
 use mesh_base::octets::Octets;
 use mesh_base::outside::{Failed, Source};
 use std::alloc::Global;
 use std::sync::{Arc, Wait};
 use std::thread::Threads;
-use std::time::Clock;
+use std::time::{Clock, Duration, Instant};
 use std::{io, thread};
 
 /// A source that a thread reads, with a clock.
@@ -27,8 +28,10 @@ pub struct ClockedInput<R: Wait + Clock + Drop> {
     piece: Octets<PIECE_OCTETS>,
     /// How many of its octets were given.
     given: usize,
-    /// The time.
-    ticks: Ticks,
+    /// When it began.
+    began: Instant,
+    /// How many ticks were told since.
+    told: u64,
     /// Whether the last that was told was time.
     told_time: bool,
     /// How often it failed, up to 2^64 - 1.
@@ -46,7 +49,7 @@ impl<R: Threads + Wait + Clock + Copy + Drop + Send + 'static> ClockedInput<R> {
         alloc: Global,
         source: S,
     ) -> io::Result<ClockedInput<R>> {
-        let ticks = Ticks::start(rt)?;
+        let began = Instant::now(rt)?;
         let desk = Arc::new(alloc, Desk::new())?;
         let theirs = Arc::try_clone(&desk)?;
         let handle = *rt;
@@ -57,7 +60,8 @@ impl<R: Threads + Wait + Clock + Copy + Drop + Send + 'static> ClockedInput<R> {
             desk,
             piece: Octets::new(),
             given: 0,
-            ticks,
+            began,
+            told: 0,
             told_time: false,
             faults: 0,
         })
@@ -79,19 +83,41 @@ impl<R: Wait + Clock + Drop> ClockedInput<R> {
         Failed
     }
 
-    /// Waits until something is ready, or time is to be told.
-    fn first(&self, at_hand: bool) -> io::Result<Awaited>
-        ensures passed { IfOk result (HasPassed true) }
+    /// This was told.
+    fn tell(&mut self, awaited: Awaited)
+        ensures told { self.new.told ≡ with_told self.old.told awaited }
+        ensures time { self.new.told_time ≡ is_time awaited }
+        ensures faults { self.new.faults ≡ self.old.faults }
     {
-        for _ in self.rt.forever() {
-            let ready = at_hand || !self.rest().is_empty() || self.desk.is_filled(&self.rt);
-            let passed = self.ticks.passed(&self.rt)?;
-            if let Some(awaited) = told_now(ready, self.told_time, passed) {
-                return Ok(awaited);
+        match awaited {
+            Awaited::Input => self.told_time = false,
+            Awaited::Passed(ticks) => {
+                self.told_time = true;
+                self.told = self.told.saturating_add(u64::from(ticks));
             }
-            self.desk.wait(&self.rt, to_next(passed));
         }
-        unreachable!()
+    }
+}
+
+/// The desk and the clock, as they are watched. What they are is told to no clause.
+#[derive(Drop)]
+struct DeskWatch<'a, R: Wait + Clock> {
+    rt: &'a R,
+    desk: &'a Desk,
+    began: &'a Instant,
+}
+
+impl<R: Wait + Clock> Watch for DeskWatch<'_, R> {
+    ghost view = { λ _. None };
+
+    fn look(&mut self) -> io::Result<Sight> {
+        let ready = self.desk.is_filled(self.rt);
+        let nanos = u64::try_from(self.began.elapsed(self.rt)?.as_nanos()).unwrap_or(u64::MAX);
+        Ok(Sight { ready, nanos })
+    }
+
+    fn wait(&mut self, nanos: u64) {
+        self.desk.wait(self.rt, Duration::from_nanos(nanos));
     }
 }
 
@@ -122,16 +148,26 @@ impl<R: Wait + Clock + Drop> Source for ClockedInput<R> {
 impl<R: Wait + Clock + Drop> ClockedSource for ClockedInput<R> {
     ghost clocked = { true };
 
-    fn wait(&mut self, at_hand: bool) -> Result<Awaited, Failed> {
-        match self.first(at_hand) {
-            Ok(Awaited::Input) => {
-                self.told_time = false;
-                Ok(Awaited::Input)
-            }
-            Ok(Awaited::Passed(ticks)) => {
-                self.told_time = true;
-                self.ticks.tell(ticks);
-                Ok(Awaited::Passed(ticks))
+    fn wait(&mut self, at_hand: bool, due: u32) -> Result<Awaited, Failed>
+        ensures passed { IfOk result (HasPassed true) }
+        ensures unread { ⟦<ClockedInput<R> as Source>⟧.left self.new ≡ ⟦<ClockedInput<R> as Source>⟧.left self.old }
+        ensures no_fault { OnOk result (self.new.faults ≡ self.old.faults) }
+        ensures cause { OnErr result (Rose self.old.faults self.new.faults) }
+        ensures sure { OnErr result (true ≡ true) }
+        ensures told { IfOk result (IsTold at_hand self.old.told_time due) }
+        ensures count { IfOk result (λ a. self.new.told ≡ with_told self.old.told a) }
+        ensures time { IfOk result (λ a. self.new.told_time ≡ is_time a) }
+    {
+        let mut watch = DeskWatch {
+            rt: &self.rt,
+            desk: &self.desk,
+            began: &self.began,
+        };
+        let at_hand = at_hand || !self.rest().is_empty();
+        match await_told(&mut watch, at_hand, self.told_time, self.told, due) {
+            Ok(awaited) => {
+                self.tell(awaited);
+                Ok(awaited)
             }
             Err(_) => Err(self.fail()),
         }

@@ -1,69 +1,54 @@
 //! Time in ticks of 10 ms, and when it is told.
 #![tactic(auto)]
 
-ghost use Rattle.std.specs.Prelude.{◌≡◌, ◌≤◌, true, IfOk, IfSome};
+ghost use Rattle.std.specs.Prelude.{◌≡◌, ◌+◌, ◌<◌, ◌≤◌, true, IfSome};
 ghost use Rattle.live_lines.specs.Clock.{HasPassed};
-ghost use Rattle.clocked_input.specs.Telling.{told_now};
+ghost use Rattle.clocked_input.specs.Telling.{awaited_ticks, end_of, passed_at, told_now};
 
 use live_lines::Awaited;
-use std::io;
-use std::time::{Clock, Duration, Instant};
 
-/// The ticks that are told at once where no octets come: 100 ms.
-pub(crate) const STEP_TICKS: u32 = 10;
+/// The length of a tick: 10 ms.
+const TICK_NANOS: u64 = 10_000_000;
 
-/// The most ticks that are told at once.
+/// The most ticks that are told at once: as many as a line `tick` may say.
 const MOST_TICKS: u32 = 100_000_000;
 
-/// The length of a tick.
-const TICK_MILLIS: u64 = 10;
-
-/// How much time passed since a moment, and how much of it was told.
-#[derive(Drop)]
-pub(crate) struct Ticks {
-    /// The moment.
-    pub(crate) began: Instant,
-    /// How many ticks were told.
-    pub(crate) told: u64,
+/// How many ticks passed that weren't told, so many nanoseconds behind the beginning, where these were told: at most as many as a line says.
+pub(crate) fn passed_at(told: u64, nanos: u64) -> u32
+    ensures value { result ≡ passed_at told nanos }
+    ensures few { result ≤ 100000000 }
+{
+    let untold = (nanos / TICK_NANOS).saturating_sub(told);
+    untold.min(u64::from(MOST_TICKS)) as u32
 }
 
-impl Ticks {
-    /// From now on.
-    pub(crate) fn start(clock: &impl Clock) -> io::Result<Ticks> {
-        Ok(Ticks {
-            began: Instant::now(clock)?,
-            told: 0,
-        })
-    }
-
-    /// How many ticks passed that weren't told, up to as many as are told at once.
-    pub(crate) fn passed(&self, clock: &impl Clock) -> io::Result<u32>
-        ensures few { IfOk result (λ n. n ≤ 100000000) }
-    {
-        let millis = u64::try_from(self.began.elapsed(clock)?.as_millis()).unwrap_or(u64::MAX);
-        let untold = (millis / TICK_MILLIS).saturating_sub(self.told);
-        Ok(untold.min(u64::from(MOST_TICKS)) as u32)
-    }
-
-    /// These were told.
-    pub(crate) fn tell(&mut self, ticks: u32) {
-        self.told = self.told.saturating_add(u64::from(ticks));
-    }
+/// The ticks that are told where nothing comes before: those that are due, at least one and at most as many as a line says.
+fn awaited_ticks(due: u32) -> u32
+    ensures value { result ≡ awaited_ticks due }
+{
+    due.max(1).min(MOST_TICKS)
 }
 
-/// How long it is to the next time that is told where no octets come, so many ticks behind the last.
-pub(crate) fn to_next(passed: u32) -> Duration {
-    Duration::from_millis(u64::from(STEP_TICKS.saturating_sub(passed)) * TICK_MILLIS)
+/// For how many nanoseconds is waited where nothing is ready, so many behind the beginning: until what is due comes.
+pub(crate) fn left_to(told: u64, due: u32, nanos: u64) -> u64
+    requires early { passed_at told nanos < awaited_ticks due }
+    ensures value { nanos + result ≡ end_of told due }
+{
+    let end = told
+        .saturating_add(u64::from(awaited_ticks(due)))
+        .saturating_mul(TICK_NANOS);
+    end - nanos
 }
 
-/// What is told now, if anything: whether something is ready, whether the last that was told was time, and how many ticks passed since.
-pub(crate) fn told_now(ready: bool, told_time: bool, passed: u32) -> Option<Awaited>
-    ensures value { result ≡ told_now ready told_time passed }
+/// What is told now, if anything: whether something is ready, whether the last that was told was time, how many ticks passed since, and in how
+/// many something is due.
+pub(crate) fn told_now(ready: bool, told_time: bool, passed: u32, due: u32) -> Option<Awaited>
+    ensures value { result ≡ told_now ready told_time passed due }
     ensures passed { passed ≤ 100000000 → IfSome result (HasPassed true) }
 {
     if ready && (told_time || passed == 0) {
         Some(Awaited::Input)
-    } else if ready || passed >= STEP_TICKS {
+    } else if ready || passed >= awaited_ticks(due) {
         Some(Awaited::Passed(passed))
     } else {
         None

@@ -25,9 +25,9 @@ pub trait ClockedSource: Source {
     // Whether it tells time at all.
     ghost clocked: { Bool };
 
-    /// Waits until a read answers at once, or time passed that wasn't told yet. With `at_hand` there is something to be done without a read. A
-    /// source that tells no time doesn't wait here, but in its read.
-    fn wait(&mut self, at_hand: bool) -> Result<Awaited, Failed>
+    /// Waits until a read answers at once, or `due` ticks passed that weren't told yet. With `at_hand` there is something to be done without a read;
+    /// time that passed may be told before it. A source that tells no time doesn't wait here, but in its read.
+    fn wait(&mut self, at_hand: bool, due: u32) -> Result<Awaited, Failed>
         ensures passed { IfOk result (HasPassed clocked) }
         ensures unread { Self.left self.new ≡ Self.left self.old }
         ensures no_fault { OnOk result (Self.faults self.new ≡ Self.faults self.old) }
@@ -39,7 +39,7 @@ pub trait ClockedSource: Source {
 impl<R: Read> ClockedSource for StdSource<R> {
     ghost clocked = { false };
 
-    fn wait(&mut self, _at_hand: bool) -> Result<Awaited, Failed> {
+    fn wait(&mut self, _at_hand: bool, _due: u32) -> Result<Awaited, Failed> {
         Ok(Awaited::Input)
     }
 }
@@ -48,7 +48,7 @@ impl<R: Read> ClockedSource for StdSource<R> {
 impl ClockedSource for MemSource<'_> {
     ghost clocked = { false };
 
-    fn wait(&mut self, _at_hand: bool) -> Result<Awaited, Failed> {
+    fn wait(&mut self, _at_hand: bool, _due: u32) -> Result<Awaited, Failed> {
         Ok(Awaited::Input)
     }
 }
@@ -57,7 +57,7 @@ impl ClockedSource for MemSource<'_> {
 impl ClockedSource for SureSource<'_> {
     ghost clocked = { false };
 
-    fn wait(&mut self, _at_hand: bool) -> Result<Awaited, Failed> {
+    fn wait(&mut self, _at_hand: bool, _due: u32) -> Result<Awaited, Failed> {
         Ok(Awaited::Input)
     }
 }

@@ -98,8 +98,8 @@ impl<S: ClockedSource + Drop, E: Sink + Drop> LinePhases<S, E> {
 }
 
 impl<S: ClockedSource, E: Sink> LinePhases<S, E> {
-    /// Waits until there is something to be done, or time passed.
-    fn wait(&mut self) -> Result<Awaited, LineStop>
+    /// Waits until there is something to be done, or as many ticks passed as are due.
+    fn wait(&mut self, due: u32) -> Result<Awaited, LineStop>
         ensures front { self.new.front ≡ self.old.front }
         ensures frame { IsSameNode self.old.lines self.new.lines }
         ensures passed { IfOk result (HasPassed S.clocked) }
@@ -112,7 +112,7 @@ impl<S: ClockedSource, E: Sink> LinePhases<S, E> {
             (lines_at S.left S.faults E.held E.pieces E.faults self.new.lines)) }
     {
         let at_hand = self.lines.held.has_line();
-        match self.lines.source.wait(at_hand) {
+        match self.lines.source.wait(at_hand, due) {
             Ok(awaited) => Ok(awaited),
             Err(_) => Err(LineStop::Source),
         }
@@ -143,7 +143,7 @@ impl<S: ClockedSource, E: Sink> LinePhases<S, E> {
     }
 
     /// One round: a move, or time that passed.
-    fn round(&mut self) -> Result<Round, LineStop>
+    fn round(&mut self, due: u32) -> Result<Round, LineStop>
         ensures frame { IsSameNode self.old.lines self.new.lines }
         ensures ranges { IfOk result (IsRoundSaid self.old.lines.elements) }
         ensures ok { (used : List ℕ) → IsFrontOf self.old.front used → IfOk result
@@ -155,7 +155,7 @@ impl<S: ClockedSource, E: Sink> LinePhases<S, E> {
             (lines_behind S.left S.faults E.held E.pieces E.faults used self.old.lines)
             (lines_at S.left S.faults E.held E.pieces E.faults self.new.lines)) }
     {
-        match self.wait() {
+        match self.wait(due) {
             Ok(Awaited::Input) => self.turn(),
             Ok(Awaited::Passed(ticks)) => Ok(Round::Comes(ScriptLine::Tick {
                 bearer: TIME_BEARER,
@@ -166,7 +166,7 @@ impl<S: ClockedSource, E: Sink> LinePhases<S, E> {
     }
 
     /// The next line that says an event, or the one that would say what time passed; None where there is none more.
-    fn next_line(&mut self) -> Result<Option<ScriptLine>, LineStop>
+    fn next_line(&mut self, due: u32) -> Result<Option<ScriptLine>, LineStop>
         ensures frame { IsSameNode self.old.lines self.new.lines }
         ensures ranges { IfOk result (λ r. IfSome r (λ line. IsSaid self.old.lines.elements (said.Happens line))) }
         ensures ok { (used : List ℕ) → IsFrontOf self.old.front used → IfOk result
@@ -179,7 +179,7 @@ impl<S: ClockedSource, E: Sink> LinePhases<S, E> {
             (lines_at S.left S.faults E.held E.pieces E.faults self.new.lines)) }
     {
         for _move in 0..u64::MAX {
-            match self.round() {
+            match self.round(due) {
                 Ok(Round::Moved) => {}
                 Ok(Round::Comes(line)) => return Ok(Some(line)),
                 Ok(Round::Ended) => return Ok(None),
@@ -190,12 +190,13 @@ impl<S: ClockedSource, E: Sink> LinePhases<S, E> {
     }
 
     /// The phase of the next line that says an event, or of time that passed; None where there is none more. Each other line is passed over, and
-    /// where it is wrong, that is told. It reads only where it holds no whole line.
+    /// where it is wrong, that is told. It reads only where it holds no whole line. `due` is in how many ticks something is due, behind the time
+    /// that was told.
     ///
     /// # Errors
     ///
     /// `Source` and `Errors` only where the count of faults of that stream rose. `Memory` where there is no memory. `Endless` after 2^64 - 1 moves.
-    pub fn next_phase(&mut self) -> Result<Option<Vec<Vec<Event>>>, LineStop>
+    pub fn next_phase(&mut self, due: u32) -> Result<Option<Vec<Vec<Event>>>, LineStop>
         ensures frame { IsSameNode self.old.lines self.new.lines }
         ensures ok { (used : List ℕ) → IsFrontOf self.old.front used → IfOk result
             (λ r. IsNextPhase self.old.lines.bearers self.old.lines.elements S.clocked
@@ -210,7 +211,7 @@ impl<S: ClockedSource, E: Sink> LinePhases<S, E> {
             (lines_behind S.left S.faults E.held E.pieces E.faults used self.old.lines)
             (lines_at S.left S.faults E.held E.pieces E.faults self.new.lines)) }
     {
-        match self.next_line() {
+        match self.next_line(due) {
             Ok(Some(line)) => {
                 match phase_of(
                     self.lines.alloc,

@@ -1,10 +1,7 @@
 //! Phases from lines as a source of phases.
 #![tactic(auto)]
 
-ghost use Rattle.std.specs.Prelude.{◌≡◌, length, map, All, None, Some, IfOk, IfSome, OnErr};
-ghost use Rattle.node_bearer.specs.Did.{AreEvents};
 ghost use Rattle.live_lines.specs.Sources.{line_steps};
-ghost use Rattle.live_lines.specs.declared.lines.LineStop.TheVariants as stop;
 
 use crate::clock::ClockedSource;
 use crate::line_phases::LinePhases;
@@ -16,7 +13,12 @@ use mesh_types::events::Event;
 impl<S: ClockedSource, E: Sink> PhaseSource for LinePhases<S, E> {
     ghost steps = { line_steps S.clocked S.left S.faults E.held E.pieces E.faults };
 
-    fn next(&mut self, bearers: u8, elements: u8) -> Result<Option<Vec<Vec<Event>>>, SourceFailed> {
+    fn next(
+        &mut self,
+        bearers: u8,
+        elements: u8,
+        due: u32,
+    ) -> Result<Option<Vec<Vec<Event>>>, SourceFailed> {
         if self.lines.why.is_some() {
             return Err(SourceFailed);
         }
@@ -24,7 +26,7 @@ impl<S: ClockedSource, E: Sink> PhaseSource for LinePhases<S, E> {
             self.lines.why = Some(LineStop::OtherNode);
             return Err(SourceFailed);
         }
-        match self.next_phase() {
+        match self.next_phase(due) {
             Ok(phase) => Ok(phase),
             Err(why) => {
                 self.lines.why = Some(why);

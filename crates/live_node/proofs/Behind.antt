@@ -178,7 +178,7 @@ module _ {S E K : Type 0} (clocked : Bool) (left : S → Option (List ℕ)) (sou
         (ended T.Ended lived is el many mid gave ends.1 (ended_lines report.hex) Written
         (laws.whole report.hex 1 opened lived.did Z.Ended before (view report.sink) (view report'.sink) (view sink) first wrote.written h.0))
     behind_end lived is el many wrote V.WriteFault h = inr (inl (lived.end, end_broken lived is el many wrote.written h.0))
-    behind_end lived is el many wrote V.Memory h = inr (inr (inl (lived.end, end_broken lived is el many wrote.written h.0)))
+    behind_end lived is el many wrote V.Memory h = inr (inl (lived.end, end_broken lived is el many wrote.written h.0))
     behind_end lived is el many wrote V.ReadFault h = absurd h
     behind_end lived is el many wrote V.FlashFault h = absurd h
     behind_end lived is el many wrote V.Cut h = absurd h
@@ -198,13 +198,13 @@ module _ {S E K : Type 0} (clocked : Bool) (left : S → Option (List ℕ)) (sou
         (gave_up T.Unread lived is el many mid gave L.Errors fails (open_lines report.hex) Written
         (written_more (opened_line 1 opened ∷ []) (phases_lines report.hex lived.did) before (view report.sink) (view sink) first wrote) (failed L.Errors) (λ m k. k))
     behind_failure lived is el many wrote mid gave L.Memory fails =
-        inr (inr (inr (gave_up T.Unread lived is el many mid gave L.Memory fails (open_lines report.hex) WrittenFront (open_front lived.did wrote)
-        unended (λ m k. inr (L.Memory, refl, k)))))
+        inr (inr (gave_up T.Unread lived is el many mid gave L.Memory fails (open_lines report.hex) WrittenFront (open_front lived.did wrote)
+        unended (λ m k. inr (L.Memory, refl, k))))
     behind_failure lived is el many wrote mid gave L.Endless fails =
-        inr (inr (inr (gave_up T.Unread lived is el many mid gave L.Endless fails (open_lines report.hex) WrittenFront (open_front lived.did wrote)
-        unended (λ m k. inr (L.Endless, refl, k)))))
+        inr (inr (gave_up T.Unread lived is el many mid gave L.Endless fails (open_lines report.hex) WrittenFront (open_front lived.did wrote)
+        unended (λ m k. inr (L.Endless, refl, k))))
     behind_failure lived is el many wrote mid gave L.OtherNode fails =
-        inr (inr (inr (stayed T.Unread lived is el many mid gave (λ used k. (fails used k).0) (open_lines report.hex) WrittenFront (open_front lived.did wrote))))
+        inr (inr (stayed T.Unread lived is el many mid gave (λ used k. (fails used k).0) (open_lines report.hex) WrittenFront (open_front lived.did wrote)))
 
     behind_cut : (lived : Lived T.Cut) → opened ≡ W.On (config_of lived.over).iv (config_of lived.over).mark → lines.lines.elements ≡ (config_of lived.over).elements → lines.lines.bearers ≡ bearers
         → Written (phases_lines report.hex lived.did) (view report.sink) (view sink) → Over V.Cut
@@ -219,8 +219,8 @@ module _ {S E K : Type 0} (clocked : Bool) (left : S → Option (List ℕ)) (sou
         inr (inr (asked T.Untold lived is el many lived.gave (open_lines report.hex) WrittenFront
         (front_behind (opened_line 1 opened ∷ []) (phases_lines report.hex lived.did) before (view report.sink) (view sink) first wrote) unended (λ m. inl refl)))
     behind_untold lived is el many wrote stop.Memory =
-        inr (inr (inr (asked T.Untold lived is el many lived.gave (open_lines report.hex) WrittenFront
-        (front_behind (opened_line 1 opened ∷ []) (phases_lines report.hex lived.did) before (view report.sink) (view sink) first wrote) unended (λ m. inl refl))))
+        inr (inr (asked T.Untold lived is el many lived.gave (open_lines report.hex) WrittenFront
+        (front_behind (opened_line 1 opened ∷ []) (phases_lines report.hex lived.did) before (view report.sink) (view sink) first wrote) unended (λ m. inl refl)))
 
     -- whatever its last step was
     pub over : (last : LastStep) (lived : Lived last) → opened ≡ W.On (config_of lived.over).iv (config_of lived.over).mark → lines.lines.elements ≡ (config_of lived.over).elements → lines.lines.bearers ≡ bearers

@@ -181,15 +181,12 @@ module _ (role : Role) (image : List ℕ → Type 0) (hex : Bool) (bearers : ℕ
   over_causes Stood S.ReadFault closed new h = read_causes Stood new false (open_lines hex) Written h
   over_causes Stood S.ErrorsFault closed new h = errors_causes Stood new false (open_lines hex) Written h
   over_causes Stood S.WriteFault closed new h = elim h [
-    | inl u ↦ let k = unread u.unread in (k.source, k.sink)
+    | inl u ↦ let k = unread u.1.unread in (k.source, k.sink)
     | inr l ↦ let k = broken_kept Stood new closed l in (k.source, k.sink)
   ]
   over_causes Stood S.Memory closed new h = elim h [
-    | inl u ↦ let k = unread u.unread in (k.source, k.sink)
-    | inr more ↦ elim more [
-      | inl u ↦ let k = unread u.unread in (k.source, k.sink)
-      | inr l ↦ let k = broken_kept Stood new closed l in (k.source, k.sink)
-    ]
+    | inl u ↦ let k = unread u.1.unread in (k.source, k.sink)
+    | inr l ↦ let k = broken_kept Stood new closed l in (k.source, k.sink)
   ]
   over_causes Stood S.FlashFault closed new h = let k = unread h.unread in (k.source, k.sink)
   over_causes Stood S.WasReset closed new h = let k = unread h.unread in (k.source, k.sink)

@@ -52,7 +52,7 @@ opening_front start before after over state mark read runs s m front = record {
 }
 
 -- whyever the report was broken off
-pub unopened_over : (role : Role) (image : List ℕ → Type 0) (hex : Bool) (bearers : ℕ) (clocked : Bool) (start new : Chip) (from to : StreamsAt) (before after : SinkView) (Stood : Standing) (closed : Bool)
-    → Unopened image start new from to before after → (why : WriteStop) → EndsOver role image hex bearers clocked start from to before after Stood (stop_status why) closed new
-unopened_over role image hex bearers clocked start new from to before after Stood closed u stop.Fault = inl u
-unopened_over role image hex bearers clocked start new from to before after Stood closed u stop.Memory = inl u
+pub unopened_over : (role : Role) (image : List ℕ → Type 0) (hex : Bool) (bearers : ℕ) (clocked : Bool) (start new : Chip) (from to : StreamsAt) (before after : SinkView) (Stood : Standing)
+    → Unopened image start new from to before after → (why : WriteStop) → EndsOver role image hex bearers clocked start from to before after Stood (stop_status why) false new
+unopened_over role image hex bearers clocked start new from to before after Stood u stop.Fault = inl (refl, u)
+unopened_over role image hex bearers clocked start new from to before after Stood u stop.Memory = inl (refl, u)

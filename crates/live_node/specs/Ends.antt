@@ -4,7 +4,7 @@ use Rattle.flash_model.specs.Chip.{Chip}
 use Rattle.event_definitions.specs.Role.{Role}
 use Rattle.mesh_base.specs.Outside.{Rose}
 use Rattle.report_writer.specs.Writing.{SinkView}
-use Rattle.live_node.specs.Lived.{FailsAtOpening, LivedBroken, LivedOut, LivedShort, LivedUnread, LivedUntold, Standing, StartFellShort, StreamsAt, ToldReset, Unopened, WasCut}
+use Rattle.live_node.specs.Lived.{FailsAtOpening, LivedBroken, LivedOut, LivedShort, LivedUnread, LivedUntold, Standing, StreamsAt, ToldReset, Unopened, WasCut}
 use Rattle.live_node.specs.declared.status.Status.{Status}
 use Rattle.live_node.specs.declared.status.Status.TheVariants as S
 
@@ -16,10 +16,11 @@ module _ (role : Role) (image : List ℕ → Type 0) (hex : Bool) (bearers : ℕ
   EndsOver Stood S.ReadFault closed new = LivedUnread Stood role image hex bearers clocked start new from to before after
   EndsOver Stood S.ErrorsFault closed new = LivedUntold Stood role image hex bearers clocked start new from to before after
   EndsOver Stood S.WriteFault closed new =
-      Unopened image start new from to before after ⊎ LivedBroken Stood role image hex bearers clocked start new from to before after closed
+      ((closed ≡ false) × Unopened image start new from to before after)
+      ⊎ LivedBroken Stood role image hex bearers clocked start new from to before after closed
   EndsOver Stood S.Memory closed new =
-      Unopened image start new from to before after
-      ⊎ (StartFellShort start new from to before after ⊎ LivedBroken Stood role image hex bearers clocked start new from to before after closed)
+      ((closed ≡ false) × Unopened image start new from to before after)
+      ⊎ LivedBroken Stood role image hex bearers clocked start new from to before after closed
   EndsOver Stood S.FlashFault closed new = FailsAtOpening image start new from to before after
   EndsOver Stood S.WasReset closed new = ToldReset image start new from to before after
 

@@ -196,12 +196,6 @@ pub record Unopened (image : List ℕ → Type 0) (start new : Chip) (from to : 
   pub kept : Keeps start new
   pub untouched : IsSameFlash start new ⊎ IsUntouched image start new
 
--- Memory ran out as the machine opened the life: no line was read and none written. Of what the flash recovers nothing is said.
-pub record StartFellShort (start new : Chip) (from to : StreamsAt) (before after : SinkView) : Type 0 where
-  pub unread : to ≡ from
-  pub unwritten : after ≡ before
-  pub kept : Keeps start new
-
 -- There was a Node Reset: the line of that was written, and nothing else was done.
 pub record ToldReset (image : List ℕ → Type 0) (start new : Chip) (from to : StreamsAt) (before after : SinkView) : Type 0 where
   pub reset : WasReset start

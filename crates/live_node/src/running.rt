@@ -6,8 +6,7 @@ ghost use Rattle.event_definitions.specs.Role.{node_role};
 ghost use Rattle.flash_model.specs.Chip.{IsFresh, Keeps};
 ghost use Rattle.machine_contract.specs.Opening.{IsNodeFlash};
 ghost use Rattle.machine_contract.specs.Started.{IsStarted};
-ghost use Rattle.machine_ties.specs.Ties.{Stands};
-ghost use Rattle.machine_ties.specs.Views.{shown};
+ghost use Rattle.mesh_machine.specs.Machine.{Stands, shown};
 ghost use Rattle.mesh_node.specs.Given.{Stood};
 ghost use Rattle.mesh_types.specs.declared.report.Opened.TheVariants as W;
 ghost use Rattle.node_layers.specs.NodeLayers.{node_layers};
@@ -18,7 +17,7 @@ ghost use Rattle.report_writer.specs.Writing.{SinkView, Written, view_of};
 ghost use Rattle.live_node.specs.Begun.{IsBegun};
 ghost use Rattle.live_node.specs.Ending.{IsResetTold};
 ghost use Rattle.live_node.specs.Ends.{EndsAs, IsClosedBy, IsErrorsCause, IsSinkCause, IsSourceCause};
-ghost use Rattle.live_node.specs.Lived.{FailsAtOpening, LivedBroken, LivedOut, LivedShort, LivedUnread, LivedUntold, StartFellShort, ToldReset, Unopened, WasCut, streams_at};
+ghost use Rattle.live_node.specs.Lived.{FailsAtOpening, LivedBroken, LivedOut, LivedShort, LivedUnread, LivedUntold, ToldReset, Unopened, WasCut, streams_at};
 
 use crate::ending::end_status;
 use crate::status::{Ended, Status, Streams, stop_status};
@@ -45,7 +44,7 @@ fn unopened<F, S, E, K>(status: Status, flash: F, streams: Streams<S, E, K>) -> 
 {
     Ended {
         status,
-        closed: false,
+        closed: false, // nothing was asked of the flash but to open
         flash: Some(flash),
         streams,
     }
@@ -301,8 +300,8 @@ fn run_machine<
 /// `errors`, and has no phase.
 ///
 /// The flash is handed back, but for want of memory it may be lost. Where it is handed back a next life can be opened over it, or over whatever
-/// an image of it is now, but for one case: where memory ran out as the machine opened the life (`StartFellShort`), nothing is said of what the
-/// flash recovers. Where the life was given up before its first phase for another cause, the flash recovers what it did.
+/// an image of it is now. Where the life was given up before its first phase, whatever the cause, the flash recovers what it did, and unless it
+/// failed as the life was opened it isn't told as failed.
 pub fn run_node<
     R: Threads + Wait + Sync,
     F: Flash + Send + Drop,
@@ -324,7 +323,12 @@ pub fn run_node<
     requires began { (F.chip flash).setting.faults ≤ (F.chip flash).faults }
     requires few { bearers ≤ BEARERS }
 
-    // What each status says of the life, of its lines and of what was written.
+    // What each status says of the life, of its lines and of what was written: all of it, and then status by status.
+    ensures ended { EndsAs (node_role node_layers) IsNode hex bearers S.clocked (F.chip flash)
+        (streams_at S.left S.faults E.held E.pieces E.faults streams)
+        (streams_at S.left S.faults E.held E.pieces E.faults result.streams)
+        (view_of K.held K.pieces streams.sink) (view_of K.held K.pieces result.streams.sink) F.chip
+        (Stood shown Stands F.chip) result.status result.closed result.flash }
     ensures done { result.status ≡ Status.Done
         → IsSomeAnd result.flash
         (λ f. LivedOut (Stood shown Stands F.chip f) (node_role node_layers) IsNode hex bearers S.clocked (F.chip flash) (F.chip f)
@@ -351,25 +355,24 @@ pub fn run_node<
         (view_of K.held K.pieces result.streams.sink)) }
     ensures front { result.status ≡ Status.WriteFault
         → IsSomeAnd result.flash
-        (λ f. Unopened IsNode (F.chip flash) (F.chip f) (streams_at S.left S.faults E.held E.pieces E.faults streams)
+        (λ f. ((result.closed ≡ false)
+        × Unopened IsNode (F.chip flash) (F.chip f) (streams_at S.left S.faults E.held E.pieces E.faults streams)
         (streams_at S.left S.faults E.held E.pieces E.faults result.streams) (view_of K.held K.pieces streams.sink)
-        (view_of K.held K.pieces result.streams.sink)
+        (view_of K.held K.pieces result.streams.sink))
         ⊎ LivedBroken (Stood shown Stands F.chip f) (node_role node_layers) IsNode hex bearers S.clocked (F.chip flash) (F.chip f)
         (streams_at S.left S.faults E.held E.pieces E.faults streams)
         (streams_at S.left S.faults E.held E.pieces E.faults result.streams) (view_of K.held K.pieces streams.sink)
         (view_of K.held K.pieces result.streams.sink) result.closed) }
     ensures memory { result.status ≡ Status.Memory
         → IfSome result.flash
-        (λ f. Unopened IsNode (F.chip flash) (F.chip f) (streams_at S.left S.faults E.held E.pieces E.faults streams)
+        (λ f. ((result.closed ≡ false)
+        × Unopened IsNode (F.chip flash) (F.chip f) (streams_at S.left S.faults E.held E.pieces E.faults streams)
         (streams_at S.left S.faults E.held E.pieces E.faults result.streams) (view_of K.held K.pieces streams.sink)
-        (view_of K.held K.pieces result.streams.sink)
-        ⊎ (StartFellShort (F.chip flash) (F.chip f) (streams_at S.left S.faults E.held E.pieces E.faults streams)
-        (streams_at S.left S.faults E.held E.pieces E.faults result.streams) (view_of K.held K.pieces streams.sink)
-        (view_of K.held K.pieces result.streams.sink)
+        (view_of K.held K.pieces result.streams.sink))
         ⊎ LivedBroken (Stood shown Stands F.chip f) (node_role node_layers) IsNode hex bearers S.clocked (F.chip flash) (F.chip f)
         (streams_at S.left S.faults E.held E.pieces E.faults streams)
         (streams_at S.left S.faults E.held E.pieces E.faults result.streams) (view_of K.held K.pieces streams.sink)
-        (view_of K.held K.pieces result.streams.sink) result.closed)) }
+        (view_of K.held K.pieces result.streams.sink) result.closed) }
     ensures lost { result.flash ≡ None
         → (result.status ≡ Status.Memory)
         × LivedShort (node_role node_layers) hex bearers S.clocked (F.chip flash)

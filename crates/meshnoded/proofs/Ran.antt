@@ -1,16 +1,21 @@
 -- A node that was run, where the life of its flash was lived out.
-use Rattle.std.proofs.Common.{ℕ, Bool, Option, Some, None, Result, Ok, Err}
+use Rattle.std.proofs.Common.{◌≡◌, ℕ, Bool, Option, Some, None, Result, Ok, Err, IfErr, sym, subst}
 use Rattle.std.specs.Prelude.{IsSomeAnd, OnOk}
 use Rattle.event_definitions.specs.Role.{node_role}
 use Rattle.flash_model.specs.Chip.{Chip}
 use Rattle.live_node.specs.Lived.{LivedOut, StreamsAt}
-use Rattle.machine_ties.specs.Ties.{Stands}
-use Rattle.machine_ties.specs.Views.{shown}
+use Rattle.mesh_machine.specs.Machine.{Stands, shown}
 use Rattle.mesh_node.specs.Given.{Stood}
 use Rattle.node_layers.specs.NodeLayers.{node_layers}
 use Rattle.node_store.specs.Tie.{IsNode}
 use Rattle.report_writer.specs.Writing.{SinkView}
-use Rattle.meshnoded.specs.Running.{HasRun}
+use Rattle.live_node.specs.declared.status.Status.{Status}
+use Rattle.node_file.specs.declared.faults.OpenFault.{OpenFault}
+use Rattle.node_file.specs.declared.faults.OpenFault.TheVariants as O
+use Rattle.meshnoded.specs.Failing.{open_failure}
+use Rattle.meshnoded.specs.Running.{HasEnded, HasRun, IsAnswerOf, IsNotRun}
+use Rattle.meshnoded.specs.declared.failure.Failure.{Failure}
+use Rattle.meshnoded.specs.declared.failure.Failure.TheVariants as failures
 
 module _ {F : Type 0} (chip : F → Chip) (opens : Chip → Type 0) (start : F) (opened : opens (chip start)) (hex : Bool) (bearers : ℕ) (clocked : Bool)
     (from to : StreamsAt) (before after : SinkView) where
@@ -27,3 +32,41 @@ module _ {F : Type 0} (chip : F → Chip) (opens : Chip → Type 0) (start : F) 
       → OnOk r (HasRun chip opens hex bearers clocked from to before after)
   has_run_ok Done (Ok x) flash left done = has_run flash (left done)
   has_run_ok Done (Err e) flash left done = tt
+
+-- Why a node wasn't run.
+
+module _ {F : Type 0} (chip : F → Chip) (opens : Chip → Type 0) (hex : Bool) (bearers : ℕ) (clocked : Bool) (from to : StreamsAt) (before after : SinkView) where
+  abbrev NotRun : Failure → Type 0
+  NotRun failure = IsNotRun chip opens hex bearers clocked from to before after failure
+
+  -- the file wasn't opened
+  pub unopened : to ≡ from → after ≡ before → (fault : OpenFault) → NotRun (open_failure fault)
+  unopened read wrote O.Memory = (read, wrote)
+  unopened read wrote O.Missing = (read, wrote)
+  unopened read wrote O.NotAFile = (read, wrote)
+  unopened read wrote O.SecondName = (read, wrote)
+  unopened read wrote O.Locked = (read, wrote)
+  unopened read wrote (O.Size octets) = (read, wrote)
+  unopened read wrote (O.Image image) = (read, wrote)
+  unopened read wrote (O.System error) = (read, wrote)
+
+  -- a life ended so
+  failed : (status : Status) (closed : Bool) → HasEnded chip opens hex bearers clocked from to before after status closed → (failure : Failure) → IsAnswerOf status closed failure → NotRun failure
+  failed status closed ended (failures.Life told) h =
+      (closed, subst (λ s. IsAnswerOf s closed (failures.Life told)) (sym h.0) h, subst (λ s. HasEnded chip opens hex bearers clocked from to before after s closed) (sym h.0) ended)
+  failed status closed ended (failures.LifeAndFlash told) h =
+      (closed, subst (λ s. IsAnswerOf s closed (failures.LifeAndFlash told)) (sym h.0) h, subst (λ s. HasEnded chip opens hex bearers clocked from to before after s closed) (sym h.0) ended)
+  failed status closed ended failures.Usage h = absurd h
+  failed status closed ended failures.Keys h = absurd h
+  failed status closed ended failures.Read h = absurd h
+  failed status closed ended failures.Write h = absurd h
+  failed status closed ended failures.Memory h = absurd h
+  failed status closed ended (failures.Open fault) h = absurd h
+  failed status closed ended (failures.Make fault) h = absurd h
+  failed status closed ended (failures.Show fault) h = absurd h
+  failed status closed ended (failures.Clock error) h = absurd h
+
+  pub failed_err : {T : Type 0} (r : Result T Failure) (status : Status) (closed : Bool) → HasEnded chip opens hex bearers clocked from to before after status closed
+      → IfErr r (IsAnswerOf status closed) → IfErr r (IsNotRun chip opens hex bearers clocked from to before after)
+  failed_err (Ok x) status closed ended h = tt
+  failed_err (Err e) status closed ended h = failed status closed ended e h

@@ -1,5 +1,5 @@
 -- What commands answer, and what was written of it.
-use Rattle.std.specs.Prelude.{◌≡◌, ℕ, List}
+use Rattle.std.specs.Prelude.{◌≡◌, ℕ, List, Option}
 use Rattle.daemon_words.specs.Numbers.{provision_of}
 use Rattle.daemon_words.specs.declared.keys.NodeKeys.{NodeKeys}
 use Rattle.daemon_words.specs.declared.numbers.NodeNumbers.{NodeNumbers}
@@ -9,6 +9,7 @@ use Rattle.node_store.specs.Tie.{IsNode}
 use Rattle.node_store.specs.declared.provision.Provision.{Provision}
 use Rattle.report_writer.specs.Handing.{HandedFront}
 use Rattle.report_writer.specs.Writing.{SinkView}
+use Rattle.meshnoded.specs.Reading.{HasKeys}
 use Rattle.meshnoded.specs.declared.failure.Failure.{Failure}
 use Rattle.meshnoded.specs.declared.failure.Failure.TheVariants as F
 
@@ -18,9 +19,10 @@ pub record IsOpened {F : Type 0} (chip : F → Chip) (opens : Chip → Type 0) :
   pub opened : opens (chip flash)
   pub node : IsNode (chip flash).now
 
--- a file was made of a node with these numbers, and some keys
-pub record IsMade (makes : Provision → Type 0) (numbers : NodeNumbers) : Type 0 where
+-- a file was made of a node with these numbers, and with the keys that the source had
+pub record IsMade (makes : Provision → Type 0) (numbers : NodeNumbers) (old new : Option (List ℕ)) : Type 0 where
   pub keys : NodeKeys
+  pub read : HasKeys old new keys
   pub made : makes (provision_of numbers keys)
 
 -- the file was opened, and the text that was written tells what it stores

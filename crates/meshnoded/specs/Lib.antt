@@ -2,3 +2,4 @@ pub mod Numbers
 pub mod Failing
 pub mod Answering
 pub mod Running
+pub mod Reading

@@ -8,6 +8,7 @@ ghost use Rattle.mesh_base.specs.Outside.{Rose};
 ghost use Rattle.report_writer.specs.Handing.{HandedFront, IsHanded};
 ghost use Rattle.report_writer.specs.Writing.{view_of};
 ghost use Rattle.meshnoded.specs.Answering.{IsMade, IsOpened, IsTold, IsUntold};
+ghost use Rattle.meshnoded.specs.Reading.{HasKeys, HasText, IsKeyless, IsUnmade, IsUnread};
 ghost use Rattle.meshnoded.specs.declared.failure.Failure.TheVariants as failures;
 
 use crate::failure::Failure;
@@ -59,22 +60,37 @@ pub fn tell_version<K: Sink>(sink: &mut K) -> Result<(), Failure>
     print(sink, VERSION.as_bytes())
 }
 
-/// The keys that a source has, up to its end.
-fn read_keys<S: Source>(alloc: Global, source: &mut S) -> Result<NodeKeys, Failure> {
+/// All that a source has, where that is fewer octets than a text of keys may have.
+fn read_text<S: Source>(alloc: Global, source: &mut S) -> Result<Vec<u8>, Failure>
+    ensures ok { IfOk result (λ v. HasText (S.left source.old) (S.left source.new) v.items) }
+    ensures no_fault { OnOk result (S.faults source.new ≡ S.faults source.old) }
+    ensures err { IfErr result
+        (IsUnread (S.left source.old) (S.faults source.old) (S.left source.new) (S.faults source.new)) }
+{
+    let mut text = Vec::new(alloc);
     let mut octets = [0u8; MOST_OCTETS];
-    let mut length = 0;
-    // Each read but the last gives at least one octet.
-    for _read in 0..MOST_OCTETS {
-        if length == MOST_OCTETS {
-            return Err(Failure::Keys);
-        }
-        match source.read(&mut octets[length..]) {
-            Ok(0) => return keys_of(alloc, &octets[..length])?.ok_or(Failure::Keys),
-            Ok(count) => length += count,
+    while text.len() < MOST_OCTETS {
+        match source.read(&mut octets) {
+            Ok(0) => return Ok(text),
+            Ok(count) => text.extend_from_slice(&octets[..count])?,
             Err(_) => return Err(Failure::Read),
         }
     }
     Err(Failure::Keys)
+}
+
+/// The keys that a source has, which has nothing else.
+fn read_keys<S: Source>(alloc: Global, source: &mut S) -> Result<NodeKeys, Failure>
+    ensures value { IfOk result (HasKeys (S.left source.old) (S.left source.new)) }
+    ensures no_fault { OnOk result (S.faults source.new ≡ S.faults source.old) }
+    ensures err { IfErr result
+        (IsKeyless (S.left source.old) (S.faults source.old) (S.left source.new) (S.faults source.new)) }
+{
+    let text = read_text(alloc, source)?;
+    match keys_of(alloc, text.as_slice())? {
+        Some(keys) => Ok(keys),
+        None => Err(Failure::Keys),
+    }
 }
 
 /// `init`: the file of a new node is made, with the keys that a source has.
@@ -86,7 +102,10 @@ pub fn init<H: NodeFiles, S: Source>(
     source: &mut S,
 ) -> Result<(), Failure>
     requires numbers { IsNumbers numbers }
-    ensures made { OnOk result (IsMade (H.makes files.now file.now) numbers) }
+    ensures made { OnOk result
+        (IsMade (H.makes files.now file.now) numbers (S.left source.old) (S.left source.new)) }
+    ensures err { IfErr result
+        (IsUnmade (S.left source.old) (S.faults source.old) (S.left source.new) (S.faults source.new)) }
 {
     let keys = read_keys(alloc, source)?;
     files.make(alloc, file, &provision_with(numbers, keys))?;

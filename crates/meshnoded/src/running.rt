@@ -1,11 +1,11 @@
 //! A node that is run.
 #![tactic(auto)]
 
-ghost use Rattle.std.specs.Prelude.{◌≡◌, OnOk};
+ghost use Rattle.std.specs.Prelude.{◌≡◌, IfErr, OnOk};
 ghost use Rattle.daemon_words.specs.Numbers.{IsBearers};
 ghost use Rattle.live_node.specs.Lived.{streams_at};
 ghost use Rattle.report_writer.specs.Writing.{view_of};
-ghost use Rattle.meshnoded.specs.Running.{HasRun};
+ghost use Rattle.meshnoded.specs.Running.{HasRun, IsAnswerOf, IsNotRun};
 
 use crate::failure::Failure;
 use crate::files::NodeFiles;
@@ -32,6 +32,7 @@ pub struct Ran<S, E, K> {
 /// How a life is answered that ended so, where its flash failed or didn't.
 fn answered(status: Status, closed: bool) -> Result<(), Failure>
     ensures done { OnOk result (status ≡ Status.Done) }
+    ensures err { IfErr result (IsAnswerOf status closed) }
 {
     match status {
         Status::Done => Ok(()),
@@ -64,6 +65,11 @@ pub fn run<
     requires bearers { IsBearers ways.bearers }
     ensures done { OnOk result.answer
         (HasRun (⟦<NodeFlash as Flash>⟧.chip) (H.opens files.now file.now) ways.hex ways.bearers S.clocked
+        (streams_at S.left S.faults E.held E.pieces E.faults streams)
+        (streams_at S.left S.faults E.held E.pieces E.faults result.streams)
+        (view_of K.held K.pieces streams.sink) (view_of K.held K.pieces result.streams.sink)) }
+    ensures failed { IfErr result.answer
+        (IsNotRun (⟦<NodeFlash as Flash>⟧.chip) (H.opens files.now file.now) ways.hex ways.bearers S.clocked
         (streams_at S.left S.faults E.held E.pieces E.faults streams)
         (streams_at S.left S.faults E.held E.pieces E.faults result.streams)
         (view_of K.held K.pieces streams.sink) (view_of K.held K.pieces result.streams.sink)) }

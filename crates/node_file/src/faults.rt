@@ -1,8 +1,10 @@
 //! Why there is no file of a node.
 #![tactic(auto)]
 
+ghost use Rattle.std.specs.Prelude.{◌≡◌};
+ghost use Rattle.node_file.specs.declared.faults.MakeFault.TheVariants.{Memory, System};
+
 use node_store::ImageFault;
-use slot_journal::FormatFault;
 use std::alloc::AllocError;
 use std::io;
 use thiserror::Error;
@@ -46,9 +48,6 @@ pub enum MakeFault {
     /// There is a file of the name under which it is made: another process makes one, or died as it made one.
     #[error("there is a file of this name with .new behind it")]
     Begun,
-    /// What the node is provisioned with wasn't written.
-    #[error("{0}")]
-    Format(FormatFault),
     /// The system refused a call.
     #[error("{0}")]
     System(io::Error),
@@ -76,19 +75,17 @@ impl From<ImageFault> for OpenFault {
 }
 
 impl From<io::Error> for MakeFault {
+    ghost from_gives = { λ error fault. fault ≡ System error };
+
     fn from(error: io::Error) -> Self {
         MakeFault::System(error)
     }
 }
 
 impl From<AllocError> for MakeFault {
+    ghost from_gives = { λ _ fault. fault ≡ Memory };
+
     fn from(_: AllocError) -> Self {
         MakeFault::Memory
-    }
-}
-
-impl From<FormatFault> for MakeFault {
-    fn from(fault: FormatFault) -> Self {
-        MakeFault::Format(fault)
     }
 }

@@ -2,12 +2,13 @@
 //!
 //! - `opening`: a file that is there, as a flash from which a life can be opened
 //! - `making`: a file for a new node, under its name only once all of it is durable
-//! - `folder`: the folder of a file, and the name under which it is made
+//! - `folder`: the folder of a file: the calls that make one in it, and the name under which it is made
 //! - `faults`: why there is none
 //!
-//! What is done with a file isn't said by contracts, since none can say what the system does. They say what the flash is that is handed out:
-//! whatever the file holds, it is one from which a life can be opened, or there is a refusal (`node`). The rest stands here, in words, and in
-//! tests of the program.
+//! What is done with a file that is opened isn't said by contracts, since none can say what the system does. They say what the flash is that is
+//! handed out: whatever the file holds, it is one from which a life can be opened, or there is a refusal (`node`). Of a file that is made they say
+//! which calls on its folder make it, in which order, and with which octets (`make_in`, over any `Folder`). That the system does what it
+//! answers is trusted. The rest stands here, in words, and in tests of the program.
 //!
 //! # To open
 //!
@@ -22,8 +23,8 @@
 //!
 //! # To make
 //!
-//! It is made beside its name, under that name with `.new` behind it, which nobody has: open to its owner alone, with 65,536 octets of ff,
-//! synced. The node is provisioned on it. Then it gets its name, which nobody has, and loses the other; and the folder is synced. So a
+//! The node is provisioned in memory. Its 65,536 octets are written beside the name, into a file under that name with `.new` behind it, which
+//! nobody has: open to its owner alone, and synced. Then it gets its name, which nobody has, and loses the other; and the folder is synced. So a
 //! process that dies leaves no file under the name, or the whole node.
 #![tactic(auto)]
 
@@ -33,5 +34,6 @@ mod making;
 mod opening;
 
 pub use faults::{MakeFault, OpenFault};
-pub use making::make_node;
+pub use folder::{Folder, SystemFolder};
+pub use making::{make_in, make_node};
 pub use opening::{NodeFlash, open_node};

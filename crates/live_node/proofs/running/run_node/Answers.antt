@@ -1,6 +1,5 @@
 use Rattle.event_definitions.specs.Role.{node_role}
-use Rattle.machine_ties.specs.Ties.{Stands}
-use Rattle.machine_ties.specs.Views.{shown}
+use Rattle.mesh_machine.specs.Machine.{Stands, shown}
 use Rattle.mesh_node.specs.Given.{Stood}
 use Rattle.node_layers.specs.NodeLayers.{node_layers}
 use Rattle.node_store.specs.Tie.{IsNode}
@@ -23,6 +22,7 @@ returns g c =
     let stood = Stood shown Stands chip in
     let causes = stream_causes (node_role node_layers) IsNode c.args.hex c.args.bearers g.S.ClockedSource.clocked (chip c.args.flash) from to before after chip stood r.status r.closed r.flash ended in
     record {
+      ended = ended;
       done = some_of (node_role node_layers) IsNode c.args.hex c.args.bearers g.S.ClockedSource.clocked (chip c.args.flash) from to before after chip stood r.status r.closed S.Done (λ h. h) r.flash ended;
       cut = some_of (node_role node_layers) IsNode c.args.hex c.args.bearers g.S.ClockedSource.clocked (chip c.args.flash) from to before after chip stood r.status r.closed S.Cut (λ h. h) r.flash ended;
       read_fault = some_of (node_role node_layers) IsNode c.args.hex c.args.bearers g.S.ClockedSource.clocked (chip c.args.flash) from to before after chip stood r.status r.closed S.ReadFault (λ h. h) r.flash ended;

@@ -1,4 +1,4 @@
-use Rattle.std.proofs.Common.{false, inr, refl}
+use Rattle.std.proofs.Common.{inl, inr, refl}
 use Rattle.mesh_node.specs.Given.{Stood}
 use Rattle.report_writer.specs.Writing.{view_of}
 use Rattle.live_node.specs.Lived.{streams_at}
@@ -16,9 +16,26 @@ returns-in-Err-clause-ended g c =
     let life = c.tells.ensures.known b.flash s.over b.started.machine s.tie in
     rw (c.unopened-in-Err.ensures.value, c.stop_status.ensures.value)
     (unopened_over g.M.Machine.role g.M.Machine.image c.args.hex b.bearers g.S.ClockedSource.clocked (chip b.start) (chip b.flash) from from before after
-    (Stood g.M.Machine.view g.M.Machine.stands chip b.flash) false (record {
+    (Stood g.M.Machine.view g.M.Machine.stands chip b.flash) (record {
       wrote = inr (opening_front (chip b.start) before after s.over b.started.state b.started.mark s.read s.runs s.state s.mark c.in-Err.ensures.err);
       unread = refl;
       kept = c.requires.kept;
       untouched = inr (started_untouched g.M.Machine.view g.M.Machine.stands g.M.Machine.role g.M.Machine.image (chip b.start) (chip b.flash) b.started s life);
     }) c.in-Err.stop)
+
+pub returns-in_default-clause-ended : goal.returns-in_default-clause-ended
+returns-in_default-clause-ended g c =
+    let chip = g.F.Flash.chip in
+    let s = c.requires.started in
+    let b = c.args.beginning in
+    let life = c.tells.ensures.known b.flash s.over b.started.machine s.tie in
+    rw c.unopened.ensures.value
+    (inl (
+      refl,
+      record {
+        wrote = inl refl;
+        unread = refl;
+        kept = c.requires.kept;
+        untouched = inr (started_untouched g.M.Machine.view g.M.Machine.stands g.M.Machine.role g.M.Machine.image (chip b.start) (chip b.flash) b.started s life);
+      },
+    ))
