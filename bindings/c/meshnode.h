@@ -40,6 +40,10 @@ uint32_t meshnode_audit(const uint8_t *text, size_t text_length, uint8_t *verdic
 /* The 22 octets of the Secure Network beacon of a network key of 16 octets. Of the flags bit 0 is Key Refresh and bit 1 is IV Update. */
 uint32_t meshnode_beacon(const uint8_t *key, size_t key_length, uint8_t flags, uint32_t iv, uint8_t *beacon, size_t beacon_length);
 
+/* Authenticates a Secure Network beacon under a network key of 16 octets, and reads its flags, of which bit 0 is Key Refresh and bit 1 is IV Update,
+ * and its IV Index. Its Network ID is what `meshnode_k3` derives of the key. `MESHNODE_UNREAD` where it is no beacon of this key. */
+uint32_t meshnode_beacon_open(const uint8_t *key, size_t key_length, const uint8_t *beacon, size_t beacon_length, uint8_t *flags, uint32_t *iv);
+
 /* Seals a text in place and writes its MIC: AES-CCM under a key of 16 octets, with a nonce of 13, fewer than 65,280 octets of additional data, a
  * text of fewer than 65,536, and a MIC of 4 or 8. */
 uint32_t meshnode_ccm_seal(const uint8_t *key, size_t key_length, const uint8_t *nonce, size_t nonce_length, const uint8_t *additional, size_t additional_length, uint8_t *text, size_t text_length, uint8_t *mic, size_t mic_length);
@@ -69,6 +73,58 @@ uint32_t meshnode_k4(const uint8_t *n, size_t n_length, uint8_t *aid);
 /* The virtual address, 8000 to bfff, of a label of 16 octets. */
 uint32_t meshnode_virtual_address(const uint8_t *label, size_t label_length, uint16_t *dst);
 
+/* The fields of a lower transport PDU but for its octets. Of a PDU that was read those that its kind hasn't are 0; of one that is written they
+ * aren't looked at. */
+struct meshnode_lower {
+    /* Whether it is of a control message. */
+    bool ctl;
+    /* SEG: whether it is a segment. */
+    bool seg;
+    /* AKF, of an access message: whether an application key sealed it; else the device key. */
+    bool akf;
+    /* SZMIC, of a segment of an access message: whether the TransMIC has 8 octets; else 4. */
+    bool szmic;
+    /* AID, below 64, of an access message: 0 with the device key. */
+    uint8_t aid;
+    /* The opcode, below 128, of a control message. */
+    uint8_t opcode;
+    /* SegO, of a segment: which it is, from 0 to SegN. */
+    uint8_t seg_o;
+    /* SegN, below 32, of a segment: the number of the last one. */
+    uint8_t seg_n;
+    /* SeqZero, below 2^13, of a segment: the low bits of SeqAuth. */
+    uint16_t seq_zero;
+};
+
+/* What a Segment Acknowledgment says. */
+struct meshnode_acknowledgment {
+    /* OBO: whether a friend acknowledges on behalf of its Low Power node. */
+    bool obo;
+    /* SeqZero, below 2^13. */
+    uint16_t seq_zero;
+    /* BlockAck: bit n is 1 where segment n was received. */
+    uint32_t block_ack;
+};
+
+/* The octets of the lower transport PDU of these fields: at most 16, in the front of `tpdu`, which has room for 16; `size` tells how many. An
+ * unsegmented access message has 5 to 15 octets, its upper transport PDU; an unsegmented control message 0 to 11, its parameters. A segment of
+ * an access message has 12 and of a control message 8, the last one 1 to so many. Where a length and a number are wrong it is `MESHNODE_LENGTH`. */
+uint32_t meshnode_lower_write(const struct meshnode_lower *head, const uint8_t *octets, size_t octets_length, uint8_t *tpdu, size_t tpdu_length, size_t *size);
+
+/* Reads the transport PDU of a network PDU with this CTL. Its octets are put into the front of `octets`, which has room for 15, and `size` tells
+ * how many. Reserved bits, and AID with the device key, are read as anything. `MESHNODE_UNREAD` where no PDU has these octets. */
+uint32_t meshnode_lower_read(bool ctl, const uint8_t *tpdu, size_t tpdu_length, struct meshnode_lower *head, uint8_t *octets, size_t octets_length, size_t *size);
+
+/* The 6 octets of parameters of a Segment Acknowledgment, which is a control message with opcode 00. */
+uint32_t meshnode_acknowledgment_write(const struct meshnode_acknowledgment *said, uint8_t *params, size_t params_length);
+
+/* Reads the 6 octets of parameters of a Segment Acknowledgment. The two bits before BlockAck are reserved, and read as anything. */
+uint32_t meshnode_acknowledgment_read(const uint8_t *params, size_t params_length, struct meshnode_acknowledgment *said);
+
+/* SEQ of SeqAuth, for a segment that came with this SEQ: the greatest number up to it whose low 13 bits are SeqZero. Its IV Index is that of the
+ * segment. `MESHNODE_UNREAD` where there is no such number. */
+uint32_t meshnode_seq_auth(uint32_t seq, uint16_t seq_zero, uint32_t *auth);
+
 /* The fields of a network PDU but for its transport PDU. */
 struct meshnode_head {
     /* The IV Index. */
@@ -93,6 +149,29 @@ uint32_t meshnode_net_seal(uint8_t nid, const uint8_t *encryption, size_t encryp
 /* Opens a network PDU, heard by a node whose IV Index is `current`: it may be under this one or the one before. The transport PDU is put into the
  * front of `tpdu`, which has room for 16 octets, and `size` tells how many. `MESHNODE_UNREAD` where it is none under this key. */
 uint32_t meshnode_net_open(uint8_t nid, const uint8_t *encryption, size_t encryption_length, const uint8_t *privacy, size_t privacy_length, uint32_t current, const uint8_t *pdu, size_t pdu_length, struct meshnode_head *head, uint8_t *tpdu, size_t tpdu_length, size_t *size);
+
+/* What an access message is sealed with besides its key. */
+struct meshnode_message {
+    /* The IV Index of SeqAuth. */
+    uint32_t iv;
+    /* The SEQ of SeqAuth, below 2^24: that of the message, or of its first segment. */
+    uint32_t seq;
+    /* SRC. */
+    uint16_t src;
+    /* DST. */
+    uint16_t dst;
+    /* Whether the TransMIC has 8 octets; else 4. */
+    bool long_mic;
+};
+
+/* Seals an access payload: the octets of its upper transport PDU, as many as the payload has and 4 or 8 for its TransMIC, at most 384. The key
+ * has 16 octets, and is the device key or an application key. The label of a virtual DST has 16 octets; else there are 0. Where a length and a
+ * number are wrong it is `MESHNODE_LENGTH`. */
+uint32_t meshnode_access_seal(bool device, const uint8_t *key, size_t key_length, const struct meshnode_message *message, const uint8_t *label, size_t label_length, const uint8_t *payload, size_t payload_length, uint8_t *upper, size_t upper_length);
+
+/* Opens the octets of an upper transport PDU, sealed as `meshnode_access_seal` says: `payload` has room for as many octets as they are without
+ * the TransMIC. `MESHNODE_UNREAD` where they don't open under this key with these fields. Of the SEQ the low 24 bits count. */
+uint32_t meshnode_access_open(bool device, const uint8_t *key, size_t key_length, const struct meshnode_message *message, const uint8_t *label, size_t label_length, const uint8_t *upper, size_t upper_length, uint8_t *payload, size_t payload_length);
 
 #ifdef __cplusplus
 }

@@ -1,13 +1,14 @@
 /* rows FILE: computes through C what the rows of a file ask for, and compares it with what stands behind their `=`. Of
- * crates/worked_vectors/stdout it takes those of ciphers, derivations, network PDUs and beacons, which are samples of the standards. Rows that the
- * program of that crate refuses as it reads them are left out. */
+ * crates/worked_vectors/stdout it takes those of ciphers, derivations, network PDUs, lower transport PDUs, Segment Acknowledgments, SeqAuth, access
+ * messages and beacons, many of which are samples of the standards; of those that give several keys it takes the ones that give one alone, and of
+ * messages that one of several keys opens, it tries these in their order. Rows that the program of that crate refuses as it reads them are left out. */
 #include "meshnode.h"
 
 #include <stdio.h>
 #include <stdlib.h>
 #include <string.h>
 
-enum { WORDS = 16, OCTETS = 512 };
+enum { WORDS = 24, OCTETS = 512 };
 
 /* the octets of a word of hexadecimal digits; `-` has none */
 static size_t octets_of(const char *word, uint8_t *octets) {
@@ -28,6 +29,123 @@ static void put(char *text, const uint8_t *octets, size_t count) {
 }
 
 static uint32_t number(const char *word) { return (uint32_t)strtoul(word, NULL, 16); }
+
+/* a number of `count` octets, and a flag, as the rows write them */
+static void put_number(char *text, uint32_t value, size_t count) {
+    uint8_t octets[4] = {(uint8_t)(value >> 24), (uint8_t)(value >> 16), (uint8_t)(value >> 8), (uint8_t)value};
+    put(text, octets + 4 - count, count);
+}
+
+static void put_flag(char *text, bool flag) { strcat(text, flag ? " 1" : " 0"); }
+
+/* `lower CTL TRANSPORT-PDU`: the kind, the fields, and the octets as they are written again */
+static void lower_row(bool ctl, const uint8_t *tpdu, size_t count, char *text) {
+    static const char *const kinds[] = {" access", " accesspart", " control", " controlpart"};
+    struct meshnode_lower head = {0};
+    uint8_t octets[15], again[16];
+    size_t size, written;
+    if (meshnode_lower_read(ctl, tpdu, count, &head, octets, 15, &size) != MESHNODE_OK) {
+        strcpy(text, " malformed");
+        return;
+    }
+    strcpy(text, kinds[2 * head.ctl + head.seg]);
+    if (head.ctl)
+        put_number(text, head.opcode, 1);
+    else {
+        put_flag(text, head.akf);
+        put_number(text, head.aid, 1);
+    }
+    if (head.seg) {
+        if (!head.ctl)
+            put_flag(text, head.szmic);
+        put_number(text, head.seq_zero, 2);
+        put_number(text, head.seg_o, 1);
+        put_number(text, head.seg_n, 1);
+    }
+    put(text, octets, size);
+    if (meshnode_lower_write(&head, octets, size, again, 16, &written) == MESHNODE_OK)
+        put(text, again, written);
+}
+
+/* `control 00 PARAMETERS`: what a Segment Acknowledgment says, and its octets as they are written again */
+static void acknowledgment_row(const uint8_t *params, size_t count, char *text) {
+    struct meshnode_acknowledgment said = {0};
+    uint8_t again[7] = {0};
+    if (meshnode_acknowledgment_read(params, count, &said) != MESHNODE_OK) {
+        strcpy(text, " other");
+        return;
+    }
+    strcpy(text, " acknowledgment");
+    put_flag(text, said.obo);
+    put_number(text, said.seq_zero, 2);
+    put_number(text, said.block_ack, 4);
+    if (meshnode_acknowledgment_write(&said, again + 1, 6) == MESHNODE_OK)
+        put(text, again, 7);
+}
+
+/* `access` and `opened`: IV, SEQ, SRC, DST, SZMIC and at most one label, then the octets and the key or keys */
+static void access_row(char **w, char *text) {
+    static uint8_t octets[OCTETS], made[OCTETS];
+    uint8_t label[16], key[16];
+    struct meshnode_message message = {number(w[1]), number(w[2]), (uint16_t)number(w[3]), (uint16_t)number(w[4]), w[5][0] == '1'};
+    bool labelled = number(w[6]) == 1;
+    char **rest = w + 7 + labelled;
+    size_t labels = labelled ? octets_of(w[7], label) : 0, mic = message.long_mic ? 8 : 4, count = octets_of(rest[0], octets);
+    if (strcmp(w[0], "access") == 0) {
+        octets_of(rest[2], key);
+        if (meshnode_access_seal(strcmp(rest[1], "dev") == 0, key, 16, &message, label, labels, octets, count, made, count + mic) == MESHNODE_OK)
+            put(text, made, count + mic);
+        return;
+    }
+    strcpy(text, " nokey");
+    for (uint32_t i = 0; i < number(rest[1]); i++) {
+        octets_of(rest[3 + 2 * i], key);
+        size_t room = count > mic ? count - mic : 1;
+        if (meshnode_access_open(strcmp(rest[2 + 2 * i], "dev") == 0, key, 16, &message, label, labels, octets, count, made, room) == MESHNODE_OK) {
+            text[0] = '\0';
+            put_number(text, i, 4);
+            put(text, made, room);
+            return;
+        }
+    }
+}
+
+/* `read BEACON 01 INDEX PHASE KEY -`: the index, whether the key is the new one, what the beacon says */
+static void beacon_row(char **w, const uint8_t *beacon, size_t count, char *text) {
+    uint8_t key[16], flags = 0;
+    uint32_t iv = 0;
+    octets_of(w[5], key);
+    if (meshnode_beacon_open(key, 16, beacon, count, &flags, &iv) != MESHNODE_OK) {
+        strcpy(text, " unread");
+        return;
+    }
+    put_number(text, number(w[3]), 2);
+    put_flag(text, false);
+    put_flag(text, flags & 1);
+    put_flag(text, flags >> 1 & 1);
+    put_number(text, iv, 4);
+}
+
+/* rows of the transport layers and of beacons that are read; 0 where a row is none */
+static int transport_answer(char **w, uint8_t in[WORDS][OCTETS], const size_t *n, char *text) {
+    uint32_t auth = 0;
+    if (strcmp(w[0], "lower") == 0)
+        lower_row(w[1][0] == '1', in[2], n[2], text);
+    else if (strcmp(w[0], "control") == 0 && strcmp(w[1], "00") == 0)
+        acknowledgment_row(in[2], n[2], text);
+    else if (strcmp(w[0], "seqauth") == 0) {
+        if (meshnode_seq_auth(number(w[1]), (uint16_t)number(w[2]), &auth) == MESHNODE_OK)
+            put_number(text, auth, 3);
+        else
+            strcpy(text, " none");
+    } else if (strcmp(w[0], "access") == 0 || strcmp(w[0], "opened") == 0)
+        access_row(w, text);
+    else if (strcmp(w[0], "read") == 0 && strcmp(w[2], "01") == 0 && strcmp(w[6], "-") == 0)
+        beacon_row(w, in[1], n[1], text);
+    else
+        return 0;
+    return 1;
+}
 
 /* what a row asks for, as text; 0 where it asks for something else */
 static int answer(char **w, char *text) {
@@ -79,7 +197,7 @@ static int answer(char **w, char *text) {
             put(text, beacon, 22);
     } else if (strcmp(w[0], "network") == 0) {
         struct meshnode_head head = {number(w[2]), number(w[5]), (uint16_t)number(w[6]), (uint16_t)number(w[7]), w[3][0] == '1', in[4][0]};
-        struct meshnode_head heard;
+        struct meshnode_head heard = {0};
         size_t size, tpdu_size;
         uint8_t tpdu[16];
         meshnode_k2(in[1], n[1], (uint8_t[]){0}, 1, &small, key, 16, privacy, 16);
@@ -93,8 +211,32 @@ static int answer(char **w, char *text) {
         } else
             strcpy(text, " a refusal");
     } else
-        return 0;
+        return transport_answer(w, in, n, text);
     return 1;
+}
+
+/* the same of the transport layers */
+static int refuses_transport(void) {
+    uint8_t key[16] = {0}, octets[16] = {7}, payload[4] = {7}, upper[8] = {7}, flags = 7;
+    struct meshnode_lower head = {.seg = true, .aid = 1, .seg_n = 1}, same = head;
+    struct meshnode_acknowledgment said = {false, 0x2000, 0};
+    struct meshnode_message message = {0, 0x1000000, 1, 2, false};
+    size_t size = 5;
+    uint32_t number = 5;
+    return meshnode_lower_write(&head, payload, 4, octets, 16, &size) == MESHNODE_LENGTH
+        && meshnode_lower_write(&head, key, 12, octets, 15, &size) == MESHNODE_LENGTH
+        && (head.seg_n = 0, meshnode_lower_write(&head, payload, 4, octets, 16, &size) == MESHNODE_RANGE)
+        && (head.seg_n = 1, meshnode_lower_read(false, payload, 4, &head, octets, 15, &size) == MESHNODE_UNREAD)
+        && meshnode_lower_read(false, payload, 4, &head, octets, 16, &size) == MESHNODE_LENGTH && memcmp(&head, &same, sizeof head) == 0
+        && meshnode_acknowledgment_write(&said, octets, 6) == MESHNODE_RANGE && meshnode_acknowledgment_read(octets, 5, &said) == MESHNODE_LENGTH
+        && meshnode_seq_auth(0, 1, &number) == MESHNODE_UNREAD
+        && meshnode_access_seal(true, key, 16, &message, key, 0, payload, 4, upper, 8) == MESHNODE_RANGE
+        && meshnode_access_seal(true, key, 16, &message, key, 15, payload, 4, upper, 8) == MESHNODE_LENGTH
+        && meshnode_access_open(true, key, 16, &message, key, 0, upper, 8, payload, 4) == MESHNODE_UNREAD
+        && meshnode_access_open(true, key, 16, &message, key, 0, upper, 8, payload, 3) == MESHNODE_LENGTH
+        && meshnode_beacon_open(key, 16, octets, 16, &flags, &number) == MESHNODE_UNREAD
+        && meshnode_beacon_open(key, 15, octets, 16, &flags, &number) == MESHNODE_LENGTH
+        && octets[0] == 7 && payload[0] == 7 && upper[0] == 7 && flags == 7 && size == 5 && number == 5;
 }
 
 /* whether calls that are to be refused are, and leave what they were given */
@@ -136,7 +278,7 @@ int main(int argc, char **argv) {
         }
     }
     fclose(file);
-    if (!refuses()) {
+    if (!refuses() || !refuses_transport()) {
         wrong++;
         puts("a call that is to be refused");
     }

@@ -1,2 +1,4 @@
+pub mod Lower
 pub mod Network
 pub mod Numbers
+pub mod Upper

@@ -6,6 +6,8 @@
 //! - `ciphers`: AES-CCM and AES-CMAC
 //! - `derivations`: s1, k1 to k4, virtual addresses
 //! - `network`: network PDUs
+//! - `lower`: lower transport PDUs, Segment Acknowledgments, SeqAuth
+//! - `upper`: access messages of the upper transport layer
 //! - `beacons`: Secure Network beacons
 //! - `audit`: the audit of a log
 //!
@@ -21,5 +23,7 @@ mod audit;
 mod beacons;
 mod ciphers;
 mod derivations;
+mod lower;
 mod network;
 pub mod status;
+mod upper;
