@@ -7,6 +7,7 @@
 //! - `bearers`: threads that draw numbers and take a lock in turn
 //! - `records`: the octets of records with what they say, those beside that are no record, and the size of each table
 //! - `stores`: the octets of a node that accepts a message and draws a number, and what mounting refuses
+//! - `mounts`: what is refused over an erased flash and a full journal, what mounting answers behind the slots of provisioning, and the octets of two names
 //! - `lines`: phases from lines that come in any pieces, long lines, and streams that fail
 //! - `low_power`: scripts of a Low Power node, which the program doesn't run
 //! - `proofs/Headers.antt`: which of two banks counts, evaluated at octets of headers

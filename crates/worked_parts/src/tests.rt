@@ -6,6 +6,7 @@ mod flaws;
 mod journals;
 mod lines;
 mod low_power;
+mod mounts;
 mod records;
 mod stores;
 mod streams;

@@ -32,7 +32,7 @@ fn all_of<S: ClockedSource + Drop>(alloc: Global, source: S) -> Option<(Vec<u32>
     let mut lines = LinePhases::new(alloc, source, errors, 1, 1).ok()?;
     let mut phases = Vec::new(alloc);
     for _ in 0..16 {
-        match lines.next_phase().ok()? {
+        match lines.next_phase(1).ok()? {
             Some(lists) => phases.push(ticks_of(lists.as_slice())?).ok()?,
             None => {
                 let told = lines.lines.errors.octets().to_vec(alloc).ok()?;
@@ -67,7 +67,7 @@ fn stop_of(alloc: Global, source: &[u32], sink: &[u32]) -> Option<LineStop> {
     let errors = MemSink::new(alloc, sink).ok()?;
     let source = MemSource::new(b"life\n", source);
     let mut lines = LinePhases::new(alloc, source, errors, 1, 1).ok()?;
-    lines.next_phase().err()
+    lines.next_phase(1).err()
 }
 
 #[test]

@@ -13,7 +13,7 @@ use seq_reserve::Reserve;
 use slot_journal::Journal;
 use std::alloc::Global;
 
-const NET_KEY: [u8; 16] = [
+pub(super) const NET_KEY: [u8; 16] = [
     0x7d, 0xd7, 0x36, 0x4c, 0xd8, 0x42, 0xad, 0x18, 0xc1, 0x7c, 0x2b, 0x82, 0x0c, 0x84, 0xc3, 0xd6,
 ];
 
@@ -22,7 +22,7 @@ const DEV_KEY: [u8; 16] = [
 ];
 
 /// What the node is provisioned with.
-fn provisioned_with() -> Provision
+pub(super) fn provisioned_with() -> Provision
     ensures { IsProvision result }
 {
     Provision {
