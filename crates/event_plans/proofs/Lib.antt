@@ -5,3 +5,4 @@ pub mod Accepts
 pub mod Beacons
 pub mod Own
 pub mod Asked
+pub mod Waiting

@@ -1,16 +1,22 @@
 //! What a node keeps in memory in a life.
 #![tactic(auto)]
 
-ghost use Rattle.std.specs.Prelude.{◌≡◌, ◌↔◌, List, [], Some, IfOk, IsTrue};
-ghost use Rattle.event_plans.specs.Memory.{AreNodeTablesOf, IsFitFor, view_in};
+ghost use Rattle.std.specs.Prelude.{◌≡◌, ◌↔◌, ◌≤◌, ◌^◌, List, [], Some, IfOk, IsTrue};
+ghost use Rattle.event_plans.specs.Memory.{AreNodeTablesOf, IsFitFor, StaysUntil, view_in, waited};
 ghost use Rattle.mesh_reading.specs.Held.{AreHeldKeys, held_in};
+ghost use Rattle.mesh_types.specs.declared.answers.Answer.TheVariants as A;
+ghost use Rattle.node_layers.specs.Steps.{with_entry};
 ghost use Rattle.node_records.specs.Meaning.{IsMeaningOf, IsSaid};
 ghost use Rattle.node_records.specs.Tables.{config_in};
-ghost use Rattle.event_definitions.specs.History.{Past};
+ghost use Rattle.node_records.specs.declared.persist.Persist.{Persist as PersistValue};
+ghost use Rattle.record_types.specs.declared.records.StoreRecord.{StoreRecord};
+ghost use Rattle.event_definitions.specs.Answers.{config_before};
+ghost use Rattle.event_definitions.specs.History.{OfNothing, Past, Told, now_of};
+ghost use Rattle.store_definitions.specs.Config.{config_of};
 
 use early_reading::{KeyView, Reader};
 use mesh_hearing::{Keys, Tables};
-use node_friends::NodeFriends;
+use node_friends::{NodeFriends, friends_law};
 use node_models::NodeModels;
 use node_records::Persist;
 use std::alloc::{AllocError, Global};
@@ -57,6 +63,24 @@ impl NodeTables {
             ≡ record self.old { hearing = record self.old.hearing { keys = held_in (config_in p.now) } } }
     {
         self.hearing.renew_keys(p);
+    }
+
+    /// Time passes until this moment of the life, in ticks of 10 ms, at most 2^48, and nothing is given: for a moment up to which nothing ends. All
+    /// of it then stands for an entry that tells of this moment too.
+    pub fn wait(&mut self, now: u64)
+        requires most { now ≤ 2 ^ 48 }
+        ensures value { self.new ≡ waited self.old now }
+        ensures tables { (past : Past) (e : Told) (records : List StoreRecord) → AreNodeTablesOf self.old past
+            → StaysUntil past now → now_of past.told ≤ now
+            → e.insight ≡ OfNothing → e.entry.answer ≡ A.Ticked now → e.records ≡ past.records
+            → (config_of records).elements ≡ (config_before past).elements
+            → AreNodeTablesOf self.new (with_entry past.told e records) }
+        ensures fit { (p : PersistValue) → IsFitFor self.old p → IsFitFor self.new p }
+    {
+        // It does nothing when it runs: the proof uses what it says.
+        friends_law();
+        self.hearing.wait(now);
+        self.models.wait(now);
     }
 
     /// The keys that the node holds.

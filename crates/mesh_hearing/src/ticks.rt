@@ -1,11 +1,14 @@
 //! Time that passed.
 #![tactic(auto)]
 
-ghost use Rattle.std.specs.Prelude.{◌≡◌, ◌≤◌, All, length};
+ghost use Rattle.std.specs.Prelude.{◌≡◌, ◌≤◌, ◌^◌, ◌++◌, ◌∷◌, [], List, All, length};
+ghost use Rattle.layer_states.specs.Reassembly.{after, tick};
+ghost use Rattle.layer_states.specs.Sending as sending;
 ghost use Rattle.mesh_hearing.specs.Heard.{IsPassed};
 ghost use Rattle.mesh_hearing.specs.Tables.{AreTablesOf, IsFit};
+ghost use Rattle.mesh_types.specs.declared.answers.Answer.TheVariants as A;
 ghost use Rattle.node_records.specs.Meaning.{IsMeaningOf};
-ghost use Rattle.event_definitions.specs.History.{Past};
+ghost use Rattle.event_definitions.specs.History.{OfNothing, Past, Told};
 ghost use Rattle.segment_sender.specs.Held.{IsHeldWell};
 
 use crate::tables::Tables;
@@ -53,5 +56,18 @@ impl Tables {
             acks: self.parts.tick(now),
             rounds: self.own.rounds(now),
         }
+    }
+
+    /// Time passes until this moment of the life, in ticks of 10 ms, at most 2^48, and nothing is given: for a moment at which no acknowledgment
+    /// and no round is due, and no message goes. The tables then stand for an entry that tells of this moment too.
+    pub fn wait(&mut self, now: u64)
+        requires most { now ≤ 2 ^ 48 }
+        ensures value { self.new ≡ record self.old { ticks = now } }
+        ensures tables { (told : List Told) (e : Told) → AreTablesOf self.old told
+            → after self.old.parts (tick now) ≡ self.old.parts
+            → sending.after self.old.own (sending.due now) ≡ self.old.own
+            → e.insight ≡ OfNothing → e.entry.answer ≡ A.Ticked now → AreTablesOf self.new (told ++ e ∷ []) }
+    {
+        self.ticks = now;
     }
 }

@@ -149,7 +149,7 @@ done_by old stored log event place before after a plan tables asked st same e is
     models = st.models;
   };
   answer = answer;
-  jobs = λ past planned unicast leaves. made ∙ subst (λ (q : Persist). jobs ≡ jobs_of node_layers past (config_in q) event (insight_in plan.basis) plan.answer) now
+  jobs = λ past standing planned unicast leaves. made ∙ subst (λ (q : Persist). jobs ≡ jobs_of node_layers past (config_in q) event (insight_in plan.basis) plan.answer) now
       (f past planned (subst (λ (q : Persist). (config_in q).unicast ≡ (config_before past).unicast) (sym now) unicast)
       (subst (λ (q : Persist). LeavesConfig plan.answer (config_before past) (config_in q)) (sym now) leaves));
   entry = entries ∙ ap (λ (h : LogView). h.entries ++ entry_of place e a ∷ []) same ∙ ap (λ (x : Event). old.history.entries ++ entry_of place x a ∷ []) is;
@@ -158,27 +158,31 @@ done_by old stored log event place before after a plan tables asked st same e is
   few = omega (arith, few);
 }
 
--- without records, whatever the flash
+-- Where no records were stored, whatever the flash.
+pub nothing_stored : (old new : Parts) (event : Event) (turn : IsTurnOf old event) → IsFit new.tables.hearing old.reserve.store.persist → new.reserve ≡ old.reserve
+    → (chip : Chip) → AreStored [] (planned_parts old new.tables) new chip chip
+nothing_stored old new event turn fit same chip = record {
+  usable = subst (λ (r : Reserve). r.store.journal.closed ≡ false) (sym same) turn.ready.usable;
+  value = λ records h. subst (λ (r : Reserve). IsMeaningOf (records ++ []) r.store.persist) (sym same)
+      (subst (λ (l : List StoreRecord). IsMeaningOf l old.reserve.store.persist) (sym (append-nil records)) h);
+  kept = λ records h. subst (λ (r : Reserve). IsStoreOf chip r.store (records ++ [])) (sym same)
+      (subst (λ (l : List StoreRecord). IsStoreOf chip old.reserve.store l) (sym (append-nil records)) h);
+  published = subst (λ (r : Reserve). IsPublished r.store r.keeper) (sym same) turn.ready.published;
+  made = ap (λ (r : Reserve). r.keeper.which) same;
+  keys = subst (λ (r : Reserve). IsFit new.tables.hearing r.store.persist) (sym same) fit;
+  tables = λ past h. h;
+  models = refl;
+}
+
 pub acted_done : (old new : Parts) (event : Event) (turn : IsTurnOf old event) (place : Place) (a : Answered) → IsActed old new event place a → (chip : Chip)
     → IsDone old new event place chip chip a
 acted_done old new event turn place a d chip = record {
   plan = of_own d.plan;
   tables = new.tables;
   asked = d.asked;
-  stored = record {
-    usable = subst (λ (r : Reserve). r.store.journal.closed ≡ false) (sym d.reserve) turn.ready.usable;
-    value = λ records h. subst (λ (r : Reserve). IsMeaningOf (records ++ []) r.store.persist) (sym d.reserve)
-        (subst (λ (l : List StoreRecord). IsMeaningOf l old.reserve.store.persist) (sym (append-nil records)) h);
-    kept = λ records h. subst (λ (r : Reserve). IsStoreOf chip r.store (records ++ [])) (sym d.reserve)
-        (subst (λ (l : List StoreRecord). IsStoreOf chip old.reserve.store l) (sym (append-nil records)) h);
-    published = subst (λ (r : Reserve). IsPublished r.store r.keeper) (sym d.reserve) turn.ready.published;
-    made = ap (λ (r : Reserve). r.keeper.which) d.reserve;
-    keys = subst (λ (r : Reserve). IsFit new.tables.hearing r.store.persist) (sym d.reserve) d.asked.fit.keys;
-    tables = λ past h. h;
-    models = refl;
-  };
+  stored = nothing_stored old new event turn d.asked.fit.keys d.reserve chip;
   answer = d.answer;
-  jobs = λ past planned unicast leaves.
+  jobs = λ past standing planned unicast leaves.
       subst (λ (r : Reserve). a.jobs ≡ jobs_of node_layers past (config_in r.store.persist) event OfNothing d.plan.answer) (sym d.reserve) (d.jobs past planned);
   entry = d.entry;
   taken = d.taken;
@@ -230,7 +234,7 @@ module _ (laws : AreKeeping) (old new : Parts) (event : Event) (place : Place) (
     node = event_node_over laws machine event d.plan d.tables ready.past q ready.before planned d.asked.may d.asked.bounded meaning
 
     jobs_are : a.jobs ≡ jobs_of node_layers ready.past (config_in q) event (insight_in d.plan.basis) d.plan.answer
-    jobs_are = d.jobs ready.past planned node.unicast (plan_leaves ready.past event d.plan d.tables q planned meaning)
+    jobs_are = d.jobs ready.past ready.before.standing planned node.unicast (plan_leaves ready.past event d.plan d.tables q planned meaning)
 
     -- the invariant
     pub ready_done : StayWithin → IsReady now_after
@@ -270,7 +274,7 @@ module _ (laws : AreKeeping) (old new : Parts) (event : Event) (place : Place) (
       let is_entry : IsEntryOf past event d.plan q entry = record {
         is_of = refl;
         has = d.answer;
-        jobs = d.jobs past planned node.unicast (plan_leaves past event d.plan d.tables q planned meaning);
+        jobs = d.jobs past h.before.standing planned node.unicast (plan_leaves past event d.plan d.tables q planned meaning);
       } in
       subst (λ (v : NodeMachine). Stands after over v) as_now
       (event_stands laws machine event d.plan d.tables before after over s runs new.reserve new.tables entry planned d.asked.may d.asked.bounded

@@ -107,7 +107,7 @@ pub record IsDone (old new : Parts) (event : Event) (place : Place) (before afte
   pub asked : IsAsked old event plan tables
   pub stored : AreStored plan.records (planned_parts old tables) new before after
   pub answer : answered.answer ≡ plan.answer
-  pub jobs : (past : Past) → IsPlanned past event plan tables
+  pub jobs : (past : Past) → IsStanding past old.reserve.store.persist old.tables → IsPlanned past event plan tables
       → (config_in new.reserve.store.persist).unicast ≡ (config_before past).unicast
       → LeavesConfig plan.answer (config_before past) (config_in new.reserve.store.persist)
       → answered.jobs

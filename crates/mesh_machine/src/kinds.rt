@@ -22,7 +22,9 @@ use machine_standing::{Drafts, Place, enter};
 use machine_ties::{are_bounded, ties_law};
 use mesh_base::octets::Octets;
 use mesh_reading::held_keys_law;
+use mesh_types::answers::Answer;
 use mesh_types::events::Event;
+use next_due::wait;
 use seq_word::Numbers;
 
 // A network PDU was heard.
@@ -119,7 +121,7 @@ fn hear_beacon<F: Flash>(
     ))
 }
 
-// Time passed.
+// Time passed in which something may be due.
 fn pass<F: Flash>(
     parts: &mut Parts,
     n: &Numbers,
@@ -156,6 +158,39 @@ fn pass<F: Flash>(
         jobs,
         drafts.kept,
     ))
+}
+
+// Time passed: where nothing is due in it, it is told, and that is all.
+fn tick<F: Flash>(
+    parts: &mut Parts,
+    n: &Numbers,
+    flash: &mut F,
+    ticks: u32,
+    place: Place,
+    drafts: Drafts,
+) -> Result<Answered, Stop>
+    requires turn { IsTurnOf parts.old (E.Tick ticks) }
+    requires made { parts.old.reserve.keeper.which ≡ n.now.which }
+    requires room { HasRoom parts.old drafts }
+    ensures done { IfOk result
+        (IsDone parts.old parts.new (E.Tick ticks) place (F.chip flash.old) (F.chip flash.new)) }
+    ensures stopped { IfErr result
+        (IsStopped F.chip (E.Tick ticks) parts.old parts.new flash.old flash.new) }
+    ensures frame { Keeps (F.chip flash.old) (F.chip flash.new) }
+{
+    // It does nothing when it runs: the proof uses what it says.
+    are_within(parts.reserve.store.persist());
+    match wait(&mut parts.tables, parts.reserve.store.persist(), ticks) {
+        Some(now) => Ok(enter(
+            &mut parts.history,
+            place,
+            Event::Tick(ticks),
+            Answer::Ticked { now },
+            drafts.handed.finish(),
+            drafts.kept,
+        )),
+        None => pass(parts, n, flash, ticks, place, drafts),
+    }
 }
 
 // An event that brings neither octets heard nor time. It stores nothing.
@@ -202,7 +237,7 @@ pub(crate) fn handle<F: Flash>(
     match event {
         Event::Net(octets) => hear(parts, n, flash, octets, known, place, drafts),
         Event::Bcn(octets) => hear_beacon(parts, n, flash, octets, place, drafts),
-        Event::Tick(ticks) => pass(parts, n, flash, *ticks, place, drafts),
+        Event::Tick(ticks) => tick(parts, n, flash, *ticks, place, drafts),
         _ => Ok(act(parts, event, place, drafts)),
     }
 }

@@ -57,8 +57,9 @@ impl Model for MeshState {
 }
 
 impl MeshState {
-    /// Handles an event of a bearer, which is the one with this number among its events, from 1 on: `handle` of `Machine` is this call. What is
-    /// known of the reading of a network PDU is used. Its records and what it accepts are steps of the world (`mesh_world`) from any world of the store before it to one of the store after it.
+    /// Handles an event of a bearer, which is the one with this number among its events, from 1 on: `handle_event` of the machine is this call.
+    /// What is known of the reading of a network PDU is used. Its records and what it accepts are steps of the world (`mesh_world`) from any world
+    /// of the store before it to one of the store after it.
     pub fn handle_event<F: Flash>(
         &mut self,
         n: &Numbers,

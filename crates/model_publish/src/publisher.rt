@@ -65,6 +65,17 @@ impl Publisher {
         list
     }
 
+    /// Counts this moment as the last at which was asked what is due, of the rows and of the heartbeat, and hands nothing out: for a moment at
+    /// which nothing is.
+    pub fn wait(&mut self, now: u64)
+        ensures state { self.new ≡ after_heartbeat (after_rows self.old now) now }
+    {
+        self.asked = now;
+        if let Some(h) = self.heartbeat {
+            self.heartbeat = Some(heartbeat_after(now, &h));
+        }
+    }
+
     /// From this moment on this is the heartbeat, in place of the one before.
     pub fn heartbeat_set(&mut self, now: u64, row: &HeartbeatRow)
         ensures state { self.new ≡ heartbeat_set self.old now row.now }

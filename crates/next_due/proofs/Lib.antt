@@ -1,3 +1,4 @@
 mod Nothing
 mod Parts
 mod Quiet
+mod Passed

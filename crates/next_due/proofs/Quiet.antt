@@ -48,7 +48,7 @@ module _ (past : Past) (ticks : ℕ) where
 
   -- and where there was none
   module _ (goes : c.reset ≡ false) where
-    time_told : tick_answer past ticks ≡ A.Ticked (later past ticks)
+    pub time_told : tick_answer past ticks ≡ A.Ticked (later past ticks)
     time_told = told past ticks ∙ ap (λ b. cond b A.Reset (A.Ticked (later past ticks))) goes
 
     pub quiet_where : IsStill past (later past ticks) → IsQuiet past ticks

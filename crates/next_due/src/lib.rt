@@ -4,9 +4,12 @@
 //!
 //! - `ends`: when the first of all these ends
 //! - `ticks`: in how many ticks that is
+//! - `waiting`: time in which nothing is due
 #![tactic(auto)]
 
 mod ends;
 mod ticks;
+mod waiting;
 
 pub use ticks::due;
+pub use waiting::wait;

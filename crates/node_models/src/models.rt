@@ -6,6 +6,7 @@ ghost use Rattle.element_models.specs.Messages.{HasOctet, message_in};
 ghost use Rattle.layer_states.specs.Friends.{FriendsState, poll_timeouts};
 ghost use Rattle.mesh_types.specs.declared.answers.Answer.TheVariants as A;
 ghost use Rattle.model_publish.specs.Own.{IsOwnRow};
+ghost use Rattle.model_states.specs.Publication.{after_heartbeat, after_rows};
 ghost use Rattle.node_layers.specs.ConfiguredLayers.{changes_of};
 ghost use Rattle.node_layers.specs.Configuration.{ends_friendships};
 ghost use Rattle.node_layers.specs.Friendship.{act_of, config_after, replies_to};
@@ -17,6 +18,7 @@ ghost use Rattle.node_models.specs.Models.{AreNodeModelsOf, AreWithin};
 ghost use Rattle.node_models.specs.Replies.{replies_in};
 ghost use Rattle.node_records.specs.Meaning.{IsMeaningOf, IsSaid};
 ghost use Rattle.node_records.specs.Tables.{config_in};
+ghost use Rattle.node_records.specs.declared.persist.Persist.{Persist as PersistValue};
 ghost use Rattle.record_types.specs.declared.records.StoreRecord.{StoreRecord};
 ghost use Rattle.event_definitions.specs.Answers.{config_before};
 ghost use Rattle.event_definitions.specs.History.{Past, Told, now_of};
@@ -149,5 +151,22 @@ impl NodeModels {
             rows: with_statuses(&self.servers, p.unicast, now, rows.as_slice()),
             heartbeat,
         }
+    }
+
+    /// Time passes until this moment of the life, in ticks of 10 ms, and nothing is handed out: for a moment at which nothing is due. They then
+    /// stand for an entry that tells of this moment too.
+    pub fn wait(&mut self, now: u64)
+        ensures value { self.new
+            ≡ record self.old { published = after_heartbeat (after_rows self.old.published now) now } }
+        ensures models { (past : Past) (t : Told) (records : List StoreRecord)
+            → AreNodeModelsOf self.old past → t.records ≡ past.records → t.entry.answer ≡ A.Ticked now
+            → (config_of records).elements ≡ (config_before past).elements
+            → AreNodeModelsOf self.new (with_entry past.told t records) }
+        ensures within { (p : PersistValue) → AreWithin self.old p → AreWithin self.new p }
+    {
+        // They do nothing when they run: the proof uses what they say.
+        models_law();
+        step_law();
+        self.publisher.wait(now);
     }
 }

@@ -34,18 +34,18 @@ returns-in-Bcn-clause-stopped g c =
     subst (λ (e : Event). IfErr c.hear_beacon.result (IsStopped g.F.Flash.chip e c.args.parts.now c.hear_beacon.new.parts c.args.flash.now c.hear_beacon.new.flash))
     (sym c.in-Bcn.is) c.hear_beacon.ensures.stopped
 
-pub pass-requires-clause-turn : goal.pass-requires-clause-turn
-pass-requires-clause-turn g c = subst (λ (e : Event). IsTurnOf c.args.parts.now e) c.in-Tick.is c.requires.turn
+pub tick-requires-clause-turn : goal.tick-requires-clause-turn
+tick-requires-clause-turn g c = subst (λ (e : Event). IsTurnOf c.args.parts.now e) c.in-Tick.is c.requires.turn
 
 pub returns-in-Tick-clause-done : goal.returns-in-Tick-clause-done
 returns-in-Tick-clause-done g c =
-    subst (λ (e : Event). IfOk c.pass.result (IsDone c.args.parts.now c.pass.new.parts e c.args.place (g.F.Flash.chip c.args.flash.now) (g.F.Flash.chip c.pass.new.flash)))
-    (sym c.in-Tick.is) c.pass.ensures.done
+    subst (λ (e : Event). IfOk c.tick.result (IsDone c.args.parts.now c.tick.new.parts e c.args.place (g.F.Flash.chip c.args.flash.now) (g.F.Flash.chip c.tick.new.flash)))
+    (sym c.in-Tick.is) c.tick.ensures.done
 
 pub returns-in-Tick-clause-stopped : goal.returns-in-Tick-clause-stopped
 returns-in-Tick-clause-stopped g c =
-    subst (λ (e : Event). IfErr c.pass.result (IsStopped g.F.Flash.chip e c.args.parts.now c.pass.new.parts c.args.flash.now c.pass.new.flash))
-    (sym c.in-Tick.is) c.pass.ensures.stopped
+    subst (λ (e : Event). IfErr c.tick.result (IsStopped g.F.Flash.chip e c.args.parts.now c.tick.new.parts c.args.flash.now c.tick.new.flash))
+    (sym c.in-Tick.is) c.tick.ensures.stopped
 
 pub act-requires-clause-own : goal.act-requires-clause-own
 act-requires-clause-own g c = own_left c.args.event.now c.in_default.not-Net c.in_default.not-Bcn c.in_default.not-Tick
