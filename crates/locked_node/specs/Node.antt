@@ -52,6 +52,8 @@ origin_of chip n = record {
   taken = n.machine.taken;
   elements = n.machine.elements;
   arm = option_map armed_by (chip n.flash).setting.arm;
+  saved = (chip n.flash).setting.saved;
+  moment = (chip n.flash).setting.moment;
 }
 
 -- of a bearer that stopped, but for want of memory

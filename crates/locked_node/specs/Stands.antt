@@ -15,6 +15,8 @@ pub record IsLater (start now : Chip) : Type 0 where
   pub faults : start.faults ≤ now.faults
   pub steady : now.steady ≡ start.steady
   pub began : now.setting.faults ≡ start.setting.faults
+  -- its power wasn't cycled since
+  pub cycles : now.setting.cycles ≡ start.setting.cycles
   pub past : Remembers start now
 
 -- the machine stands over this flash and the records that the life found, and bearers have stopped exactly if it is closed

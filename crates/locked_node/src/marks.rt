@@ -4,6 +4,7 @@
 use mesh_types::events::Event;
 use mesh_types::history::Entry;
 use seq_word::Numbers;
+use std::collections::LinkedList;
 
 /// An entry of the lock.
 pub enum Mark {
@@ -35,4 +36,8 @@ pub struct Origin<F> {
     pub elements: u64,
     /// The order that the flash was given.
     pub arm: Option<Armed>,
+    /// What was read of the flash when its setting was made: for one that notes its writes, when they were handed out last.
+    pub saved: LinkedList<u8>,
+    /// Its moment then.
+    pub moment: u64,
 }

@@ -1,5 +1,5 @@
 -- A life between a flash and the flash.
-use Rattle.std.proofs.Common.{◌≡◌, ◌≢◌, ◌∙◌, ℕ, ◌<◌, ◌≤◌, true, false, true≢false, Bool, List, [], Vec, Global, length, map, Some, None, refl, sym, ap, subst, arith}
+use Rattle.std.proofs.Common.{◌≡◌, ◌≢◌, ◌∙◌, ◌+◌, ℕ, ◌<◌, ◌≤◌, true, false, true≢false, Bool, List, [], Vec, Global, length, map, Some, None, refl, sym, ap, subst, arith}
 use Rattle.std.specs.Prelude.{◌^◌, All, IfSome, IsTrue}
 use Rattle.std.proofs.lemmas.List.{length-map}
 use Rattle.flash_model.specs.Arming.{IsExplained}
@@ -33,7 +33,8 @@ use Rattle.life_laws.specs.declared.plan.PlanStep.{PlanStep}
 use Rattle.life_laws.specs.Plan.{HasOneArm, life_of, steps_of}
 use Rattle.mesh_node.specs.Ran.{Ran}
 use Rattle.mesh_node.specs.Steps.{HasGiven, IsGiven, IsOfPlan, first_order}
-use Rattle.mesh_node.proofs.Drawn.{Closes, tells_words}
+use Rattle.mesh_node.specs.Left.{Closes}
+use Rattle.mesh_node.proofs.Drawn.{tells_words}
 use Rattle.mesh_node.proofs.Ending.{each_life}
 use Rattle.mesh_node.proofs.Giving.{given_one, reached_some}
 use Rattle.mesh_node.proofs.Printing.{idle_printable, sends_short}
@@ -109,7 +110,8 @@ module _ {M F : Type 0} (view : M → MachineView) (stands : Chip → List Store
 
 module _ {M F : Type 0} (view : M → MachineView) (stands : Chip → List StoreRecord → M → Type 0) (chip : F → Chip)
     (role : Role) (image : List ℕ → Type 0) (items : List PlanStep) (single : HasOneArm items) (old start : Chip) (left : F) (log : LifeLog)
-    (is : old.images start.now) (began : start.setting.faults ≡ old.faults) (order : IsOfPlan (steps_of items) start.setting.arm) (first : start.setting.arm ≡ first_order items 0) (count : KeepsCount old start) where
+    (is : old.images start.now) (began : start.setting.faults ≡ old.faults) (order : IsOfPlan (steps_of items) start.setting.arm) (first : start.setting.arm ≡ first_order items 0) (count : KeepsCount old start)
+    (cycled : start.setting.cycles ≡ old.setting.cycles + 1) where
   abbrev plan : List Step
   plan = steps_of items
 
@@ -132,6 +134,7 @@ module _ {M F : Type 0} (view : M → MachineView) (stands : Chip → List Store
         cause = λ cut. subst (λ n. n < new.faults) now (r.cause cut);
         steady = r.later.steady ∙ count.steady;
         setting = now;
+        cycles = r.later.cycles ∙ cycled;
         arm = r.arm;
         calls = r.calls;
         drawn = r.drawn;
@@ -158,6 +161,7 @@ module _ {M F : Type 0} (view : M → MachineView) (stands : Chip → List Store
         cause = λ cut. subst (λ n. n < new.faults) count.faults (failed cut);
         steady = keeps.steady ∙ count.steady;
         setting = ap (λ (s : Setting). s.faults) keeps.setting ∙ began;
+        cycles = ap (λ (s : Setting). s.cycles) keeps.setting ∙ cycled;
         arm = subst (IsOfPlan plan) (sym (ap (λ (s : Setting). s.arm) keeps.setting)) order;
         calls = calls;
         drawn = subst (TellsDrawn (life_of log)) (sym none) off;

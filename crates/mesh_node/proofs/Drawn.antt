@@ -17,6 +17,7 @@ use Rattle.node_bearer.specs.Marked.{IsSpentSeen}
 use Rattle.life_laws.specs.Pairs.{PairsSo, all_of}
 use Rattle.life_laws.proofs.Pairing.{sum_up, within_drawn}
 use Rattle.mesh_node.specs.Drawn.{AreWordsOf, IsSpentBy, TellsWords, opened_at}
+use Rattle.mesh_node.specs.Left.{Closes}
 
 pub words_of : (l : Life) (d : DrawerView) (words : List ℕ) → words ≡ d.drawn → AllPairs (λ x y. x ≢ y) d.drawn → PairsSo l.entries l.sends d → AreWordsOf words (draws (shown l))
 words_of l d words is apart h =
@@ -40,16 +41,6 @@ spent_by : (first : ℕ) (words : List ℕ) (looks : List Look) → All (IsEndOf
 spent_by first words looks ends (O.Spent iv) h =
     All-contains (IsEndOf first words) looks (saw.Counter (iv * 2 ^ 25 + 2 ^ 24)) ends h (omega arith)
 spent_by first words looks ends o h = tt
-
--- what the words tell at their end, of a life that opened at `first`
-pub record Closes (d : DrawerView) (closed : ClosedView) (first : ℕ) : Type 0 where
-  pub drawn : closed.drawn ≡ d.drawn
-  pub looks : closed.looks ≡ d.looks
-  pub apart : AllPairs (λ x y. x ≢ y) d.drawn
-  pub since : All (λ x. first ≤ x) d.drawn
-  pub ends : All (IsEndOf first d.drawn) d.looks
-  pub all : (x : ℕ) → times x d.drawn + passed_over x closed.advances + once_below x first ≡ once_below x closed.next
-  pub firsts : All (λ a. seq_of a.1 ≡ 0) closed.advances
 
 pub tells_words : (l : Life) (d : DrawerView) (closed : ClosedView) → is_on l.opened ≡ true → Closes d closed (opened_at l.opened) → PairsSo l.entries l.sends d → TellsWords l closed
 tells_words l d closed on h pairs =

@@ -11,3 +11,5 @@ pub mod Closing
 pub mod Telling
 pub mod Whole
 pub mod Phasing
+pub mod Holding
+pub mod HandedOn

@@ -27,7 +27,7 @@ use Rattle.mesh_node.specs.Steps.{IsSameNode}
 use Rattle.mesh_node.specs.Told.{IsPartDone, IsPrintablePhase, did_of, part_told}
 use Rattle.mesh_node.specs.declared.phases.Seats.{Seats}
 use Rattle.mesh_node.specs.declared.told.PhaseLog.{PhaseLog}
-use Rattle.mesh_node.proofs.Stepping.{going_more, over_by, same_arm, same_node}
+use Rattle.mesh_node.proofs.Stepping.{going_more, over_by, same_arm, same_node, same_saved}
 use Rattle.mesh_node.proofs.Telling.{closed_by, drop_front, going_taken, over_taken, phase_short, taken_of, told_more}
 
 -- a phase, the seats before and behind it, and what was taken of the node
@@ -71,6 +71,9 @@ module _ {F M Reader Early : Type 0} {role : Role} {image : List ℕ → Type 0}
 
   pub arm_is : (chip left.flash).setting.arm ≡ (chip old.flash).setting.arm
   arm_is = ap (λ (n : NodeView F). (chip n.flash).setting.arm) p.taken ∙ same_arm chip old new p.origin
+
+  pub saved_is : (chip left.flash).setting.saved ≡ (chip old.flash).setting.saved
+  saved_is = ap (λ (n : NodeView F). (chip n.flash).setting.saved) p.taken ∙ (same_saved chip old new p.origin).0
 
   none_is : closed ≡ false → new.stops ≡ 0
   none_is off = none_stopped old new before.drawer e events before.counts.items dones p.was p.between.live (p.through off)

@@ -72,6 +72,9 @@ module _ {F : Type 0} (chip : F → Chip) (old new : NodeView F) (origin : origi
   pub same_arm : (chip new.flash).setting.arm ≡ (chip old.flash).setting.arm
   same_arm = arm_same (chip new.flash).setting.arm (chip old.flash).setting.arm (ap (λ o. o.arm) origin)
 
+  pub same_saved : ((chip new.flash).setting.saved ≡ (chip old.flash).setting.saved) × ((chip new.flash).setting.moment ≡ (chip old.flash).setting.moment)
+  same_saved = (ap (λ o. o.saved) origin, ap (λ o. o.moment) origin)
+
 -- another flash makes no other node
 pub other_flash : {F : Type 0} (old new : NodeView F) (flash : F) → new ≡ record old { flash = flash } → IsSameNode old new
 other_flash old new flash frame = record { start = ap (λ v. v.start) frame; which = ap (λ v. v.machine.which) frame; elements = ap (λ v. v.machine.elements) frame }

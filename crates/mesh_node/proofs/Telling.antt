@@ -102,7 +102,7 @@ parts_more did d tail = sym (append_assoc (map part_told did) (part_told d ∷ [
 count_more : (phases : List (List (List Event))) (events : List (List Event)) (did : List PhaseDid) (d : PhaseDid) → length did ≡ length phases → length (did ++ d ∷ []) ≡ length (phases ++ events ∷ [])
 count_more phases events did d same = length-append did (d ∷ []) ∙ ap (λ n. n + 1) same ∙ sym (length-append phases (events ∷ []))
 
-each_more : (phases : List (List (List Event))) (events : List (List Event)) (did : List PhaseDid) (d : PhaseDid) → PhasesDone phases (map part_told did) → ((k : ℕ) → Does events (part_told d) k [])
+pub each_more : (phases : List (List (List Event))) (events : List (List Event)) (did : List PhaseDid) (d : PhaseDid) → PhasesDone phases (map part_told did) → ((k : ℕ) → Does events (part_told d) k [])
     → PhasesDone (phases ++ events ∷ []) (map part_told (did ++ d ∷ []))
 each_more phases events did d h all = record {
   before = λ is_cut rest tail more.
@@ -116,7 +116,7 @@ each_whole closed phases did same h = record {
   parts = subst (PartsOf closed phases) (append-nil (map part_told did)) (subst (λ ps. PartsOf closed ps (map part_told did ++ [])) (append-nil phases) (h.before closed [] [] ends));
 }
 
-each_last : (closed : Bool) (phases : List (List (List Event))) (events : List (List Event)) (did : List PhaseDid) (d : PhaseDid) → length did ≡ length phases → PhasesDone phases (map part_told did) → IsPartDone closed events d
+pub each_last : (closed : Bool) (phases : List (List (List Event))) (events : List (List Event)) (did : List PhaseDid) (d : PhaseDid) → length did ≡ length phases → PhasesDone phases (map part_told did) → IsPartDone closed events d
     → (b : Bool) → closed ≡ b → AreToldEach b (phases ++ events ∷ []) (did ++ d ∷ [])
 each_last closed phases events did d same h part true on = record {
   count = count_more phases events did d same;

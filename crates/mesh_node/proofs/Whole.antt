@@ -1,5 +1,5 @@
 -- A life that went on is one of the phases that came, with what was told of them.
-use Rattle.std.proofs.Common.{◌≡◌, ◌∙◌, ap, ℕ, ◌<◌, ◌≤◌, false, List, length, map, refl, sym, subst, arith}
+use Rattle.std.proofs.Common.{◌≡◌, ◌∙◌, ap, ℕ, ◌<◌, ◌≤◌, Bool, false, List, length, map, refl, sym, subst, arith}
 use Rattle.std.specs.Prelude.{◌^◌, All}
 use Rattle.flash_model.specs.Chip.{Chip}
 use Rattle.mesh_types.specs.declared.history.Entry.{Entry}
@@ -20,20 +20,21 @@ use Rattle.mesh_node.specs.Going.{IsOver}
 use Rattle.mesh_node.specs.Lived.{IsLifeTold, LivedOn, WentOn, life_told}
 use Rattle.mesh_node.specs.Told.{SinkSteps, SourceSteps, sends_told}
 use Rattle.mesh_node.specs.declared.told.LastStep.{LastStep}
-use Rattle.mesh_node.proofs.Drawn.{Closes, tells_words}
+use Rattle.mesh_node.specs.Left.{Closes, HasLeft}
+use Rattle.mesh_node.proofs.Drawn.{tells_words}
 use Rattle.mesh_node.proofs.Ending.{each_life}
 use Rattle.mesh_node.proofs.Printing.{sends_short}
 use Rattle.mesh_node.proofs.Telling.{phases_are}
 
 module _ {M F S T : Type 0} (view : M → MachineView) (stands : Chip → List StoreRecord → M → Type 0) (role : Role) (image : List ℕ → Type 0) (chip : F → Chip) (source : SourceSteps S) (sink : SinkSteps T) (from to : S) (began now : T) (bearers : ℕ) (few : bearers ≤ 8)
     (start : F) (node : NodeView F) (d : DrawerView) (last : LastStep) (went : WentOn source sink from to began now bearers node d last node.machine.closed)
-    (one : (content : List ℕ) (rs ss : List StoreRecord) → IsRecovered content rs → IsRecovered content ss → rs ≡ ss)
+    (one : (rs ss : List StoreRecord) → IsRecovered (chip start).now rs → IsRecovered (chip start).now ss → rs ≡ ss)
     (begun : List StoreRecord) (read : IsRecovered (chip start).now begun) (runs : (config_of begun).reset ≡ false)
     (h : IsNode role image chip node) (is_start : node.start ≡ start) (closed : ClosedView) (first : ℕ) (order : closed.next ≤ closed.mark) (marks : closed.mark ≡ node.machine.mark) (firsts : first ≡ (config_of begun).mark)
     (since : All (λ x. first ≤ x) d.drawn) (below : All (λ x. x < closed.next) d.drawn) (once : (x : ℕ) → times x d.drawn ≤ 1) (seen : All (IsWithin closed.next closed.mark) d.looks)
     (closes : Closes d closed first) (held : HasMachine stands view chip node) where
   begun_is : begun ≡ h.over
-  begun_is = one (chip start).now begun h.over read (subst (λ s. IsRecovered (chip s).now h.over) is_start h.read)
+  begun_is = one begun h.over read (subst (λ s. IsRecovered (chip s).now h.over) is_start h.read)
 
   plan : List Step
   plan = map phase went.phases
@@ -59,7 +60,7 @@ module _ {M F S T : Type 0} (view : M → MachineView) (stands : Chip → List S
       }
 
   held_over : held.over ≡ h.over
-  held_over = one (chip start).now held.over h.over (subst (λ s. IsRecovered (chip s).now held.over) is_start held.read) (subst (λ o. IsRecovered (chip start).now o) begun_is read)
+  held_over = one held.over h.over (subst (λ s. IsRecovered (chip s).now held.over) is_start held.read) (subst (λ o. IsRecovered (chip start).now o) begun_is read)
 
   pub lived : LivedOn (Stood view stands chip node.flash) role image source sink from to began now bearers (chip start) (chip node.flash) node.machine.fills closed node.machine.closed last
   lived = record {
@@ -84,3 +85,15 @@ module _ {M F S T : Type 0} (view : M → MachineView) (stands : Chip → List S
       is_closed = refl;
     };
   }
+
+-- the same, by what is left of it
+pub lived_left : {M F S T : Type 0} (view : M → MachineView) (stands : Chip → List StoreRecord → M → Type 0) (role : Role) (image : List ℕ → Type 0) (chip : F → Chip) (source : SourceSteps S) (sink : SinkSteps T) (from to : S) (began now : T) (bearers : ℕ) → bearers ≤ 8
+    → (node : NodeView F) (d : DrawerView) (first : ℕ) (last : LastStep) (flash : F) (refills : ℕ) (drawn : ClosedView) (closed : Bool) → HasLeft view stands role image chip node first d flash refills drawn closed
+    → WentOn source sink from to began now bearers node d last node.machine.closed → (over : List StoreRecord) → IsRecovered (chip node.start).now over → (config_of over).reset ≡ false → first ≡ (config_of over).mark
+    → LivedOn (Stood view stands chip flash) role image source sink from to began now bearers (chip node.start) (chip flash) refills drawn closed last
+lived_left view stands role image chip source sink from to began now bearers few node d first last flash refills drawn closed h went over read runs firsts =
+    let whole = lived view stands role image chip source sink from to began now bearers few node.start node d last went h.one over read runs h.known refl drawn first h.order h.mark firsts
+    h.closes.since h.below h.once h.seen h.closes h.stood in
+    subst (λ f. LivedOn (Stood view stands chip f) role image source sink from to began now bearers (chip node.start) (chip f) refills drawn closed last) (sym h.flash_is)
+    (subst (λ n. LivedOn (Stood view stands chip node.flash) role image source sink from to began now bearers (chip node.start) (chip node.flash) n drawn closed last) (sym h.refills_are)
+    (subst (λ b. LivedOn (Stood view stands chip node.flash) role image source sink from to began now bearers (chip node.start) (chip node.flash) node.machine.fills drawn b last) (sym h.closed_is) whole))

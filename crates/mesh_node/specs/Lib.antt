@@ -5,4 +5,6 @@ pub mod Given
 pub mod Lives
 pub mod Ran
 pub mod Told
+pub mod Left
 pub mod Lived
+pub mod Held

@@ -59,6 +59,8 @@ pub record Lives {M F : Type 0} (view : M → MachineView) (stands : Chip → Li
   pub cause : is_cut log.end ≡ true → old.faults < (chip new).faults
   pub steady : (chip new).steady ≡ old.steady
   pub setting : (chip new).setting.faults ≡ old.faults
+  -- its power was cycled once, at the beginning
+  pub cycles : (chip new).setting.cycles ≡ old.setting.cycles + 1
   pub arm : IsOfPlan plan (chip new).setting.arm
   pub calls : IfSome (cut_calls log.end) (λ calls. calls ≡ (chip new).changes)
   pub drawn : TellsDrawn (life_of log) log.drawn

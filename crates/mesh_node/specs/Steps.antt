@@ -63,5 +63,6 @@ IsGiven steps order =
 pub record IsArmedFirst (steps : List PlanStep) (old new : Chip) : Type 0 where
   pub order : new.setting.arm ≡ first_order steps old.changes
   pub steady : new.steady ≡ old.steady
+  pub cycles : new.setting.cycles ≡ old.setting.cycles
   pub past : Remembers old new
   pub same : IsTrue old.honest → IsSameFlash old new

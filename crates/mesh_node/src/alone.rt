@@ -48,6 +48,7 @@ pub fn one_phase_alone<M: Machine, F: Flash + Send + Drop>(
     ensures bearers { IfOk result (λ r. length r.log.sends.items ≡ length seats.old.counts.items) }
     ensures frame { IfOk result (λ r. IsSameNode node r.node) }
     ensures arm { IfOk result (λ r. (F.chip r.node.flash).setting.arm ≡ (F.chip node.flash).setting.arm) }
+    ensures saved { IfOk result (λ r. (F.chip r.node.flash).setting.saved ≡ (F.chip node.flash).setting.saved) }
     ensures closed { IfOk result (λ r. r.closed ≡ r.node.machine.closed) }
     ensures stopped { IfOk result (λ r. r.closed ≡ true → 0 < r.node.stops) }
     ensures known { IfOk result (λ r. IsNode M.role M.image F.chip r.node) }
@@ -157,5 +158,5 @@ pub fn live_alone<M: Machine, F: Flash + Send + Drop, S: PhaseSource, T: PhaseSi
 {
     let life = begin(alloc, beginning)?;
     let gone = go_on_alone(alloc, life, source, sink)?;
-    Ok(end_life::<M, F, S, T>(gone))
+    Ok(end_life(gone))
 }

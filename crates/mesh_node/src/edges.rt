@@ -1,18 +1,14 @@
 //! The two edges of a life: what its loop begins with, and what is left behind it.
 #![tactic(auto)]
 
-ghost use Rattle.std.specs.Prelude.{◌≡◌, ℕ, ◌≤◌, List, [], replicate, false, IfOk};
+ghost use Rattle.std.specs.Prelude.{◌≡◌, ◌≤◌, [], replicate, false, IfOk};
 ghost use Rattle.flash_model.specs.Chip.{Keeps};
-ghost use Rattle.record_types.specs.declared.records.StoreRecord.{StoreRecord};
-ghost use Rattle.store_definitions.specs.Config.{config_of};
-ghost use Rattle.store_definitions.specs.Recovered.{IsRecovered};
 ghost use Rattle.machine_contract.specs.Started.{IsStarted};
-ghost use Rattle.mesh_node.specs.Given.{Stood};
 ghost use Rattle.mesh_node.specs.Going.{IsBetween};
-ghost use Rattle.mesh_node.specs.Lived.{LivedOn, WentOn};
+ghost use Rattle.mesh_node.specs.Left.{HasLeft};
 
 use crate::phases::Seats;
-use crate::told::{LastStep, PhaseSink, PhaseSource};
+use crate::told::LastStep;
 use flash_model::Flash;
 use locked_node::{Known, Node};
 use machine_contract::{Machine, Started};
@@ -75,6 +71,7 @@ pub fn begin<M: Machine, F: Flash + Send + Drop>(
     requires kept { Keeps (F.chip beginning.start) (F.chip beginning.flash) }
     requires few { beginning.bearers ≤ BEARERS }
     ensures start { IfOk result (λ r. r.node.start ≡ beginning.start) }
+    ensures flash { IfOk result (λ r. r.node.flash ≡ beginning.flash) }
     ensures numbers { IfOk result (λ r. r.seats.numbers ≡ beginning.started.numbers) }
     ensures bearers { IfOk result (λ r. r.bearers ≡ beginning.bearers) }
     ensures between { IfOk result (λ r. IsBetween r.seats r.node) }
@@ -110,21 +107,14 @@ pub fn begin<M: Machine, F: Flash + Send + Drop>(
     })
 }
 
-/// What is left behind the last phase of a life, which opened over these records.
-pub fn end_life<M: Machine, F: Flash + Send + Drop, S: PhaseSource, T: PhaseSink>(
-    gone: Gone<M, F>,
-) -> LifeLeft<F>
+/// What is left behind the last phase of a life.
+pub fn end_life<M: Machine, F: Flash + Send + Drop>(gone: Gone<M, F>) -> LifeLeft<F>
     requires drawer { gone.seats.drawer.which ≡ gone.seats.numbers.which }
     requires machine { gone.node.machine.which ≡ gone.seats.numbers.which }
     requires parts { gone.seats.drawer.parts ≡ 1024 }
-    ensures lived { (from to : S) (began now : T) (bearers : ℕ) (over : List StoreRecord)
-        → bearers ≤ BEARERS
-        → WentOn S.steps T.steps from to began now bearers gone.node gone.seats.drawer gone.last gone.node.machine.closed
-        → IsRecovered (F.chip gone.node.start).now over
-        → (config_of over).reset ≡ false
-        → gone.seats.numbers.opened ≡ (config_of over).mark
-        → LivedOn (Stood M.view M.stands F.chip result.flash) M.role M.image S.steps T.steps from to began now bearers (F.chip gone.node.start)
-        (F.chip result.flash) result.refills result.drawn result.closed result.last }
+    ensures last { result.last ≡ gone.last }
+    ensures left { HasLeft M.view M.stands M.role M.image F.chip gone.node gone.seats.numbers.opened gone.seats.drawer result.flash
+        result.refills result.drawn result.closed }
 {
     // They do nothing when they run: the proof uses what they say.
     one_list_is_recovered();

@@ -177,5 +177,5 @@ pub fn live_on<
 {
     let life = begin(alloc, beginning)?;
     let gone = go_on(rt, alloc, gate, life, source, sink)?;
-    Ok(end_life::<M, F, S, T>(gone))
+    Ok(end_life(gone))
 }

@@ -12,7 +12,7 @@ use Rattle.mesh_node.specs.Ran.{Ran}
 use Rattle.mesh_node.specs.Steps.{HasGiven, IsSameOrOf, MayFollow}
 use Rattle.mesh_node.proofs.Arming.{behind_all, behind_phases, order_whole}
 use Rattle.mesh_node.proofs.Closing.{ran}
-use Rattle.mesh_node.proofs.Drawn.{Closes}
+use Rattle.mesh_node.specs.Left.{Closes}
 use Rattle.mesh_node.proofs.Placed.{given_right}
 use Rattle.record_types.specs.declared.records.StoreRecord.{StoreRecord}
 use Rattle.mesh_node.specs.Given.{IsSameOrPlaced, WasGiven}
@@ -25,7 +25,7 @@ use Rattle.mesh_node.proofs.living.run_life.Goals as goal
 pub new-requires-clause-later : goal.new-requires-clause-later
 new-requires-clause-later g c κs lives =
     let kept = c.requires.kept in
-    record { faults = kept.later; steady = kept.steady; began = ap (λ (s : Setting). s.faults) kept.setting; past = kept.past }
+    record { faults = kept.later; steady = kept.steady; began = ap (λ (s : Setting). s.faults) kept.setting; cycles = ap (λ (s : Setting). s.cycles) kept.setting; past = kept.past }
 
 -- the elements of the node are those that the records say
 pub do_steps-requires-clause-steps : goal.do_steps-requires-clause-steps

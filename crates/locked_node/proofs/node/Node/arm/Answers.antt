@@ -28,6 +28,7 @@ invariant_of-self g c =
         faults = subst (λ n. (g.F.Flash.chip held.start).faults ≤ n) (sym kept.faults) h.later.faults;
         steady = kept.steady ∙ h.later.steady;
         began = began ∙ h.later.began;
+        cycles = ap (λ s. s.cycles) c.arm.ensures.setting ∙ h.later.cycles;
         past = past_more (g.F.Flash.chip held.start) (g.F.Flash.chip held.flash) (g.F.Flash.chip c.arm.new.self) h.later.past kept.past;
       };
     }

@@ -1,0 +1,34 @@
+use Rattle.std.proofs.Common.{◌≡◌, ◌∙◌, ◌≤◌, [], ap, arith, refl, subst, sym}
+use Rattle.mesh_node.specs.Given.{Stood}
+use Rattle.mesh_node.specs.Held.{HasLived, given_phases, last_held, told_phases}
+use Rattle.mesh_node.specs.Lived.{LivedOn}
+use Rattle.mesh_node.proofs.Holding.{held_view, held_went}
+use Rattle.mesh_node.proofs.Whole.{lived_left}
+use Rattle.mesh_node.proofs.held.HeldLife.close.Goals as goal
+
+pub returns-clause-last : goal.returns-clause-last
+returns-clause-last g c =
+    c.end_life.ensures.last ∙ c.last_of-last.ensures.value ∙ ap last_held c.is_closed.ensures.value ∙ ap (λ l. last_held l.node.machine.closed) c.self.view_is
+
+pub returns-clause-flash : goal.returns-clause-flash
+returns-clause-flash g c = c.end_life.ensures.left.flash_is ∙ ap (λ l. l.node.flash) c.self.view_is
+
+pub returns-clause-closed : goal.returns-clause-closed
+returns-clause-closed g c = c.end_life.ensures.left.closed_is ∙ ap (λ l. l.node.machine.closed) c.self.view_is
+
+pub returns-clause-lived : goal.returns-clause-lived
+returns-clause-lived g c phases did h =
+    let chip = g.F.Flash.chip in
+    let old = c.self.inside.going in
+    let node = old.node in
+    let life = held_view node old.seats.numbers old.seats.drawer old.seats.counts.items in
+    let told : HasLived g.M.Machine.role g.M.Machine.image chip life phases did = subst (λ l. HasLived g.M.Machine.role g.M.Machine.image chip l phases did) (sym c.self.view_is) h in
+    let left = c.end_life.result in
+    let one : 1 ≤ 8 = omega arith in
+    let went = held_went g.M.Machine.role g.M.Machine.image chip life phases did told node.machine.closed refl in
+    let whole = lived_left g.M.Machine.view g.M.Machine.stands g.M.Machine.role g.M.Machine.image chip given_phases told_phases [] phases [] did 1 one node old.seats.drawer old.seats.numbers.opened (last_held node.machine.closed)
+    left.flash left.refills left.drawn left.closed c.end_life.ensures.left went told.over told.read told.runs told.opened in
+    let last : left.last ≡ last_held node.machine.closed = c.end_life.ensures.last ∙ c.last_of-last.ensures.value ∙ ap last_held c.is_closed.ensures.value in
+    subst (λ f. LivedOn (Stood g.M.Machine.view g.M.Machine.stands chip left.flash) g.M.Machine.role g.M.Machine.image given_phases told_phases [] phases [] did 1 (chip f) (chip left.flash) left.refills left.drawn left.closed left.last)
+    (ap (λ l. l.node.start) c.self.view_is)
+    (subst (λ l. LivedOn (Stood g.M.Machine.view g.M.Machine.stands chip left.flash) g.M.Machine.role g.M.Machine.image given_phases told_phases [] phases [] did 1 (chip node.start) (chip left.flash) left.refills left.drawn left.closed l) (sym last) whole)
