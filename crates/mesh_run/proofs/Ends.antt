@@ -25,7 +25,7 @@ use Rattle.run_steps.specs.declared.reading.ReadStop.{ReadStop}
 use Rattle.run_steps.specs.declared.reading.ReadStop.TheVariants as R
 use Rattle.run_steps.specs.declared.status.Status.{Status}
 use Rattle.run_steps.specs.declared.status.Status.TheVariants as S
-use Rattle.mesh_run.specs.Causes.{IfScript, IsDue, IsDueIf, IsErasedFlash, IsSameFlash, IsScriptAnd, IsWrittenAt, WasErased, read_end}
+use Rattle.mesh_run.specs.Causes.{FailedFirst, IfScript, IsDue, IsDueIf, IsErasedFlash, IsSameFlash, IsScriptAnd, IsWrittenAt, WasErased, read_end}
 use Rattle.run_steps.specs.Provisioned.{FailsEarly, IsInFormat, IsProvisioned, WasProvisioned}
 
 -- what was read is all that there was
@@ -107,6 +107,12 @@ fails_early records old mid new count image fresh setting keeps failed counts ma
   made = λ erased c among. let left = made erased in left.each c (counts mid.moment c left.later among);
   stays = λ other c among. fresh.only c ((unchanged other).images c among);
 }
+
+-- so it failed in the first power cycle
+pub failed_first : {F : Type 0} (chip : F → Chip) (records : List StoreRecord) (old : Chip) (left : Option F)
+    → IsSomeAnd left (λ f. FailsEarly records old (chip f)) → IfSome left (λ f. FailedFirst old (chip f) → ⊥) → ⊥
+failed_first chip records old None early unfailed = early
+failed_first chip records old (Some f) early unfailed = unfailed (ap (λ (s : Setting). s.cycles) early.setting, early.failed)
 
 -- the node was provisioned on it in this format
 pub was_provisioned : (format : ℕ) (p q : Provision) (old mid new : Chip) → p ≡ q → KeepsCount old mid → old.images mid.now
@@ -198,3 +204,10 @@ read_complete g stop None new fails long = tt
 read_complete g R.Fault (Some text) new fails long = absurd (fails refl)
 read_complete g R.Memory (Some text) new fails long = λ few. if_any (reading g text) _ (λ s. inr (inl refl))
 read_complete g R.TooLong (Some text) new fails long = λ few. absurd (let many : 4194304 < length text = too_long (Some text) new (long refl) in omega (arith, few, many))
+
+pub read_unfailed : (g : Grammar) (stop : ReadStop) (old new : Option (List ℕ)) → (stop ≡ R.Fault → ⊥) → (stop ≡ R.TooLong → ReadsMoreThan old new 4194304)
+    → IfSome old (λ text. length text ≤ 4194304 → IfScript (reading g text) (λ s. (read_end stop ≡ S.Done) ⊎ (read_end stop ≡ S.Memory)))
+read_unfailed g stop None new fails long = tt
+read_unfailed g R.Fault (Some text) new fails long = absurd (fails refl)
+read_unfailed g R.Memory (Some text) new fails long = λ few. if_any (reading g text) _ (λ s. inr refl)
+read_unfailed g R.TooLong (Some text) new fails long = λ few. absurd (let many : 4194304 < length text = too_long (Some text) new (long refl) in omega (arith, few, many))

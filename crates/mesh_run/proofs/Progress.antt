@@ -61,6 +61,7 @@ progress_none chip kind s told start v nodes h none = record {
     at_exit = λ image last is read. record { first = h.exactly image last is read; lives = tt };
     faults = omega arith;
     armed = λ steady. tt;
+    cycles = omega arith;
   };
   same = record { honest = h.node.honest; steady = refl; later = omega arith; past = past_none (chip start) };
   report = none;
@@ -150,6 +151,7 @@ module _ {F : Type 0} (chip : F → Chip) (kind : MachineKind) (s : Script) (sta
     at_exit = runs;
     faults = rw (cuts_more lives x) (omega (arith, ran.faults, cut_once));
     armed = λ steady. rw taken (armed_more (take i s.lives) lives plan x (ran.armed steady) (is_armed steady));
+    cycles = let more : length (lives ++ x ∷ []) ≡ length lives + 1 = length-append lives (x ∷ []) in omega (arith, ran.cycles, h.lives.cycles, more);
   }
 
   -- the flash is as it was, but for its content

@@ -1,5 +1,5 @@
 -- Where each status of a run comes.
-use Rattle.std.specs.Prelude.{◌≡◌, ◌⊎◌, ℕ, ◌≤◌, nat_lt, Bool, true, false, IsTrue, List, length, Option, Some, ⊤}
+use Rattle.std.specs.Prelude.{◌≡◌, ◌⊎◌, ℕ, ◌+◌, ◌<◌, ◌≤◌, nat_lt, Bool, true, false, IsTrue, List, length, Option, Some, ⊤}
 use Rattle.flash_model.specs.Chip.{Chip, Remembers}
 use Rattle.script_definitions.specs.Reading.{Reading, reading}
 use Rattle.script_definitions.specs.Reading.Reading.{Fails, IsScript}
@@ -105,6 +105,10 @@ WasErased chip = (c : List ℕ) × chip.images c × IsErased c
 -- what its power cycle left is what is read, and this is the first octet that isn't ff
 abbrev pub IsWrittenAt : ℕ → Chip → Chip → Type 0
 IsWrittenAt at old new = old.images new.now × IsFirstWritten new.now at
+
+-- The flash failed in the first power cycle since then.
+abbrev pub FailedFirst : Chip → Chip → Type 0
+FailedFirst old new = (new.setting.cycles ≡ old.setting.cycles + 1) × (old.faults < new.faults)
 
 -- what a run leaves of the flash, whatever becomes of its content
 pub record IsSameFlash (old new : Chip) : Type 0 where

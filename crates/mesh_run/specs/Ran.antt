@@ -54,6 +54,8 @@ pub record RanAll {F : Type 0} (chip : F → Chip) (kind : MachineKind) (s : Scr
   -- at most as many lives were cut as the flash failed, and over a steady flash only those that were to be
   pub faults : cuts lives + (chip start).faults ≤ (chip left).faults
   pub armed : IsTrue (chip start).steady → AreArmed s.lives lives
+  -- power was cycled once for each life
+  pub cycles : (chip left).setting.cycles ≡ (chip start).setting.cycles + length lives
 
 -- The lives of the script were run, and all of them were told.
 pub record Ran {F : Type 0} (chip : F → Chip) (kind : MachineKind) (s : Script) (told : List LifeOver → SinkView → SinkView → Type 0)

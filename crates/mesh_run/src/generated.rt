@@ -11,7 +11,7 @@ ghost use Rattle.run_summary.specs.Summaries.{summary_text};
 ghost use Rattle.run_summary.specs.Telling.{Summarizes, SummarizesFront};
 ghost use Rattle.script_generator.specs.Generated.{generated};
 ghost use Rattle.store_definitions.specs.Provisioning.{provisioned};
-ghost use Rattle.mesh_run.specs.Causes.{IsBeforeLives, IsErasedFlash, IsFromFlash, IsSameFlash, IsSumEnd, IsWrittenAt, WasErased};
+ghost use Rattle.mesh_run.specs.Causes.{FailedFirst, IsBeforeLives, IsErasedFlash, IsFromFlash, IsSameFlash, IsSumEnd, IsWrittenAt, WasErased};
 ghost use Rattle.mesh_run.specs.Kind.{node_kind};
 ghost use Rattle.mesh_run.specs.Ran.{FromProvisioned, Ran, RanFirstOrAll};
 ghost use Rattle.mesh_run.specs.Reporting.{Unwritten};
@@ -76,6 +76,10 @@ pub(crate) fn run_generated<R: Threads + Wait + Sync, B: Bench, K: Sink, G: Gate
     ensures erased { (result.status ≡ Status.Done) ⊎ (result.status ≡ Status.WriteFault) → WasErased (B.chip flash) }
     ensures complete { ¬ Rose (K.faults sink.old) (K.faults sink.new) → IsErasedFlash (B.chip flash)
         → (result.status ≡ Status.Done) ⊎ (result.status ≡ Status.Memory) ⊎ (result.status ≡ Status.FlashFault) }
+    // Where the flash doesn't fail before its first life, no fault of it ends the run.
+    ensures unfailed { ¬ Rose (K.faults sink.old) (K.faults sink.new) → IsErasedFlash (B.chip flash)
+        → IfSome result.flash (λ f. ¬ FailedFirst (B.chip flash) (B.chip f))
+        → (result.status ≡ Status.Done) ⊎ (result.status ≡ Status.Memory) }
 
     // What is written is the summary of a record of a run of the script, or a front of it, or nothing of its first lives or of all.
     ensures done { result.status ≡ Status.Done

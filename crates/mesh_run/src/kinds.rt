@@ -7,7 +7,7 @@ ghost use Rattle.mesh_base.specs.Outside.{Rose};
 ghost use Rattle.report_writer.specs.Writing.{view_of};
 ghost use Rattle.script_definitions.specs.Reading.{reading};
 ghost use Rattle.script_definitions.specs.Reading.Reading.{Fails};
-ghost use Rattle.mesh_run.specs.Causes.{IfScript, IsBeforeFlash, IsBeforeLives, IsDueBy, IsErasedFlash, IsFromFlash, IsSameFlash, IsScriptAnd, IsWrittenAt, WasErased};
+ghost use Rattle.mesh_run.specs.Causes.{FailedFirst, IfScript, IsBeforeFlash, IsBeforeLives, IsDueBy, IsErasedFlash, IsFromFlash, IsSameFlash, IsScriptAnd, IsWrittenAt, WasErased};
 ghost use Rattle.mesh_run.specs.Kind.{grammar_of, machines_of};
 ghost use Rattle.mesh_run.specs.Ran.{FromProvisioned, Ran, RanFirst, RanFront};
 ghost use Rattle.mesh_run.specs.Reporting.{ReportsFront};
@@ -57,6 +57,9 @@ pub(crate) fn run_by<R: Threads + Wait + Sync, B: Bench, K: Sink, G: Gate>(
     ensures complete { ¬ Rose (K.faults sink.old) (K.faults sink.new) → IsErasedFlash (B.chip flash)
         → IfScript (reading (grammar_of kind) text.now)
         (λ s. (result.status ≡ Status.Done) ⊎ (result.status ≡ Status.Memory) ⊎ (result.status ≡ Status.FlashFault)) }
+    ensures unfailed { ¬ Rose (K.faults sink.old) (K.faults sink.new) → IsErasedFlash (B.chip flash)
+        → IfSome result.flash (λ f. ¬ FailedFirst (B.chip flash) (B.chip f))
+        → IfScript (reading (grammar_of kind) text.now) (λ s. (result.status ≡ Status.Done) ⊎ (result.status ≡ Status.Memory)) }
 
     // What is written is the report of a record of a run of the script, or a front of it.
     ensures done { result.status ≡ Status.Done

@@ -9,7 +9,7 @@ ghost use Rattle.report_writer.specs.Writing.{view_of};
 ghost use Rattle.script_definitions.specs.Reading.{reading};
 ghost use Rattle.script_definitions.specs.Reading.Reading.{Fails};
 ghost use Rattle.run_steps.specs.Audited.{Audited, AuditedFront, IsAuditEnd};
-ghost use Rattle.mesh_run.specs.Causes.{IfScript, IsBeforeFlash, IsBeforeLives, IsDue, IsErasedFlash, IsFromFlash, IsGenerate, IsReadingStop, IsRunAnd, IsSameFlash, IsScriptAnd, IsWrittenAt, WasErased, read_end};
+ghost use Rattle.mesh_run.specs.Causes.{FailedFirst, IfScript, IsBeforeFlash, IsBeforeLives, IsDue, IsErasedFlash, IsFromFlash, IsGenerate, IsReadingStop, IsRunAnd, IsSameFlash, IsScriptAnd, IsWrittenAt, WasErased, read_end};
 ghost use Rattle.command_words.specs.Commands.{command_of};
 ghost use Rattle.command_words.specs.declared.commands.Command.TheVariants as C;
 ghost use Rattle.command_words.specs.declared.commands.NodeKind.{NodeKind as Kinds};
@@ -120,6 +120,14 @@ pub fn run<R: Threads + Wait + Sync, S: Source, K: Sink, B: Bench, G: Gate>(
         (λ text. length text ≤ 4194304
         → IfScript (reading (grammar_of kind) text)
         (λ s. (result.status ≡ Status.Done) ⊎ (result.status ≡ Status.Memory) ⊎ (result.status ≡ Status.FlashFault))) }
+    // Where the flash doesn't fail before its first life either, no fault of it ends the run.
+    ensures unfailed { (kind : Kinds) (flags : Flags)
+        → command_of (map (λ w. w.now) words.now) ≡ Some (C.Run kind flags)
+        → ¬ Rose (S.faults source.old) (S.faults source.new) → ¬ Rose (K.faults sink.old) (K.faults sink.new)
+        → IsErasedFlash (B.chip flash) → IfSome result.flash (λ f. ¬ FailedFirst (B.chip flash) (B.chip f))
+        → IfSome (S.left source.old)
+        (λ text. length text ≤ 4194304
+        → IfScript (reading (grammar_of kind) text) (λ s. (result.status ≡ Status.Done) ⊎ (result.status ≡ Status.Memory))) }
 
     // What is written is the report of a record of a run of the script, or a front of it.
     ensures done { (kind : Kinds) (flags : Flags)
@@ -208,6 +216,10 @@ pub fn run<R: Threads + Wait + Sync, S: Source, K: Sink, B: Bench, G: Gate>(
     ensures summary_complete { IsGenerate (command_of (map (λ w. w.now) words.now))
         → ¬ Rose (K.faults sink.old) (K.faults sink.new) → IsErasedFlash (B.chip flash)
         → (result.status ≡ Status.Done) ⊎ (result.status ≡ Status.Memory) ⊎ (result.status ≡ Status.FlashFault) }
+    ensures summary_unfailed { IsGenerate (command_of (map (λ w. w.now) words.now))
+        → ¬ Rose (K.faults sink.old) (K.faults sink.new) → IsErasedFlash (B.chip flash)
+        → IfSome result.flash (λ f. ¬ FailedFirst (B.chip flash) (B.chip f))
+        → (result.status ≡ Status.Done) ⊎ (result.status ≡ Status.Memory) }
     ensures unread { IsGenerate (command_of (map (λ w. w.now) words.now)) → source.new ≡ source.old }
 
     // What is read is all that there was.

@@ -9,7 +9,7 @@ ghost use Rattle.script_definitions.specs.Ranges.{IsScriptOf};
 ghost use Rattle.script_definitions.specs.Reading.{reading};
 ghost use Rattle.script_definitions.specs.Reading.Reading.{Fails, IsScript};
 ghost use Rattle.script_definitions.specs.declared.kind.Grammar.{Grammar as ScriptGrammar};
-ghost use Rattle.mesh_run.specs.Causes.{IfScript, IsBeforeFlash, IsBeforeLives, IsDueBy, IsErasedFlash, IsFromFlash, IsSameFlash, IsScriptAnd, IsWrittenAt, WasErased};
+ghost use Rattle.mesh_run.specs.Causes.{FailedFirst, IfScript, IsBeforeFlash, IsBeforeLives, IsDueBy, IsErasedFlash, IsFromFlash, IsSameFlash, IsScriptAnd, IsWrittenAt, WasErased};
 ghost use Rattle.mesh_run.specs.Kind.{IsSafeKind, kind_of};
 ghost use Rattle.mesh_run.specs.Ran.{FromProvisioned, Ran, RanFirst, RanFront};
 ghost use Rattle.mesh_run.specs.Reporting.{ReportsFront};
@@ -65,6 +65,10 @@ pub(crate) fn run_script<
     ensures erased { (result.status ≡ Status.Done) ⊎ (result.status ≡ Status.WriteFault) → WasErased (B.chip flash) }
     ensures complete { ¬ Rose (K.faults sink.old) (K.faults sink.new) → IsErasedFlash (B.chip flash)
         → (result.status ≡ Status.Done) ⊎ (result.status ≡ Status.Memory) ⊎ (result.status ≡ Status.FlashFault) }
+    // Where the flash doesn't fail before its first life, no fault of it ends the run.
+    ensures unfailed { ¬ Rose (K.faults sink.old) (K.faults sink.new) → IsErasedFlash (B.chip flash)
+        → IfSome result.flash (λ f. ¬ FailedFirst (B.chip flash) (B.chip f))
+        → (result.status ≡ Status.Done) ⊎ (result.status ≡ Status.Memory) }
 
     // What is told is a record of a run of the script, or its first lives.
     ensures done { result.status ≡ Status.Done
@@ -153,6 +157,9 @@ pub(crate) fn run_text<M: Machine, R: Threads + Wait + Sync, B: Bench, K: Sink, 
     ensures complete { ¬ Rose (K.faults sink.old) (K.faults sink.new) → IsErasedFlash (B.chip flash)
         → IfScript (reading grammar text.now)
         (λ s. (result.status ≡ Status.Done) ⊎ (result.status ≡ Status.Memory) ⊎ (result.status ≡ Status.FlashFault)) }
+    ensures unfailed { ¬ Rose (K.faults sink.old) (K.faults sink.new) → IsErasedFlash (B.chip flash)
+        → IfSome result.flash (λ f. ¬ FailedFirst (B.chip flash) (B.chip f))
+        → IfScript (reading grammar text.now) (λ s. (result.status ≡ Status.Done) ⊎ (result.status ≡ Status.Memory)) }
 
     // What is written is the report of a record of a run of the script, or a front of it.
     ensures done { result.status ≡ Status.Done

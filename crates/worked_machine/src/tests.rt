@@ -1,4 +1,8 @@
 //! A PDU that was read before a Key Refresh began is read again, and one that was read by the view of now isn't.
+//!
+//! - `hearing`: a bearer that hears many PDUs reads them before its turn
+
+mod hearing;
 
 ghost use Rattle.std.specs.Prelude.{◌≡◌, ◌≤◌, IfSome, IsTrue};
 ghost use Rattle.flash_model.specs.Chip.{IsFresh};

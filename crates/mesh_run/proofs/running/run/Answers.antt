@@ -15,7 +15,7 @@ use Rattle.mesh_run.specs.Causes.{IfScript, IsDue, IsScriptAnd}
 use Rattle.mesh_run.specs.Kind.{grammar_of, machines_of}
 use Rattle.mesh_run.specs.Ran.{FromProvisioned, Ran, RanFirst, RanFront}
 use Rattle.mesh_run.specs.Reporting.{ReportsFront}
-use Rattle.mesh_run.proofs.Ends.{of_all, read_complete, read_due}
+use Rattle.mesh_run.proofs.Ends.{of_all, read_complete, read_due, read_unfailed}
 use Rattle.mesh_run.proofs.running.run.Goals as goal
 
 -- what holds of the text that was read holds of what the source had
@@ -84,4 +84,15 @@ returns-in-Err-read_whole-clause-complete g c = λ kind flags is source sink era
     (λ text. length text ≤ 4194304 → IfScript (reading (grammar_of kind) text) (λ s. (e ≡ Statuses.Done) ⊎ (e ≡ Statuses.Memory) ⊎ (e ≡ Statuses.FlashFault))))
     (sym status)
     (read_complete (grammar_of kind) c.in-Err-read_whole.stop (left c.args.source.now) (left c.read_whole.new.source) (λ fault. source (c.in-Err-read_whole.ensures.cause (ap (λ e. Err e) fault)))
+    (λ long. c.in-Err-read_whole.ensures.too_long (ap (λ e. Err e) long)))
+
+pub returns-in-Err-read_whole-clause-unfailed : goal.returns-in-Err-read_whole-clause-unfailed
+returns-in-Err-read_whole-clause-unfailed g c = λ kind flags is source sink erased unfailed.
+    let left = g.S.Source.left in
+    let status : c.with_flash-in-Err-read_whole.result.status ≡ _ = ap (λ e. e.status) c.with_flash-in-Err-read_whole.ensures.value ∙ c.read_end.ensures.value in
+    subst
+    (λ (e : Status). IfSome (left c.args.source.now)
+    (λ text. length text ≤ 4194304 → IfScript (reading (grammar_of kind) text) (λ s. (e ≡ Statuses.Done) ⊎ (e ≡ Statuses.Memory))))
+    (sym status)
+    (read_unfailed (grammar_of kind) c.in-Err-read_whole.stop (left c.args.source.now) (left c.read_whole.new.source) (λ fault. source (c.in-Err-read_whole.ensures.cause (ap (λ e. Err e) fault)))
     (λ long. c.in-Err-read_whole.ensures.too_long (ap (λ e. Err e) long)))

@@ -12,7 +12,7 @@ use Rattle.mesh_run.specs.Causes.{IsSameFlash, IsWrittenAt}
 use Rattle.mesh_run.specs.Kind.{kind_of}
 use Rattle.mesh_run.specs.Lived.{IsMemory, IsSinkFault, flash_left}
 use Rattle.mesh_run.specs.Ran.{FromProvisioned, Ran, RanFirst, RanFront}
-use Rattle.mesh_run.proofs.Ends.{cycled, fails_early, same_left, through, was_provisioned, written_as, written_at}
+use Rattle.mesh_run.proofs.Ends.{cycled, failed_first, fails_early, same_left, through, was_provisioned, written_as, written_at}
 use Rattle.mesh_run.proofs.scripts.run_script.Goals as goal
 
 pub returns-in-Err-Flash-clause-early : goal.returns-in-Err-Flash-clause-early
@@ -32,6 +32,23 @@ returns-in-Err-Flash-clause-early g c = λ is.
     let records = provisioned (provisioning (provision_of (g.S.LifeSource.script c.args.script.now).provision)) in
     let said : FailsEarly records old new = subst (λ (p : Provision). FailsEarly (provisioned (provisioning p)) old new) (c.provision_of.ensures.value ∙ ap provision_of c.node.ensures.value) early in
     subst (λ e. IsSomeAnd e.flash (λ f. FailsEarly records old (chip f))) (sym c.with_flash.ensures.value) said
+
+pub returns-in-Err-Flash-clause-unfailed : goal.returns-in-Err-Flash-clause-unfailed
+returns-in-Err-Flash-clause-unfailed g c = λ sink erased.
+    let chip = g.B.Flash.chip in
+    let law = g.met.B.Flash g.world.𝓛 g.world.𝓜 g.world.𝓡 ((λ s x. x), (λ x. x), (λ x. x), λ x. x) in
+    let old = chip c.args.flash in
+    let mid = chip c.power_cycle.new.self in
+    let new = chip c.provision.new.flash in
+    let cycle = c.power_cycle.ensures in
+    let fresh = cycle.fresh c.requires.honest in
+    let did = c.provision.ensures in
+    let records = provisioned (provisioning c.provision_of.result) in
+    let cause = subst (IsFormatCause mid new) c.in-Err-Flash.field-0-is c.in-Err-Flash.ensures.cause in
+    let early : FailsEarly records old new =
+    fails_early records old mid new cycle.frame (cycle.image c.requires.honest) fresh cycle.setting did.frame cause
+    (law.counts_now c.provision.new.flash) (did.any_moment fresh) (did.unchanged fresh.honest) in
+    λ unfailed. absurd (failed_first chip records old c.with_flash.result.flash (subst (λ e. IsSomeAnd e.flash (λ f. FailsEarly records old (chip f))) (sym c.with_flash.ensures.value) early) unfailed)
 
 pub returns-in-Err-NotErased-clause-not_erased : goal.returns-in-Err-NotErased-clause-not_erased
 returns-in-Err-NotErased-clause-not_erased g c = λ at is.
