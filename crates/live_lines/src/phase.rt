@@ -1,7 +1,10 @@
 //! The phase of a line.
 #![tactic(auto)]
 
-ghost use Rattle.std.specs.Prelude.{◌≡◌, [], ◌∷◌, ◌++◌, map, replicate, slice_index_or, slice_set, IfOk, OnOk};
+ghost use Rattle.std.specs.Prelude.{◌≡◌, ℕ, [], ◌∷◌, ◌++◌, map, replicate, slice_index_or, slice_set, All, IfOk, OnOk};
+ghost use Rattle.node_bearer.specs.Did.{AreEvents};
+ghost use Rattle.script_definitions.specs.Ranges.{IsLine};
+ghost use Rattle.script_definitions.specs.declared.kind.Grammar.TheVariants as G;
 ghost use Rattle.script_events.specs.Happenings.{IsRead};
 ghost use Rattle.live_lines.specs.Saying.{phase_of};
 
@@ -38,6 +41,7 @@ fn push_event(lists: &mut Vec<Vec<Event>>, happening: Happening) -> Result<(), A
 }
 
 /// The phase of a line of a bearer, for so many bearers: the one that it is of has its event. The outside node seals what the line makes heard.
+/// A line for a node with so many elements gives events that it may have (`fits`).
 pub fn phase_of(
     alloc: Global,
     bearers: u8,
@@ -46,6 +50,8 @@ pub fn phase_of(
 ) -> Result<Vec<Vec<Event>>, AllocError>
     requires ranges { IsRead line.now }
     ensures value { IfOk result (λ lists. map (λ v. v.items) lists.items ≡ phase_of bearers line.now) }
+    ensures fits { (elements : ℕ) → IsLine G.Node elements line.now
+        → IfOk result (λ lists. All (λ v. AreEvents elements v.items) lists.items) }
 {
     let mut lists = no_events(alloc, bearers)?;
     match outside.happening_of(line) {

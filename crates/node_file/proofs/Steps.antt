@@ -1,6 +1,6 @@
 -- Steps one behind another, up to one that was refused.
 use Rattle.std.proofs.Common.{◌≡◌, ◌∙◌, ◌++◌, ℕ, true, false, List, [], ◌∷◌, Option, Some, None, Result, Ok, Err, ap, subst, append_assoc}
-use Rattle.std.specs.Prelude.{IfErr, IsErrAnd, OnOk, OnErr}
+use Rattle.std.specs.Prelude.{IfErr, IsErrAnd, OnOk}
 use Rattle.std.proofs.lemmas.Result.{err_from_is_err_and}
 use Rattle.std.specs.declared.io.Error.{Error}
 use Rattle.node_store.specs.declared.provision.Provision.{Provision}
@@ -24,32 +24,32 @@ pub naming_did : (name path : List ℕ) (a b c d : Option (List Step)) → Did (
 naming_did name path a b c d named removed synced =
     did_next (names name path) _ a b d named (did_next (removes name) _ b c d removed synced)
 
-pub not_named : {T E : Type 0} (removed : Result T E) (name path : List ℕ) (fault : MakeFault) (a b c : Option (List Step))
-    → Did (refuses (names name path)) a b → OnOk removed (Did (removes name) b c)
-    → OnErr removed (Did (refuses (removes name)) b c) → IsRefusal M.Taken fault → DidSome (IsUnnamed name path fault) a c
-not_named (Ok x) name path fault a b c refused ok err is = record {
-  steps = refuses (names name path) ∷ removes name ∷ [];
-  did = did_next (refuses (names name path)) _ a b c refused ok;
-  are = dropped fault is;
+pub not_named : {T : Type 0} (removed : Result T Error) (name path : List ℕ) (error : Error) (fault : MakeFault) (a b c : Option (List Step))
+    → Did (refuses error (names name path)) a b → OnOk removed (Did (removes name) b c)
+    → IfErr removed (λ behind. Did (refuses behind (removes name)) b c) → IsRefusal M.Taken error fault → DidSome (IsUnnamed name path fault) a c
+not_named (Ok x) name path error fault a b c refused ok err is = record {
+  steps = refuses error (names name path) ∷ removes name ∷ [];
+  did = did_next (refuses error (names name path)) _ a b c refused ok;
+  are = dropped error fault is;
 }
-not_named (Err e) name path fault a b c refused ok err is = record {
-  steps = refuses (names name path) ∷ refuses (removes name) ∷ [];
-  did = did_next (refuses (names name path)) _ a b c refused err;
-  are = left fault is;
+not_named (Err e) name path error fault a b c refused ok err is = record {
+  steps = refuses error (names name path) ∷ refuses e (removes name) ∷ [];
+  did = did_next (refuses error (names name path)) _ a b c refused err;
+  are = left error e fault is;
 }
 
 pub not_removed : (name path : List ℕ) (error : Error) (a b c : Option (List Step)) → Did (names name path) a b
-    → Did (refuses (removes name)) b c → DidSome (IsUnnamed name path (M.System error)) a c
+    → Did (refuses error (removes name)) b c → DidSome (IsUnnamed name path (M.System error)) a c
 not_removed name path error a b c named refused = record {
-  steps = names name path ∷ refuses (removes name) ∷ [];
+  steps = names name path ∷ refuses error (removes name) ∷ [];
   did = did_next (names name path) _ a b c named refused;
   are = unremoved error;
 }
 
 pub not_synced : (name path : List ℕ) (error : Error) (a b c d : Option (List Step)) → Did (names name path) a b
-    → Did (removes name) b c → Did (refuses (syncs path)) c d → DidSome (IsUnnamed name path (M.System error)) a d
+    → Did (removes name) b c → Did (refuses error (syncs path)) c d → DidSome (IsUnnamed name path (M.System error)) a d
 not_synced name path error a b c d named removed refused = record {
-  steps = names name path ∷ removes name ∷ refuses (syncs path) ∷ [];
+  steps = names name path ∷ removes name ∷ refuses error (syncs path) ∷ [];
   did = did_next (names name path) _ a b d named (did_next (removes name) _ b c d removed refused);
   are = unsynced error;
 }
@@ -64,9 +64,9 @@ made_in path name image p a b c d is image_is found created named = record {
       (subst (λ n. DidAll (naming n path) c d) is named));
 }
 
-pub not_asked : (path : List ℕ) (p : Provision) (error : Error) (a b : Option (List Step)) → Did (refuses (finds path false)) a b
+pub not_asked : (path : List ℕ) (p : Provision) (error : Error) (a b : Option (List Step)) → Did (refuses error (finds path false)) a b
     → DidSome (IsUnmade path p (M.System error)) a b
-not_asked path p error a b did = record { steps = refuses (finds path false) ∷ []; did = did; are = unasked error }
+not_asked path p error a b did = record { steps = refuses error (finds path false) ∷ []; did = did; are = unasked error }
 
 pub found_one : (path : List ℕ) (p : Provision) (a b : Option (List Step)) → Did (finds path true) a b → DidSome (IsUnmade path p M.Taken) a b
 found_one path p a b did = record { steps = finds path true ∷ []; did = did; are = taken }
@@ -75,13 +75,13 @@ pub only_asked : (path : List ℕ) (p : Provision) (a b : Option (List Step)) �
     → DidSome (IsUnmade path p M.Memory) a b
 only_asked path p a b did = record { steps = finds path false ∷ []; did = did; are = no_memory }
 
-pub not_created : (path name image : List ℕ) (p : Provision) (fault : MakeFault) (a b c : Option (List Step)) → name ≡ new_name path
-    → IsImageOf p image → Did (finds path false) a b → Did (refuses (creates name image)) b c → IsRefusal M.Begun fault
+pub not_created : (path name image : List ℕ) (p : Provision) (error : Error) (fault : MakeFault) (a b c : Option (List Step)) → name ≡ new_name path
+    → IsImageOf p image → Did (finds path false) a b → Did (refuses error (creates name image)) b c → IsRefusal M.Begun error fault
     → DidSome (IsUnmade path p fault) a c
-not_created path name image p fault a b c is image_is found refused refusal = record {
-  steps = finds path false ∷ refuses (creates (new_name path) image) ∷ [];
-  did = did_next (finds path false) _ a b c found (subst (λ n. Did (refuses (creates n image)) b c) is refused);
-  are = uncreated fault image image_is refusal;
+not_created path name image p error fault a b c is image_is found refused refusal = record {
+  steps = finds path false ∷ refuses error (creates (new_name path) image) ∷ [];
+  did = did_next (finds path false) _ a b c found (subst (λ n. Did (refuses error (creates n image)) b c) is refused);
+  are = uncreated error fault image image_is refusal;
 }
 
 pub not_finished : (path name image : List ℕ) (p : Provision) (fault : MakeFault) (a b c d : Option (List Step)) → name ≡ new_name path

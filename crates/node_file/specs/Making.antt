@@ -1,6 +1,8 @@
 -- A file is made: which calls on its folder make it, in their order, and where they end if it isn't made.
 use Rattle.std.specs.Prelude.{◌≡◌, ℕ, true, false, Bool, List, [], ◌∷◌, ◌++◌, codes, Option, Some, None}
+use Rattle.std.specs.IoError.{error_kind}
 use Rattle.std.specs.declared.io.Error.{Error}
+use Rattle.std.specs.declared.io.ErrorKind.TheVariants as K
 use Rattle.node_file.specs.declared.faults.MakeFault.{MakeFault}
 use Rattle.node_file.specs.declared.faults.MakeFault.TheVariants as M
 use Rattle.node_store.specs.Mounted.{IsRead}
@@ -21,8 +23,8 @@ pub data Step : Type 0 where
   removes : List ℕ → Step
   -- the names in the folder that this one is in were made durable
   syncs : List ℕ → Step
-  -- the call was refused
-  refuses : Step → Step
+  -- the call was refused with this error
+  refuses : Error → Step → Step
 
 -- what was done: these steps, behind those of before
 abbrev pub DidAll : List Step → Option (List Step) → Option (List Step) → Type 0
@@ -55,35 +57,35 @@ pub record IsMade (path : List ℕ) (p : Provision) (old new : Option (List Step
   pub is : IsImageOf p image
   pub did : DidAll (making path image) old new
 
--- what is answered where a call that wants a new name was refused: this, or the error
-pub data IsRefusal (taken : MakeFault) : MakeFault → Type 0 where
-  known : IsRefusal taken taken
-  other : (error : Error) → IsRefusal taken (M.System error)
+-- what is answered where a call that wants a new name was refused with an error: this where something has the name, else the error
+pub data IsRefusal (taken : MakeFault) (error : Error) : MakeFault → Type 0 where
+  known : error_kind error ≡ K.AlreadyExists → IsRefusal taken error taken
+  other : (error_kind error ≡ K.AlreadyExists → ⊥) → IsRefusal taken error (M.System error)
 
--- a fault, and the steps that name a file up to one that was refused
+-- a fault, and the steps that name a file up to one that was refused; a fault of the system is the error of that one
 pub data IsUnnamed (name path : List ℕ) : MakeFault → List Step → Type 0 where
   -- it didn't get its name, and lost the other
-  dropped : (fault : MakeFault) → IsRefusal M.Taken fault
-      → IsUnnamed name path fault (refuses (names name path) ∷ removes name ∷ [])
+  dropped : (error : Error) (fault : MakeFault) → IsRefusal M.Taken error fault
+      → IsUnnamed name path fault (refuses error (names name path) ∷ removes name ∷ [])
   -- it didn't get its name, and couldn't be removed
-  left : (fault : MakeFault) → IsRefusal M.Taken fault
-      → IsUnnamed name path fault (refuses (names name path) ∷ refuses (removes name) ∷ [])
+  left : (error behind : Error) (fault : MakeFault) → IsRefusal M.Taken error fault
+      → IsUnnamed name path fault (refuses error (names name path) ∷ refuses behind (removes name) ∷ [])
   -- it has both names
-  unremoved : (error : Error) → IsUnnamed name path (M.System error) (names name path ∷ refuses (removes name) ∷ [])
+  unremoved : (error : Error) → IsUnnamed name path (M.System error) (names name path ∷ refuses error (removes name) ∷ [])
   -- it has its name, but not durably
-  unsynced : (error : Error) → IsUnnamed name path (M.System error) (names name path ∷ removes name ∷ refuses (syncs path) ∷ [])
+  unsynced : (error : Error) → IsUnnamed name path (M.System error) (names name path ∷ removes name ∷ refuses error (syncs path) ∷ [])
 
 -- a fault, and the steps that make a file up to one that was refused
 pub data IsUnmade (path : List ℕ) (p : Provision) : MakeFault → List Step → Type 0 where
   -- it couldn't be asked whether something has its name
-  unasked : (error : Error) → IsUnmade path p (M.System error) (refuses (finds path false) ∷ [])
+  unasked : (error : Error) → IsUnmade path p (M.System error) (refuses error (finds path false) ∷ [])
   -- something has it
   taken : IsUnmade path p M.Taken (finds path true ∷ [])
   -- there was no memory, and nothing was made
   no_memory : IsUnmade path p M.Memory (finds path false ∷ [])
   -- nothing was made
-  uncreated : (fault : MakeFault) (image : List ℕ) → IsImageOf p image → IsRefusal M.Begun fault
-      → IsUnmade path p fault (finds path false ∷ refuses (creates (new_name path) image) ∷ [])
+  uncreated : (error : Error) (fault : MakeFault) (image : List ℕ) → IsImageOf p image → IsRefusal M.Begun error fault
+      → IsUnmade path p fault (finds path false ∷ refuses error (creates (new_name path) image) ∷ [])
   -- it was made, whole, under the other name
   unnamed : (fault : MakeFault) (image : List ℕ) (steps : List Step) → IsImageOf p image → IsUnnamed (new_name path) path fault steps
       → IsUnmade path p fault (finds path false ∷ creates (new_name path) image ∷ steps)

@@ -1,7 +1,7 @@
 //! The folder of a file: the calls that make one in it, and the name under which it is made.
 #![tactic(auto)]
 
-ghost use Rattle.std.specs.Prelude.{◌≡◌, ℕ, List, Option, None, IfOk, OnOk, OnErr};
+ghost use Rattle.std.specs.Prelude.{◌≡◌, ℕ, List, Option, None, IfErr, IfOk, OnOk};
 ghost use Rattle.node_file.specs.Making.{Did, Step, new_name};
 ghost use Rattle.node_file.specs.Making.Step.{creates, finds, names, refuses, removes, syncs};
 ghost use Rattle.std.specs.Prelude.{true, false};
@@ -23,28 +23,28 @@ pub trait Folder {
     /// Whether something has this name.
     fn find(&mut self, name: &str) -> io::Result<bool>
         ensures ok { IfOk result (λ found. Did (finds name.now found) (steps self.old) (steps self.new)) }
-        ensures err { OnErr result (Did (refuses (finds name.now false)) (steps self.old) (steps self.new)) };
+        ensures err { IfErr result (λ error. Did (refuses error (finds name.now false)) (steps self.old) (steps self.new)) };
 
     /// Makes a file of this name, which nothing has, for its owner alone, with these octets, and makes them durable. Where that is refused
     /// nothing of it is left, if it can be removed. The error is of the kind `AlreadyExists` where something has the name.
     fn create(&mut self, name: &str, octets: &[u8]) -> io::Result<()>
         ensures ok { OnOk result (Did (creates name.now octets.now) (steps self.old) (steps self.new)) }
-        ensures err { OnErr result (Did (refuses (creates name.now octets.now)) (steps self.old) (steps self.new)) };
+        ensures err { IfErr result (λ error. Did (refuses error (creates name.now octets.now)) (steps self.old) (steps self.new)) };
 
     /// Gives what has the one name another one too, which nothing has. The error is of the kind `AlreadyExists` where something has it.
     fn name(&mut self, name: &str, other: &str) -> io::Result<()>
         ensures ok { OnOk result (Did (names name.now other.now) (steps self.old) (steps self.new)) }
-        ensures err { OnErr result (Did (refuses (names name.now other.now)) (steps self.old) (steps self.new)) };
+        ensures err { IfErr result (λ error. Did (refuses error (names name.now other.now)) (steps self.old) (steps self.new)) };
 
     /// Removes a name.
     fn remove(&mut self, name: &str) -> io::Result<()>
         ensures ok { OnOk result (Did (removes name.now) (steps self.old) (steps self.new)) }
-        ensures err { OnErr result (Did (refuses (removes name.now)) (steps self.old) (steps self.new)) };
+        ensures err { IfErr result (λ error. Did (refuses error (removes name.now)) (steps self.old) (steps self.new)) };
 
     /// Makes the names durable that are in the folder of this one.
     fn sync(&mut self, name: &str) -> io::Result<()>
         ensures ok { OnOk result (Did (syncs name.now) (steps self.old) (steps self.new)) }
-        ensures err { OnErr result (Did (refuses (syncs name.now)) (steps self.old) (steps self.new)) };
+        ensures err { IfErr result (λ error. Did (refuses error (syncs name.now)) (steps self.old) (steps self.new)) };
 }
 
 /// The folders of the system. It tells nothing of what was done with them: that what it answers is so, is trusted.

@@ -8,6 +8,7 @@ ghost use Rattle.node_store.specs.Provisioning.{IsProvision};
 ghost use Rattle.node_file.specs.Making.{Did, DidAll, DidSome, IsImageOf, IsMade, IsRefusal, IsUnmade, IsUnnamed, naming};
 ghost use Rattle.node_file.specs.Making.Step.{creates, refuses};
 ghost use Rattle.node_file.specs.declared.faults.MakeFault.TheVariants.{Begun};
+ghost use Rattle.std.specs.declared.io.Error.{Error};
 
 use crate::faults::MakeFault;
 use crate::folder::{Folder, SystemFolder, new_name};
@@ -20,7 +21,7 @@ use std::rt::Files;
 
 /// What is answered where a call that wants a new name was refused.
 fn refusal(error: io::Error, taken: MakeFault) -> MakeFault
-    ensures { IsRefusal taken result }
+    ensures { IsRefusal taken error result }
 {
     if error.kind() == io::ErrorKind::AlreadyExists {
         taken
@@ -57,8 +58,8 @@ fn image_of(alloc: Global, provision: &Provision) -> Result<Vec<u8>, AllocError>
 fn created<W: Folder>(folder: &mut W, name: &str, image: &[u8]) -> Result<(), MakeFault>
     ensures ok { OnOk result (Did (creates name.now image.now) (W.steps folder.old) (W.steps folder.new)) }
     ensures err { IfErr result
-        (λ fault. Did (refuses (creates name.now image.now)) (W.steps folder.old) (W.steps folder.new)
-        × IsRefusal Begun fault) }
+        (λ fault. (error : Error) × Did (refuses error (creates name.now image.now)) (W.steps folder.old) (W.steps folder.new)
+        × IsRefusal Begun error fault) }
 {
     match folder.create(name, image) {
         Ok(()) => Ok(()),

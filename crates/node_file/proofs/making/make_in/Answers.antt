@@ -39,10 +39,10 @@ returns-in_err-created-clause-unmade g c =
     let b = steps c.find.new.self in
     let fault = c.in_err-created.field-0.0 in
     if_err_is _ c.from_residual-in_err-created.result fault c.from_residual-in_err-created.ensures.1
-    (not_created c.args.path.now c.as_str.result.now c.as_slice.result.now c.args.provision.now fault a b (steps c.created.new.folder)
+    (not_created c.args.path.now c.as_str.result.now c.as_slice.result.now c.args.provision.now c.in_err-created.ensures.err.0 fault a b (steps c.created.new.folder)
     (c.as_str.ensures.value ∙ c.in_ok-name.ensures.value)
     (subst (IsImageOf c.args.provision.now) (sym c.as_slice.ensures.value) c.in_ok-image.ensures.image)
-    (subst (λ x. Did (finds c.args.path.now x) a b) c.if-branch.false c.in_ok-find.ensures.ok) c.in_err-created.ensures.err.0 c.in_err-created.ensures.err.1)
+    (subst (λ x. Did (finds c.args.path.now x) a b) c.if-branch.false c.in_ok-find.ensures.ok) c.in_err-created.ensures.err.1 c.in_err-created.ensures.err.2)
 
 pub returns-clause-made : goal.returns-clause-made
 returns-clause-made g c =

@@ -5,7 +5,7 @@ use Rattle.node_file.proofs.making.named.Goals as goal
 pub returns-in-Err-clause-err : goal.returns-in-Err-clause-err
 returns-in-Err-clause-err g c =
     let steps = g.W.Folder.steps in
-    not_named c.remove.result c.args.name.now c.args.path.now c.refusal.result (steps c.args.folder.now) (steps c.name.new.self)
+    not_named c.remove.result c.args.name.now c.args.path.now c.in-Err.error c.refusal.result (steps c.args.folder.now) (steps c.name.new.self)
     (steps c.remove.new.self) c.in-Err.ensures.err c.remove.ensures.ok c.remove.ensures.err c.refusal.ensures
 
 pub returns-in_err-remove-clause-err : goal.returns-in_err-remove-clause-err
