@@ -1,0 +1,62 @@
+-- A phase of a life, and what it leaves.
+use mathlib.Core.Logic.{∥∥₁_elim, ∥∥₁_map}
+use Rattle.std.proofs.Common.{◌≡◌, ◌∙◌, ℕ, List, [], ◌∷◌, ◌++◌, Vec, Global, map, sym, ap, subst, arith}
+use Rattle.std.proofs.Props.{props}
+use Rattle.std.proofs.lemmas.List.Elements.{All-map}
+use Rattle.std.specs.Prelude.{All}
+use Rattle.event_definitions.specs.Role.{Role}
+use Rattle.file_flash.specs.Handed.{IsHandedOut}
+use Rattle.file_flash.specs.Noted.{Put, written}
+use Rattle.flash_model.specs.Chip.{Chip}
+use Rattle.mesh_node.specs.Held.{HasLived, HeldView}
+use Rattle.mesh_node.specs.Told.{IsPartDone, IsPrintablePhase, PhaseDid}
+use Rattle.mesh_types.specs.declared.events.Event.{Event}
+use Rattle.node_bearer.specs.Did.{AreEvents}
+use Rattle.called_node.specs.Called.{HasStory, IsPhaseDone, Story, text_of}
+
+printable_prop : (did : PhaseDid) → IsProp (IsPrintablePhase did)
+printable_prop did = Prim.hlevel props
+
+-- the events of the one bearer
+pub events_of_one : (elements : ℕ) (lists : List (Vec Event Global)) (events : List Event) → All (λ v. AreEvents elements v.items) lists
+    → map (λ v. v.items) lists ≡ events ∷ [] → AreEvents elements events
+events_of_one elements lists events fits is = subst (All (AreEvents elements)) is (All-map (AreEvents elements) (λ v. v.items) lists fits) 0 [] (omega (arith))
+
+module _ {F : Type 0} (role : Role) (image : List ℕ → Type 0) (chip : F → Chip) where
+  -- what is told of a phase can be printed, whatever was told before
+  pub printed : (old : HeldView F) (did : PhaseDid) → HasStory role image chip old
+      → ((phases : List (List (List Event))) (told : List PhaseDid) → HasLived role image chip old phases told → IsPrintablePhase did) → IsPrintablePhase did
+  printed old did story room = ∥∥₁_elim story (printable_prop did) (λ s. room s.phases s.did s.lived)
+
+  -- what holds behind a phase, before its writes are taken, and once they were
+  pub record IsBehind (events : List (List Event)) (old mid new : HeldView F) (did : PhaseDid) (puts : List Put) : Type 0 where
+    pub part : IsPartDone mid.node.machine.closed events did
+    pub held : (phases : List (List (List Event))) (told : List PhaseDid) → HasLived role image chip old phases told
+        → HasLived role image chip mid (phases ++ events ∷ []) (told ++ did ∷ [])
+    pub saved : (chip mid.node.flash).setting.saved ≡ (chip old.node.flash).setting.saved
+    pub writes : written puts (chip mid.node.flash).setting.saved ≡ (chip mid.node.flash).now
+    pub handed : IsHandedOut (chip mid.node.flash) (chip new.node.flash)
+    pub frame : new ≡ record mid { node = record mid.node { flash = new.node.flash } }
+    pub stays : (phases : List (List (List Event))) (told : List PhaseDid) → HasLived role image chip mid phases told
+        → HasLived role image chip new phases told
+
+  module _ {events : List (List Event)} {old mid new : HeldView F} {did : PhaseDid} {puts : List Put} (b : IsBehind events old mid new did puts) where
+    more : Story role image chip old → Story role image chip new
+    more s = record {
+      phases = s.phases ++ events ∷ [];
+      did = s.did ++ did ∷ [];
+      lived = b.stays (s.phases ++ events ∷ []) (s.did ++ did ∷ []) (b.held s.phases s.did s.lived);
+    }
+
+    pub story_more : HasStory role image chip old → HasStory role image chip new
+    story_more story = ∥∥₁_map story more
+
+    pub phase_done : (text : List ℕ) → text ≡ text_of did → IsPhaseDone role image chip events old new puts text
+    phase_done text is = record {
+      did = did;
+      part = subst (λ (c : _). IsPartDone c events did) (sym (ap (λ (h : HeldView F). h.node.machine.closed) b.frame)) b.part;
+      lived = λ phases told h. b.stays (phases ++ events ∷ []) (told ++ did ∷ []) (b.held phases told h);
+      text_is = is;
+      writes_are = ap (written puts) (sym b.saved) ∙ b.writes ∙ sym b.handed.now;
+      saved = ap (λ s. s.saved) b.handed.setting ∙ sym b.handed.now;
+    }

@@ -1,0 +1,18 @@
+use Rattle.std.proofs.Common.{rules, map, refl}
+use Rattle.file_flash.specs.Noted.{put_of}
+use Rattle.called_node.specs.Called.{HasStory}
+use Rattle.called_node.proofs.Lines.{begun_is, begun_story}
+use Rattle.called_node.proofs.called.CalledNode+M+NotedFlash.new.Goals as goal
+
+pub begun-requires-clause-story : goal.begun-requires-clause-story
+begun-requires-clause-story g c κs within =
+    let out = c.take_writes-writes in
+    begun_story g.M.Machine.role g.M.Machine.image _ c.args.life out.new.self c.requires.begins out.ensures.held
+
+pub returns : goal.returns
+returns g c =
+    let out = c.take_writes-writes in
+    record {
+      begun = begun_is g.M.Machine.role g.M.Machine.image _ c.args.life out.new.self (map put_of out.result.items) _ c.begun.ensures.value c.requires.usable c.requires.begins
+          out.ensures.held out.ensures.flash out.ensures.frame out.ensures.writes;
+    }

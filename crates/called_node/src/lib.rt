@@ -1,0 +1,16 @@
+//! A node as calls: a line of what happens goes in, and what became of it comes out when the caller asks for it. It is what a program needs that
+//! links a node and has neither a thread nor a source for it.
+//!
+//! - `called`: [`CalledNode`], and what a call came to
+//! - `phase`: what one phase leaves: the writes of the flash, and the text of the report
+//!
+//! What its caller does, in this order: begin a life; take the writes; and then for each line: call `line`, take the writes, make them durable in
+//! their order, and take the report. A line isn't taken while something is left of the one before, so nothing is lost.
+//!
+//! In `specs/`, `Called` says what a contract sees of such a node, and what a line does.
+#![tactic(auto)]
+
+mod called;
+mod phase;
+
+pub use called::{Called, CalledNode};
