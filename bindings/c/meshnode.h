@@ -10,6 +10,13 @@
 #include <stddef.h>
 #include <stdint.h>
 
+/* A number of octets. It has 64 bits, also where a pointer has 32. */
+#if SIZE_MAX == UINT64_MAX
+typedef size_t meshnode_size;
+#else
+typedef uint64_t meshnode_size;
+#endif
+
 #ifdef __cplusplus
 extern "C" {
 #endif
@@ -23,7 +30,7 @@ extern "C" {
 /* A number is out of its range. Nothing was written. */
 #define MESHNODE_RANGE 2u
 
-/* Under this key the octets are none of what was asked for. */
+/* The octets are none of what was asked for, or none under this key. */
 #define MESHNODE_UNREAD 3u
 
 /* The text is none that can be audited. */
@@ -35,43 +42,43 @@ extern "C" {
 /* Audits a text: at most 16 lines `key NET`, and then lines of reports, as `meshnoded run --hex` writes them, at most 4,194,304 octets. The line of the
  * verdict is put into the front of `verdict`, and `size` tells how many octets it has: at most 28. It is `sound N`, `reuse A B`, `twice A B` or
  * `bad B`, and an LF. Where the text is no such input it is `MESHNODE_NOT_REPORT`, and `line` tells the first line that isn't of the form. */
-uint32_t meshnode_audit(const uint8_t *text, size_t text_length, uint8_t *verdict, size_t verdict_length, size_t *size, uint32_t *line);
+uint32_t meshnode_audit(const uint8_t *text, meshnode_size text_length, uint8_t *verdict, meshnode_size verdict_length, meshnode_size *size, uint32_t *line);
 
 /* The 22 octets of the Secure Network beacon of a network key of 16 octets. Of the flags bit 0 is Key Refresh and bit 1 is IV Update. */
-uint32_t meshnode_beacon(const uint8_t *key, size_t key_length, uint8_t flags, uint32_t iv, uint8_t *beacon, size_t beacon_length);
+uint32_t meshnode_beacon(const uint8_t *key, meshnode_size key_length, uint8_t flags, uint32_t iv, uint8_t *beacon, meshnode_size beacon_length);
 
 /* Authenticates a Secure Network beacon under a network key of 16 octets, and reads its flags, of which bit 0 is Key Refresh and bit 1 is IV Update,
  * and its IV Index. Its Network ID is what `meshnode_k3` derives of the key. `MESHNODE_UNREAD` where it is no beacon of this key. */
-uint32_t meshnode_beacon_open(const uint8_t *key, size_t key_length, const uint8_t *beacon, size_t beacon_length, uint8_t *flags, uint32_t *iv);
+uint32_t meshnode_beacon_open(const uint8_t *key, meshnode_size key_length, const uint8_t *beacon, meshnode_size beacon_length, uint8_t *flags, uint32_t *iv);
 
 /* Seals a text in place and writes its MIC: AES-CCM under a key of 16 octets, with a nonce of 13, fewer than 65,280 octets of additional data, a
  * text of fewer than 65,536, and a MIC of 4 or 8. */
-uint32_t meshnode_ccm_seal(const uint8_t *key, size_t key_length, const uint8_t *nonce, size_t nonce_length, const uint8_t *additional, size_t additional_length, uint8_t *text, size_t text_length, uint8_t *mic, size_t mic_length);
+uint32_t meshnode_ccm_seal(const uint8_t *key, meshnode_size key_length, const uint8_t *nonce, meshnode_size nonce_length, const uint8_t *additional, meshnode_size additional_length, uint8_t *text, meshnode_size text_length, uint8_t *mic, meshnode_size mic_length);
 
 /* Opens a sealed text in place, if `mic` is its MIC: else it is `MESHNODE_UNREAD`, and the text is zeros. The lengths are those of
  * `meshnode_ccm_seal`. */
-uint32_t meshnode_ccm_open(const uint8_t *key, size_t key_length, const uint8_t *nonce, size_t nonce_length, const uint8_t *additional, size_t additional_length, uint8_t *text, size_t text_length, const uint8_t *mic, size_t mic_length);
+uint32_t meshnode_ccm_open(const uint8_t *key, meshnode_size key_length, const uint8_t *nonce, meshnode_size nonce_length, const uint8_t *additional, meshnode_size additional_length, uint8_t *text, meshnode_size text_length, const uint8_t *mic, meshnode_size mic_length);
 
 /* AES-CMAC of a message of any length: 16 octets, under a key of 16. */
-uint32_t meshnode_cmac(const uint8_t *key, size_t key_length, const uint8_t *message, size_t message_length, uint8_t *mac, size_t mac_length);
+uint32_t meshnode_cmac(const uint8_t *key, meshnode_size key_length, const uint8_t *message, meshnode_size message_length, uint8_t *mac, meshnode_size mac_length);
 
 /* s1: a salt of 16 octets from a text of any length. */
-uint32_t meshnode_s1(const uint8_t *message, size_t message_length, uint8_t *salt, size_t salt_length);
+uint32_t meshnode_s1(const uint8_t *message, meshnode_size message_length, uint8_t *salt, meshnode_size salt_length);
 
 /* k1: a key of 16 octets from key material, a salt of 16 octets and a text. */
-uint32_t meshnode_k1(const uint8_t *n, size_t n_length, const uint8_t *salt, size_t salt_length, const uint8_t *p, size_t p_length, uint8_t *key, size_t key_length);
+uint32_t meshnode_k1(const uint8_t *n, meshnode_size n_length, const uint8_t *salt, meshnode_size salt_length, const uint8_t *p, meshnode_size p_length, uint8_t *key, meshnode_size key_length);
 
 /* k2: NID, EncryptionKey and PrivacyKey, 16 octets each, from a network key of 16 octets and P, 1 to 32 octets: 00 for the master credentials. */
-uint32_t meshnode_k2(const uint8_t *n, size_t n_length, const uint8_t *p, size_t p_length, uint8_t *nid, uint8_t *encryption, size_t encryption_length, uint8_t *privacy, size_t privacy_length);
+uint32_t meshnode_k2(const uint8_t *n, meshnode_size n_length, const uint8_t *p, meshnode_size p_length, uint8_t *nid, uint8_t *encryption, meshnode_size encryption_length, uint8_t *privacy, meshnode_size privacy_length);
 
 /* k3: the Network ID, 8 octets, of a network key of 16. */
-uint32_t meshnode_k3(const uint8_t *n, size_t n_length, uint8_t *id, size_t id_length);
+uint32_t meshnode_k3(const uint8_t *n, meshnode_size n_length, uint8_t *id, meshnode_size id_length);
 
 /* k4: the AID, 6 bits, of an application key of 16 octets. */
-uint32_t meshnode_k4(const uint8_t *n, size_t n_length, uint8_t *aid);
+uint32_t meshnode_k4(const uint8_t *n, meshnode_size n_length, uint8_t *aid);
 
 /* The virtual address, 8000 to bfff, of a label of 16 octets. */
-uint32_t meshnode_virtual_address(const uint8_t *label, size_t label_length, uint16_t *dst);
+uint32_t meshnode_virtual_address(const uint8_t *label, meshnode_size label_length, uint16_t *dst);
 
 /* The fields of a lower transport PDU but for its octets. Of a PDU that was read those that its kind hasn't are 0; of one that is written they
  * aren't looked at. */
@@ -109,17 +116,17 @@ struct meshnode_acknowledgment {
 /* The octets of the lower transport PDU of these fields: at most 16, in the front of `tpdu`, which has room for 16; `size` tells how many. An
  * unsegmented access message has 5 to 15 octets, its upper transport PDU; an unsegmented control message 0 to 11, its parameters. A segment of
  * an access message has 12 and of a control message 8, the last one 1 to so many. Where a length and a number are wrong it is `MESHNODE_LENGTH`. */
-uint32_t meshnode_lower_write(const struct meshnode_lower *head, const uint8_t *octets, size_t octets_length, uint8_t *tpdu, size_t tpdu_length, size_t *size);
+uint32_t meshnode_lower_write(const struct meshnode_lower *head, const uint8_t *octets, meshnode_size octets_length, uint8_t *tpdu, meshnode_size tpdu_length, meshnode_size *size);
 
 /* Reads the transport PDU of a network PDU with this CTL. Its octets are put into the front of `octets`, which has room for 15, and `size` tells
  * how many. Reserved bits, and AID with the device key, are read as anything. `MESHNODE_UNREAD` where no PDU has these octets. */
-uint32_t meshnode_lower_read(bool ctl, const uint8_t *tpdu, size_t tpdu_length, struct meshnode_lower *head, uint8_t *octets, size_t octets_length, size_t *size);
+uint32_t meshnode_lower_read(bool ctl, const uint8_t *tpdu, meshnode_size tpdu_length, struct meshnode_lower *head, uint8_t *octets, meshnode_size octets_length, meshnode_size *size);
 
 /* The 6 octets of parameters of a Segment Acknowledgment, which is a control message with opcode 00. */
-uint32_t meshnode_acknowledgment_write(const struct meshnode_acknowledgment *said, uint8_t *params, size_t params_length);
+uint32_t meshnode_acknowledgment_write(const struct meshnode_acknowledgment *said, uint8_t *params, meshnode_size params_length);
 
 /* Reads the 6 octets of parameters of a Segment Acknowledgment. The two bits before BlockAck are reserved, and read as anything. */
-uint32_t meshnode_acknowledgment_read(const uint8_t *params, size_t params_length, struct meshnode_acknowledgment *said);
+uint32_t meshnode_acknowledgment_read(const uint8_t *params, meshnode_size params_length, struct meshnode_acknowledgment *said);
 
 /* SEQ of SeqAuth, for a segment that came with this SEQ: the greatest number up to it whose low 13 bits are SeqZero. Its IV Index is that of the
  * segment. `MESHNODE_UNREAD` where there is no such number. */
@@ -144,11 +151,11 @@ struct meshnode_head {
 /* The octets of the network PDU of these fields: at most 29, in the front of `pdu`, which has room for 29; `size` tells how many. NID is below 128,
  * the EncryptionKey and the PrivacyKey have 16 octets; the transport PDU 1 to 16, or 1 to 12 in a control message. Where a length and a number are
  * wrong it is `MESHNODE_LENGTH`. */
-uint32_t meshnode_net_seal(uint8_t nid, const uint8_t *encryption, size_t encryption_length, const uint8_t *privacy, size_t privacy_length, const struct meshnode_head *head, const uint8_t *tpdu, size_t tpdu_length, uint8_t *pdu, size_t pdu_length, size_t *size);
+uint32_t meshnode_net_seal(uint8_t nid, const uint8_t *encryption, meshnode_size encryption_length, const uint8_t *privacy, meshnode_size privacy_length, const struct meshnode_head *head, const uint8_t *tpdu, meshnode_size tpdu_length, uint8_t *pdu, meshnode_size pdu_length, meshnode_size *size);
 
 /* Opens a network PDU, heard by a node whose IV Index is `current`: it may be under this one or the one before. The transport PDU is put into the
  * front of `tpdu`, which has room for 16 octets, and `size` tells how many. `MESHNODE_UNREAD` where it is none under this key. */
-uint32_t meshnode_net_open(uint8_t nid, const uint8_t *encryption, size_t encryption_length, const uint8_t *privacy, size_t privacy_length, uint32_t current, const uint8_t *pdu, size_t pdu_length, struct meshnode_head *head, uint8_t *tpdu, size_t tpdu_length, size_t *size);
+uint32_t meshnode_net_open(uint8_t nid, const uint8_t *encryption, meshnode_size encryption_length, const uint8_t *privacy, meshnode_size privacy_length, uint32_t current, const uint8_t *pdu, meshnode_size pdu_length, struct meshnode_head *head, uint8_t *tpdu, meshnode_size tpdu_length, meshnode_size *size);
 
 /* What an access message is sealed with besides its key. */
 struct meshnode_message {
@@ -167,11 +174,11 @@ struct meshnode_message {
 /* Seals an access payload: the octets of its upper transport PDU, as many as the payload has and 4 or 8 for its TransMIC, at most 384. The key
  * has 16 octets, and is the device key or an application key. The label of a virtual DST has 16 octets; else there are 0. Where a length and a
  * number are wrong it is `MESHNODE_LENGTH`. */
-uint32_t meshnode_access_seal(bool device, const uint8_t *key, size_t key_length, const struct meshnode_message *message, const uint8_t *label, size_t label_length, const uint8_t *payload, size_t payload_length, uint8_t *upper, size_t upper_length);
+uint32_t meshnode_access_seal(bool device, const uint8_t *key, meshnode_size key_length, const struct meshnode_message *message, const uint8_t *label, meshnode_size label_length, const uint8_t *payload, meshnode_size payload_length, uint8_t *upper, meshnode_size upper_length);
 
 /* Opens the octets of an upper transport PDU, sealed as `meshnode_access_seal` says: `payload` has room for as many octets as they are without
  * the TransMIC. `MESHNODE_UNREAD` where they don't open under this key with these fields. Of the SEQ the low 24 bits count. */
-uint32_t meshnode_access_open(bool device, const uint8_t *key, size_t key_length, const struct meshnode_message *message, const uint8_t *label, size_t label_length, const uint8_t *upper, size_t upper_length, uint8_t *payload, size_t payload_length);
+uint32_t meshnode_access_open(bool device, const uint8_t *key, meshnode_size key_length, const struct meshnode_message *message, const uint8_t *label, meshnode_size label_length, const uint8_t *upper, meshnode_size upper_length, uint8_t *payload, meshnode_size payload_length);
 
 #ifdef __cplusplus
 }

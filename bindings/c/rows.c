@@ -11,8 +11,8 @@
 enum { WORDS = 24, OCTETS = 512 };
 
 /* the octets of a word of hexadecimal digits; `-` has none */
-static size_t octets_of(const char *word, uint8_t *octets) {
-    size_t count = 0;
+static meshnode_size octets_of(const char *word, uint8_t *octets) {
+    meshnode_size count = 0;
     unsigned octet;
     for (; word[0] != '\0' && word[0] != '-' && sscanf(word, "%2x", &octet) == 1; word += 2)
         octets[count++] = (uint8_t)octet;
@@ -20,18 +20,18 @@ static size_t octets_of(const char *word, uint8_t *octets) {
 }
 
 /* octets as the rows write them */
-static void put(char *text, const uint8_t *octets, size_t count) {
+static void put(char *text, const uint8_t *octets, meshnode_size count) {
     strcat(text, " ");
     if (count == 0)
         strcat(text, "-");
-    for (size_t i = 0; i < count; i++)
+    for (meshnode_size i = 0; i < count; i++)
         sprintf(text + strlen(text), "%02x", octets[i]);
 }
 
 static uint32_t number(const char *word) { return (uint32_t)strtoul(word, NULL, 16); }
 
 /* a number of `count` octets, and a flag, as the rows write them */
-static void put_number(char *text, uint32_t value, size_t count) {
+static void put_number(char *text, uint32_t value, meshnode_size count) {
     uint8_t octets[4] = {(uint8_t)(value >> 24), (uint8_t)(value >> 16), (uint8_t)(value >> 8), (uint8_t)value};
     put(text, octets + 4 - count, count);
 }
@@ -39,11 +39,11 @@ static void put_number(char *text, uint32_t value, size_t count) {
 static void put_flag(char *text, bool flag) { strcat(text, flag ? " 1" : " 0"); }
 
 /* `lower CTL TRANSPORT-PDU`: the kind, the fields, and the octets as they are written again */
-static void lower_row(bool ctl, const uint8_t *tpdu, size_t count, char *text) {
+static void lower_row(bool ctl, const uint8_t *tpdu, meshnode_size count, char *text) {
     static const char *const kinds[] = {" access", " accesspart", " control", " controlpart"};
     struct meshnode_lower head = {0};
     uint8_t octets[15], again[16];
-    size_t size, written;
+    meshnode_size size, written;
     if (meshnode_lower_read(ctl, tpdu, count, &head, octets, 15, &size) != MESHNODE_OK) {
         strcpy(text, " malformed");
         return;
@@ -68,7 +68,7 @@ static void lower_row(bool ctl, const uint8_t *tpdu, size_t count, char *text) {
 }
 
 /* `control 00 PARAMETERS`: what a Segment Acknowledgment says, and its octets as they are written again */
-static void acknowledgment_row(const uint8_t *params, size_t count, char *text) {
+static void acknowledgment_row(const uint8_t *params, meshnode_size count, char *text) {
     struct meshnode_acknowledgment said = {0};
     uint8_t again[7] = {0};
     if (meshnode_acknowledgment_read(params, count, &said) != MESHNODE_OK) {
@@ -90,7 +90,7 @@ static void access_row(char **w, char *text) {
     struct meshnode_message message = {number(w[1]), number(w[2]), (uint16_t)number(w[3]), (uint16_t)number(w[4]), w[5][0] == '1'};
     bool labelled = number(w[6]) == 1;
     char **rest = w + 7 + labelled;
-    size_t labels = labelled ? octets_of(w[7], label) : 0, mic = message.long_mic ? 8 : 4, count = octets_of(rest[0], octets);
+    meshnode_size labels = labelled ? octets_of(w[7], label) : 0, mic = message.long_mic ? 8 : 4, count = octets_of(rest[0], octets);
     if (strcmp(w[0], "access") == 0) {
         octets_of(rest[2], key);
         if (meshnode_access_seal(strcmp(rest[1], "dev") == 0, key, 16, &message, label, labels, octets, count, made, count + mic) == MESHNODE_OK)
@@ -100,7 +100,7 @@ static void access_row(char **w, char *text) {
     strcpy(text, " nokey");
     for (uint32_t i = 0; i < number(rest[1]); i++) {
         octets_of(rest[3 + 2 * i], key);
-        size_t room = count > mic ? count - mic : 1;
+        meshnode_size room = count > mic ? count - mic : 1;
         if (meshnode_access_open(strcmp(rest[2 + 2 * i], "dev") == 0, key, 16, &message, label, labels, octets, count, made, room) == MESHNODE_OK) {
             text[0] = '\0';
             put_number(text, i, 4);
@@ -111,7 +111,7 @@ static void access_row(char **w, char *text) {
 }
 
 /* `read BEACON 01 INDEX PHASE KEY -`: the index, whether the key is the new one, what the beacon says */
-static void beacon_row(char **w, const uint8_t *beacon, size_t count, char *text) {
+static void beacon_row(char **w, const uint8_t *beacon, meshnode_size count, char *text) {
     uint8_t key[16], flags = 0;
     uint32_t iv = 0;
     octets_of(w[5], key);
@@ -127,7 +127,7 @@ static void beacon_row(char **w, const uint8_t *beacon, size_t count, char *text
 }
 
 /* rows of the transport layers and of beacons that are read; 0 where a row is none */
-static int transport_answer(char **w, uint8_t in[WORDS][OCTETS], const size_t *n, char *text) {
+static int transport_answer(char **w, uint8_t in[WORDS][OCTETS], const meshnode_size *n, char *text) {
     uint32_t auth = 0;
     if (strcmp(w[0], "lower") == 0)
         lower_row(w[1][0] == '1', in[2], n[2], text);
@@ -150,7 +150,7 @@ static int transport_answer(char **w, uint8_t in[WORDS][OCTETS], const size_t *n
 /* what a row asks for, as text; 0 where it asks for something else */
 static int answer(char **w, char *text) {
     static uint8_t in[WORDS][OCTETS];
-    size_t n[WORDS] = {0};
+    meshnode_size n[WORDS] = {0};
     uint8_t out[16], mic[8], key[16], privacy[16], id[8], beacon[22], pdu[29], small;
     uint16_t dst;
     for (int i = 1; i < WORDS && w[i] != NULL; i++)
@@ -160,7 +160,7 @@ static int answer(char **w, char *text) {
         if (meshnode_cmac(in[1], n[1], in[2], n[2], out, 16) == MESHNODE_OK)
             put(text, out, 16);
     } else if (strcmp(w[0], "seal") == 0) {
-        size_t m = w[1][0] == '1' ? 8 : 4;
+        meshnode_size m = w[1][0] == '1' ? 8 : 4;
         if (meshnode_ccm_seal(in[2], n[2], in[3], n[3], in[4], n[4], in[5], n[5], mic, m) == MESHNODE_OK) {
             put(text, in[5], n[5]);
             put(text, mic, m);
@@ -198,7 +198,7 @@ static int answer(char **w, char *text) {
     } else if (strcmp(w[0], "network") == 0) {
         struct meshnode_head head = {number(w[2]), number(w[5]), (uint16_t)number(w[6]), (uint16_t)number(w[7]), w[3][0] == '1', in[4][0]};
         struct meshnode_head heard = {0};
-        size_t size, tpdu_size;
+        meshnode_size size, tpdu_size;
         uint8_t tpdu[16];
         meshnode_k2(in[1], n[1], (uint8_t[]){0}, 1, &small, key, 16, privacy, 16);
         if (meshnode_net_seal(small, key, 16, privacy, 16, &head, in[8], n[8], pdu, 29, &size) == MESHNODE_OK) {
@@ -221,7 +221,7 @@ static int refuses_transport(void) {
     struct meshnode_lower head = {.seg = true, .aid = 1, .seg_n = 1}, same = head;
     struct meshnode_acknowledgment said = {false, 0x2000, 0};
     struct meshnode_message message = {0, 0x1000000, 1, 2, false};
-    size_t size = 5;
+    meshnode_size size = 5;
     uint32_t number = 5;
     return meshnode_lower_write(&head, payload, 4, octets, 16, &size) == MESHNODE_LENGTH
         && meshnode_lower_write(&head, key, 12, octets, 15, &size) == MESHNODE_LENGTH
@@ -243,7 +243,7 @@ static int refuses_transport(void) {
 static int refuses(void) {
     uint8_t key[16] = {0}, mac[16] = {7}, text[4] = {1, 2, 3, 4}, mic[8] = {0}, pdu[29] = {7}, tpdu[16] = {7};
     struct meshnode_head head = {0, 1, 1, 2, false, 128}, same = head;
-    size_t size = 5;
+    meshnode_size size = 5;
     return meshnode_cmac(key, 15, text, 4, mac, 16) == MESHNODE_LENGTH && meshnode_cmac(key, 16, text, 4, mac, 15) == MESHNODE_LENGTH
         && meshnode_ccm_seal(key, 16, key, 13, key, 0, text, 4, mic, 5) == MESHNODE_LENGTH && text[0] == 1
         && meshnode_net_seal(0, key, 16, key, 16, &head, text, 4, pdu, 29, &size) == MESHNODE_RANGE

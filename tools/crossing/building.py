@@ -10,12 +10,14 @@ from look.ends import NO_FILE, Fault
 from look.second_node import REPOSITORY
 
 from .moving import moved
-from .targets import NOT_BUILT, Target
+from .narrowing import narrowed
+from .targets import LIBRARY, NOT_BUILT, Target
 
 HERE = Path(__file__).resolve().parent
-PROGRAMS = ('meshnode', 'meshnoded')
-# The flags that the toolchain gives clang for x86-64.
-CODE = ('-O3 -fPIE -w -Werror -ffunction-sections -fdata-sections -mllvm -no-trap-after-noreturn '
+BINDINGS = REPOSITORY / 'bindings' / 'c'
+X86 = 'x86_64-unknown-linux-gnu'
+# The flags that the toolchain gives clang for x86-64, but for those of size and place.
+CODE = ('-w -Werror -ffunction-sections -fdata-sections -mllvm -no-trap-after-noreturn '
         '-mllvm -trap-unreachable -mllvm -disable-machine-licm '
         '-mllvm -disable-postra-machine-licm -mllvm -sink-common-insts=false '
         '--no-default-config -no-canonical-prefixes -fno-crash-diagnostics').split()
@@ -82,8 +84,9 @@ def libraries(place: Place, program: str) -> list[str]:
 
 def proved(place: Place, program: str, triple: str, toolchain: Path) -> Path:
     """Has the toolchain prove the program and compile it; the object file."""
-    made = place.work / f'{program}.{triple.split("-")[0]}.o'
-    words = [str(place.kit / 'bin' / 'rattle'), 'build', '--crate-name', program, 'src/main.rt',
+    made = place.work / f'{program}.{triple.split("-")[0]}.{"a" if program == LIBRARY else "o"}'
+    kind = ['src/lib.rt', '--crate-type', 'staticlib'] if program == LIBRARY else ['src/main.rt']
+    words = [str(place.kit / 'bin' / 'rattle'), 'build', '--crate-name', program, *kind,
              *libraries(place, program),
              '--antt-project', str(place.kit / 'rattle' / 'logic' / 'antt-project.json'),
              '--logic-built', str(place.kit / 'logic_built'), '--jobs', '1',
@@ -125,27 +128,42 @@ def text_of(place: Place, module: Path) -> str:
 def by_module(place: Place, target: Target, program: str) -> Path:
     """The object file for a processor that the toolchain doesn't compile for."""
     kept = place.work / f'{program}.x86_64.bc'
-    proved(place, program, 'x86_64-unknown-linux-gnu', toolchain_that_keeps(place, kept))
+    proved(place, program, X86, toolchain_that_keeps(place, kept))
     said = run([str(place.clang), f'--target={target.triple}', '-S', '-emit-llvm', '-x', 'c',
                 '-o', '-', os.devnull])
+    text = text_of(place, kept)
     module = place.work / f'{program}.{target.name}.ll'
-    module.write_text(moved(text_of(place, kept), said, target.name), 'latin-1')
+    module.write_text(narrowed(text, said) if target.board else moved(text, said, target.name), 'latin-1')
     made = place.work / f'{program}.{target.name}.o'
-    run([str(place.clang), f'--target={target.triple}', *target.code_words, *CODE, '-c',
-         '-x', 'ir', str(module), '-o', str(made)])
+    run([str(place.clang), f'--target={target.triple}', *target.code_words, *(['-Os'] if target.board else ['-O3', '-fPIE']),
+         *CODE, '-c', '-x', 'ir', str(module), '-o', str(made)])
     return made
 
 
-def linked(place: Place, target: Target, name: str, files: list[str]) -> Path:
-    """A program that needs no library where it runs, with our C in it."""
+def linked(place: Place, target: Target, name: str, files: list[str], ours: tuple[str, ...] = ('target.c',)) -> Path:
+    """A program that needs no library where it runs, with our C in it where that isn't in its files."""
     made = place.work / name
-    run([target.compiler, '-static', '-O2', '-std=c11', '-Wall', '-Wextra', '-Werror',
-         '-o', str(made), *files, str(HERE / 'target.c'), '-lpthread'])
+    chip = ['--specs=rdimon.specs', *target.code_words, '-mthumb', '-nostartfiles', '-Wl,--gc-sections', '-Wl,--no-warn-execstack',
+            '-T', str(HERE / 'chip.ld'), str(HERE / 'chip.c')]
+    run([target.compiler, *(chip if target.board else ['-static']), '-O2', '-std=c11', '-Wall', '-Wextra', '-Werror',
+         f'-I{BINDINGS}', '-o', str(made), *files, *(str(HERE / it) for it in ours), *([] if target.board else ['-lpthread'])])
     return made
+
+
+def archived(place: Place, target: Target, made: Path) -> Path:
+    """The library for C, with what it asks of C beside the C library."""
+    ours, library = place.work / 'target.o', place.work / f'lib{LIBRARY}.a'
+    thumb = ['-mthumb'] if target.board else ['-fPIC']
+    run([target.compiler, *thumb, *(target.code_words if target.board else ()), '-O2', '-std=c11', '-Wall', '-Wextra', '-Werror', '-c',
+         '-o', str(ours), str(HERE / 'target.c')])
+    library.unlink(missing_ok=True)
+    if made.suffix == '.a':
+        shutil.copy(made, library)
+    run([f'{target.debian}-ar', 'rcs', str(library), str(ours), *([] if made.suffix == '.a' else [str(made)])])
+    return library
 
 
 def build(place: Place, target: Target, program: str) -> Path:
-    """A program for the target."""
-    make = (lambda: proved(place, program, target.triple, place.kit / 'toolchain')
-            ) if target.is_of_toolchain else (lambda: by_module(place, target, program))
-    return linked(place, target, program, [str(make())])
+    """A program for the target, or the library."""
+    made = proved(place, program, target.triple, place.kit / 'toolchain') if target.is_of_toolchain else by_module(place, target, program)
+    return archived(place, target, made) if program == LIBRARY else linked(place, target, program, [str(made)])

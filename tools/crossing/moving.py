@@ -22,7 +22,7 @@ HANDS_ON = re.compile(r'^define [^@\n]*@(?P<name>"[^"\n]+"|[\w.]+)\(i64(?: nound
                       r'  \S+ = call [^@\n]*@syscall\(i64(?: noundef)? %a0,', re.M)
 
 
-def _head(module: str, said: str) -> str:
+def head(module: str, said: str) -> str:
     """With layout and triple of an empty module that clang made for the target."""
     for word in ('datalayout', 'triple'):
         line = re.search(rf'^target {word} = .*$', said, re.M)
@@ -32,7 +32,7 @@ def _head(module: str, said: str) -> str:
     return module
 
 
-def _attributes(module: str) -> str:
+def attributes_of_none(module: str) -> str:
     """Without what is said of x86-64 processors, and without the probes of its stack."""
     return re.sub(r'^attributes #\d+ = .*$', lambda line: re.sub(
         rf'\s*"(?:{OF_X86})"(?:="[^"]*")?', '', line[0]), module, flags=re.M)
@@ -85,7 +85,7 @@ def moved(module: str, said: str, processor: str) -> str:
     """The module for another processor, of which clang said the layout."""
     if '"e-' not in said or re.search(r'"[^"]*-p:32', said):
         raise Fault(NOT_BUILT, 'only for 64 bits, the lowest octet first')
-    module = _main(_attributes(_head(module, said)))
+    module = _main(attributes_of_none(head(module, said)))
     module = _futex(_extended(module), processor)
     _refuse_x86(module)
     return module

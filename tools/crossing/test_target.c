@@ -58,8 +58,8 @@ static void test_realloc(void) {
 
 static void test_dealloc(void) {
     int all = 1;
-    for (int i = 0; i < 2000; i++) { /* 32 GB in all */
-        struct allocation made = rattle_alloc((uint64_t)1 << 24, 16);
+    for (int i = 0; i < 2000; i++) { /* more in all than there is */
+        struct allocation made = rattle_alloc((uint64_t)1 << (sizeof(void *) == 4 ? 20 : 24), 16);
         all = all && made.is_there;
         if (made.is_there) rattle_dealloc(made.place);
     }

@@ -7,7 +7,7 @@ import unittest
 from pathlib import Path
 from unittest import mock
 
-from crossing import building, moving, targets, testing
+from crossing import building, moving, narrowing, targets, testing
 from look.ends import Fault
 from look.second_node import REPOSITORY
 
@@ -55,6 +55,30 @@ define i64 @waits(ptr %p) {
   %r = call i64 @"+threads::syscall"(i64 202, ptr %p)
   ret i64 %r
 }
+'''
+
+
+OF_CHIP = ('target datalayout = "e-m:e-p:32:32-Fi8-i64:64-v128:64:128-a:0:32-n32-S64"\n'
+           'target triple = "thumbv7em-unknown-none-eabi"\n')
+LIBRARY = '''target datalayout = "e-m:e-p270:32:32-i64:64-S128"
+target triple = "x86_64-unknown-linux-gnu"
+@"table.1" = private constant <{ ptr, [3 x i8], ptr, i64 }> <{ ptr @"t.0", [3 x i8] c"abc", ptr getelementptr (i8, ptr @"t.0", i64 2), i64 3 }>
+@"t.0" = private constant [5 x i8] c"hello", align 1
+define noundef i8 @small(ptr noundef %a0, i64 noundef %a1) #0 {
+start:
+  %slot = alloca ptr, align 8
+  %room = alloca [24 x i8], align 8
+  store ptr %a0, ptr %slot, align 8
+  %r1 = load { i8, ptr }, ptr %room, align 8
+  store { i8, ptr } %r1, ptr %room, align 8
+  %r2 = load { i32, i64 }, ptr %room, align 8
+  %p = getelementptr inbounds i8, ptr %room, i64 8
+  %n = ptrtoaddr ptr %a0 to i64
+  %m = call { i64, i64 } @rattle_alloc(i64 %n, i64 8)
+  ret i8 1
+}
+declare { i64, i64 } @rattle_alloc(i64, i64)
+attributes #0 = { nounwind "probe-stack"="inline-asm" "target-cpu"="x86-64-v2" }
 '''
 
 
@@ -123,6 +147,50 @@ class Moved(unittest.TestCase):
                 moving.moved(MODULE, said, 'riscv64')
 
 
+class Narrowed(unittest.TestCase):
+    """A module for pointers of 32 bits."""
+
+    def test_what_changes(self) -> None:
+        found = narrowing.narrowed(LIBRARY, OF_CHIP)
+        self.assertTrue(found.startswith(OF_CHIP))
+        for line in ('constant <{ ptr, [4 x i8], [3 x i8], ptr, [4 x i8], i64 }> <{ ptr @"t.0", [4 x i8] zeroinitializer, [3 x i8] c"abc"',
+                     'ptr getelementptr (i8, ptr @"t.0", i64 2), [4 x i8] zeroinitializer, i64 3 }>',
+                     'define noundef zeroext i8 @small(',
+                     '%slot = alloca [8 x i8], align 8\n',
+                     '  %n = ptrtoint ptr %a0 to i64\n',
+                     '%m = call { i64, i64 } @by_place.rattle_alloc(i64 %n, i64 8)',
+                     'call void @rattle_alloc(ptr sret([16 x i8]) align 8 %o, i64 %a, i64 %b)',
+                     'declare void @rattle_alloc(ptr sret([16 x i8]) align 8, i64, i64)'):
+            self.assertIn(line, found)
+        self.assertNotIn('x86', found)
+        self.assertNotIn('ptrtoaddr', found)
+
+    def test_the_second_of_a_pair_stays_where_it_was(self) -> None:
+        """A pointer is 8 octets behind an octet, and a number of 64 bits 8 behind one of 32."""
+        found = narrowing.narrowed(LIBRARY, OF_CHIP)
+        places = re.findall(r'^  (%narrow\.\d\.p) = getelementptr i8, ptr %room, i64 (\d+)$', found, re.M)
+        self.assertEqual([place for _, place in places], ['8', '8', '8'])
+        self.assertIn('%narrow.1.b = load ptr, ptr %narrow.1.p, align 8', found)
+        self.assertRegex(found, r'store ptr %narrow\.\d\.b, ptr %narrow\.\d\.p, align 8')
+        self.assertNotRegex(found, r'(load|store) \{')
+
+    def test_what_is_refused(self) -> None:
+        place = '  %p = getelementptr inbounds i8, ptr %room, i64 8\n'
+        for line in ('%x = inttoptr i64 %n to ptr', '%x = getelementptr inbounds ptr, ptr %room, i64 1', '%x = alloca { i64, ptr }, align 8',
+                     '%x = load [2 x ptr], ptr %room', '%x = load { i8, { ptr, i8 } }, ptr %room', '%x = load <2 x i64>, ptr %room',
+                     '%x = atomicrmw add ptr %room, i64 1 seq_cst', '%x = load atomic i64, ptr %room seq_cst, align 8',
+                     '%x = call i64 @llvm.x86.rdtsc()', '%x = call i32 asm "nop", ""()'):
+            with self.subTest(line=line), self.assertRaises(Fault):
+                narrowing.narrowed(LIBRARY.replace(place, f'{place}  {line}\n'), OF_CHIP)
+        for line in ('declare { i64, i64 } @another(i64)', '@t = constant [2 x ptr] [ptr @a, ptr @b]',
+                     '@t = constant <{ ptr }> <{ ptr blockaddress(@a, %b) }>'):
+            with self.subTest(line=line), self.assertRaises(Fault):
+                narrowing.narrowed(LIBRARY.replace('define', f'{line}\ndefine', 1), OF_CHIP)
+        for said in (OF_CHIP.replace('"e-', '"E-'), LAYOUT):
+            with self.assertRaises(Fault):
+                narrowing.narrowed(LIBRARY, said)
+
+
 class Asked(unittest.TestCase):
     """Packages, crates, and the words of examples."""
 
@@ -132,13 +200,14 @@ class Asked(unittest.TestCase):
                 with self.assertRaises(Fault) as ended:
                     targets.ask_for_packages(target, True)
                 self.assertEqual(ended.exception.status, targets.NO_PACKAGE)
-                for package in ('qemu-user', f'gcc-{name}-linux-gnu', 'libc6-dev-'):
+                for package in ('qemu-system-arm', 'gcc-arm-none-eabi', 'libnewlib-') if target.board else (
+                        'qemu-user', f'gcc-{name}-linux-gnu', 'libc6-dev-'):
                     self.assertIn(package, str(ended.exception))
                 self.assertEqual(len(targets.missing(target, False)), 2)
 
     def test_crates(self) -> None:
         found = building.crates_named((REPOSITORY / 'crates.txt').read_text())
-        for program in building.PROGRAMS:
+        for program in (*targets.PROGRAMS, targets.LIBRARY):
             self.assertTrue(found[program], program)
         self.assertEqual(building.crates_named('# a: b\na:\nb static: a c # d: e\n'),
                          {'a': [], 'b': ['a', 'c']})

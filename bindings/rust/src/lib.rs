@@ -20,7 +20,7 @@ pub enum Refused {
     Length,
     /// A number is out of its range.
     Range,
-    /// Under this key the octets are none of what was asked for.
+    /// The octets are none of what was asked for, or none under this key.
     Unread,
     /// The text is none that can be audited: its first line, from 1 on, that isn't of the form.
     NotReport(u32),

@@ -20,28 +20,34 @@ use upper_transport::{read_control, write_control};
 /// Octets of a transport PDU, at most.
 const MOST_TPDU: usize = 16;
 
-/// Octets of an unsegmented access message, at least, and at most; of an unsegmented control message, at most.
+/// Octets of an unsegmented access message, at least.
 const LEAST_ACCESS: usize = 5;
 
+/// Octets of an unsegmented access message, at most.
 const MOST_ACCESS: usize = 15;
 
+/// Octets of an unsegmented control message, at most.
 const MOST_CONTROL: usize = 11;
 
-/// Octets of a segment that isn't the last: of an access message, and of a control message.
+/// Octets of a segment of an access message that isn't the last.
 const ACCESS_PIECE: usize = 12;
 
+/// Octets of a segment of a control message that isn't the last.
 const CONTROL_PIECE: usize = 8;
 
 /// Octets of the parameters of a Segment Acknowledgment.
 const ACKNOWLEDGMENT: usize = 6;
 
-/// AID has 6 bits, an opcode 7, SeqZero 13, SegO and SegN 5.
+/// An AID is below this: it has 6 bits.
 const SIX_BITS: u8 = 64;
 
+/// An opcode of a control message is below this: it has 7 bits.
 const SEVEN_BITS: u8 = 128;
 
+/// SegO and SegN are below this: each has 5 bits.
 const FIVE_BITS: u8 = 32;
 
+/// SeqZero is below this: it has 13 bits.
 const SEQ_ZERO_END: u16 = 0x2000;
 
 /// The fields of a lower transport PDU but for its octets. Of a PDU that was read those that its kind hasn't are 0; of one that is written they

@@ -10,7 +10,7 @@ pub const LENGTH: u32 = 1;
 /// A number is out of its range. Nothing was written.
 pub const RANGE: u32 = 2;
 
-/// Under this key the octets are none of what was asked for.
+/// The octets are none of what was asked for, or none under this key.
 pub const UNREAD: u32 = 3;
 
 /// The text is none that can be audited.

@@ -17,12 +17,13 @@ use upper_transport::{UpperSchedule, open_kept, seal_access};
 /// Octets of an upper transport PDU, at most.
 const MOST_UPPER: usize = 384;
 
-/// Octets of a TransMIC, short and long.
+/// Octets of a short TransMIC.
 const SHORT_MIC: usize = 4;
 
+/// Octets of a long TransMIC.
 const LONG_MIC: usize = 8;
 
-/// SEQ has 24 bits.
+/// SEQ is below this: it has 24 bits.
 const SEQ_END: u32 = 0x100_0000;
 
 /// What an access message is sealed with besides its key.
