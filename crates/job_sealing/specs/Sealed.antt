@@ -2,6 +2,7 @@
 use Rattle.std.specs.Prelude.{◌≡◌, ℕ, ◌^◌, ◌<◌, ◌≤◌, false, Option, List, length}
 use Rattle.std.specs.Option.{option_to_list}
 use Rattle.mesh_types.specs.declared.events.Event.TheVariants as E
+use Rattle.mesh_types.specs.declared.jobs.Job.{Job}
 use Rattle.mesh_types.specs.declared.jobs.Job.TheVariants as J
 use Rattle.run_definitions.specs.Lines.{Shows, after_line, drawn_of}
 use Rattle.std.specs.Prelude.{Some}
@@ -39,6 +40,18 @@ begins a payload = begin_event a.net a.key a.pair a.ttl a.src a.dst payload
 abbrev pub IsPayloadOf : Event → Type 0
 IsPayloadOf (E.Send element at hops with payload) = (1 ≤ length payload) × (length payload ≤ 380)
 IsPayloadOf _ = ⊥
+
+-- a message that has its payload, and can be sealed
+abbrev pub IsMessageJob : Job → Type 0
+IsMessageJob (J.Message net material key ttl src dst payload keep) =
+    (material.nid < 2 ^ 7) × (ttl < 2 ^ 7) × IsUpperKey key × (1 ≤ length payload)
+IsMessageJob _ = ⊥
+
+-- a message whose payload is that of this event, and can be sealed
+abbrev pub IsSentJob : Event → Job → Type 0
+IsSentJob (E.Send element at hops with payload) (J.Sent net material key ttl src dst) =
+    (material.nid < 2 ^ 7) × (ttl < 2 ^ 7) × IsUpperKey key × (1 ≤ length payload) × (length payload ≤ 380)
+IsSentJob _ _ = ⊥
 
 -- the line of a message whose payload is that of its event
 pub record IsSentLine (event : Event) (a : Access) (outcome : Outcome) (next : Option Event) : Type 0 where

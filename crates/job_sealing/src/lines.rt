@@ -10,7 +10,7 @@ ghost use Rattle.run_definitions.specs.Lines.{Shows, after_line, drawn_of, is_dr
 ghost use Rattle.run_definitions.specs.Order.{is_outside};
 ghost use Rattle.run_definitions.specs.Seals.{own_fields};
 ghost use Rattle.machine_contract.specs.Ranges.{IsEvent, IsJob};
-ghost use Rattle.job_sealing.specs.Sealed.{IsAccess, IsPayloadOf, IsSentLine};
+ghost use Rattle.job_sealing.specs.Sealed.{IsAccess, IsMessageJob, IsPayloadOf, IsSentJob, IsSentLine};
 
 use crate::kept::KeptSeals;
 use crate::messages::{Access, UNSEGMENTED, long_line, short_line};
@@ -83,56 +83,86 @@ pub fn drawn_line(kept: &mut KeptSeals, event: &Event, job: &Job, pair: Pair) ->
             tpdu,
             keep,
         } => control_line(kept, material, pair, *ttl, *src, *dst, tpdu, keep),
-        Job::Message {
-            net,
-            material,
-            key,
-            ttl,
-            src,
-            dst,
-            payload,
-            keep,
-        } => {
-            let access = Access {
-                net: *net,
-                material: *material,
-                key: *key,
-                pair,
-                ttl: *ttl,
-                src: *src,
-                dst: *dst,
-            };
-            if payload.as_slice().len() <= UNSEGMENTED {
-                short_line(kept, &access, payload.as_slice(), keep)
-            } else {
-                long_line(kept, &access, payload.as_slice())
-            }
-        }
-        Job::Sent {
-            net,
-            material,
-            key,
-            ttl,
-            src,
-            dst,
-        } => {
-            let access = Access {
-                net: *net,
-                material: *material,
-                key: *key,
-                pair,
-                ttl: *ttl,
-                src: *src,
-                dst: *dst,
-            };
-            sent_line(kept, event, &access)
-        }
+        Job::Message { .. } => message_line(kept, job, pair),
+        Job::Sent { .. } => send_line(kept, event, job, pair),
         Job::Segment(segment) => Line {
             outcome: later_segment(kept, segment, pair),
             next: None,
         },
         Job::Relay { .. } | Job::Repeat { .. } | Job::Beacon(_) => unreachable!(),
     }
+}
+
+/// The line of a message that has its payload, with the pair drawn for it.
+fn message_line(kept: &mut KeptSeals, job: &Job, pair: Pair) -> Line
+    requires message { IsMessageJob job.now }
+    requires pair { pair.seq < 2 ^ 24 }
+    ensures shows { (event : Event) → Shows event job.now result.outcome }
+    ensures drawn { drawn_of job.now result.outcome ≡ Some pair }
+    ensures next { option_to_list result.next ≡ after_line job.now result.outcome }
+    ensures own { IfSome result.next (λ e. is_outside e ≡ false) }
+    ensures range { (elements : ℕ) → IfSome result.next (IsEvent elements) }
+{
+    let Job::Message {
+        net,
+        material,
+        key,
+        ttl,
+        src,
+        dst,
+        payload,
+        keep,
+    } = job
+    else {
+        unreachable!()
+    };
+    let access = Access {
+        net: *net,
+        material: *material,
+        key: *key,
+        pair,
+        ttl: *ttl,
+        src: *src,
+        dst: *dst,
+    };
+    if payload.as_slice().len() <= UNSEGMENTED {
+        short_line(kept, &access, payload.as_slice(), keep)
+    } else {
+        long_line(kept, &access, payload.as_slice())
+    }
+}
+
+/// The line of a message whose payload is that of this event, with the pair drawn for it.
+fn send_line(kept: &mut KeptSeals, event: &Event, job: &Job, pair: Pair) -> Line
+    requires sent { IsSentJob event.now job.now }
+    requires pair { pair.seq < 2 ^ 24 }
+    ensures shows { Shows event.now job.now result.outcome }
+    ensures drawn { drawn_of job.now result.outcome ≡ Some pair }
+    ensures next { option_to_list result.next ≡ after_line job.now result.outcome }
+    ensures own { IfSome result.next (λ e. is_outside e ≡ false) }
+    ensures range { (elements : ℕ) → IfSome result.next (IsEvent elements) }
+{
+    let Job::Sent {
+        net,
+        material,
+        key,
+        ttl,
+        src,
+        dst,
+    } = job
+    else {
+        unreachable!()
+    };
+    let access = Access {
+        net: *net,
+        material: *material,
+        key: *key,
+        pair,
+        ttl: *ttl,
+        src: *src,
+        dst: *dst,
+    };
+    sent_line(kept, event, &access)
 }
 
 /// The line of a message whose payload is that of its event, a Send.

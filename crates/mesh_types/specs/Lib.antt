@@ -1,3 +1,4 @@
+pub mod Jobs
 pub mod KeyName
 pub mod Kind
 pub mod Printed

@@ -2,6 +2,7 @@
 #![tactic(auto)]
 
 ghost use Rattle.std.specs.Prelude.{◌≡◌, ◌<◌, ◌≤◌, ◌↔◌, [], ◌∷◌, ◌++◌, length, IfOk, IsTrue};
+ghost use Rattle.mesh_types.specs.Jobs.{IsControl, IsMessage, IsSent};
 
 use mesh_base::address::Address;
 use mesh_base::fields::{NetFields, NetMaterial};
@@ -135,61 +136,97 @@ impl Job {
                 material: *material,
                 fields: fields.copied(),
             },
-            Job::Control {
-                material,
-                ttl,
-                src,
-                dst,
-                tpdu,
-                keep,
-            } => Job::Control {
-                material: *material,
-                ttl: *ttl,
-                src: *src,
-                dst: *dst,
-                tpdu: tpdu.copied(),
-                keep: *keep,
-            },
-            Job::Message {
-                net,
-                material,
-                key,
-                ttl,
-                src,
-                dst,
-                payload,
-                keep,
-            } => Job::Message {
-                net: *net,
-                material: *material,
-                key: *key,
-                ttl: *ttl,
-                src: *src,
-                dst: *dst,
-                payload: payload.copied(),
-                keep: *keep,
-            },
-            Job::Sent {
-                net,
-                material,
-                key,
-                ttl,
-                src,
-                dst,
-            } => Job::Sent {
-                net: *net,
-                material: *material,
-                key: *key,
-                ttl: *ttl,
-                src: *src,
-                dst: *dst,
-            },
+            Job::Control { .. } => self.copied_control(),
+            Job::Message { .. } => self.copied_message(),
+            Job::Sent { .. } => self.copied_sent(),
             Job::Segment(segment) => Job::Segment(segment.copied()),
             Job::Repeat { name, pdu } => Job::Repeat {
                 name: *name,
                 pdu: pdu.copied(),
             },
             Job::Beacon(beacon) => Job::Beacon(*beacon),
+        }
+    }
+
+    // The same control PDU once more.
+    fn copied_control(&self) -> Job
+        requires control { IsControl self.now }
+        ensures value { result ≡ self.now }
+    {
+        let Job::Control {
+            material,
+            ttl,
+            src,
+            dst,
+            tpdu,
+            keep,
+        } = self
+        else {
+            unreachable!()
+        };
+        Job::Control {
+            material: *material,
+            ttl: *ttl,
+            src: *src,
+            dst: *dst,
+            tpdu: tpdu.copied(),
+            keep: *keep,
+        }
+    }
+
+    // The same access message with its payload once more.
+    fn copied_message(&self) -> Job
+        requires message { IsMessage self.now }
+        ensures value { result ≡ self.now }
+    {
+        let Job::Message {
+            net,
+            material,
+            key,
+            ttl,
+            src,
+            dst,
+            payload,
+            keep,
+        } = self
+        else {
+            unreachable!()
+        };
+        Job::Message {
+            net: *net,
+            material: *material,
+            key: *key,
+            ttl: *ttl,
+            src: *src,
+            dst: *dst,
+            payload: payload.copied(),
+            keep: *keep,
+        }
+    }
+
+    // The same access message whose payload is that of its event once more.
+    fn copied_sent(&self) -> Job
+        requires sent { IsSent self.now }
+        ensures value { result ≡ self.now }
+    {
+        let Job::Sent {
+            net,
+            material,
+            key,
+            ttl,
+            src,
+            dst,
+        } = self
+        else {
+            unreachable!()
+        };
+        Job::Sent {
+            net: *net,
+            material: *material,
+            key: *key,
+            ttl: *ttl,
+            src: *src,
+            dst: *dst,
         }
     }
 }

@@ -1,28 +1,10 @@
-use Rattle.std.proofs.Common.{ap, sym, ◌∙◌, length, arith}
-use Rattle.job_sealing.specs.declared.messages.Access.{Access}
-use Rattle.job_sealing.specs.Sealed.{long_outcome, short_outcome}
-use Rattle.run_definitions.specs.Lines.{is_drawing, shows_ctl, shows_long, shows_msg}
+use Rattle.std.proofs.Common.{ap, sym, ◌∙◌}
+use Rattle.run_definitions.specs.Lines.{is_drawing, shows_ctl}
 use Rattle.job_sealing.proofs.Showing.{is_false, later_shows, shown}
 use Rattle.job_sealing.proofs.lines.drawn_line.Goals as goal
 
 pub returns-in-Control-clause-shows : goal.returns-in-Control-clause-shows
 returns-in-Control-clause-shows c = shown _ _ _ _ _ c.in-Control.is c.control_line.ensures.value shows_ctl
-
-pub returns-then-as_slice-le-UNSEGMENTED-clause-shows :
-    goal.returns-then-as_slice-le-UNSEGMENTED-clause-shows
-returns-then-as_slice-le-UNSEGMENTED-clause-shows c =
-    let m = c.in-Message in
-    let a : Access = record { net = m.net; material = m.material; key = m.key; pair = c.args.pair; ttl = m.ttl; src = m.src; dst = m.dst } in
-    shown _ _ _ _ _ m.is (c.short_line.ensures.value ∙ ap (short_outcome a) c.as_slice-then-as_slice-le-UNSEGMENTED.ensures.value)
-    (shows_msg (omega (arith, c.if-as_slice-le-UNSEGMENTED.true, ap length c.as_slice.ensures.value)))
-
-pub returns-else-as_slice-le-UNSEGMENTED-clause-shows :
-    goal.returns-else-as_slice-le-UNSEGMENTED-clause-shows
-returns-else-as_slice-le-UNSEGMENTED-clause-shows c =
-    let m = c.in-Message in
-    let a : Access = record { net = m.net; material = m.material; key = m.key; pair = c.args.pair; ttl = m.ttl; src = m.src; dst = m.dst } in
-    shown _ _ _ _ _ m.is (c.long_line.ensures.value ∙ ap (long_outcome a) c.as_slice-else-as_slice-le-UNSEGMENTED.ensures.value)
-    (shows_long (omega (arith, c.if-as_slice-le-UNSEGMENTED.false, ap length c.as_slice.ensures.value)))
 
 pub returns-in-Segment-clause-shows : goal.returns-in-Segment-clause-shows
 returns-in-Segment-clause-shows c =
