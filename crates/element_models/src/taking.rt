@@ -94,7 +94,7 @@ fn is_to_label(p: &Persist, element: u8, model: u16, m: &Message<'_>) -> bool
 fn is_fixed_group(p: &Persist, dst: Address) -> bool
     ensures { result ≡ is_fixed_group (config_in p.now) dst }
 {
-    dst.0 == 0xffff || (dst.0 == 0xfffd && p.friend == 1) || (dst.0 == 0xfffe && p.relay == 1)
+    dst.0 == 0xffff || (dst.0 == 0xfffd && p.is_friend()) || (dst.0 == 0xfffe && p.relays())
 }
 
 // Whether the key that opened the message is bound to the model.

@@ -38,8 +38,8 @@ fn is_own(p: &Persist, a: Address) -> bool
 {
     p.is_element(a)
         || a.0 == 0xffff
-        || (a.0 == 0xfffd && p.friend == 1)
-        || (a.0 == 0xfffe && p.relay == 1)
+        || (a.0 == 0xfffd && p.is_friend())
+        || (a.0 == 0xfffe && p.relays())
         || is_subscribed(p.subs.as_slice(), a)
 }
 

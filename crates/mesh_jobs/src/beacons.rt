@@ -38,7 +38,7 @@ pub fn push_beacons(jobs: &mut JobDraft, p: &Persist)
     ensures value { jobs.new ≡ jobs.old ++ beacon_jobs (config_in p.now) }
     ensures few { length jobs.new ≤ length jobs.old + 4 }
 {
-    if p.beacon != 1 {
+    if !p.sends_beacons() {
         return;
     }
     for row in p.nets.as_slice() {

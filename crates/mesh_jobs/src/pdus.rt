@@ -47,7 +47,7 @@ use node_records::Persist;
 fn is_relayed(p: &Persist, f: &NetFields) -> bool
     ensures { result ≡ (p.now.relay == 1 && nat_le 2 f.now.ttl && not (is_element_in (config_in p.now) f.now.dst.0)) }
 {
-    p.relay == 1 && f.ttl >= 2 && !p.is_element(f.dst)
+    p.relays() && f.ttl >= 2 && !p.is_element(f.dst)
 }
 
 // The fields with one TTL less.

@@ -116,8 +116,8 @@ fn push_rows(jobs: &mut JobDraft, p: &Persist, nets: &NetKeys, apps: &AppKeys, r
 fn features(p: &Persist) -> u16
     ensures { result ≡ features_of (config_in p.now) }
 {
-    let relay = if p.relay == 1 { RELAY } else { 0 };
-    let friend = if p.friend == 1 { FRIEND } else { 0 };
+    let relay = if p.relays() { RELAY } else { 0 };
+    let friend = if p.is_friend() { FRIEND } else { 0 };
     relay + friend
 }
 

@@ -30,5 +30,5 @@ pub(crate) fn is_by_friend(r: &NetReading) -> bool
 pub(crate) fn is_request(p: &Persist, r: &NetReading) -> bool
     ensures { result ≡ is_request_in (config_in p.now) (reading_of r.now) }
 {
-    is_by_master(r) && r.fields.dst.0 == 0xfffd && r.fields.ttl == 0 && p.friend == 1
+    is_by_master(r) && r.fields.dst.0 == 0xfffd && r.fields.ttl == 0 && p.is_friend()
 }

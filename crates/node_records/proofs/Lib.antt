@@ -8,3 +8,4 @@ pub mod Room
 pub mod Rows
 pub mod Said
 pub mod Sizes
+pub mod Sources

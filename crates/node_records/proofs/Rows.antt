@@ -70,34 +70,6 @@ same_row_apart (x ∷ xs) (suc i) n d apart lt e =
     let first : pair_of (set xs i n) x.src.0 ≡ None = let none = apart.0 in grind (arith, nat_tests) in
     (first, same_row_apart xs i n d apart.1 (omega arith) e)
 
--- a row in the place of another source's
-pub other_row : (rows : List Name) (i : ℕ) (n d : Name) (src : ℕ) → IsApart rows → i < length rows → pair_of rows n.src.0 ≡ None
-    → pair_of (set rows i n) src ≡ (if n.src.0 == src then Some n.pair else if (get_or rows i d).src.0 == src then None else pair_of rows src)
-other_row [] i n d src apart lt none = absurd (omega arith)
-other_row (x ∷ xs) zero n d src apart lt none =
-    let own : pair_of xs x.src.0 ≡ None = apart.0 in
-    grind (arith, nat_tests)
-other_row (x ∷ xs) (suc i) n d src apart lt none =
-    let other : x.src.0 ≡ (get_or xs i d).src.0 → ⊥ = λ e. none_at xs i x.src.0 d apart.0 (omega arith) (sym e) in
-    let new : x.src.0 ≡ n.src.0 → ⊥ = λ e. none_at (x ∷ xs) 0 n.src.0 d none (omega arith) e in
-    let rest_none : pair_of xs n.src.0 ≡ None = grind (arith, nat_tests) in
-    let rest = other_row xs i n d src apart.1 (omega arith) rest_none in
-    grind (arith, nat_tests)
-
-pub other_row_apart : (rows : List Name) (i : ℕ) (n d : Name) → IsApart rows → i < length rows → pair_of rows n.src.0 ≡ None → IsApart (set rows i n)
-other_row_apart [] i n d apart lt none = absurd (omega arith)
-other_row_apart (x ∷ xs) zero n d apart lt none =
-    let rest_none : pair_of xs n.src.0 ≡ None = grind (arith, nat_tests) in
-    (rest_none, apart.1)
-other_row_apart (x ∷ xs) (suc i) n d apart lt none =
-    let other : x.src.0 ≡ (get_or xs i d).src.0 → ⊥ = λ e. none_at xs i x.src.0 d apart.0 (omega arith) (sym e) in
-    let new : x.src.0 ≡ n.src.0 → ⊥ = λ e. none_at (x ∷ xs) 0 n.src.0 d none (omega arith) e in
-    let rest_none : pair_of xs n.src.0 ≡ None = grind (arith, nat_tests) in
-    let formula = other_row xs i n d x.src.0 apart.1 (omega arith) rest_none in
-    let own : pair_of xs x.src.0 ≡ None = apart.0 in
-    let first : pair_of (set xs i n) x.src.0 ≡ None = grind (arith, nat_tests) in
-    (first, other_row_apart xs i n d apart.1 (omega arith) rest_none)
-
 -- one row more
 pub new_row : (rows : List Name) (n : Name) (src : ℕ) → pair_of rows n.src.0 ≡ None
     → pair_of (rows ++ n ∷ []) src ≡ (if n.src.0 == src then Some n.pair else pair_of rows src)
@@ -167,22 +139,24 @@ keeps_raised current rows i n d apart lt e newer =
           (λ t. subst (λ s. pair_of rows s ≡ Some (get_or rows i d).pair) (same_number n.src.0 src t) here) kept);
     }
 
--- a name of a source without a row, behind the others
-pub keeps_new : (current : ℕ) (rows : List Name) (n : Name) → IsApart rows → pair_of rows n.src.0 ≡ None → KeepsName current rows (rows ++ n ∷ []) n
-keeps_new current rows n apart none = record {
-  apart = new_row_apart rows n apart none;
-  entries = λ src. ap (unexpired current) (new_row rows n src none
+-- a name of a source without a row, where every other source keeps its own
+pub keeps_new : (current : ℕ) (rows new : List Name) (n : Name) → IsApart new → pair_of rows n.src.0 ≡ None
+    → ((src : ℕ) → pair_of new src ≡ (if n.src.0 == src then Some n.pair else pair_of rows src)) → KeepsName current rows new n
+keeps_new current rows new n apart none pairs = record {
+  apart = apart;
+  entries = λ src. ap (unexpired current) (pairs src
       ∙ add_by (n.src.0 == src) (pair_of rows src) n.pair (λ t. subst (λ s. pair_of rows s ≡ None) (same_number n.src.0 src t) none));
 }
 
 -- and in the place of an expired row
-pub keeps_other : (current : ℕ) (rows : List Name) (i : ℕ) (n d : Name) → IsApart rows → i < length rows → pair_of rows n.src.0 ≡ None
-    → is_expired current (get_or rows i d).pair ≡ true → KeepsName current rows (set rows i n) n
-keeps_other current rows i n d apart lt none old =
+pub keeps_other : (current : ℕ) (rows new : List Name) (i : ℕ) (n d : Name) → IsApart rows → IsApart new → i < length rows → pair_of rows n.src.0 ≡ None
+    → is_expired current (get_or rows i d).pair ≡ true
+    → ((src : ℕ) → pair_of new src ≡ (if n.src.0 == src then Some n.pair else if (get_or rows i d).src.0 == src then None else pair_of rows src)) → KeepsName current rows new n
+keeps_other current rows new i n d apart after lt none old pairs =
     let here : pair_of rows (get_or rows i d).src.0 ≡ Some (get_or rows i d).pair = row_at rows i d apart lt in
     record {
-      apart = other_row_apart rows i n d apart lt none;
-      entries = λ src. ap (unexpired current) (other_row rows i n d src apart lt none)
+      apart = after;
+      entries = λ src. ap (unexpired current) (pairs src)
           ∙ replace_by (n.src.0 == src) ((get_or rows i d).src.0 == src) current (pair_of rows src) n.pair (get_or rows i d).pair
           (λ t. subst (λ s. pair_of rows s ≡ None) (same_number n.src.0 src t) none)
           (λ t. subst (λ s. pair_of rows s ≡ Some (get_or rows i d).pair) (same_number (get_or rows i d).src.0 src t) here)

@@ -9,7 +9,6 @@ use crate::lists::{
 };
 use crate::persist::Persist;
 use crate::publications::{apply_app_to_publications, apply_net_to_publications};
-use crate::replay::apply_to_replay;
 use mesh_base::address::Address;
 use mesh_base::iv_state::IvState;
 use record_types::records::StoreRecord;
@@ -123,7 +122,7 @@ impl Persist {
     {
         match item {
             StoreRecord::Replay { first, second } => {
-                apply_to_replay(&mut self.replay, self.iv.current, first, second)
+                self.replay.apply(self.iv.current, first, second)
             }
             StoreRecord::NetKey { op, index, key } => self.apply_net_key(*op, *index, key),
             StoreRecord::AppKey {

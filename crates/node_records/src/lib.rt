@@ -4,7 +4,8 @@
 //! - `persist`: the value
 //! - `applying`: what each record changes in it
 //! - `keyed`: tables of rows that stand by a number
-//! - `keys`, `lists`, `labels`, `publications`, `replay`: the changes of its tables
+//! - `keys`, `lists`, `labels`, `publications`: the changes of its tables
+//! - `replay`: the replay list, with its changes
 //! - `limits`: whether a table has a place for what a record adds
 //! - `laws`: what is true of every value of records in range
 #![tactic(auto)]
@@ -23,3 +24,4 @@ mod replay;
 pub use applying::Limit;
 pub use persist::Persist;
 pub use record_types::records::{PublishRow, StoreRecord};
+pub use replay::ReplayList;

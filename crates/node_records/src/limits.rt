@@ -13,7 +13,7 @@ use crate::keyed::{Keyed, adds};
 use crate::labels::has_label;
 use crate::lists::{has_bind, has_sub};
 use crate::persist::Persist;
-use crate::replay::{has_few_rows, lacks_place, lacks_place_after};
+use crate::replay::ReplayList;
 use mesh_base::address::Address;
 use mesh_base::keys::{AppKeyRow, NetKeyRow};
 use mesh_base::pair::Name;
@@ -40,7 +40,7 @@ impl Persist {
         ensures others { (records : List StoreRecord) → IsMeaningOf records self.now
             → IfErr result (λ e. IsHeldByOthers records item.now e.held) }
     {
-        has_few_rows(&self.replay);
+        let _few = self.replay.len();
         self.check_table(item)
     }
 
@@ -72,7 +72,7 @@ impl Persist {
             } => check_labels(self.labels.as_slice(), *op, *element, *model, label),
             StoreRecord::Publish { row } => check_publications(self.publications.as_slice(), row),
             StoreRecord::Replay { first, second } => {
-                check_replay(self.replay.as_slice(), self.iv.current, first, second)
+                check_replay(&self.replay, self.iv.current, first, second)
             }
             _ => Ok(()),
         }
@@ -247,22 +247,21 @@ fn check_labels(
 
 /// Whether there is a place for the names of a Replay record, in their order.
 fn check_replay(
-    rows: &[Name],
+    rows: &ReplayList,
     current: u32,
     first: &Name,
     second: &Option<Name>,
 ) -> Result<(), Limit>
-    requires { length rows.now ≤ REPLAY_ENTRIES }
     ensures limit { IsErr result ↔ (LacksPlace (live_of current rows.now) first.now
         ⊎ IsSomeAnd second.now (LacksPlace (live_with current (live_of current rows.now) first.now))) }
     ensures held { IfErr result (λ e. e.held ≡ REPLAY_ENTRIES) }
 {
-    let full = lacks_place(rows, current, first);
+    let full = rows.lacks_place(current, first);
     let Some(name) = second else {
         return limit_where(full, REPLAY_ENTRIES)
     };
     limit_where(
-        full || lacks_place_after(rows, current, first, name),
+        full || rows.lacks_place_after(current, first, name),
         REPLAY_ENTRIES,
     )
 }

@@ -1,15 +1,15 @@
 //! The value that a list of records stands for.
 #![tactic(auto)]
 
-use crate::replay::entry_among;
+use crate::replay::ReplayList;
 use mesh_base::address::Address;
 use mesh_base::iv_state::IvState;
 use mesh_base::keys::{AppKeyRow, NetKeyRow, app_row};
-use mesh_base::pair::{Name, Pair};
+use mesh_base::pair::Pair;
 use mesh_base::table::Table;
 use node_limits::{
     APPLICATION_KEYS, BINDINGS, ELEMENTS, GROUP_SUBSCRIPTIONS, LABEL_SUBSCRIPTIONS, NETWORK_KEYS,
-    PUBLICATIONS, REPLAY_ENTRIES,
+    PUBLICATIONS,
 };
 use record_types::records::PublishRow;
 
@@ -57,7 +57,7 @@ pub struct Persist {
     /// The level that each Generic Level Server keeps, in two's complement, by the place of its element.
     pub levels: [u16; ELEMENTS],
     /// The replay list: the greatest pair accepted of each source.
-    pub replay: Table<Name, REPLAY_ENTRIES>,
+    pub replay: ReplayList,
 }
 
 impl Persist {
@@ -104,7 +104,7 @@ impl Persist {
             publications: Table::new(),
             onoffs: [0; ELEMENTS],
             levels: [0; ELEMENTS],
-            replay: Table::new(),
+            replay: ReplayList::new(),
         }
     }
 
@@ -114,7 +114,28 @@ impl Persist {
         ensures records { (records : List StoreRecord) → IsMeaningOf records self.now
             → result ≡ entry_of records src.0 }
     {
-        entry_among(self.replay.as_slice(), self.iv.current, src.0)
+        self.replay.entry(self.iv.current, src.0)
+    }
+
+    /// Whether the Relay feature is on (Mesh Profile 1.0.1, section 4.2.8).
+    pub fn relays(&self) -> bool
+        ensures value { result ≡ (self.now.relay == 1) }
+    {
+        self.relay == 1
+    }
+
+    /// Whether the Friend feature is on (section 4.2.13).
+    pub fn is_friend(&self) -> bool
+        ensures value { result ≡ (self.now.friend == 1) }
+    {
+        self.friend == 1
+    }
+
+    /// Whether Secure Network beacons are sent (section 4.2.10).
+    pub fn sends_beacons(&self) -> bool
+        ensures value { result ≡ (self.now.beacon == 1) }
+    {
+        self.beacon == 1
     }
 
     /// Whether an address is that of one of this node's elements.

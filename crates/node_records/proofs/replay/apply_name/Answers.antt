@@ -1,5 +1,5 @@
 use Rattle.node_records.proofs.Rows.{none_from}
 use Rattle.node_records.proofs.replay.apply_name.Goals as goal
 
-pub add_row-requires : goal.add_row-requires
-add_row-requires c = record { none = none_from c.args.rows.now c.args.name.now.src.0 (rw c.as_slice.ensures.value at c.in-None.ensures.none) }
+pub add_row-requires-clause-none : goal.add_row-requires-clause-none
+add_row-requires-clause-none c = none_from c.args.rows.now c.args.name.now.src.0 (rw c.as_slice.ensures.value at c.in-None.ensures.none)

@@ -1,4 +1,4 @@
-use Rattle.std.proofs.Common.{◌≡◌, ◌∙◌, List, ap, sym}
+use Rattle.std.proofs.Common.{◌∙◌, List, ap, sym}
 use Rattle.std.specs.Prelude.{is_some}
 use Rattle.mesh_base.specs.Keys.{app_row}
 use Rattle.mesh_base.specs.declared.keys.AppKeyRow.{AppKeyRow}
