@@ -21,8 +21,8 @@ fn filled(part: &[u8]) -> [u8; 16]
     block
 }
 
-// The chaining of the blocks of `octets`, from `start` on.
-fn chain_all(schedule: &Schedule, start: &[u8; 16], octets: &[u8]) -> [u8; 16]
+/// The chaining of the blocks of `octets`, from `start` on.
+pub(crate) fn chain_all(schedule: &Schedule, start: &[u8; 16], octets: &[u8]) -> [u8; 16]
     ensures value { result ≡ chained schedule.now start.now (whole_blocks octets.now) }
     ensures length { length result ≡ 16 }
 {
@@ -52,8 +52,8 @@ fn first_additional(total: u16, front: &[u8]) -> [u8; 16]
     block
 }
 
-// The chaining of the blocks of the additional data, from `start` on.
-fn chain_additional(schedule: &Schedule, start: &[u8; 16], additional: &[u8]) -> [u8; 16]
+/// The chaining of the blocks of the additional data, from `start` on.
+pub(crate) fn chain_additional(schedule: &Schedule, start: &[u8; 16], additional: &[u8]) -> [u8; 16]
     requires { length additional.now < 65280 }
     ensures value { result ≡ chained schedule.now start.now (additional_blocks additional.now) }
     ensures length { length result ≡ 16 }
@@ -67,8 +67,8 @@ fn chain_additional(schedule: &Schedule, start: &[u8; 16], additional: &[u8]) ->
     chain_all(schedule, &next, back)
 }
 
-// The octet of flags of the first block.
-fn flags(additional: &[u8], mic_length: usize) -> u8
+/// The octet of flags of the first block.
+pub(crate) fn flags(additional: &[u8], mic_length: usize) -> u8
     requires { (mic_length ≡ 4) ⊎ (mic_length ≡ 8) }
     ensures { result ≡ first_flags additional.now mic_length }
 {

@@ -7,5 +7,7 @@
 mod chaining;
 mod sealing;
 mod stream;
+mod trial;
 
 pub use sealing::{BadMic, seal, unseal};
+pub use trial::Trial;

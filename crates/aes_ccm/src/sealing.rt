@@ -50,8 +50,8 @@ pub fn seal(
 #[error("the MIC is not that of the text")]
 pub struct BadMic;
 
-// Whether two MICs of one length are the same, with no octet left out.
-fn is_same(one: &[u8], other: &[u8]) -> bool
+/// Whether two MICs of one length are the same, with no octet left out.
+pub(crate) fn is_same(one: &[u8], other: &[u8]) -> bool
     requires { length one.now ≡ length other.now }
     ensures { IsTrue result ↔ (one.now ≡ other.now) }
 {

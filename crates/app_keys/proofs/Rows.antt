@@ -19,7 +19,7 @@ use Rattle.kept_keys.specs.declared.upper.BoundSchedule.{BoundSchedule}
 use Rattle.kept_keys.specs.Bound.{bound_key, bound_keys, fitting_keys}
 use Rattle.kept_keys.proofs.Finding.{and_false, and_true, both_false, every_behind, new_sent, old_sent, row_first, row_new, row_passed, some_once}
 use Rattle.kept_keys.proofs.Fitting.{fitting-append}
-use Rattle.app_keys.specs.AppRows.{HasAidWidth}
+use Rattle.app_keys.specs.AppRows.{HasAidWidth, HasOwnAid}
 use Rattle.app_keys.specs.Held.{pair_of, sends_new}
 
 -- the values of one row more
@@ -52,6 +52,19 @@ rows_in_width id (r ∷ rows) = every_behind HasAidWidth _ _ (made_in_width r.in
 
 pub all_in_width : (rows : List AppKeyRow) (net id : ℕ) → All HasAidWidth (app_keys rows net id)
 all_in_width rows net id = All-from_recursion HasAidWidth (app_keys rows net id) (rows_in_width id (filter (λ r. r.net == net) rows))
+
+-- A value has the AID that is derived of it.
+
+own_of : (r : AppKeyRow) (next : Option (List ℕ)) → ByRecursion (λ (b : BoundSchedule). HasOwnAid b.key) (keys_of (bound_key r.net r.index) r.key next)
+own_of r None = (refl, tt)
+own_of r (Some k) = (refl, (refl, tt))
+
+rows_own : (rows : List AppKeyRow) → ByRecursion (λ (b : BoundSchedule). HasOwnAid b.key) (bound_keys rows)
+rows_own [] = tt
+rows_own (r ∷ rows) = every_behind (λ (b : BoundSchedule). HasOwnAid b.key) _ _ (own_of r r.next) (rows_own rows)
+
+pub all_own : (rows : List AppKeyRow) → All (λ (b : BoundSchedule). HasOwnAid b.key) (bound_keys rows)
+all_own rows = All-from_recursion (λ (b : BoundSchedule). HasOwnAid b.key) (bound_keys rows) (rows_own rows)
 
 -- What is sent with.
 

@@ -45,14 +45,14 @@ impl Model for Keys {
     ghost invariant = { λ k. (k.apps.nets ≡ k.nets) × (k.device ≡ Device (key_octets k.device)) × (k.beacons ≡ values_of k.nets) };
 }
 
-// The labels of these subscriptions, in their order.
-fn labels_of(rows: &[(Address, u16, [u8; 16])]) -> Labels
+// The labels of these subscriptions, in their order. The addresses of those that are among `before` are taken from there.
+fn labels_renewed(before: &Labels, rows: &[(Address, u16, [u8; 16])]) -> Labels
     requires { length rows.now ≤ LABEL_SUBSCRIPTIONS }
     ensures { result ≡ labels_of rows.now }
 {
     let mut labels = Labels::new();
     for row in rows {
-        labels.push(&row.2);
+        labels.push_kept(before, &row.2);
     }
     labels
 }
@@ -68,20 +68,21 @@ impl Keys {
             beacons: BeaconKeys::derive(p.nets.as_slice()),
             apps: AppKeys::derive(p.apps.as_slice(), p.nets.as_slice()),
             device: UpperSchedule::new(&UpperKey::Device(p.dev_key)),
-            labels: labels_of(p.labels.as_slice()),
+            labels: labels_renewed(&Labels::new(), p.labels.as_slice()),
         }
     }
 
-    /// The keys that the records of a node say, in place of those before. For beacons nothing is derived of a network key that stays.
+    /// The keys that the records of a node say, in place of those before. Of a key or a label that stays nothing is derived: its material, Network
+    /// ID, BeaconKey, AID or address is taken from those before.
     pub fn renew(&mut self, p: &Persist)
         requires { AreHeldKeys (config_in p.now) }
         ensures value { self.new ≡ held_in (config_in p.now) }
     {
-        self.nets = NetKeys::derive(p.nets.as_slice());
+        self.nets.renew(p.nets.as_slice());
         self.beacons.renew(p.nets.as_slice());
-        self.apps = AppKeys::derive(p.apps.as_slice(), p.nets.as_slice());
+        self.apps.renew(p.apps.as_slice(), p.nets.as_slice());
         self.device = UpperSchedule::new(&UpperKey::Device(p.dev_key));
-        self.labels = labels_of(p.labels.as_slice());
+        self.labels = labels_renewed(&self.labels, p.labels.as_slice());
     }
 
     /// The network keys.

@@ -1,2 +1,3 @@
 pub mod ControlRows
 pub mod Fitting
+pub mod Labels

@@ -4,6 +4,7 @@
 //! - `nonce`: what an access message is sealed with
 //! - `sealing`: from an access payload to octets
 //! - `opening`: from octets to an access payload, under the first key that opens them
+//! - `labelled`: the same of a message to a virtual address under one key, by the first label that opens them
 //! - `control_reading`: from octets to a control message
 //! - `control_writing`: from a control message to octets
 //! - `laws`: octets have one reading
@@ -13,6 +14,7 @@
 
 mod control_reading;
 mod control_writing;
+mod labelled;
 mod laws;
 mod nonce;
 mod opening;
@@ -21,6 +23,7 @@ mod sealing;
 pub use control_reading::read_control;
 pub use control_writing::write_control;
 pub use kept_keys::{BoundSchedule, UpperSchedule};
+pub use labelled::{LabelOpening, open_labelled};
 pub use laws::{control_law, upper_law};
 pub use mesh_base::control::ControlMsg;
 pub use mesh_base::keys::UpperKey;

@@ -26,8 +26,8 @@ pub struct LabelOpened {
 #[error("no label with this address opens the message")]
 pub struct NoLabel;
 
-/// The fields with this label.
-pub(crate) fn with(label: &[u8; 16], f: &UpperFields) -> UpperFields
+// The fields with this label.
+fn with(label: &[u8; 16], f: &UpperFields) -> UpperFields
     ensures { result ≡ with_label label.now f.now }
 {
     UpperFields {

@@ -1,12 +1,13 @@
--- The labels before this one open nothing.
-use Rattle.std.proofs.Common.{◌≡◌, ℕ, ◌<◌, List, Some, slice_get}
-use Rattle.cipher_definitions.specs.Kdf.{virtual_address}
+-- What is found so far is what the keys tried so far find, and they are as many as the place says.
+use Rattle.std.proofs.Common.{◌≡◌, ◌≤◌, length, take}
 use Rattle.kept_keys.specs.Bound.{fitting_keys}
-use Rattle.layer_definitions.specs.Labels.{with_label}
-use Rattle.layer_definitions.specs.Upper.{IsUnopened}
+use Rattle.virtual_labels.specs.Search.{IsSearched}
 use Rattle.virtual_labels.proofs.kept.Labels.unseal.Given as goal
 
-abbrev pub invariant-loop-place : goal.invariant-loop-place
-invariant-loop-place l =
-    (i : ℕ) (label : List ℕ) → i < l.place → slice_get l.self i ≡ Some label → virtual_address label ≡ l.f.dst.0
-    → IsUnopened (fitting_keys l.net l.aid l.keys) (with_label label l.f) l.upper
+abbrev pub invariant-loop-key : goal.invariant-loop-key
+invariant-loop-key l = record {
+  place : l.at ≡ length (fitting_keys l.net l.aid (take l.key-index l.keys));
+  few : l.at ≤ l.key-index;
+  limit : l.search.limit ≤ length l.self;
+  found : IsSearched (fitting_keys l.net l.aid (take l.key-index l.keys)) l.self l.f l.upper l.search;
+}
