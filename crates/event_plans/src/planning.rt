@@ -46,7 +46,7 @@ const MOST_TICKS: u64 = 1 << 48;
 pub fn plan_pdu(
     tables: &mut NodeTables,
     p: &Persist,
-    known: Known,
+    known: Known<'_>,
     octets: &[u8],
 ) -> Result<PduPlan, AllocError>
     requires standing { IsSomePast p.now tables.old }

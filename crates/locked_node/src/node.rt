@@ -103,7 +103,7 @@ impl<M: Machine, F: Flash + Send + Drop> Node<M, F> {
         self.held.machine.reader(reader);
     }
 
-    /// Handles an event of a bearer, of which this was read before. Where the flash failed, now or before, the bearer's mark is put.
+    /// Handles an event of a bearer, of which its reader may have read before. Where the flash failed, now or before, the bearer's mark is put.
     ///
     /// An event is refused for want of memory too where 2^32 - 1 bearers have stopped.
     pub fn handle(
@@ -112,11 +112,11 @@ impl<M: Machine, F: Flash + Send + Drop> Node<M, F> {
         bearer: u8,
         number: u32,
         event: &Event,
-        early: M::Early,
+        reader: &M::Reader,
     ) -> Result<Answered, Stop>
         requires made { self.old.machine.which ≡ n.now.which }
         requires event { IsEvent self.old.machine.elements event.now }
-        requires early { M.fits early event.now }
+        requires early { M.fits reader.now event.now }
         ensures origin { origin_of F.chip self.new ≡ origin_of F.chip self.old }
         ensures front { IsPrefix (node_marks self.old) (node_marks self.new) }
         ensures ok { IfOk result
@@ -135,7 +135,7 @@ impl<M: Machine, F: Flash + Send + Drop> Node<M, F> {
         let held = &mut *self.held;
         match held
             .machine
-            .handle(n, &mut held.flash, bearer, number, event, early)
+            .handle(n, &mut held.flash, bearer, number, event, reader)
         {
             Ok(answered) => Ok(answered),
             Err(Stop::Memory) => Err(Stop::Memory),

@@ -64,7 +64,6 @@ impl LowPowerMachine {
         event: &Event,
     ) -> Result<Answered, Stop>
         requires made { (shown self.old).which ≡ n.now.which }
-
         ensures ok { IfOk result
             (λ r. shown self.new
             ≡ with_entry (shown self.old) (entry_for (shown self.old) bearer number event.now r.answer r.jobs)
@@ -109,14 +108,9 @@ impl LowPowerMachine {
             number,
             fills: self.fills,
         };
-        let answered = enter(
-            &mut self.history,
-            place,
-            event.copied(),
-            plan.answer,
-            jobs,
-            drafts.kept,
-        );
+        let history = &mut self.history;
+        let copy = event.copied();
+        let answered = enter(history, place, copy, plan.answer, jobs, drafts.kept);
         self.fills = 0;
         Ok(answered)
     }

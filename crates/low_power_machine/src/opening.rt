@@ -81,8 +81,6 @@ impl Machine for LowPowerMachine {
 
     type Reader = ();
 
-    type Early = ();
-
     fn start<F: Flash>(alloc: Global, flash: &mut F) -> Result<Started<Self>, StartFault> {
         let store = mount_node(flash)?;
         match open(alloc, store) {
@@ -95,7 +93,7 @@ impl Machine for LowPowerMachine {
 
     fn reader(&self, _reader: &mut ()) {}
 
-    fn unread() {}
+    fn unread(_reader: &mut ()) {}
 
     fn early(_reader: &mut (), _bytes: &Octets<40>) {}
 
@@ -106,7 +104,7 @@ impl Machine for LowPowerMachine {
         bearer: u8,
         number: u32,
         event: &Event,
-        _early: (),
+        _reader: &(),
     ) -> Result<Answered, Stop> {
         self.handle_event(n, flash, bearer, number, event)
     }

@@ -35,14 +35,12 @@ use std::alloc::Global;
 /// `stands` ties a machine to its flash and to the records that its life opened over. `start` gives it, each call keeps it whatever the
 /// call answers, and `tells` says what it means in terms of what the machine shows, its `view`.
 ///
-/// A network PDU can be read before the machine handles it, without the machine: by a reader, which was renewed from the machine earlier. `handle`
-/// then takes what was read, and its clauses are the same whatever that is: so no clause says that anything is read before.
+/// A network PDU can be read before the machine handles it, without the machine: by a reader, which was renewed from the machine earlier and keeps
+/// what it read. `handle` is then lent the reader, and its clauses are the same whatever was read: so no clause says that anything is read before.
 pub trait Machine: Send + Drop {
-    /// By what a machine reads octets heard as a network PDU, apart from the machine.
+    /// By what a machine reads octets heard as a network PDU, apart from the machine, and what was read last before an event is handled, if
+    /// anything was.
     type Reader: Send + Drop;
-
-    /// What was read before an event is handled, if anything was.
-    type Early: Send + Drop;
 
     // What kind of node it is.
     ghost role: { Role };
@@ -58,8 +56,8 @@ pub trait Machine: Send + Drop {
 
     ghost stands: { Chip → List StoreRecord → Self → Type 0 };
 
-    // What was read may be handed to `handle` with this event.
-    ghost fits: { Self.Early → AnEvent → Type 0 };
+    // The reader may be lent to `handle` with this event: it has read nothing, or the octets of this event.
+    ghost fits: { Self.Reader → AnEvent → Type 0 };
 
     /// Opens a life over what the flash recovers. The flash went through a power cycle, since when its count of faults didn't fall, and each
     /// image of it recovers a node or a reset.
@@ -79,16 +77,17 @@ pub trait Machine: Send + Drop {
     /// Renews a reader: from now on it reads as the machine does in this moment. It takes no memory.
     fn reader(&self, reader: &mut Self::Reader);
 
-    /// Nothing was read. It goes with each event.
-    fn unread() -> Self::Early
-        ensures fits { (event : AnEvent) → fits result event };
+    /// Has a reader forget what it read. It goes with each event then.
+    fn unread(reader: &mut Self::Reader)
+        ensures fits { (event : AnEvent) → fits reader.new event };
 
-    /// Reads octets that were heard as a network PDU, as the machine did when the reader was renewed last. It goes with the event of these octets.
-    fn early(reader: &mut Self::Reader, bytes: &Octets<40>) -> Self::Early
-        ensures fits { fits result (E.Net bytes.now) };
+    /// Reads octets that were heard as a network PDU, as the machine did when the reader was renewed last, and keeps what they read as. The reader
+    /// goes with the event of these octets then.
+    fn early(reader: &mut Self::Reader, bytes: &Octets<40>)
+        ensures fits { fits reader.new (E.Net bytes.now) };
 
-    /// Handles an event of a bearer, which is the one with this number among its events, from 1 on. What was read before is used where the machine
-    /// would read the same now; else it reads again.
+    /// Handles an event of a bearer, which is the one with this number among its events, from 1 on. What the reader has read is used where the
+    /// machine would read the same now; else it reads again.
     fn handle<F: Flash>(
         &mut self,
         n: &Numbers,
@@ -96,11 +95,11 @@ pub trait Machine: Send + Drop {
         bearer: u8,
         number: u32,
         event: &Event,
-        early: Self::Early,
+        reader: &Self::Reader,
     ) -> Result<Answered, Stop>
         requires made { (view self.old).which ≡ n.now.which }
         requires event { IsEvent (view self.old).elements event.now }
-        requires early { fits early event.now }
+        requires early { fits reader.now event.now }
 
         ensures ok { IfOk result
             (λ r. view self.new

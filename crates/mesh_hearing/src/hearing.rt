@@ -129,7 +129,7 @@ fn hear_octets(
     parts: &mut Parts,
     again: &[Name],
     now: u64,
-    known: Known,
+    known: Known<'_>,
     more: &[Heard],
     octets: &[u8],
 ) -> Result<Hearing, AllocError>
@@ -170,7 +170,7 @@ impl Tables {
     pub fn hear(
         &mut self,
         p: &Persist,
-        known: Known,
+        known: Known<'_>,
         more: &[Heard],
         octets: &[u8],
     ) -> Result<Hearing, AllocError>

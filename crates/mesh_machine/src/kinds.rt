@@ -33,7 +33,7 @@ fn hear<F: Flash>(
     n: &Numbers,
     flash: &mut F,
     octets: &Octets<40>,
-    known: Known,
+    known: Known<'_>,
     place: Place,
     drafts: Drafts,
 ) -> Result<Answered, Stop>
@@ -221,7 +221,7 @@ pub(crate) fn handle<F: Flash>(
     n: &Numbers,
     flash: &mut F,
     event: &Event,
-    known: Known,
+    known: Known<'_>,
     place: Place,
     drafts: Drafts,
 ) -> Result<Answered, Stop>

@@ -1,14 +1,14 @@
 //! The machine.
 #![tactic(auto)]
 
-ghost use Rattle.std.specs.Prelude.{◌≡◌, ◌+◌, ℕ, List, All, length, true, false, Err, Some, IfErr, IfOk, IfSome, IsTrue, OnOk, ◌↔◌};
+ghost use Rattle.std.specs.Prelude.{◌≡◌, ◌+◌, ℕ, List, All, length, true, false, Err, None, Some, IfErr, IfOk, IfSome, IsTrue, OnOk, ◌↔◌};
 ghost use Rattle.early_reading.specs.Known.{IsKnown};
 ghost use Rattle.flash_model.specs.Chip.{Keeps};
 ghost use Rattle.event_world.specs.Stepping.{HasStepped};
 ghost use Rattle.machine_contract.specs.Ranges.{IsEvent, IsJob, IsQuiet};
 ghost use Rattle.machine_contract.specs.Refused.{IsRefused};
 ghost use Rattle.machine_contract.specs.View.{entry_for, with_entry};
-ghost use Rattle.mesh_machine.specs.Early.{IsCounted, IsCountedOf, view_now};
+ghost use Rattle.mesh_machine.specs.Early.{IsCounted, view_now};
 ghost use Rattle.mesh_machine.specs.Machine.{Stands, persist_of, shown};
 ghost use Rattle.mesh_types.specs.declared.events.Event.TheVariants as E;
 ghost use Rattle.mesh_world.specs.World.{World};
@@ -17,9 +17,10 @@ ghost use Rattle.run_definitions.specs.Order.{is_outside};
 ghost use Rattle.store_world.specs.Standing.{IsWorldOf};
 
 use crate::state::MeshState;
-use early_reading::{Early, KeyView, Known, Reader};
+use early_reading::{KeyView, Known, Reader};
 use flash_model::Flash;
 use machine_contract::{Answered, EarlyReads, Hand, Stop};
+use mesh_base::octets::Octets;
 use mesh_types::events::Event;
 use seq_word::Numbers;
 
@@ -40,9 +41,11 @@ impl MeshMachine {
         parts.tables.key_view(parts.reserve.store.persist())
     }
 
-    /// Has a reader take that view. `reader` of `Machine` is this call.
+    /// Has a reader take that view. What it read last stays where it has this view already. `reader` of `Machine` is this call.
     pub fn renew_reader(&self, reader: &mut Reader)
-        ensures value { reader.new ≡ Some (view_now self.now) }
+        ensures view { reader.new.view ≡ Some (view_now self.now) }
+        ensures same { reader.old.view ≡ reader.new.view → reader.new ≡ reader.old }
+        ensures other { (reader.old.view ≡ reader.new.view → ⊥) → reader.new.last ≡ None }
     {
         let parts = &self.state.parts;
         parts
@@ -58,26 +61,27 @@ impl MeshMachine {
         parts.tables.is_view(parts.reserve.store.persist(), view)
     }
 
-    /// What is known of octets that were read before, if any were: their reading, where it was by the view of now. It is counted.
-    pub(crate) fn take_early(&mut self, early: Option<Early>) -> Known
-        ensures known { (octets : List ℕ) → IfSome early (λ e. e.octets ≡ octets) → IsKnown (view_now self.old) octets result }
-        ensures reads { IsCounted (view_now self.old) early self.old.reads self.new.reads }
+    /// What is known of octets that a reader has read, if it has read any: their reading, where it was by the view of now. It is counted.
+    pub(crate) fn take_early<'a>(&mut self, reader: &'a Reader) -> Known<'a>
+        ensures known { (octets : List ℕ) → IfSome reader.now.last (λ e. e.octets ≡ octets)
+            → IsKnown (view_now self.old) octets result }
+        ensures reads { IsCounted (view_now self.old) reader.now.last self.old.reads self.new.reads }
         ensures state { self.new.state ≡ self.old.state }
     {
-        let Some(early) = early else {
+        let Some(early) = reader.last() else {
             return Known::Nothing;
         };
-        if self.is_view(early.key_view()) {
+        if self.is_view(early.view) {
             self.reads.before = self.reads.before.saturating_add(1);
-            early.into_reading()
+            Known::Read(early.reading)
         } else {
             self.reads.again = self.reads.again.saturating_add(1);
             Known::Nothing
         }
     }
 
-    /// Handles an event of a bearer, which is the one with this number among its events, from 1 on, and of which this was read before, if anything
-    /// was: `handle` of `Machine` is this call. What was read is used where it was by the view of now, and else octets are read again; both are
+    /// Handles an event of a bearer, which is the one with this number among its events, from 1 on, and of which the reader may have read before:
+    /// `handle` of `Machine` is this call. What was read is used where it was by the view of now, and else octets are read again; both are
     /// counted. The records of an event and what it accepts are steps of the world (`mesh_world`) from any world of the store before it to one
     /// of the store after it.
     pub fn handle_event<F: Flash>(
@@ -87,11 +91,11 @@ impl MeshMachine {
         bearer: u8,
         number: u32,
         event: &Event,
-        early: Option<Early>,
+        reader: &Reader,
     ) -> Result<Answered, Stop>
         requires made { (shown self.old).which ≡ n.now.which }
         requires event { IsEvent (shown self.old).elements event.now }
-        requires early { IfSome early (λ e. event.now ≡ E.Net e.octets) }
+        requires early { IfSome reader.now.last (λ e. event.now ≡ E.Net e.octets) }
 
         ensures ok { IfOk result
             (λ r. shown self.new
@@ -106,46 +110,48 @@ impl MeshMachine {
         ensures refused { IfErr result
             (IsRefused F.chip (Hand.OfEvent event.now) (shown self.old) (shown self.new) flash.old flash.new) }
         ensures closed { (shown self.old).closed ≡ true → result ≡ Err Stop.Closed }
-        ensures reads { IsCounted (view_now self.old) early self.old.reads self.new.reads }
+        ensures reads { IsCounted (view_now self.old) reader.now.last self.old.reads self.new.reads }
         ensures kept { (over : List StoreRecord) → Stands (F.chip flash.old) over self.old
             → Stands (F.chip flash.new) over self.new }
         ensures frame { Keeps (F.chip flash.old) (F.chip flash.new) }
     {
-        let known = self.take_early(early);
+        let known = self.take_early(reader);
         self.state
             .handle_event(n, flash, bearer, number, event, known)
     }
 
-    /// Handles the network PDU of octets that were read before, as `handle` of `Machine` handles the event of these octets. The reading is used
-    /// where it was by the view of now, and else they are read again; both are counted.
+    /// Handles the network PDU of these octets, which the reader has read before, as `handle` of `Machine` handles the event of these octets. The
+    /// reading is used where it was by the view of now, and else they are read again; both are counted.
     pub fn handle_early<F: Flash>(
         &mut self,
         n: &Numbers,
         flash: &mut F,
         bearer: u8,
         number: u32,
-        early: Early,
+        octets: &Octets<40>,
+        reader: &Reader,
     ) -> Result<Answered, Stop>
         requires made { (shown self.old).which ≡ n.now.which }
-        requires event { IsEvent (shown self.old).elements (E.Net early.octets) }
+        requires event { IsEvent (shown self.old).elements (E.Net octets.now) }
+        requires early { IfSome reader.now.last (λ e. e.octets ≡ octets.now) }
 
         ensures ok { IfOk result
             (λ r. shown self.new
-            ≡ with_entry (shown self.old) (entry_for (shown self.old) bearer number (E.Net early.octets) r.answer r.jobs)
+            ≡ with_entry (shown self.old) (entry_for (shown self.old) bearer number (E.Net octets.now) r.answer r.jobs)
             (shown self.new).mark) }
         ensures place { IfOk result (λ r. r.at ≡ length (shown self.old).entries) }
         ensures usable { OnOk result ((shown self.old).closed ≡ false) }
-        ensures jobs { IfOk result (λ r. All (IsJob (E.Net early.octets)) r.jobs) }
+        ensures jobs { IfOk result (λ r. All (IsJob (E.Net octets.now)) r.jobs) }
         ensures refused { IfErr result
-            (IsRefused F.chip (Hand.OfEvent (E.Net early.octets)) (shown self.old) (shown self.new) flash.old flash.new) }
+            (IsRefused F.chip (Hand.OfEvent (E.Net octets.now)) (shown self.old) (shown self.new) flash.old flash.new) }
         ensures closed { (shown self.old).closed ≡ true → result ≡ Err Stop.Closed }
         ensures kept { (over : List StoreRecord) → Stands (F.chip flash.old) over self.old
             → Stands (F.chip flash.new) over self.new }
-        ensures reads { IsCountedOf (view_now self.old) early self.old.reads self.new.reads }
+        ensures reads { IsCounted (view_now self.old) reader.now.last self.old.reads self.new.reads }
         ensures frame { Keeps (F.chip flash.old) (F.chip flash.new) }
     {
-        let event = Event::Net(early.octets().copied());
-        self.handle_event(n, flash, bearer, number, &event, Some(early))
+        let event = Event::Net(octets.copied());
+        self.handle_event(n, flash, bearer, number, &event, reader)
     }
 
     /// The number of network PDUs that were read before they were handled and then read again, since the view of before wasn't the one of then.

@@ -23,7 +23,7 @@ ghost use Rattle.seq_word.specs.Seen.{fresh};
 use crate::machine::MeshMachine;
 use crate::parts::Parts;
 use crate::state::MeshState;
-use early_reading::{Early, Reader};
+use early_reading::Reader;
 use entry_log::EntryLog;
 use event_plans::NodeTables;
 use flash_model::Flash;
@@ -124,12 +124,10 @@ impl Machine for MeshMachine {
 
     ghost stands = { Stands };
 
-    // What was read was read of the octets of the event.
-    ghost fits = { λ early event. IfSome early (λ e. event ≡ E.Net e.octets) };
+    // What the reader has read it read of the octets of the event.
+    ghost fits = { λ reader event. IfSome reader.last (λ e. event ≡ E.Net e.octets) };
 
     type Reader = Reader;
-
-    type Early = Option<Early>;
 
     fn start<F: Flash>(alloc: Global, flash: &mut F) -> Result<Started<Self>, StartFault> {
         MeshMachine::start_with_room(alloc, flash, 0)
@@ -143,12 +141,12 @@ impl Machine for MeshMachine {
         self.renew_reader(reader);
     }
 
-    fn unread() -> Option<Early> {
-        None
+    fn unread(reader: &mut Reader) {
+        reader.forget();
     }
 
-    fn early(reader: &mut Reader, bytes: &Octets<40>) -> Option<Early> {
-        reader.early(bytes)
+    fn early(reader: &mut Reader, bytes: &Octets<40>) {
+        reader.early(bytes);
     }
 
     fn handle<F: Flash>(
@@ -158,9 +156,9 @@ impl Machine for MeshMachine {
         bearer: u8,
         number: u32,
         event: &Event,
-        early: Option<Early>,
+        reader: &Reader,
     ) -> Result<Answered, Stop> {
-        self.handle_event(n, flash, bearer, number, event, early)
+        self.handle_event(n, flash, bearer, number, event, reader)
     }
 
     fn refill<F: Flash>(&mut self, n: &Numbers, flash: &mut F, seen: u64) -> Result<u64, Stop> {

@@ -67,7 +67,7 @@ impl MeshState {
         bearer: u8,
         number: u32,
         event: &Event,
-        known: Known,
+        known: Known<'_>,
     ) -> Result<Answered, Stop>
         requires made { (shown self.old).which ≡ n.now.which }
         requires event { IsEvent (shown self.old).elements event.now }

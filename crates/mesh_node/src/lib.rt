@@ -6,6 +6,7 @@
 //! - `going`: a life phase by phase, as they come, of which nothing is kept
 //! - `alone`: the same of one bearer, without threads
 //! - `held`: the same, held by its owner between its phases
+//! - `host`: what lives are run with
 //! - `log`: the lines of the bearers
 //! - `steps`: the steps of a plan, one after another
 //! - `living`: a life of a plan, from a flash to the flash, which leaves a whole log
@@ -17,6 +18,7 @@ mod alone;
 mod edges;
 mod going;
 mod held;
+mod host;
 mod living;
 mod log;
 mod phases;
@@ -27,6 +29,7 @@ pub use alone::{live_alone, one_phase_alone};
 pub use edges::{Beginning, LifeLeft};
 pub use going::{live_on, one_phase};
 pub use held::{HeldLife, HeldPhase, Unopened};
+pub use host::Host;
 pub use life_laws::plan::{LifeLog, LifePlan, PlanStep};
 pub use living::life;
 pub use node_phase::{FreeGate, Gate};

@@ -14,6 +14,7 @@ ghost use Rattle.life_laws.specs.Plan.{IsStep, behind_arm, steps_of};
 ghost use Rattle.mesh_node.specs.Ran.{Ran};
 ghost use Rattle.mesh_node.specs.Steps.{IsFirstGiven, IsOfPlan, MayFollow, first_order};
 
+use crate::host::Host;
 use crate::phases::Seats;
 use crate::steps::{arm_first, do_steps};
 use flash_model::Bench;
@@ -50,7 +51,10 @@ pub fn life<M: Machine, B: Bench, G: Gate, R: Threads + Wait + Sync>(
     // It does nothing when it runs: the proof uses what it says.
     one_list_is_recovered();
     match M::start(alloc, &mut flash) {
-        Ok(started) => run_life(rt, alloc, flash, start, started, plan, steps, gate),
+        Ok(started) => {
+            let host = Host { rt, alloc, gate };
+            run_life(&host, flash, start, started, plan, steps)
+        }
         Err(StartFault::Flash) => {
             let end = End::Cut {
                 calls: flash.changes(),
@@ -103,14 +107,12 @@ fn end_of(closed: bool, calls: u32) -> End
 /// A life that is run, from a machine that was started over a flash that the life found as `start` says. These are the steps of the plan
 /// behind an order that stands first.
 fn run_life<M: Machine, F: Bench, G: Gate, R: Threads + Wait + Sync>(
-    rt: &R,
-    alloc: Global,
+    host: &Host<R, G>,
     flash: F,
     start: Known<F>,
     started: Started<M>,
     plan: &LifePlan,
     steps: &[PlanStep],
-    gate: &G,
 ) -> Result<(LifeLog, F), AllocError>
     requires started { IsStarted M.view M.stands (F.chip start) (F.chip flash) started }
     requires kept { Keeps (F.chip start) (F.chip flash) }
@@ -135,9 +137,9 @@ fn run_life<M: Machine, F: Bench, G: Gate, R: Threads + Wait + Sync>(
         state,
         mark,
     } = started;
-    let opened = Node::new(alloc, machine, flash, start)?;
-    let mut seats = Seats::new(alloc, numbers, drawer, plan.bearers)?;
-    let (node, told) = do_steps(rt, alloc, gate, opened, &mut seats, plan.bearers, steps)?;
+    let opened = Node::new(host.alloc, machine, flash, start)?;
+    let mut seats = Seats::new(host.alloc, numbers, drawer, plan.bearers)?;
+    let (node, told) = do_steps(host, opened, &mut seats, plan.bearers, steps)?;
     node.known();
     let (machine, flash) = node.into_parts();
     let end = end_of(machine.is_closed(), flash.changes());
@@ -147,9 +149,7 @@ fn run_life<M: Machine, F: Bench, G: Gate, R: Threads + Wait + Sync>(
     let Seats {
         numbers,
         drawer,
-        counts: _,
-        entries: _,
-        kept: _,
+        ..
     } = seats;
     let drawn = numbers.close(keeper, drawer);
     let log = LifeLog {

@@ -13,6 +13,7 @@ ghost use Rattle.life_laws.specs.Plan.{IsStep, behind_arm, step_of, steps_of};
 ghost use Rattle.mesh_node.specs.Steps.{HasGiven, IsArmedBy, IsArmedFirst, IsSameNode, IsSameOrOf, MayArm, MayFollow};
 
 use crate::going::one_phase;
+use crate::host::Host;
 use crate::phases::Seats;
 use crate::told::PhaseLog;
 use flash_model::Bench;
@@ -21,7 +22,7 @@ use locked_node::Node;
 use machine_contract::Machine;
 use mesh_types::events::Event;
 use node_phase::Gate;
-use std::alloc::{AllocError, Global};
+use std::alloc::AllocError;
 use std::sync::Wait;
 use std::thread::Threads;
 use store_definitions::recovery::one_list_is_recovered;
@@ -43,9 +44,7 @@ pub fn arm_first<'a, B: Bench>(flash: &mut B, steps: &'a [PlanStep]) -> &'a [Pla
 
 /// One phase, whose log is put behind that of the phases before. Returns the node behind it, and whether the flash failed.
 fn do_phase<M: Machine, F: Bench, G: Gate, R: Threads + Wait + Sync>(
-    rt: &R,
-    alloc: Global,
-    gate: &G,
+    host: &Host<R, G>,
     node: Node<M, F>,
     seats: &mut Seats<M>,
     log: &mut PhaseLog,
@@ -80,16 +79,14 @@ fn do_phase<M: Machine, F: Bench, G: Gate, R: Threads + Wait + Sync>(
     ensures between { IfOk result (λ r. r.1 ≡ false → IsBetween seats.new r.0) }
     ensures stopped { IfOk result (λ r. r.1 ≡ true → 0 < r.0.stops) }
 {
-    let done = one_phase(rt, alloc, gate, node, seats, lists)?;
+    let done = one_phase(host.rt, host.alloc, host.gate, node, seats, lists)?;
     log.add(done.log)?;
     Ok((done.node, done.closed))
 }
 
 /// One step. Returns the node behind it, and whether the flash failed in it.
 pub fn do_step<M: Machine, F: Bench, G: Gate, R: Threads + Wait + Sync>(
-    rt: &R,
-    alloc: Global,
-    gate: &G,
+    host: &Host<R, G>,
     node: Node<M, F>,
     seats: &mut Seats<M>,
     log: &mut PhaseLog,
@@ -130,15 +127,13 @@ pub fn do_step<M: Machine, F: Bench, G: Gate, R: Threads + Wait + Sync>(
             node.arm(*calls, *mask);
             Ok((node, false))
         }
-        PlanStep::Phase(lists) => do_phase(rt, alloc, gate, node, seats, log, lists.as_slice()),
+        PlanStep::Phase(lists) => do_phase(host, node, seats, log, lists.as_slice()),
     }
 }
 
 /// All steps, up to the first in which the flash failed. Returns the node behind them, and the log of their phases.
 pub fn do_steps<M: Machine, F: Bench, G: Gate, R: Threads + Wait + Sync>(
-    rt: &R,
-    alloc: Global,
-    gate: &G,
+    host: &Host<R, G>,
     node: Node<M, F>,
     seats: &mut Seats<M>,
     bearers: u8,
@@ -169,12 +164,12 @@ pub fn do_steps<M: Machine, F: Bench, G: Gate, R: Threads + Wait + Sync>(
 {
     // It does nothing when it runs: the proof uses what it says.
     one_list_is_recovered();
-    let mut log = PhaseLog::none(alloc, bearers)?;
+    let mut log = PhaseLog::none(host.alloc, bearers)?;
     let mut node = node;
     for step in steps {
         // Nor does this.
         node.known();
-        let (next, closed) = do_step(rt, alloc, gate, node, seats, &mut log, step)?;
+        let (next, closed) = do_step(host, node, seats, &mut log, step)?;
         node = next;
         if closed {
             return Ok((node, log));

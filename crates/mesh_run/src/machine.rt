@@ -41,8 +41,6 @@ impl Machine for ScriptMachine {
 
     type Reader = <MeshMachine as Machine>::Reader;
 
-    type Early = <MeshMachine as Machine>::Early;
-
     fn start<F: Flash>(alloc: Global, flash: &mut F) -> Result<Started<Self>, StartFault> {
         let Started {
             machine,
@@ -68,12 +66,12 @@ impl Machine for ScriptMachine {
         self.machine.reader(reader);
     }
 
-    fn unread() -> Self::Early {
-        MeshMachine::unread()
+    fn unread(reader: &mut Self::Reader) {
+        MeshMachine::unread(reader);
     }
 
-    fn early(reader: &mut Self::Reader, bytes: &Octets<40>) -> Self::Early {
-        MeshMachine::early(reader, bytes)
+    fn early(reader: &mut Self::Reader, bytes: &Octets<40>) {
+        MeshMachine::early(reader, bytes);
     }
 
     fn handle<F: Flash>(
@@ -83,9 +81,9 @@ impl Machine for ScriptMachine {
         bearer: u8,
         number: u32,
         event: &Event,
-        early: Self::Early,
+        reader: &Self::Reader,
     ) -> Result<Answered, Stop> {
-        self.machine.handle(n, flash, bearer, number, event, early)
+        self.machine.handle(n, flash, bearer, number, event, reader)
     }
 
     fn refill<F: Flash>(&mut self, n: &Numbers, flash: &mut F, seen: u64) -> Result<u64, Stop> {

@@ -18,13 +18,13 @@ use mesh_types::events::Event;
 use seq_word::{Dry, Numbers};
 use turn_lock::Turn;
 
-/// What a bearer read of an event before its turn: of a network PDU what its reader says, where it reads early.
-pub fn read<M: Machine, S: Sharing>(sharing: &S, reader: &mut M::Reader, event: &Event) -> M::Early
-    ensures fits { M.fits result event.now }
+/// Has a bearer's reader read an event before the bearer's turn: a network PDU, where it reads early, and else nothing.
+pub fn read<M: Machine, S: Sharing>(sharing: &S, reader: &mut M::Reader, event: &Event)
+    ensures fits { M.fits reader.new event.now }
 {
     match event {
         Event::Net(octets) if sharing.reads_early() => M::early(reader, octets),
-        _ => M::unread(),
+        _ => M::unread(reader),
     }
 }
 
@@ -39,8 +39,8 @@ fn renew<M: Machine, F: Flash + Send + Drop, S: Sharing>(
     }
 }
 
-/// Has an event handled, of which this was read before, and renews the bearer's reader under the same lock. The bearer is the one of this place,
-/// `k`.
+/// Has an event handled, of which the bearer's reader may have read before, and renews the reader under the same lock. The bearer is the one of
+/// this place, `k`.
 pub fn act<M: Machine, F: Flash + Send + Drop, S: Sharing>(
     sharing: &S,
     n: &Numbers,
@@ -48,12 +48,11 @@ pub fn act<M: Machine, F: Flash + Send + Drop, S: Sharing>(
     k: u8,
     b: &mut Bearer<Node<M, F>>,
     event: &Event,
-    early: M::Early,
     reader: &mut M::Reader,
 ) -> Result<Answered, Stop>
     requires rider { IsRider S.parts n.now turn.now b.old }
     requires event { IsEvent turn.now.first.machine.elements event.now }
-    requires early { M.fits early event.now }
+    requires early { M.fits reader.old event.now }
     ensures rider { IsRider S.parts n.now turn.now b.new }
     ensures on { GoesOn b.old b.new }
     ensures frame { (b.new.lines ≡ b.old.lines) × (b.new.drawer ≡ b.old.drawer) }
@@ -71,7 +70,7 @@ pub fn act<M: Machine, F: Flash + Send + Drop, S: Sharing>(
         return Err(Stop::Memory);
     }
     let mut node = sharing.enter(turn, &mut b.pass);
-    let result = node.handle(n, k, b.number + 1, event, early);
+    let result = node.handle(n, k, b.number + 1, event, &*reader);
     renew(sharing, &node, reader);
     node.known();
     turn.leave(&mut b.pass, node);

@@ -201,7 +201,8 @@ fn do_next<M: Machine, F: Flash + Send + Drop, S: Sharing>(
     ensures stopped { (first : ℕ) (tasks rest : List Task) → DidBy k first tasks (follow event.now ∷ rest) b.old
         → IfErr result (λ e. OnStop e (Broke k first tasks b.new)) }
 {
-    let answered = act(sharing, n, turn, k, b, event, M::unread(), reader)?;
+    M::unread(reader);
+    let answered = act(sharing, n, turn, k, b, event, reader)?;
     do_quiet_jobs(
         sharing,
         n,

@@ -42,8 +42,8 @@ fn do_event<M: Machine, F: Flash + Send + Drop, G: Gate, S: Sharing>(
 {
     let number = b.number.saturating_add(1);
     gate.before(k, number);
-    let early = read::<M, S>(sharing, reader, event);
-    let answered = act(sharing, n, turn, k, b, event, early, reader)?;
+    read::<M, S>(sharing, reader, event);
+    let answered = act(sharing, n, turn, k, b, event, reader)?;
     gate.between(k, number);
     let jobs = answered.jobs.as_slice();
     let done = do_jobs(sharing, n, turn, k, b, answered.at, event, jobs, reader);

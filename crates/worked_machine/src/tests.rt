@@ -14,7 +14,7 @@ use flash_model::{Bench, Flash, MemFlash};
 use machine_contract::{EarlyReads, Machine, Started};
 use mesh_base::address::Address;
 use mesh_base::octets::Octets;
-use mesh_machine::{Early, MeshMachine, Reader};
+use mesh_machine::{MeshMachine, Reader};
 use mesh_types::events::Event;
 use node_store::Provision;
 use run_steps::provision;
@@ -80,18 +80,20 @@ fn node_flash(alloc: Global) -> Option<MemFlash>
     Some(flash)
 }
 
-/// Whether a PDU is handled that was read before.
+/// Whether a PDU is handled that a reader has read before.
 fn is_handled_early(
     machine: &mut MeshMachine,
     n: &Numbers,
     flash: &mut MemFlash,
     number: u32,
-    early: Early,
+    octets: &Octets<40>,
+    reader: &Reader,
 ) -> bool
     requires made { (shown machine.old).which ≡ n.now.which }
+    requires early { IfSome reader.now.last (λ e. e.octets ≡ octets.now) }
     ensures made { IsTrue result → (shown machine.new).which ≡ n.now.which }
 {
-    match machine.handle_early(n, flash, 0, number, early) {
+    match machine.handle_early(n, flash, 0, number, octets, reader) {
         Ok(_) => true,
         Err(_) => false,
     }
@@ -109,7 +111,8 @@ fn is_handled(
     ensures made { IsTrue result → (shown machine.new).which ≡ n.now.which }
 {
     let event = Event::Net(octets);
-    match machine.handle(n, flash, 0, number, &event, None) {
+    let reader = Reader::new();
+    match machine.handle(n, flash, 0, number, &event, &reader) {
         Ok(_) => true,
         Err(_) => false,
     }
@@ -133,13 +136,17 @@ fn counted(alloc: Global) -> Option<EarlyReads> {
         ..
     } = started;
     let mut reader = Reader::new();
+    let heard = pdu(&HEARD);
     machine.renew_reader(&mut reader);
-    let first = reader.early(&pdu(&HEARD))?;
-    let last = reader.early(&pdu(&HEARD_BEHIND))?;
-    let is_all = is_handled_early(&mut machine, &numbers, &mut flash, 1, first)
-        && is_handled(&mut machine, &numbers, &mut flash, 2, pdu(&UPDATE_0))
+    reader.early(&heard);
+    if !is_handled_early(&mut machine, &numbers, &mut flash, 1, &heard, &reader) {
+        return None;
+    }
+    let behind = pdu(&HEARD_BEHIND);
+    reader.early(&behind);
+    let is_all = is_handled(&mut machine, &numbers, &mut flash, 2, pdu(&UPDATE_0))
         && is_handled(&mut machine, &numbers, &mut flash, 3, pdu(&UPDATE_1))
-        && is_handled_early(&mut machine, &numbers, &mut flash, 4, last);
+        && is_handled_early(&mut machine, &numbers, &mut flash, 4, &behind, &reader);
     if is_all {
         Some(machine.early_reads())
     } else {

@@ -105,8 +105,8 @@ invariant_of-self-2 g c e =
       };
       fills = refl;
       entries = c.enter-answered.ensures.entry
-          ∙ ap (λ (l : List Entry). l ++ (record entry { event = c.copied-2.result }) ∷ []) c.room.ensures.entries
-          ∙ ap (λ (e : Event). i.history.entries ++ (record entry { event = e }) ∷ []) c.copied-2.ensures.value;
+          ∙ ap (λ (l : List Entry). l ++ (record entry { event = c.copied-copy.result }) ∷ []) c.room.ensures.entries
+          ∙ ap (λ (e : Event). i.history.entries ++ (record entry { event = e }) ∷ []) c.copied-copy.ensures.value;
       taken = c.enter-answered.ensures.taken ∙ c.room.ensures.taken;
       published = c.store_records.ensures.published;
       made = c.store_records.ensures.made;
@@ -170,8 +170,8 @@ returns-clause-kept g c over stands =
       };
       fills = refl;
       entries = c.enter-answered.ensures.entry
-          ∙ ap (λ (l : List Entry). l ++ (record entry { event = c.copied-2.result }) ∷ []) c.room.ensures.entries
-          ∙ ap (λ (e : Event). i.history.entries ++ (record entry { event = e }) ∷ []) c.copied-2.ensures.value;
+          ∙ ap (λ (l : List Entry). l ++ (record entry { event = c.copied-copy.result }) ∷ []) c.room.ensures.entries
+          ∙ ap (λ (e : Event). i.history.entries ++ (record entry { event = e }) ∷ []) c.copied-copy.ensures.value;
       taken = c.enter-answered.ensures.taken ∙ c.room.ensures.taken;
       published = c.store_records.ensures.published;
       made = c.store_records.ensures.made;
