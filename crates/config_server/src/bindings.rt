@@ -8,7 +8,6 @@ ghost use Rattle.config_definitions.specs.declared.acts.Status.TheVariants as S;
 ghost use Rattle.node_records.specs.Tables.{config_in};
 ghost use Rattle.store_definitions.specs.Config.{is_bind};
 
-use crate::keys::has_app;
 use crate::models::model_of;
 use crate::params::{acted, put_model, put_two, refused, status_octet, stored, unchanged};
 use config_definitions::acts::{ConfigAct, Outcome, Status};
@@ -39,7 +38,7 @@ pub fn has_bind(p: &Persist, element: Address, model: u16, app: u16) -> bool
 fn bind(p: &Persist, element: Address, app: u16, model: u16) -> Outcome
     ensures { result ≡ app_bind (config_in p.now) element app model }
 {
-    if !has_app(p, app) {
+    if !p.has_app(app) {
         refused(Status::InvalidAppKey)
     } else if has_bind(p, element, model, app) {
         unchanged()
@@ -59,7 +58,7 @@ fn bind(p: &Persist, element: Address, app: u16, model: u16) -> Outcome
 fn unbind(p: &Persist, element: Address, app: u16, model: u16) -> Outcome
     ensures { result ≡ app_unbind (config_in p.now) element app model }
 {
-    if !has_app(p, app) {
+    if !p.has_app(app) {
         refused(Status::InvalidAppKey)
     } else if has_bind(p, element, model, app) {
         stored(StoreRecord::Bind {

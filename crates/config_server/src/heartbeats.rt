@@ -7,7 +7,6 @@ ghost use Rattle.node_records.specs.Tables.{config_in};
 
 use crate::keys::has_net;
 use crate::params::{put_two, replied, status_octet};
-use crate::publishing::is_virtual;
 use config_definitions::acts::{ConfigAct, Status};
 use mesh_base::octets::Octets;
 use model_states::publication::HeartbeatRow;
@@ -30,7 +29,7 @@ pub fn heartbeat_shown(status: Status, h: &HeartbeatRow) -> ConfigAct
 pub fn heartbeat_set(p: &Persist, h: &HeartbeatRow) -> ConfigAct
     ensures { result ≡ heartbeat_set (config_in p.now) h.now }
 {
-    if is_virtual(h.dst) {
+    if h.dst.is_virtual() {
         heartbeat_shown(Status::InvalidAddress, h)
     } else if !has_net(p, h.net) {
         heartbeat_shown(Status::InvalidNetKey, h)

@@ -1,11 +1,10 @@
 //! Messages about network keys and application keys (Mesh Profile 1.0.1, sections 4.3.2.31 to 4.3.2.42 and 4.3.2.58 to 4.3.2.60).
 #![tactic(auto)]
 
-ghost use Rattle.std.specs.Prelude.{◌≡◌, ◌≤◌, ◌+◌, [], ◌∷◌, ◌++◌, ◌==◌, length, map, filter, is_some, if◌then◌else◌};
+ghost use Rattle.std.specs.Prelude.{◌≡◌, ◌≤◌, ◌+◌, [], ◌∷◌, ◌++◌, ◌==◌, length, map, filter, if◌then◌else◌};
 ghost use Rattle.config_definitions.specs.Keys.{app_indexes, app_key_act, app_key_add, app_key_delete, app_key_list, app_key_update, has_net, is_next, net_key_act, net_key_add, net_key_delete, net_key_list, net_key_update, phase_act, phase_after, phase_end, phase_of, phase_set, phase_shown, phase_two};
 ghost use Rattle.config_definitions.specs.Params.{refused, unchanged};
 ghost use Rattle.config_definitions.specs.declared.acts.Status.TheVariants as S;
-ghost use Rattle.layer_definitions.specs.KeyRefresh.{app_row, net_row};
 ghost use Rattle.mesh_base.specs.declared.keys.AppKeyRow.{AppKeyRow};
 ghost use Rattle.mesh_base.specs.declared.keys.NetKeyRow.{NetKeyRow};
 ghost use Rattle.node_records.specs.Tables.{config_in};
@@ -16,7 +15,7 @@ use crate::params::{
 };
 use config_definitions::acts::{ConfigAct, Outcome, Status};
 use config_definitions::messages::{AppKeyIndexes, AppKeyValue, NetKeyValue, PhaseTransition};
-use mesh_base::keys::{AppKeyRow, NetKeyRow};
+use mesh_base::keys::{AppKeyRow, app_row, net_row};
 use mesh_base::octets::Octets;
 use mesh_base::table::Table;
 use node_limits::{APPLICATION_KEYS, NETWORK_KEYS};
@@ -25,49 +24,18 @@ use node_records::{Persist, StoreRecord};
 /// The key of a record that needs none.
 const NO_KEY: [u8; 16] = [0; 16];
 
-// The row of a network key.
-fn net_of(nets: &[NetKeyRow], index: u16) -> Option<NetKeyRow>
-    ensures { result ≡ net_row nets.now index }
-{
-    for row in nets {
-        if row.index == index {
-            return Some(*row);
-        }
-    }
-    None
-}
-
-// The row of an application key.
-fn app_of(apps: &[AppKeyRow], index: u16) -> Option<AppKeyRow>
-    ensures { result ≡ app_row apps.now index }
-{
-    for row in apps {
-        if row.index == index {
-            return Some(*row);
-        }
-    }
-    None
-}
-
 /// Whether a network key is held.
 pub fn has_net(p: &Persist, index: u16) -> bool
     ensures { result ≡ has_net (config_in p.now) index }
 {
-    net_of(p.nets.as_slice(), index).is_some()
-}
-
-/// Whether an application key is held.
-pub fn has_app(p: &Persist, index: u16) -> bool
-    ensures { result ≡ is_some (app_row p.now.apps index) }
-{
-    app_of(p.apps.as_slice(), index).is_some()
+    net_row(p.nets.as_slice(), index).is_some()
 }
 
 // The phase of a network key, 0 where it isn't held.
 fn phase_of(p: &Persist, index: u16) -> u8
     ensures { result ≡ phase_of (config_in p.now) index }
 {
-    match net_of(p.nets.as_slice(), index) {
+    match net_row(p.nets.as_slice(), index) {
         Some(row) => row.phase,
         None => 0,
     }
@@ -90,7 +58,7 @@ fn add_app(p: &Persist, net: u16, app: u16, key: &[u8; 16]) -> Outcome
     if !has_net(p, net) {
         return refused(Status::InvalidNetKey);
     }
-    match app_of(p.apps.as_slice(), app) {
+    match app_row(p.apps.as_slice(), app) {
         Some(row) => {
             if row.net == net && is_same_key(&row.key, key) {
                 unchanged()
@@ -117,7 +85,7 @@ fn add_app(p: &Persist, net: u16, app: u16, key: &[u8; 16]) -> Outcome
 fn update_app(p: &Persist, net: u16, app: u16, key: &[u8; 16]) -> Outcome
     ensures { result ≡ app_key_update (config_in p.now) net app key.now }
 {
-    match app_of(p.apps.as_slice(), app) {
+    match app_row(p.apps.as_slice(), app) {
         None => refused(Status::InvalidAppKey),
         Some(row) => {
             if row.net != net {
@@ -147,7 +115,7 @@ fn delete_app(p: &Persist, net: u16, app: u16) -> Outcome
     if !has_net(p, net) {
         return refused(Status::InvalidNetKey);
     }
-    match app_of(p.apps.as_slice(), app) {
+    match app_row(p.apps.as_slice(), app) {
         None => unchanged(),
         Some(row) => {
             if row.net != net {
@@ -245,7 +213,7 @@ pub fn app_key_list(p: &Persist, net: u16) -> ConfigAct
 fn add_net(p: &Persist, net: u16, key: &[u8; 16]) -> Outcome
     ensures { result ≡ net_key_add (config_in p.now) net key.now }
 {
-    match net_of(p.nets.as_slice(), net) {
+    match net_row(p.nets.as_slice(), net) {
         Some(row) => {
             if is_same_key(&row.key, key) {
                 unchanged()
@@ -271,7 +239,7 @@ fn add_net(p: &Persist, net: u16, key: &[u8; 16]) -> Outcome
 fn update_net(p: &Persist, net: u16, key: &[u8; 16]) -> Outcome
     ensures { result ≡ net_key_update (config_in p.now) net key.now }
 {
-    match net_of(p.nets.as_slice(), net) {
+    match net_row(p.nets.as_slice(), net) {
         None => refused(Status::InvalidNetKey),
         Some(row) => {
             if row.phase == 1 && is_next(key, &row.next) {

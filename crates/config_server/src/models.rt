@@ -4,7 +4,6 @@
 ghost use Rattle.std.specs.Prelude.{◌≡◌};
 ghost use Rattle.config_definitions.specs.Models.{has_model, model_number, model_of};
 ghost use Rattle.node_records.specs.Tables.{config_in};
-ghost use Rattle.store_definitions.specs.Config.{is_element};
 
 use config_definitions::acts::Status;
 use config_definitions::messages::{ElementModel, ModelId};
@@ -19,14 +18,6 @@ const ONOFF_SERVER: u16 = 0x1000;
 
 /// The Generic Level Server.
 const LEVEL_SERVER: u16 = 0x1002;
-
-// Whether an address is an element's.
-fn is_element(p: &Persist, element: Address) -> bool
-    ensures { result ≡ is_element (config_in p.now) element.0 }
-{
-    p.unicast.0 <= element.0
-        && u32::from(element.0) < u32::from(p.unicast.0) + u32::from(p.elements)
-}
 
 // Whether an element has a model.
 fn has_model(p: &Persist, element: Address, model: u16) -> bool
@@ -52,7 +43,7 @@ fn model_number(model: ModelId) -> Option<u16>
 pub fn model_of(p: &Persist, holder: &ElementModel, status: Status) -> Result<u16, Status>
     ensures { result ≡ model_of (config_in p.now) holder.now status }
 {
-    if !is_element(p, holder.element) {
+    if !p.is_element(holder.element) {
         return Err(Status::InvalidAddress);
     }
     match model_number(holder.model) {

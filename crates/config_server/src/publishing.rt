@@ -6,11 +6,9 @@ ghost use Rattle.std.specs.List.{list_any, find};
 ghost use Rattle.config_definitions.specs.Publishing.{is_model_row, is_same_row, no_row, publication_act, publication_set, publication_shown, row_asked, row_of, row_set};
 ghost use Rattle.config_definitions.specs.Models.{model_of, on_model};
 ghost use Rattle.config_definitions.specs.declared.acts.Status.TheVariants as S;
-ghost use Rattle.layer_definitions.specs.Labels.{is_virtual};
 ghost use Rattle.node_records.specs.Tables.{config_in};
 
 use crate::bindings::has_bind;
-use crate::keys::has_app;
 use crate::models::model_of;
 use crate::params::{acted, put_model, put_two, refused, status_octet, stored, unchanged};
 use config_definitions::acts::{ConfigAct, Outcome, Status};
@@ -19,13 +17,6 @@ use mesh_base::address::Address;
 use mesh_base::octets::Octets;
 use node_limits::PUBLICATIONS;
 use node_records::{Persist, PublishRow, StoreRecord};
-
-/// Whether an address is virtual.
-pub fn is_virtual(a: Address) -> bool
-    ensures { result ≡ is_virtual a }
-{
-    0x8000 <= a.0 && a.0 < 0xc000
-}
 
 // Whether a row is of this model.
 fn is_model_row(element: Address, model: u16, row: &PublishRow) -> bool
@@ -72,9 +63,9 @@ fn set_row(p: &Persist, row: &PublishRow) -> Outcome
     ensures { result ≡ row_set (config_in p.now) row.now }
 {
     let publishes = row.address.0 != 0;
-    if is_virtual(row.address) {
+    if row.address.is_virtual() {
         refused(Status::InvalidAddress)
-    } else if publishes && !has_app(p, row.app) {
+    } else if publishes && !p.has_app(row.app) {
         refused(Status::InvalidAppKey)
     } else if publishes && !has_bind(p, row.element, row.model, row.app) {
         refused(Status::InvalidPublish)

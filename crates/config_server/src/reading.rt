@@ -39,66 +39,47 @@ fn any_octet(message: ConfigMessage, params: &[u8]) -> Option<ConfigMessage>
 fn message_of(opcode: u32, params: &[u8]) -> Option<ConfigMessage>
     ensures { result ≡ message_of opcode params.now }
 {
-    Some(match opcode {
-        0x00 => ConfigMessage::AppKeyAdd(app_key_in(params)?),
-        0x01 => ConfigMessage::AppKeyUpdate(app_key_in(params)?),
-        0x03 => ConfigMessage::PublicationSet(publication_in(params)?),
-        0x8000 => ConfigMessage::AppKeyDelete(indexes_in(params)?),
-        0x8001 => ConfigMessage::AppKeyGet {
-            net: net_in(params)?,
-        },
-        0x8008 => any_octet(ConfigMessage::CompositionGet, params)?,
-        0x8009 => without(ConfigMessage::BeaconGet, params)?,
-        0x800a => ConfigMessage::BeaconSet {
-            on: switch_in(params)?,
-        },
-        0x800c => without(ConfigMessage::DefaultTtlGet, params)?,
-        0x800d => ConfigMessage::DefaultTtlSet {
-            ttl: default_ttl_in(params)?,
-        },
-        0x800f => without(ConfigMessage::FriendGet, params)?,
-        0x8010 => ConfigMessage::FriendSet {
-            on: switch_in(params)?,
-        },
-        0x8012 => without(ConfigMessage::ProxyGet, params)?,
-        0x8013 => {
-            let _on = switch_in(params)?;
-            ConfigMessage::ProxySet
-        }
-        0x8015 => ConfigMessage::PhaseGet {
-            net: net_in(params)?,
-        },
-        0x8016 => transition_in(params)?,
-        0x8018 => ConfigMessage::PublicationGet(element_model_in(params)?),
-        0x801b => ConfigMessage::SubscriptionAdd(group_in(params)?),
-        0x801c => ConfigMessage::SubscriptionDelete(group_in(params)?),
-        0x801d => ConfigMessage::SubscriptionDeleteAll(element_model_in(params)?),
-        0x801e => ConfigMessage::SubscriptionOverwrite(group_in(params)?),
-        0x8020 => ConfigMessage::LabelAdd(label_in(params)?),
-        0x8021 => ConfigMessage::LabelDelete(label_in(params)?),
-        0x8022 => ConfigMessage::LabelOverwrite(label_in(params)?),
-        0x8023 => without(ConfigMessage::TransmitGet, params)?,
-        0x8024 => ConfigMessage::TransmitSet {
-            transmit: octet_in(params)?,
-        },
-        0x8026 => without(ConfigMessage::RelayGet, params)?,
-        0x8027 => ConfigMessage::RelaySet(relay_in(params)?),
-        0x802d => ConfigMessage::PollTimeoutGet {
-            lpn: address_in(params)?,
-        },
-        0x8038 => without(ConfigMessage::HeartbeatGet, params)?,
-        0x8039 => ConfigMessage::HeartbeatSet(heartbeat_in(params)?),
-        0x803d => ConfigMessage::AppBind(binding_in(params)?),
-        0x803f => ConfigMessage::AppUnbind(binding_in(params)?),
-        0x8040 => ConfigMessage::NetKeyAdd(net_key_in(params)?),
-        0x8041 => ConfigMessage::NetKeyDelete {
-            net: net_in(params)?,
-        },
-        0x8042 => without(ConfigMessage::NetKeyGet, params)?,
-        0x8045 => ConfigMessage::NetKeyUpdate(net_key_in(params)?),
-        0x8049 => without(ConfigMessage::NodeReset, params)?,
-        _ => return None,
-    })
+    match opcode {
+        0x00 => app_key_in(params).map(ConfigMessage::AppKeyAdd),
+        0x01 => app_key_in(params).map(ConfigMessage::AppKeyUpdate),
+        0x03 => publication_in(params).map(ConfigMessage::PublicationSet),
+        0x8000 => indexes_in(params).map(ConfigMessage::AppKeyDelete),
+        0x8001 => net_in(params).map(|net| ConfigMessage::AppKeyGet { net }),
+        0x8008 => any_octet(ConfigMessage::CompositionGet, params),
+        0x8009 => without(ConfigMessage::BeaconGet, params),
+        0x800a => switch_in(params).map(|on| ConfigMessage::BeaconSet { on }),
+        0x800c => without(ConfigMessage::DefaultTtlGet, params),
+        0x800d => default_ttl_in(params).map(|ttl| ConfigMessage::DefaultTtlSet { ttl }),
+        0x800f => without(ConfigMessage::FriendGet, params),
+        0x8010 => switch_in(params).map(|on| ConfigMessage::FriendSet { on }),
+        0x8012 => without(ConfigMessage::ProxyGet, params),
+        0x8013 => switch_in(params).map(|_on| ConfigMessage::ProxySet),
+        0x8015 => net_in(params).map(|net| ConfigMessage::PhaseGet { net }),
+        0x8016 => transition_in(params),
+        0x8018 => element_model_in(params).map(ConfigMessage::PublicationGet),
+        0x801b => group_in(params).map(ConfigMessage::SubscriptionAdd),
+        0x801c => group_in(params).map(ConfigMessage::SubscriptionDelete),
+        0x801d => element_model_in(params).map(ConfigMessage::SubscriptionDeleteAll),
+        0x801e => group_in(params).map(ConfigMessage::SubscriptionOverwrite),
+        0x8020 => label_in(params).map(ConfigMessage::LabelAdd),
+        0x8021 => label_in(params).map(ConfigMessage::LabelDelete),
+        0x8022 => label_in(params).map(ConfigMessage::LabelOverwrite),
+        0x8023 => without(ConfigMessage::TransmitGet, params),
+        0x8024 => octet_in(params).map(|transmit| ConfigMessage::TransmitSet { transmit }),
+        0x8026 => without(ConfigMessage::RelayGet, params),
+        0x8027 => relay_in(params).map(ConfigMessage::RelaySet),
+        0x802d => address_in(params).map(|lpn| ConfigMessage::PollTimeoutGet { lpn }),
+        0x8038 => without(ConfigMessage::HeartbeatGet, params),
+        0x8039 => heartbeat_in(params).map(ConfigMessage::HeartbeatSet),
+        0x803d => binding_in(params).map(ConfigMessage::AppBind),
+        0x803f => binding_in(params).map(ConfigMessage::AppUnbind),
+        0x8040 => net_key_in(params).map(ConfigMessage::NetKeyAdd),
+        0x8041 => net_in(params).map(|net| ConfigMessage::NetKeyDelete { net }),
+        0x8042 => without(ConfigMessage::NetKeyGet, params),
+        0x8045 => net_key_in(params).map(ConfigMessage::NetKeyUpdate),
+        0x8049 => without(ConfigMessage::NodeReset, params),
+        _ => None,
+    }
 }
 
 /// The configuration message that a payload is; None exactly where its opcode, its length or a value in it is of none that this node answers.

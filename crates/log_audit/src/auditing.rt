@@ -13,13 +13,13 @@ ghost use Rattle.mesh_types.specs.declared.report.ReportLine.{ReportLine as Line
 ghost use Rattle.log_audit.specs.Reading.{IsRead, IsStop};
 
 use crate::input::{AuditStop, read_input};
-use crate::seals::material;
 use crate::verdicts::verdict;
 use audit_definitions::Verdict;
 use audit_definitions::verdict::write_verdict;
 use kept_keys::NetSchedules;
 use report_lines::LineText;
 use script_definitions::line::ScriptNet;
+use script_events::material;
 use std::alloc::{AllocError, Global};
 use std::collections::BTreeSet;
 

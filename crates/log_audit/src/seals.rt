@@ -9,34 +9,14 @@ ghost use Rattle.audit_definitions.specs.Seals.{AreToldBy, sealed_by};
 ghost use Rattle.mesh_base.specs.declared.fields.NetFields.{NetFields as Fields};
 ghost use Rattle.mesh_base.specs.declared.fields.NetMaterial.{NetMaterial as Material};
 ghost use Rattle.log_audit.specs.Told.{HasHeader, Tells, IsSealedBy, IsSealedUnder};
-ghost use Rattle.script_definitions.specs.Events.{material_of};
 
 use kept_keys::NetSchedules;
 use mesh_base::address::Address;
-use mesh_base::fields::{NetFields, NetMaterial};
+use mesh_base::fields::NetFields;
 use mesh_base::octets::Octets;
 use mesh_base::pair::{Name, Pair};
 use mesh_types::lines::Outcome;
-use net_keys::{friendship, master};
 use network_layer::read_one;
-use script_definitions::line::ScriptNet;
-
-/// What a key of the input seals with.
-pub fn material(net: &ScriptNet) -> NetMaterial
-    ensures value { result ≡ material_of net.now }
-    ensures nid { result.nid < 2 ^ 7 }
-{
-    match net {
-        ScriptNet::Master(key) => master(key),
-        ScriptNet::Friendship {
-            key,
-            lpn,
-            friend,
-            lpn_counter,
-            friend_counter,
-        } => friendship(key, *lpn, *friend, *lpn_counter, *friend_counter),
-    }
-}
 
 /// Whether two bits are the same.
 fn are_same(a: bool, b: bool) -> bool

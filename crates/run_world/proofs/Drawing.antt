@@ -22,6 +22,8 @@ pub record Same (w v : World) : Type 0 where
   pub mark : v.mark ≡ w.mark
   pub kept : v.kept ≡ w.kept
   pub current : v.current ≡ w.current
+  pub entry : v.entry ≡ w.entry
+  pub delivered : v.delivered ≡ w.delivered
 
 -- the numbers from one up to another are drawn
 pub record Draws (w : World) (from to : ℕ) : Type 0 where
@@ -77,7 +79,7 @@ draw_here k n w is_pair ready below width more =
         ((omega (arith, next), subst (λ m. (m / 2 ^ 25 < 2 ^ 32) × (m % 2 ^ 25 < 2 ^ 24)) (sym next) (iv_in_width n (omega arith), is_pair)), rest.allowed),
       );
       on = (tt, (tt, rest.on));
-      same = record { seals = rest.same.seals; mark = rest.same.mark; kept = rest.same.kept; current = rest.same.current };
+      same = record { seals = rest.same.seals; mark = rest.same.mark; kept = rest.same.kept; current = rest.same.current; entry = rest.same.entry; delivered = rest.same.delivered };
       keeps = λ p c. rest.keeps p (Contains-append_left w.held (pair_of (max w.next (iv * 2 ^ 25)) ∷ []) p c);
       drawn = by_first (λ m. m % 2 ^ 25 < 2 ^ 24 → Contains (after_all v rest.steps).held (pair_of m)) n (n + suc k)
           (λ pair. rest.keeps (pair_of n) here) (λ m from to pair. rest.drawn m from (omega arith) pair);
@@ -107,7 +109,7 @@ draw_up zero n w ready below width = record {
   steps = [];
   allowed = tt;
   on = tt;
-  same = record { seals = refl; mark = refl; kept = refl; current = refl };
+  same = record { seals = refl; mark = refl; kept = refl; current = refl; entry = refl; delivered = refl };
   keeps = λ p c. c;
   drawn = λ m from to pair. absurd (omega arith);
 }

@@ -10,7 +10,7 @@ use Rattle.mesh_base.specs.declared.pair.Name.{Name}
 use Rattle.mesh_base.specs.declared.pair.Pair.{Pair}
 use Rattle.mesh_world.proofs.Steps.{steps as good_steps}
 use Rattle.mesh_world.specs.Good.{IsGood, IsSpent}
-use Rattle.mesh_world.specs.World.{AreAllowed, HasNonce, IsOf, Sealing, World, WorldStep, after, after_all, provisioned}
+use Rattle.mesh_world.specs.World.{HasNonce, IsOf, Sealing, World, WorldStep, after, after_all, provisioned}
 use Rattle.mesh_world.specs.World as world
 use Rattle.mesh_world.specs.World.WorldStep.{Cut, Publish, Reserve}
 use Rattle.record_types.specs.declared.records.StoreRecord.{StoreRecord}
@@ -30,6 +30,7 @@ use Rattle.run_safety.proofs.Rising.{Later, later_after, later_same}
 use Rattle.run_safety.proofs.Walking.{LinesFit, Tag, doubled, network_tag, upper_tag}
 use Rattle.run_safety.specs.Rules.{LifeBy, LivesBy, enough_rules}
 use Rattle.run_safety.specs.SafeRole.{IsSafeRole, Marked}
+use Rattle.run_world.proofs.Behind.{after_append, allowed_append}
 use Rattle.run_world.proofs.Drawing.{Draws, all_in, behind, behind_below, draw_up, each_drawn, from_behind, ready_at}
 use Rattle.run_world.proofs.Sealing.{IsFree, Seals, layer_of, lines_sealed, seal_all}
 use Rattle.run_world.specs.Steps.{AreLives, IsLife, IsOn, RunsGoBySteps, after_life, after_lives, first_world, own_seals, with_power}
@@ -38,14 +39,6 @@ use Rattle.store_definitions.specs.Provisioning as node
 use Rattle.store_definitions.specs.Provisioning.{Provisioning}
 
 -- Steps behind steps.
-
-allowed_append : (xs ys : List WorldStep) (w : World) → AreAllowed w xs → AreAllowed (after_all w xs) ys → AreAllowed w (xs ++ ys)
-allowed_append [] ys w h k = k
-allowed_append (x ∷ xs) ys w h k = (h.0, allowed_append xs ys (after w x) h.1 k)
-
-after_append : (xs ys : List WorldStep) (w : World) → after_all w (xs ++ ys) ≡ after_all (after_all w xs) ys
-after_append [] ys w = refl
-after_append (x ∷ xs) ys w = after_append xs ys (after w x)
 
 on_append : (xs ys : List WorldStep) → AllByRecursion IsOn xs → AllByRecursion IsOn ys → AllByRecursion IsOn (xs ++ ys)
 on_append [] ys h k = k
@@ -58,17 +51,17 @@ record Stands (w : World) (c : Config) : Type 0 where
 
 -- Pairs from the durable mark on have no seal yet.
 
-sealed_below : (w : World) → IsGood w → All (λ (s : Sealing). word_of s.pair < w.kept) w.seals
+pub sealed_below : (w : World) → IsGood w → All (λ (s : Sealing). word_of s.pair < w.kept) w.seals
 sealed_below w g =
     All-weaker (λ (s : Sealing). Contains w.drawn s.pair) (λ (s : Sealing). word_of s.pair < w.kept)
     (λ s drawn. omega (arith, All-contains (λ p. word_of p < w.next) w.drawn s.pair g.drawn_below drawn, g.next_marked, g.mark_kept)) w.seals g.seals_drawn
 
-free_above : (w : World) → IsGood w → (t : Tag) → w.kept ≤ word_of t.pair → IsFree w.seals t
+pub free_above : (w : World) → IsGood w → (t : Tag) → w.kept ≤ word_of t.pair → IsFree w.seals t
 free_above w g t h =
     All-weaker (λ (s : Sealing). word_of s.pair < w.kept) (λ s. IsOf (layer_of t.upper) t.pair s → ⊥)
     (λ s below is. omega (arith, below, h, ap word_of is.1)) w.seals (sealed_below w g)
 
-both_free : (w : World) → IsGood w → (from : ℕ) → w.kept ≤ from → (ps : List Pair) → AllByRecursion (λ (p : Pair). from ≤ word_of p) ps
+pub both_free : (w : World) → IsGood w → (from : ℕ) → w.kept ≤ from → (ps : List Pair) → AllByRecursion (λ (p : Pair). from ≤ word_of p) ps
     → AllByRecursion (IsFree w.seals) (doubled ps)
 both_free w g from h [] k = tt
 both_free w g from h (p ∷ ps) k = (
@@ -76,19 +69,19 @@ both_free w g from h (p ∷ ps) k = (
   (free_above w g (network_tag p) (omega (arith, h, k.0)), both_free w g from h ps k.1),
 )
 
-both_held : (held ps : List Pair) → AllByRecursion (Contains held) ps → AllByRecursion (λ (t : Tag). Contains held t.pair) (doubled ps)
+pub both_held : (held ps : List Pair) → AllByRecursion (Contains held) ps → AllByRecursion (λ (t : Tag). Contains held t.pair) (doubled ps)
 both_held held [] h = tt
 both_held held (p ∷ ps) h = (h.0, (h.0, both_held held ps h.1))
 
 -- One life.
 
-marked_kept : (c d : Config) → d.iv ≡ c.iv → d.mark ≡ c.mark → Marked c → Marked d
+pub marked_kept : (c d : Config) → d.iv ≡ c.iv → d.mark ≡ c.mark → Marked c → Marked d
 marked_kept c d e f m = record { mark = rw (e, f) m.mark; current = rw e m.current }
 
-in_width : (transmit current mark : ℕ) → mark ≤ transmit * 2 ^ 25 + 2 ^ 24 → transmit ≤ current → current < 2 ^ 32 → mark ≤ 2 ^ 57
+pub in_width : (transmit current mark : ℕ) → mark ≤ transmit * 2 ^ 25 + 2 ^ 24 → transmit ≤ current → current < 2 ^ 32 → mark ≤ 2 ^ 57
 in_width transmit current mark h k l = omega arith
 
-up_to : (from to : ℕ) → from ≤ to → from + (to - from) ≡ to
+pub up_to : (from to : ℕ) → from ≤ to → from + (to - from) ≡ to
 up_to from to h = omega arith
 
 record Lived (own : Config) (w : World) (x : LifeOver) (next : List StoreRecord) : Type 0 where
@@ -216,11 +209,11 @@ lives_go role safe own (plan ∷ plans) (x ∷ xs) last h later w g stands =
 
 -- A run.
 
-provisioned_mark : (made : Provisioning) → (config_of (node.provisioned made)).mark ≡ transmit_of (config_of (node.provisioned made)).iv * 2 ^ 25
+pub provisioned_mark : (made : Provisioning) → (config_of (node.provisioned made)).mark ≡ transmit_of (config_of (node.provisioned made)).iv * 2 ^ 25
 unfolding changed
 provisioned_mark made = refl
 
-good_provisioned : (current transmit : ℕ) → IsGood (provisioned current transmit)
+pub good_provisioned : (current transmit : ℕ) → IsGood (provisioned current transmit)
 good_provisioned current transmit = record {
   next_marked = omega arith;
   mark_kept = omega arith;

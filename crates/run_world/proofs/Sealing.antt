@@ -108,6 +108,8 @@ pub record Seals (own : Config) (us : List Use) (w : World) : Type 0 where
   pub held : (after_all w steps).held ≡ w.held
   pub kept : (after_all w steps).kept ≡ w.kept
   pub current : (after_all w steps).current ≡ w.current
+  pub entry : (after_all w steps).entry ≡ w.entry
+  pub delivered : (after_all w steps).delivered ≡ w.delivered
 
 -- a use of another source is no step
 passed : (own : Config) (u : Use) (us : List Use) (w : World) → is_own own u ≡ false → Seals own us w → Seals own (u ∷ us) w
@@ -119,6 +121,8 @@ passed own u us w e s = record {
   held = s.held;
   kept = s.kept;
   current = s.current;
+  entry = s.entry;
+  delivered = s.delivered;
 }
 
 -- a use of this node is one more seal
@@ -136,6 +140,8 @@ sealed own t u us w e held unused nonce s = record {
   held = s.held;
   kept = s.kept;
   current = s.current;
+  entry = s.entry;
+  delivered = s.delivered;
 }
 
 -- tags that aren't this one are still free behind its seal
@@ -162,6 +168,8 @@ seal_all own w no_seal held free apart = record {
   held = refl;
   kept = refl;
   current = refl;
+  entry = refl;
+  delivered = refl;
 }
 seal_all own w (other_seal {u = u} {us = us} e hs) held free apart = passed own u us w e (seal_all own w hs held free apart)
 seal_all own w (own_seal {u = u} {t = t} {us = us} {ts = ts} h hs) held free apart =

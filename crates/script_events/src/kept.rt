@@ -16,8 +16,8 @@ use script_definitions::line::{ScriptNet, TalkKey};
 use std::marker::Model;
 use upper_transport::UpperSchedule;
 
-/// What an outside node seals network PDUs with (Mesh Profile 1.0.1, section 3.8.6.3.1).
-fn material(net: &ScriptNet) -> NetMaterial
+/// What network PDUs are sealed with under network credentials of a script (Mesh Profile 1.0.1, section 3.8.6.3.1).
+pub fn material(net: &ScriptNet) -> NetMaterial
     ensures value { result ≡ Said.material_of net.now }
     ensures nid { result.nid < 2 ^ 7 }
 {

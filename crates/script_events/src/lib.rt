@@ -13,4 +13,5 @@ pub mod outside;
 mod talking;
 
 pub use crate::events::Happening;
+pub use crate::kept::material;
 pub use crate::outside::{OutsideNode, beacon_octets};
