@@ -30,6 +30,13 @@ module _ {F : Type 0} where
   found (Some life) n h = (life, refl, h.0, h.1)
   found None n h = absurd h
 
+  gone : {A : Type 0} (life : HeldView F) → Some life ≡ None → A
+  gone life e = absurd cc
+
+  -- a phase is given to a life that is there
+  pub is_there : (text : List ℕ) (now : CalledView F) (lists : List (List Event)) → IsGiven text now lists → now.life ≡ None → ⊥
+  is_there text now lists g none = gone g.said.life (sym g.said.is ∙ none)
+
   pub said_is : (text : List ℕ) (now : CalledView F) (n : ℕ) (says : Saying)
       → IsSomeAnd now.life (λ life. (life.node.machine.closed ≡ false) × (n ≡ life.node.machine.elements)) → says ≡ line_says 1 n text → IsTaken now
       → IsSaid text now says

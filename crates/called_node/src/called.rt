@@ -238,6 +238,7 @@ impl<M: Machine> CalledNode<M, NotedFlash> {
     ///
     /// A line is one of a bearer as a script has it, with the bearer `b0`, whose word may be left out: rules 1, 3, 4 and 5 of `line_says` of
     /// `live_lines`.
+    #[tactic(auto, using(crate::proofs::Lines::is_there))]
     pub fn line(&mut self, alloc: Global, text: &[u8]) -> Called
         ensures happened { result ≡ C.Happened → IsLineDone M.role M.image ⟦<NotedFlash as Flash>⟧.chip text.now self.old self.new }
         ensures lost { result ≡ C.Lost → self.new ≡ record { life = None; writes = []; report = [] } }
@@ -249,7 +250,7 @@ impl<M: Machine> CalledNode<M, NotedFlash> {
             Err(called) => return called,
         };
         let Some(life) = mem::replace(&mut self.life, None) else {
-            return Called::Lost;
+            unreachable!()
         };
         match do_line(alloc, life, lists.as_slice()) {
             Ok(left) => {

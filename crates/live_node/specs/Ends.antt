@@ -1,5 +1,5 @@
 -- What each status of a life says.
-use Rattle.std.specs.Prelude.{◌≡◌, ◌⊎◌, ℕ, Bool, true, false, List, Option, Some, None, ⊤}
+use Rattle.std.specs.Prelude.{◌≡◌, ◌⊎◌, ℕ, Bool, true, false, List, Option, Some, None, IfSome, IsSomeAnd, ⊤}
 use Rattle.flash_model.specs.Chip.{Chip}
 use Rattle.event_definitions.specs.Role.{Role}
 use Rattle.mesh_base.specs.Outside.{Rose}
@@ -32,6 +32,31 @@ module _ (role : Role) (image : List ℕ → Type 0) (hex : Bool) (bearers : ℕ
   abbrev pub EndsAs : {F : Type 0} → (F → Chip) → (F → Standing) → Status → Bool → Option F → Type 0
   EndsAs chip Stood status closed (Some flash) = EndsOver (Stood flash) status closed (chip flash)
   EndsAs chip Stood status closed None = EndsLost status
+
+  -- What each status says of the life, of its lines and of what was written: all of it, and then status by status.
+  pub record EndsByStatus {F : Type 0} (chip : F → Chip) (Stood : F → Standing) (status : Status) (closed : Bool) (flash : Option F) : Type 0 where
+    pub ends : EndsAs chip Stood status closed flash
+    pub done : status ≡ S.Done
+        → IsSomeAnd flash (λ f. LivedOut (Stood f) role image hex bearers clocked start (chip f) from to before after)
+    pub cut : status ≡ S.Cut
+        → IsSomeAnd flash (λ f. WasCut (Stood f) role image hex bearers clocked start (chip f) from to before after)
+    pub read_fault : status ≡ S.ReadFault
+        → IsSomeAnd flash (λ f. LivedUnread (Stood f) role image hex bearers clocked start (chip f) from to before after)
+    pub errors_fault : status ≡ S.ErrorsFault
+        → IsSomeAnd flash (λ f. LivedUntold (Stood f) role image hex bearers clocked start (chip f) from to before after)
+    pub front : status ≡ S.WriteFault
+        → IsSomeAnd flash
+        (λ f. ((closed ≡ false) × Unopened image start (chip f) from to before after)
+        ⊎ LivedBroken (Stood f) role image hex bearers clocked start (chip f) from to before after closed)
+    pub memory : status ≡ S.Memory
+        → IfSome flash
+        (λ f. ((closed ≡ false) × Unopened image start (chip f) from to before after)
+        ⊎ LivedBroken (Stood f) role image hex bearers clocked start (chip f) from to before after closed)
+    -- the flash is lost for want of memory alone
+    pub lost : flash ≡ None → (status ≡ S.Memory) × LivedShort role hex bearers clocked start from to before after
+    pub flash_fault : status ≡ S.FlashFault
+        → IsSomeAnd flash (λ f. FailsAtOpening image start (chip f) from to before after)
+    pub was_reset : status ≡ S.WasReset → IsSomeAnd flash (λ f. ToldReset image start (chip f) from to before after)
 
 -- the count of faults of the sink of the report rose exactly where that is why the life ended
 abbrev pub IsSinkCause : Status → ℕ → ℕ → Type 0

@@ -9,6 +9,7 @@ ghost use Rattle.mesh_node.specs.declared.told.LastStep.TheVariants as steps;
 
 use crate::status::{Status, line_status, stop_status};
 use live_lines::LineStop;
+use live_report::LiveReport;
 use mesh_base::outside::Sink;
 use mesh_node::LastStep;
 use mesh_types::report::{End, Opened};
@@ -44,24 +45,23 @@ fn given_up(last: LastStep, why: Option<LineStop>, stopped: Option<WriteStop>) -
     }
 }
 
-/// How a life ended whose last step was this: where its source came to its end, its last line is written.
-pub(crate) fn end_status<K: Sink>(
+/// How a life ended whose last step was this: where its source came to its end, its last line is written. Its lines and its report tell why else.
+pub(crate) fn end_status<K: Sink + Drop>(
     alloc: Global,
-    sink: &mut K,
+    report: &mut LiveReport<K>,
     opened: Opened,
     last: LastStep,
     why: Option<LineStop>,
-    stopped: Option<WriteStop>,
 ) -> Status
     ensures told { last ≡ steps.Ended
-        → IsEndTold opened result (view_of K.held K.pieces sink.old) (K.faults sink.old)
-        (view_of K.held K.pieces sink.new) (K.faults sink.new) }
+        → IsEndTold opened result (view_of K.held K.pieces report.old.sink) (K.faults report.old.sink)
+        (view_of K.held K.pieces report.new.sink) (K.faults report.new.sink) }
     ensures given_up { (last ≡ steps.Ended → ⊥)
-        → (result ≡ status_behind last why stopped) × (sink.new ≡ sink.old) }
+        → (result ≡ status_behind last why report.old.stopped) × (report.new.sink ≡ report.old.sink) }
 {
     if last == LastStep::Ended {
-        tell_end(alloc, sink, opened)
+        tell_end(alloc, &mut report.sink, opened)
     } else {
-        given_up(last, why, stopped)
+        given_up(last, why, report.stopped)
     }
 }

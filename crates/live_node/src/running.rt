@@ -1,7 +1,7 @@
 //! The life of a node.
 #![tactic(auto)]
 
-ghost use Rattle.std.specs.Prelude.{◌≡◌, ◌⊎◌, ◌≤◌, [], ◌∷◌, None, Some, false, IfSome, IsSomeAnd};
+ghost use Rattle.std.specs.Prelude.{◌≡◌, ◌≤◌, [], ◌∷◌, None, Some, false};
 ghost use Rattle.event_definitions.specs.Role.{node_role};
 ghost use Rattle.flash_model.specs.Chip.{IsFresh, Keeps};
 ghost use Rattle.machine_contract.specs.Opening.{IsNodeFlash};
@@ -16,8 +16,8 @@ ghost use Rattle.report_definitions.specs.Report.{opened_line};
 ghost use Rattle.report_writer.specs.Writing.{SinkView, Written, view_of};
 ghost use Rattle.live_node.specs.Begun.{IsBegun};
 ghost use Rattle.live_node.specs.Ending.{IsResetTold};
-ghost use Rattle.live_node.specs.Ends.{EndsAs, IsClosedBy, IsErrorsCause, IsSinkCause, IsSourceCause};
-ghost use Rattle.live_node.specs.Lived.{FailsAtOpening, LivedBroken, LivedOut, LivedShort, LivedUnread, LivedUntold, ToldReset, Unopened, WasCut, streams_at};
+ghost use Rattle.live_node.specs.Ends.{EndsAs, EndsByStatus, IsClosedBy, IsErrorsCause, IsSinkCause, IsSourceCause};
+ghost use Rattle.live_node.specs.Lived.{streams_at};
 
 use crate::ending::end_status;
 use crate::status::{Ended, Status, Streams, stop_status};
@@ -30,7 +30,7 @@ use locked_node::Known;
 use machine_contract::{Machine, StartFault, Started};
 use mesh_base::outside::Sink;
 use mesh_machine::MeshMachine;
-use mesh_node::{Beginning, Gate, live_on};
+use mesh_node::{Beginning, Gate, Host, live_on};
 use mesh_types::report::Opened;
 use report_writer::write_opening;
 use std::alloc::Global;
@@ -95,6 +95,24 @@ fn phases_for<M: Machine, S: ClockedSource + Drop, E: Sink + Drop>(
     LinePhases::with_held(alloc, held, source, errors, bearers, machine.elements())
 }
 
+/// The streams, out of what was run over them.
+fn streams_of<S: ClockedSource + Drop, E: Sink + Drop, K: Sink + Drop>(
+    lines: LinePhases<S, E>,
+    report: LiveReport<K>,
+) -> Streams<S, E, K>
+    ensures value { result
+        ≡ record { source = lines.lines.source; errors = lines.lines.errors; sink = report.sink } }
+{
+    let LinePhases { lines, .. } = lines;
+    let LineSource { source, errors, .. } = lines;
+    let LiveReport { sink, .. } = report;
+    Streams {
+        source,
+        errors,
+        sink,
+    }
+}
+
 /// Runs a life that was opened, whose line was written.
 fn go_on<
     M: Machine,
@@ -105,9 +123,7 @@ fn go_on<
     K: Sink + Drop,
     G: Gate,
 >(
-    rt: &R,
-    alloc: Global,
-    gate: &G,
+    host: &Host<R, G>,
     beginning: Beginning<M, F>,
     opened: Opened,
     lines: LinePhases<S, E>,
@@ -137,42 +153,23 @@ fn go_on<
     life_law();
     let mut lines = lines;
     let mut report = report;
+    let Host { rt, alloc, gate } = *host;
     let lived = live_on(rt, alloc, gate, beginning, &mut lines, &mut report);
-    let LinePhases { lines, .. } = lines;
-    let LineSource {
-        source,
-        errors,
-        why,
-        ..
-    } = lines;
-    let LiveReport {
-        mut sink,
-        stopped,
-        ..
-    } = report;
     match lived {
         Ok(lived) => {
-            let status = end_status(alloc, &mut sink, opened, lived.last, why, stopped);
+            let status = end_status(alloc, &mut report, opened, lived.last, lines.lines.why);
             Ended {
                 status,
                 closed: lived.closed,
                 flash: Some(lived.flash),
-                streams: Streams {
-                    source,
-                    errors,
-                    sink,
-                },
+                streams: streams_of(lines, report),
             }
         }
         Err(_) => Ended {
             status: Status::Memory,
             closed: false,
             flash: None,
-            streams: Streams {
-                source,
-                errors,
-                sink,
-            },
+            streams: streams_of(lines, report),
         },
     }
 }
@@ -187,9 +184,7 @@ fn run_started<
     K: Sink + Drop,
     G: Gate,
 >(
-    rt: &R,
-    alloc: Global,
-    gate: &G,
+    host: &Host<R, G>,
     beginning: Beginning<M, F>,
     hex: bool,
     streams: Streams<S, E, K>,
@@ -207,7 +202,7 @@ fn run_started<
 {
     // It does nothing when it runs: the proof uses what it says.
     M::tells::<F>();
-    let Ok(held) = Held::new(alloc) else {
+    let Ok(held) = Held::new(host.alloc) else {
         return unopened(Status::Memory, beginning.flash, streams);
     };
     let Streams {
@@ -216,7 +211,7 @@ fn run_started<
         mut sink,
     } = streams;
     let opened = Opened::On(beginning.started.state, beginning.started.mark);
-    match write_opening(alloc, &mut sink, 1, opened) {
+    match write_opening(host.alloc, &mut sink, 1, opened) {
         Ok(()) => {}
         Err(stop) => {
             let streams = Streams {
@@ -228,15 +223,15 @@ fn run_started<
         }
     }
     let lines = phases_for(
-        alloc,
+        host.alloc,
         held,
         &beginning.started.machine,
         beginning.bearers,
         source,
         errors,
     );
-    let report = LiveReport::new(alloc, hex, sink);
-    go_on(rt, alloc, gate, beginning, opened, lines, report)
+    let report = LiveReport::new(host.alloc, hex, sink);
+    go_on(host, beginning, opened, lines, report)
 }
 
 /// Runs one life of a node, by any machine.
@@ -249,13 +244,11 @@ fn run_machine<
     K: Sink + Drop,
     G: Gate,
 >(
-    rt: &R,
-    alloc: Global,
+    host: &Host<R, G>,
     flash: F,
     bearers: u8,
     hex: bool,
     streams: Streams<S, E, K>,
-    gate: &G,
 ) -> Ended<F, S, E, K>
     requires fresh { IsFresh (F.chip flash) }
     requires node { IsNodeFlash M.image (F.chip flash) }
@@ -270,12 +263,12 @@ fn run_machine<
     ensures closed { IsClosedBy result.status result.closed }
 {
     let mut flash = flash;
-    let Ok(start) = Known::of(alloc, &flash) else {
+    let Ok(start) = Known::of(host.alloc, &flash) else {
         return unopened(Status::Memory, flash, streams);
     };
     // It does nothing when it runs: the proof uses what it says.
     one_list_is_recovered();
-    match M::start(alloc, &mut flash) {
+    match M::start(host.alloc, &mut flash) {
         Ok(started) => {
             let beginning = Beginning {
                 flash,
@@ -283,9 +276,9 @@ fn run_machine<
                 started,
                 bearers,
             };
-            run_started(rt, alloc, gate, beginning, hex, streams)
+            run_started(host, beginning, hex, streams)
         }
-        Err(StartFault::WasReset) => tell_reset(alloc, flash, streams),
+        Err(StartFault::WasReset) => tell_reset(host.alloc, flash, streams),
         Err(StartFault::Flash) => unopened(Status::FlashFault, flash, streams),
         Err(StartFault::Memory) => unopened(Status::Memory, flash, streams),
     }
@@ -310,85 +303,23 @@ pub fn run_node<
     K: Sink + Drop,
     G: Gate,
 >(
-    rt: &R,
-    alloc: Global,
+    host: &Host<R, G>,
     flash: F,
     bearers: u8,
     hex: bool,
     streams: Streams<S, E, K>,
-    gate: &G,
 ) -> Ended<F, S, E, K>
     requires fresh { IsFresh (F.chip flash) }
     requires node { IsNode (F.chip flash).now }
     requires began { (F.chip flash).setting.faults ≤ (F.chip flash).faults }
     requires few { bearers ≤ BEARERS }
 
-    // What each status says of the life, of its lines and of what was written: all of it, and then status by status.
-    ensures ended { EndsAs (node_role node_layers) IsNode hex bearers S.clocked (F.chip flash)
+    // What each status says of the life, of its lines and of what was written.
+    ensures ended { EndsByStatus (node_role node_layers) IsNode hex bearers S.clocked (F.chip flash)
         (streams_at S.left S.faults E.held E.pieces E.faults streams)
         (streams_at S.left S.faults E.held E.pieces E.faults result.streams)
         (view_of K.held K.pieces streams.sink) (view_of K.held K.pieces result.streams.sink) F.chip
         (Stood shown Stands F.chip) result.status result.closed result.flash }
-    ensures done { result.status ≡ Status.Done
-        → IsSomeAnd result.flash
-        (λ f. LivedOut (Stood shown Stands F.chip f) (node_role node_layers) IsNode hex bearers S.clocked (F.chip flash) (F.chip f)
-        (streams_at S.left S.faults E.held E.pieces E.faults streams)
-        (streams_at S.left S.faults E.held E.pieces E.faults result.streams) (view_of K.held K.pieces streams.sink)
-        (view_of K.held K.pieces result.streams.sink)) }
-    ensures cut { result.status ≡ Status.Cut
-        → IsSomeAnd result.flash
-        (λ f. WasCut (Stood shown Stands F.chip f) (node_role node_layers) IsNode hex bearers S.clocked (F.chip flash) (F.chip f)
-        (streams_at S.left S.faults E.held E.pieces E.faults streams)
-        (streams_at S.left S.faults E.held E.pieces E.faults result.streams) (view_of K.held K.pieces streams.sink)
-        (view_of K.held K.pieces result.streams.sink)) }
-    ensures read_fault { result.status ≡ Status.ReadFault
-        → IsSomeAnd result.flash
-        (λ f. LivedUnread (Stood shown Stands F.chip f) (node_role node_layers) IsNode hex bearers S.clocked (F.chip flash) (F.chip f)
-        (streams_at S.left S.faults E.held E.pieces E.faults streams)
-        (streams_at S.left S.faults E.held E.pieces E.faults result.streams) (view_of K.held K.pieces streams.sink)
-        (view_of K.held K.pieces result.streams.sink)) }
-    ensures errors_fault { result.status ≡ Status.ErrorsFault
-        → IsSomeAnd result.flash
-        (λ f. LivedUntold (Stood shown Stands F.chip f) (node_role node_layers) IsNode hex bearers S.clocked (F.chip flash) (F.chip f)
-        (streams_at S.left S.faults E.held E.pieces E.faults streams)
-        (streams_at S.left S.faults E.held E.pieces E.faults result.streams) (view_of K.held K.pieces streams.sink)
-        (view_of K.held K.pieces result.streams.sink)) }
-    ensures front { result.status ≡ Status.WriteFault
-        → IsSomeAnd result.flash
-        (λ f. ((result.closed ≡ false)
-        × Unopened IsNode (F.chip flash) (F.chip f) (streams_at S.left S.faults E.held E.pieces E.faults streams)
-        (streams_at S.left S.faults E.held E.pieces E.faults result.streams) (view_of K.held K.pieces streams.sink)
-        (view_of K.held K.pieces result.streams.sink))
-        ⊎ LivedBroken (Stood shown Stands F.chip f) (node_role node_layers) IsNode hex bearers S.clocked (F.chip flash) (F.chip f)
-        (streams_at S.left S.faults E.held E.pieces E.faults streams)
-        (streams_at S.left S.faults E.held E.pieces E.faults result.streams) (view_of K.held K.pieces streams.sink)
-        (view_of K.held K.pieces result.streams.sink) result.closed) }
-    ensures memory { result.status ≡ Status.Memory
-        → IfSome result.flash
-        (λ f. ((result.closed ≡ false)
-        × Unopened IsNode (F.chip flash) (F.chip f) (streams_at S.left S.faults E.held E.pieces E.faults streams)
-        (streams_at S.left S.faults E.held E.pieces E.faults result.streams) (view_of K.held K.pieces streams.sink)
-        (view_of K.held K.pieces result.streams.sink))
-        ⊎ LivedBroken (Stood shown Stands F.chip f) (node_role node_layers) IsNode hex bearers S.clocked (F.chip flash) (F.chip f)
-        (streams_at S.left S.faults E.held E.pieces E.faults streams)
-        (streams_at S.left S.faults E.held E.pieces E.faults result.streams) (view_of K.held K.pieces streams.sink)
-        (view_of K.held K.pieces result.streams.sink) result.closed) }
-    ensures lost { result.flash ≡ None
-        → (result.status ≡ Status.Memory)
-        × LivedShort (node_role node_layers) hex bearers S.clocked (F.chip flash)
-        (streams_at S.left S.faults E.held E.pieces E.faults streams)
-        (streams_at S.left S.faults E.held E.pieces E.faults result.streams) (view_of K.held K.pieces streams.sink)
-        (view_of K.held K.pieces result.streams.sink) }
-    ensures flash_fault { result.status ≡ Status.FlashFault
-        → IsSomeAnd result.flash
-        (λ f. FailsAtOpening IsNode (F.chip flash) (F.chip f) (streams_at S.left S.faults E.held E.pieces E.faults streams)
-        (streams_at S.left S.faults E.held E.pieces E.faults result.streams) (view_of K.held K.pieces streams.sink)
-        (view_of K.held K.pieces result.streams.sink)) }
-    ensures was_reset { result.status ≡ Status.WasReset
-        → IsSomeAnd result.flash
-        (λ f. ToldReset IsNode (F.chip flash) (F.chip f) (streams_at S.left S.faults E.held E.pieces E.faults streams)
-        (streams_at S.left S.faults E.held E.pieces E.faults result.streams) (view_of K.held K.pieces streams.sink)
-        (view_of K.held K.pieces result.streams.sink)) }
     ensures closed { IsClosedBy result.status result.closed }
 
     // No fault is swallowed: the count of a stream's faults rises exactly where that is why the life ended.
@@ -396,5 +327,5 @@ pub fn run_node<
     ensures source_cause { IsSourceCause result.status (S.faults streams.source) (S.faults result.streams.source) }
     ensures errors_cause { IsErrorsCause result.status (E.faults streams.errors) (E.faults result.streams.errors) }
 {
-    run_machine::<MeshMachine, _, _, _, _, _, _>(rt, alloc, flash, bearers, hex, streams, gate)
+    run_machine::<MeshMachine, _, _, _, _, _, _>(host, flash, bearers, hex, streams)
 }

@@ -14,7 +14,7 @@ use flash_model::Flash;
 use live_lines::ClockedSource;
 use live_node::{Status, Streams, run_node};
 use mesh_base::outside::Sink;
-use mesh_node::FreeGate;
+use mesh_node::{FreeGate, Host};
 use node_file::NodeFlash;
 use std::alloc::Global;
 use std::sync::Wait;
@@ -83,7 +83,12 @@ pub fn run<
             };
         }
     };
-    let ended = run_node(rt, alloc, flash, ways.bearers, ways.hex, streams, &FreeGate);
+    let host = Host {
+        rt,
+        alloc,
+        gate: &FreeGate,
+    };
+    let ended = run_node(&host, flash, ways.bearers, ways.hex, streams);
     Ran {
         answer: answered(ended.status, ended.closed),
         streams: ended.streams,

@@ -29,9 +29,10 @@ returns-in-Ok-clause-ended g c before first =
     let same = c.one_list_is_recovered.ensures.one_list (chip c.args.beginning.start).now lives.over s.over lives.recovered s.read in
     let life = c.tells.ensures.known c.args.beginning.flash s.over c.args.beginning.started.machine s.tie in
     let laws = c.life_law.ensures in
-    over g.S.ClockedSource.clocked g.S.Source.left g.S.Source.faults g.E.Sink.held g.E.Sink.pieces g.E.Sink.faults g.K.Sink.held g.K.Sink.pieces g.K.Sink.faults
+    rw c.streams_of.ensures.value
+    (over g.S.ClockedSource.clocked g.S.Source.left g.S.Source.faults g.E.Sink.held g.E.Sink.pieces g.E.Sink.faults g.K.Sink.held g.K.Sink.pieces g.K.Sink.faults
     (Stood g.M.Machine.view g.M.Machine.stands chip lived.flash) g.M.Machine.role g.M.Machine.image _ c.args.beginning.bearers (chip c.args.beginning.start) (chip lived.flash)
-    lines c.live_on-lived.new.source c.args.report c.live_on-lived.new.sink c.end_status-status.new.sink lived.refills lived.drawn lived.closed
+    lines c.live_on-lived.new.source c.args.report c.live_on-lived.new.sink c.end_status-status.new.report.sink lived.refills lived.drawn lived.closed
     (streams_at g.S.Source.left g.S.Source.faults g.E.Sink.held g.E.Sink.pieces g.E.Sink.faults (record { source = lines.lines.source; errors = lines.lines.errors; sink = c.args.report.sink }))
     before c.args.opened (record { whole = laws.whole; end = laws.end }) first
     (ap₂ (λ h n. record {
@@ -45,18 +46,19 @@ returns-in-Ok-clause-ended g c before first =
     lived.last lives (opens lives.over s.over c.args.opened c.args.beginning.started.state c.args.beginning.started.mark same c.requires.opened s.state s.mark)
     (begins.elements_are ∙ life.elements ∙ ap (λ o. (config_of o).elements) (sym same)) begins.bearers_are
     (c.told_law.ensures.told lived.last c.args.report c.live_on-lived.new.sink lives.did lives.took)
-    c.end_status-status.result c.end_status-status.ensures.told c.end_status-status.ensures.given_up
+    c.end_status-status.result c.end_status-status.ensures.told c.end_status-status.ensures.given_up)
 
 pub returns-in-Ok-clause-sink : goal.returns-in-Ok-clause-sink
 returns-in-Ok-clause-sink g c =
     let lives = c.in-Ok.ensures.lived in
     let lived = c.in-Ok.lived in
-    sink_cause g.K.Sink.held g.K.Sink.pieces g.K.Sink.faults c.args.opened (phases_lines c.args.report.hex lives.did) c.args.report c.live_on-lived.new.sink c.end_status-status.new.sink
+    rw c.streams_of.ensures.value
+    (sink_cause g.K.Sink.held g.K.Sink.pieces g.K.Sink.faults c.args.opened (phases_lines c.args.report.hex lives.did) c.args.report c.live_on-lived.new.sink c.end_status-status.new.report.sink
     lived.last (c.told_law.ensures.told lived.last c.args.report c.live_on-lived.new.sink lives.did lives.took)
-    c.end_status-status.result c.end_status-status.ensures.told c.live_on-lived.new.source.lines.why c.end_status-status.ensures.given_up
+    c.end_status-status.result c.end_status-status.ensures.told c.live_on-lived.new.source.lines.why c.end_status-status.ensures.given_up)
 
-pub returns-clause-ended : goal.returns-clause-ended
-returns-clause-ended g c before first =
+pub returns-in-Err-clause-ended : goal.returns-in-Err-clause-ended
+returns-in-Err-clause-ended g c before first =
     let chip = g.F.Flash.chip in
     let s = c.requires.started in
     let begins = c.requires.lines in
@@ -65,7 +67,8 @@ returns-clause-ended g c before first =
     let same = c.one_list_is_recovered.ensures.one_list (chip c.args.beginning.start).now fell.over s.over fell.recovered s.read in
     let life = c.tells.ensures.known c.args.beginning.flash s.over c.args.beginning.started.machine s.tie in
     let laws = c.life_law.ensures in
-    short g.S.ClockedSource.clocked g.S.Source.left g.S.Source.faults g.E.Sink.held g.E.Sink.pieces g.E.Sink.faults g.K.Sink.held g.K.Sink.pieces g.K.Sink.faults
+    rw c.streams_of-in-Err.ensures.value
+    (short g.S.ClockedSource.clocked g.S.Source.left g.S.Source.faults g.E.Sink.held g.E.Sink.pieces g.E.Sink.faults g.K.Sink.held g.K.Sink.pieces g.K.Sink.faults
     (λ _ _. ⊤) g.M.Machine.role g.M.Machine.image _ c.args.beginning.bearers (chip c.args.beginning.start) (chip c.args.beginning.start)
     lines c.live_on-lived.new.source c.args.report c.live_on-lived.new.sink c.live_on-lived.new.sink.sink 0 (record { next = 0; mark = 0; drawn = []; looks = []; advances = [] }) Rattle.std.proofs.Common.false
     (streams_at g.S.Source.left g.S.Source.faults g.E.Sink.held g.E.Sink.pieces g.E.Sink.faults (record { source = lines.lines.source; errors = lines.lines.errors; sink = c.args.report.sink }))
@@ -80,16 +83,16 @@ returns-clause-ended g c before first =
     }) begins.held begins.number) begins.why (All-nil (λ b. b ≡ 10 → ⊥), begins.front)
     fell (opens fell.over s.over c.args.opened c.args.beginning.started.state c.args.beginning.started.mark same c.requires.opened s.state s.mark)
     (begins.elements_are ∙ life.elements ∙ ap (λ o. (config_of o).elements) (sym same)) begins.bearers_are
-    (c.told_law.ensures.taken c.args.report c.live_on-lived.new.sink fell.did fell.took).written
+    (c.told_law.ensures.taken c.args.report c.live_on-lived.new.sink fell.did fell.took).written)
 
-pub returns-clause-sink : goal.returns-clause-sink
-returns-clause-sink g c =
+pub returns-in-Err-clause-sink : goal.returns-in-Err-clause-sink
+returns-in-Err-clause-sink g c =
     let fell = c.in-Err.ensures.short in
-    (c.told_law.ensures.taken c.args.report c.live_on-lived.new.sink fell.did fell.took).faults_stay
+    rw c.streams_of-in-Err.ensures.value (c.told_law.ensures.taken c.args.report c.live_on-lived.new.sink fell.did fell.took).faults_stay
 
 pub returns-in-Ok-clause-closed : goal.returns-in-Ok-clause-closed
 returns-in-Ok-clause-closed g c =
     let lives = c.in-Ok.ensures.lived in
     let lived = c.in-Ok.lived in
-    closed_cause g.K.Sink.held g.K.Sink.pieces g.K.Sink.faults c.args.opened (phases_lines c.args.report.hex lives.did) c.args.report c.live_on-lived.new.sink c.end_status-status.new.sink
+    closed_cause g.K.Sink.held g.K.Sink.pieces g.K.Sink.faults c.args.opened (phases_lines c.args.report.hex lives.did) c.args.report c.live_on-lived.new.sink c.end_status-status.new.report.sink
     lived.last lived.closed lives.end c.end_status-status.result c.end_status-status.ensures.told c.live_on-lived.new.source.lines.why c.end_status-status.ensures.given_up
