@@ -5,6 +5,7 @@
 //! - `flashes`: flashes that aren't erased, and flashes whose reads fail
 //! - `gates`: bearers beside one another
 //! - `reports`: the report of a living node
+//! - `streams`: sources and sinks that fail at one call
 #![tactic(auto)]
 
 #[cfg(test)]
