@@ -206,12 +206,12 @@ def built_losing(folder: Path) -> Path | None:
     return library
 
 
-def tried(program: Path, audit: Path, kills: int, seed: int, folder: Path) -> Test:
+def tried(program: Path, audit: Path, kills: int, seed: int, folder: Path, kind: type[Test] = Test) -> Test:
     """The kills over one file: half of them at random moments, some of these with a clock, half at a call to the file. Then those of new files as they
     migrate."""
     losing = built_losing(folder)
     client = Client(random.Random(seed))
-    test = Test(program, folder / 'lamp.node', client, losing)
+    test = kind(program, folder / 'lamp.node', client, losing)
     test.make()
     for number in range(kills):
         if number % 10 == 5:

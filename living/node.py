@@ -107,10 +107,13 @@ class Living:
         self._ended = False
         self._errors = tempfile.TemporaryFile('w+', encoding='ascii')
         self.process = subprocess.Popen(
-            [self.program, 'run', self.file, *self.words], stdin=subprocess.PIPE, stdout=subprocess.PIPE,
-            stderr=self._errors, env={**os.environ, **self.preload})
+            self.command(), stdin=subprocess.PIPE, stdout=subprocess.PIPE, stderr=self._errors, env={**os.environ, **self.preload})
         self._reader = threading.Thread(target=self._read, daemon=True)
         self._reader.start()
+
+    def command(self) -> list[str | Path]:
+        """What is run."""
+        return [self.program, 'run', self.file, *self.words]
 
     def _read(self) -> None:
         assert self.process.stdout

@@ -1,8 +1,8 @@
 /* What a program in C can call of meshnode. bindings/header writes this file from crates/meshnode_c: don't edit it.
  *
  * bindings/README.md says how to build with it, and what a caller promises. A pointer is to as many octets as the length behind it, and no
- * octet that a call writes is given to it a second time. A call that is refused leaves all that it was given as it was, but for the text of
- * meshnode_ccm_open, which is zeros where the MIC is wrong, and for the line that meshnode_audit tells. */
+ * octet that a call writes is given to it a second time. A call that is refused leaves all that it was given as it was, but where its comment
+ * says that it tells something, and for the text of meshnode_ccm_open, which is zeros where the MIC is wrong. */
 #ifndef MESHNODE_H
 #define MESHNODE_H
 
