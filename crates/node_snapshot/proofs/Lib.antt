@@ -1,6 +1,9 @@
 pub mod Built
 pub mod Entries
+pub mod Few
 pub mod Leads
+pub mod Passing
+pub mod Rests
 pub mod Sorted
 pub mod Steps
 pub mod Tables

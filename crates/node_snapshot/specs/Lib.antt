@@ -1,3 +1,4 @@
 pub mod Parts
+pub mod Passing
 pub mod Sizes
 pub mod Snapshot

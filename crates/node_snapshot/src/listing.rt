@@ -1,29 +1,59 @@
 //! The records that say a value anew, and their slots.
 #![tactic(auto)]
 
-ghost use Rattle.std.specs.Prelude.{◌≡◌, ◌≤◌, ◌++◌, [], ◌∷◌, length, map, All};
-ghost use Rattle.record_types.specs.declared.records.StoreRecord.{StoreRecord};
+ghost use Rattle.std.specs.Prelude.{◌≡◌, ◌≤◌, length, map};
 ghost use Rattle.record_types.specs.declared.records.StoreRecord.TheVariants as R;
-ghost use Rattle.store_definitions.specs.Ranges.{IsInRange};
 ghost use Rattle.store_definitions.specs.Recovered.{record_text};
 ghost use Rattle.node_records.specs.Meaning.{IsSaid};
+ghost use Rattle.node_snapshot.specs.Passing.{passed};
 ghost use Rattle.node_snapshot.specs.Sizes.{HasSizes};
-ghost use Rattle.node_snapshot.specs.Snapshot.{IsSnapshot, snapshot_of};
+ghost use Rattle.node_snapshot.specs.Snapshot.{IsSnapshot, names_of, snapshot_of};
 
-use crate::names::{by_source, put_names};
+use crate::names::pass_names;
 use crate::parts::{
-    Records, push, put_apps, put_binds, put_features, put_identity, put_labels, put_models,
-    put_nets, put_publications, put_reset, put_subs,
+    Passed, pass, pass_apps, pass_binds, pass_features, pass_identity, pass_labels, pass_models,
+    pass_nets, pass_publications, pass_reset, pass_subs,
 };
+use mesh_base::pair::Name;
 use mesh_base::slot::Slot;
-use mesh_base::table::Table;
 use node_limits::SNAPSHOT_RECORDS;
 use node_records::Persist;
 use record_texts::encode;
 use record_types::records::StoreRecord;
+use slot_journal::Items;
+use std::marker::Model;
 
-/// The slots of a snapshot.
-pub type Snapshot = Table<Slot, SNAPSHOT_RECORDS>;
+/// The slots of a snapshot. Each is made when it is asked for: none is held.
+#[derive(Drop)]
+pub struct SnapshotSlots<'a> {
+    persist: &'a Persist,
+    names: &'a [Name],
+}
+
+impl<'a> Model for SnapshotSlots<'a> {
+    ghost use Rattle.std.specs.Prelude.{◌≡◌, List, map, All};
+    ghost use Rattle.mesh_base.specs.declared.slot.Slot.{Slot};
+    ghost use Rattle.store_definitions.specs.Ranges.{IsInRange};
+    ghost use Rattle.store_definitions.specs.Recovered.{record_text};
+    ghost use Rattle.node_snapshot.specs.Snapshot.{names_of, snapshot_of};
+
+    ghost Value = { List Slot };
+
+    ghost view = { λ s. map record_text (snapshot_of s.persist.now) };
+
+    ghost invariant = { λ s. All IsInRange (snapshot_of s.persist.now) × (s.names.now ≡ names_of s.persist.now) };
+}
+
+impl Items for SnapshotSlots<'_> {
+    ghost slots = { λ s. s };
+
+    fn slot(&self, place: usize) -> Option<Slot> {
+        match pass_all(self.persist, self.names, place) {
+            Ok(_) => None,
+            Err(item) => Some(encode(&item)),
+        }
+    }
+}
 
 /// The Numbers record of a value.
 fn numbers_of(p: &Persist) -> StoreRecord
@@ -51,60 +81,44 @@ fn has_sizes(p: &Persist)
     let _replay = p.replay.len();
 }
 
-/// The records of a value.
+/// All records of a value. `names` are those of its replay list that aren't expired, by source.
 #[tactic(auto, unfolding(crate::specs::Snapshot::snapshot_of))]
-fn records_of(p: &Persist) -> Records
-    ensures value { result ≡ snapshot_of p.now }
-    ensures few { length result ≤ SNAPSHOT_RECORDS }
+fn pass_all(p: &Persist, names: &[Name], place: usize) -> Passed
+    requires names { names.now ≡ names_of p.now }
+    ensures value { result ≡ passed (snapshot_of p.now) place }
 {
-    let mut records = Table::new();
-    put_identity(&mut records, p.unicast, p.elements, &p.dev_key);
-    push(&mut records, numbers_of(p));
-    put_nets(&mut records, p.nets.as_slice());
-    put_apps(&mut records, p.apps.as_slice());
-    put_binds(&mut records, p.binds.as_slice());
-    put_subs(&mut records, p.subs.as_slice());
-    put_labels(&mut records, p.labels.as_slice());
-    put_features(
-        &mut records,
+    let left1 = pass_identity(p.unicast, p.elements, &p.dev_key, place)?;
+    let left2 = pass(numbers_of(p), left1)?;
+    let left3 = pass_nets(p.nets.as_slice(), left2)?;
+    let left4 = pass_apps(p.apps.as_slice(), left3)?;
+    let left5 = pass_binds(p.binds.as_slice(), left4)?;
+    let left6 = pass_subs(p.subs.as_slice(), left5)?;
+    let left7 = pass_labels(p.labels.as_slice(), left6)?;
+    let left8 = pass_features(
         p.beacon,
         p.ttl,
         p.friend,
         p.relay,
         p.retransmit,
         p.transmit,
-    );
-    put_models(&mut records, &p.onoffs, &p.levels);
-    let names = by_source(p.replay.as_slice(), p.iv.current);
-    put_names(&mut records, names.as_slice());
-    put_reset(&mut records, p.reset);
-    put_publications(&mut records, p.publications.as_slice());
-    records
-}
-
-/// The slots of records.
-fn texts(records: &[StoreRecord]) -> Snapshot
-    requires ranges { All IsInRange records.now }
-    requires few { length records.now ≤ SNAPSHOT_RECORDS }
-    ensures { result ≡ map record_text records.now }
-{
-    let mut slots = Table::new();
-    for item in records {
-        slots.push(encode(item)).unwrap();
-    }
-    slots
+        left7,
+    )?;
+    let left9 = pass_models(&p.onoffs, &p.levels, left8)?;
+    let left10 = pass_names(names, left9)?;
+    let left11 = pass_reset(p.reset, left10)?;
+    pass_publications(p.publications.as_slice(), left11)
 }
 
 /// The slots of the records that say a value anew, at most `SNAPSHOT_RECORDS`. They fold to the same value without expired entries of the replay list.
 ///
-/// The value is one that records in range say, as a new one is, and each that `apply` leaves.
-pub fn snapshot(p: &Persist) -> Snapshot
+/// The value is one that records in range say, as a new one is, and each that `apply` leaves. The names are those that [`put_names`] puts.
+pub fn snapshot<'a>(p: &'a Persist, names: &'a [Name]) -> SnapshotSlots<'a>
     requires said { IsSaid p.now }
+    requires names { names.now ≡ names_of p.now }
     ensures value { result ≡ map record_text (snapshot_of p.now) }
     ensures says { IsSnapshot (snapshot_of p.now) p.now }
     ensures few { length result ≤ SNAPSHOT_RECORDS }
 {
     has_sizes(p);
-    let records = records_of(p);
-    texts(records.as_slice())
+    SnapshotSlots { persist: p, names }
 }

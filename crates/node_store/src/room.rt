@@ -15,7 +15,7 @@ use crate::store::Store;
 use flash_model::{Flash, FlashFailed};
 use node_limits::{BANK_RECORDS, COMPACTION_CALLS, SNAPSHOT_RECORDS};
 use node_records::Persist;
-use node_snapshot::snapshot;
+use node_snapshot::{Names, put_names, snapshot};
 use record_texts::encode;
 use record_types::records::StoreRecord;
 use slot_journal::Journal;
@@ -46,8 +46,10 @@ pub fn compact<F: Flash>(
         → CostsCalls (compaction persist.now) result (F.chip flash.old) (F.chip flash.new) }
     ensures leaves { LeavesFlash result (F.chip flash.old) (F.chip flash.new) }
 {
-    let slots = snapshot(persist);
-    match journal.compact(flash, slots.as_slice()) {
+    let mut names = Names::new();
+    put_names(&mut names, persist);
+    let slots = snapshot(persist, names.as_slice());
+    match journal.compact(flash, &slots) {
         Ok(()) => Ok(()),
         Err(_) => Err(FlashFailed),
     }

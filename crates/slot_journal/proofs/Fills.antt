@@ -1,6 +1,6 @@
 -- Items are written into a blank bank, one after another.
 use Rattle.std.proofs.Common.{◌≡◌, ◌≢◌, ◌⊎◌, ℕ, zero, suc, ◌+◌, ◌-◌, ◌*◌, ◌<◌, ◌≤◌, List, [], ◌∷◌, ◌++◌, length, get_or, take, Some, None, refl, sym, ap, ◌∙◌, subst, inl, inr, ⊎_elim, arith}
-use Rattle.std.specs.Prelude.{option_to_list}
+use Rattle.std.specs.Prelude.{option_to_list, slice_get}
 use Rattle.std.proofs.lemmas.Bool.{cases_lt}
 use Rattle.std.proofs.lemmas.List.{take_all}
 use Rattle.std.proofs.Math.Seq.{take-suc}
@@ -15,11 +15,14 @@ use Rattle.slot_journal.specs.Banks.{StaysOutside, IsBankBare, IsBankFilled}
 use Rattle.slot_journal.specs.Tie.{IsUsed}
 use Rattle.slot_journal.proofs.Texts.{length_text}
 
--- an element is the same whatever stands for none
-pub same_default : (xs : List Slot) (i : ℕ) (d e : Slot) → i < length xs → get_or xs i d ≡ get_or xs i e
-same_default [] i d e lt = absurd (omega arith)
-same_default (x ∷ xs) zero d e lt = refl
-same_default (x ∷ xs) (suc i) d e lt = same_default xs i d e (omega arith)
+-- behind the last item there is none
+pub past_all : (items : List Slot) (k : ℕ) → slice_get items k ≡ None → length items ≤ k
+past_all [] k e = omega arith
+past_all (x ∷ items) zero e = absurd (no e)
+  where
+    no : Some x ≡ None → ⊥
+    no e = cc
+past_all (x ∷ items) (suc k) e = let h : length items ≤ k = past_all items k e in omega (arith, h)
 
 module _ (bank : ℕ) (items : List Slot) (k : ℕ) (base : List ℕ) (chip : Chip) (low : bank ≤ 1) (few : k < BANK_RECORDS) (so : IsBankFilled bank items k base chip) where
   -- the next slot, before it is written

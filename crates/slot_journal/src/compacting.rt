@@ -9,10 +9,10 @@ ghost use Rattle.slot_journal.specs.Banks.{IsErasing, IsErasedTo};
 
 use crate::filling::fill_bank;
 use crate::header::{FORMAT, header};
+use crate::items::Items;
 use crate::journal::Journal;
 use crate::text::write_slot;
 use flash_model::{Flash, FlashFailed};
-use mesh_base::slot::Slot;
 use node_limits::{BANK_RECORDS, BANK_SLOTS};
 use thiserror::Error;
 
@@ -56,8 +56,12 @@ impl Journal {
     ///
     /// At most as many items as a bank has room for; the snapshot of a node has fewer (`few` of `snapshot` in `node_snapshot`). The clauses on content are of a
     /// journal of this flash, as those of `append`.
-    pub fn compact<F: Flash>(&mut self, flash: &mut F, items: &[Slot]) -> Result<(), CompactFault>
-        requires { length items.now ≤ BANK_RECORDS }
+    pub fn compact<F: Flash, S: Items>(
+        &mut self,
+        flash: &mut F,
+        items: &S,
+    ) -> Result<(), CompactFault>
+        requires { length (S.slots items.now) ≤ BANK_RECORDS }
 
         ensures closed { self.old.closed ≡ true
             → (result ≡ Err CompactFault.Closed) × (self.new ≡ self.old) × (flash.new ≡ flash.old) }
@@ -69,7 +73,7 @@ impl Journal {
             (self.new
             ≡ record {
               bank = 1 - self.old.bank;
-              used = length items.now;
+              used = length (S.slots items.now);
               closed = false;
               generation = (self.old.generation + 1) % 4294967296;
               version = 2;
@@ -78,16 +82,16 @@ impl Journal {
         // Of a journal of this flash.
         ensures kept { IsJournalOf (F.chip flash.old) self.old → OnOk result (IsJournalOf (F.chip flash.new) self.new) }
         ensures durable { IsJournalOf (F.chip flash.old) self.old
-            → OnOk result (recovered (F.chip flash.new).now ≡ Some (record { format = 2; slots = items.now })) }
+            → OnOk result (recovered (F.chip flash.new).now ≡ Some (record { format = 2; slots = S.slots items.now })) }
         ensures any_moment { IsJournalOf (F.chip flash.old) self.old
             → LeavesOnly (F.chip flash.old) (F.chip flash.new)
-            (IsCompacted (recovered (F.chip flash.old).now) items.now) }
+            (IsCompacted (recovered (F.chip flash.old).now) (S.slots items.now)) }
 
         // over a steady flash: 8 erase calls, two program calls for each item and two for the header, and at most these where it fails
         ensures calls { IsTrue (F.chip flash.old).steady
-            → OnOk result (Begins (10 + 2 * length items.now) (F.chip flash.old) (F.chip flash.new)) }
+            → OnOk result (Begins (10 + 2 * length (S.slots items.now)) (F.chip flash.old) (F.chip flash.new)) }
         ensures most_calls { IsTrue (F.chip flash.old).steady
-            → BeginsAtMost (10 + 2 * length items.now) (F.chip flash.old) (F.chip flash.new) }
+            → BeginsAtMost (10 + 2 * length (S.slots items.now)) (F.chip flash.old) (F.chip flash.new) }
 
         // of every flash, honest or not
         ensures reads { (F.chip flash.new).reads ≡ (F.chip flash.old).reads }
@@ -102,11 +106,11 @@ impl Journal {
         let bank = 1 - self.bank;
         let generation = self.generation.wrapping_add(1);
         erase_bank(flash, bank)?;
-        fill_bank(flash, bank, items)?;
+        let used = fill_bank(flash, bank, items)?;
         write_slot(flash, BANK_SLOTS * bank, &header(FORMAT, generation))?;
         *self = Journal {
             bank,
-            used: items.len() as u32,
+            used,
             closed: false,
             generation,
             version: FORMAT,

@@ -73,11 +73,11 @@ impl Journal {
         if let Some(at) = first_written(flash)? {
             return Err(FormatFault::NotErased { at });
         }
-        fill_bank(flash, 0, items)?;
+        let used = fill_bank(flash, 0, &items)?;
         write_slot(flash, 0, &header(format, GENERATION))?;
         Ok(Journal {
             bank: 0,
-            used: items.len() as u32,
+            used,
             closed: false,
             generation: GENERATION,
             version: format,

@@ -69,6 +69,7 @@ mod compacting;
 mod filling;
 mod formatting;
 mod header;
+mod items;
 mod journal;
 mod mounting;
 mod text;
@@ -76,6 +77,7 @@ mod tidying;
 
 pub use compacting::CompactFault;
 pub use formatting::FormatFault;
+pub use items::Items;
 pub use journal::{AppendFault, Journal};
 pub use mounting::NoMount;
 pub use tidying::{Untidy, check_tidy};

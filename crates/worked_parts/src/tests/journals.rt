@@ -41,7 +41,7 @@ fn compact<F: Flash>(flash: &mut F, items: &[Slot])
     let Ok(mut journal) = Journal::mount(flash) else {
         return;
     };
-    let _ = journal.compact(flash, items);
+    let _ = journal.compact(flash, &items);
 }
 
 /// The kind that slot `n` holds, or 0 where it holds none.

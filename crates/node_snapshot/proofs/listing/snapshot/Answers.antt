@@ -1,14 +1,19 @@
-use Rattle.std.proofs.Common.{sym, subst, ◌∙◌, List}
-use Rattle.std.specs.Prelude.{All}
-use Rattle.record_types.specs.declared.records.StoreRecord.{StoreRecord}
-use Rattle.store_definitions.specs.Ranges.{IsInRange}
+use Rattle.std.proofs.Common.{◌≤◌, length, map}
+use Rattle.std.proofs.lemmas.List.{length-map}
+use Rattle.node_limits.specs.declared.TheConstants.{SNAPSHOT_RECORDS}
+use Rattle.store_definitions.specs.Recovered.{record_text}
+use Rattle.node_snapshot.specs.Snapshot.{snapshot_of}
+use Rattle.node_snapshot.proofs.Few.{snapshot_few}
 use Rattle.node_snapshot.proofs.Whole.{snapshot_is}
 use Rattle.node_snapshot.proofs.listing.snapshot.Goals as goal
 
-pub texts-requires-clause-ranges : goal.texts-requires-clause-ranges
-texts-requires-clause-ranges c =
-    subst (λ (l : List StoreRecord). All IsInRange l) (sym (c.as_slice.ensures.value ∙ c.records_of-records.ensures.value))
-    (snapshot_is c.args.p.now c.requires.said c.has_sizes.ensures).ranges
+pub invariant_of-result : goal.invariant_of-result
+invariant_of-result c = ((snapshot_is c.args.p.now c.requires.said c.has_sizes.ensures).ranges, c.requires.names)
 
 pub returns-clause-says : goal.returns-clause-says
 returns-clause-says c = snapshot_is c.args.p.now c.requires.said c.has_sizes.ensures
+
+pub returns-clause-few : goal.returns-clause-few
+returns-clause-few c =
+    let few : length (map record_text (snapshot_of c.args.p.now)) ≤ SNAPSHOT_RECORDS = rw (length-map (snapshot_of c.args.p.now) record_text) (snapshot_few c.args.p.now c.has_sizes.ensures) in
+    few
