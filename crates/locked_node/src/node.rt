@@ -98,8 +98,10 @@ impl<M: Machine, F: Flash + Send + Drop> Node<M, F> {
         })
     }
 
-    /// Renews a reader, which reads octets without the node as the machine does in this moment.
-    pub fn reader(&self, reader: &mut M::Reader) {
+    /// Renews a reader, which reads octets without the node as the machine does in this moment. It still goes with each event that it went with.
+    pub fn reader(&self, reader: &mut M::Reader)
+        ensures fits { (event : Event) → M.fits reader.old event → M.fits reader.new event }
+    {
         self.held.machine.reader(reader);
     }
 

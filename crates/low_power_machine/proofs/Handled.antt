@@ -16,6 +16,7 @@ use Rattle.low_power_machine.specs.declared.plan.Plan.{Plan}
 use Rattle.low_power_role.specs.Laws.{StateGoesOn}
 use Rattle.low_power_role.specs.Role.{low_power_role}
 use Rattle.low_power_role.specs.State.{state_of}
+use Rattle.machine_contract.specs.Moved.{rises, went_to}
 use Rattle.machine_contract.specs.Refused.{Closes}
 use Rattle.machine_contract.specs.Standing.{past_now}
 use Rattle.machine_contract.specs.declared.answers.Hand.{Hand}
@@ -65,6 +66,7 @@ pub record IsMade (m : LowPowerNode) (event : Event) (plan : Plan) (memory : Mem
   pub taken : log.taken ≡ m.taken
   pub published : IsPublished r.store r.keeper
   pub made : r.keeper.which ≡ m.reserve.keeper.which
+  pub moved : went_to r.keeper.advances ≡ went_to m.reserve.keeper.advances ++ rises (config_in m.reserve.store.persist) (records_by plan.answer)
   pub fit : IsFitFor memory m.reserve.store.persist
 
 module _ (m : LowPowerNode) (event : Event) (plan : Plan) (memory : Memory) (r : Reserve) (log : LogView) (entry : Entry) (before after : Chip)
@@ -87,7 +89,7 @@ module _ (m : LowPowerNode) (event : Event) (plan : Plan) (memory : Memory) (r :
       let records : List StoreRecord = (past_now low_power_role over s.life.told m.fills).records in
       subst (λ (v : LowPowerNode). Stands after over v) (as_entered m r memory log entry h.entries h.taken)
       (event_stands law goes m event plan memory h.plans h.may before after over s runs r entry h.is_entry h.fills few
-      (h.puts.kept records (s.usable runs).store) (h.puts.value records (s.usable runs).before.node.meaning) h.published keeps)
+      (h.puts.kept records (s.usable runs).store) (h.puts.value records (s.usable runs).before.node.meaning) h.published h.moved keeps)
 
 -- The flash failed while the record of its plan was stored.
 module _ (law : KeptLaw) (goes : StateGoesOn) (m : LowPowerNode) (event : Event) (plan : Plan) (memory : Memory) (r : Reserve) (log : LogView) (before after : Chip)

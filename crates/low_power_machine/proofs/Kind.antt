@@ -15,6 +15,7 @@ use Rattle.low_power_machine.specs.declared.plan.Plan.{Plan}
 use Rattle.low_power_role.specs.Laws.{StateGoesOn}
 use Rattle.low_power_role.specs.Role.{jobs_of, jobs_under, low_power_role, stores}
 use Rattle.low_power_role.specs.State.{event_calls, life_state, state_of}
+use Rattle.machine_contract.specs.Moved.{rises, went_to}
 use Rattle.machine_contract.specs.Standing.{past_now}
 use Rattle.machine_contract.specs.declared.answers.Hand.TheVariants as H
 use Rattle.machine_standing.proofs.Fronts.{IsSameNode, all_ranges, all_whole, kept_node_of}
@@ -119,9 +120,10 @@ module _ (law : KeptLaw) (goes : StateGoesOn) (m : LowPowerNode) (event : Event)
       → IsEntryOf event plan r.store.persist entry → entry.fills ≡ m.fills → length m.entries + 1 < 2 ^ 32
       → IsStoreOf new r.store ((past_now low_power_role over s.life.told m.fills).records ++ records_by plan.answer)
       → IsMeaningOf ((past_now low_power_role over s.life.told m.fills).records ++ records_by plan.answer) r.store.persist
-      → IsPublished r.store r.keeper → Keeps old new
+      → IsPublished r.store r.keeper
+      → went_to r.keeper.advances ≡ went_to m.reserve.keeper.advances ++ rises (config_in m.reserve.store.persist) (records_by plan.answer) → Keeps old new
       → Stands new over (entered_by m r memory entry)
-  event_stands old new over s runs r entry e fills few store meaning published keeps =
+  event_stands old new over s runs r entry e fills few store meaning published moved keeps =
       let past : Past = past_now low_power_role over s.life.told m.fills in
       let h : IsBefore past m = (s.usable runs).before in
       let x : IsPlanned past event plan memory.lpn = planned past h in
@@ -130,6 +132,7 @@ module _ (law : KeptLaw) (goes : StateGoesOn) (m : LowPowerNode) (event : Event)
       (e.jobs ∙ jobs_are past h (config_in r.store.persist)))
       (x.records ∙ ap (λ y. low_power_role.stores past y x.insight plan.answer) (sym e.is_of) ∙ ap (λ a. low_power_role.stores past entry.event x.insight a) (sym e.has))
       (before_more past h r entry e meaning) few store published
+      (moved ∙ ap (λ (c : Config). went_to m.reserve.keeper.advances ++ rises c (records_by plan.answer)) h.node.meaning.config)
       (omega (arith, s.began, keeps.later, ap (λ (y : Setting). y.faults) keeps.setting))
 
   -- where the flash failed

@@ -35,6 +35,7 @@ fn open(alloc: Global, store: Store) -> Result<Started<LowPowerMachine>, AllocEr
     ensures published { IfOk result (λ s. IsPublished s.machine.reserve.store s.machine.reserve.keeper) }
     ensures lpn { IfOk result (λ s. s.machine.tables.lpn ≡ no_friend store.persist.unicast store.persist.elements) }
     ensures which { IfOk result (λ s. s.machine.reserve.keeper.which ≡ s.numbers.which) }
+    ensures advances { IfOk result (λ s. s.machine.reserve.keeper.advances ≡ []) }
     ensures opened { IfOk result (λ s. s.numbers.opened ≡ store.persist.mark) }
     ensures drawer { IfOk result (λ s. s.drawer ≡ fresh s.numbers.which [] 1024) }
     ensures state { IfOk result (λ s. s.state ≡ store.persist.iv) }
@@ -73,6 +74,8 @@ impl Machine for LowPowerMachine {
     ghost quiet = { λ past ticks. IsQuietTick low_power_role past ticks };
 
     ghost view = { shown };
+
+    ghost advances = { λ m. m.reserve.keeper.advances };
 
     ghost stands = { Stands };
 

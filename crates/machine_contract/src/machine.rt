@@ -11,6 +11,7 @@ ghost use Rattle.event_definitions.specs.Role.{Role};
 ghost use Rattle.run_definitions.specs.Order.{is_outside};
 ghost use Rattle.seq_word.specs.Word.{seq_of};
 ghost use Rattle.machine_contract.specs.Idle.{IsDueIn, IsIdleFor, IsQuietTick};
+ghost use Rattle.machine_contract.specs.Moved.{HasMoved};
 ghost use Rattle.machine_contract.specs.Opening.{IsNodeFlash};
 ghost use Rattle.machine_contract.specs.Ranges.{IsEvent, IsJob, IsQuiet};
 ghost use Rattle.machine_contract.specs.Refused.{IsRefused, IsStartCause};
@@ -54,6 +55,9 @@ pub trait Machine: Send + Drop {
 
     ghost view: { Self → MachineView };
 
+    // Of each advance of its keeper, the word that it found in the counter and the one that it moved the counter to.
+    ghost advances: { Self → List (ℕ × ℕ) };
+
     ghost stands: { Chip → List StoreRecord → Self → Type 0 };
 
     // The reader may be lent to `handle` with this event: it has read nothing, or the octets of this event.
@@ -71,11 +75,14 @@ pub trait Machine: Send + Drop {
         ensures cause { IfErr result (IsStartCause image (F.chip flash.old) (F.chip flash.new)) }
         ensures frame { Keeps (F.chip flash.old) (F.chip flash.new) };
 
-    /// A reader that was renewed from no machine yet. It takes no memory.
-    fn new_reader() -> Self::Reader;
+    /// A reader that was renewed from no machine yet. It has read nothing, and takes no memory.
+    fn new_reader() -> Self::Reader
+        ensures fits { (event : AnEvent) → fits result event };
 
-    /// Renews a reader: from now on it reads as the machine does in this moment. It takes no memory.
-    fn reader(&self, reader: &mut Self::Reader);
+    /// Renews a reader: from now on it reads as the machine does in this moment. It still goes with each event that it went with. It takes no
+    /// memory.
+    fn reader(&self, reader: &mut Self::Reader)
+        ensures fits { (event : AnEvent) → fits reader.old event → fits reader.new event };
 
     /// Has a reader forget what it read. It goes with each event then.
     fn unread(reader: &mut Self::Reader)
@@ -181,12 +188,16 @@ pub trait Machine: Send + Drop {
     fn finish(self) -> (History, Keeper)
         ensures entries { result.0.entries.items ≡ drop (view self).taken (view self).entries }
         ensures refills { result.0.refills ≡ (view self).fills }
-        ensures keeper { (result.1.which ≡ (view self).which) × (result.1.mark ≡ (view self).mark) };
+        ensures keeper { (result.1.which ≡ (view self).which) × (result.1.mark ≡ (view self).mark) }
+        ensures advances { result.1.advances ≡ advances self };
 
     /// What a machine that stands tells of its life, and what a quiet tick event is at least. It does nothing.
     fn tells<F: Flash>()
         ensures known { (f : F) (over : List StoreRecord) (m : Self) → stands (F.chip f) over m
             → IsLifeSoFar role image (F.chip f) over (view m) }
+        // A machine that isn't closed has moved the counter with each rise of the transmit IV Index, and at no other time.
+        ensures moved { (f : F) (over : List StoreRecord) (m : Self) → stands (F.chip f) over m → (view m).closed ≡ false
+            → HasMoved role over (view m).entries (view m).fills (advances m) }
         ensures quiet { (past : Past) (ticks : ℕ) → quiet past ticks → IsQuietTick role past ticks };
 
     /// A machine stands over the same flash, also where that was given an arm. It does nothing.

@@ -2,6 +2,7 @@ pub mod Lists
 pub mod Lives
 pub mod Fronts
 pub mod Images
+pub mod Moved
 pub mod Standings
 pub mod Refills
 pub mod Opened

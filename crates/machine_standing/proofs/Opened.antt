@@ -2,10 +2,12 @@
 use Rattle.std.proofs.Common.{◌≡◌, ℕ, ◌≤◌, Bool, true, false, List, [], append-nil, refl, ap, sym, subst, ◌∙◌, arith, true≢false}
 use Rattle.std.specs.Prelude.{IsTrue}
 use Rattle.flash_model.specs.Chip.{Chip}
+use Rattle.machine_contract.specs.Moved.{IsMoved}
 use Rattle.machine_contract.specs.Refused.{IsStartCause, IsUntouched, WasReset}
 use Rattle.machine_contract.specs.Standing.{IsSameFlash}
 use Rattle.machine_standing.proofs.Images.{held_left, store_left, store_mark, store_node}
 use Rattle.machine_standing.proofs.Lists.{all_nothing}
+use Rattle.machine_standing.proofs.Moved.{moved_none}
 use Rattle.machine_standing.specs.Opening.{start_fault_of}
 use Rattle.machine_standing.specs.Ties.{IsNodeStore, IsReadyBy, StandsBy, opened_by}
 use Rattle.machine_standing.specs.Views.{LifeMachine}
@@ -29,9 +31,9 @@ use Rattle.store_definitions.specs.Ranges.{IsInRange}
 
 pub opened_stands : {Memory : Type 0} (role : Role) (Before : Past → LifeMachine Memory → Type 0) (chip : Chip) (over : List StoreRecord) (r : Reserve) (t : Memory) (elements : ℕ)
     → IsStoreOf chip r.store over → IsNodeStore over r.store.persist → Before (record { told = []; records = over }) (opened_by r t elements)
-    → IsPublished r.store r.keeper → elements ≡ r.store.persist.elements → chip.setting.faults ≤ chip.faults
+    → IsPublished r.store r.keeper → r.keeper.advances ≡ [] → elements ≡ r.store.persist.elements → chip.setting.faults ≤ chip.faults
     → StandsBy role Before chip over (opened_by r t elements)
-opened_stands role Before chip over r t elements store node before published is began = record {
+opened_stands role Before chip over r t elements store node before published none is began = record {
   life = record {
     told = [];
     entries = refl;
@@ -44,6 +46,7 @@ opened_stands role Before chip over r t elements store node before published is 
     failed = λ e. absurd (true≢false (sym e));
   };
   usable = λ e. record { store = store; before = before };
+  moved = λ e. subst (λ (a : List (ℕ × ℕ)). IsMoved over over a) (sym none) (moved_none over);
   began = began;
 }
 
@@ -104,6 +107,7 @@ stands_same role Before old new over m same s = record {
     failed = λ e. omega (arith, s.life.failed e, same.faults, same.began);
   };
   usable = λ e. record { store = store_same old new m.reserve.store _ same (s.usable e).store; before = (s.usable e).before };
+  moved = s.moved;
   began = omega (arith, s.began, same.faults, same.began);
 }
 

@@ -73,11 +73,11 @@ module _ {Memory : Type 0} (role : Role) (Before : Past → LifeMachine Memory �
       → IsPublished m.reserve.store m.reserve.keeper → seq_of m.reserve.keeper.mark < 2 ^ 24
       → IsStoreOf new r.store (with_fill (past_now role over s.life.told m.fills)).records
       → IsMeaningOf (with_fill (past_now role over s.life.told m.fills)).records r.store.persist
-      → IsPublished r.store r.keeper → Keeps old new
+      → IsPublished r.store r.keeper → r.keeper.advances ≡ m.reserve.keeper.advances → Keeps old new
       → StandsBy role Before new over (refilled_by m r)
-  refill_stands old new over s runs r before seq store meaning published keeps =
+  refill_stands old new over s runs r before seq store meaning published same keeps =
       let past : Past = past_now role over s.life.told m.fills in
-      refilled_stands role Before kind old new over m s runs r (refill_kept past (s.usable runs).before before seq) store published meaning
+      refilled_stands role Before kind old new over m s runs r (refill_kept past (s.usable runs).before before seq) store published meaning same
       (omega (arith, s.began, keeps.later, ap (λ (x : Setting). x.faults) keeps.setting))
 
   pub refill_stops : (old new : Chip) (over : List StoreRecord) (s : StandsBy role Before old over m) → m.closed ≡ false → (r : Reserve)

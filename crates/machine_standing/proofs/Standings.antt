@@ -7,10 +7,12 @@ use Rattle.event_definitions.specs.History.{Insight, Past, Told}
 use Rattle.event_definitions.specs.Role.{Role}
 use Rattle.flash_model.specs.Chip.{Chip}
 use Rattle.machine_contract.specs.declared.answers.Hand.TheVariants as H
+use Rattle.machine_contract.specs.Moved.{IsMoved, rises, went_to}
 use Rattle.machine_contract.specs.Opening.{IsLeft}
 use Rattle.machine_contract.specs.Standing.{IsFrontLeft, IsLeftBy, past_now}
 use Rattle.machine_standing.proofs.Images.{front_left, front_node, store_left, store_mark, store_node}
 use Rattle.machine_standing.proofs.Lives.{filled_more}
+use Rattle.machine_standing.proofs.Moved.{moved_fill, moved_more}
 use Rattle.machine_standing.specs.Kept.{AreKept}
 use Rattle.machine_standing.specs.Ties.{IsCutIn, IsKind, IsNodeStore, IsOverBy, StandsBy, entered_by, refilled_by, stopped_by, with_fill}
 use Rattle.machine_standing.specs.Views.{LifeMachine}
@@ -75,9 +77,10 @@ module _ {Memory : Type 0} (role : Role) (Before : Past → LifeMachine Memory �
       → entry.fills ≡ m.fills → Handles role past (told_by past entry insight)
       → records ≡ role.stores past entry.event insight entry.answer
       → Before (past_with past entry insight records) (entered_by m r tables entry) → length m.entries + 1 < 2 ^ 32
-      → IsStoreOf new r.store (past.records ++ records) → r.keeper.mark ≡ r.store.persist.mark → new.setting.faults ≤ new.faults
+      → IsStoreOf new r.store (past.records ++ records) → r.keeper.mark ≡ r.store.persist.mark
+      → went_to r.keeper.advances ≡ went_to m.reserve.keeper.advances ++ rises (config_of past.records) records → new.setting.faults ≤ new.faults
       → StandsBy role Before new over (entered_by m r tables entry)
-  entered_stands r tables entry insight records fills handles is before few store mark began =
+  entered_stands r tables entry insight records fills handles is before few store mark moved began =
       let t : Told = told_by past entry insight in
       let all : List StoreRecord = past.records ++ records in
       let left_is : records_left role over [] (past.told ++ t ∷ []) ≡ all =
@@ -100,6 +103,7 @@ module _ {Memory : Type 0} (role : Role) (Before : Past → LifeMachine Memory �
           failed = λ closed. absurd (true≢false (sym closed ∙ runs));
         };
         usable = λ e. subst (λ l. IsOverBy Before new (record { told = past.told ++ t ∷ []; records = l }) (entered_by m r tables entry)) (sym left_is) (record { store = store; before = before });
+        moved = λ e. subst (λ l. IsMoved over l r.keeper.advances) (sym left_is) (moved_more over past.records records m.reserve.keeper.advances r.keeper.advances (s.moved runs) moved);
         began = began;
       }
 
@@ -127,6 +131,7 @@ module _ {Memory : Type 0} (role : Role) (Before : Past → LifeMachine Memory �
       failed = λ e. rose;
     };
     usable = λ e. absurd (true≢false e);
+    moved = λ e. absurd (true≢false e);
     began = omega (arith, rose);
   }
     where
@@ -157,6 +162,7 @@ module _ {Memory : Type 0} (role : Role) (Before : Past → LifeMachine Memory �
       failed = λ e. rose;
     };
     usable = λ e. absurd (true≢false e);
+    moved = λ e. absurd (true≢false e);
     began = omega (arith, rose);
   }
     where
@@ -169,9 +175,10 @@ module _ {Memory : Type 0} (role : Role) (Before : Past → LifeMachine Memory �
   -- A machine with a refill more.
   pub refilled_stands : (r : Reserve) → AreKept (config_of past.records) (fill_of (config_of past.records) ∷ [])
       → IsStoreOf new r.store (past.records ++ fill_of (config_of past.records) ∷ []) → r.keeper.mark ≡ r.store.persist.mark
-      → IsMeaningOf (past.records ++ fill_of (config_of past.records) ∷ []) r.store.persist → new.setting.faults ≤ new.faults
+      → IsMeaningOf (past.records ++ fill_of (config_of past.records) ∷ []) r.store.persist
+      → r.keeper.advances ≡ m.reserve.keeper.advances → new.setting.faults ≤ new.faults
       → StandsBy role Before new over (refilled_by m r)
-  refilled_stands r kept store mark meaning began =
+  refilled_stands r kept store mark meaning same began =
       let item : List StoreRecord = fill_of (config_of past.records) ∷ [] in
       let all : List StoreRecord = past.records ++ item in
       let left_is : filled (m.fills + 1) (records_left role over [] past.told) ≡ all =
@@ -195,5 +202,7 @@ module _ {Memory : Type 0} (role : Role) (Before : Past → LifeMachine Memory �
           failed = λ closed. absurd (true≢false (sym closed ∙ runs));
         };
         usable = λ e. subst (λ l. IsOverBy Before new (record { told = past.told; records = l }) (refilled_by m r)) (sym left_is) (record { store = store; before = before });
+        moved = λ e. subst (λ l. IsMoved over l r.keeper.advances) (sym left_is)
+            (subst (λ (a : List (ℕ × ℕ)). IsMoved over all a) (sym same) (moved_fill over past.records m.reserve.keeper.advances (s.moved runs)));
         began = began;
       }

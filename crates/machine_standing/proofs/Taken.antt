@@ -25,5 +25,6 @@ stands_taken role Before law chip over m n h = record {
     failed = h.life.failed;
   };
   usable = λ runs. let o = h.usable runs in record { store = o.store; before = law (past_now role over h.life.told m.fills) m n o.before };
+  moved = h.moved;
   began = h.began;
 }

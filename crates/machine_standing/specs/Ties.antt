@@ -6,6 +6,7 @@ use Rattle.event_definitions.specs.Role.{Role}
 use Rattle.flash_model.specs.Chip.{Chip}
 use Rattle.machine_contract.specs.declared.answers.Hand.{Hand}
 use Rattle.machine_contract.specs.declared.answers.Hand.TheVariants as H
+use Rattle.machine_contract.specs.Moved.{IsMoved}
 use Rattle.machine_contract.specs.Standing.{IsLifeSoFar, past_now}
 use Rattle.machine_standing.specs.Kept.{AreKept, KeptLaw}
 use Rattle.machine_standing.specs.Views.{LifeMachine, shown_of}
@@ -53,6 +54,7 @@ pub record StandsBy {Memory : Type 0} (role : Role) (Before : Past → LifeMachi
     (over : List StoreRecord) (m : LifeMachine Memory) : Type 0 where
   pub life : IsLifeSoFar role IsNode chip over (shown_of m)
   pub usable : m.closed ≡ false → IsOverBy Before chip (past_now role over life.told m.fills) m
+  pub moved : m.closed ≡ false → IsMoved over (past_now role over life.told m.fills).records m.reserve.keeper.advances
   pub began : chip.setting.faults ≤ chip.faults
 
 -- The machine after an event: with this entry, and no refill behind it.

@@ -12,6 +12,7 @@ use Rattle.event_plans.specs.Basis.{Basis, Plan}
 use Rattle.event_records.specs.Putting.{ArePuttable}
 use Rattle.flash_model.specs.Chip.{Chip, Keeps, Setting}
 use Rattle.layer_laws.specs.Laws.{IsWithinLimits}
+use Rattle.machine_contract.specs.Moved.{rises, went_to}
 use Rattle.machine_contract.specs.Ranges.{IsEvent, IsJob, IsQuiet}
 use Rattle.machine_contract.specs.Standing.{past_now}
 use Rattle.machine_contract.specs.declared.answers.Hand.TheVariants as H
@@ -168,9 +169,12 @@ module _ (laws : AreKeeping) (m : NodeMachine) (event : Event) (plan : Plan) (pl
       → length m.entries + 1 < 2 ^ 32
       → IsStoreOf new r.store ((past_now (node_role node_layers) over s.life.told m.fills).records ++ plan.records)
       → IsMeaningOf ((past_now (node_role node_layers) over s.life.told m.fills).records ++ plan.records) r.store.persist
-      → IsPublished r.store r.keeper → Keeps old new
+      → IsPublished r.store r.keeper
+      → went_to r.keeper.advances
+      ≡ went_to m.reserve.keeper.advances ++ rises (config_of (past_now (node_role node_layers) over s.life.told m.fills).records) plan.records
+      → Keeps old new
       → Stands new over (entered m r tables entry)
-  event_stands old new over s runs r tables entry planned may bounded renewed e fills few store meaning published keeps =
+  event_stands old new over s runs r tables entry planned may bounded renewed e fills few store meaning published moved keeps =
       let past : Past = past_now (node_role node_layers) over s.life.told m.fills in
       let h : IsBefore past m = (s.usable runs).before in
       let kept : AreKept (config_of past.records) plan.records = plan_kept laws past m event plan planned_tables h planned may bounded in
@@ -181,7 +185,7 @@ module _ (laws : AreKeeping) (m : NodeMachine) (event : Event) (plan : Plan) (pl
       (before_more laws.whole past m r tables entry (insight_in plan.basis) plan.records h kept meaning
       (renewed _ (planned.tables (told_by past entry (insight_in plan.basis)) (past.records ++ plan.records) e.is_of refl e.has refl (kept_node_of past.records plan.records kept).elements))
       handles.sees is)
-      few store published
+      few store published moved
       (omega (arith, s.began, keeps.later, ap (λ (x : Setting). x.faults) keeps.setting))
 
   -- where the flash failed

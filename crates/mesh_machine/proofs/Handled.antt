@@ -11,6 +11,7 @@ use Rattle.event_plans.specs.Sending.{IsOwn, IsSendable}
 use Rattle.event_records.specs.Putting.{AreMoves, ArePuttable}
 use Rattle.flash_model.specs.Chip.{Chip, Keeps}
 use Rattle.layer_laws.specs.Laws.{IsWithinLimits}
+use Rattle.machine_contract.specs.Moved.{rises, went_to}
 use Rattle.mesh_base.specs.declared.beacon.Beacon.{Beacon}
 use Rattle.machine_contract.specs.Ranges.{IsEvent, IsJob, IsQuiet}
 use Rattle.machine_contract.specs.Refused.{Closes}
@@ -52,7 +53,7 @@ use Rattle.node_store.specs.Tie.{IsStoreOf}
 use Rattle.run_definitions.specs.Order.{is_outside}
 use Rattle.seq_reserve.specs.Reserving.{IsPublished}
 use Rattle.seq_reserve.specs.declared.reserve.Reserve.{Reserve}
-use Rattle.store_definitions.specs.Config.{changed, config_of, no_config}
+use Rattle.store_definitions.specs.Config.{Config, changed, config_of, no_config}
 use Rattle.store_definitions.specs.Node.{IsWhole}
 
 -- The plan of an event.
@@ -144,6 +145,7 @@ done_by old stored log event place before after a plan tables asked st same e is
     kept = st.kept;
     published = st.published;
     made = st.made;
+    moved = st.moved;
     keys = st.keys;
     tables = st.tables;
     models = st.models;
@@ -169,6 +171,7 @@ nothing_stored old new event turn fit same chip = record {
       (subst (λ (l : List StoreRecord). IsStoreOf chip old.reserve.store l) (sym (append-nil records)) h);
   published = subst (λ (r : Reserve). IsPublished r.store r.keeper) (sym same) turn.ready.published;
   made = ap (λ (r : Reserve). r.keeper.which) same;
+  moved = ap (λ (r : Reserve). went_to r.keeper.advances) same ∙ sym (append-nil (went_to old.reserve.keeper.advances));
   keys = subst (λ (r : Reserve). IsFit new.tables.hearing r.store.persist) (sym same) fit;
   tables = λ past h. h;
   models = refl;
@@ -278,7 +281,8 @@ module _ (laws : AreKeeping) (old new : Parts) (event : Event) (place : Place) (
       } in
       subst (λ (v : NodeMachine). Stands after over v) as_now
       (event_stands laws machine event d.plan d.tables before after over s runs new.reserve new.tables entry planned d.asked.may d.asked.bounded
-      d.stored.tables is_entry refl d.few (d.stored.kept past.records h.store) meaning d.stored.published keeps)
+      d.stored.tables is_entry refl d.few (d.stored.kept past.records h.store) meaning d.stored.published
+      (d.stored.moved ∙ ap (λ (x : Config). went_to old.reserve.keeper.advances ++ rises x d.plan.records) h.before.standing.meaning.config) keeps)
 
 -- An event at which the flash failed.
 

@@ -8,6 +8,7 @@ use Rattle.event_plans.specs.Plans.{IsPlanned, IsStanding, LeavesConfig, insight
 use Rattle.event_plans.specs.declared.plan.OwnPlan.{OwnPlan}
 use Rattle.event_records.specs.Putting.{AreMoves, ArePuttable}
 use Rattle.flash_model.specs.Chip.{Chip}
+use Rattle.machine_contract.specs.Moved.{rises, went_to}
 use Rattle.machine_contract.specs.Ranges.{IsEvent}
 use Rattle.machine_contract.specs.declared.answers.Answered.{Answered}
 use Rattle.machine_contract.specs.declared.answers.Hand.{Hand}
@@ -83,6 +84,9 @@ pub record AreStored (items : List StoreRecord) (old new : Parts) (before after 
       → IsStoreOf after new.reserve.store (records ++ items)
   pub published : IsPublished new.reserve.store new.reserve.keeper
   pub made : new.reserve.keeper.which ≡ old.reserve.keeper.which
+  -- with each that raised the transmit IV Index the counter was moved
+  pub moved : went_to new.reserve.keeper.advances
+      ≡ went_to old.reserve.keeper.advances ++ rises (config_in old.reserve.store.persist) items
   pub keys : IsFit new.tables.hearing new.reserve.store.persist
   pub tables : (past : Past) → AreNodeTablesOf old.tables past → AreNodeTablesOf new.tables past
   pub models : new.tables.models ≡ old.tables.models

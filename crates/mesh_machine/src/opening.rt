@@ -49,6 +49,7 @@ fn open(alloc: Global, store: Store, entries: usize) -> Result<Started<MeshMachi
     ensures tables { (over : List StoreRecord) → IsMeaningOf over store.persist
         → IfOk result (λ s. AreNodeTablesOf s.machine.state.tables (record { told = []; records = over })) }
     ensures which { IfOk result (λ s. s.machine.state.reserve.keeper.which ≡ s.numbers.which) }
+    ensures advances { IfOk result (λ s. s.machine.state.reserve.keeper.advances ≡ []) }
     ensures opened { IfOk result (λ s. s.numbers.opened ≡ store.persist.mark) }
     ensures drawer { IfOk result (λ s. s.drawer ≡ fresh s.numbers.which [] 1024) }
     ensures state { IfOk result (λ s. s.state ≡ store.persist.iv) }
@@ -121,6 +122,8 @@ impl Machine for MeshMachine {
     ghost quiet = { IsQuiet };
 
     ghost view = { shown };
+
+    ghost advances = { λ m. m.state.reserve.keeper.advances };
 
     ghost stands = { Stands };
 

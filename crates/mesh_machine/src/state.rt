@@ -1,7 +1,7 @@
 //! What a machine is between two calls.
 #![tactic(auto)]
 
-ghost use Rattle.std.specs.Prelude.{◌≡◌, ◌≢◌, ◌+◌, ◌<◌, ◌^◌, List, All, drop, length, true, false, Ok, Err, IfOk, OnOk, IfErr};
+ghost use Rattle.std.specs.Prelude.{◌≡◌, ◌≢◌, ◌+◌, ◌-◌, ◌<◌, ◌^◌, List, [], All, drop, length, true, false, Ok, Err, IfOk, OnOk, IfErr};
 ghost use Rattle.event_world.specs.Stepping.{HasStepped};
 ghost use Rattle.flash_model.specs.Chip.{Keeps};
 ghost use Rattle.machine_contract.specs.Ranges.{IsEvent, IsJob, IsQuiet};
@@ -19,10 +19,11 @@ ghost use Rattle.store_world.specs.Standing.{IsWorldOf};
 use crate::kinds::handle;
 use crate::parts::Parts;
 use early_reading::Known;
+use entry_log::EntryLog;
 use event_world::event_law;
 use flash_model::Flash;
 use machine_contract::{Answered, Hand, Stop};
-use machine_standing::{Place, room};
+use machine_standing::{Drafts, Place, room};
 use machine_ties::ties_law;
 use mesh_types::events::Event;
 use mesh_types::history::Entry;
@@ -54,6 +55,25 @@ impl Model for MeshState {
     ghost view = { λ m. machine_of m.parts m.fills m.closed m.hand m.elements };
 
     ghost invariant = { λ m. IsSound (machine_of m.parts m.fills m.closed m.hand m.elements) };
+}
+
+// Memory for one entry more and for its jobs, where the history has a place for it.
+fn room_for_one(history: &mut EntryLog) -> Result<Drafts, Stop>
+    ensures handed { IfOk result (λ drafts. drafts.handed ≡ []) }
+    ensures kept { IfOk result (λ drafts. drafts.kept ≡ []) }
+    ensures room { OnOk result (0 < history.new.room) }
+    ensures few { OnOk result (length history.new.entries < 2 ^ 32 - 1) }
+    ensures memory { IfErr result (λ stop. stop ≡ Stop.Memory) }
+    ensures entries { history.new.entries ≡ history.old.entries }
+    ensures taken { history.new.taken ≡ history.old.taken }
+{
+    if history.count() >= MOST_ENTRIES {
+        return Err(Stop::Memory);
+    }
+    match room(history) {
+        Ok(drafts) => Ok(drafts),
+        Err(_) => Err(Stop::Memory),
+    }
 }
 
 impl MeshState {
@@ -94,17 +114,11 @@ impl MeshState {
         if self.closed {
             return Err(Stop::Closed);
         }
-        if self.parts.history.count() >= MOST_ENTRIES {
-            return Err(Stop::Memory);
-        }
         // They do nothing when they run: the proof uses what they say.
         ties_law();
         node_models_law();
         event_law();
-        let drafts = match room(&mut self.parts.history) {
-            Ok(drafts) => drafts,
-            Err(_) => return Err(Stop::Memory),
-        };
+        let drafts = room_for_one(&mut self.parts.history)?;
         let place = Place {
             bearer,
             number,

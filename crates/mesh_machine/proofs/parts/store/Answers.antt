@@ -1,4 +1,6 @@
-use Rattle.std.proofs.Common.{sym, subst}
+use Rattle.std.proofs.Common.{◌++◌, ◌∙◌, ap, sym, subst}
+use Rattle.machine_contract.specs.Moved.{went_to}
+use Rattle.machine_standing.proofs.Moved.{advances_are}
 use Rattle.mesh_hearing.specs.Tables.{IsFit}
 use Rattle.mesh_reading.specs.Held.{AreHeldKeys}
 use Rattle.node_records.specs.Tables.{config_in}
@@ -19,6 +21,8 @@ returns-clause-stored g c =
       kept = puts.kept;
       published = c.store_records.ensures.published;
       made = c.store_records.ensures.made;
+      moved = c.in_ok-store_records.ensures.advanced
+          ∙ ap (λ l. went_to c.args.parts.now.reserve.keeper.advances ++ l) (advances_are (config_in c.args.parts.now.reserve.store.persist) c.args.records.now);
       keys = subst (λ (q : Persist). IsFit c.renew.new.tables.hearing q) c.persist.ensures.value c.renew.ensures.fit;
       tables = c.renew.ensures.tables;
       models = c.renew.ensures.unchanged;

@@ -19,10 +19,12 @@ use Rattle.low_power_machine.specs.declared.memory.Memory.{Memory}
 use Rattle.low_power_machine.specs.declared.plan.Plan.{Plan}
 use Rattle.low_power_role.specs.Role.{jobs_under}
 use Rattle.low_power_role.specs.State.{event_calls, state_of}
+use Rattle.machine_contract.specs.Moved.{rises, went_to}
 use Rattle.machine_contract.specs.Ranges.{IsJob}
 use Rattle.machine_contract.specs.Refused.{Closes}
 use Rattle.machine_contract.specs.declared.answers.Answered.{Answered}
 use Rattle.machine_contract.specs.declared.answers.Hand.TheVariants as H
+use Rattle.machine_standing.proofs.Moved.{advances_are}
 use Rattle.machine_standing.specs.Ties.{IsReadyBy}
 use Rattle.mesh_types.specs.declared.events.Event.{Event}
 use Rattle.mesh_types.specs.declared.history.Entry.{Entry}
@@ -110,6 +112,8 @@ invariant_of-self-2 g c e =
       taken = c.enter-answered.ensures.taken ∙ c.room.ensures.taken;
       published = c.store_records.ensures.published;
       made = c.store_records.ensures.made;
+      moved = c.in-Ok-store_records.ensures.advanced ∙ ap (λ l. went_to i.reserve.keeper.advances ++ l) (advances_are (config_in i.reserve.store.persist) c.heard_records-records.result)
+          ∙ ap (λ (l : List StoreRecord). went_to i.reserve.keeper.advances ++ rises (config_in i.reserve.store.persist) l) records;
       fit = subst (λ (p : Persist). IsFitFor memory p) c.persist.ensures.value c.plan-plan.ensures.fit;
     } in
     ready_made m event plan memory r log entry old new made c.node_law.ensures.kept c.low_power_state_law.ensures.goes_on ready
@@ -175,6 +179,8 @@ returns-clause-kept g c over stands =
       taken = c.enter-answered.ensures.taken ∙ c.room.ensures.taken;
       published = c.store_records.ensures.published;
       made = c.store_records.ensures.made;
+      moved = c.in-Ok-store_records.ensures.advanced ∙ ap (λ l. went_to i.reserve.keeper.advances ++ l) (advances_are (config_in i.reserve.store.persist) c.heard_records-records.result)
+          ∙ ap (λ (l : List StoreRecord). went_to i.reserve.keeper.advances ++ rises (config_in i.reserve.store.persist) l) records;
       fit = subst (λ (p : Persist). IsFitFor memory p) c.persist.ensures.value c.plan-plan.ensures.fit;
     } in
     stands_made m event plan memory r log entry old new made c.node_law.ensures.kept c.low_power_state_law.ensures.goes_on over

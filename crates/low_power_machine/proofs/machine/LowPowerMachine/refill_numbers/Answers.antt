@@ -59,7 +59,8 @@ returns-in-Ok-clause-kept g c over stands =
     let kept : IsStoreOf new c.refill.new.self.store (past.records ++ fill_of (config_of past.records) ∷ []) =
     subst (λ (item : StoreRecord). IsStoreOf new c.refill.new.self.store (past.records ++ item ∷ [])) (fill_said past.records i.reserve.store.persist (fill_of (config_in i.reserve.store.persist)) refl said) (puts.kept past.records h.store) in
     refill_stands low_power_role IsBefore (low_power_kind c.node_law.ensures.kept) m old new over s c.if-self.false c.refill.new.self ready.published seq kept
-    (fill_meaning past.records i.reserve.store.persist c.refill.new.self.store.persist said puts.value) c.refill.ensures.published c.refill.ensures.leaves.frame
+    (fill_meaning past.records i.reserve.store.persist c.refill.new.self.store.persist said puts.value) c.refill.ensures.published
+    (ap (λ (k : KeeperView). k.advances) (c.in-Ok.ensures.filled seen)) c.refill.ensures.leaves.frame
 
 pub returns-in-Err-clause-refused : goal.returns-in-Err-clause-refused
 returns-in-Err-clause-refused g c =

@@ -29,7 +29,7 @@ returns-in-Ok-clause-ok g c =
     let base : Stands new node.over (opened_by r t store.persist.elements) =
     opened_stands low_power_role IsBefore new node.over r t store.persist.elements (subst (λ (s : StoreView). IsStoreOf new s node.over) (sym says.store) node.kept) said
     (opened_before node.over r t store.persist.elements said
-    (says.lpn ∙ ap (λ (s : StoreView). no_friend s.persist.unicast s.persist.elements) (sym says.store))) says.published (ap (λ (s : StoreView). s.persist.elements) (sym says.store))
+    (says.lpn ∙ ap (λ (s : StoreView). no_friend s.persist.unicast s.persist.elements) (sym says.store))) says.published says.advances (ap (λ (s : StoreView). s.persist.elements) (sym says.store))
     (omega (arith, c.requires.began, c.mount_node.ensures.frame.later, ap (λ (x : Setting). x.faults) c.mount_node.ensures.frame.setting)) in
     record {
       over = node.over;

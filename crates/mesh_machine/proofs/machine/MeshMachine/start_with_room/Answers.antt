@@ -29,7 +29,7 @@ returns-in-Ok-clause-ok g c =
     let said : IsNodeStore node.over r.store.persist = subst (λ (s : StoreView). IsNodeStore node.over s.persist) (sym says.store) node.node in
     let base : Stands new node.over (opened r t store.persist.elements) =
     opened_stands (node_role node_layers) IsBefore new node.over r t store.persist.elements (subst (λ (s : StoreView). IsStoreOf new s node.over) (sym says.store) node.kept) said
-    (opened_before node.over r t store.persist.elements said (says.tables node.over node.node.meaning)) says.published (ap (λ (s : StoreView). s.persist.elements) (sym says.store))
+    (opened_before node.over r t store.persist.elements said (says.tables node.over node.node.meaning)) says.published says.advances (ap (λ (s : StoreView). s.persist.elements) (sym says.store))
     (omega (arith, c.requires.began, c.mount_node.ensures.frame.later, ap (λ (x : Setting). x.faults) c.mount_node.ensures.frame.setting)) in
     record {
       over = node.over;

@@ -27,9 +27,9 @@ pub handle-requires-clause-turn : goal.handle-requires-clause-turn
 handle-requires-clause-turn g c =
     let i = c.self.inside in
     let m : NodeMachine = machine_of i.parts i.fills i.closed i.hand i.elements in
-    let parts : Parts = record i.parts { history = c.room.new.history } in
+    let parts : Parts = record i.parts { history = c.room_for_one.new.history } in
     let same : machine_of parts i.fills i.closed i.hand i.elements ≡ m =
-    reserved_same i.parts c.room.new.history i.fills i.closed i.hand i.elements c.room.ensures.entries c.room.ensures.taken in
+    reserved_same i.parts c.room_for_one.new.history i.fills i.closed i.hand i.elements c.room_for_one.ensures.entries c.room_for_one.ensures.taken in
     let ready : IsReady (machine_of parts i.fills i.closed i.hand i.elements) = subst IsReady (sym same) (c.self.invariant c.if-self.false) in
     record { fills = i.fills; closed = i.closed; hand = i.hand; elements = i.elements; ready = ready; given = subst (λ (v : NodeMachine). IsEvent v.elements c.args.event.now) (sym c.self.view_is) c.requires.event }
 
@@ -37,100 +37,100 @@ pub handle-requires-clause-known : goal.handle-requires-clause-known
 handle-requires-clause-known g c =
     subst (λ (v : NodeMachine). IsKnownFor v.tables v.reserve.store.persist c.args.event.now c.args.known) (sym c.self.view_is) c.requires.known
 
-pub invariant_of-self-in-Ok-handle : goal.invariant_of-self-in-Ok-handle
-invariant_of-self-in-Ok-handle g c e =
+pub invariant_of-self-in-Ok : goal.invariant_of-self-in-Ok
+invariant_of-self-in-Ok g c e =
     let i = c.self.inside in
     let m : NodeMachine = machine_of i.parts i.fills i.closed i.hand i.elements in
-    let parts : Parts = record i.parts { history = c.room.new.history } in
+    let parts : Parts = record i.parts { history = c.room_for_one.new.history } in
     let same : machine_of parts i.fills i.closed i.hand i.elements ≡ m =
-    reserved_same i.parts c.room.new.history i.fills i.closed i.hand i.elements c.room.ensures.entries c.room.ensures.taken in
+    reserved_same i.parts c.room_for_one.new.history i.fills i.closed i.hand i.elements c.room_for_one.ensures.entries c.room_for_one.ensures.taken in
     let ready : IsReady (machine_of parts i.fills i.closed i.hand i.elements) = subst IsReady (sym same) (c.self.invariant c.if-self.false) in
     let place : Place = record { bearer = c.args.bearer; number = c.args.number; fills = i.fills } in
     let old = g.F.Flash.chip c.args.flash.now in
     let new = g.F.Flash.chip c.handle.new.flash in
     let event : Event = c.args.event.now in
-    let a = c.in-Ok-handle.answered in
-    let d = c.in-Ok-handle.ensures.done in
+    let a = c.in-Ok.answered in
+    let d = c.in-Ok.ensures.done in
     ready_done c.ties_law.ensures.laws parts c.handle.new.parts event place old new a d i.closed i.hand i.elements ready c.node_models_law.ensures.within
 
-pub returns-in-Ok-handle-clause-ok : goal.returns-in-Ok-handle-clause-ok
-returns-in-Ok-handle-clause-ok g c =
+pub returns-in-Ok-clause-ok : goal.returns-in-Ok-clause-ok
+returns-in-Ok-clause-ok g c =
     let i = c.self.inside in
     let m : NodeMachine = machine_of i.parts i.fills i.closed i.hand i.elements in
-    let parts : Parts = record i.parts { history = c.room.new.history } in
+    let parts : Parts = record i.parts { history = c.room_for_one.new.history } in
     let same : machine_of parts i.fills i.closed i.hand i.elements ≡ m =
-    reserved_same i.parts c.room.new.history i.fills i.closed i.hand i.elements c.room.ensures.entries c.room.ensures.taken in
+    reserved_same i.parts c.room_for_one.new.history i.fills i.closed i.hand i.elements c.room_for_one.ensures.entries c.room_for_one.ensures.taken in
     let place : Place = record { bearer = c.args.bearer; number = c.args.number; fills = i.fills } in
     let old = g.F.Flash.chip c.args.flash.now in
     let new = g.F.Flash.chip c.handle.new.flash in
     let event : Event = c.args.event.now in
-    let a = c.in-Ok-handle.answered in
-    let d = c.in-Ok-handle.ensures.done in
+    let a = c.in-Ok.answered in
+    let d = c.in-Ok.ensures.done in
     subst (λ (v : NodeMachine). shown (machine_of c.handle.new.parts 0 i.closed i.hand i.elements)
     ≡ with_entry (shown v) (entry_for (shown v) c.args.bearer c.args.number event a.answer a.jobs) c.handle.new.parts.reserve.keeper.mark) (same ∙ c.self.view_is)
     (shown_done c.ties_law.ensures.laws parts c.handle.new.parts event place old new a d i.closed i.hand i.elements)
 
-pub returns-in-Ok-handle-clause-place : goal.returns-in-Ok-handle-clause-place
-returns-in-Ok-handle-clause-place g c =
+pub returns-in-Ok-clause-place : goal.returns-in-Ok-clause-place
+returns-in-Ok-clause-place g c =
     let i = c.self.inside in
     let m : NodeMachine = machine_of i.parts i.fills i.closed i.hand i.elements in
-    let parts : Parts = record i.parts { history = c.room.new.history } in
+    let parts : Parts = record i.parts { history = c.room_for_one.new.history } in
     let same : machine_of parts i.fills i.closed i.hand i.elements ≡ m =
-    reserved_same i.parts c.room.new.history i.fills i.closed i.hand i.elements c.room.ensures.entries c.room.ensures.taken in
+    reserved_same i.parts c.room_for_one.new.history i.fills i.closed i.hand i.elements c.room_for_one.ensures.entries c.room_for_one.ensures.taken in
     let place : Place = record { bearer = c.args.bearer; number = c.args.number; fills = i.fills } in
     let old = g.F.Flash.chip c.args.flash.now in
     let new = g.F.Flash.chip c.handle.new.flash in
     let event : Event = c.args.event.now in
-    let a = c.in-Ok-handle.answered in
-    let d = c.in-Ok-handle.ensures.done in
+    let a = c.in-Ok.answered in
+    let d = c.in-Ok.ensures.done in
     subst (λ (v : NodeMachine). a.at ≡ length v.entries) (same ∙ c.self.view_is) d.among
 
-pub returns-in-Ok-handle-clause-jobs : goal.returns-in-Ok-handle-clause-jobs
-returns-in-Ok-handle-clause-jobs g c =
+pub returns-in-Ok-clause-jobs : goal.returns-in-Ok-clause-jobs
+returns-in-Ok-clause-jobs g c =
     let i = c.self.inside in
     let m : NodeMachine = machine_of i.parts i.fills i.closed i.hand i.elements in
-    let parts : Parts = record i.parts { history = c.room.new.history } in
+    let parts : Parts = record i.parts { history = c.room_for_one.new.history } in
     let same : machine_of parts i.fills i.closed i.hand i.elements ≡ m =
-    reserved_same i.parts c.room.new.history i.fills i.closed i.hand i.elements c.room.ensures.entries c.room.ensures.taken in
+    reserved_same i.parts c.room_for_one.new.history i.fills i.closed i.hand i.elements c.room_for_one.ensures.entries c.room_for_one.ensures.taken in
     let ready : IsReady (machine_of parts i.fills i.closed i.hand i.elements) = subst IsReady (sym same) (c.self.invariant c.if-self.false) in
     let place : Place = record { bearer = c.args.bearer; number = c.args.number; fills = i.fills } in
     let old = g.F.Flash.chip c.args.flash.now in
     let new = g.F.Flash.chip c.handle.new.flash in
     let event : Event = c.args.event.now in
-    let a = c.in-Ok-handle.answered in
-    let d = c.in-Ok-handle.ensures.done in
+    let a = c.in-Ok.answered in
+    let d = c.in-Ok.ensures.done in
     jobs_done c.ties_law.ensures.laws parts c.handle.new.parts event place old new a d i.closed i.hand i.elements ready (subst (λ (v : NodeMachine). IsEvent v.elements c.args.event.now) (sym c.self.view_is) c.requires.event)
 
-pub returns-in-Ok-handle-clause-quiet : goal.returns-in-Ok-handle-clause-quiet
-returns-in-Ok-handle-clause-quiet g c outside =
+pub returns-in-Ok-clause-quiet : goal.returns-in-Ok-clause-quiet
+returns-in-Ok-clause-quiet g c outside =
     let i = c.self.inside in
     let m : NodeMachine = machine_of i.parts i.fills i.closed i.hand i.elements in
-    let parts : Parts = record i.parts { history = c.room.new.history } in
+    let parts : Parts = record i.parts { history = c.room_for_one.new.history } in
     let same : machine_of parts i.fills i.closed i.hand i.elements ≡ m =
-    reserved_same i.parts c.room.new.history i.fills i.closed i.hand i.elements c.room.ensures.entries c.room.ensures.taken in
+    reserved_same i.parts c.room_for_one.new.history i.fills i.closed i.hand i.elements c.room_for_one.ensures.entries c.room_for_one.ensures.taken in
     let ready : IsReady (machine_of parts i.fills i.closed i.hand i.elements) = subst IsReady (sym same) (c.self.invariant c.if-self.false) in
     let place : Place = record { bearer = c.args.bearer; number = c.args.number; fills = i.fills } in
     let old = g.F.Flash.chip c.args.flash.now in
     let new = g.F.Flash.chip c.handle.new.flash in
     let event : Event = c.args.event.now in
-    let a = c.in-Ok-handle.answered in
-    let d = c.in-Ok-handle.ensures.done in
+    let a = c.in-Ok.answered in
+    let d = c.in-Ok.ensures.done in
     quiet_done c.ties_law.ensures.laws parts c.handle.new.parts event place old new a d i.closed i.hand i.elements ready outside
 
-pub returns-in-Ok-handle-clause-steps : goal.returns-in-Ok-handle-clause-steps
-returns-in-Ok-handle-clause-steps g c w world =
+pub returns-in-Ok-clause-steps : goal.returns-in-Ok-clause-steps
+returns-in-Ok-clause-steps g c w world =
     let i = c.self.inside in
     let m : NodeMachine = machine_of i.parts i.fills i.closed i.hand i.elements in
-    let parts : Parts = record i.parts { history = c.room.new.history } in
+    let parts : Parts = record i.parts { history = c.room_for_one.new.history } in
     let same : machine_of parts i.fills i.closed i.hand i.elements ≡ m =
-    reserved_same i.parts c.room.new.history i.fills i.closed i.hand i.elements c.room.ensures.entries c.room.ensures.taken in
+    reserved_same i.parts c.room_for_one.new.history i.fills i.closed i.hand i.elements c.room_for_one.ensures.entries c.room_for_one.ensures.taken in
     let ready : IsReady (machine_of parts i.fills i.closed i.hand i.elements) = subst IsReady (sym same) (c.self.invariant c.if-self.false) in
     let place : Place = record { bearer = c.args.bearer; number = c.args.number; fills = i.fills } in
     let old = g.F.Flash.chip c.args.flash.now in
     let new = g.F.Flash.chip c.handle.new.flash in
     let event : Event = c.args.event.now in
-    let a = c.in-Ok-handle.answered in
-    let d = c.in-Ok-handle.ensures.done in
+    let a = c.in-Ok.answered in
+    let d = c.in-Ok.ensures.done in
     let p : Persist = i.parts.reserve.store.persist in
     let q : Persist = c.handle.new.parts.reserve.store.persist in
     let planned : IsPlanned ready.past event d.plan d.tables = d.asked.planned ready.past ready.before.standing in
@@ -151,19 +151,19 @@ returns-in-Ok-handle-clause-steps g c w world =
     } in
     subst (λ (v : NodeMachine). HasStepped w v.reserve.store.persist q event a.answer) c.self.view_is stepped
 
-pub returns-in-Ok-handle-clause-kept : goal.returns-in-Ok-handle-clause-kept
-returns-in-Ok-handle-clause-kept g c over stands =
+pub returns-in-Ok-clause-kept : goal.returns-in-Ok-clause-kept
+returns-in-Ok-clause-kept g c over stands =
     let i = c.self.inside in
     let m : NodeMachine = machine_of i.parts i.fills i.closed i.hand i.elements in
-    let parts : Parts = record i.parts { history = c.room.new.history } in
+    let parts : Parts = record i.parts { history = c.room_for_one.new.history } in
     let same : machine_of parts i.fills i.closed i.hand i.elements ≡ m =
-    reserved_same i.parts c.room.new.history i.fills i.closed i.hand i.elements c.room.ensures.entries c.room.ensures.taken in
+    reserved_same i.parts c.room_for_one.new.history i.fills i.closed i.hand i.elements c.room_for_one.ensures.entries c.room_for_one.ensures.taken in
     let place : Place = record { bearer = c.args.bearer; number = c.args.number; fills = i.fills } in
     let old = g.F.Flash.chip c.args.flash.now in
     let new = g.F.Flash.chip c.handle.new.flash in
     let event : Event = c.args.event.now in
-    let a = c.in-Ok-handle.answered in
-    let d = c.in-Ok-handle.ensures.done in
+    let a = c.in-Ok.answered in
+    let d = c.in-Ok.ensures.done in
     stands_done c.ties_law.ensures.laws parts c.handle.new.parts event place old new a d i.closed i.hand i.elements over
     (subst (λ (v : NodeMachine). Stands old over v) (sym (same ∙ c.self.view_is)) stands) c.if-self.false c.handle.ensures.frame
 
@@ -171,12 +171,12 @@ pub returns-in-Flash-clause-kept : goal.returns-in-Flash-clause-kept
 returns-in-Flash-clause-kept g c over stands =
     let i = c.self.inside in
     let m : NodeMachine = machine_of i.parts i.fills i.closed i.hand i.elements in
-    let parts : Parts = record i.parts { history = c.room.new.history } in
+    let parts : Parts = record i.parts { history = c.room_for_one.new.history } in
     let same : machine_of parts i.fills i.closed i.hand i.elements ≡ m =
-    reserved_same i.parts c.room.new.history i.fills i.closed i.hand i.elements c.room.ensures.entries c.room.ensures.taken in
+    reserved_same i.parts c.room_for_one.new.history i.fills i.closed i.hand i.elements c.room_for_one.ensures.entries c.room_for_one.ensures.taken in
     let old = g.F.Flash.chip c.args.flash.now in
     let new = g.F.Flash.chip c.handle.new.flash in
-    let d = of_flash g.F.Flash.chip c.args.event.now parts c.handle.new.parts c.args.flash.now c.handle.new.flash c.in-Err-handle.stop c.in-Err-handle.ensures.stopped c.in-Flash.is in
+    let d = of_flash g.F.Flash.chip c.args.event.now parts c.handle.new.parts c.args.flash.now c.handle.new.flash c.in-Err.stop c.in-Err.ensures.stopped c.in-Flash.is in
     subst (λ (e : Event). Stands new over (machine_of c.handle.new.parts i.fills true (H.OfEvent e) i.elements)) (sym c.copied.ensures.value)
     (stands_stopped c.ties_law.ensures.laws parts c.handle.new.parts c.args.event.now old new d i.fills i.closed i.hand i.elements over
     (subst (λ (v : NodeMachine). Stands old over v) (sym (same ∙ c.self.view_is)) stands) c.if-self.false c.handle.ensures.frame)
@@ -185,12 +185,12 @@ pub returns-in-Flash-clause-refused : goal.returns-in-Flash-clause-refused
 returns-in-Flash-clause-refused g c =
     let i = c.self.inside in
     let m : NodeMachine = machine_of i.parts i.fills i.closed i.hand i.elements in
-    let parts : Parts = record i.parts { history = c.room.new.history } in
+    let parts : Parts = record i.parts { history = c.room_for_one.new.history } in
     let same : machine_of parts i.fills i.closed i.hand i.elements ≡ m =
-    reserved_same i.parts c.room.new.history i.fills i.closed i.hand i.elements c.room.ensures.entries c.room.ensures.taken in
+    reserved_same i.parts c.room_for_one.new.history i.fills i.closed i.hand i.elements c.room_for_one.ensures.entries c.room_for_one.ensures.taken in
     let old = g.F.Flash.chip c.args.flash.now in
     let new = g.F.Flash.chip c.handle.new.flash in
-    let d = of_flash g.F.Flash.chip c.args.event.now parts c.handle.new.parts c.args.flash.now c.handle.new.flash c.in-Err-handle.stop c.in-Err-handle.ensures.stopped c.in-Flash.is in
+    let d = of_flash g.F.Flash.chip c.args.event.now parts c.handle.new.parts c.args.flash.now c.handle.new.flash c.in-Err.stop c.in-Err.ensures.stopped c.in-Flash.is in
     let closes = closes_stopped c.ties_law.ensures.laws parts c.handle.new.parts c.args.event.now old new d i.fills i.closed i.hand i.elements c.if-self.false in
     subst (λ (v : NodeMachine). Closes (H.OfEvent c.args.event.now) (shown v) (shown (machine_of c.handle.new.parts i.fills true (H.OfEvent c.copied.result) i.elements)) old new) (same ∙ c.self.view_is)
     (subst (λ (e : Event). Closes (H.OfEvent c.args.event.now) (shown (machine_of parts i.fills i.closed i.hand i.elements)) (shown (machine_of c.handle.new.parts i.fills true (H.OfEvent e) i.elements)) old new)
@@ -200,10 +200,10 @@ pub returns-in-Memory-clause-refused : goal.returns-in-Memory-clause-refused
 returns-in-Memory-clause-refused g c =
     let i = c.self.inside in
     let m : NodeMachine = machine_of i.parts i.fills i.closed i.hand i.elements in
-    let parts : Parts = record i.parts { history = c.room.new.history } in
+    let parts : Parts = record i.parts { history = c.room_for_one.new.history } in
     let same : machine_of parts i.fills i.closed i.hand i.elements ≡ m =
-    reserved_same i.parts c.room.new.history i.fills i.closed i.hand i.elements c.room.ensures.entries c.room.ensures.taken in
-    let (before, flash) = of_memory g.F.Flash.chip c.args.event.now parts c.handle.new.parts c.args.flash.now c.handle.new.flash c.in-Err-handle.stop c.in-Err-handle.ensures.stopped c.in-Memory.is in
+    reserved_same i.parts c.room_for_one.new.history i.fills i.closed i.hand i.elements c.room_for_one.ensures.entries c.room_for_one.ensures.taken in
+    let (before, flash) = of_memory g.F.Flash.chip c.args.event.now parts c.handle.new.parts c.args.flash.now c.handle.new.flash c.in-Err.stop c.in-Err.ensures.stopped c.in-Memory.is in
     let back : machine_of c.handle.new.parts i.fills i.closed i.hand i.elements ≡ c.args.self.now =
     same_parts parts c.handle.new.parts i.fills i.closed i.hand i.elements before ∙ same ∙ c.self.view_is in
     (ap (λ (v : NodeMachine). shown v) back, flash)
@@ -212,10 +212,10 @@ pub returns-in-Memory-clause-kept : goal.returns-in-Memory-clause-kept
 returns-in-Memory-clause-kept g c over stands =
     let i = c.self.inside in
     let m : NodeMachine = machine_of i.parts i.fills i.closed i.hand i.elements in
-    let parts : Parts = record i.parts { history = c.room.new.history } in
+    let parts : Parts = record i.parts { history = c.room_for_one.new.history } in
     let same : machine_of parts i.fills i.closed i.hand i.elements ≡ m =
-    reserved_same i.parts c.room.new.history i.fills i.closed i.hand i.elements c.room.ensures.entries c.room.ensures.taken in
-    let (before, flash) = of_memory g.F.Flash.chip c.args.event.now parts c.handle.new.parts c.args.flash.now c.handle.new.flash c.in-Err-handle.stop c.in-Err-handle.ensures.stopped c.in-Memory.is in
+    reserved_same i.parts c.room_for_one.new.history i.fills i.closed i.hand i.elements c.room_for_one.ensures.entries c.room_for_one.ensures.taken in
+    let (before, flash) = of_memory g.F.Flash.chip c.args.event.now parts c.handle.new.parts c.args.flash.now c.handle.new.flash c.in-Err.stop c.in-Err.ensures.stopped c.in-Memory.is in
     let back : machine_of c.handle.new.parts i.fills i.closed i.hand i.elements ≡ c.args.self.now =
     same_parts parts c.handle.new.parts i.fills i.closed i.hand i.elements before ∙ same ∙ c.self.view_is in
     subst (λ (v : NodeMachine). Stands (g.F.Flash.chip c.handle.new.flash) over v) (sym back)
@@ -225,10 +225,10 @@ pub invariant_of-self-in-Memory : goal.invariant_of-self-in-Memory
 invariant_of-self-in-Memory g c =
     let i = c.self.inside in
     let m : NodeMachine = machine_of i.parts i.fills i.closed i.hand i.elements in
-    let parts : Parts = record i.parts { history = c.room.new.history } in
+    let parts : Parts = record i.parts { history = c.room_for_one.new.history } in
     let same : machine_of parts i.fills i.closed i.hand i.elements ≡ m =
-    reserved_same i.parts c.room.new.history i.fills i.closed i.hand i.elements c.room.ensures.entries c.room.ensures.taken in
-    let (before, flash) = of_memory g.F.Flash.chip c.args.event.now parts c.handle.new.parts c.args.flash.now c.handle.new.flash c.in-Err-handle.stop c.in-Err-handle.ensures.stopped c.in-Memory.is in
+    reserved_same i.parts c.room_for_one.new.history i.fills i.closed i.hand i.elements c.room_for_one.ensures.entries c.room_for_one.ensures.taken in
+    let (before, flash) = of_memory g.F.Flash.chip c.args.event.now parts c.handle.new.parts c.args.flash.now c.handle.new.flash c.in-Err.stop c.in-Err.ensures.stopped c.in-Memory.is in
     let back : machine_of c.handle.new.parts i.fills i.closed i.hand i.elements ≡ c.args.self.now =
     same_parts parts c.handle.new.parts i.fills i.closed i.hand i.elements before ∙ same ∙ c.self.view_is in
     subst (λ (v : NodeMachine). IsSound v) (sym (same_parts parts c.handle.new.parts i.fills i.closed i.hand i.elements before ∙ same)) c.self.invariant
@@ -237,7 +237,7 @@ pub returns-in-Closed : goal.returns-in-Closed
 returns-in-Closed g c =
     let i = c.self.inside in
     let m : NodeMachine = machine_of i.parts i.fills i.closed i.hand i.elements in
-    let parts : Parts = record i.parts { history = c.room.new.history } in
+    let parts : Parts = record i.parts { history = c.room_for_one.new.history } in
     let same : machine_of parts i.fills i.closed i.hand i.elements ≡ m =
-    reserved_same i.parts c.room.new.history i.fills i.closed i.hand i.elements c.room.ensures.entries c.room.ensures.taken in
-    absurd (never_closed g.F.Flash.chip c.args.event.now parts c.handle.new.parts c.args.flash.now c.handle.new.flash c.in-Err-handle.stop c.in-Err-handle.ensures.stopped c.in-Closed.is)
+    reserved_same i.parts c.room_for_one.new.history i.fills i.closed i.hand i.elements c.room_for_one.ensures.entries c.room_for_one.ensures.taken in
+    absurd (never_closed g.F.Flash.chip c.args.event.now parts c.handle.new.parts c.args.flash.now c.handle.new.flash c.in-Err.stop c.in-Err.ensures.stopped c.in-Closed.is)
