@@ -1,13 +1,14 @@
 -- Lists with one item more, and what stands at a place of a longer list.
-use Rattle.std.proofs.Common.{◌≡◌, ◌∙◌, ℕ, zero, suc, ◌+◌, ◌<◌, List, [], ◌∷◌, ◌++◌, length, drop, map, Option, Some, None, refl, sym, ap, arith, append-nil}
-use Rattle.std.specs.Prelude.{slice_get, AllPairs, All, option_and_then}
+use Rattle.std.proofs.Common.{◌≡◌, ◌∙◌, ℕ, zero, suc, ◌+◌, ◌<◌, ◌≤◌, List, [], ◌∷◌, ◌++◌, length, drop, take, map, Option, Some, None, refl, sym, ap, subst, arith, append-nil, append_assoc, length-append}
+use Rattle.std.specs.Prelude.{slice_get, slice_index_or, slice_set, AllPairs, All, option_and_then}
 use Rattle.std.specs.List.{enumerate_from, range_with_len}
 use Rattle.std.proofs.Math.Seq.{drop-append_seam}
+use Rattle.std.proofs.lemmas.List.{drop-append-le, length-drop, map-append, take-append-drop}
 use Rattle.std.proofs.lemmas.List.Elements.{All-head, All-push, All-tail}
 use Rattle.std.proofs.lemmas.List.Kept.{AllPairs-cons}
 use Rattle.mesh_types.specs.declared.history.Sent.{Sent}
 use Rattle.report_definitions.specs.Record.{Shown}
-use Rattle.turn_lock.specs.Entries.{added}
+use Rattle.turn_lock.specs.Entries.{IsPrefix, added}
 use Rattle.locked_node.specs.declared.marks.Mark.{Mark}
 use Rattle.node_bearer.specs.Marked.{shown_at, shown_in}
 
@@ -29,6 +30,47 @@ added_one ms x = ap (λ l. enumerate_from (length ms) l) (drop-append_seam ms (x
 
 pub added_none : {E : Type 0} (ms : List E) → added ms ms ≡ []
 added_none ms = ap (λ l. enumerate_from (length ms) l) (ap (drop (length ms)) (sym (append-nil ms)) ∙ drop-append_seam ms [])
+
+enumerate_append : {E : Type 0} (n : ℕ) (xs ys : List E) → enumerate_from n (xs ++ ys) ≡ enumerate_from n xs ++ enumerate_from (n + length xs) ys
+enumerate_append n [] ys = ap (λ k. enumerate_from k ys) (omega arith)
+enumerate_append n (x ∷ xs) ys =
+    ap (λ l. (n, x) ∷ l) (enumerate_append (n + 1) xs ys ∙ ap (λ k. enumerate_from (n + 1) xs ++ enumerate_from k ys) (omega arith))
+
+behind_front : {E : Type 0} (front rest : List E) (x : E) → added front ((front ++ rest) ++ x ∷ []) ≡ added front (front ++ rest) ++ (length (front ++ rest), x) ∷ []
+behind_front front rest x =
+    ap (enumerate_from (length front)) (ap (drop (length front)) (append_assoc front rest (x ∷ [])) ∙ drop-append_seam front (rest ++ x ∷ []))
+    ∙ enumerate_append (length front) rest (x ∷ [])
+    ∙ ap (λ l. l ++ (length front + length rest, x) ∷ []) (ap (enumerate_from (length front)) (sym (drop-append_seam front rest)))
+    ∙ ap (λ n. added front (front ++ rest) ++ (n, x) ∷ []) (sym (length-append front rest))
+
+-- one item more behind a list that begins with what was seen
+pub added_more : {E : Type 0} (front ms : List E) (x : E) → IsPrefix front ms → added front (ms ++ x ∷ []) ≡ added front ms ++ (length ms, x) ∷ []
+added_more front ms x p = subst (λ l. added front (l ++ x ∷ []) ≡ added front l ++ (length l, x) ∷ []) (sym p.is) (behind_front front p.rest x)
+
+-- what holds of the items at each place of two lists, and of a new item and the other list's at the next place, holds up to that place
+pub set_each : {R E : Type 0} (P : R → E → Type 0) (rs : List R) (es : List E) (i : ℕ) (x : R) (y : E) → i < length rs → i < length es
+    → ((j : ℕ) (r : R) (e : E) → j < i → P (slice_index_or rs j r) (slice_index_or es j e)) → y ≡ slice_index_or es i y → P x y
+    → (j : ℕ) (r : R) (e : E) → j < i + 1 → P (slice_index_or (slice_set rs i x) j r) (slice_index_or es j e)
+set_each P [] es i x y here there before is new j r e lt = absurd (omega (arith, here))
+set_each P (r0 ∷ rs) [] i x y here there before is new j r e lt = absurd (omega (arith, there))
+set_each P (r0 ∷ rs) (e0 ∷ es) zero x y here there before is new zero r e lt = subst (P x) is new
+set_each P (r0 ∷ rs) (e0 ∷ es) zero x y here there before is new (suc j) r e lt = absurd (omega (arith, lt))
+set_each P (r0 ∷ rs) (e0 ∷ es) (suc i) x y here there before is new zero r e lt = before 0 r e (omega arith)
+set_each P (r0 ∷ rs) (e0 ∷ es) (suc i) x y here there before is new (suc j) r e lt =
+    set_each P rs es i x y (omega (arith, here)) (omega (arith, there)) (λ k s f le. before (suc k) s f (omega (arith, le))) is new j r e (omega (arith, lt))
+
+-- what is left of the first items and all behind these are what is left of all
+pub drop_front : {A B : Type 0} (f : A → B) (xs : List A) (n c : ℕ) → n ≤ length (take c xs) → map f (drop n (take c xs)) ++ map f (drop c xs) ≡ map f (drop n xs)
+drop_front f xs n c le =
+    sym (map-append f (drop n (take c xs)) (drop c xs)) ∙ ap (map f) (sym (drop-append-le n (take c xs) (drop c xs) le) ∙ ap (drop n) (take-append-drop c xs))
+
+pub take_front : {A B : Type 0} (f : A → B) (xs : List A) (c : ℕ) → map f (take c xs) ++ map f (drop c xs) ≡ map f xs
+take_front f xs c = sym (map-append f (take c xs) (drop c xs)) ∙ ap (map f) (take-append-drop c xs)
+
+-- some of the first of those that are left are no more than these
+pub few_left : {A : Type 0} (n m d : ℕ) (xs : List A) → n ≤ length (take m (drop d xs)) → d ≤ length xs → d + n ≤ length xs
+few_left n m d xs le within =
+    omega (arith, le, within, ap length (take-append-drop m (drop d xs)), length-append (take m (drop d xs)) (drop m (drop d xs)), length-drop d xs)
 
 -- each item is below the new one
 pub pairs_more : (xs : List ℕ) (x : ℕ) → AllPairs (λ a b. a < b) xs → All (λ a. a < x) xs → AllPairs (λ a b. a < b) (xs ++ x ∷ [])

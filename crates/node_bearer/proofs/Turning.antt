@@ -1,31 +1,34 @@
--- A turn at the lock: what was added is the bearer's own, and it has seen all that stands there.
+-- A turn at the lock: what is added is the bearer's own, and it has seen all that stands there.
 use Rattle.std.proofs.Common.{◌≡◌, ◌∙◌, ℕ, ◌+◌, true, false, List, [], ◌∷◌, ◌++◌, length, Option, Some, None, refl, sym, ap, subst, append_assoc, append-nil, arith}
-use Rattle.std.specs.Prelude.{Result, Ok, Err, IfErr, IsErrAnd, OnOk, slice_get}
+use Rattle.std.specs.Prelude.{Result, Ok, Err, IfErr, IfOk, IsErrAnd, OnOk, slice_get}
 use Rattle.std.specs.List.{Contains}
 use Rattle.std.proofs.lemmas.List.Elements.{Contains-append_right}
 use Rattle.machine_contract.specs.declared.answers.Stop.{Stop}
 use Rattle.machine_contract.specs.declared.answers.Stop.TheVariants as S
 use Rattle.mesh_types.specs.declared.events.Event.{Event}
 use Rattle.mesh_types.specs.declared.history.Entry.{Entry}
-use Rattle.mesh_types.specs.declared.history.Sent.{Sent}
 use Rattle.mesh_types.specs.declared.jobs.Job.{Job}
 use Rattle.run_definitions.specs.Order.{Task, write_tasks}
-use Rattle.seq_word.specs.Seen.{DrawerView}
 use Rattle.seq_word.specs.declared.looks.Look.{Look}
 use Rattle.seq_word.specs.declared.looks.Look.TheVariants as saw
 use Rattle.turn_lock.specs.Entries.{IsPrefix, added}
 use Rattle.turn_lock.specs.Views.{PassView}
 use Rattle.locked_node.specs.declared.marks.Mark.{Mark}
 use Rattle.locked_node.specs.declared.marks.Mark.TheVariants as M
-use Rattle.locked_node.specs.Node.{IsStopped, IsStoppedBare, OnStop}
-use Rattle.node_bearer.specs.Did.{BearerOf, Did, GoesOn, IsFor, IsNext}
+use Rattle.locked_node.specs.Node.{IsStopped, IsStoppedBare, NodeView, OnStop, node_marks}
+use Rattle.node_bearer.specs.Did.{BearerOf, Broke, Did, DidBy, GoesOn, IsFor, IsNext}
 use Rattle.node_bearer.specs.Marked.{HasEntry, HasJob}
-use Rattle.node_bearer.proofs.Lists.{added_none, added_one, get_last, get_longer}
+use Rattle.node_bearer.specs.Turns.{after_turn}
+use Rattle.node_bearer.proofs.Lists.{added_more, added_none, added_one, get_last, get_longer}
 use Rattle.node_bearer.proofs.Doing.{did_acted, did_seen}
 
 pub on_ok : {A E P Q : Type 0} (r : Result A E) → (P → Q) → OnOk r P → OnOk r Q
 on_ok (Ok a) f h = f h
 on_ok (Err e) f h = tt
+
+pub if_ok : {A E : Type 0} {P Q : A → Type 0} (r : Result A E) → ((a : A) → P a → Q a) → IfOk r P → IfOk r Q
+if_ok (Ok a) f h = f a h
+if_ok (Err e) f h = tt
 
 pub if_err : {A E : Type 0} {P Q : E → Type 0} (r : Result A E) → ((e : E) → P e → Q e) → IfErr r P → IfErr r Q
 if_err (Ok a) f h = tt
@@ -63,68 +66,98 @@ pub contains_spent : (looks front : List Look) (mark word : ℕ) → looks ≡ f
 contains_spent looks front mark word e =
     subst (λ l. Contains l (saw.Counter word)) (sym e) (Contains-append_right front (saw.Mark mark ∷ saw.Counter word ∷ []) (saw.Counter word) (1, omega arith, refl))
 
-module _ {T : Type 0} (p r : PassView T Mark) (ms ns : List Mark) where
-  -- between an enter and a leave
-  pub record Turned : Type 0 where
-    pub own : r.own ≡ p.own ++ added ms ns
-    pub seen : r.seen ≡ ns
-    pub front : IsPrefix p.seen ms
+pub front_of_itself : {E : Type 0} (ms : List E) → IsPrefix ms ms
+front_of_itself ms = record { rest = []; is = sym (append-nil ms) }
 
-  pub turned : (q : PassView T Mark) → IsPrefix p.seen ms → q ≡ record p { inside = true; seen = ms } → r.own ≡ q.own ++ added q.seen ns
-      → r ≡ record q { inside = false; seen = ns; own = r.own } → Turned
-  turned q front enters own leaves = record {
-    own = own ∙ ap (λ x. x.own ++ added x.seen ns) enters;
-    seen = ap (λ x. x.seen) leaves;
-    front = front;
-  }
+pub front_more : {E : Type 0} (xs ys zs : List E) → IsPrefix xs ys → IsPrefix ys zs → IsPrefix xs zs
+front_more xs ys zs p q = record { rest = p.rest ++ q.rest; is = q.is ∙ ap (λ l. l ++ q.rest) p.is ∙ append_assoc xs p.rest q.rest }
 
-  module _ (k first : ℕ) (tasks : List Task) (lines : List Sent) (number : ℕ) (d : DrawerView) (t : Turned) where
-    pub acted : (task : Task) (rest : List Task) (event : Event) (e : Entry) (at : ℕ) → IsFor event task → Did k first tasks (task ∷ rest) p.own p.seen lines number d
-        → ns ≡ ms ++ M.Handled e ∷ [] → at ≡ length ms → e.event ≡ event → e.bearer ≡ k → e.number ≡ number + 1
-        → Did k first tasks (write_tasks at 0 event e.jobs ++ rest) r.own r.seen lines (number + 1) d
-    acted task rest event e at is h grew place same by numbered =
-        let done = did_acted k first tasks task rest p.own p.seen ms lines number d event e is h t.front same by numbered in
-        subst (λ o. Did k first tasks (write_tasks at 0 event e.jobs ++ rest) o r.seen lines (number + 1) d) (sym (t.own ∙ ap (λ l. p.own ++ added ms l) grew))
-        (subst (λ s. Did k first tasks (write_tasks at 0 event e.jobs ++ rest) (p.own ++ added ms (ms ++ M.Handled e ∷ [])) s lines (number + 1) d) (sym (t.seen ∙ grew))
-        (subst (λ n. Did k first tasks (write_tasks n 0 event e.jobs ++ rest) (p.own ++ added ms (ms ++ M.Handled e ∷ [])) (ms ++ M.Handled e ∷ []) lines (number + 1) d) (sym place) done))
+-- a pass that went in has seen all that stands there
+pub front_by : {T : Type 0} (q p : PassView T Mark) (ms : List Mark) → p ≡ record q { inside = true; seen = ms } → IsPrefix p.seen ms
+front_by q p ms is = record { rest = []; is = sym (ap (λ x. x.seen) is) ∙ sym (append-nil p.seen) }
 
-    pub visited : (left : List Task) → Did k first tasks left p.own p.seen lines number d → ns ≡ ms → Did k first tasks left r.own r.seen lines number d
-    visited left h same =
-        subst (λ o. Did k first tasks left o r.seen lines number d) (sym (t.own ∙ ap (λ l. p.own ++ l) (ap (added ms) same ∙ added_none ms) ∙ append-nil p.own))
-        (subst (λ s. Did k first tasks left p.own s lines number d) (sym (t.seen ∙ same)) (did_seen k first tasks left p.own p.seen ms lines number d t.front h))
+abbrev pub numbered : {F : Type 0} → BearerOf F → ℕ → BearerOf F
+numbered b n = record b { number = n }
+
+module _ {F : Type 0} (k first : ℕ) (tasks : List Task) where
+  -- it has entered, and added nothing yet
+  pub entered : (left : List Task) (b : BearerOf F) (p : PassView (NodeView F) Mark) (node : NodeView F) → IsPrefix b.pass.seen (node_marks node)
+      → p ≡ record b.pass { inside = true; seen = node_marks node } → DidBy k first tasks left b → DidBy k first tasks left (after_turn (record b { pass = p }) node)
+  entered left b p node front is h =
+      let ms = node_marks node in
+      let same : p.own ++ added p.seen ms ≡ b.pass.own = ap (λ q. q.own ++ added q.seen ms) is ∙ ap (λ l. b.pass.own ++ l) (added_none ms) ∙ append-nil b.pass.own in
+      subst (λ o. Did k first tasks left o ms b.lines.items b.number b.drawer) (sym same) (did_seen k first tasks left b.pass.own b.pass.seen ms b.lines.items b.number b.drawer front h)
+
+  module _ (b : BearerOf F) (p : PassView (NodeView F) Mark) (node : NodeView F) (own : p.own ≡ b.pass.own ++ added b.pass.seen (node_marks node))
+      (leaves : p ≡ record b.pass { inside = false; seen = node_marks node; own = p.own }) where
+    -- it has left
+    pub did_left : (left : List Task) → DidBy k first tasks left (after_turn b node) → DidBy k first tasks left (record b { pass = p })
+    did_left left h =
+        subst (λ o. Did k first tasks left o p.seen b.lines.items b.number b.drawer) (sym own)
+        (subst (λ s. Did k first tasks left (b.pass.own ++ added b.pass.seen (node_marks node)) s b.lines.items b.number b.drawer) (sym (ap (λ x. x.seen) leaves)) h)
+
+    pub broke_left : Broke k first tasks (after_turn b node) → Broke k first tasks (record b { pass = p })
+    broke_left h = record {
+      left = h.left;
+      before = h.before;
+      at = h.at;
+      hand = h.hand;
+      own = own ∙ h.own;
+      did = subst (λ s. Did k first tasks h.left h.before s b.lines.items b.number b.drawer) (sym (ap (λ x. x.seen) leaves)) h.did;
+      next = h.next;
+    }
+
+  module _ (b : BearerOf F) (old new : NodeView F) (seen : IsPrefix b.pass.seen (node_marks old)) where
+    -- an event more was handled
+    pub did_handled : (task : Task) (rest : List Task) (event : Event) (e : Entry) (at : ℕ) → IsFor event task → DidBy k first tasks (task ∷ rest) (after_turn b old)
+        → node_marks new ≡ node_marks old ++ M.Handled e ∷ [] → at ≡ length (node_marks old) → e.event ≡ event → e.bearer ≡ k → e.number ≡ b.number + 1
+        → DidBy k first tasks (write_tasks at 0 event e.jobs ++ rest) (after_turn (record b { number = b.number + 1 }) new)
+    did_handled task rest event e at is h grew place same by numbered =
+        let ms = node_marks old in
+        let mine = b.pass.own ++ added b.pass.seen ms in
+        let whole = ms ++ M.Handled e ∷ [] in
+        let more : b.pass.own ++ added b.pass.seen whole ≡ mine ++ added ms whole =
+        ap (λ l. b.pass.own ++ l) (added_more b.pass.seen ms (M.Handled e) seen) ∙ sym (append_assoc b.pass.own (added b.pass.seen ms) ((length ms, M.Handled e) ∷ []))
+        ∙ ap (λ l. mine ++ l) (sym (added_one ms (M.Handled e))) in
+        let done = did_acted k first tasks task rest mine ms ms b.lines.items b.number b.drawer event e is h (front_of_itself ms) same by numbered in
+        subst (λ l. Did k first tasks (write_tasks at 0 event e.jobs ++ rest) (b.pass.own ++ added b.pass.seen l) l b.lines.items (b.number + 1) b.drawer) (sym grew)
+        (subst (λ o. Did k first tasks (write_tasks at 0 event e.jobs ++ rest) o whole b.lines.items (b.number + 1) b.drawer) (sym more)
+        (subst (λ n. Did k first tasks (write_tasks n 0 event e.jobs ++ rest) (mine ++ added ms whole) whole b.lines.items (b.number + 1) b.drawer) (sym place) done))
+
+    -- nothing was added
+    pub did_visited : (left : List Task) → node_marks new ≡ node_marks old → DidBy k first tasks left (after_turn b old) → DidBy k first tasks left (after_turn b new)
+    did_visited left same h = subst (λ ms. Did k first tasks left (b.pass.own ++ added b.pass.seen ms) ms b.lines.items b.number b.drawer) (sym same) h
 
     -- the bearer's mark was put behind its own entries
-    pub record Marked (left : List Task) : Type 0 where
-      pub at : ℕ
-      pub hand : Option Event
-      pub own : r.own ≡ p.own ++ (at, M.Stopped hand) ∷ []
-      pub did : Did k first tasks left p.own r.seen lines number d
-      pub next : (event : Event) → hand ≡ Some event → IsNext event left
-
-    marked : (left : List Task) (hand : Option Event) → Did k first tasks left p.own p.seen lines number d → ns ≡ ms ++ M.Stopped hand ∷ []
-        → ((event : Event) → hand ≡ Some event → IsNext event left) → Marked left
+    marked : (left : List Task) (hand : Option Event) → DidBy k first tasks left (after_turn b old) → node_marks new ≡ node_marks old ++ M.Stopped hand ∷ []
+        → ((event : Event) → hand ≡ Some event → IsNext event left) → Broke k first tasks (after_turn b new)
     marked left hand h grew next =
-        let longer : IsPrefix p.seen ns = record { rest = t.front.rest ++ M.Stopped hand ∷ []; is = grew ∙ ap (λ l. l ++ M.Stopped hand ∷ []) t.front.is ∙ append_assoc p.seen t.front.rest (M.Stopped hand ∷ []) } in
+        let ms = node_marks old in
+        let mine = b.pass.own ++ added b.pass.seen ms in
         record {
+          left = left;
+          before = mine;
           at = length ms;
           hand = hand;
-          own = t.own ∙ ap (λ l. p.own ++ l) (ap (added ms) grew ∙ added_one ms (M.Stopped hand));
-          did = subst (λ s. Did k first tasks left p.own s lines number d) (sym t.seen) (did_seen k first tasks left p.own p.seen ns lines number d longer h);
+          own =
+              ap (λ l. b.pass.own ++ added b.pass.seen l) grew ∙ ap (λ l. b.pass.own ++ l) (added_more b.pass.seen ms (M.Stopped hand) seen)
+              ∙ sym (append_assoc b.pass.own (added b.pass.seen ms) ((length ms, M.Stopped hand) ∷ []));
+          did = did_seen k first tasks left mine ms (node_marks new) b.lines.items b.number b.drawer (record { rest = M.Stopped hand ∷ []; is = grew }) h;
           next = next;
         }
 
-    pub stopped_at : (task : Task) (rest : List Task) (event : Event) → IsFor event task → Did k first tasks (task ∷ rest) p.own p.seen lines number d
-        → IsStopped event ms ns → Marked (task ∷ rest)
+    pub stopped_at : (task : Task) (rest : List Task) (event : Event) → IsFor event task → DidBy k first tasks (task ∷ rest) (after_turn b old)
+        → IsStopped event (node_marks old) (node_marks new) → Broke k first tasks (after_turn b new)
     stopped_at task rest event is h s = marked (task ∷ rest) s.hand h s.marks (λ other e. subst (λ x. IsFor x task) (sym (s.is other e)) is)
 
-    pub stopped_bare : (left : List Task) → Did k first tasks left p.own p.seen lines number d → IsStoppedBare ms ns → Marked left
+    pub stopped_bare : (left : List Task) → DidBy k first tasks left (after_turn b old) → IsStoppedBare (node_marks old) (node_marks new) → Broke k first tasks (after_turn b new)
     stopped_bare left h s = marked left None h s.marks (λ event e. absurd cc)
 
-  -- where the entry stands
-  pub entry_here : (event : Event) (e : Entry) (at : ℕ) → Turned → ns ≡ ms ++ M.Handled e ∷ [] → at ≡ length ms → e.event ≡ event → HasEntry r.seen at event e.jobs
-  entry_here event e at t grew place same = record {
-    entry = e;
-    here = ap (λ s. slice_get s at) (t.seen ∙ grew) ∙ ap (slice_get (ms ++ M.Handled e ∷ [])) place ∙ get_last ms (M.Handled e);
-    event_is = same;
-    jobs_are = refl;
-  }
+-- where the entry stands
+pub entry_here : (ms ns : List Mark) (event : Event) (e : Entry) (at : ℕ) → ns ≡ ms ++ M.Handled e ∷ [] → at ≡ length ms → e.event ≡ event → HasEntry ns at event e.jobs
+entry_here ms ns event e at grew place same = record {
+  entry = e;
+  here = ap (λ s. slice_get s at) grew ∙ ap (slice_get (ms ++ M.Handled e ∷ [])) place ∙ get_last ms (M.Handled e);
+  event_is = same;
+  jobs_are = refl;
+}

@@ -1,3 +1,4 @@
 pub mod Marked
 pub mod Did
 pub mod Tries
+pub mod Turns

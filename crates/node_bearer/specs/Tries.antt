@@ -1,5 +1,5 @@
 -- The draws of a job: each before the last found the counter at the mark, and what became of that mark.
-use Rattle.std.specs.Prelude.{◌≡◌, ℕ, List, [], ◌∷◌, Option, Some, None}
+use Rattle.std.specs.Prelude.{◌≡◌, ◌≢◌, ℕ, List, [], ◌∷◌, Option, Some, None}
 use Rattle.locked_node.specs.Node.{Rise}
 use Rattle.seq_word.specs.Dry.{DryView}
 use Rattle.seq_word.specs.Seen.{AfterLost, DrawerView, Finds, HasCause}
@@ -21,7 +21,7 @@ EndsIn (D.Spent iv) v w = AfterLost (HasCause (missed.Spent iv)) v w
 abbrev pub DrawsUntil : Drawn → DrawerView → DrawerView → Type 0
 DrawsUntil drawn v w = (tries : List DryView) × (u : DrawerView) × DryDraws tries v u × EndsIn drawn u w
 
--- a refill was asked for where this mark was seen
+-- a refill was asked for where this mark was seen, and another one is published since
 abbrev pub IsRaised : ℕ → Option Rise → Type 0
-IsRaised mark (Some r) = r.seen ≡ mark
+IsRaised mark (Some r) = (r.seen ≡ mark) × (r.mark ≢ r.seen)
 IsRaised mark None = ⊥

@@ -1,30 +1,43 @@
 //! What a bearer does under the lock.
 #![tactic(auto)]
 
-ghost use Rattle.std.specs.Prelude.{◌≡◌, ℕ, ◌<◌, ◌^◌, List, ◌∷◌, ◌++◌, All, true, false, IfOk, OnOk, IfErr};
+ghost use Rattle.std.specs.Prelude.{◌≡◌, ◌≢◌, ℕ, ◌+◌, ◌<◌, ◌≤◌, ◌^◌, length, List, [], ◌∷◌, ◌++◌, All, map, true, false, IfOk, OnOk, IfErr, slice_index_or};
+ghost use Rattle.mesh_types.specs.declared.events.Event.{Event as AnEvent};
 ghost use Rattle.machine_contract.specs.Ranges.{IsEvent, IsJob, IsQuiet};
-ghost use Rattle.run_definitions.specs.Order.{Task, is_outside, write_tasks};
+ghost use Rattle.run_definitions.specs.Order.{Task, handle, is_outside, write_tasks};
 ghost use Rattle.seq_word.specs.Word.{seq_of};
-ghost use Rattle.locked_node.specs.Node.{OnStop};
-ghost use Rattle.node_bearer.specs.Did.{Broke, DidBy, GoesOn, IsFor, IsRider};
+ghost use Rattle.turn_lock.specs.Entries.{IsPrefix};
+ghost use Rattle.locked_node.specs.Node.{OnStop, node_marks, origin_of};
+ghost use Rattle.node_bearer.specs.Did.{AreEvents, Broke, DidBy, GoesOn, IsFor, IsRider};
 ghost use Rattle.node_bearer.specs.Marked.{HasEntry};
+ghost use Rattle.node_bearer.specs.Turns.{AreRead, after_turn, left_of};
 
-use crate::bearer::Bearer;
+use crate::bearer::{Acted, Bearer};
+use crate::place::Place;
 use crate::sharing::Sharing;
 use flash_model::Flash;
 use locked_node::{Node, Raised};
 use machine_contract::{Answered, Machine, Stop};
 use mesh_types::events::Event;
-use seq_word::{Dry, Numbers};
-use turn_lock::Turn;
+use seq_word::Dry;
 
 /// Has a bearer's reader read an event before the bearer's turn: a network PDU, where it reads early, and else nothing.
-pub fn read<M: Machine, S: Sharing>(sharing: &S, reader: &mut M::Reader, event: &Event)
+fn read<M: Machine, S: Sharing>(sharing: &S, reader: &mut M::Reader, event: &Event)
     ensures fits { M.fits reader.new event.now }
 {
     match event {
         Event::Net(octets) if sharing.reads_early() => M::early(reader, octets),
         _ => M::unread(reader),
+    }
+}
+
+/// Has each of these events read before the bearer's turn, by the reader of its place.
+pub fn read_each<M: Machine, S: Sharing>(sharing: &S, readers: &mut [M::Reader], events: &[Event])
+    requires few { length events.now ≤ length readers.old }
+    ensures fits { AreRead M.fits readers.new events.now }
+{
+    for i in 0..events.len() {
+        read::<M, S>(sharing, &mut readers[i], &events[i]);
     }
 }
 
@@ -39,70 +52,190 @@ fn renew<M: Machine, F: Flash + Send + Drop, S: Sharing>(
     }
 }
 
-/// Has an event handled, of which the bearer's reader may have read before, and renews the reader under the same lock. The bearer is the one of
-/// this place, `k`.
-pub fn act<M: Machine, F: Flash + Send + Drop, S: Sharing>(
+// Renews each of a bearer's readers, where it reads early.
+fn renew_each<M: Machine, F: Flash + Send + Drop, S: Sharing>(
     sharing: &S,
-    n: &Numbers,
-    turn: &Turn<Node<M, F>>,
-    k: u8,
+    node: &Node<M, F>,
+    readers: &mut [M::Reader],
+) {
+    for reader in readers.iter_mut() {
+        renew::<M, F, S>(sharing, node, reader);
+    }
+}
+
+/// Has an event handled by the node in hand, of which a reader may have read before.
+fn handle_one<M: Machine, F: Flash + Send + Drop, S: Sharing>(
+    place: &Place<'_, Node<M, F>, S>,
+    node: &mut Node<M, F>,
     b: &mut Bearer<Node<M, F>>,
     event: &Event,
-    reader: &mut M::Reader,
+    reader: &M::Reader,
 ) -> Result<Answered, Stop>
-    requires rider { IsRider S.parts n.now turn.now b.old }
-    requires event { IsEvent turn.now.first.machine.elements event.now }
-    requires early { M.fits reader.old event.now }
-    ensures rider { IsRider S.parts n.now turn.now b.new }
-    ensures on { GoesOn b.old b.new }
-    ensures frame { (b.new.lines ≡ b.old.lines) × (b.new.drawer ≡ b.old.drawer) }
+    requires made { node.old.machine.which ≡ place.now.numbers.now.which }
+    requires event { IsEvent node.old.machine.elements event.now }
+    requires early { M.fits reader.now event.now }
+    requires seen { IsPrefix b.old.pass.seen (node_marks node.old) }
+    ensures origin { origin_of F.chip node.new ≡ origin_of F.chip node.old }
+    ensures front { IsPrefix (node_marks node.old) (node_marks node.new) }
+    ensures frame { b.new ≡ record b.old { number = b.new.number } }
     ensures did { (first : ℕ) (tasks rest : List Task) (task : Task) → IsFor event.now task
-        → DidBy k first tasks (task ∷ rest) b.old
-        → IfOk result (λ a. DidBy k first tasks (write_tasks a.at 0 event.now a.jobs ++ rest) b.new) }
-    ensures entry { IfOk result (λ a. HasEntry b.new.pass.seen a.at event.now a.jobs) }
+        → DidBy place.now.bearer first tasks (task ∷ rest) (after_turn b.old node.old)
+        → IfOk result
+        (λ a. DidBy place.now.bearer first tasks (write_tasks a.at 0 event.now a.jobs ++ rest) (after_turn b.new node.new)) }
+    ensures entry { IfOk result (λ a. HasEntry (node_marks node.new) a.at event.now a.jobs) }
     ensures jobs { IfOk result (λ a. All (IsJob event.now) a.jobs) }
     ensures quiet { is_outside event.now ≡ false → IfOk result (λ a. All IsQuiet a.jobs) }
     ensures stopped { (first : ℕ) (tasks rest : List Task) (task : Task) → IsFor event.now task
-        → DidBy k first tasks (task ∷ rest) b.old
-        → IfErr result (λ e. OnStop e (Broke k first tasks b.new)) }
+        → DidBy place.now.bearer first tasks (task ∷ rest) (after_turn b.old node.old)
+        → IfErr result (λ e. OnStop e (Broke place.now.bearer first tasks (after_turn b.new node.new))) }
 {
     if b.number == u32::MAX {
         return Err(Stop::Memory);
     }
-    let mut node = sharing.enter(turn, &mut b.pass);
-    let result = node.handle(n, k, b.number + 1, event, &*reader);
-    renew(sharing, &node, reader);
-    node.known();
-    turn.leave(&mut b.pass, node);
-    let answered = result?;
+    let answered = node.handle(place.numbers, place.bearer, b.number + 1, event, reader)?;
     b.number += 1;
     Ok(answered)
 }
 
+// Whether a turn ends behind the event at this place, of so many: it left jobs, or it is the last.
+fn ends_turn(answered: &Answered, at: usize, count: usize) -> bool
+    requires there { at < count }
+    ensures goes_on { result ≡ false → (at + 1 < count) × (answered.now.jobs ≡ []) }
+{
+    at + 1 == count || !answered.jobs.as_slice().is_empty()
+}
+
+/// Has events handled by the node in hand, one after another, and none behind one that leaves jobs. Each may have been read before, by the reader
+/// of its place.
+fn handle_all<M: Machine, F: Flash + Send + Drop, S: Sharing>(
+    place: &Place<'_, Node<M, F>, S>,
+    node: &mut Node<M, F>,
+    b: &mut Bearer<Node<M, F>>,
+    events: &[Event],
+    readers: &[M::Reader],
+) -> Result<Acted, Stop>
+    requires made { node.old.machine.which ≡ place.now.numbers.now.which }
+    requires events { AreEvents node.old.machine.elements events.now }
+    requires some { 1 ≤ length events.now }
+    requires few { length events.now ≤ length readers.now }
+    requires early { AreRead M.fits readers.now events.now }
+    requires seen { IsPrefix b.old.pass.seen (node_marks node.old) }
+    ensures origin { origin_of F.chip node.new ≡ origin_of F.chip node.old }
+    ensures front { IsPrefix (node_marks node.old) (node_marks node.new) }
+    ensures frame { b.new ≡ record b.old { number = b.new.number } }
+    ensures last { IfOk result (λ a. a.last < length events.now) }
+    ensures did { (first : ℕ) (tasks rest : List Task) (e : AnEvent)
+        → DidBy place.now.bearer first tasks (map handle events.now ++ rest) (after_turn b.old node.old)
+        → IfOk result
+        (λ a. DidBy place.now.bearer first tasks (left_of a e events.now rest) (after_turn b.new node.new)) }
+    ensures entry { (e : AnEvent) → IfOk result
+        (λ a. HasEntry (node_marks node.new) a.answered.at (slice_index_or events.now a.last e) a.answered.jobs) }
+    ensures jobs { (e : AnEvent) → IfOk result
+        (λ a. All (IsJob (slice_index_or events.now a.last e)) a.answered.jobs) }
+    ensures stopped { (first : ℕ) (tasks rest : List Task)
+        → DidBy place.now.bearer first tasks (map handle events.now ++ rest) (after_turn b.old node.old)
+        → IfErr result (λ e. OnStop e (Broke place.now.bearer first tasks (after_turn b.new node.new))) }
+{
+    for i in 0..events.len() {
+        let answered = handle_one(place, node, b, &events[i], &readers[i])?;
+        if ends_turn(&answered, i, events.len()) {
+            return Ok(Acted { last: i, answered });
+        }
+    }
+    unreachable!()
+}
+
+/// Takes a turn at the lock, in which an event is handled, of which the bearer's reader may have read before. The reader is renewed under the
+/// same lock.
+pub fn act<M: Machine, F: Flash + Send + Drop, S: Sharing>(
+    place: &Place<'_, Node<M, F>, S>,
+    b: &mut Bearer<Node<M, F>>,
+    event: &Event,
+    reader: &mut M::Reader,
+) -> Result<Answered, Stop>
+    requires rider { IsRider S.parts place.now.numbers.now place.now.turn.now b.old }
+    requires event { IsEvent place.now.turn.now.first.machine.elements event.now }
+    requires early { M.fits reader.old event.now }
+    ensures rider { IsRider S.parts place.now.numbers.now place.now.turn.now b.new }
+    ensures on { GoesOn b.old b.new }
+    ensures frame { (b.new.lines ≡ b.old.lines) × (b.new.drawer ≡ b.old.drawer) }
+    ensures did { (first : ℕ) (tasks rest : List Task) (task : Task) → IsFor event.now task
+        → DidBy place.now.bearer first tasks (task ∷ rest) b.old
+        → IfOk result
+        (λ a. DidBy place.now.bearer first tasks (write_tasks a.at 0 event.now a.jobs ++ rest) b.new) }
+    ensures entry { IfOk result (λ a. HasEntry b.new.pass.seen a.at event.now a.jobs) }
+    ensures jobs { IfOk result (λ a. All (IsJob event.now) a.jobs) }
+    ensures quiet { is_outside event.now ≡ false → IfOk result (λ a. All IsQuiet a.jobs) }
+    ensures stopped { (first : ℕ) (tasks rest : List Task) (task : Task) → IsFor event.now task
+        → DidBy place.now.bearer first tasks (task ∷ rest) b.old
+        → IfErr result (λ e. OnStop e (Broke place.now.bearer first tasks b.new)) }
+{
+    let mut node = place.sharing.enter(place.turn, &mut b.pass);
+    let result = handle_one(place, &mut node, b, event, &*reader);
+    renew(place.sharing, &node, reader);
+    node.known();
+    place.turn.leave(&mut b.pass, node);
+    result
+}
+
+/// Takes a turn at the lock, in which the first of these events is handled, and each next one where the one before left no jobs. Each may have
+/// been read before, by the reader of its place. All these readers are renewed under the same lock.
+pub fn act_on<M: Machine, F: Flash + Send + Drop, S: Sharing>(
+    place: &Place<'_, Node<M, F>, S>,
+    b: &mut Bearer<Node<M, F>>,
+    events: &[Event],
+    readers: &mut [M::Reader],
+) -> Result<Acted, Stop>
+    requires rider { IsRider S.parts place.now.numbers.now place.now.turn.now b.old }
+    requires events { AreEvents place.now.turn.now.first.machine.elements events.now }
+    requires some { 1 ≤ length events.now }
+    requires few { length events.now ≤ length readers.old }
+    requires early { AreRead M.fits readers.old events.now }
+    ensures rider { IsRider S.parts place.now.numbers.now place.now.turn.now b.new }
+    ensures on { GoesOn b.old b.new }
+    ensures frame { (b.new.lines ≡ b.old.lines) × (b.new.drawer ≡ b.old.drawer) }
+    ensures last { IfOk result (λ a. a.last < length events.now) }
+    ensures did { (first : ℕ) (tasks rest : List Task) (e : AnEvent)
+        → DidBy place.now.bearer first tasks (map handle events.now ++ rest) b.old
+        → IfOk result (λ a. DidBy place.now.bearer first tasks (left_of a e events.now rest) b.new) }
+    ensures entry { (e : AnEvent) → IfOk result
+        (λ a. HasEntry b.new.pass.seen a.answered.at (slice_index_or events.now a.last e) a.answered.jobs) }
+    ensures jobs { (e : AnEvent) → IfOk result
+        (λ a. All (IsJob (slice_index_or events.now a.last e)) a.answered.jobs) }
+    ensures stopped { (first : ℕ) (tasks rest : List Task)
+        → DidBy place.now.bearer first tasks (map handle events.now ++ rest) b.old
+        → IfErr result (λ e. OnStop e (Broke place.now.bearer first tasks b.new)) }
+{
+    let mut node = place.sharing.enter(place.turn, &mut b.pass);
+    let result = handle_all(place, &mut node, b, events, &*readers);
+    renew_each(place.sharing, &node, readers);
+    node.known();
+    place.turn.leave(&mut b.pass, node);
+    result
+}
+
 /// Has a refill stored, where the mark that was reached is still the one that was published last, and can be raised. Then another mark is
-/// published.
+/// published, and no longer the one that was reached (`raised`).
 pub fn refill<M: Machine, F: Flash + Send + Drop, S: Sharing>(
-    sharing: &S,
-    n: &Numbers,
-    turn: &Turn<Node<M, F>>,
+    place: &Place<'_, Node<M, F>, S>,
     b: &mut Bearer<Node<M, F>>,
     dry: Dry,
 ) -> Result<Raised, Stop>
-    requires rider { IsRider S.parts n.now turn.now b.old }
-    requires reached { dry.which ≡ n.now.which }
+    requires rider { IsRider S.parts place.now.numbers.now place.now.turn.now b.old }
+    requires reached { dry.which ≡ place.now.numbers.now.which }
     requires seq { seq_of dry.mark < 2 ^ 24 }
-    ensures rider { IsRider S.parts n.now turn.now b.new }
+    ensures rider { IsRider S.parts place.now.numbers.now place.now.turn.now b.new }
     ensures on { GoesOn b.old b.new }
     ensures frame { (b.new.lines ≡ b.old.lines) × (b.new.drawer ≡ b.old.drawer) }
-    ensures raised { IfOk result (λ r. r.seen ≡ dry.mark) }
+    ensures raised { IfOk result (λ r. (r.seen ≡ dry.mark) × (r.mark ≢ r.seen)) }
     ensures did { (k first : ℕ) (tasks rest : List Task) → DidBy k first tasks rest b.old
         → OnOk result (DidBy k first tasks rest b.new) }
     ensures stopped { (k first : ℕ) (tasks rest : List Task) → DidBy k first tasks rest b.old
         → IfErr result (λ e. OnStop e (Broke k first tasks b.new)) }
 {
-    let mut node = sharing.enter(turn, &mut b.pass);
-    let result = node.refill(n, dry);
+    let mut node = place.sharing.enter(place.turn, &mut b.pass);
+    let result = node.refill(place.numbers, dry);
     node.known();
-    turn.leave(&mut b.pass, node);
+    place.turn.leave(&mut b.pass, node);
     result
 }

@@ -2,7 +2,7 @@
 #![tactic(auto)]
 
 use job_sealing::KeptSeals;
-use machine_contract::Stop;
+use machine_contract::{Answered, Stop};
 use mesh_base::pair::Pair;
 use mesh_types::history::Sent;
 use seq_word::Drawer;
@@ -32,4 +32,13 @@ pub enum Drawn {
     Pair(Pair),
     /// No SEQ is left under this transmit IV Index.
     Spent(u32),
+}
+
+/// What a turn at the lock gave.
+#[derive(Drop)]
+pub struct Acted {
+    /// The place of the last event that was handled in it, among those that were to be handled.
+    pub last: usize,
+    /// What that one was answered. The others left no jobs.
+    pub answered: Answered,
 }

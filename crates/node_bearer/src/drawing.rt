@@ -12,13 +12,13 @@ ghost use Rattle.node_bearer.specs.Tries.{DrawsUntil, IsRaised};
 
 use crate::acting::refill;
 use crate::bearer::{Bearer, Drawn};
+use crate::place::Place;
 use crate::sharing::Sharing;
 use flash_model::Flash;
 use locked_node::{Node, Raised};
 use machine_contract::{Machine, Stop};
 use mesh_base::pair::Pair;
 use seq_word::{DrawStop, Drawer, Dry, Miss, Numbers};
-use turn_lock::Turn;
 
 /// The SEQ at which an IV Index has no number left.
 const SPENT_SEQ: u64 = 0x100_0000;
@@ -32,15 +32,13 @@ const MOST_TRIES: u32 = u32::MAX;
 
 /// Has a mark raised that the counter has reached, where SEQ of the mark is below 2^24 (`raised`); else it does nothing (`last`).
 fn raise<M: Machine, F: Flash + Send + Drop, S: Sharing>(
-    sharing: &S,
-    n: &Numbers,
-    turn: &Turn<Node<M, F>>,
+    place: &Place<'_, Node<M, F>, S>,
     b: &mut Bearer<Node<M, F>>,
     dry: Dry,
 ) -> Result<Option<Raised>, Stop>
-    requires rider { IsRider S.parts n.now turn.now b.old }
-    requires reached { dry.which ≡ n.now.which }
-    ensures rider { IsRider S.parts n.now turn.now b.new }
+    requires rider { IsRider S.parts place.now.numbers.now place.now.turn.now b.old }
+    requires reached { dry.which ≡ place.now.numbers.now.which }
+    ensures rider { IsRider S.parts place.now.numbers.now place.now.turn.now b.new }
     ensures on { GoesOn b.old b.new }
     ensures frame { (b.new.lines ≡ b.old.lines) × (b.new.drawer ≡ b.old.drawer) }
     ensures raised { seq_of dry.mark < 2 ^ 24 → IfOk result (IsRaised dry.mark) }
@@ -52,7 +50,7 @@ fn raise<M: Machine, F: Flash + Send + Drop, S: Sharing>(
 {
     // Else the mark is at the end of its IV Index, and the counter under the next one: its mark was published since.
     if dry.mark() % WORDS_PER_IV < SPENT_SEQ {
-        Ok(Some(refill(sharing, n, turn, b, dry)?))
+        Ok(Some(refill(place, b, dry)?))
     } else {
         Ok(None)
     }
@@ -85,13 +83,11 @@ fn draw_below(n: &Numbers, d: &mut Drawer) -> Result<Pair, Option<DrawStop>>
 /// Draws a pair. Where the counter has reached the mark, it has a refill stored and draws again, and for no other cause. It waits for
 /// nobody but for its turn to have a refill stored; after 2^32 - 1 tries it gives up, as for want of memory.
 pub fn draw<M: Machine, F: Flash + Send + Drop, S: Sharing>(
-    sharing: &S,
-    n: &Numbers,
-    turn: &Turn<Node<M, F>>,
+    place: &Place<'_, Node<M, F>, S>,
     b: &mut Bearer<Node<M, F>>,
 ) -> Result<Drawn, Stop>
-    requires rider { IsRider S.parts n.now turn.now b.old }
-    ensures rider { IsRider S.parts n.now turn.now b.new }
+    requires rider { IsRider S.parts place.now.numbers.now place.now.turn.now b.old }
+    ensures rider { IsRider S.parts place.now.numbers.now place.now.turn.now b.new }
     ensures on { GoesOn b.old b.new }
     ensures frame { b.new.lines ≡ b.old.lines }
     ensures seq { IfOk result IsUnspent }
@@ -102,11 +98,11 @@ pub fn draw<M: Machine, F: Flash + Send + Drop, S: Sharing>(
         → IfErr result (λ e. OnStop e (Broke k first tasks b.new)) }
 {
     for _ in 0..MOST_TRIES {
-        match draw_below(n, &mut b.drawer) {
+        match draw_below(place.numbers, &mut b.drawer) {
             Ok(pair) => return Ok(Drawn::Pair(pair)),
             Err(Some(DrawStop::Spent { iv })) => return Ok(Drawn::Spent(iv)),
             Err(Some(DrawStop::Dry(dry))) => {
-                raise(sharing, n, turn, b, dry)?;
+                raise(place, b, dry)?;
             }
             Err(None) => return Err(Stop::Memory),
         }

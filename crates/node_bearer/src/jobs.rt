@@ -13,6 +13,7 @@ ghost use Rattle.node_bearer.specs.Marked.{HasEntry, HasJob};
 use crate::acting::act;
 use crate::bearer::{Bearer, Drawn};
 use crate::drawing::draw;
+use crate::place::Place;
 use crate::sharing::Sharing;
 use flash_model::Flash;
 use job_sealing::{drawn_line, draws, plain_line};
@@ -23,8 +24,6 @@ use mesh_types::events::Event;
 use mesh_types::history::Sent;
 use mesh_types::jobs::Job;
 use mesh_types::lines::Outcome;
-use seq_word::Numbers;
-use turn_lock::Turn;
 
 /// Does a job that draws no pair: job `j` of the entry at place `at`, which is of this event.
 fn plain_job<M: Machine, F: Flash + Send + Drop>(
@@ -118,19 +117,17 @@ fn drawn_job<M: Machine, F: Flash + Send + Drop>(
 
 /// Does a job: draws for it if it is one that draws, seals it, and notes its line. Returns the node's own event that is to be handled next.
 fn do_job<M: Machine, F: Flash + Send + Drop, S: Sharing>(
-    sharing: &S,
-    n: &Numbers,
-    turn: &Turn<Node<M, F>>,
+    place: &Place<'_, Node<M, F>, S>,
     b: &mut Bearer<Node<M, F>>,
     at: u32,
     j: u8,
     event: &Event,
     job: &Job,
 ) -> Result<Option<Event>, Stop>
-    requires rider { IsRider S.parts n.now turn.now b.old }
+    requires rider { IsRider S.parts place.now.numbers.now place.now.turn.now b.old }
     requires job { IsJob event.now job.now }
     requires there { HasJob b.old.pass.seen at j event.now job.now }
-    ensures rider { IsRider S.parts n.now turn.now b.new }
+    ensures rider { IsRider S.parts place.now.numbers.now place.now.turn.now b.new }
     ensures on { GoesOn b.old b.new }
     ensures did { (k first : ℕ) (tasks rest : List Task)
         → DidBy k first tasks (write at j event.now job.now ∷ rest) b.old
@@ -145,7 +142,7 @@ fn do_job<M: Machine, F: Flash + Send + Drop, S: Sharing>(
     if !draws(job) {
         return plain_job(b, at, j, event, job);
     }
-    match draw(sharing, n, turn, b)? {
+    match draw(place, b)? {
         Drawn::Pair(pair) => drawn_job(b, at, j, event, job, pair),
         Drawn::Spent(iv) => spent_job(b, at, j, event, job, iv),
     }
@@ -153,20 +150,18 @@ fn do_job<M: Machine, F: Flash + Send + Drop, S: Sharing>(
 
 /// Does the jobs of an entry after whose lines nothing is handled.
 fn do_quiet_jobs<M: Machine, F: Flash + Send + Drop, S: Sharing>(
-    sharing: &S,
-    n: &Numbers,
-    turn: &Turn<Node<M, F>>,
+    place: &Place<'_, Node<M, F>, S>,
     b: &mut Bearer<Node<M, F>>,
     at: u32,
     event: &Event,
     jobs: &[Job],
 ) -> Result<(), Stop>
-    requires rider { IsRider S.parts n.now turn.now b.old }
+    requires rider { IsRider S.parts place.now.numbers.now place.now.turn.now b.old }
     requires entry { HasEntry b.old.pass.seen at event.now jobs.now }
     requires few { length jobs.now ≤ 160 }
     requires jobs { All (IsJob event.now) jobs.now }
     requires quiet { All IsQuiet jobs.now }
-    ensures rider { IsRider S.parts n.now turn.now b.new }
+    ensures rider { IsRider S.parts place.now.numbers.now place.now.turn.now b.new }
     ensures on { GoesOn b.old b.new }
     ensures did { (k first : ℕ) (tasks rest : List Task)
         → DidBy k first tasks (write_tasks at 0 event.now jobs.now ++ rest) b.old
@@ -176,101 +171,85 @@ fn do_quiet_jobs<M: Machine, F: Flash + Send + Drop, S: Sharing>(
         → IfErr result (λ e. OnStop e (Broke k first tasks b.new)) }
 {
     for j in 0..jobs.len() {
-        do_job(sharing, n, turn, b, at, j as u8, event, &jobs[j])?;
+        do_job(place, b, at, j as u8, event, &jobs[j])?;
     }
     Ok(())
 }
 
 /// Has an event of the node's own handled, and does its jobs.
 fn do_next<M: Machine, F: Flash + Send + Drop, S: Sharing>(
-    sharing: &S,
-    n: &Numbers,
-    turn: &Turn<Node<M, F>>,
-    k: u8,
+    place: &Place<'_, Node<M, F>, S>,
     b: &mut Bearer<Node<M, F>>,
     event: &Event,
     reader: &mut M::Reader,
 ) -> Result<(), Stop>
-    requires rider { IsRider S.parts n.now turn.now b.old }
-    requires event { IsEvent turn.now.first.machine.elements event.now }
+    requires rider { IsRider S.parts place.now.numbers.now place.now.turn.now b.old }
+    requires event { IsEvent place.now.turn.now.first.machine.elements event.now }
     requires own { is_outside event.now ≡ false }
-    ensures rider { IsRider S.parts n.now turn.now b.new }
+    ensures rider { IsRider S.parts place.now.numbers.now place.now.turn.now b.new }
     ensures on { GoesOn b.old b.new }
-    ensures did { (first : ℕ) (tasks rest : List Task) → DidBy k first tasks (follow event.now ∷ rest) b.old
-        → OnOk result (DidBy k first tasks rest b.new) }
-    ensures stopped { (first : ℕ) (tasks rest : List Task) → DidBy k first tasks (follow event.now ∷ rest) b.old
-        → IfErr result (λ e. OnStop e (Broke k first tasks b.new)) }
+    ensures did { (first : ℕ) (tasks rest : List Task)
+        → DidBy place.now.bearer first tasks (follow event.now ∷ rest) b.old
+        → OnOk result (DidBy place.now.bearer first tasks rest b.new) }
+    ensures stopped { (first : ℕ) (tasks rest : List Task)
+        → DidBy place.now.bearer first tasks (follow event.now ∷ rest) b.old
+        → IfErr result (λ e. OnStop e (Broke place.now.bearer first tasks b.new)) }
 {
     M::unread(reader);
-    let answered = act(sharing, n, turn, k, b, event, reader)?;
-    do_quiet_jobs(
-        sharing,
-        n,
-        turn,
-        b,
-        answered.at,
-        event,
-        answered.jobs.as_slice(),
-    )
+    let answered = act(place, b, event, reader)?;
+    do_quiet_jobs(place, b, answered.at, event, answered.jobs.as_slice())
 }
 
-/// Does a job, and has handled what follows its line.
-fn do_whole_job<M: Machine, F: Flash + Send + Drop, S: Sharing>(
-    sharing: &S,
-    n: &Numbers,
-    turn: &Turn<Node<M, F>>,
-    k: u8,
+/// Has handled what follows a line, if anything does, and does its jobs.
+fn do_following<M: Machine, F: Flash + Send + Drop, S: Sharing>(
+    place: &Place<'_, Node<M, F>, S>,
     b: &mut Bearer<Node<M, F>>,
-    at: u32,
-    j: u8,
-    event: &Event,
-    job: &Job,
+    next: Option<Event>,
     reader: &mut M::Reader,
 ) -> Result<(), Stop>
-    requires rider { IsRider S.parts n.now turn.now b.old }
-    requires job { IsJob event.now job.now }
-    requires there { HasJob b.old.pass.seen at j event.now job.now }
-    ensures rider { IsRider S.parts n.now turn.now b.new }
+    requires rider { IsRider S.parts place.now.numbers.now place.now.turn.now b.old }
+    requires event { IfSome next (IsEvent place.now.turn.now.first.machine.elements) }
+    requires own { IfSome next (λ e. is_outside e ≡ false) }
+    ensures rider { IsRider S.parts place.now.numbers.now place.now.turn.now b.new }
     ensures on { GoesOn b.old b.new }
-    ensures did { (first : ℕ) (tasks rest : List Task) → DidBy k first tasks (write at j event.now job.now ∷ rest) b.old
-        → OnOk result (DidBy k first tasks rest b.new) }
+    ensures did { (first : ℕ) (tasks rest : List Task)
+        → DidBy place.now.bearer first tasks (map follow (option_to_list next) ++ rest) b.old
+        → OnOk result (DidBy place.now.bearer first tasks rest b.new) }
     ensures stopped { (first : ℕ) (tasks rest : List Task)
-        → DidBy k first tasks (write at j event.now job.now ∷ rest) b.old
-        → IfErr result (λ e. OnStop e (Broke k first tasks b.new)) }
+        → DidBy place.now.bearer first tasks (map follow (option_to_list next) ++ rest) b.old
+        → IfErr result (λ e. OnStop e (Broke place.now.bearer first tasks b.new)) }
 {
-    match do_job(sharing, n, turn, b, at, j, event, job)? {
+    match next {
         None => Ok(()),
-        Some(next) => do_next(sharing, n, turn, k, b, &next, reader),
+        Some(event) => do_next(place, b, &event, reader),
     }
 }
 
 /// Does the jobs of an entry, and has handled what follows their lines.
 pub fn do_jobs<M: Machine, F: Flash + Send + Drop, S: Sharing>(
-    sharing: &S,
-    n: &Numbers,
-    turn: &Turn<Node<M, F>>,
-    k: u8,
+    place: &Place<'_, Node<M, F>, S>,
     b: &mut Bearer<Node<M, F>>,
     at: u32,
     event: &Event,
     jobs: &[Job],
     reader: &mut M::Reader,
 ) -> Result<(), Stop>
-    requires rider { IsRider S.parts n.now turn.now b.old }
+    requires rider { IsRider S.parts place.now.numbers.now place.now.turn.now b.old }
     requires entry { HasEntry b.old.pass.seen at event.now jobs.now }
     requires few { length jobs.now ≤ 160 }
     requires jobs { All (IsJob event.now) jobs.now }
-    ensures rider { IsRider S.parts n.now turn.now b.new }
+    ensures rider { IsRider S.parts place.now.numbers.now place.now.turn.now b.new }
     ensures on { GoesOn b.old b.new }
     ensures did { (first : ℕ) (tasks rest : List Task)
-        → DidBy k first tasks (write_tasks at 0 event.now jobs.now ++ rest) b.old
-        → OnOk result (DidBy k first tasks rest b.new) }
+        → DidBy place.now.bearer first tasks (write_tasks at 0 event.now jobs.now ++ rest) b.old
+        → OnOk result (DidBy place.now.bearer first tasks rest b.new) }
     ensures stopped { (first : ℕ) (tasks rest : List Task)
-        → DidBy k first tasks (write_tasks at 0 event.now jobs.now ++ rest) b.old
-        → IfErr result (λ e. OnStop e (Broke k first tasks b.new)) }
+        → DidBy place.now.bearer first tasks (write_tasks at 0 event.now jobs.now ++ rest) b.old
+        → IfErr result (λ e. OnStop e (Broke place.now.bearer first tasks b.new)) }
 {
     for j in 0..jobs.len() {
-        do_whole_job(sharing, n, turn, k, b, at, j as u8, event, &jobs[j], reader)?;
+        let next = do_job(place, b, at, j as u8, event, &jobs[j])?;
+        do_following(place, b, next, reader)?;
     }
     Ok(())
 }

@@ -1,79 +1,134 @@
 //! All events of a bearer.
 #![tactic(auto)]
 
-ghost use Rattle.std.specs.Prelude.{◌≡◌, ℕ, List, [], ◌∷◌, ◌++◌, map, IsTrue, IfErr, OnOk};
-ghost use Rattle.machine_contract.specs.Ranges.{IsEvent};
-ghost use Rattle.run_definitions.specs.Order.{Task, handle, is_outside};
+ghost use Rattle.std.specs.Prelude.{◌≡◌, ℕ, ◌≤◌, length, List, [], ◌∷◌, ◌++◌, drop, map, IfErr, IfOk, OnOk};
+ghost use Rattle.run_definitions.specs.Order.{Task, handle};
 ghost use Rattle.locked_node.specs.Node.{OnStop};
 ghost use Rattle.node_bearer.specs.Did.{AreEvents, Broke, DidBy, GoesOn, IsRider};
 
-use crate::acting::{act, read};
+use crate::acting::{act_on, read_each};
 use crate::bearer::Bearer;
 use crate::gate::Gate;
 use crate::jobs::do_jobs;
+use crate::place::Place;
 use crate::sharing::Sharing;
 use flash_model::Flash;
 use locked_node::Node;
 use machine_contract::{Machine, Stop};
 use mesh_types::events::Event;
-use seq_word::Numbers;
-use turn_lock::Turn;
 
-/// Has an event from outside handled, and does all that follows from it. It is read before the lock is taken.
-fn do_event<M: Machine, F: Flash + Send + Drop, G: Gate, S: Sharing>(
-    sharing: &S,
-    n: &Numbers,
-    turn: &Turn<Node<M, F>>,
+/// How far a bearer came by one turn at the lock.
+#[derive(Clone, Copy)]
+struct Stride {
+    /// How many events were handled in it.
+    events: usize,
+    /// Whether none of them left jobs.
+    quiet: bool,
+}
+
+/// Has events from outside handled in one turn, as far as none leaves jobs, and does all that follows. Each is read before the lock is taken, by
+/// the reader of its place. All these readers are renewed.
+fn do_events<M: Machine, F: Flash + Send + Drop, G: Gate, S: Sharing>(
+    place: &Place<'_, Node<M, F>, S>,
     gate: &G,
-    k: u8,
     b: &mut Bearer<Node<M, F>>,
-    event: &Event,
-    reader: &mut M::Reader,
-) -> Result<(), Stop>
-    requires rider { IsRider S.parts n.now turn.now b.old }
-    requires event { IsEvent turn.now.first.machine.elements event.now }
-    requires outside { IsTrue (is_outside event.now) }
-    ensures rider { IsRider S.parts n.now turn.now b.new }
+    events: &[Event],
+    readers: &mut [M::Reader],
+) -> Result<Stride, Stop>
+    requires rider { IsRider S.parts place.now.numbers.now place.now.turn.now b.old }
+    requires events { AreEvents place.now.turn.now.first.machine.elements events.now }
+    requires some { 1 ≤ length events.now }
+    requires few { length events.now ≤ length readers.old }
+    ensures rider { IsRider S.parts place.now.numbers.now place.now.turn.now b.new }
     ensures on { GoesOn b.old b.new }
-    ensures did { (first : ℕ) (tasks rest : List Task) → DidBy k first tasks (handle event.now ∷ rest) b.old
-        → OnOk result (DidBy k first tasks rest b.new) }
-    ensures stopped { (first : ℕ) (tasks rest : List Task) → DidBy k first tasks (handle event.now ∷ rest) b.old
-        → IfErr result (λ e. OnStop e (Broke k first tasks b.new)) }
+    ensures some { IfOk result (λ r. 1 ≤ r.events) }
+    ensures few { IfOk result (λ r. r.events ≤ length events.now) }
+    ensures did { (first : ℕ) (tasks rest : List Task)
+        → DidBy place.now.bearer first tasks (map handle events.now ++ rest) b.old
+        → IfOk result
+        (λ r. DidBy place.now.bearer first tasks (map handle (drop r.events events.now) ++ rest) b.new) }
+    ensures stopped { (first : ℕ) (tasks rest : List Task)
+        → DidBy place.now.bearer first tasks (map handle events.now ++ rest) b.old
+        → IfErr result (λ e. OnStop e (Broke place.now.bearer first tasks b.new)) }
 {
     let number = b.number.saturating_add(1);
-    gate.before(k, number);
-    read::<M, S>(sharing, reader, event);
-    let answered = act(sharing, n, turn, k, b, event, reader)?;
-    gate.between(k, number);
-    let jobs = answered.jobs.as_slice();
-    let done = do_jobs(sharing, n, turn, k, b, answered.at, event, jobs, reader);
-    gate.after(k, number);
-    done
+    gate.before(place.bearer, number);
+    read_each::<M, S>(place.sharing, readers, events);
+    let acted = act_on(place, b, events, readers)?;
+    gate.between(place.bearer, number);
+    let last = acted.last;
+    let event = &events[last];
+    let jobs = acted.answered.jobs.as_slice();
+    let done = do_jobs(place, b, acted.answered.at, event, jobs, &mut readers[0]);
+    gate.after(place.bearer, number);
+    done?;
+    Ok(Stride {
+        events: last + 1,
+        quiet: jobs.is_empty(),
+    })
+}
+
+// How many events a bearer takes to the lock at most.
+fn most_at_once<G: Gate>(gate: &G, readers: usize) -> usize
+    requires some { 1 ≤ readers }
+    ensures some { 1 ≤ result }
+    ensures few { result ≤ readers }
+{
+    if gate.is_told() { 1 } else { readers }
+}
+
+// How many events a bearer takes to the lock after a turn: so many, where none left jobs, else one.
+fn ahead_after(quiet: bool, next: usize) -> usize
+    requires { 1 ≤ next }
+    ensures some { 1 ≤ result }
+    ensures few { result ≤ next }
+{
+    if quiet { next } else { 1 }
+}
+
+// How many events a bearer takes to the lock after so many that left no jobs: twice as many.
+fn next_ahead(ahead: usize, most: usize) -> usize
+    requires few { ahead ≤ most }
+    ensures more { ahead ≤ result }
+    ensures few { result ≤ most }
+{
+    ahead.saturating_mul(2).min(most)
 }
 
 /// Has all events of a bearer handled, in their order, and does all that follows from each before it comes to the next. It stops at the
-/// first refusal. Each is read by what `reader` is from the one before.
+/// first refusal.
+///
+/// As long as events leave no jobs, it takes more and more of them to the lock at once, and has them handled in one turn: at most as many as
+/// there are readers, and one where the gate is told. Each is read before by a reader of its own, which was renewed in the turn before.
 pub fn work<M: Machine, F: Flash + Send + Drop, G: Gate, S: Sharing>(
-    sharing: &S,
-    n: &Numbers,
-    turn: &Turn<Node<M, F>>,
+    place: &Place<'_, Node<M, F>, S>,
     gate: &G,
-    k: u8,
     b: &mut Bearer<Node<M, F>>,
     events: &[Event],
-    reader: &mut M::Reader,
+    readers: &mut [M::Reader],
 ) -> Result<(), Stop>
-    requires rider { IsRider S.parts n.now turn.now b.old }
-    requires events { AreEvents turn.now.first.machine.elements events.now }
-    ensures rider { IsRider S.parts n.now turn.now b.new }
+    requires rider { IsRider S.parts place.now.numbers.now place.now.turn.now b.old }
+    requires events { AreEvents place.now.turn.now.first.machine.elements events.now }
+    requires readers { 1 ≤ length readers.old }
+    ensures rider { IsRider S.parts place.now.numbers.now place.now.turn.now b.new }
     ensures on { GoesOn b.old b.new }
-    ensures did { (first : ℕ) (tasks : List Task) → DidBy k first tasks (map handle events.now) b.old
-        → OnOk result (DidBy k first tasks [] b.new) }
-    ensures stopped { (first : ℕ) (tasks : List Task) → DidBy k first tasks (map handle events.now) b.old
-        → IfErr result (λ e. OnStop e (Broke k first tasks b.new)) }
+    ensures did { (first : ℕ) (tasks : List Task)
+        → DidBy place.now.bearer first tasks (map handle events.now) b.old
+        → OnOk result (DidBy place.now.bearer first tasks [] b.new) }
+    ensures stopped { (first : ℕ) (tasks : List Task)
+        → DidBy place.now.bearer first tasks (map handle events.now) b.old
+        → IfErr result (λ e. OnStop e (Broke place.now.bearer first tasks b.new)) }
 {
-    for event in events {
-        do_event(sharing, n, turn, gate, k, b, event, reader)?;
+    let most = most_at_once(gate, readers.len());
+    let mut ahead = 1;
+    let mut done = 0;
+    while done < events.len() {
+        let count = ahead.min(events.len() - done);
+        let next = next_ahead(ahead, most);
+        let batch = &events[done..done + count];
+        let stride = do_events(place, gate, b, batch, &mut readers[..next])?;
+        done += stride.events;
+        ahead = ahead_after(stride.quiet, next);
     }
     Ok(())
 }

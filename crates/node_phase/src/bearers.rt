@@ -1,7 +1,7 @@
 //! Bearers before, in and after a phase.
 #![tactic(auto)]
 
-ghost use Rattle.std.specs.Prelude.{◌≡◌, ℕ, ◌+◌, ◌<◌, [], ◌∷◌, ◌++◌, map, length, All, Bool, false, IfOk};
+ghost use Rattle.std.specs.Prelude.{◌≡◌, ℕ, ◌+◌, ◌<◌, ◌≤◌, [], ◌∷◌, ◌++◌, map, length, All, Bool, false, IfOk};
 ghost use Rattle.std.specs.List.{filter, flat_map, sum_by};
 ghost use Rattle.turn_lock.specs.Entries.{Holds, IsPrefix, KeptOf};
 ghost use Rattle.turn_lock.specs.Views.{IsPassOf};
@@ -15,12 +15,12 @@ use locked_node::{Mark, Node};
 use machine_contract::{Machine, Stop};
 use mesh_types::events::Event;
 use mesh_types::history::Sent;
-use node_bearer::{Bearer, Gate, Sharing, work};
+use node_bearer::{Bearer, Gate, Place, Sharing, work};
 use seq_word::{Drawer, Numbers};
 use std::alloc::{AllocError, Global};
 use std::marker::Model;
 use turn_lock::laws::{kept_law, merge_law};
-use turn_lock::{Pass, Turn};
+use turn_lock::{Logged, Pass, Turn};
 
 /// What is left of a bearer behind a phase.
 #[derive(Drop)]
@@ -33,28 +33,46 @@ pub struct Done {
     pub stop: Option<Stop>,
 }
 
-/// A bearer with what it reads octets by before its turn. What is handled is the same whatever that is, so a clause sees the bearer alone.
+/// How many events a bearer that runs beside others takes to the lock at most.
+const AT_ONCE: usize = 8;
+
+/// What the bearers of a phase share, and where memory comes from.
+#[derive(Drop)]
+pub struct Shared<'a, T: Logged> {
+    /// Where memory comes from.
+    pub alloc: Global,
+    /// The counter and the mark.
+    pub numbers: &'a Numbers,
+    /// The lock.
+    pub turn: &'a Turn<T>,
+}
+
+/// A bearer with what it reads octets by before its turn: a reader at least. What is handled is the same whatever these are, so a clause sees the
+/// bearer alone.
 #[derive(Drop)]
 pub struct Seated<M: Machine, F: Flash + Send + Drop> {
     pub(crate) bearer: Bearer<Node<M, F>>,
-    pub(crate) reader: Box<M::Reader>,
+    pub(crate) readers: Vec<M::Reader>,
 }
 
 impl<M: Machine, F: Flash + Send + Drop> Model for Seated<M, F> {
+    ghost use Rattle.std.specs.Prelude.{◌≤◌, length};
     ghost use Rattle.node_bearer.specs.Did.{BearerOf};
 
     ghost Value = { BearerOf F };
 
     ghost view = { λ s. s.bearer };
+
+    ghost invariant = { λ s. 1 ≤ length s.readers.items };
 }
 
 impl<M: Machine, F: Flash + Send + Drop> Seated<M, F> {
     /// The bearer, and what it reads by.
-    pub(crate) fn into_parts(self) -> (Bearer<Node<M, F>>, Box<M::Reader>)
+    pub(crate) fn into_parts(self) -> (Bearer<Node<M, F>>, Vec<M::Reader>)
         ensures bearer { result.0 ≡ self }
     {
-        let Seated { bearer, reader } = self;
-        (bearer, reader)
+        let Seated { bearer, readers } = self;
+        (bearer, readers)
     }
 }
 
@@ -66,40 +84,46 @@ fn events_of(plan: &[Vec<Event>], k: usize) -> usize {
     }
 }
 
+// How many readers a bearer has for so many events: at least one.
+fn readers_for(events: usize) -> usize
+    ensures { 1 ≤ result }
+{
+    events.min(AT_ONCE).max(1)
+}
+
 /// A bearer for each of these numbers, which is that of its last entry so far, with what it kept in the phase before. Memory for a line of each
 /// event that it has in the plan is taken here: so its thread takes none where no event has more lines.
 pub fn split_all<M: Machine, F: Flash + Send + Drop>(
-    alloc: Global,
-    n: &Numbers,
-    turn: &Turn<Node<M, F>>,
+    shared: &Shared<'_, Node<M, F>>,
     drawer: &mut Drawer,
     pass: &mut Pass<Node<M, F>>,
     counts: &[u32],
     plan: &[Vec<Event>],
     kept: &mut KeptByBearers<M>,
 ) -> Result<Vec<Seated<M, F>>, AllocError>
-    requires made { turn.now.first.machine.which ≡ n.now.which }
-    requires draws { drawer.old.which ≡ n.now.which }
-    requires pass { IsPassOf turn.now pass.old × (pass.old.inside ≡ false) }
+    requires made { shared.now.turn.now.first.machine.which ≡ shared.now.numbers.now.which }
+    requires draws { drawer.old.which ≡ shared.now.numbers.now.which }
+    requires pass { IsPassOf shared.now.turn.now pass.old × (pass.old.inside ≡ false) }
     requires parts { length counts.now < pass.old.parts }
     ensures drawer { drawer.new ≡ record drawer.old { parts = drawer.new.parts } }
     ensures pass { pass.new ≡ record pass.old { parts = pass.new.parts } }
     ensures parts { IfOk result (λ v. pass.new.parts + length v.items ≡ pass.old.parts) }
     ensures numbers { IfOk result (λ v. map (λ b. b.number) v.items ≡ counts.now) }
-    ensures riders { IfOk result (λ v. All (IsRider 1 n.now turn.now) v.items) }
+    ensures riders { IfOk result (λ v. All (IsRider 1 shared.now.numbers.now shared.now.turn.now) v.items) }
     ensures fresh { IfOk result (λ v. All IsFresh v.items) }
     ensures noted { IfOk result (λ v. All (λ b. b.drawer.noted ≡ drawer.old.noted ++ drawer.old.drawn) v.items) }
     ensures shares { length counts.now < drawer.old.parts
         → IfOk result
         (λ v. (drawer.new.parts + length v.items ≡ drawer.old.parts) × All (λ b. b.drawer.parts ≡ 1) v.items) }
 {
-    let mut bearers = Vec::with_capacity(alloc, counts.len())?;
+    let mut bearers = Vec::with_capacity(shared.alloc, counts.len())?;
     for number in counts {
-        let lines = Vec::with_capacity(alloc, events_of(plan, bearers.len()))?;
-        let seals = kept.take(alloc)?;
-        let reader = kept.take_reader(alloc)?;
-        let seat = n.split(drawer);
-        let own = turn.split(pass);
+        let events = events_of(plan, bearers.len());
+        let lines = Vec::with_capacity(shared.alloc, events)?;
+        let seals = kept.take(shared.alloc)?;
+        let readers = kept.take_readers(shared.alloc, readers_for(events))?;
+        let seat = shared.numbers.split(drawer);
+        let own = shared.turn.split(pass);
         let bearer = Bearer {
             drawer: seat,
             pass: own,
@@ -108,46 +132,41 @@ pub fn split_all<M: Machine, F: Flash + Send + Drop>(
             kept: seals,
             stop: None,
         };
-        bearers.push(Seated { bearer, reader })?;
+        bearers.push(Seated { bearer, readers })?;
     }
     Ok(bearers)
 }
 
 /// One bearer, at all its events.
 pub fn work_phase<M: Machine, F: Flash + Send + Drop, G: Gate, S: Sharing>(
-    sharing: &S,
-    n: &Numbers,
-    turn: &Turn<Node<M, F>>,
+    place: &Place<'_, Node<M, F>, S>,
     gate: &G,
-    k: u8,
     b: &mut Seated<M, F>,
     events: &[Event],
 )
-    requires rider { IsRider S.parts n.now turn.now b.old }
+    requires rider { IsRider S.parts place.now.numbers.now place.now.turn.now b.old }
     requires fresh { IsFresh b.old }
-    requires events { AreEvents turn.now.first.machine.elements events.now }
-    ensures rider { IsRider S.parts n.now turn.now b.new }
-    ensures worked { Worked k events.now b.old b.new }
+    requires events { AreEvents place.now.turn.now.first.machine.elements events.now }
+    ensures rider { IsRider S.parts place.now.numbers.now place.now.turn.now b.new }
+    ensures worked { Worked place.now.bearer events.now b.old b.new }
 {
-    let reader = &mut *b.reader;
-    b.bearer.stop = work(sharing, n, turn, gate, k, &mut b.bearer, events, reader).err();
+    let readers = b.readers.as_mut_slice();
+    b.bearer.stop = work(place, gate, &mut b.bearer, events, readers).err();
 }
 
 /// Takes all bearers in: what they drew and saw goes to the drawer, their entries to the pass, and what they keep is kept.
 pub fn join_all<M: Machine, F: Flash + Send + Drop>(
-    alloc: Global,
-    n: &Numbers,
-    turn: &Turn<Node<M, F>>,
+    shared: &Shared<'_, Node<M, F>>,
     drawer: &mut Drawer,
     pass: &mut Pass<Node<M, F>>,
     bearers: Vec<Seated<M, F>>,
     kept: &mut KeptByBearers<M>,
 ) -> Result<Vec<Done>, AllocError>
-    requires draws { drawer.old.which ≡ n.now.which }
-    requires pass { IsPassOf turn.now pass.old × (pass.old.inside ≡ false) }
-    requires riders { All (IsRider 1 n.now turn.now) bearers.items }
+    requires draws { drawer.old.which ≡ shared.now.numbers.now.which }
+    requires pass { IsPassOf shared.now.turn.now pass.old × (pass.old.inside ≡ false) }
+    requires riders { All (IsRider 1 shared.now.numbers.now shared.now.turn.now) bearers.items }
     ensures which { drawer.new.which ≡ drawer.old.which }
-    ensures pass { IfOk result (λ v. IsPassOf turn.now pass.new × (pass.new.inside ≡ false)) }
+    ensures pass { IfOk result (λ v. IsPassOf shared.now.turn.now pass.new × (pass.new.inside ≡ false)) }
     ensures parts { IfOk result (λ v. pass.new.parts ≡ pass.old.parts + length bearers.items) }
     ensures drawn { IfOk result (λ v. drawer.new.drawn ≡ drawer.old.drawn ++ flat_map drawn_by bearers.items) }
     ensures looks { IfOk result (λ v. drawer.new.looks ≡ drawer.old.looks ++ flat_map looks_by bearers.items) }
@@ -163,9 +182,9 @@ pub fn join_all<M: Machine, F: Flash + Send + Drop>(
     // They do nothing when they run: the proof uses what they say.
     kept_law::<Mark>();
     merge_law::<Mark>();
-    let mut dones = Vec::with_capacity(alloc, bearers.len())?;
+    let mut dones = Vec::with_capacity(shared.alloc, bearers.len())?;
     for bearer in bearers {
-        let (bearer, reader) = bearer.into_parts();
+        let (bearer, readers) = bearer.into_parts();
         let Bearer {
             drawer: seat,
             pass: own,
@@ -174,10 +193,10 @@ pub fn join_all<M: Machine, F: Flash + Send + Drop>(
             kept: seals,
             stop,
         } = bearer;
-        n.join(drawer, seat);
-        turn.join(pass, own);
+        shared.numbers.join(drawer, seat);
+        shared.turn.join(pass, own);
         kept.put(seals);
-        kept.put_reader(reader);
+        kept.put_readers(readers);
         dones.push(Done {
             lines,
             number,

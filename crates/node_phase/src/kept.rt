@@ -1,6 +1,8 @@
 //! What bearers keep from phase to phase.
 #![tactic(auto)]
 
+ghost use Rattle.std.specs.Prelude.{◌≤◌, length, IfOk};
+
 use job_sealing::KeptSeals;
 use machine_contract::Machine;
 use std::alloc::{AllocError, Global};
@@ -11,7 +13,7 @@ use std::marker::Model;
 #[derive(Drop)]
 pub struct KeptByBearers<M: Machine> {
     seals: Vec<Box<KeptSeals>>,
-    readers: Vec<Box<M::Reader>>,
+    readers: Vec<Vec<M::Reader>>,
 }
 
 impl<M: Machine> Model for KeptByBearers<M> {
@@ -44,16 +46,32 @@ impl<M: Machine> KeptByBearers<M> {
         let _ = self.seals.push(kept);
     }
 
-    /// What the first bearer read by whose wasn't taken yet. The error is for want of memory, which is taken where no bearer read by anything.
-    pub(crate) fn take_reader(&mut self, alloc: Global) -> Result<Box<M::Reader>, AllocError> {
+    // What the first bearer read by whose wasn't taken yet, or none where no bearer read by anything: then there is memory for so many.
+    fn first_readers(&mut self, alloc: Global, count: usize) -> Result<Vec<M::Reader>, AllocError> {
         if self.readers.is_empty() {
-            return Ok(Box::new(alloc, M::new_reader())?);
+            return Vec::with_capacity(alloc, count);
         }
         Ok(self.readers.remove(0))
     }
 
+    /// What the first bearer read by whose wasn't taken yet, and new readers, where it had fewer than so many. The error is for want of memory,
+    /// which is taken for new ones alone.
+    pub(crate) fn take_readers(
+        &mut self,
+        alloc: Global,
+        count: usize,
+    ) -> Result<Vec<M::Reader>, AllocError>
+        ensures many { IfOk result (λ readers. count ≤ length readers.items) }
+    {
+        let mut readers = self.first_readers(alloc, count)?;
+        while readers.len() < count {
+            readers.push(M::new_reader())?;
+        }
+        Ok(readers)
+    }
+
     /// Keeps what a bearer reads by, behind that of the bearers before it. Where there is no memory, it is dropped, and made anew.
-    pub(crate) fn put_reader(&mut self, reader: Box<M::Reader>) {
-        let _ = self.readers.push(reader);
+    pub(crate) fn put_readers(&mut self, readers: Vec<M::Reader>) {
+        let _ = self.readers.push(readers);
     }
 }

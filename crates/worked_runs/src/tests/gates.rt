@@ -76,6 +76,10 @@ fn comes(moment: &AtomicBool) -> bool {
 }
 
 impl Gate for Meeting {
+    fn is_told(&self) -> bool {
+        true
+    }
+
     fn before(&self, bearer: u8, number: u32) {
         if bearer == 1 && number == 2 {
             self.second_went_on

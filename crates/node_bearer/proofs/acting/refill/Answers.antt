@@ -1,21 +1,21 @@
 use Rattle.locked_node.specs.Node.{node_marks}
-use Rattle.node_bearer.proofs.Turning.{if_err, on_ok, on_stop, stopped_bare, turned, visited}
+use Rattle.node_bearer.proofs.Turning.{broke_left, did_left, did_visited, entered, front_by, if_err, on_ok, on_stop, stopped_bare}
 use Rattle.node_bearer.proofs.acting.refill.Goals as goal
 
 pub returns-clause-did : goal.returns-clause-did
 returns-clause-did g c = λ k first tasks rest h.
-    let b = c.args.b.now in
-    let ms = node_marks c.enter-node.result in
-    let ns = node_marks c.refill-result.new.self in
-    let t = turned b.pass c.leave.new.p ms ns c.enter-node.new.p c.enter-node.ensures.seen c.enter-node.ensures.frame c.leave.ensures.own c.leave.ensures.frame in
-    on_ok c.refill-result.result (visited b.pass c.leave.new.p ms ns k first tasks b.lines.items b.number b.drawer t rest h) c.refill-result.ensures.ok
+    let b = record c.args.b.now { pass = c.enter-node.new.p } in
+    let node = c.enter-node.result in
+    let inside = entered k first tasks rest c.args.b.now c.enter-node.new.p node c.enter-node.ensures.seen c.enter-node.ensures.frame h in
+    let front = front_by c.args.b.now.pass c.enter-node.new.p (node_marks node) c.enter-node.ensures.frame in
+    on_ok c.refill-result.result (λ same. did_left k first tasks b c.leave.new.p c.refill-result.new.self c.leave.ensures.own c.leave.ensures.frame rest
+    (did_visited k first tasks b node c.refill-result.new.self front rest same inside)) c.refill-result.ensures.ok
 
 pub returns-clause-stopped : goal.returns-clause-stopped
 returns-clause-stopped g c = λ k first tasks rest h.
-    let b = c.args.b.now in
-    let ms = node_marks c.enter-node.result in
-    let ns = node_marks c.refill-result.new.self in
-    let t = turned b.pass c.leave.new.p ms ns c.enter-node.new.p c.enter-node.ensures.seen c.enter-node.ensures.frame c.leave.ensures.own c.leave.ensures.frame in
-    if_err c.refill-result.result (λ stop. on_stop stop (λ s.
-    let m = stopped_bare b.pass c.leave.new.p ms ns k first tasks b.lines.items b.number b.drawer t rest h s in
-    record { left = rest; before = b.pass.own; at = m.at; hand = m.hand; own = m.own; did = m.did; next = m.next })) c.refill-result.ensures.stopped
+    let b = record c.args.b.now { pass = c.enter-node.new.p } in
+    let node = c.enter-node.result in
+    let inside = entered k first tasks rest c.args.b.now c.enter-node.new.p node c.enter-node.ensures.seen c.enter-node.ensures.frame h in
+    let front = front_by c.args.b.now.pass c.enter-node.new.p (node_marks node) c.enter-node.ensures.frame in
+    if_err c.refill-result.result (λ stop. on_stop stop (λ s. broke_left k first tasks b c.leave.new.p c.refill-result.new.self c.leave.ensures.own c.leave.ensures.frame
+    (stopped_bare k first tasks b node c.refill-result.new.self front rest inside s))) c.refill-result.ensures.stopped

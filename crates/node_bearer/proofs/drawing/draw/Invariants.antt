@@ -8,7 +8,7 @@ use Rattle.node_bearer.proofs.drawing.draw.Given as goal
 
 abbrev pub invariant-loop : goal.invariant-loop
 invariant-loop g l = record {
-  rider : IsRider g.S.Sharing.parts l.n l.turn l.b;
+  rider : IsRider g.S.Sharing.parts l.place.numbers.now l.place.turn.now l.b;
   on : GoesOn l.initial.b l.b;
   dry : (tries : List DryView) × DryDraws tries l.initial.b.drawer l.b.drawer;
   frame : l.b.lines ≡ l.initial.b.lines;

@@ -6,7 +6,7 @@ use Rattle.node_bearer.proofs.jobs.do_quiet_jobs.Given as goal
 
 abbrev pub invariant-loop-j : goal.invariant-loop-j
 invariant-loop-j g l = record {
-  rider : IsRider g.S.Sharing.parts l.n l.turn l.b;
+  rider : IsRider g.S.Sharing.parts l.place.numbers.now l.place.turn.now l.b;
   on : GoesOn l.initial.b l.b;
   did : (k first : ℕ) (tasks rest : List Task) → DidBy k first tasks (write_tasks l.at 0 l.event l.jobs ++ rest) l.initial.b
       → DidBy k first tasks (write_tasks l.at l.j l.event (drop l.j l.jobs) ++ rest) l.b;

@@ -1,26 +1,35 @@
-use Rattle.std.proofs.Common.{◌+◌, ◌∙◌, ◌∷◌, ap, drop, map, subst, sym}
-use Rattle.std.proofs.lemmas.List.{at_drop_more}
+use Rattle.std.proofs.Common.{rules, ◌+◌, ◌-◌, ◌∙◌, ap, drop, map, subst, sym}
+use Rattle.std.proofs.lemmas.List.{drop-drop}
 use Rattle.run_definitions.specs.Order.{handle}
 use Rattle.node_bearer.specs.Did.{DidBy}
+use Rattle.node_bearer.proofs.Lists.{drop_front, few_left, take_front}
 use Rattle.node_bearer.proofs.Turning.{goes_on, stops}
 use Rattle.node_bearer.proofs.working.work.Goals as goal
 
-pub returns-in_err-do_event-clause-stopped : goal.returns-in_err-do_event-clause-stopped
-returns-in_err-do_event-clause-stopped g c = λ first tasks h.
-    let events = c.args.events.now in
-    let i = c.loop-event.event-index in
-    let later = map (λ e. handle e) (drop (i + 1) events) in
-    let left = at_drop_more (map (λ e. handle e)) events i c.event-item.result c.loop-event-test.true ∙ ap (λ x. handle x ∷ later) (sym c.event-item.is) in
-    stops _ c.from_residual.result c.in_err-do_event.field-0.0 c.from_residual.ensures.1 (c.in_err-do_event.ensures.stopped first tasks later (subst (λ ts. DidBy c.args.k first tasks ts c.loop-event.b) left (c.loop-event.invariant.did first tasks h)))
+pub returns-in_err-stride-clause-stopped : goal.returns-in_err-stride-clause-stopped
+returns-in_err-stride-clause-stopped g c = λ first tasks h.
+    let k = c.args.place.now.bearer in
+    let l = c.loop-done in
+    let rest = drop l.done c.args.events.now in
+    let later = map (λ x. handle x) (drop (l.done + c.min-count.result - l.done) rest) in
+    let was = subst (λ ts. DidBy k first tasks ts l.b) (sym (take_front (λ x. handle x) rest (l.done + c.min-count.result - l.done))) (l.invariant.did first tasks h) in
+    stops _ c.from_residual.result c.in_err-stride.field-0.0 c.from_residual.ensures.1 (c.in_err-stride.ensures.stopped first tasks later was)
 
-pub loop-event-preserved : goal.loop-event-preserved
-loop-event-preserved g c = record {
-  rider = c.do_event.ensures.rider;
-  on = goes_on c.args.b.now c.loop-event.b c.do_event.new.b c.loop-event.invariant.on c.do_event.ensures.on;
+pub loop-done-preserved : goal.loop-done-preserved
+loop-done-preserved g c = record {
+  rider = c.do_events.ensures.rider;
+  on = goes_on c.args.b.now c.loop-done.b c.do_events.new.b c.loop-done.invariant.on c.do_events.ensures.on;
+  within = few_left c.in_ok-stride.stride.events (c.loop-done.done + c.min-count.result - c.loop-done.done) c.loop-done.done c.args.events.now c.in_ok-stride.ensures.few c.loop-done.invariant.within;
+  some = search rules;
+  few = search rules;
   did = λ first tasks h.
-      let events = c.args.events.now in
-      let i = c.loop-event.event-index in
-      let later = map (λ e. handle e) (drop (i + 1) events) in
-      let left = at_drop_more (map (λ e. handle e)) events i c.event-item.result c.loop-event-test.true ∙ ap (λ x. handle x ∷ later) (sym c.event-item.is) in
-      c.in_ok-do_event.ensures.did first tasks later (subst (λ ts. DidBy c.args.k first tasks ts c.loop-event.b) left (c.loop-event.invariant.did first tasks h));
+      let k = c.args.place.now.bearer in
+      let l = c.loop-done in
+      let rest = drop l.done c.args.events.now in
+      let later = map (λ x. handle x) (drop (l.done + c.min-count.result - l.done) rest) in
+      let was = subst (λ ts. DidBy k first tasks ts l.b) (sym (take_front (λ x. handle x) rest (l.done + c.min-count.result - l.done))) (l.invariant.did first tasks h) in
+      let n = c.in_ok-stride.stride.events in
+      subst (λ ts. DidBy k first tasks ts c.do_events.new.b)
+      (drop_front (λ x. handle x) rest n (l.done + c.min-count.result - l.done) c.in_ok-stride.ensures.few ∙ ap (map (λ x. handle x)) (drop-drop n l.done c.args.events.now))
+      (c.in_ok-stride.ensures.did first tasks later was);
 }

@@ -22,7 +22,7 @@ loop-bearer-preserved g c =
     let drew = c.join.ensures in
     let turn = c.join-in-loop-bearer.ensures in
     let mine = c.join-in-loop-bearer.new.p in
-    let P = IsRider 1 c.args.n.now c.args.turn.now in
+    let P = IsRider 1 c.args.shared.now.numbers.now c.args.shared.now.turn.now in
     let riders = subst (All P) items inv.rest in
     record {
       can_next = tt;

@@ -14,8 +14,8 @@ invariant-loop-bearer g l = record {
   is_finite : (goal.iterator-loop-bearer g).is_finite l.bearer-iterator;
   len : into_iter_len l.bearer-iterator ≡ length (into_iter_items l.bearer-iterator);
   which : l.drawer.which ≡ l.initial.drawer.which;
-  pass : IsPassOf l.turn l.pass × (l.pass.inside ≡ false);
-  rest : All (IsRider 1 l.n l.turn) (into_iter_items l.bearer-iterator);
+  pass : IsPassOf l.shared.turn.now l.pass × (l.pass.inside ≡ false);
+  rest : All (IsRider 1 l.shared.numbers.now l.shared.turn.now) (into_iter_items l.bearer-iterator);
   parts : l.pass.parts + length (into_iter_items l.bearer-iterator) ≡ l.initial.pass.parts + length l.fn.bearers.items;
   drawn : l.drawer.drawn ++ flat_map drawn_by (into_iter_items l.bearer-iterator) ≡ l.initial.drawer.drawn ++ flat_map drawn_by l.fn.bearers.items;
   looks : l.drawer.looks ++ flat_map looks_by (into_iter_items l.bearer-iterator) ≡ l.initial.drawer.looks ++ flat_map looks_by l.fn.bearers.items;

@@ -17,7 +17,7 @@ loop-number-preserved g c =
     let was = l.bearers.items in
     let d = c.args.drawer.now in
     let p = c.args.pass.now in
-    let P = IsRider 1 c.args.n.now c.args.turn.now in
+    let P = IsRider 1 c.args.shared.now.numbers.now c.args.shared.now.turn.now in
     let longer = long_more was c.push.new.self.items _ items in
     record {
       drawer = seat.frame ∙ ap (λ x. drawer_with x (l.drawer.parts - 1)) inv.drawer ∙ ap (drawer_with d) (sym (ap (λ x. x.parts) seat.frame));

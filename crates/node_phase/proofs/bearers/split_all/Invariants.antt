@@ -12,7 +12,7 @@ invariant-loop-number g l = record {
   parts : l.pass.parts + length l.bearers.items ≡ l.initial.pass.parts;
   numbers : map (λ b. b.number) l.bearers.items ≡ take l.number-index l.counts;
   count : length l.bearers.items ≡ l.number-index;
-  riders : All (IsRider 1 l.n l.turn) l.bearers.items;
+  riders : All (IsRider 1 l.shared.numbers.now l.shared.turn.now) l.bearers.items;
   fresh : All IsFresh l.bearers.items;
   noted : All (λ b. b.drawer.noted ≡ l.initial.drawer.noted ++ l.initial.drawer.drawn) l.bearers.items;
   shares : length l.counts < l.initial.drawer.parts → (l.drawer.parts + length l.bearers.items ≡ l.initial.drawer.parts) × All (λ b. b.drawer.parts ≡ 1) l.bearers.items;

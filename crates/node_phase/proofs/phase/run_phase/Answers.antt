@@ -9,7 +9,7 @@ use Rattle.node_bearer.specs.Did.{BearerOf}
 use Rattle.node_phase.specs.Worked.{Worked, done_of, drawn_by, looks_by, own_of, parts_by}
 use Rattle.node_phase.proofs.Fresh.{back, sum_ones}
 use Rattle.node_phase.proofs.Parting.{first_of, list_at_map}
-use Rattle.node_phase.proofs.phase.run_beside.Goals as goal
+use Rattle.node_phase.proofs.phase.run_phase.Goals as goal
 
 pub returns-clause-was : goal.returns-clause-was
 returns-clause-was g c =
