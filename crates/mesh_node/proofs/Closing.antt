@@ -5,6 +5,7 @@ use Rattle.std.proofs.lemmas.List.{length-map}
 use Rattle.flash_model.specs.Arming.{IsExplained}
 use Rattle.flash_model.proofs.Runs.{past_more}
 use Rattle.flash_model.specs.Chip.{Chip, Keeps, KeepsCount, Setting}
+use Rattle.machine_contract.specs.Moved.{HasMoved}
 use Rattle.machine_contract.specs.Opening.{EachRecovered}
 use Rattle.machine_contract.specs.Refused.{IsUntouched}
 use Rattle.mesh_types.specs.declared.history.Sent.{Sent}
@@ -52,6 +53,7 @@ module _ {M F : Type 0} (view : M → MachineView) (stands : Chip → List Store
     (next mark first : ℕ) (order : next ≤ mark) (marks : mark ≡ node.machine.mark) (firsts : first ≡ (config_of begun).mark)
     (from : All (λ x. first ≤ x) d.drawn) (below : All (λ x. x < next) d.drawn) (once : (x : ℕ) → times x d.drawn ≤ 1) (seen : All (IsWithin next mark) d.looks)
     (closed : ClosedView) (drawn : log.drawn ≡ Some closed) (closes : Closes d closed first) (held : HasMachine stands view chip node)
+    (moved : (over : List StoreRecord) → IsRecovered (chip start).now over → node.machine.closed ≡ false → HasMoved role over log.history.entries.items log.history.refills closed.advances)
     (bearers : ℕ) (few : bearers ≤ 8) (many : length log.sends.items ≡ bearers)
     (explained : IsExplained (chip node.flash)) (given : node.stops ≡ 0 → HasGiven plan (chip node.flash).setting.arm)
     (arm : IsOfPlan plan (chip node.flash).setting.arm)
@@ -96,6 +98,7 @@ module _ {M F : Type 0} (view : M → MachineView) (stands : Chip → List Store
     calls = calls;
     drawn = subst (TellsDrawn (life_of log)) (sym drawn)
         (tells_words (life_of log) d closed (ap is_on opened) (subst (Closes d closed) (sym (ap opened_at opened ∙ sym firsts)) closes) pairs);
+    moved = λ off. subst (λ o. IfSome o (λ (words : ClosedView). HasMoved role h.over log.history.entries.items log.history.refills words.advances)) (sym drawn) (moved h.over read_over (sym cut ∙ off));
     armed = given_all;
     given = placed h.over read_over;
     told = record {
@@ -138,6 +141,7 @@ module _ {M F : Type 0} (view : M → MachineView) (stands : Chip → List Store
         arm = r.arm;
         calls = r.calls;
         drawn = r.drawn;
+        moved = r.moved;
         armed = λ steady other. given_one items new.setting.arm single r.arm (r.armed (subst IsTrue (sym (r.later.steady ∙ count.steady)) steady));
         given = r.given;
         told = λ on. r.told;
@@ -165,6 +169,7 @@ module _ {M F : Type 0} (view : M → MachineView) (stands : Chip → List Store
         arm = subst (IsOfPlan plan) (sym (ap (λ (s : Setting). s.arm) keeps.setting)) order;
         calls = calls;
         drawn = subst (TellsDrawn (life_of log)) (sym none) off;
+        moved = λ runs. subst (λ o. IfSome o (λ (words : ClosedView). HasMoved role u.over log.history.entries.items log.history.refills words.advances)) (sym none) tt;
         armed = armed;
         given = subst (λ o. IfSome o (WasGiven view stands chip u.over plan)) (sym (ap (λ (s : Setting). s.arm) keeps.setting ∙ first)) (given_first view stands chip u.over items);
         told = λ on. absurd (true≢false (sym on ∙ off));

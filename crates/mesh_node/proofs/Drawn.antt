@@ -55,4 +55,5 @@ tells_words l d closed on h pairs =
       ends = λ k s lt. spent_by (opened_at l.opened) closed.drawn closed.looks ends _ (seen k s lt);
       all = λ x. omega (arith, h.all x, ap (times x) h.drawn);
       firsts = h.firsts;
+      reached = h.reached;
     }

@@ -13,3 +13,4 @@ pub mod Whole
 pub mod Phasing
 pub mod Holding
 pub mod HandedOn
+pub mod Moving

@@ -13,6 +13,7 @@ use Rattle.store_definitions.specs.Config.{config_of}
 use Rattle.store_definitions.specs.Recovered.{IsRecovered}
 use Rattle.locked_node.specs.Node.{NodeView}
 use Rattle.locked_node.specs.Stands.{HasMachine, IsLater, IsNode}
+use Rattle.machine_contract.specs.Moved.{HasMoved}
 use Rattle.machine_contract.specs.View.{MachineView}
 use Rattle.mesh_node.specs.Given.{Stood}
 use Rattle.life_laws.specs.Pairs.{PairsSo}
@@ -32,7 +33,8 @@ module _ {M F S T : Type 0} (view : M → MachineView) (stands : Chip → List S
     (begun : List StoreRecord) (read : IsRecovered (chip start).now begun) (runs : (config_of begun).reset ≡ false)
     (h : IsNode role image chip node) (is_start : node.start ≡ start) (closed : ClosedView) (first : ℕ) (order : closed.next ≤ closed.mark) (marks : closed.mark ≡ node.machine.mark) (firsts : first ≡ (config_of begun).mark)
     (since : All (λ x. first ≤ x) d.drawn) (below : All (λ x. x < closed.next) d.drawn) (once : (x : ℕ) → times x d.drawn ≤ 1) (seen : All (IsWithin closed.next closed.mark) d.looks)
-    (closes : Closes d closed first) (held : HasMachine stands view chip node) where
+    (closes : Closes d closed first) (held : HasMachine stands view chip node)
+    (moved : (over : List StoreRecord) → IsRecovered (chip start).now over → node.machine.closed ≡ false → HasMoved role over node.machine.entries node.machine.fills closed.advances) where
   begun_is : begun ≡ h.over
   begun_is = one begun h.over read (subst (λ s. IsRecovered (chip s).now h.over) is_start h.read)
 
@@ -84,6 +86,8 @@ module _ {M F S T : Type 0} (view : M → MachineView) (stands : Chip → List S
       fills = refl;
       is_closed = refl;
     };
+    moved = λ runs. subst (λ (l : List Entry). HasMoved role h.over l node.machine.fills closed.advances) went.told.entries_are
+        (moved h.over (subst (λ o. IsRecovered (chip start).now o) begun_is read) runs);
   }
 
 -- the same, by what is left of it
@@ -93,7 +97,7 @@ pub lived_left : {M F S T : Type 0} (view : M → MachineView) (stands : Chip �
     → LivedOn (Stood view stands chip flash) role image source sink from to began now bearers (chip node.start) (chip flash) refills drawn closed last
 lived_left view stands role image chip source sink from to began now bearers few node d first last flash refills drawn closed h went over read runs firsts =
     let whole = lived view stands role image chip source sink from to began now bearers few node.start node d last went h.one over read runs h.known refl drawn first h.order h.mark firsts
-    h.closes.since h.below h.once h.seen h.closes h.stood in
+    h.closes.since h.below h.once h.seen h.closes h.stood h.moved in
     subst (λ f. LivedOn (Stood view stands chip f) role image source sink from to began now bearers (chip node.start) (chip f) refills drawn closed last) (sym h.flash_is)
     (subst (λ n. LivedOn (Stood view stands chip node.flash) role image source sink from to began now bearers (chip node.start) (chip node.flash) n drawn closed last) (sym h.refills_are)
     (subst (λ b. LivedOn (Stood view stands chip node.flash) role image source sink from to began now bearers (chip node.start) (chip node.flash) node.machine.fills drawn b last) (sym h.closed_is) whole))

@@ -44,6 +44,7 @@ pub record TellsWords (life : Life) (closed : ClosedView) : Type 0 where
       → times x closed.drawn + passed_over x closed.advances + once_below x (opened_at life.opened)
       ≡ once_below x closed.next
   pub firsts : All (λ a. seq_of a.1 ≡ 0) closed.advances
+  pub reached : All (λ a. a.1 ≤ closed.next) closed.advances
 
 -- nothing is told of a life that wasn't run
 abbrev pub TellsDrawn : Life → Option ClosedView → Type 0

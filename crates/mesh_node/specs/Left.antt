@@ -1,5 +1,5 @@
 -- What is left behind the last phase of a life.
-use Rattle.std.specs.Prelude.{◌≡◌, ◌≢◌, ℕ, ◌+◌, ◌<◌, ◌≤◌, Bool, List, All, AllPairs}
+use Rattle.std.specs.Prelude.{◌≡◌, ◌≢◌, ℕ, ◌+◌, ◌<◌, ◌≤◌, Bool, false, List, All, AllPairs}
 use Rattle.flash_model.specs.Chip.{Chip}
 use Rattle.record_types.specs.declared.records.StoreRecord.{StoreRecord}
 use Rattle.event_definitions.specs.Role.{Role}
@@ -9,6 +9,7 @@ use Rattle.seq_word.specs.Word.{seq_of}
 use Rattle.store_definitions.specs.Recovered.{IsRecovered}
 use Rattle.locked_node.specs.Node.{NodeView}
 use Rattle.locked_node.specs.Stands.{HasMachine, IsNode}
+use Rattle.machine_contract.specs.Moved.{HasMoved}
 use Rattle.machine_contract.specs.View.{MachineView}
 
 -- what the words tell at their end, of a life that opened at `first`
@@ -20,6 +21,7 @@ pub record Closes (d : DrawerView) (closed : ClosedView) (first : ℕ) : Type 0 
   pub ends : All (IsEndOf first d.drawn) d.looks
   pub all : (x : ℕ) → times x d.drawn + passed_over x closed.advances + once_below x first ≡ once_below x closed.next
   pub firsts : All (λ a. seq_of a.1 ≡ 0) closed.advances
+  pub reached : All (λ a. a.1 ≤ closed.next) closed.advances
 
 -- What a node leaves whose counter was opened at `first`: its flash, how often it stored a refill, what the counter and the mark were at the end, and
 -- whether the flash failed.
@@ -39,3 +41,5 @@ pub record HasLeft {M F : Type 0} (view : M → MachineView) (stands : Chip → 
   pub once : (x : ℕ) → times x d.drawn ≤ 1
   pub seen : All (IsWithin drawn.next drawn.mark) d.looks
   pub closes : Closes d drawn first
+  pub moved : (over : List StoreRecord) → IsRecovered (chip node.start).now over → node.machine.closed ≡ false
+      → HasMoved role over node.machine.entries node.machine.fills drawn.advances

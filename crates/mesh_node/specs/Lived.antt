@@ -4,6 +4,7 @@ use Rattle.flash_model.specs.Chip.{Chip}
 use Rattle.mesh_types.specs.declared.events.Event.{Event}
 use Rattle.mesh_types.specs.declared.report.End.{End}
 use Rattle.mesh_types.specs.declared.report.Opened.TheVariants as W
+use Rattle.machine_contract.specs.Moved.{HasMoved}
 use Rattle.machine_contract.specs.Opening.{EachRecovered, IsNodeFlash}
 use Rattle.record_types.specs.declared.records.StoreRecord.{StoreRecord}
 use Rattle.report_definitions.specs.Record.{Life}
@@ -94,6 +95,8 @@ module _ {S T : Type 0} (Stood : List StoreRecord → MachineView → Type 0) (r
     pub later : IsLater start new
     pub cause : closed ≡ true → new.setting.faults < new.faults
     pub all : IsAllTold Stood over did refills closed
+    -- where it wasn't cut, the counter was moved with each record that raised the transmit IV Index, and at no other time
+    pub moved : closed ≡ false → HasMoved role over (entries_told did) refills drawn.advances
 
 module _ {S T : Type 0} (role : Role) (source : SourceSteps S) (sink : SinkSteps T) (from to : S) (began now : T) where
   -- A life that memory ran out in. The phases that were through were told, each once it was, and they are those of a life that opened over

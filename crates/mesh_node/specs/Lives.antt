@@ -1,6 +1,7 @@
 -- A life between a flash and the flash.
 use Rattle.std.specs.Prelude.{◌≡◌, ℕ, ◌+◌, ◌^◌, ◌<◌, ◌≤◌, ◌≢◌, length, true, false, IsTrue, List, Option, None, IfSome}
 use Rattle.flash_model.specs.Chip.{Chip, Remembers}
+use Rattle.machine_contract.specs.Moved.{HasMoved}
 use Rattle.machine_contract.specs.Opening.{EachRecovered, IsNodeFlash}
 use Rattle.mesh_types.specs.declared.history.Sent.{Sent}
 use Rattle.mesh_types.specs.declared.report.End.{End}
@@ -64,6 +65,9 @@ pub record Lives {M F : Type 0} (view : M → MachineView) (stands : Chip → Li
   pub arm : IsOfPlan plan (chip new).setting.arm
   pub calls : IfSome (cut_calls log.end) (λ calls. calls ≡ (chip new).changes)
   pub drawn : TellsDrawn (life_of log) log.drawn
+  -- where it wasn't cut, the counter was moved with each record that raised the transmit IV Index, and at no other time
+  pub moved : is_cut log.end ≡ false
+      → IfSome log.drawn (λ words. HasMoved role over log.history.entries.items log.history.refills words.advances)
   -- over a flash that fails by an order alone, one that the plan has was given, but where there was a Node Reset
   pub armed : IsTrue old.steady → log.opened ≢ W.WasReset → IsGiven plan (chip new).setting.arm
   -- and it was given at its place in the plan

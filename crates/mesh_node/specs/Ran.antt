@@ -1,6 +1,7 @@
 -- A life that was run, against the flash as it was once power was given.
-use Rattle.std.specs.Prelude.{◌≡◌, ℕ, ◌<◌, true, IsTrue, List, IfSome}
+use Rattle.std.specs.Prelude.{◌≡◌, ℕ, ◌<◌, true, false, IsTrue, List, IfSome}
 use Rattle.flash_model.specs.Chip.{Chip}
+use Rattle.machine_contract.specs.Moved.{HasMoved}
 use Rattle.machine_contract.specs.Opening.{EachRecovered, IsNodeFlash}
 use Rattle.record_types.specs.declared.records.StoreRecord.{StoreRecord}
 use Rattle.event_definitions.specs.Role.{Role}
@@ -28,6 +29,8 @@ pub record Ran {M F : Type 0} (view : M → MachineView) (stands : Chip → List
   pub arm : IsOfPlan plan (chip new).setting.arm
   pub calls : IfSome (cut_calls log.end) (λ calls. calls ≡ (chip new).changes)
   pub drawn : TellsDrawn (life_of log) log.drawn
+  pub moved : is_cut log.end ≡ false
+      → IfSome log.drawn (λ words. HasMoved role over log.history.entries.items log.history.refills words.advances)
   pub armed : IsTrue (chip new).steady → HasGiven plan (chip new).setting.arm
   pub given : IfSome (chip new).setting.arm (WasGiven view stands chip over plan)
   pub told : IsTold view stands chip over (life_of log) new

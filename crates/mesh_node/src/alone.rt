@@ -24,7 +24,7 @@ use flash_model::Flash;
 use locked_node::Node;
 use machine_contract::Machine;
 use mesh_types::events::Event;
-use node_phase::{Alone, FreeGate, run_alone};
+use node_phase::{Alone, FreeGate, PhaseHost, run_alone};
 use std::alloc::{AllocError, Global};
 
 /// One phase of a life of one bearer, in the thread that calls: it has these events. It is what `one_phase` does for one list of events.
@@ -73,11 +73,15 @@ pub fn one_phase_alone<M: Machine, F: Flash + Send + Drop>(
         → IsOver (phases ++ (events.now ∷ []) ∷ rest) r.node seats.new.drawer
         (both_of sends (map (λ v. v.items) r.log.sends.items))) }
 {
-    let (mut node, done) = run_alone(
+    let alone = Alone { reads_early: false };
+    let host = PhaseHost {
+        rt: &alone,
         alloc,
-        &Alone { reads_early: false },
-        &FreeGate,
-        &seats.numbers,
+        gate: &FreeGate,
+        numbers: &seats.numbers,
+    };
+    let (mut node, done) = run_alone(
+        &host,
         &mut seats.drawer,
         node,
         events,

@@ -118,6 +118,7 @@ pub fn end_life<M: Machine, F: Flash + Send + Drop>(gone: Gone<M, F>) -> LifeLef
 {
     // They do nothing when they run: the proof uses what they say.
     one_list_is_recovered();
+    M::tells::<F>();
     let Gone { node, seats, last } = gone;
     node.known();
     let (machine, flash) = node.into_parts();

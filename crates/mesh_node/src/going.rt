@@ -25,7 +25,7 @@ use locked_node::Node;
 use machine_contract::Machine;
 use mesh_types::events::Event;
 use node_limits::BEARERS;
-use node_phase::{Gate, run_phase};
+use node_phase::{Gate, PhaseHost, run_phase};
 use std::alloc::{AllocError, Global};
 use std::sync::Wait;
 use std::thread::Threads;
@@ -77,13 +77,16 @@ pub fn one_phase<M: Machine, F: Flash + Send + Drop, G: Gate, R: Threads + Wait 
         → IsOver (phases ++ map (λ v. v.items) lists.now ∷ rest) r.node seats.new.drawer
         (both_of sends (map (λ v. v.items) r.log.sends.items))) }
 {
-    let (mut node, dones) = run_phase(
+    let host = PhaseHost {
         rt,
         alloc,
-        &seats.numbers,
+        gate,
+        numbers: &seats.numbers,
+    };
+    let (mut node, dones) = run_phase(
+        &host,
         &mut seats.drawer,
         node,
-        gate,
         lists,
         seats.counts.as_slice(),
         &mut seats.kept,

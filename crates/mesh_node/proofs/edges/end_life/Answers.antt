@@ -1,8 +1,9 @@
-use Rattle.std.proofs.Common.{◌≡◌, ◌∙◌, ◌+◌, ap, subst, sym}
+use Rattle.std.proofs.Common.{◌≡◌, ◌≤◌, ◌∙◌, ◌+◌, ap, refl, subst, sym}
 use Rattle.std.specs.Prelude.{All}
 use Rattle.seq_word.specs.Rule.{once_below, passed_over, times}
 use Rattle.seq_word.specs.Word.{seq_of}
 use Rattle.mesh_node.proofs.edges.end_life.Goals as goal
+use Rattle.mesh_node.proofs.Moving.{moved_by}
 
 pub returns-clause-left : goal.returns-clause-left
 returns-clause-left g c =
@@ -11,6 +12,7 @@ returns-clause-left g c =
     let machine = c.into_parts-machine.ensures.machine in
     let start = (g.F.Flash.chip gone.node.start).now in
     let close = d.ensures in
+    let stands = c.into_parts-machine.ensures.stands in
     record {
       flash_is = c.into_parts-machine.ensures.flash;
       refills_are = c.finish-left.ensures.refills ∙ ap (λ m. m.fills) machine;
@@ -31,5 +33,10 @@ returns-clause-left g c =
         ends = close.ends c.requires.parts;
         all = λ x. ap (λ l. times x gone.seats.drawer.drawn + passed_over x l + once_below x gone.seats.numbers.opened) close.advances ∙ close.all c.requires.parts x;
         firsts = subst (All (λ a. seq_of a.1 ≡ 0)) (sym close.advances) close.firsts;
+        reached = subst (All (λ a. a.1 ≤ d.result.next)) (sym close.advances) close.advanced;
       };
+      moved = λ over read runs. moved_by g.M.Machine.view g.M.Machine.advances g.M.Machine.role stands.0 over c.into_parts-machine.result.0 gone.node.machine d.result.advances
+          gone.node.machine.entries gone.node.machine.fills (c.one_list_is_recovered.ensures.one_list start stands.0 over stands.1 read) machine
+          (close.advances ∙ c.finish-left.ensures.advances) refl refl
+          (c.tells.ensures.moved c.into_parts-machine.result.1 stands.0 c.into_parts-machine.result.0 stands.2) runs;
     }

@@ -1,4 +1,4 @@
-use Rattle.std.proofs.Common.{refl, List, ◌+◌, ◌≢◌, None, ◌≡◌, ◌∙◌, Some, map, ap, sym, subst}
+use Rattle.std.proofs.Common.{refl, false, List, ◌+◌, ◌≤◌, ◌≢◌, None, ◌≡◌, ◌∙◌, Some, map, ap, sym, subst}
 use Rattle.std.specs.Prelude.{All, IfSome}
 use Rattle.flash_model.specs.Chip.{Setting}
 use Rattle.mesh_types.specs.declared.report.Opened.TheVariants as W
@@ -21,6 +21,8 @@ use Rattle.seq_word.specs.Word.{seq_of}
 use Rattle.store_definitions.specs.Recovered.{IsRecovered}
 use Rattle.mesh_node.proofs.Giving.{given_whole}
 use Rattle.mesh_node.proofs.living.run_life.Goals as goal
+use Rattle.mesh_node.proofs.Moving.{moved_by}
+use Rattle.machine_contract.specs.Moved.{HasMoved}
 
 pub new-requires-clause-later : goal.new-requires-clause-later
 new-requires-clause-later g c κs lives =
@@ -81,15 +83,26 @@ returns g c =
       ends = close.ends did.parts;
       all = λ x. ap (λ l. times x words.drawer.drawn + passed_over x l + once_below x words.numbers.opened) close.advances ∙ close.all did.parts x;
       firsts = subst (All (λ a. seq_of a.1 ≡ 0)) (sym close.advances) close.firsts;
+      reached = subst (All (λ a. a.1 ≤ c.close-drawn.result.next)) (sym close.advances) close.advanced;
     } in
+    let is_start = did.frame.start ∙ ap (λ n. n.start) c.in_ok-opened.ensures.value in
+    let stands = c.into_parts-machine.ensures.stands in
+    let found = subst (λ s. IsRecovered (chip s).now stands.0) is_start stands.1 in
+    let entries : log.history.entries.items ≡ node.machine.entries = sym did.told.entries_are in
+    let refills : log.history.refills ≡ node.machine.fills = c.finish-left.ensures.refills ∙ ap (λ m. m.fills) machine in
+    let moved : (over : List StoreRecord) → IsRecovered (chip start).now over → node.machine.closed ≡ false
+    → HasMoved g.M.Machine.role over log.history.entries.items log.history.refills c.close-drawn.result.advances =
+    λ over read runs. moved_by g.M.Machine.view g.M.Machine.advances g.M.Machine.role stands.0 over c.into_parts-machine.result.0 node.machine c.close-drawn.result.advances
+    log.history.entries.items log.history.refills (c.one_list_is_recovered.ensures.one_list (chip start).now stands.0 over found read) machine
+    (close.advances ∙ c.finish-left.ensures.advances) entries refills
+    (c.tells.ensures.moved c.into_parts-machine.result.1 stands.0 c.into_parts-machine.result.0 stands.2) runs in
     let whole = ran g.M.Machine.view g.M.Machine.stands g.M.Machine.role g.M.Machine.image chip plan start node c.do_steps.new.seats.drawer log c.one_list_is_recovered.ensures.one_list
-    s.over s.read s.runs opened c.known.ensures.known (did.frame.start ∙ ap (λ n. n.start) c.in_ok-opened.ensures.value) over
-    (sym did.told.entries_are) (c.finish-left.ensures.refills ∙ ap (λ m. m.fills) machine)
+    s.over s.read s.runs opened c.known.ensures.known is_start over entries refills
     (c.end_of-end.ensures.cut ∙ c.is_closed.ensures.value ∙ ap (λ m. m.closed) machine)
     c.close-drawn.result.next c.close-drawn.result.mark c.do_steps.new.seats.numbers.opened c.close-drawn.ensures.order.1
     (c.close-drawn.ensures.mark ∙ c.finish-left.ensures.keeper.1 ∙ ap (λ m. m.mark) machine)
     (ap (λ n. n.opened) (c.do_steps.ensures.numbers ∙ c.in_ok-seats.ensures.words.0) ∙ s.opened)
     c.close-drawn.ensures.since c.close-drawn.ensures.below c.close-drawn.ensures.once c.close-drawn.ensures.seen
-    c.close-drawn.result refl closes c.known.ensures.stands
+    c.close-drawn.result refl closes c.known.ensures.stands moved
     c.args.plan.now.bearers c.requires.few did.many ((g.met.F.Bench g.world.𝓛 g.world.𝓜 g.world.𝓡 ((λ s x. x), (λ x. x), (λ x. x), λ x. x)).explained node.flash) given order placed calls in
     record { ran = subst (Ran g.M.Machine.view g.M.Machine.stands chip g.M.Machine.role g.M.Machine.image plan (chip start) log) (sym c.into_parts-machine.ensures.flash) whole }
