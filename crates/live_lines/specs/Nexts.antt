@@ -1,12 +1,14 @@
 -- What a round of a source of phases comes to, and what it gives next, where octets of a line that isn't whole yet were used already.
-use Rattle.std.specs.Prelude.{◌≡◌, ◌⊎◌, ℕ, Bool, true, List, [], Option, Some, None, ⊤}
+use Rattle.std.specs.Prelude.{◌≡◌, ◌⊎◌, ℕ, Bool, true, List, [], Option, Some, None, Result, IfErr, IfOk, ⊤}
 use Rattle.mesh_types.specs.declared.events.Event.{Event}
 use Rattle.script_definitions.specs.declared.line.ScriptLine.{ScriptLine}
 use Rattle.live_lines.specs.Clock.{IsTimeLine}
 use Rattle.live_lines.specs.Moves.{LinesAt}
 use Rattle.live_lines.specs.Saying.{IsSaid}
-use Rattle.live_lines.specs.Steps.{Comes, Ends, EndsAt, GivesPhase, SaysEvent}
+use Rattle.live_lines.specs.Steps.{Comes, Ends, EndsAt, FailsAt, GivesPhase, SaysEvent}
 use Rattle.live_lines.specs.Turns.{IsFrontOf, IsTurn}
+use Rattle.live_lines.specs.declared.lines.LineSource.{LineSource}
+use Rattle.live_lines.specs.declared.lines.LineStop.{LineStop}
 use Rattle.live_lines.specs.declared.lines.Turn.TheVariants as T
 use Rattle.live_lines.specs.declared.line_phases.Round.{Round}
 use Rattle.live_lines.specs.declared.line_phases.Round.TheVariants as R
@@ -42,3 +44,12 @@ module _ (bearers elements : ℕ) (clocked : Bool) where
   abbrev pub IsNextPhase : Option (List (List Event)) → List ℕ → LinesAt → (List ℕ → LinesAt) → Type 0
   IsNextPhase None front old new = Ends bearers elements old (new []) × (front ≡ [])
   IsNextPhase (Some lists) front old new = Used front (λ used. GivesPhase bearers elements clocked lists old (new used))
+
+-- What a round leaves, whichever octets of a line were used already: what it came to, or why it failed, behind any number of moves. `at` says
+-- the state of lines behind such octets.
+pub record IsRoundOf {S E : Type 0} (at : List ℕ → LineSource S E → LinesAt) (clocked : Bool) (result : Result Round LineStop) (front next : List ℕ)
+    (old new : LineSource S E) : Type 0 where
+  pub ok : (used : List ℕ) → IsFrontOf front used
+      → IfOk result (λ r. IsRound old.bearers old.elements clocked r next (at used old) (λ now. at now new))
+  pub stop : (used : List ℕ) (n : ℕ) → IsFrontOf front used
+      → IfErr result (λ why. FailsAt old.bearers old.elements clocked why n (at used old) (at [] new))

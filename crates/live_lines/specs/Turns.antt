@@ -1,13 +1,14 @@
 -- What a call of one move leaves, where octets of a line that isn't whole yet were used already.
-use Rattle.std.specs.Prelude.{◌≡◌, ℕ, List, [], take, Option, Some, None, ⊤}
+use Rattle.std.specs.Prelude.{◌≡◌, ℕ, List, [], take, Option, Some, None, Result, IfErr, IfOk, ⊤}
 use Rattle.mesh_base.specs.Outside.{Rose}
 use Rattle.report_writer.specs.Handing.{HandedFront}
 use Rattle.report_writer.specs.Writing.{SinkView}
 use Rattle.script_definitions.specs.declared.line.ScriptLine.{ScriptLine}
 use Rattle.live_lines.specs.Moves.{Does, HasNoLf, IsTold, LinesAt, Move}
 use Rattle.live_lines.specs.Saying.{IsSaid}
-use Rattle.live_lines.specs.Steps.{EndsAt, SaysEvent}
+use Rattle.live_lines.specs.Steps.{EndsAt, FailsBy, SaysEvent}
 use Rattle.live_lines.specs.Texts.{wrong_text}
+use Rattle.live_lines.specs.declared.lines.LineSource.{LineSource}
 use Rattle.live_lines.specs.declared.lines.LineStop.{LineStop}
 use Rattle.live_lines.specs.declared.lines.LineStop.TheVariants as L
 use Rattle.live_lines.specs.declared.lines.Turn.{Turn}
@@ -49,3 +50,12 @@ IsTurn bearers elements T.Moved front old new =
 IsTurn bearers elements (T.Happens line) front old new =
     SaysEvent bearers elements line old (new []) × IsSaid elements (S.Happens line) × (front ≡ [])
 IsTurn bearers elements T.Ended front old new = EndsAt old (new [])
+
+-- What a turn of the lines of a node leaves, whichever octets of a line were used already: the move that it was, or why it failed, behind any
+-- number of moves. `at` says the state of lines behind such octets.
+pub record IsTurnOf {S E : Type 0} (at : List ℕ → LineSource S E → LinesAt) (result : Result Turn LineStop) (front next : List ℕ)
+    (old new : LineSource S E) : Type 0 where
+  pub ok : (used : List ℕ) → IsFrontOf front used
+      → IfOk result (λ t. IsTurn old.bearers old.elements t next (at used old) (λ now. at now new))
+  pub stop : (used : List ℕ) (n : ℕ) → IsFrontOf front used
+      → IfErr result (λ why. FailsBy old.bearers old.elements why n (at used old) (at [] new))

@@ -4,10 +4,10 @@
 ghost use Rattle.std.specs.Prelude.{◌≡◌, ℕ, ◌<◌, List, [], length, map, true, IfOk, IfSome, IfErr, OnOk};
 ghost use Rattle.std.specs.Option.{option_map};
 ghost use Rattle.live_lines.specs.Clock.{HasPassed};
-ghost use Rattle.live_lines.specs.Nexts.{IsNextLine, IsNextPhase, IsRound, IsRoundSaid};
+ghost use Rattle.live_lines.specs.Nexts.{IsNextLine, IsNextPhase, IsRoundOf, IsRoundSaid};
 ghost use Rattle.live_lines.specs.Saying.{IsPhaseOfLine, IsSaid};
 ghost use Rattle.live_lines.specs.States.{IsSameNode, lines_at, lines_behind};
-ghost use Rattle.live_lines.specs.Steps.{Fails, FailsAt, FailsToWait};
+ghost use Rattle.live_lines.specs.Steps.{Fails, FailsToWait};
 ghost use Rattle.live_lines.specs.Turns.{IsFrontOf};
 ghost use Rattle.live_lines.specs.declared.lines.LineStop.TheVariants as stop;
 ghost use Rattle.live_lines.specs.declared.saying.Saying.TheVariants as said;
@@ -122,14 +122,8 @@ impl<S: ClockedSource, E: Sink> LinePhases<S, E> {
     fn turn(&mut self) -> Result<Round, LineStop>
         ensures frame { IsSameNode self.old.lines self.new.lines }
         ensures ranges { IfOk result (IsRoundSaid self.old.lines.elements) }
-        ensures ok { (used : List ℕ) → IsFrontOf self.old.front used → IfOk result
-            (λ r. IsRound self.old.lines.bearers self.old.lines.elements S.clocked r self.new.front
-            (lines_behind S.left S.faults E.held E.pieces E.faults used self.old.lines)
-            (λ now. lines_behind S.left S.faults E.held E.pieces E.faults now self.new.lines)) }
-        ensures stop { (used : List ℕ) (n : ℕ) → IsFrontOf self.old.front used → IfErr result
-            (λ why. FailsAt self.old.lines.bearers self.old.lines.elements S.clocked why n
-            (lines_behind S.left S.faults E.held E.pieces E.faults used self.old.lines)
-            (lines_at S.left S.faults E.held E.pieces E.faults self.new.lines)) }
+        ensures rounds { IsRoundOf (lines_behind S.left S.faults E.held E.pieces E.faults) S.clocked result self.old.front
+            self.new.front self.old.lines self.new.lines }
     {
         match self.lines.turn(&mut self.front) {
             Ok(Turn::Moved) => Ok(Round::Moved),
@@ -146,14 +140,8 @@ impl<S: ClockedSource, E: Sink> LinePhases<S, E> {
     fn round(&mut self, due: u32) -> Result<Round, LineStop>
         ensures frame { IsSameNode self.old.lines self.new.lines }
         ensures ranges { IfOk result (IsRoundSaid self.old.lines.elements) }
-        ensures ok { (used : List ℕ) → IsFrontOf self.old.front used → IfOk result
-            (λ r. IsRound self.old.lines.bearers self.old.lines.elements S.clocked r self.new.front
-            (lines_behind S.left S.faults E.held E.pieces E.faults used self.old.lines)
-            (λ now. lines_behind S.left S.faults E.held E.pieces E.faults now self.new.lines)) }
-        ensures stop { (used : List ℕ) (n : ℕ) → IsFrontOf self.old.front used → IfErr result
-            (λ why. FailsAt self.old.lines.bearers self.old.lines.elements S.clocked why n
-            (lines_behind S.left S.faults E.held E.pieces E.faults used self.old.lines)
-            (lines_at S.left S.faults E.held E.pieces E.faults self.new.lines)) }
+        ensures rounds { IsRoundOf (lines_behind S.left S.faults E.held E.pieces E.faults) S.clocked result self.old.front
+            self.new.front self.old.lines self.new.lines }
     {
         match self.wait(due) {
             Ok(Awaited::Input) => self.turn(),

@@ -10,7 +10,7 @@ ghost use Rattle.live_lines.specs.Saying.{IsSaid, line_says};
 ghost use Rattle.live_lines.specs.States.{IsSameNode, lines_at, lines_behind};
 ghost use Rattle.live_lines.specs.Steps.{FailsBy, IsRestTold, with_rest};
 ghost use Rattle.live_lines.specs.Texts.{unended_text, wrong_text};
-ghost use Rattle.live_lines.specs.Turns.{IsFrontOf, IsLost, IsTaken, IsTurn, IsTurnSaid, IsUntold};
+ghost use Rattle.live_lines.specs.Turns.{IsFrontOf, IsLost, IsTaken, IsTurn, IsTurnOf, IsTurnSaid, IsUntold};
 ghost use Rattle.live_lines.specs.declared.saying.Saying.TheVariants as said;
 
 use crate::front::LineFront;
@@ -205,14 +205,8 @@ impl<S: Source, E: Sink> LineSource<S, E> {
         requires none { self.old.held ≡ [] }
         ensures frame { IsSameNode self.old self.new }
         ensures ranges { IfOk result (IsTurnSaid self.old.elements) }
-        ensures ok { (used : List ℕ) → IsFrontOf front.now used → IfOk result
-            (λ t. IsTurn self.old.bearers self.old.elements t front.now
-            (lines_behind S.left S.faults E.held E.pieces E.faults used self.old)
-            (λ now. lines_behind S.left S.faults E.held E.pieces E.faults now self.new)) }
-        ensures stop { (used : List ℕ) (n : ℕ) → IsFrontOf front.now used → IfErr result
-            (λ why. FailsBy self.old.bearers self.old.elements why n
-            (lines_behind S.left S.faults E.held E.pieces E.faults used self.old)
-            (lines_at S.left S.faults E.held E.pieces E.faults self.new)) }
+        ensures turns { IsTurnOf (lines_behind S.left S.faults E.held E.pieces E.faults) result front.now front.now self.old
+            self.new }
     {
         match self.held.fill(&mut self.source) {
             Ok(0) => match self.tell_rest(front.as_slice()) {
@@ -228,14 +222,8 @@ impl<S: Source, E: Sink> LineSource<S, E> {
     pub(crate) fn turn(&mut self, front: &mut LineFront) -> Result<Turn, LineStop>
         ensures frame { IsSameNode self.old self.new }
         ensures ranges { IfOk result (IsTurnSaid self.old.elements) }
-        ensures ok { (used : List ℕ) → IsFrontOf front.old used → IfOk result
-            (λ t. IsTurn self.old.bearers self.old.elements t front.new
-            (lines_behind S.left S.faults E.held E.pieces E.faults used self.old)
-            (λ now. lines_behind S.left S.faults E.held E.pieces E.faults now self.new)) }
-        ensures stop { (used : List ℕ) (n : ℕ) → IsFrontOf front.old used → IfErr result
-            (λ why. FailsBy self.old.bearers self.old.elements why n
-            (lines_behind S.left S.faults E.held E.pieces E.faults used self.old)
-            (lines_at S.left S.faults E.held E.pieces E.faults self.new)) }
+        ensures turns { IsTurnOf (lines_behind S.left S.faults E.held E.pieces E.faults) result front.old front.new self.old
+            self.new }
     {
         if self.held.take_line(front) {
             self.take_whole(front)

@@ -124,8 +124,8 @@ fn go_on<
     G: Gate,
 >(
     host: &Host<R, G>,
-    beginning: Beginning<M, F>,
     opened: Opened,
+    beginning: Beginning<M, F>,
     lines: LinePhases<S, E>,
     report: LiveReport<K>,
 ) -> Ended<F, S, E, K>
@@ -231,7 +231,20 @@ fn run_started<
         errors,
     );
     let report = LiveReport::new(host.alloc, hex, sink);
-    go_on(host, beginning, opened, lines, report)
+    go_on(host, opened, beginning, lines, report)
+}
+
+/// What a life is run over.
+#[derive(Drop)]
+struct Over<F, S, E, K> {
+    /// Its flash.
+    flash: F,
+    /// How many bearers the node has.
+    bearers: u8,
+    /// Whether the report shows the octets of network PDUs.
+    hex: bool,
+    /// Its streams.
+    streams: Streams<S, E, K>,
 }
 
 /// Runs one life of a node, by any machine.
@@ -243,26 +256,25 @@ fn run_machine<
     E: Sink + Drop,
     K: Sink + Drop,
     G: Gate,
->(
-    host: &Host<R, G>,
-    flash: F,
-    bearers: u8,
-    hex: bool,
-    streams: Streams<S, E, K>,
-) -> Ended<F, S, E, K>
-    requires fresh { IsFresh (F.chip flash) }
-    requires node { IsNodeFlash M.image (F.chip flash) }
-    requires began { (F.chip flash).setting.faults ≤ (F.chip flash).faults }
-    requires few { bearers ≤ BEARERS }
-    ensures ended { EndsAs M.role M.image hex bearers S.clocked (F.chip flash)
-        (streams_at S.left S.faults E.held E.pieces E.faults streams)
+>(host: &Host<R, G>, over: Over<F, S, E, K>) -> Ended<F, S, E, K>
+    requires fresh { IsFresh (F.chip over.flash) }
+    requires node { IsNodeFlash M.image (F.chip over.flash) }
+    requires began { (F.chip over.flash).setting.faults ≤ (F.chip over.flash).faults }
+    requires few { over.bearers ≤ BEARERS }
+    ensures ended { EndsAs M.role M.image over.hex over.bearers S.clocked (F.chip over.flash)
+        (streams_at S.left S.faults E.held E.pieces E.faults over.streams)
         (streams_at S.left S.faults E.held E.pieces E.faults result.streams)
-        (view_of K.held K.pieces streams.sink) (view_of K.held K.pieces result.streams.sink) F.chip
+        (view_of K.held K.pieces over.streams.sink) (view_of K.held K.pieces result.streams.sink) F.chip
         (Stood M.view M.stands F.chip) result.status result.closed result.flash }
-    ensures sink { IsSinkCause result.status (K.faults streams.sink) (K.faults result.streams.sink) }
+    ensures sink { IsSinkCause result.status (K.faults over.streams.sink) (K.faults result.streams.sink) }
     ensures closed { IsClosedBy result.status result.closed }
 {
-    let mut flash = flash;
+    let Over {
+        mut flash,
+        bearers,
+        hex,
+        streams,
+    } = over;
     let Ok(start) = Known::of(host.alloc, &flash) else {
         return unopened(Status::Memory, flash, streams);
     };
@@ -327,5 +339,11 @@ pub fn run_node<
     ensures source_cause { IsSourceCause result.status (S.faults streams.source) (S.faults result.streams.source) }
     ensures errors_cause { IsErrorsCause result.status (E.faults streams.errors) (E.faults result.streams.errors) }
 {
-    run_machine::<MeshMachine, _, _, _, _, _, _>(host, flash, bearers, hex, streams)
+    let over = Over {
+        flash,
+        bearers,
+        hex,
+        streams,
+    };
+    run_machine::<MeshMachine, _, _, _, _, _, _>(host, over)
 }

@@ -1,4 +1,5 @@
 pub mod Causes
+pub mod Ending
 pub mod Kind
 pub mod Ran
 pub mod Reporting

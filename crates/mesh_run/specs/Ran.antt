@@ -11,6 +11,7 @@ use Rattle.run_definitions.specs.Order.{Step, arm, is_cut}
 use Rattle.run_definitions.specs.RunOf.{RunOf, Script}
 use Rattle.run_definitions.specs.Uses.{AtMostOnce, NoReuse, delivered, uses}
 use Rattle.run_steps.specs.Provisioned.{WasProvisioned}
+use Rattle.store_definitions.specs.Provisioning.{provisioned}
 use Rattle.store_definitions.specs.Recovered.{IsRecovered}
 use Rattle.mesh_run.specs.Kind.{MachineKind}
 use Rattle.mesh_run.specs.Lived.{Chained}
@@ -111,3 +112,25 @@ pub record FromProvisioned {F : Type 0} (chip : F → Chip) (format : ℕ) (reco
   pub start : F
   pub provisioned : WasProvisioned format records given (chip start)
   pub ran : P start
+
+-- The node of the script was provisioned so, and its lives were run from there: all of them, up to one that wasn't told to its end, the first ones,
+-- or the first ones or all.
+abbrev pub RanFrom : {F : Type 0} → (F → Chip) → MachineKind → ℕ → Script → (List LifeOver → SinkView → SinkView → Type 0) → Chip
+    → SinkView → F → SinkView → Type 0
+RanFrom {F} chip kind format s told given before left after =
+    FromProvisioned chip format (provisioned s.node) given (λ start. Ran chip kind s told start before left after)
+
+abbrev pub FrontFrom : {F : Type 0} → (F → Chip) → MachineKind → ℕ → Script → (List LifeOver → SinkView → SinkView → Type 0)
+    → (ℕ → Life → SinkView → SinkView → Type 0) → Chip → SinkView → F → SinkView → Type 0
+FrontFrom {F} chip kind format s told broken given before left after =
+    FromProvisioned chip format (provisioned s.node) given (λ start. RanFront chip kind s told broken start before left after)
+
+abbrev pub FirstFrom : {F : Type 0} → (F → Chip) → MachineKind → ℕ → Script → (List LifeOver → SinkView → SinkView → Type 0) → Chip
+    → SinkView → Option F → SinkView → Type 0
+FirstFrom {F} chip kind format s told given before left after =
+    FromProvisioned chip format (provisioned s.node) given (λ start. RanFirst chip kind s told start before left after)
+
+abbrev pub FirstOrAllFrom : {F : Type 0} → (F → Chip) → MachineKind → ℕ → Script → (List LifeOver → SinkView → SinkView → Type 0) → Chip
+    → SinkView → Option F → SinkView → Type 0
+FirstOrAllFrom {F} chip kind format s told given before left after =
+    FromProvisioned chip format (provisioned s.node) given (λ start. RanFirstOrAll chip kind s told start before left after)

@@ -1,28 +1,28 @@
 //! A script that is generated, run and summed up.
 #![tactic(auto)]
 
-ghost use Rattle.std.specs.Prelude.{◌≡◌, ◌≢◌, ◌⊎◌, ◌<◌, ◌≤◌, ℕ, false, None, IfSome, IsSomeAnd, IsTrue};
+ghost use Rattle.std.specs.Prelude.{◌≡◌, ◌≢◌, ◌≤◌, false, IsSomeAnd, IsTrue};
 ghost use Rattle.life_plans.specs.Plans.{script_of};
 ghost use Rattle.mesh_base.specs.Outside.{Rose};
 ghost use Rattle.report_writer.specs.Handing.{HandedFront, IsHanded};
 ghost use Rattle.report_writer.specs.Writing.{view_of};
-ghost use Rattle.run_steps.specs.Provisioned.{FailsEarly, format_by};
+ghost use Rattle.run_steps.specs.Provisioned.{format_by};
+ghost use Rattle.script_definitions.specs.Reading.Reading.{IsScript};
 ghost use Rattle.run_summary.specs.Summaries.{summary_text};
 ghost use Rattle.run_summary.specs.Telling.{Summarizes, SummarizesFront};
 ghost use Rattle.script_generator.specs.Generated.{generated};
-ghost use Rattle.store_definitions.specs.Provisioning.{provisioned};
-ghost use Rattle.mesh_run.specs.Causes.{FailedFirst, IsBeforeLives, IsErasedFlash, IsFromFlash, IsSameFlash, IsSumEnd, IsWrittenAt, WasErased};
+ghost use Rattle.mesh_run.specs.Causes.{IsBeforeLives, IsSumEnd};
+ghost use Rattle.mesh_run.specs.Ending.{EndsByCause};
 ghost use Rattle.mesh_run.specs.Kind.{node_kind};
-ghost use Rattle.mesh_run.specs.Ran.{FromProvisioned, Ran, RanFirstOrAll};
+ghost use Rattle.mesh_run.specs.Ran.{FirstOrAllFrom, RanFrom};
 ghost use Rattle.mesh_run.specs.Reporting.{Unwritten};
 
-use crate::host::Host;
 use crate::laws::node_kind_law;
 use crate::machine::ScriptMachine;
 use crate::scripts::run_script;
 use flash_model::Bench;
 use mesh_base::outside::Sink;
-use mesh_node::Gate;
+use mesh_node::{Gate, Host};
 use report_writer::WriteStop;
 use run_steps::{Ended, Status};
 use run_summary::{Summary, write_summary};
@@ -63,50 +63,24 @@ pub(crate) fn run_generated<R: Threads + Wait + Sync, B: Bench, K: Sink, G: Gate
     requires honest { IsTrue (B.chip flash).honest }
     requires few { count ≤ 32768 }
 
-    // Each status has its cause.
-    ensures due { IsFromFlash result.status ⊎ (result.status ≡ Status.Memory) }
-    ensures write_fault { result.status ≡ Status.WriteFault → Rose (K.faults sink.old) (K.faults sink.new) }
-    ensures not_erased { (at : ℕ) → result.status ≡ Status.NotErased at
-        → IsSomeAnd result.flash (λ f. IsWrittenAt at (B.chip flash) (B.chip f)) }
-    ensures flash_fault { result.status ≡ Status.FlashFault
-        → IsSomeAnd result.flash (λ f. (B.chip flash).faults < (B.chip f).faults) × (IsTrue (B.chip flash).steady → ⊥) }
-    ensures early { result.status ≡ Status.FlashFault
-        → IsSomeAnd result.flash
-        (λ f. FailsEarly (provisioned (script_of (generated count start)).node) (B.chip flash) (B.chip f)) }
-    ensures erased { (result.status ≡ Status.Done) ⊎ (result.status ≡ Status.WriteFault) → WasErased (B.chip flash) }
-    ensures complete { ¬ Rose (K.faults sink.old) (K.faults sink.new) → IsErasedFlash (B.chip flash)
-        → (result.status ≡ Status.Done) ⊎ (result.status ≡ Status.Memory) ⊎ (result.status ≡ Status.FlashFault) }
-    // Where the flash doesn't fail before its first life, no fault of it ends the run.
-    ensures unfailed { ¬ Rose (K.faults sink.old) (K.faults sink.new) → IsErasedFlash (B.chip flash)
-        → IfSome result.flash (λ f. ¬ FailedFirst (B.chip flash) (B.chip f))
-        → (result.status ≡ Status.Done) ⊎ (result.status ≡ Status.Memory) }
+    ensures ends { EndsByCause B.chip (IsScript (generated count start)) (B.chip flash) result.status result.flash
+        (K.faults sink.old) (K.faults sink.new) }
 
     // What is written is the summary of a record of a run of the script, or a front of it, or nothing of its first lives or of all.
     ensures done { result.status ≡ Status.Done
         → IsSomeAnd result.flash
-        (λ f. FromProvisioned B.chip (format_by false) (provisioned (script_of (generated count start)).node)
-        (B.chip flash)
-        (λ from. Ran B.chip node_kind (script_of (generated count start)) Summarizes from
-        (view_of K.held K.pieces sink.old) f (view_of K.held K.pieces sink.new))) }
+        (λ f. RanFrom B.chip node_kind (format_by false) (script_of (generated count start)) Summarizes (B.chip flash)
+        (view_of K.held K.pieces sink.old) f (view_of K.held K.pieces sink.new)) }
     ensures front { result.status ≡ Status.WriteFault
         → IsSomeAnd result.flash
-        (λ f. FromProvisioned B.chip (format_by false) (provisioned (script_of (generated count start)).node)
-        (B.chip flash)
-        (λ from. Ran B.chip node_kind (script_of (generated count start)) SummarizesFront from
-        (view_of K.held K.pieces sink.old) f (view_of K.held K.pieces sink.new))) }
+        (λ f. RanFrom B.chip node_kind (format_by false) (script_of (generated count start)) SummarizesFront (B.chip flash)
+        (view_of K.held K.pieces sink.old) f (view_of K.held K.pieces sink.new)) }
     ensures memory { result.status ≡ Status.Memory
-        → FromProvisioned B.chip (format_by false) (provisioned (script_of (generated count start)).node) (B.chip flash)
-        (λ from. RanFirstOrAll B.chip node_kind (script_of (generated count start)) Unwritten from
-        (view_of K.held K.pieces sink.old) result.flash (view_of K.held K.pieces sink.new)) }
+        → FirstOrAllFrom B.chip node_kind (format_by false) (script_of (generated count start)) Unwritten (B.chip flash)
+        (view_of K.held K.pieces sink.old) result.flash (view_of K.held K.pieces sink.new) }
     ensures unwritten { result.status ≡ Status.Memory
         → view_of K.held K.pieces sink.new ≡ view_of K.held K.pieces sink.old }
     ensures nothing_written { IsBeforeLives result.status → sink.new ≡ sink.old }
-
-    // What becomes of the flash, and of the sink's count of faults.
-    ensures handed_back { result.flash ≡ None → result.status ≡ Status.Memory }
-    ensures frame { IfSome result.flash (λ f. IsSameFlash (B.chip flash) (B.chip f)) }
-    ensures no_fault { result.status ≢ Status.WriteFault → K.faults sink.new ≡ K.faults sink.old }
-    ensures later { K.faults sink.old ≤ K.faults sink.new }
 {
     // They do nothing when they run: the proof uses what they say.
     generated_law();

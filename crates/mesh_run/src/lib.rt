@@ -7,15 +7,14 @@
 //! - `lives`: the lives of a script, one after another
 //! - `machine`: the machine of a node's lives
 //! - `laws`: what holds of the runs of a kind of node
-//! - `host`: what they are run with
 //!
 //! A caller to begin with: `run_words` in `crates/meshnode/src/main.rt`.
 //!
-//! In `specs/`, `Kind` says what lives are run by, `Ran` what a whole run leaves, and `Causes` where each status comes.
+//! In `specs/`, `Kind` says what lives are run by, `Ran` what a whole run leaves, `Causes` where each status comes, and `Ending` how the parts of
+//! `run` end.
 #![tactic(auto)]
 
 mod generated;
-mod host;
 mod kinds;
 mod laws;
 mod lives;

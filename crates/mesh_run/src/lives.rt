@@ -19,7 +19,6 @@ ghost use Rattle.mesh_run.specs.Lived.{IsMemory, IsSinkFault, Lived, flash_left}
 ghost use Rattle.run_steps.specs.Provisioned.{IsProvisioned};
 ghost use Rattle.mesh_run.specs.Ran.{Ran, RanFirst, RanFront};
 
-use crate::host::Host;
 use crate::laws::role_law;
 use flash_model::Bench;
 use life_laws::plan::LifePlan;
@@ -27,7 +26,7 @@ use life_plans::{plan_of, script_law};
 use life_sources::LifeSource;
 use machine_contract::Machine;
 use mesh_base::outside::Sink;
-use mesh_node::{Gate, LifeLog, life};
+use mesh_node::{Gate, Host, LifeLog, life};
 use node_limits::BEARERS;
 use report_writer::{EndedLife, LifeSink, WriteStop};
 use std::alloc::{AllocError, Global};

@@ -35,6 +35,8 @@ impl Machine for ScriptMachine {
 
     ghost view = { λ m. shown m.machine };
 
+    ghost advances = { λ m. ⟦<MeshMachine as Machine>⟧.advances m.machine };
+
     ghost stands = { λ chip over m. Stands chip over m.machine };
 
     ghost fits = { ⟦<MeshMachine as Machine>⟧.fits };

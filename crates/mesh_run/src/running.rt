@@ -27,13 +27,12 @@ ghost use Rattle.script_generator.specs.Generated.{generated};
 ghost use Rattle.store_definitions.specs.Provisioning.{provisioned};
 
 use crate::generated::run_generated;
-use crate::host::Host;
 use crate::kinds::run_by;
 use command_words::{Command, command_of};
 use flash_model::Bench;
 use low_power_role::low_power_fsn_law;
 use mesh_base::outside::{Sink, Source};
-use mesh_node::Gate;
+use mesh_node::{Gate, Host};
 use run_steps::{Ended, ReadStop, Status, audit_text, read_whole};
 use std::alloc::Global;
 use std::sync::Wait;

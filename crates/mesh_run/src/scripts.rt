@@ -1,24 +1,20 @@
 //! The script of a text, over a flash that is provisioned for it.
 #![tactic(auto)]
 
-ghost use Rattle.std.specs.Prelude.{◌≡◌, ◌≢◌, ◌⊎◌, ◌<◌, ◌≤◌, ℕ, false, None, Some, IfErr, IfOk, IfSome, IsSomeAnd, IsTrue, length};
+ghost use Rattle.std.specs.Prelude.{◌≡◌, ◌≤◌, ℕ, Some, IfErr, IfOk, IsSomeAnd, IsTrue, length};
 ghost use Rattle.life_plans.specs.Plans.{script_of};
-ghost use Rattle.mesh_base.specs.Outside.{Rose};
 ghost use Rattle.report_writer.specs.Writing.{view_of};
 ghost use Rattle.script_definitions.specs.Ranges.{IsScriptOf};
 ghost use Rattle.script_definitions.specs.Reading.{reading};
 ghost use Rattle.script_definitions.specs.Reading.Reading.{Fails, IsScript};
 ghost use Rattle.script_definitions.specs.declared.kind.Grammar.{Grammar as ScriptGrammar};
-ghost use Rattle.mesh_run.specs.Causes.{FailedFirst, IfScript, IsBeforeFlash, IsBeforeLives, IsDueBy, IsErasedFlash, IsFromFlash, IsSameFlash, IsScriptAnd, IsWrittenAt, WasErased};
+ghost use Rattle.mesh_run.specs.Causes.{IsBeforeFlash, IsBeforeLives};
+ghost use Rattle.mesh_run.specs.Ending.{EndsByCause, IsReported};
 ghost use Rattle.mesh_run.specs.Kind.{IsSafeKind, kind_of};
-ghost use Rattle.mesh_run.specs.Ran.{FromProvisioned, Ran, RanFirst, RanFront};
-ghost use Rattle.mesh_run.specs.Reporting.{ReportsFront};
-ghost use Rattle.report_writer.specs.Reporting.{Reports};
-ghost use Rattle.run_steps.specs.Provisioned.{FailsEarly, format_by};
+ghost use Rattle.mesh_run.specs.Ran.{FirstFrom, FrontFrom, RanFrom};
+ghost use Rattle.run_steps.specs.Provisioned.{format_by};
 ghost use Rattle.script_reader.specs.Stops.{IsFault};
-ghost use Rattle.store_definitions.specs.Provisioning.{provisioned};
 
-use crate::host::Host;
 use crate::lives::{Stopped, live_all};
 use command_words::RunFlags;
 use flash_model::Bench;
@@ -26,7 +22,7 @@ use life_plans::{provision_of, script_law};
 use life_sources::LifeSource;
 use machine_contract::Machine;
 use mesh_base::outside::Sink;
-use mesh_node::Gate;
+use mesh_node::{Gate, Host};
 use report_writer::{LifeSink, Report};
 use run_steps::{Ended, Status, provision};
 use script_definitions::kind::Grammar;
@@ -52,46 +48,22 @@ pub(crate) fn run_script<
     requires read { (grammar : ScriptGrammar) × IsScriptOf grammar (S.script script.now) }
     requires kind { IsSafeKind (kind_of M.view M.stands M.role M.image) }
 
-    // Each status has its cause.
-    ensures due { IsFromFlash result.status ⊎ (result.status ≡ Status.Memory) }
-    ensures write_fault { result.status ≡ Status.WriteFault → Rose (K.faults sink.old) (K.faults sink.new) }
-    ensures not_erased { (at : ℕ) → result.status ≡ Status.NotErased at
-        → IsSomeAnd result.flash (λ f. IsWrittenAt at (B.chip flash) (B.chip f)) }
-    ensures flash_fault { result.status ≡ Status.FlashFault
-        → IsSomeAnd result.flash (λ f. (B.chip flash).faults < (B.chip f).faults) × (IsTrue (B.chip flash).steady → ⊥) }
-    ensures early { result.status ≡ Status.FlashFault
-        → IsSomeAnd result.flash
-        (λ f. FailsEarly (provisioned (script_of (S.script script.now)).node) (B.chip flash) (B.chip f)) }
-    ensures erased { (result.status ≡ Status.Done) ⊎ (result.status ≡ Status.WriteFault) → WasErased (B.chip flash) }
-    ensures complete { ¬ Rose (K.faults sink.old) (K.faults sink.new) → IsErasedFlash (B.chip flash)
-        → (result.status ≡ Status.Done) ⊎ (result.status ≡ Status.Memory) ⊎ (result.status ≡ Status.FlashFault) }
-    // Where the flash doesn't fail before its first life, no fault of it ends the run.
-    ensures unfailed { ¬ Rose (K.faults sink.old) (K.faults sink.new) → IsErasedFlash (B.chip flash)
-        → IfSome result.flash (λ f. ¬ FailedFirst (B.chip flash) (B.chip f))
-        → (result.status ≡ Status.Done) ⊎ (result.status ≡ Status.Memory) }
+    ensures ends { EndsByCause B.chip (IsScript (S.script script.now)) (B.chip flash) result.status result.flash
+        (K.faults sink.old) (K.faults sink.new) }
 
     // What is told is a record of a run of the script, or its first lives.
     ensures done { result.status ≡ Status.Done
         → IsSomeAnd result.flash
-        (λ f. FromProvisioned B.chip (format_by old) (provisioned (script_of (S.script script.now)).node) (B.chip flash)
-        (λ start. Ran B.chip (kind_of M.view M.stands M.role M.image) (script_of (S.script script.now)) (L.told lives.old lives.new) start
-        (view_of K.held K.pieces sink.old) f (view_of K.held K.pieces sink.new))) }
+        (λ f. RanFrom B.chip (kind_of M.view M.stands M.role M.image) (format_by old) (script_of (S.script script.now)) (L.told lives.old lives.new)
+        (B.chip flash) (view_of K.held K.pieces sink.old) f (view_of K.held K.pieces sink.new)) }
     ensures front { result.status ≡ Status.WriteFault
         → IsSomeAnd result.flash
-        (λ f. FromProvisioned B.chip (format_by old) (provisioned (script_of (S.script script.now)).node) (B.chip flash)
-        (λ start. RanFront B.chip (kind_of M.view M.stands M.role M.image) (script_of (S.script script.now)) (L.told lives.old lives.new)
-        (L.broken lives.new) start (view_of K.held K.pieces sink.old) f (view_of K.held K.pieces sink.new))) }
+        (λ f. FrontFrom B.chip (kind_of M.view M.stands M.role M.image) (format_by old) (script_of (S.script script.now)) (L.told lives.old lives.new)
+        (L.broken lives.new) (B.chip flash) (view_of K.held K.pieces sink.old) f (view_of K.held K.pieces sink.new)) }
     ensures whole { result.status ≡ Status.Memory
-        → FromProvisioned B.chip (format_by old) (provisioned (script_of (S.script script.now)).node) (B.chip flash)
-        (λ start. RanFirst B.chip (kind_of M.view M.stands M.role M.image) (script_of (S.script script.now)) (L.told lives.old lives.new) start
-        (view_of K.held K.pieces sink.old) result.flash (view_of K.held K.pieces sink.new)) }
+        → FirstFrom B.chip (kind_of M.view M.stands M.role M.image) (format_by old) (script_of (S.script script.now)) (L.told lives.old lives.new)
+        (B.chip flash) (view_of K.held K.pieces sink.old) result.flash (view_of K.held K.pieces sink.new) }
     ensures nothing_written { IsBeforeLives result.status → sink.new ≡ sink.old }
-
-    // What becomes of the flash, and of the sink's count of faults.
-    ensures handed_back { result.flash ≡ None → result.status ≡ Status.Memory }
-    ensures frame { IfSome result.flash (λ f. IsSameFlash (B.chip flash) (B.chip f)) }
-    ensures no_fault { result.status ≢ Status.WriteFault → K.faults sink.new ≡ K.faults sink.old }
-    ensures later { K.faults sink.old ≤ K.faults sink.new }
 {
     // It does nothing when it runs: the proof uses what it says.
     script_law();
@@ -141,53 +113,13 @@ pub(crate) fn run_text<M: Machine, R: Threads + Wait + Sync, B: Bench, K: Sink, 
     requires short { length text.now ≤ 4194304 }
     requires kind { IsSafeKind (kind_of M.view M.stands M.role M.image) }
 
-    // Each status has its cause.
-    ensures due { IsDueBy (reading grammar text.now) result.status ⊎ (result.status ≡ Status.Memory) }
+    ensures ends { EndsByCause B.chip (reading grammar text.now) (B.chip flash) result.status result.flash
+        (K.faults sink.old) (K.faults sink.new) }
     ensures script { (line rule : ℕ) → result.status ≡ Status.Script line rule
         → reading grammar text.now ≡ Fails line rule }
-    ensures write_fault { result.status ≡ Status.WriteFault → Rose (K.faults sink.old) (K.faults sink.new) }
-    ensures not_erased { (at : ℕ) → result.status ≡ Status.NotErased at
-        → IsSomeAnd result.flash (λ f. IsWrittenAt at (B.chip flash) (B.chip f)) }
-    ensures flash_fault { result.status ≡ Status.FlashFault
-        → IsSomeAnd result.flash (λ f. (B.chip flash).faults < (B.chip f).faults) × (IsTrue (B.chip flash).steady → ⊥) }
-    ensures early { result.status ≡ Status.FlashFault
-        → IsScriptAnd (reading grammar text.now)
-        (λ s. IsSomeAnd result.flash (λ f. FailsEarly (provisioned (script_of s).node) (B.chip flash) (B.chip f))) }
-    ensures erased { (result.status ≡ Status.Done) ⊎ (result.status ≡ Status.WriteFault) → WasErased (B.chip flash) }
-    ensures complete { ¬ Rose (K.faults sink.old) (K.faults sink.new) → IsErasedFlash (B.chip flash)
-        → IfScript (reading grammar text.now)
-        (λ s. (result.status ≡ Status.Done) ⊎ (result.status ≡ Status.Memory) ⊎ (result.status ≡ Status.FlashFault)) }
-    ensures unfailed { ¬ Rose (K.faults sink.old) (K.faults sink.new) → IsErasedFlash (B.chip flash)
-        → IfSome result.flash (λ f. ¬ FailedFirst (B.chip flash) (B.chip f))
-        → IfScript (reading grammar text.now) (λ s. (result.status ≡ Status.Done) ⊎ (result.status ≡ Status.Memory)) }
-
-    // What is written is the report of a record of a run of the script, or a front of it.
-    ensures done { result.status ≡ Status.Done
-        → IsScriptAnd (reading grammar text.now)
-        (λ s. IsSomeAnd result.flash
-        (λ f. FromProvisioned B.chip (format_by flags.old) (provisioned (script_of s).node) (B.chip flash)
-        (λ start. Ran B.chip (kind_of M.view M.stands M.role M.image) (script_of s) (Reports flags.hex) start
-        (view_of K.held K.pieces sink.old) f (view_of K.held K.pieces sink.new)))) }
-    ensures front { result.status ≡ Status.WriteFault
-        → IsScriptAnd (reading grammar text.now)
-        (λ s. IsSomeAnd result.flash
-        (λ f. FromProvisioned B.chip (format_by flags.old) (provisioned (script_of s).node) (B.chip flash)
-        (λ start. RanFront B.chip (kind_of M.view M.stands M.role M.image) (script_of s) (Reports flags.hex) (ReportsFront flags.hex)
-        start (view_of K.held K.pieces sink.old) f (view_of K.held K.pieces sink.new)))) }
-    ensures whole { result.status ≡ Status.Memory
-        → ((sink.new ≡ sink.old) × (result.flash ≡ Some flash))
-        ⊎ IsScriptAnd (reading grammar text.now)
-        (λ s. FromProvisioned B.chip (format_by flags.old) (provisioned (script_of s).node) (B.chip flash)
-        (λ start. RanFirst B.chip (kind_of M.view M.stands M.role M.image) (script_of s) (Reports flags.hex) start
-        (view_of K.held K.pieces sink.old) result.flash (view_of K.held K.pieces sink.new))) }
-    ensures nothing_written { IsBeforeLives result.status → sink.new ≡ sink.old }
-
-    // What becomes of the flash, and of the sink's count of faults.
+    ensures report { IsReported B.chip (kind_of M.view M.stands M.role M.image) (reading grammar text.now) flags flash result.status result.flash
+        (view_of K.held K.pieces) sink.old sink.new }
     ensures same_flash { IsBeforeFlash result.status → result.flash ≡ Some flash }
-    ensures handed_back { result.flash ≡ None → result.status ≡ Status.Memory }
-    ensures frame { IfSome result.flash (λ f. IsSameFlash (B.chip flash) (B.chip f)) }
-    ensures no_fault { result.status ≢ Status.WriteFault → K.faults sink.new ≡ K.faults sink.old }
-    ensures later { K.faults sink.old ≤ K.faults sink.new }
 {
     let script = match read_by(host.alloc, grammar, text) {
         Ok(script) => script,

@@ -1,9 +1,10 @@
 //! The words that show what became of a job.
 #![tactic(auto, unfolding(report_definitions::specs::Report::outcome_text), using(std::proofs::Common::append_assoc))]
 
-ghost use Rattle.std.specs.Prelude.{◌≡◌, ◌++◌, OnOk, codes};
+ghost use Rattle.std.specs.Prelude.{◌≡◌, ◌++◌, Bool, OnOk, codes};
 ghost use Rattle.mesh_types.specs.declared.lines.Outcome.TheVariants as O;
 ghost use Rattle.report_definitions.specs.Report.{outcome_text, control_bit_text, pdu_text};
+ghost use Rattle.report_lines.specs.Kinds.{IsCtl, IsLong, IsMsg, IsRelay, IsSeg};
 ghost use Rattle.report_definitions.specs.Text.{iv_text, octets_text, pair_text, route_text};
 
 use crate::answers::push_key;
@@ -11,7 +12,6 @@ use crate::text::LineText;
 use mesh_base::address::Address;
 use mesh_base::octets::Octets;
 use mesh_base::pair::{Name, Pair};
-use mesh_types::answers::KeyName;
 use mesh_types::lines::Outcome;
 use std::alloc::AllocError;
 
@@ -20,72 +20,11 @@ pub fn push_outcome(text: &mut LineText, hex: bool, outcome: &Outcome) -> Result
     ensures ok { OnOk result (text.new ≡ text.old ++ outcome_text hex outcome.now) }
 {
     match outcome {
-        Outcome::Ctl {
-            pair,
-            ttl,
-            src,
-            dst,
-            tpdu,
-            pdu,
-        } => push_ctl(text, hex, (*pair, *ttl, *src, *dst), tpdu, pdu),
-        Outcome::Msg {
-            pair,
-            ttl,
-            src,
-            dst,
-            key,
-            payload,
-            pdu,
-        } => {
-            push_head(text, b" msg", (*pair, *ttl, *src, *dst))?;
-            push_key(text, *key)?;
-            text.push_octets(payload.as_slice())?;
-            push_pdu(text, hex, pdu)
-        }
-        Outcome::Long {
-            pair,
-            ttl,
-            src,
-            dst,
-            key,
-            payload,
-        } => {
-            push_head(text, b" long", (*pair, *ttl, *src, *dst))?;
-            push_key(text, *key)?;
-            text.push_octets(payload.as_slice())
-        }
-        Outcome::Seg {
-            pair,
-            ttl,
-            src,
-            dst,
-            seg_o,
-            seg_n,
-            auth,
-            pdu,
-        } => {
-            push_head(text, b" seg", (*pair, *ttl, *src, *dst))?;
-            text.push_number(u64::from(*seg_o))?;
-            text.push_number(u64::from(*seg_n))?;
-            text.push_field(6, *auth)?;
-            push_pdu(text, hex, pdu)
-        }
-        Outcome::Relay {
-            pair,
-            ctl,
-            ttl,
-            src,
-            dst,
-            tpdu,
-            pdu,
-        } => {
-            text.push(b" relay")?;
-            text.push_pair(*pair)?;
-            push_bit(text, *ctl)?;
-            text.push_route(*ttl, *src, *dst)?;
-            text.push_octets(tpdu.as_slice())?;
-            push_pdu(text, hex, pdu)
-        }
+        Outcome::Ctl { .. } => push_ctl(text, hex, outcome),
+        Outcome::Msg { .. } => push_msg(text, hex, outcome),
+        Outcome::Long { .. } => push_long(text, outcome),
+        Outcome::Seg { .. } => push_seg(text, hex, outcome),
+        Outcome::Relay { .. } => push_relay(text, hex, outcome),
         Outcome::Rep { name, pdu } => push_rep(text, hex, *name, pdu),
         Outcome::Bcn(octets) => push_bcn(text, octets),
         Outcome::Spent { iv } => push_spent(text, *iv),
@@ -97,12 +36,13 @@ pub fn push_outcome(text: &mut LineText, hex: bool, outcome: &Outcome) -> Result
 fn push_head(
     text: &mut LineText,
     word: &[u8],
-    head: (Pair, u8, Address, Address),
+    pair: Pair,
+    ttl: u8,
+    src: Address,
+    dst: Address,
 ) -> Result<(), AllocError>
-    ensures ok { OnOk result
-        (text.new ≡ text.old ++ (word.now ++ pair_text head.0 ++ route_text head.1 head.2 head.3)) }
+    ensures ok { OnOk result (text.new ≡ text.old ++ (word.now ++ pair_text pair ++ route_text ttl src dst)) }
 {
-    let (pair, ttl, src, dst) = head;
     text.push(word)?;
     text.push_pair(pair)?;
     text.push_route(ttl, src, dst)
@@ -119,17 +59,112 @@ fn push_pdu(text: &mut LineText, hex: bool, pdu: &Octets<29>) -> Result<(), Allo
     }
 }
 
-fn push_ctl(
-    text: &mut LineText,
-    hex: bool,
-    head: (Pair, u8, Address, Address),
-    tpdu: &Octets<16>,
-    pdu: &Octets<29>,
-) -> Result<(), AllocError>
-    ensures ok { OnOk result
-        (text.new ≡ text.old ++ outcome_text hex (O.Ctl head.0 head.1 head.2 head.3 tpdu.now pdu.now)) }
+fn push_ctl(text: &mut LineText, hex: bool, outcome: &Outcome) -> Result<(), AllocError>
+    requires kind { IsCtl outcome.now }
+    ensures ok { OnOk result (text.new ≡ text.old ++ outcome_text hex outcome.now) }
 {
-    push_head(text, b" ctl", head)?;
+    let Outcome::Ctl {
+        pair,
+        ttl,
+        src,
+        dst,
+        tpdu,
+        pdu,
+    } = outcome
+    else {
+        unreachable!()
+    };
+    push_head(text, b" ctl", *pair, *ttl, *src, *dst)?;
+    text.push_octets(tpdu.as_slice())?;
+    push_pdu(text, hex, pdu)
+}
+
+fn push_msg(text: &mut LineText, hex: bool, outcome: &Outcome) -> Result<(), AllocError>
+    requires kind { IsMsg outcome.now }
+    ensures ok { OnOk result (text.new ≡ text.old ++ outcome_text hex outcome.now) }
+{
+    let Outcome::Msg {
+        pair,
+        ttl,
+        src,
+        dst,
+        key,
+        payload,
+        pdu,
+    } = outcome
+    else {
+        unreachable!()
+    };
+    push_head(text, b" msg", *pair, *ttl, *src, *dst)?;
+    push_key(text, *key)?;
+    text.push_octets(payload.as_slice())?;
+    push_pdu(text, hex, pdu)
+}
+
+fn push_long(text: &mut LineText, outcome: &Outcome) -> Result<(), AllocError>
+    requires kind { IsLong outcome.now }
+    ensures ok { (hex : Bool) → OnOk result (text.new ≡ text.old ++ outcome_text hex outcome.now) }
+{
+    let Outcome::Long {
+        pair,
+        ttl,
+        src,
+        dst,
+        key,
+        payload,
+    } = outcome
+    else {
+        unreachable!()
+    };
+    push_head(text, b" long", *pair, *ttl, *src, *dst)?;
+    push_key(text, *key)?;
+    text.push_octets(payload.as_slice())
+}
+
+fn push_seg(text: &mut LineText, hex: bool, outcome: &Outcome) -> Result<(), AllocError>
+    requires kind { IsSeg outcome.now }
+    ensures ok { OnOk result (text.new ≡ text.old ++ outcome_text hex outcome.now) }
+{
+    let Outcome::Seg {
+        pair,
+        ttl,
+        src,
+        dst,
+        seg_o,
+        seg_n,
+        auth,
+        pdu,
+    } = outcome
+    else {
+        unreachable!()
+    };
+    push_head(text, b" seg", *pair, *ttl, *src, *dst)?;
+    text.push_number(u64::from(*seg_o))?;
+    text.push_number(u64::from(*seg_n))?;
+    text.push_field(6, *auth)?;
+    push_pdu(text, hex, pdu)
+}
+
+fn push_relay(text: &mut LineText, hex: bool, outcome: &Outcome) -> Result<(), AllocError>
+    requires kind { IsRelay outcome.now }
+    ensures ok { OnOk result (text.new ≡ text.old ++ outcome_text hex outcome.now) }
+{
+    let Outcome::Relay {
+        pair,
+        ctl,
+        ttl,
+        src,
+        dst,
+        tpdu,
+        pdu,
+    } = outcome
+    else {
+        unreachable!()
+    };
+    text.push(b" relay")?;
+    text.push_pair(*pair)?;
+    push_bit(text, *ctl)?;
+    text.push_route(*ttl, *src, *dst)?;
     text.push_octets(tpdu.as_slice())?;
     push_pdu(text, hex, pdu)
 }

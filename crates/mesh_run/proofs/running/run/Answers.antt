@@ -32,7 +32,7 @@ returns-in-Ok-clause-done g c = λ kind flags is done.
     (λ start. Ran chip (machines_of by) (script_of s) (Reports said.hex) start (view c.args.sink.now) f (view c.run_by.new.sink)))) in
     of_all (Says kind flags) (left c.args.source.now) (left c.read_whole.new.source) c.as_slice.result.now
     (subst (Consumes (left c.args.source.now) (left c.read_whole.new.source)) (sym c.as_slice.ensures.value) c.in-Ok.ensures.octets) c.in-Ok.ensures.end
-    (subst (λ by. Says by flags c.as_slice.result.now) given_kind (subst (λ said. Says c.in-Run.kind said c.as_slice.result.now) given (c.run_by.ensures.done done)))
+    (subst (λ by. Says by flags c.as_slice.result.now) given_kind (subst (λ said. Says c.in-Run.kind said c.as_slice.result.now) given (c.run_by.ensures.report.done done)))
 
 pub returns-in-Ok-clause-front : goal.returns-in-Ok-clause-front
 returns-in-Ok-clause-front g c = λ kind flags is fault.
@@ -47,7 +47,7 @@ returns-in-Ok-clause-front g c = λ kind flags is fault.
     (λ start. RanFront chip (machines_of by) (script_of s) (Reports said.hex) (ReportsFront said.hex) start (view c.args.sink.now) f (view c.run_by.new.sink)))) in
     of_all (Says kind flags) (left c.args.source.now) (left c.read_whole.new.source) c.as_slice.result.now
     (subst (Consumes (left c.args.source.now) (left c.read_whole.new.source)) (sym c.as_slice.ensures.value) c.in-Ok.ensures.octets) c.in-Ok.ensures.end
-    (subst (λ by. Says by flags c.as_slice.result.now) given_kind (subst (λ said. Says c.in-Run.kind said c.as_slice.result.now) given (c.run_by.ensures.front fault)))
+    (subst (λ by. Says by flags c.as_slice.result.now) given_kind (subst (λ said. Says c.in-Run.kind said c.as_slice.result.now) given (c.run_by.ensures.report.front fault)))
 
 pub returns-in-Ok-clause-whole : goal.returns-in-Ok-clause-whole
 returns-in-Ok-clause-whole g c = λ kind flags is memory.
@@ -59,13 +59,24 @@ returns-in-Ok-clause-whole g c = λ kind flags is memory.
     let Says : NodeKind → RunFlags → List ℕ → Type 0 = λ by said text. IsScriptAnd (reading (grammar_of by) text)
     (λ s. FromProvisioned chip (format_by said.old) (provisioned (script_of s).node) (chip c.args.flash)
     (λ start. RanFirst chip (machines_of by) (script_of s) (Reports said.hex) start (view c.args.sink.now) c.run_by.result.flash (view c.run_by.new.sink))) in
-    elim (c.run_by.ensures.whole memory) [
+    elim (c.run_by.ensures.report.whole memory) [
       | inl kept ↦ inl kept
       | inr ran ↦ inr
           (of_all (Says kind flags) (left c.args.source.now) (left c.read_whole.new.source) c.as_slice.result.now
           (subst (Consumes (left c.args.source.now) (left c.read_whole.new.source)) (sym c.as_slice.ensures.value) c.in-Ok.ensures.octets) c.in-Ok.ensures.end
           (subst (λ by. Says by flags c.as_slice.result.now) given_kind (subst (λ said. Says c.in-Run.kind said c.as_slice.result.now) given ran)))
     ]
+
+pub returns-in-Ok-clause-complete : goal.returns-in-Ok-clause-complete
+returns-in-Ok-clause-complete g c = λ kind flags is source sink erased.
+    let left = g.S.Source.left in
+    let given_kind : c.in-Run.kind ≡ kind = cc (is, c.in-Ok-Some.ensures.value, c.in-Ok-Some.field-0-is, c.in-Run.is) in
+    let Says : NodeKind → List ℕ → Type 0 = λ by text. length text ≤ 4194304
+    → IfScript (reading (grammar_of by) text)
+    (λ s. (c.run_by.result.status ≡ Statuses.Done) ⊎ (c.run_by.result.status ≡ Statuses.Memory) ⊎ (c.run_by.result.status ≡ Statuses.FlashFault)) in
+    of_all (Says kind) (left c.args.source.now) (left c.read_whole.new.source) c.as_slice.result.now
+    (subst (Consumes (left c.args.source.now) (left c.read_whole.new.source)) (sym c.as_slice.ensures.value) c.in-Ok.ensures.octets) c.in-Ok.ensures.end
+    (subst (λ by. Says by c.as_slice.result.now) given_kind (λ few. c.run_by.ensures.ends.complete sink erased))
 
 -- the source wasn't read to its end
 pub returns-in-Err-read_whole-clause-due : goal.returns-in-Err-read_whole-clause-due

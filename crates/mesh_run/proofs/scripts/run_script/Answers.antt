@@ -1,4 +1,4 @@
-use Rattle.std.proofs.Common.{◌≡◌, ◌∙◌, ℕ, Err, ap, subst, sym}
+use Rattle.std.proofs.Common.{◌≡◌, ◌∙◌, ℕ, Err, Some, ap, rules, subst, sym}
 use Rattle.run_steps.specs.declared.status.Status.TheVariants as Statuses
 use Rattle.std.specs.Prelude.{IfSome, IsSomeAnd}
 use Rattle.life_plans.specs.Plans.{provision_of, script_of}
@@ -11,12 +11,12 @@ use Rattle.store_definitions.specs.Provisioning.{provisioned}
 use Rattle.mesh_run.specs.Causes.{IsSameFlash, IsWrittenAt}
 use Rattle.mesh_run.specs.Kind.{kind_of}
 use Rattle.mesh_run.specs.Lived.{IsMemory, IsSinkFault, flash_left}
-use Rattle.mesh_run.specs.Ran.{FromProvisioned, Ran, RanFirst, RanFront}
+use Rattle.mesh_run.specs.Ran.{FrontFrom, RanFirst, RanFrom, RanFront}
 use Rattle.mesh_run.proofs.Ends.{cycled, failed_first, fails_early, same_left, through, was_provisioned, written_as, written_at}
 use Rattle.mesh_run.proofs.scripts.run_script.Goals as goal
 
-pub returns-in-Err-Flash-clause-early : goal.returns-in-Err-Flash-clause-early
-returns-in-Err-Flash-clause-early g c = λ is.
+pub returns-in-Err-Flash-clause-ends : goal.returns-in-Err-Flash-clause-ends
+returns-in-Err-Flash-clause-ends g c =
     let chip = g.B.Flash.chip in
     let law = g.met.B.Flash g.world.𝓛 g.world.𝓜 g.world.𝓡 ((λ s x. x), (λ x. x), (λ x. x), λ x. x) in
     let old = chip c.args.flash in
@@ -31,27 +31,24 @@ returns-in-Err-Flash-clause-early g c = λ is.
     (law.counts_now c.provision.new.flash) (did.any_moment fresh) (did.unchanged fresh.honest) in
     let records = provisioned (provisioning (provision_of (g.S.LifeSource.script c.args.script.now).provision)) in
     let said : FailsEarly records old new = subst (λ (p : Provision). FailsEarly (provisioned (provisioning p)) old new) (c.provision_of.ensures.value ∙ ap provision_of c.node.ensures.value) early in
-    subst (λ e. IsSomeAnd e.flash (λ f. FailsEarly records old (chip f))) (sym c.with_flash.ensures.value) said
+    let left : IsSomeAnd c.with_flash.result.flash (λ f. FailsEarly records old (chip f)) = subst (λ e. IsSomeAnd e.flash (λ f. FailsEarly records old (chip f))) (sym c.with_flash.ensures.value) said in
+    record {
+      due = search rules;
+      write_fault = search rules;
+      not_erased = search rules;
+      flash_fault = search rules;
+      early = λ is. left;
+      erased = search rules;
+      complete = search rules;
+      unfailed = λ sink erased unfailed. absurd (failed_first chip records old c.with_flash.result.flash left unfailed);
+      handed_back = search rules;
+      frame = search rules;
+      no_fault = search rules;
+      later = search rules;
+    }
 
-pub returns-in-Err-Flash-clause-unfailed : goal.returns-in-Err-Flash-clause-unfailed
-returns-in-Err-Flash-clause-unfailed g c = λ sink erased.
-    let chip = g.B.Flash.chip in
-    let law = g.met.B.Flash g.world.𝓛 g.world.𝓜 g.world.𝓡 ((λ s x. x), (λ x. x), (λ x. x), λ x. x) in
-    let old = chip c.args.flash in
-    let mid = chip c.power_cycle.new.self in
-    let new = chip c.provision.new.flash in
-    let cycle = c.power_cycle.ensures in
-    let fresh = cycle.fresh c.requires.honest in
-    let did = c.provision.ensures in
-    let records = provisioned (provisioning c.provision_of.result) in
-    let cause = subst (IsFormatCause mid new) c.in-Err-Flash.field-0-is c.in-Err-Flash.ensures.cause in
-    let early : FailsEarly records old new =
-    fails_early records old mid new cycle.frame (cycle.image c.requires.honest) fresh cycle.setting did.frame cause
-    (law.counts_now c.provision.new.flash) (did.any_moment fresh) (did.unchanged fresh.honest) in
-    λ unfailed. absurd (failed_first chip records old c.with_flash.result.flash (subst (λ e. IsSomeAnd e.flash (λ f. FailsEarly records old (chip f))) (sym c.with_flash.ensures.value) early) unfailed)
-
-pub returns-in-Err-NotErased-clause-not_erased : goal.returns-in-Err-NotErased-clause-not_erased
-returns-in-Err-NotErased-clause-not_erased g c = λ at is.
+pub returns-in-Err-NotErased-clause-ends : goal.returns-in-Err-NotErased-clause-ends
+returns-in-Err-NotErased-clause-ends g c =
     let chip = g.B.Flash.chip in
     let old = chip c.args.flash in
     let mid = chip c.power_cycle.new.self in
@@ -61,8 +58,21 @@ returns-in-Err-NotErased-clause-not_erased g c = λ at is.
     let cause = subst (IsFormatCause mid new) c.in-Err-NotErased.field-0-is c.in-Err-NotErased.ensures.cause in
     let said : IsWrittenAt c.in-Err-NotErased.at old new =
     written_at old mid new c.in-Err-NotErased.at (cycle.image c.requires.honest) (cause.1 fresh.honest) (c.provision.ensures.unchanged fresh.honest) in
-    subst (λ e. (k : ℕ) → e.status ≡ Statuses.NotErased k → IsSomeAnd e.flash (λ f. IsWrittenAt k old (chip f))) (sym c.with_flash-in-Err-NotErased.ensures.value)
-    (written_as chip old c.provision.new.flash c.in-Err-NotErased.at said) at is
+    record {
+      due = search rules;
+      write_fault = search rules;
+      not_erased = λ at is. subst (λ e. (k : ℕ) → e.status ≡ Statuses.NotErased k → IsSomeAnd e.flash (λ f. IsWrittenAt k old (chip f))) (sym c.with_flash-in-Err-NotErased.ensures.value)
+          (written_as chip old c.provision.new.flash c.in-Err-NotErased.at said) at is;
+      flash_fault = search rules;
+      early = search rules;
+      erased = search rules;
+      complete = search rules;
+      unfailed = search rules;
+      handed_back = search rules;
+      frame = search rules;
+      no_fault = search rules;
+      later = search rules;
+    }
 
 -- what was run was run from the flash that provisioning left
 pub returns-in-Ok-live_all-clause-done : goal.returns-in-Ok-live_all-clause-done
@@ -83,7 +93,7 @@ returns-in-Ok-live_all-clause-done g c = λ is.
     let was : WasProvisioned format (provisioned s.node) old start =
     was_provisioned format c.provision_of.result (provision_of (g.S.LifeSource.script c.args.script.now).provision) old (chip c.power_cycle.new.self) start (c.provision_of.ensures.value ∙ ap provision_of c.node.ensures.value) cycle.frame
     (cycle.image c.requires.honest) cycle.setting (c.in-Ok.ensures.erased fresh.honest) c.provision.ensures.frame c.in-Ok.ensures.no_fault (c.in-Ok.ensures.provisioned fresh) (c.in-Ok.ensures.format fresh) in
-    subst (λ e. IsSomeAnd e.flash (λ f. FromProvisioned chip format (provisioned s.node) old (λ from. Ran chip kind s told from before f after)))
+    subst (λ e. IsSomeAnd e.flash (λ f. RanFrom chip kind format s told old before f after))
     (sym c.with_flash-in-Ok-live_all.ensures.value) (record { start = c.provision.new.flash; provisioned = was; ran = c.in-Ok-live_all.ensures.all })
 
 pub returns-in-Err-Fault-clause-front : goal.returns-in-Err-Fault-clause-front
@@ -106,7 +116,7 @@ returns-in-Err-Fault-clause-front g c = λ is.
     (cycle.image c.requires.honest) cycle.setting (c.in-Ok.ensures.erased fresh.honest) c.provision.ensures.frame c.in-Ok.ensures.no_fault (c.in-Ok.ensures.provisioned fresh) (c.in-Ok.ensures.format fresh) in
     let ran : RanFront chip kind s told broken c.provision.new.flash before c.in-Err-Fault.flash after =
     subst (λ e. IsSinkFault (Err e) → IsSomeAnd (flash_left (Err e)) (λ f. RanFront chip kind s told broken c.provision.new.flash before f after)) c.in-Err-Fault.field-0-is c.in-Err-Fault.ensures.front tt in
-    subst (λ e. IsSomeAnd e.flash (λ f. FromProvisioned chip format (provisioned s.node) old (λ from. RanFront chip kind s told broken from before f after)))
+    subst (λ e. IsSomeAnd e.flash (λ f. FrontFrom chip kind format s told broken old before f after))
     (sym c.with_flash-in-Err-Fault.ensures.value) (record { start = c.provision.new.flash; provisioned = was; ran = ran })
 
 pub returns-in-Err-Memory-clause-whole : goal.returns-in-Err-Memory-clause-whole
@@ -133,11 +143,64 @@ returns-in-Err-Memory-clause-whole g c = λ is.
       ran = subst (λ e. IsMemory (Err e) → RanFirst chip kind s told c.provision.new.flash before (flash_left (Err e)) after) c.in-Err-Memory.field-0-is c.in-Err-Memory.ensures.whole tt;
     }
 
-pub returns-in-Err-Memory-clause-frame : goal.returns-in-Err-Memory-clause-frame
-returns-in-Err-Memory-clause-frame g c =
+pub returns-in-Err-Memory-clause-ends : goal.returns-in-Err-Memory-clause-ends
+returns-in-Err-Memory-clause-ends g c =
     let chip = g.B.Flash.chip in
     let old = chip c.args.flash in
     let start = chip c.provision.new.flash in
     let first = through old (chip c.power_cycle.new.self) start (cycled old (chip c.power_cycle.new.self) c.requires.honest c.power_cycle.ensures.frame) c.provision.ensures.frame in
-    same_left chip c.in-Err-Memory.flash old start first
-    (subst (λ e. IfSome (flash_left (Err e)) (λ f. IsSameFlash start (chip f))) c.in-Err-Memory.field-0-is c.in-Err-Memory.ensures.frame)
+    record {
+      due = search rules;
+      write_fault = search rules;
+      not_erased = search rules;
+      flash_fault = search rules;
+      early = search rules;
+      erased = search rules;
+      complete = search rules;
+      unfailed = search rules;
+      handed_back = search rules;
+      frame = same_left chip c.in-Err-Memory.flash old start first
+          (subst (λ e. IfSome (flash_left (Err e)) (λ f. IsSameFlash start (chip f))) c.in-Err-Memory.field-0-is c.in-Err-Memory.ensures.frame);
+      no_fault = search rules;
+      later = search rules;
+    }
+
+pub returns-in-Ok-live_all-clause-ends : goal.returns-in-Ok-live_all-clause-ends
+returns-in-Ok-live_all-clause-ends g c =
+    record {
+      due = search rules;
+      write_fault = search rules;
+      not_erased = search rules;
+      flash_fault = search rules;
+      early = search rules;
+      erased = search rules;
+      complete = search rules;
+      unfailed = search rules;
+      handed_back = search rules;
+      frame = search rules;
+      no_fault = search rules;
+      later = search rules;
+    }
+
+pub returns-in-Err-Fault-clause-ends : goal.returns-in-Err-Fault-clause-ends
+returns-in-Err-Fault-clause-ends g c =
+    let chip = g.B.Flash.chip in
+    let old = chip c.args.flash in
+    let start = chip c.provision.new.flash in
+    let first = through old (chip c.power_cycle.new.self) start (cycled old (chip c.power_cycle.new.self) c.requires.honest c.power_cycle.ensures.frame) c.provision.ensures.frame in
+    record {
+      due = search rules;
+      write_fault = search rules;
+      not_erased = search rules;
+      flash_fault = search rules;
+      early = search rules;
+      erased = search rules;
+      complete = search rules;
+      unfailed = search rules;
+      handed_back = search rules;
+      frame = subst (λ e. IfSome e.flash (λ f. IsSameFlash old (chip f))) (sym c.with_flash-in-Err-Fault.ensures.value)
+          (same_left chip (Some c.in-Err-Fault.flash) old start first
+          (subst (λ e. IfSome (flash_left (Err e)) (λ f. IsSameFlash start (chip f))) c.in-Err-Fault.field-0-is c.in-Err-Fault.ensures.frame));
+      no_fault = search rules;
+      later = search rules;
+    }

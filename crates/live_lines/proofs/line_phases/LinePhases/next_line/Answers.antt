@@ -26,7 +26,7 @@ loop-move-preserved g c =
           moved_more first.bearers first.elements c.loop-move._move c.loop-move.self.front c.round.new.self.front (at used first)
           (λ now. at now mid) (λ now. at now new) h
           (round_of first.bearers first.elements clocked mid.bearers mid.elements R.Moved c.round.new.self.front (at h.used mid) (at h.used mid) (λ now. at now new)
-          same.1 same.2 refl (rw c.in-Ok-Moved.field-0-is at (c.in-Ok-Moved.ensures.ok h.used h.is)));
+          same.1 same.2 refl (rw c.in-Ok-Moved.field-0-is at (c.in-Ok-Moved.ensures.rounds.ok h.used h.is)));
     }
 
 pub returns-in-Ok-Comes-clause-ok : goal.returns-in-Ok-Comes-clause-ok
@@ -41,7 +41,7 @@ returns-in-Ok-Comes-clause-ok g c = λ used is.
     came first.bearers first.elements clocked c.loop-move._move c.loop-move.self.front c.round.new.self.front (at used first)
     (λ now. at now mid) (λ now. at now new) h c.in-Ok-Comes.line
     (round_of first.bearers first.elements clocked mid.bearers mid.elements (R.Comes c.in-Ok-Comes.line) c.round.new.self.front (at h.used mid) (at h.used mid) (λ now. at now new)
-    same.1 same.2 refl (rw c.in-Ok-Comes.field-0-is at (c.in-Ok-Comes.ensures.ok h.used h.is)))
+    same.1 same.2 refl (rw c.in-Ok-Comes.field-0-is at (c.in-Ok-Comes.ensures.rounds.ok h.used h.is)))
 
 pub returns-in-Ok-Ended-clause-ok : goal.returns-in-Ok-Ended-clause-ok
 returns-in-Ok-Ended-clause-ok g c = λ used is.
@@ -55,4 +55,4 @@ returns-in-Ok-Ended-clause-ok g c = λ used is.
     ended first.bearers first.elements clocked c.loop-move._move c.loop-move.self.front c.round.new.self.front (at used first)
     (λ now. at now mid) (λ now. at now new) h
     (round_of first.bearers first.elements clocked mid.bearers mid.elements R.Ended c.round.new.self.front (at h.used mid) (at h.used mid) (λ now. at now new)
-    same.1 same.2 refl (rw c.in-Ok-Ended.field-0-is at (c.in-Ok-Ended.ensures.ok h.used h.is)))
+    same.1 same.2 refl (rw c.in-Ok-Ended.field-0-is at (c.in-Ok-Ended.ensures.rounds.ok h.used h.is)))
