@@ -1,8 +1,9 @@
-/* What a program in C can call of meshnode. bindings/header writes this file from crates/meshnode_c: don't edit it.
+/* What a program in C can call of meshnode. bindings/header writes this file from crates/meshnode_c and
+ * crates/node_handle: don't edit it.
  *
- * bindings/README.md says how to build with it, and what a caller promises. A pointer is to as many octets as the length behind it, and no
- * octet that a call writes is given to it a second time. A call that is refused leaves all that it was given as it was, but where its comment
- * says that it tells something, and for the text of meshnode_ccm_open, which is zeros where the MIC is wrong. */
+ * bindings/README.md says how to build with it, and what a caller promises. A pointer is to as many octets as the length behind it, and isn't
+ * NULL where that is 0 either. No octet that a call writes is given to it a second time. A call that is refused leaves all that it was given as
+ * it was, but where its comment says that it tells something, and for the text of meshnode_ccm_open, which is zeros where the MIC is wrong. */
 #ifndef MESHNODE_H
 #define MESHNODE_H
 
@@ -38,6 +39,33 @@ extern "C" {
 
 /* There was no memory. */
 #define MESHNODE_MEMORY 5u
+
+/* The struct holds no node. */
+#define MESHNODE_EMPTY 6u
+
+/* The struct holds a node already. */
+#define MESHNODE_HELD 7u
+
+/* The image holds no node that can be run: it is erased, it is damaged, or its records say what no node has. */
+#define MESHNODE_NO_NODE 8u
+
+/* There was a Node Reset: the node has to be provisioned anew. */
+#define MESHNODE_WAS_RESET 9u
+
+/* There is nothing: the line is empty or a comment, or no write is left. */
+#define MESHNODE_NOTHING 10u
+
+/* The line is wrong. */
+#define MESHNODE_WRONG 11u
+
+/* Something of the phase before isn't taken yet. */
+#define MESHNODE_WAITING 12u
+
+/* The node takes no line more: its flash failed, or it was lost. */
+#define MESHNODE_OVER 13u
+
+/* Memory ran out within the phase: the node was lost, and nothing of the phase is left. To the image the phase never came. */
+#define MESHNODE_LOST 14u
 
 /* Audits a text: at most 16 lines `key NET`, and then lines of reports, as `meshnoded run --hex` writes them, at most 4,194,304 octets. The line of the
  * verdict is put into the front of `verdict`, and `size` tells how many octets it has: at most 28. It is `sound N`, `reuse A B`, `twice A B` or
@@ -156,6 +184,40 @@ uint32_t meshnode_net_seal(uint8_t nid, const uint8_t *encryption, meshnode_size
 /* Opens a network PDU, heard by a node whose IV Index is `current`: it may be under this one or the one before. The transport PDU is put into the
  * front of `tpdu`, which has room for 16 octets, and `size` tells how many. `MESHNODE_UNREAD` where it is none under this key. */
 uint32_t meshnode_net_open(uint8_t nid, const uint8_t *encryption, meshnode_size encryption_length, const uint8_t *privacy, meshnode_size privacy_length, uint32_t current, const uint8_t *pdu, meshnode_size pdu_length, struct meshnode_head *head, uint8_t *tpdu, meshnode_size tpdu_length, meshnode_size *size);
+
+/* A node, or none: where all its octets are 0 it holds none. Only these calls write it, and a copy of it isn't used. */
+struct meshnode {
+    uint64_t at;
+};
+
+/* Opens a node over an image of 65,536 octets: what it holds is checked. The first line of its life, `life 1` and so on with its LF, is put into the
+ * front of `text`, which has at least 35 octets, and `size` tells how many it has. The image is only read. Writes may be left by the opening: they
+ * are made durable before the line leaves. */
+uint32_t meshnode_node_open(struct meshnode *node, const uint8_t *image, meshnode_size image_length, uint8_t *text, meshnode_size text_length, meshnode_size *size);
+
+/* Gives the node a line of what happens, without its LF, as `meshnoded` with one bearer reads it: `net`, `bcn`, `send`, `raw`, `tick`, `peer`, `talk`
+ * and so on, with or without `b0` in front. It is done as one phase: its writes and its report are there to be taken, all before the next line.
+ * Where the line is wrong `rule` tells by which rule it fails first: 1, 3, 4 or 5. */
+uint32_t meshnode_node_line(struct meshnode *node, const uint8_t *line, meshnode_size line_length, uint32_t *rule);
+
+/* Takes the next write, in their order: its octets are put into the front of `octets`, `size` tells how many, and `at` the offset in the image from
+ * which on they are to stand. Made one after another on the image of before, the writes give the image that the node reads now; the caller makes
+ * each durable before the next, and all before the report leaves. An erase of a sector is a write of 4,096 octets ff. Where `octets` is too
+ * short `size` tells how many it must have, and the write stays: 65,536 always do. */
+uint32_t meshnode_node_write(struct meshnode *node, uint32_t *at, uint8_t *octets, meshnode_size octets_length, meshnode_size *size);
+
+/* Takes the report of the last phase, which may be no octet: its lines as `meshnoded --hex` writes them, each with its LF, are put into the front of
+ * `text`, and `size` tells how many octets they have. While a write is left it is `MESHNODE_WAITING`. Where `text` is too short `size` tells how many
+ * octets it must have, and the report stays. */
+uint32_t meshnode_node_report(struct meshnode *node, uint8_t *text, meshnode_size text_length, meshnode_size *size);
+
+/* Tells in how many ticks of 10 ms something of the node is due: an event of fewer ticks stores nothing and has no jobs. */
+uint32_t meshnode_node_due(struct meshnode *node, uint32_t *ticks);
+
+/* Ends the life of the node, and frees it: the struct holds none then. Where the life ends in order its last line, `end` and an LF, is put into the
+ * front of `text`, which has at least 4 octets; `size` tells how many it has, and is 0 where a write or the report was left, the flash failed, or
+ * the node was lost. */
+uint32_t meshnode_node_close(struct meshnode *node, uint8_t *text, meshnode_size text_length, meshnode_size *size);
 
 /* What an access message is sealed with besides its key. */
 struct meshnode_message {

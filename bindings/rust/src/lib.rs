@@ -1,12 +1,14 @@
-//! The layers of a mesh node, over the static library of the proved crate `meshnode_c`. Each call here is safe, and gives what the contract of
-//! the call below it says; `../c/meshnode.h` has these calls with what they ask for.
+//! The layers of a mesh node, and a node, over the static library of the proved crate `meshnode_c`. Each call here is safe, and gives what the contract
+//! of the call below it says; `../c/meshnode.h` has these calls with what they ask for. [`Node`] is the node.
 //!
 //! What is proved ends at the calls of C: this crate is plain Rust, and its `unsafe` blocks pass each slice with its own length.
 
 pub mod digits;
+mod node;
 mod raw;
 mod transport;
 
+pub use node::{Fault, Line, Node, IMAGE};
 pub use transport::{
     access_open, access_seal, acknowledgment_read, acknowledgment_write, lower_read, lower_write, seq_auth, Acknowledgment, Key, Lower, Message,
 };

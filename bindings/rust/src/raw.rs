@@ -5,6 +5,20 @@ pub const LENGTH: u32 = 1;
 pub const RANGE: u32 = 2;
 pub const UNREAD: u32 = 3;
 pub const NOT_REPORT: u32 = 4;
+pub const EMPTY: u32 = 6;
+pub const NO_NODE: u32 = 8;
+pub const WAS_RESET: u32 = 9;
+pub const NOTHING: u32 = 10;
+pub const WRONG: u32 = 11;
+pub const WAITING: u32 = 12;
+pub const OVER: u32 = 13;
+pub const LOST: u32 = 14;
+
+/// A node, or none where it is null.
+#[repr(C)]
+pub struct Meshnode {
+    pub at: *mut u8,
+}
 
 /// The fields of a network PDU but for its transport PDU.
 #[repr(C)]
@@ -138,4 +152,12 @@ extern "C" {
     pub fn meshnode_audit(
         text: *const u8, text_length: usize, verdict: *mut u8, verdict_length: usize, size: *mut usize, line: *mut u32,
     ) -> u32;
+    pub fn meshnode_node_open(
+        node: *mut Meshnode, image: *const u8, image_length: usize, text: *mut u8, text_length: usize, size: *mut usize,
+    ) -> u32;
+    pub fn meshnode_node_line(node: *mut Meshnode, line: *const u8, line_length: usize, rule: *mut u32) -> u32;
+    pub fn meshnode_node_write(node: *mut Meshnode, at: *mut u32, octets: *mut u8, octets_length: usize, size: *mut usize) -> u32;
+    pub fn meshnode_node_report(node: *mut Meshnode, text: *mut u8, text_length: usize, size: *mut usize) -> u32;
+    pub fn meshnode_node_due(node: *mut Meshnode, ticks: *mut u32) -> u32;
+    pub fn meshnode_node_close(node: *mut Meshnode, text: *mut u8, text_length: usize, size: *mut usize) -> u32;
 }

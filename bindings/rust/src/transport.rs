@@ -99,7 +99,7 @@ impl Key<'_> {
 }
 
 // The octets of a label, or none.
-fn label_octets<'a>(label: Option<&'a [u8; 16]>) -> &'a [u8] {
+fn label_octets(label: Option<&[u8; 16]>) -> &[u8] {
     label.map_or(&[], |label| label.as_slice())
 }
 

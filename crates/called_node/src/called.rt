@@ -1,13 +1,13 @@
 //! A node as calls.
 #![tactic(auto)]
 
-ghost use Rattle.std.specs.Prelude.{◌≡◌, ◌≢◌, ◌↔◌, ◌+◌, ◌≤◌, List, [], ◌∷◌, None, Some, false, length, map, All, IfOk, IfErr, IfSome, IsSomeAnd, MatchOption};
+ghost use Rattle.std.specs.Prelude.{◌≡◌, ◌≢◌, ◌↔◌, ◌+◌, ◌≤◌, List, [], ◌∷◌, None, Some, false, length, true, map, All, IfOk, IfErr, IfSome, IsSomeAnd, MatchOption};
 ghost use Rattle.std.specs.Option.{ForSome};
 ghost use Rattle.file_flash.specs.Noted.{IsInside, Put, put_of};
 ghost use Rattle.locked_node.specs.Stands.{IsDueNode, IsIdleNode};
 ghost use Rattle.mesh_node.specs.Held.{HasLived};
 ghost use Rattle.node_bearer.specs.Did.{AreEvents};
-ghost use Rattle.called_node.specs.Called.{HasStory, IsBegun, IsCause, IsGiven, IsLineDone, IsOver, IsPhaseDone, IsTaken};
+ghost use Rattle.called_node.specs.Called.{HasStory, IsBegun, IsCause, IsGiven, IsLineDone, IsOver, IsPhaseDone, IsTaken, IsUsable};
 ghost use Rattle.called_node.specs.declared.called.Called.TheVariants as C;
 
 use crate::phase::{PhaseLeft, do_phase};
@@ -174,6 +174,17 @@ impl<M: Machine> CalledNode<M, NotedFlash> {
         match self.next_write() {
             Some(_) => true,
             None => !self.report.is_empty(),
+        }
+    }
+
+    /// Whether the life takes lines: it is there, and its flash didn't fail.
+    pub fn is_usable(&self) -> bool
+        ensures yes { result ≡ true → IsUsable self.now }
+        ensures no { result ≡ false → IsOver self.now }
+    {
+        match &self.life {
+            Some(life) => !life.is_closed(),
+            None => false,
         }
     }
 

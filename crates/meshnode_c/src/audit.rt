@@ -8,11 +8,11 @@ ghost use Rattle.audit_definitions.specs.Input.{IsFirstOther};
 ghost use Rattle.log_audit.specs.Reading.{IsStop};
 ghost use Rattle.meshnode_c.specs.Numbers.{HasNumbers};
 
-use crate::status::{LENGTH, MEMORY, NOT_REPORT, OK};
 use audit_definitions::Verdict;
 use audit_definitions::verdict::write_verdict;
 use log_audit::auditing::audit;
 use log_audit::input::AuditStop;
+use node_handle::status::{LENGTH, MEMORY, NOT_REPORT, OK};
 use report_lines::LineText;
 use std::alloc::{AllocError, Global};
 

@@ -5,9 +5,9 @@ ghost use Rattle.std.specs.Prelude.{◌≡◌, ◌≢◌, ◌⊎◌, ◌↔◌, 
 ghost use Rattle.layer_definitions.specs.Beacon.{ReadsBeaconUnder, beacon_text};
 
 use crate::arrays::{KEY, key_of};
-use crate::status::{LENGTH, OK, UNREAD};
 use mesh_base::keys::NetKeyRow;
 use net_beacon::{read, write};
+use node_handle::status::{LENGTH, OK, UNREAD};
 
 /// Octets of a beacon.
 const BEACON: usize = 22;

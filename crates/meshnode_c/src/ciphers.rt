@@ -6,10 +6,10 @@ ghost use Rattle.cipher_definitions.specs.Ccm.{Seals, ccm_mic, ccm_text};
 ghost use Rattle.cipher_definitions.specs.Cmac.{cmac};
 
 use crate::arrays::{KEY, NONCE, key_of, nonce_of};
-use crate::status::{LENGTH, OK, UNREAD};
 use aes_block::Schedule;
 use aes_ccm::{seal, unseal};
 use mesh_kdf::cmac as mac_of;
+use node_handle::status::{LENGTH, OK, UNREAD};
 
 /// The lengths of a text end here.
 const TEXT_END: usize = 65536;

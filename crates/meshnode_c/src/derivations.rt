@@ -5,8 +5,8 @@ ghost use Rattle.std.specs.Prelude.{◌≡◌, ◌≢◌, ◌↔◌, ◌≤◌, 
 ghost use Rattle.cipher_definitions.specs.Kdf.{k1, k2, k3, k4, s1, virtual_address};
 
 use crate::arrays::{KEY, key_of};
-use crate::status::{LENGTH, OK};
 use mesh_kdf::{address, k1 as k1_of, k2 as k2_of, k3 as k3_of, k4 as k4_of, s1 as s1_of};
+use node_handle::status::{LENGTH, OK};
 
 /// Octets of what k3 derives.
 const ID: usize = 8;

@@ -10,11 +10,11 @@ ghost use Rattle.layer_definitions.specs.Lower.{Fits, ReadsLower, lower_text};
 ghost use Rattle.lower_transport.specs.SeqAuth.{IsSeqAuth};
 ghost use Rattle.meshnode_c.specs.Lower.{IsPlain, acknowledgment_of, least_octets, lower_of, most_octets, octets_in};
 
-use crate::status::{LENGTH, OK, RANGE, UNREAD};
 use lower_transport::{Lower, read, seq_auth, write};
 use mesh_base::control::{Acknowledgment, ControlMsg};
 use mesh_base::octets::Octets;
 use mesh_base::pair::Pair;
+use node_handle::status::{LENGTH, OK, RANGE, UNREAD};
 use upper_transport::{read_control, write_control};
 
 /// Octets of a transport PDU, at most.

@@ -7,11 +7,11 @@ ghost use Rattle.layer_definitions.specs.Network.{ReadsUnder, net_text};
 ghost use Rattle.meshnode_c.specs.Network.{fields_of, material_of};
 
 use crate::arrays::{KEY, key_of};
-use crate::status::{LENGTH, OK, RANGE, UNREAD};
 use mesh_base::address::Address;
 use mesh_base::fields::{NetFields, NetMaterial};
 use mesh_base::octets::Octets;
 use network_layer::{NetSchedules, read_one, seal};
+use node_handle::status::{LENGTH, OK, RANGE, UNREAD};
 
 /// Octets of a network PDU, at most.
 const MOST_PDU: usize = 29;

@@ -6,12 +6,12 @@ ghost use Rattle.layer_definitions.specs.Upper.{OpensUnder, trans_mic_length, up
 ghost use Rattle.meshnode_c.specs.Upper.{HasLabelLength, key_of as upper_key_of, label_of as label_in, message_of};
 
 use crate::arrays::{KEY, key_of};
-use crate::status::{LENGTH, OK, RANGE, UNREAD};
 use mesh_base::address::Address;
 use mesh_base::keys::UpperKey;
 use mesh_base::octets::Octets;
 use mesh_base::pair::Pair;
 use mesh_base::upper::UpperFields;
+use node_handle::status::{LENGTH, OK, RANGE, UNREAD};
 use upper_transport::{UpperSchedule, open_kept, seal_access};
 
 /// Octets of an upper transport PDU, at most.

@@ -1,0 +1,39 @@
+-- Calls of a node behind a pointer, one after another.
+use Rattle.std.specs.Prelude.{◌≡◌, ℕ, List, [], ◌∷◌, Some}
+use Rattle.called_node.specs.Called.{CalledView}
+use Rattle.file_flash.specs.Noted.{Put, written}
+use Rattle.flash_model.specs.Chip.{Chip}
+use Rattle.mesh_node.specs.Held.{HeldView}
+use Rattle.node_handle.specs.Nodes.{IsOpened, IsPassed, IsPhase, IsReported}
+
+-- a call that changed the node: a write was taken, or the report, or a line happened
+pub data Call : Type 0 where
+  Wrote : Put → Call
+  Reported : List ℕ → Call
+  Happened : List ℕ → Call
+
+-- the writes that calls handed out
+abbrev pub handed_out : List Call → List Put
+handed_out [] = []
+handed_out (Wrote put ∷ calls) = put ∷ handed_out calls
+handed_out (Reported text ∷ calls) = handed_out calls
+handed_out (Happened line ∷ calls) = handed_out calls
+
+module _ {F : Type 0} (chip : F → Chip) where
+  -- what a call did to the node
+  abbrev pub DidCall : Call → CalledView F → CalledView F → Type 0
+  DidCall (Wrote put) old new = IsPassed old new put
+  DidCall (Reported text) old new = IsReported old new text
+  DidCall (Happened line) old new = IsPhase chip line old new
+
+  -- what calls did, one after another
+  abbrev pub DidCalls : List Call → CalledView F → CalledView F → Type 0
+  DidCalls [] old new = new ≡ old
+  DidCalls (call ∷ calls) old new = (mid : CalledView F) × DidCall call old mid × DidCalls calls mid new
+
+  -- The writes that were handed out, made in their order on the image that was opened, and then those that are left, give what the flash of the
+  -- life reads.
+  abbrev pub WritesMakeImage : Type 0
+  WritesMakeImage =
+      (image line : List ℕ) (calls : List Call) (opened now : CalledView F) (life : HeldView F) → IsOpened chip image line opened
+      → DidCalls calls opened now → now.life ≡ Some life → written now.writes (written (handed_out calls) image) ≡ (chip life.node.flash).now

@@ -1,0 +1,4 @@
+pub mod Begun
+pub mod Hands
+pub mod Room
+pub mod Values

@@ -1,0 +1,179 @@
+//! The calls of a [`Meshnode`].
+#![tactic(auto)]
+
+ghost use Rattle.std.specs.Prelude.{◌≡◌, ◌≢◌, ◌⊎◌, ◌↔◌, ◌+◌, ◌<◌, ◌≤◌, [], None, length, take, IsSomeAnd};
+ghost use Rattle.event_definitions.specs.Role.{node_role};
+ghost use Rattle.file_flash.specs.Noted.{Put};
+ghost use Rattle.linked_node.specs.Causes.{IsOpenCause};
+ghost use Rattle.linked_node.specs.declared.faults.OpenFault.{OpenFault as Fault};
+ghost use Rattle.locked_node.specs.Stands.{IsDueNode, IsIdleNode};
+ghost use Rattle.node_layers.specs.NodeLayers.{node_layers};
+ghost use Rattle.called_node.specs.Called.{IsOver};
+ghost use Rattle.node_handle.specs.Nodes.{Became, HasNext, IsAnswered, IsClosedAs, IsOpened, IsPassed, IsPhase, IsReported, open_status};
+
+use crate::handing::{END, answer_line, hand_end, hand_report, hand_write, put_octets};
+use crate::held::Meshnode;
+use crate::opening::{OpenedNode, open_node, open_status};
+use crate::status::{EMPTY, HELD, LENGTH, OK, OVER};
+use file_flash::NotedFlash;
+use flash_model::{FLASH_OCTETS, Flash};
+use machine_contract::Machine;
+use mesh_machine::MeshMachine;
+use std::alloc::Global;
+
+/// Octets of the first line of a life, at most.
+const MOST_LINE: usize = 35;
+
+impl Meshnode {
+    /// Opens a node over an image of 65,536 octets: what it holds is checked. The first line of its life, `life 1` and so on with its LF, is put into
+    /// the front of `text`, which has at least 35 octets, and `size` tells how many it has. The image is only read. Writes may be left by the opening:
+    /// they are made durable before the line leaves.
+    pub fn open(&mut self, alloc: Global, image: &[u8], text: &mut [u8], size: &mut usize) -> u32
+        ensures ok { result ≡ 0
+            → IsSomeAnd self.new.value
+            (λ n. IsOpened ⟦<NotedFlash as Flash>⟧.chip image.now (take size.new text.new) n.calls) }
+        ensures within { result ≡ 0 → size.new ≤ length text.old }
+        ensures held { result ≢ 7 ↔ self.old.value ≡ None }
+        ensures length { result ≡ 1 ↔ (self.old.value ≡ None) × ((length image.now ≢ 65536) ⊎ (length text.old < 35)) }
+        ensures cause { result ≢ 0 → result ≢ 1 → result ≢ 7
+            → (fault : Fault) × (result ≡ open_status fault) × IsOpenCause image.now fault }
+        ensures refused { result ≢ 0 → (self.new.value ≡ self.old.value) × (text.new ≡ text.old) × (size.new ≡ size.old) }
+    {
+        if let Some(held) = self.take(alloc) {
+            self.put(held);
+            return HELD;
+        }
+        if image.len() != FLASH_OCTETS as usize || text.len() < MOST_LINE {
+            return LENGTH;
+        }
+        match open_node(alloc, image) {
+            Ok(opened) => {
+                let OpenedNode { line, node } = opened;
+                put_octets(line.as_slice(), text, size);
+                self.put(node);
+                OK
+            }
+            Err(fault) => open_status(&fault),
+        }
+    }
+
+    /// Gives the node a line of what happens, without its LF, as `meshnoded` with one bearer reads it: `net`, `bcn`, `send`, `raw`, `tick`, `peer`,
+    /// `talk` and so on, with or without `b0` in front. It is done as one phase: its writes and its report are there to be taken, all before the next
+    /// line. Where the line is wrong `rule` tells by which rule it fails first: 1, 3, 4 or 5.
+    pub fn line(&mut self, alloc: Global, line: &[u8], rule: &mut u32) -> u32
+        ensures happened { result ≡ 0
+            → Became (λ a b. IsPhase ⟦<NotedFlash as Flash>⟧.chip line.now a.calls b.calls) self.old.value self.new.value }
+        ensures lost { result ≡ 14 → IsSomeAnd self.new.value (λ n. n.calls ≡ record { life = None; writes = []; report = [] }) }
+        ensures empty { result ≡ 6 ↔ self.old.value ≡ None }
+        ensures cause { result ≢ 6 → IsSomeAnd self.old.value (λ n. IsAnswered line.now n.calls rule.old result rule.new) }
+        ensures same { result ≢ 0 → result ≢ 14 → self.new.value ≡ self.old.value }
+        ensures same_rule { result ≢ 11 → rule.new ≡ rule.old }
+    {
+        let Some(mut held) = self.take(alloc) else {
+            return EMPTY;
+        };
+        let called = held.calls.line(alloc, line);
+        self.put(held);
+        answer_line(called, rule)
+    }
+
+    /// Takes the next write, in their order: its octets are put into the front of `octets`, `size` tells how many, and `at` the offset in the image
+    /// from which on they are to stand. Made one after another on the image of before, the writes give the image that the node reads now; the caller
+    /// makes each durable before the next, and all before the report leaves. An erase of a sector is a write of 4,096 octets ff. Where `octets` is
+    /// too short `size` tells how many it must have, and the write stays: 65,536 always do.
+    pub fn write(&mut self, alloc: Global, at: &mut u32, octets: &mut [u8], size: &mut usize) -> u32
+        ensures ok { result ≡ 0
+            → Became (λ a b. IsPassed a.calls b.calls (record { at = at.new; octets = take size.new octets.new })) self.old.value
+            self.new.value }
+        ensures within { result ≡ 0 → size.new ≤ length octets.old }
+        ensures inside { result ≡ 0 → at.new + size.new ≤ 65536 }
+        ensures length { result ≡ 1
+            → IsSomeAnd self.old.value
+            (λ n. (put : Put) × HasNext n.calls put × (length octets.old < length put.octets) × (size.new ≡ length put.octets)) }
+        ensures nothing { result ≡ 10 → IsSomeAnd self.old.value (λ n. n.calls.writes ≡ []) }
+        ensures empty { result ≡ 6 ↔ self.old.value ≡ None }
+        ensures same { result ≢ 0 → (self.new.value ≡ self.old.value) × (at.new ≡ at.old) × (octets.new ≡ octets.old) }
+        ensures same_size { result ≢ 0 → result ≢ 1 → size.new ≡ size.old }
+        ensures bound { (result ≡ 0) ⊎ (result ≡ 1) ⊎ (result ≡ 6) ⊎ (result ≡ 10) }
+    {
+        let Some(mut held) = self.take(alloc) else {
+            return EMPTY;
+        };
+        let status = hand_write(&mut held.calls, at, octets, size);
+        self.put(held);
+        status
+    }
+
+    /// Takes the report of the last phase, which may be no octet: its lines as `meshnoded --hex` writes them, each with its LF, are put into the front
+    /// of `text`, and `size` tells how many octets they have. While a write is left it is `WAITING`. Where `text` is too short `size` tells how many
+    /// octets it must have, and the report stays.
+    pub fn report(&mut self, alloc: Global, text: &mut [u8], size: &mut usize) -> u32
+        ensures ok { result ≡ 0
+            → Became (λ a b. IsReported a.calls b.calls (take size.new text.new) × (size.new ≡ length a.calls.report)) self.old.value
+            self.new.value }
+        ensures length { result ≡ 1
+            → IsSomeAnd self.old.value
+            (λ n. (n.calls.writes ≡ []) × (length text.old < length n.calls.report) × (size.new ≡ length n.calls.report)) }
+        ensures waiting { result ≡ 12 → IsSomeAnd self.old.value (λ n. n.calls.writes ≢ []) }
+        ensures empty { result ≡ 6 ↔ self.old.value ≡ None }
+        ensures same { result ≢ 0 → (self.new.value ≡ self.old.value) × (text.new ≡ text.old) }
+        ensures same_size { result ≢ 0 → result ≢ 1 → size.new ≡ size.old }
+        ensures bound { (result ≡ 0) ⊎ (result ≡ 1) ⊎ (result ≡ 6) ⊎ (result ≡ 12) }
+    {
+        let Some(mut held) = self.take(alloc) else {
+            return EMPTY;
+        };
+        let status = hand_report(&mut held.calls, text, size);
+        self.put(held);
+        status
+    }
+
+    /// Tells in how many ticks of 10 ms something of the node is due: an event of fewer ticks stores nothing and has no jobs.
+    pub fn due(&mut self, alloc: Global, ticks: &mut u32) -> u32
+        ensures ok { result ≡ 0
+            → IsSomeAnd self.old.value
+            (λ n. IsSomeAnd n.calls.life
+            (λ life. IsIdleNode (node_role node_layers) ⟦<NotedFlash as Flash>⟧.chip life.node ticks.new
+            × IsDueNode (node_role node_layers) ⟦<MeshMachine as Machine>⟧.quiet ⟦<NotedFlash as Flash>⟧.chip life.node ticks.new)) }
+        ensures over { result ≡ 13 → IsSomeAnd self.old.value (λ n. IsOver n.calls) }
+        ensures empty { result ≡ 6 ↔ self.old.value ≡ None }
+        ensures same { self.new.value ≡ self.old.value }
+        ensures same_ticks { result ≢ 0 → ticks.new ≡ ticks.old }
+        ensures bound { (result ≡ 0) ⊎ (result ≡ 6) ⊎ (result ≡ 13) }
+    {
+        let Some(held) = self.take(alloc) else {
+            return EMPTY;
+        };
+        let due = held.calls.due();
+        self.put(held);
+        match due {
+            Some(due) => {
+                *ticks = due;
+                OK
+            }
+            None => OVER,
+        }
+    }
+
+    /// Ends the life of the node, and frees it: none is held then. Where the life ends in order its last line, `end` and an LF, is put into the front
+    /// of `text`, which has at least 4 octets; `size` tells how many it has, and is 0 where a write or the report was left, the flash failed, or the
+    /// node was lost.
+    pub fn close(&mut self, alloc: Global, text: &mut [u8], size: &mut usize) -> u32
+        ensures ok { result ≡ 0 → IsSomeAnd self.old.value (λ n. IsClosedAs n.calls (take size.new text.new)) }
+        ensures freed { result ≡ 0 → self.new.value ≡ None }
+        ensures within { result ≡ 0 → size.new ≤ 4 }
+        ensures length { result ≡ 1 ↔ length text.old < 4 }
+        ensures empty { result ≡ 6 → self.old.value ≡ None }
+        ensures refused { result ≢ 0 → (self.new.value ≡ self.old.value) × (text.new ≡ text.old) × (size.new ≡ size.old) }
+        ensures bound { (result ≡ 0) ⊎ (result ≡ 1) ⊎ (result ≡ 6) }
+    {
+        if text.len() < END.len() {
+            return LENGTH;
+        }
+        let Some(held) = self.take(alloc) else {
+            return EMPTY;
+        };
+        hand_end(&held.calls, text, size);
+        OK
+    }
+}

@@ -1,0 +1,114 @@
+//! What the last phase left, handed out into slices.
+#![tactic(auto)]
+
+ghost use Rattle.std.specs.Prelude.{◌≡◌, ◌≢◌, ◌⊎◌, ◌+◌, ◌<◌, ◌≤◌, [], length, take};
+ghost use Rattle.file_flash.specs.Noted.{Put};
+ghost use Rattle.node_handle.specs.Nodes.{HasNext, IsPassed, IsReported, IsClosedAs, rule_of, status_of};
+
+use crate::status::{LENGTH, LOST, MEMORY, NOTHING, OK, OVER, WAITING, WRONG};
+use called_node::{Called, CalledNode};
+use file_flash::NotedFlash;
+use mesh_machine::MeshMachine;
+
+/// The calls of a node over the writes that its caller makes.
+pub(crate) type Calls = CalledNode<MeshMachine, NotedFlash>;
+
+/// The line of an end.
+pub(crate) const END: [u8; 4] = *b"end\n";
+
+/// Puts octets into the front of a slice, and tells how many they are.
+pub(crate) fn put_octets(told: &[u8], octets: &mut [u8], size: &mut usize)
+    requires room { length told.now ≤ length octets.old }
+    ensures value { take size.new octets.new ≡ told.now }
+    ensures size { size.new ≡ length told.now }
+{
+    octets[..told.len()].copy_from_slice(told);
+    *size = told.len();
+}
+
+/// What a call of a line answers.
+pub(crate) fn answer_line(called: Called, rule: &mut u32) -> u32
+    ensures status { result ≡ status_of called }
+    ensures rule { rule.new ≡ rule_of called rule.old }
+{
+    match called {
+        Called::Happened => OK,
+        Called::Nothing => NOTHING,
+        Called::Wrong(failed) => {
+            *rule = u32::from(failed);
+            WRONG
+        }
+        Called::Waiting => WAITING,
+        Called::Over => OVER,
+        Called::Memory => MEMORY,
+        Called::Lost => LOST,
+    }
+}
+
+/// Hands out the next write.
+pub(crate) fn hand_write(
+    calls: &mut Calls,
+    at: &mut u32,
+    octets: &mut [u8],
+    size: &mut usize,
+) -> u32
+    ensures ok { result ≡ 0 → IsPassed calls.old calls.new (record { at = at.new; octets = take size.new octets.new }) }
+    ensures within { result ≡ 0 → size.new ≤ length octets.old }
+    ensures inside { result ≡ 0 → at.new + size.new ≤ 65536 }
+    ensures length { result ≡ 1
+        → (put : Put) × HasNext calls.old put × (length octets.old < length put.octets) × (size.new ≡ length put.octets) }
+    ensures nothing { result ≡ 10 → calls.old.writes ≡ [] }
+    ensures same { result ≢ 0 → (calls.new ≡ calls.old) × (at.new ≡ at.old) × (octets.new ≡ octets.old) }
+    ensures same_size { result ≢ 0 → result ≢ 1 → size.new ≡ size.old }
+    ensures bound { (result ≡ 0) ⊎ (result ≡ 1) ⊎ (result ≡ 10) }
+{
+    let Some(write) = calls.next_write() else {
+        return NOTHING;
+    };
+    let told = write.octets.as_slice();
+    if told.len() > octets.len() {
+        *size = told.len();
+        return LENGTH;
+    }
+    put_octets(told, octets, size);
+    *at = write.at;
+    calls.pass_write();
+    OK
+}
+
+/// Hands out the report.
+pub(crate) fn hand_report(calls: &mut Calls, text: &mut [u8], size: &mut usize) -> u32
+    ensures ok { result ≡ 0 → IsReported calls.old calls.new (take size.new text.new) × (size.new ≡ length calls.old.report) }
+    ensures length { result ≡ 1
+        → (calls.old.writes ≡ []) × (length text.old < length calls.old.report) × (size.new ≡ length calls.old.report) }
+    ensures waiting { result ≡ 12 → calls.old.writes ≢ [] }
+    ensures same { result ≢ 0 → (calls.new ≡ calls.old) × (text.new ≡ text.old) }
+    ensures same_size { result ≢ 0 → result ≢ 1 → size.new ≡ size.old }
+    ensures bound { (result ≡ 0) ⊎ (result ≡ 1) ⊎ (result ≡ 12) }
+{
+    if calls.next_write().is_some() {
+        return WAITING;
+    }
+    let told = calls.report();
+    if told.len() > text.len() {
+        *size = told.len();
+        return LENGTH;
+    }
+    put_octets(told, text, size);
+    calls.pass_report();
+    OK
+}
+
+/// Hands out what an end tells: its line, where the life ends in order.
+#[tactic(auto, unfolding(report_definitions::specs::Report::words_text))]
+pub(crate) fn hand_end(calls: &Calls, text: &mut [u8], size: &mut usize)
+    requires room { 4 ≤ length text.old }
+    ensures told { IsClosedAs calls.now (take size.new text.new) }
+    ensures size { size.new ≤ 4 }
+{
+    if calls.is_usable() && !calls.has_left() {
+        put_octets(&END, text, size);
+    } else {
+        *size = 0;
+    }
+}
