@@ -21,12 +21,12 @@ CODE = ('-w -Werror -ffunction-sections -fdata-sections -mllvm -no-trap-after-no
         '-mllvm -trap-unreachable -mllvm -disable-machine-licm '
         '-mllvm -disable-postra-machine-licm -mllvm -sink-common-insts=false '
         '--no-default-config -no-canonical-prefixes -fno-crash-diagnostics').split()
-# The module is what is wanted: what is made of it for x86-64 is thrown away.
+# Of a program the module alone is wanted: what is made of it for x86-64 is thrown away.
 KEEPING = '''#!/bin/sh
 for word in "$@"; do
     case "$word" in *.bc|*.ll) cp "$word" '{kept}' ;; esac
 done
-exec '{clang}' "$@" -O0
+exec '{clang}' "$@" {how}
 '''
 
 
@@ -82,9 +82,14 @@ def libraries(place: Place, program: str) -> list[str]:
     return [*words, *(word for it in folders for word in ('-L', f'dependency={it}'))]
 
 
+def made_by_toolchain(place: Place, program: str, triple: str) -> Path:
+    """What the toolchain makes of a program: its object file, or the library."""
+    return place.work / f'{program}.{triple.split("-")[0]}.{"a" if program == LIBRARY else "o"}'
+
+
 def proved(place: Place, program: str, triple: str, toolchain: Path) -> Path:
     """Has the toolchain prove the program and compile it; the object file."""
-    made = place.work / f'{program}.{triple.split("-")[0]}.{"a" if program == LIBRARY else "o"}'
+    made = made_by_toolchain(place, program, triple)
     kind = ['src/lib.rt', '--crate-type', 'staticlib'] if program == LIBRARY else ['src/main.rt']
     words = [str(place.kit / 'bin' / 'rattle'), 'build', '--crate-name', program, *kind,
              *libraries(place, program),
@@ -100,8 +105,8 @@ def proved(place: Place, program: str, triple: str, toolchain: Path) -> Path:
     return made
 
 
-def toolchain_that_keeps(place: Place, kept: Path) -> Path:
-    """The toolchain's folder with a clang that keeps the module which it is given."""
+def toolchain_that_keeps(place: Place, kept: Path, how: str) -> Path:
+    """The toolchain's folder with a clang that keeps the module which it is given, and compiles it so."""
     folder = place.work / 'toolchain'
     shutil.rmtree(folder, ignore_errors=True)
     (folder / 'bin').mkdir(parents=True)
@@ -112,7 +117,7 @@ def toolchain_that_keeps(place: Place, kept: Path) -> Path:
         if it.name != 'clang':
             (folder / 'bin' / it.name).symlink_to(it)
     keeping = folder / 'bin' / 'clang'
-    keeping.write_text(KEEPING.format(kept=kept, clang=place.clang))
+    keeping.write_text(KEEPING.format(kept=kept, clang=place.clang, how=how))
     keeping.chmod(0o755)
     return folder
 
@@ -128,7 +133,7 @@ def text_of(place: Place, module: Path) -> str:
 def by_module(place: Place, target: Target, program: str) -> Path:
     """The object file for a processor that the toolchain doesn't compile for."""
     kept = place.work / f'{program}.x86_64.bc'
-    proved(place, program, X86, toolchain_that_keeps(place, kept))
+    proved(place, program, X86, toolchain_that_keeps(place, kept, '' if program == LIBRARY else '-O0'))
     said = run([str(place.clang), f'--target={target.triple}', '-S', '-emit-llvm', '-x', 'c',
                 '-o', '-', os.devnull])
     text = text_of(place, kept)
@@ -147,6 +152,14 @@ def linked(place: Place, target: Target, name: str, files: list[str], ours: tupl
             '-T', str(HERE / 'chip.ld'), str(HERE / 'chip.c')]
     run([target.compiler, *(chip if target.board else ['-static']), '-O2', '-std=c11', '-Wall', '-Wextra', '-Werror',
          f'-I{BINDINGS}', '-o', str(made), *files, *(str(HERE / it) for it in ours), *([] if target.board else ['-lpthread'])])
+    return made
+
+
+def linked_here(place: Place, name: str, files: list[str]) -> Path:
+    """A program of this machine, with the library for C that the toolchain made of the same module."""
+    made = place.work / name
+    run(['gcc', '-O2', '-std=c11', '-Wall', '-Wextra', '-Werror', f'-I{BINDINGS}', '-o', str(made), *files,
+         str(made_by_toolchain(place, LIBRARY, X86)), str(place.kit / 'c' / 'liblibc_c.a')])
     return made
 
 

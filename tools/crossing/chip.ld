@@ -3,7 +3,7 @@ MEMORY {
     ROM (rx) : ORIGIN = 0x00000000, LENGTH = 4M
     RAM (rwx) : ORIGIN = 0x20000000, LENGTH = 4M
 }
-CHIP_STACK = 64K;
+CHIP_STACK = 512K;
 SECTIONS {
     .text : {
         KEEP(*(.vectors)) *(.text*) *(.rodata*) . = ALIGN(8);
@@ -11,7 +11,7 @@ SECTIONS {
         . = ALIGN(8);
     } > ROM
     .ARM.exidx : { __exidx_start = .; *(.ARM.exidx* .ARM.extab*) __exidx_end = .; } > ROM
-    .stack (NOLOAD) : { . = . + CHIP_STACK; chip_stack_top = .; } > RAM
+    .stack (NOLOAD) : { chip_stack = .; . = . + CHIP_STACK; chip_stack_top = .; } > RAM
     .data : { . = ALIGN(8); chip_data = .; *(.data*) . = ALIGN(8); chip_data_end = .; } > RAM AT > ROM
     chip_data_kept = LOADADDR(.data);
     .bss (NOLOAD) : { . = ALIGN(8); chip_bss = .; *(.bss*) *(COMMON) . = ALIGN(8); chip_bss_end = .; } > RAM

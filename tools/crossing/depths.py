@@ -144,6 +144,9 @@ class Walk:
         changed = way.known
         if step.further and step.further[0] in changed:
             changed = {**changed, step.further[0]: changed[step.further[0]] + step.further[1]}
+        if step.copy:
+            to, place, down = step.copy
+            changed = {name: depth for name, depth in changed.items() if name != to} | ({to: changed[place] + down} if place in changed else {})
         if any(name in changed for name in step.lost):
             changed = {name: depth for name, depth in changed.items() if name not in step.lost}
         if step.goes in (Goes.CALL, Goes.CALL_UNKNOWN):

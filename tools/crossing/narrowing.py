@@ -1,7 +1,8 @@
 """A module that the toolchain made for x86-64 Linux, as one for a processor whose pointers have 32 bits.
 
 Its layouts are places in octets, and stay: a pointer keeps the 8 octets that it had, and its own are the first 4. So no type of a value
-that is moved may be laid out by the compiler anew: each that would be is written out by its places, or refused.
+that is moved may be laid out by the compiler anew: each that would be is written out by its places, or refused. One thread runs there, and no
+interrupt calls the library: so a word that works between threads is an ordinary one.
 """
 import re
 
@@ -30,6 +31,23 @@ BY_PLACE = '''define internal {{ i64, i64 }} @by_place.{name}({taken}) {{
 }}
 declare void @{name}(ptr sret([16 x i8]) align 8, {kinds})
 '''
+
+# What works between threads: where there is one, nothing comes between a load and the store behind it.
+ORDER = r'(?:(?:monotonic|acquire|release|acq_rel|seq_cst) ?){1,2}'
+ACCESS = re.compile(rf'^(?P<head>  (?:%{NAME} = )?(?:load|store)) atomic (?P<what>[^\n]*?) {ORDER}, align', re.M)
+CHANGE = re.compile(rf'^  (?P<to>%[\w.$]+) = atomicrmw (?P<how>add|sub|and|or|xor) ptr (?P<at>[%@]{NAME}), (?P<kind>i\d+) (?P<by>[^ ,\n]+) {ORDER}, '
+                    r'(?P<align>align \d+)$', re.M)
+EXCHANGE = re.compile(rf'^  (?P<to>%[\w.$]+) = cmpxchg (?:weak )?ptr (?P<at>[%@]{NAME}), (?P<kind>i\d+) (?P<due>[^ ,\n]+), (?P=kind) (?P<new>[^ ,\n]+) {ORDER}, '
+                      r'(?P<align>align \d+)$', re.M)
+CHANGED = '''  {to} = load {kind}, ptr {at}, {align}
+  {to}.new = {how} {kind} {to}, {by}
+  store {kind} {to}.new, ptr {at}, {align}'''
+EXCHANGED = '''  {to}.old = load {kind}, ptr {at}, {align}
+  {to}.is = icmp eq {kind} {to}.old, {due}
+  {to}.new = select i1 {to}.is, {kind} {new}, {kind} {to}.old
+  store {kind} {to}.new, ptr {at}, {align}
+  {to}.pair = insertvalue {{ {kind}, i1 }} poison, {kind} {to}.old, 0
+  {to} = insertvalue {{ {kind}, i1 }} {to}.pair, i1 {to}.is, 1'''
 
 
 def _second(first: str, second: str) -> int:
@@ -85,6 +103,13 @@ def _answers(module: str) -> str:
     return module
 
 
+def ordinary(module: str) -> str:
+    """With each access that works between threads as an ordinary one, and each change of a word as a load and a store."""
+    module = ACCESS.sub(r'\g<head> \g<what>, align', module)
+    module = CHANGE.sub(lambda found: CHANGED.format_map(found.groupdict()), module)
+    return EXCHANGE.sub(lambda found: EXCHANGED.format_map(found.groupdict()), module)
+
+
 # Forms whose layout the compiler would choose: none may be left.
 REFUSED = {
     'a pointer made of a number': r'\binttoptr\b',
@@ -92,21 +117,22 @@ REFUSED = {
     'a place by types': r'\bgetelementptr (?:(?:inbounds|nuw|nusw) )*(?!\(?i8\b|\(?\[\d+ x i8\]|inbounds |nuw |nusw )\S+',
     'room by types': r'= alloca (?!\[\d+ x i8\]|i\d+\b|float\b|double\b)\S+',
     'a constant with a pointer': r'^@[^\n]*? (?:constant|global) (?!<\{)[^c\n]*\bptr\b',
-    'a vector': r'<\d+ x (?!i1\b)',
+    'a vector of other than octets': r'^(?!  %\S+ = shufflevector <\d+ x i8> [^<]*<\d+ x i8> [^<]*<\d+ x i32> [^<]*$)[^\n"]*<\d+ x (?!i1\b|i8\b)',
     'instructions of x86-64': r'@llvm\.x86\S*|\basm (?:sideeffect )?"[^"]+"|@__x86\w*',
-    'what works between threads': r'\b(?:atomicrmw|cmpxchg|fence)\b|\batomic\b|@(?:syscall|pthread_\w+)\(',
+    'what works between threads': r'^  (?:%\S+ = )?(?:atomicrmw|cmpxchg|fence|(?:load|store) atomic)\b.*',
+    'a thread, or a wait for one': r'@(?:syscall|sched_yield|pthread_\w+)\(',
     'an answer of C by two registers': r'^declare [^@\n]*\{[^@\n]*@',
 }
 
 
 def narrowed(module: str, said: str) -> str:
-    """The module for another processor, of which clang said the layout."""
+    """The module for another processor, of which clang said the layout: for one thread alone, and no interrupt that calls it."""
     if '"e-' not in said or not re.search(r'"[^"]*-p:32:32', said):
         raise Fault(NOT_BUILT, 'only for pointers of 32 bits, the lowest octet first')
     module = attributes_of_none(head(module, said))
     module = re.sub(r'= ptrtoaddr ptr (\S+) to i64', r'= ptrtoint ptr \1 to i64', module)
     module = re.sub(r'= alloca ptr, align 8', '= alloca [8 x i8], align 8', module)
-    module = _answers(_statics(_loads(module)))
+    module = _answers(_statics(_loads(ordinary(module))))
     # C's caller takes a small result for one that fills its register.
     module = re.sub(r'^define (noundef )?(i8|i16|i1) @(\w+)\(', r'define \1zeroext \2 @\3(', module, flags=re.M)
     for name, form in REFUSED.items():

@@ -14,6 +14,8 @@ from .targets import LIBRARY, PROGRAMS, Target
 WRITTEN = Path(__file__).resolve().with_name('stack.bounds')
 # What the library for C has names of.
 EXPORTED = re.compile(r'main|meshnode_\w+')
+# The rows of a built file, and whose stack each is of: of the library the calls of a node have one of their own.
+ROWS = {LIBRARY: {LIBRARY: re.compile(r'meshnode_(?!node_)\w+'), 'meshnode_node': re.compile(r'meshnode_node_\w+')}}
 # Where a linker is told that the functions of others are, and ours behind them.
 OTHERS, TEXT = 0x1000, 0x100000
 # What runs before and behind `main`, what is of C beside the program, and what stands between functions.
@@ -70,12 +72,13 @@ def written() -> dict[str, tuple[int, int]]:
     return {name: (int(called), int(begun)) for name, called, begun in rows}
 
 
-def deepest(calls: Calls) -> tuple[int, int]:
-    """The bounds of what is called, and of what is begun beside that."""
+def deepest(calls: Calls, called: re.Pattern = EXPORTED) -> tuple[int, int]:
+    """The bounds of what is called by these names, and of what is begun beside that."""
     names, most = calls.code.names, [0, 0]
     for start in entries(calls):
         begun = not EXPORTED.fullmatch(names[start])
-        most[begun] = max(most[begun], calls.bounds[start].octets + calls.code.processor.returns)
+        if begun or called.fullmatch(names[start]):
+            most[begun] = max(most[begun], calls.bounds[start].octets + calls.code.processor.returns)
     return most[0], most[1]
 
 
@@ -91,9 +94,10 @@ def too_deep(name: str, calls: Calls) -> Iterator[str]:
     for start in {it for entry in entries(calls) for it in calls.below(entry)}:
         if calls.functions[start].unbounded:
             yield f'the stack of {name} has no bound: {calls.code.names[start]}'
-    for found, most, what in zip(deepest(calls), written()[name], ('', ' a thread'), strict=True):
-        if found > most:
-            yield f'{name} takes {found:,} octets of stack{what and " in" + what}, and is to take {most:,} at most'
+    for row, called in ROWS.get(name, {name: EXPORTED}).items():
+        for found, most, what in zip(deepest(calls, called), written()[row], ('', ' a thread'), strict=True):
+            if found > most:
+                yield f'{row} takes {found:,} octets of stack{what and " in" + what}, and is to take {most:,} at most'
 
 
 def host_stacks(crates: Path) -> bool:

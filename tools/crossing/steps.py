@@ -32,6 +32,8 @@ class Step:
     """The register gets the place so many octets below the end."""
     further: tuple[str, int] | None = None
     """The place in the register goes so many octets down."""
+    copy: tuple[str, str, int] | None = None
+    """The first register gets the place in the second, so many octets further down; what isn't known where that isn't."""
     lost: tuple[str, ...] = ()
     """The registers get other values."""
     guard: str = ''
@@ -183,6 +185,7 @@ THUMB = _rules(
     (r'mov (r\d+), sp', lambda it: Step(keep=(it[1], 0))),
     (r'add[ws]?(?:\.w)? (r\d+), sp, #(\d+)', lambda it: Step(keep=(it[1], -int(it[2])))),
     (r'sub[ws]?(?:\.w)? (r\d+), sp, #(\d+)', lambda it: Step(keep=(it[1], int(it[2])))),
+    (r'sub[ws]?(?:\.w)? (r\d+), (r\d+), #(\d+)', lambda it: Step(copy=(it[1], it[2], int(it[3])))),
     (r'bfc (r\d+), #0, #(\d+)', lambda it: Step(further=(it[1], 2 ** int(it[2]) - 4))),
     (r'bic(?:\.w)? (r\d+), \1, #(\d+)', lambda it: Step(further=(it[1], int(it[2])))),
     (r'bl ([0-9a-f]+.*)', lambda it: _to(Goes.CALL, it[1])),
@@ -195,7 +198,7 @@ THUMB = _rules(
     (r'tb[bh] .*|ldr(?:\.w)? pc, \[pc.*', lambda _: Step(goes=Goes.SWITCH)),
     (r'bx \w+|mov pc, .*|ldr(?:\.w)? pc, .*', lambda _: Step(goes=Goes.JUMP_UNKNOWN)),
     # A return on a condition: what goes on has the stack as it was.
-    (rf'bx(?:{CONDITIONS}) lr|(?:pop|ldmia)(?:{CONDITIONS})(?:\.w)? .*pc\}}', lambda _: ON),
+    (rf'bx(?:{CONDITIONS}) lr|(?:pop|ldmia)(?:{CONDITIONS})(?:\.w)? .*pc\}}|add(?:{CONDITIONS})(?:\.w)? sp,(?: sp,)? #\d+', lambda _: ON),
     (r'(?:cmp|tst|str|stm|vstr|vstm)[\w.]* .*|ldm[\w.]* sp, .*', lambda _: ON),
     (r'[\w.]+ sp(?:!?,.*)?|[\w.]+ .*\[sp[^]]*\]!|[\w.]+ .*\[sp\], .*', lambda _: UNKNOWN),
     (r'ldrd (r\d+), (r\d+), .*', lambda it: Step(lost=(it[1], it[2]))),

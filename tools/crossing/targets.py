@@ -65,7 +65,7 @@ def _is_there(brought: str) -> bool:
 
 def missing(target: Target, tests: bool) -> list[str]:
     """The packages that aren't installed."""
-    needed = target.needed() | ({target.emulators: target.emulator} if tests else {})
+    needed = target.needed() | ({target.emulators: target.emulator} if tests else {}) | ({'gcc': 'gcc'} if tests and target.board else {})
     return [package for package, brought in needed.items() if not _is_there(brought)]
 
 

@@ -9,7 +9,8 @@ from pathlib import Path
 
 from look.second_node import REPOSITORY
 
-from .building import BINDINGS, HERE, Place, linked
+from .building import BINDINGS, HERE, Place, linked, linked_here
+from .lamps import Lamp, courses, of_kinds, taken, wrong, wrong_examples
 from .stacks import calls_of, entries
 from .targets import Target
 
@@ -25,6 +26,8 @@ exec {emulator} -M {board} -icount shift=0 -nographic -monitor none -serial none
 OF_LINUX = '''#!/bin/sh
 exec {emulator} {program} "$@"
 '''
+# What measured_lamp.c stands in front of.
+MEASURED = (*(f'meshnode_node_{it}' for it in ('open', 'line', 'write', 'report', 'close')), 'rattle_alloc', 'rattle_realloc', 'rattle_dealloc')
 ROWS = REPOSITORY / 'crates' / 'worked_vectors' / 'stdout'
 
 
@@ -93,16 +96,49 @@ def rows_pass(place: Place, target: Target, library: Path) -> bool:
     return _passes([str(emulated(place, target, rows)), str(ROWS)])
 
 
+def bounds_of(target: Target, library: Path) -> dict[str, int]:
+    """The most stack that each call of the library takes."""
+    calls = calls_of(library, f'{target.debian}-')
+    return {calls.code.names[it].removeprefix('meshnode_'): calls.bounds[it].octets for it in entries(calls)}
+
+
 def measured_pass(place: Place, target: Target, library: Path) -> bool:
     """Prints what calls of the library take on the board, and whether none goes deeper than its bound."""
     measured = linked(place, target, 'measured', [str(HERE / 'measured.c'), str(library)], ours=())
     done = subprocess.run([str(emulated(place, target, measured))], capture_output=True, text=True, check=False)
-    calls = calls_of(library, f'{target.debian}-')
-    bounds = {calls.code.names[it].removeprefix('meshnode_'): calls.bounds[it].octets for it in entries(calls)}
+    bounds = bounds_of(target, library)
     holds = not done.returncode
     for name, instructions, deep in map(str.split, done.stdout.splitlines()):
         print(f'{name}: {int(instructions):,} instructions; {int(deep):,} octets of stack, at most {bounds[name]:,} of them its own')
         holds = holds and int(deep) <= bounds[name] + OF_CALLER
+    return holds
+
+
+def lamp_pass(place: Place, target: Target, library: Path, every: int) -> bool:
+    """Whether a lamp on the board tells and leaves what it does on this machine, wherever its power goes, or at one in so many places."""
+    ours = Lamp(emulated(place, target, linked(place, target, 'lamp', [str(HERE / 'lamp.c'), str(library)], ours=())), place.work)
+    theirs = Lamp(linked_here(place, 'lamp-here', [str(HERE / 'lamp.c')]), place.work)
+    found = [*wrong_examples(ours, theirs), *(line for course in courses(theirs) for line in wrong(course, ours, theirs, every))]
+    for line in found:
+        print(f'lamp: {line}')
+    return not found
+
+
+def measured_lamp_pass(place: Place, target: Target, library: Path) -> bool:
+    """Prints what calls of a node take on the board, and whether none goes deeper than its bound, and the heap is given back."""
+    measured = linked(place, target, 'measured_lamp', [str(HERE / 'lamp.c'), str(HERE / 'measured_lamp.c'), str(library),
+                                                       *(f'-Wl,--wrap={it}' for it in MEASURED)], ours=())
+    found, bounds = taken(Lamp(emulated(place, target, measured), place.work)), bounds_of(target, library)
+    holds = found.left == 0
+    for name in dict.fromkeys(call.name for call in found.calls):
+        calls, bound = found.of(name), bounds[f'node_{name}']
+        instructions, deep, heap = (max(getattr(call, of) for call in calls) for of in ('instructions', 'stack', 'heap'))
+        print(f'node_{name}: at most {instructions:,} instructions; {deep:,} octets of stack, at most {bound:,} of them its own; '
+              f'{heap:,} of the heap at once')
+        holds = holds and deep <= bound + OF_CALLER
+    for kind, middle, most in of_kinds(found.of('line')):
+        print(f'node_line, {kind}: {middle:,} instructions, at most {most:,}')
+    print(f'heap: the largest block {found.largest:,} octets; {found.left:,} are left', flush=True)
     return holds
 
 

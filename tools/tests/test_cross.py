@@ -1,4 +1,5 @@
 """Programs for another processor: our C beside the toolchain's own, and a module that is moved."""
+import ctypes
 import re
 import shutil
 import subprocess
@@ -79,6 +80,31 @@ start:
 }
 declare { i64, i64 } @rattle_alloc(i64, i64)
 attributes #0 = { nounwind "probe-stack"="inline-asm" "target-cpu"="x86-64-v2" }
+'''
+# What works between threads, and a vector of octets.
+WORDS = '''  %o = load atomic i64, ptr %room seq_cst, align 8
+  store atomic i64 %o, ptr %room seq_cst, align 8
+  %q = atomicrmw add ptr %room, i64 %o seq_cst, align 8
+  %x = cmpxchg ptr %room, i64 %o, i64 7 seq_cst seq_cst, align 8
+  %v = load <16 x i8>, ptr %room, align 1, !noundef !1
+  %w = shufflevector <16 x i8> %v, <16 x i8> zeroinitializer, <16 x i32> zeroinitializer
+'''
+CHANGES = '''target triple = "x86_64-unknown-linux-gnu"
+define i64 @exchanged(ptr %p, i64 %due, i64 %new) {
+  %x = cmpxchg ptr %p, i64 %due, i64 %new seq_cst seq_cst, align 8
+  %r = extractvalue { i64, i1 } %x, 0
+  ret i64 %r
+}
+define i64 @is_exchanged(ptr %p, i64 %due, i64 %new) {
+  %x = cmpxchg ptr %p, i64 %due, i64 %new seq_cst seq_cst, align 8
+  %is = extractvalue { i64, i1 } %x, 1
+  %r = zext i1 %is to i64
+  ret i64 %r
+}
+define i64 @added(ptr %p, i64 %due, i64 %new) {
+  %r = atomicrmw add ptr %p, i64 %new seq_cst, align 8
+  ret i64 %r
+}
 '''
 
 
@@ -174,11 +200,41 @@ class Narrowed(unittest.TestCase):
         self.assertRegex(found, r'store ptr %narrow\.\d\.b, ptr %narrow\.\d\.p, align 8')
         self.assertNotRegex(found, r'(load|store) \{')
 
+    def test_what_works_between_threads_is_ordinary(self) -> None:
+        """And a vector of octets lies in memory as it did."""
+        found = narrowing.narrowed(LIBRARY.replace('  %n = ptr', WORDS + '  %n = ptr'), OF_CHIP)
+        for line in ('  %o = load i64, ptr %room, align 8\n', '  store i64 %o, ptr %room, align 8\n',
+                     '  %q = load i64, ptr %room, align 8\n  %q.new = add i64 %q, %o\n  store i64 %q.new, ptr %room, align 8\n',
+                     '  %x.is = icmp eq i64 %x.old, %o\n  %x.new = select i1 %x.is, i64 7, i64 %x.old\n',
+                     '  %v = load <16 x i8>, ptr %room, align 1, !noundef !1\n'):
+            self.assertIn(line, found)
+        self.assertNotRegex(found, 'atomic|cmpxchg|seq_cst')
+
+    @unittest.skipUnless(shutil.which('gcc') and shutil.which('rt'), 'no gcc or no toolchain')
+    def test_an_ordinary_change_is_that_of_one_thread(self) -> None:
+        """Each leaves and answers what it did."""
+        made = []
+        with tempfile.TemporaryDirectory() as folder:
+            for name, text in (('theirs', CHANGES), ('ours', narrowing.ordinary(CHANGES))):
+                module, library = Path(folder) / f'{name}.ll', Path(folder) / f'{name}.so'
+                module.write_text(text)
+                subprocess.run([building.kit() / 'toolchain' / 'bin' / 'clang', '-w', '-c', '-fPIC', module, '-o', f'{module}.o'], check=True)
+                subprocess.run(['gcc', '-shared', '-o', library, f'{module}.o'], check=True)
+                made.append(ctypes.CDLL(str(library)))
+        for was, due, new in ((5, 5, 9), (5, 6, 9), (2 ** 64 - 1, 2 ** 64 - 1, 0), (0, 2 ** 32, 1)):
+            words = [ctypes.c_uint64(was) for _ in made]
+            found = [[call(ctypes.byref(word), ctypes.c_uint64(due), ctypes.c_uint64(new)) for call in (it.exchanged, it.is_exchanged, it.added)]
+                     for it, word in zip(made, words, strict=True)]
+            self.assertEqual(found[0], found[1])
+            self.assertEqual(words[0].value, words[1].value)
+
     def test_what_is_refused(self) -> None:
         place = '  %p = getelementptr inbounds i8, ptr %room, i64 8\n'
         for line in ('%x = inttoptr i64 %n to ptr', '%x = getelementptr inbounds ptr, ptr %room, i64 1', '%x = alloca { i64, ptr }, align 8',
                      '%x = load [2 x ptr], ptr %room', '%x = load { i8, { ptr, i8 } }, ptr %room', '%x = load <2 x i64>, ptr %room',
-                     '%x = atomicrmw add ptr %room, i64 1 seq_cst', '%x = load atomic i64, ptr %room seq_cst, align 8',
+                     '%x = atomicrmw max ptr %room, i64 1 seq_cst, align 8', 'fence seq_cst', '%x = load atomic i64, ptr %room unordered, align 8',
+                     '%x = cmpxchg ptr %room, ptr %room, ptr null seq_cst seq_cst, align 8', '%x = call i32 @pthread_join(i64 1, ptr null)',
+                     '%x = call i32 @sched_yield()', '%x = bitcast <4 x i32> zeroinitializer to <16 x i8>',
                      '%x = call i64 @llvm.x86.rdtsc()', '%x = call i32 asm "nop", ""()'):
             with self.subTest(line=line), self.assertRaises(Fault):
                 narrowing.narrowed(LIBRARY.replace(place, f'{place}  {line}\n'), OF_CHIP)
