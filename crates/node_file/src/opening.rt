@@ -63,11 +63,12 @@ fn finish_making<R: Files>(
 /// Opens a file under its lock, and not under a number of the standard streams, even where one of these is closed: what is told there would be
 /// written over the file, and what is read there would be the file.
 fn locked_file<R: Files<File = File>>(files: &R, path: &str) -> Result<File, OpenFault> {
-    // A file is opened under the lowest number that is free. So while these are open, the numbers of the three streams are taken.
+    // A file is opened under the lowest number that is free. So while these are open, the numbers of the three streams are taken. A folder gives
+    // no octets to who reads one of these numbers meanwhile, as the thread that reads standard input may.
     let _below = [
-        fs::open(files, path)?,
-        fs::open(files, path)?,
-        fs::open(files, path)?,
+        fs::open(files, "/")?,
+        fs::open(files, "/")?,
+        fs::open(files, "/")?,
     ];
     let file = OpenOptions::new().read(true).write(true).open(files, path)?;
     match file.try_lock() {
