@@ -1,4 +1,3 @@
-pub mod Jobs
 pub mod KeyName
 pub mod Kind
 pub mod Printed

@@ -166,46 +166,4 @@ impl Event {
             Event::LowPower(LowPowerEvent::List(_)) => Kind::List,
         }
     }
-
-    /// The same event once more. It takes no memory.
-    pub fn copied(&self) -> Event
-        ensures value { result ≡ self.now }
-    {
-        match self {
-            Event::Net(octets) => Event::Net(octets.copied()),
-            Event::Bcn(octets) => Event::Bcn(octets.copied()),
-            Event::Send {
-                element,
-                dst,
-                ttl,
-                key,
-                payload,
-            } => Event::Send {
-                element: *element,
-                dst: *dst,
-                ttl: *ttl,
-                key: *key,
-                payload: payload.copied(),
-            },
-            Event::Raw { dst, ttl, tpdu } => Event::Raw {
-                dst: *dst,
-                ttl: *ttl,
-                tpdu: tpdu.copied(),
-            },
-            Event::Tick(ticks) => Event::Tick(*ticks),
-            Event::Begin(message) => Event::Begin(message.copied()),
-            Event::Kept {
-                lpn,
-                fsn,
-                name,
-                pdu,
-            } => Event::Kept {
-                lpn: *lpn,
-                fsn: *fsn,
-                name: *name,
-                pdu: pdu.copied(),
-            },
-            Event::LowPower(event) => Event::LowPower(*event),
-        }
-    }
 }

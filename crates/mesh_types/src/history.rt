@@ -2,13 +2,13 @@
 #![tactic(auto)]
 
 use crate::answers::Answer;
-use crate::events::Event;
 use crate::jobs::{Job, Jobs};
 use crate::lines::Outcome;
+use crate::told::{Told, ToldEvent};
 use std::mem::size_of;
 
-// An entry takes at most 23,940 octets, with 160 jobs. A life keeps up to 8,192 entries, which thus stay below 200,000,000.
-const _: () = prove!(size_of::<Entry>() <= 900);
+// An entry takes this much memory alone: a life keeps up to 8,192 entries, which thus stay below 4,000,000 octets.
+const _: () = prove!(size_of::<Entry>() <= 480);
 
 const _: () = prove!(size_of::<Job>() <= 144);
 
@@ -19,14 +19,14 @@ pub struct Entry {
     pub bearer: u8,
     /// The number of this entry among those of its bearer in this life, from 1 on.
     pub number: u32,
-    /// The event.
-    pub event: Event,
+    /// The event, of which its kind alone is kept when the program runs.
+    pub event: ToldEvent,
     /// The number of refills that were stored since the entry before.
     pub fills: u32,
     /// The answer.
     pub answer: Answer,
-    /// The jobs.
-    pub jobs: Jobs,
+    /// The jobs, for contracts alone.
+    pub jobs: Told<Jobs>,
 }
 
 /// A job that was done.

@@ -2,7 +2,6 @@
 #![tactic(auto)]
 
 ghost use Rattle.std.specs.Prelude.{◌≡◌, ◌<◌, ◌≤◌, ◌↔◌, [], ◌∷◌, ◌++◌, length, IfOk, IsTrue};
-ghost use Rattle.mesh_types.specs.Jobs.{IsControl, IsMessage, IsSent};
 
 use mesh_base::address::Address;
 use mesh_base::fields::{NetFields, NetMaterial};
@@ -34,24 +33,6 @@ pub struct Segment {
     pub tpdu: Octets<16>,
     /// Whether it is the first segment of all, which goes under the pair of SeqAuth; every other draws a pair.
     pub first: bool,
-}
-
-impl Segment {
-    /// The same segment once more. It takes no memory.
-    pub fn copied(&self) -> Segment
-        ensures value { result ≡ self.now }
-    {
-        Segment {
-            material: self.material,
-            name: self.name,
-            ttl: self.ttl,
-            dst: self.dst,
-            seg_o: self.seg_o,
-            seg_n: self.seg_n,
-            tpdu: self.tpdu.copied(),
-            first: self.first,
-        }
-    }
 }
 
 /// One job of an entry. Where it answers a Poll whose answer is to be kept, `keep` is the Low Power node and the FSN.
@@ -126,111 +107,6 @@ pub enum Job {
     Beacon([u8; 22]),
 }
 
-impl Job {
-    /// The same job once more. It takes no memory.
-    pub fn copied(&self) -> Job
-        ensures value { result ≡ self.now }
-    {
-        match self {
-            Job::Relay { material, fields } => Job::Relay {
-                material: *material,
-                fields: fields.copied(),
-            },
-            Job::Control { .. } => self.copied_control(),
-            Job::Message { .. } => self.copied_message(),
-            Job::Sent { .. } => self.copied_sent(),
-            Job::Segment(segment) => Job::Segment(segment.copied()),
-            Job::Repeat { name, pdu } => Job::Repeat {
-                name: *name,
-                pdu: pdu.copied(),
-            },
-            Job::Beacon(beacon) => Job::Beacon(*beacon),
-        }
-    }
-
-    // The same control PDU once more.
-    fn copied_control(&self) -> Job
-        requires control { IsControl self.now }
-        ensures value { result ≡ self.now }
-    {
-        let Job::Control {
-            material,
-            ttl,
-            src,
-            dst,
-            tpdu,
-            keep,
-        } = self
-        else {
-            unreachable!()
-        };
-        Job::Control {
-            material: *material,
-            ttl: *ttl,
-            src: *src,
-            dst: *dst,
-            tpdu: tpdu.copied(),
-            keep: *keep,
-        }
-    }
-
-    // The same access message with its payload once more.
-    fn copied_message(&self) -> Job
-        requires message { IsMessage self.now }
-        ensures value { result ≡ self.now }
-    {
-        let Job::Message {
-            net,
-            material,
-            key,
-            ttl,
-            src,
-            dst,
-            payload,
-            keep,
-        } = self
-        else {
-            unreachable!()
-        };
-        Job::Message {
-            net: *net,
-            material: *material,
-            key: *key,
-            ttl: *ttl,
-            src: *src,
-            dst: *dst,
-            payload: payload.copied(),
-            keep: *keep,
-        }
-    }
-
-    // The same access message whose payload is that of its event once more.
-    fn copied_sent(&self) -> Job
-        requires sent { IsSent self.now }
-        ensures value { result ≡ self.now }
-    {
-        let Job::Sent {
-            net,
-            material,
-            key,
-            ttl,
-            src,
-            dst,
-        } = self
-        else {
-            unreachable!()
-        };
-        Job::Sent {
-            net: *net,
-            material: *material,
-            key: *key,
-            ttl: *ttl,
-            src: *src,
-            dst: *dst,
-        }
-    }
-}
-
 /// The jobs of an entry in their order, at most `JOBS`. They take the memory of so many as they are, as far as the allocator gives the rest back;
 /// no clause says so. A clause sees them as the list.
 #[derive(Drop)]
@@ -283,17 +159,6 @@ impl Jobs {
         ensures length { length result.now ≤ JOBS }
     {
         self.table.as_slice()
-    }
-
-    /// The same jobs once more, in the memory of a draft of none.
-    pub fn copied(&self, mut draft: JobDraft) -> Jobs
-        requires empty { draft ≡ [] }
-        ensures value { result ≡ self.now }
-    {
-        for job in self.as_slice() {
-            draft.push(job.copied());
-        }
-        draft.finish()
     }
 }
 

@@ -8,6 +8,7 @@
 //! - `lines`: what became of a job
 //! - `history`: the entries of a life and the lines of its bearers
 //! - `report`: the lines of the report
+//! - `told`: what contracts alone see of a value that was there
 #![tactic(auto)]
 
 pub mod answers;
@@ -17,3 +18,4 @@ pub mod jobs;
 pub mod lines;
 pub mod low_power;
 pub mod report;
+pub mod told;

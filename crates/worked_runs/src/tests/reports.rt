@@ -11,6 +11,7 @@ use mesh_types::events::Event;
 use mesh_types::history::{Entry, Sent};
 use mesh_types::jobs::JobDraft;
 use mesh_types::lines::Outcome;
+use mesh_types::told::{Told, ToldEvent};
 use report_writer::WriteStop;
 use std::alloc::{AllocError, Global};
 
@@ -22,10 +23,10 @@ fn phase(alloc: Global) -> Result<PhaseLog, AllocError>
     entries.push(Entry {
         bearer: 1,
         number: 2,
-        event: Event::Tick(5),
+        event: ToldEvent::of(&Event::Tick(5)),
         fills: 0,
         answer: Answer::Ticked { now: 7 },
-        jobs: JobDraft::new(alloc)?.finish(),
+        jobs: Told::of(&JobDraft::new(alloc)?.finish()),
     })?;
     let mut lines = Vec::new(alloc);
     lines.push(Sent {
