@@ -19,7 +19,7 @@ ghost use Rattle.store_definitions.specs.Config.{Config};
 
 use crate::plan::{OwnPlan, PduPlan, TickPlan};
 use mesh_hearing::Keys;
-use mesh_jobs::{begin_jobs, own_jobs, pdu_jobs, tick_jobs};
+use mesh_jobs::{OwnBasis, begin_jobs, own_jobs, pdu_jobs, tick_jobs};
 use mesh_types::events::Event;
 use mesh_types::jobs::{JobDraft, Jobs};
 use node_records::Persist;
@@ -83,14 +83,12 @@ pub fn jobs_of_own(draft: JobDraft, p: &Persist, keys: &Keys, event: &Event, pla
     let nets = keys.nets();
     match event {
         Event::Begin(message) => begin_jobs(draft, p, nets, message, &plan.answer),
-        _ => own_jobs(
-            draft,
-            p,
-            nets,
-            keys.apps(),
-            event,
-            plan.befriended,
-            &plan.answer,
-        ),
+        _ => {
+            let basis = OwnBasis {
+                event,
+                befriended: plan.befriended,
+            };
+            own_jobs(draft, p, nets, keys.apps(), &basis, &plan.answer)
+        }
     }
 }

@@ -21,9 +21,9 @@ use app_keys::AppKeys;
 use mesh_base::address::Address;
 use mesh_base::octets::Octets;
 use mesh_base::pair::Name;
-use mesh_jobs::send_keys;
+use mesh_jobs::{AskedMessage, send_keys};
 use mesh_types::answers::Answer;
-use mesh_types::events::{Event, SendKey};
+use mesh_types::events::Event;
 use node_friends::{NodeFriends, OwnShort, friends_law};
 use node_records::Persist;
 
@@ -32,18 +32,16 @@ fn send_short(
     friends: &mut NodeFriends,
     p: &Persist,
     apps: &AppKeys,
-    element: u8,
-    dst: Address,
-    ttl: u8,
-    key: &SendKey,
+    m: &AskedMessage<'_>,
     payload: &Octets<380>,
 )
     requires apps { apps.now ≡ record { apps = p.now.apps; nets = p.now.nets } }
-    requires send { IsSend (config_in p.now) (E.Send element dst ttl key.now payload.now) }
+    requires send { IsSend (config_in p.now) (E.Send m.now.element m.now.dst m.now.ttl m.now.key.now payload.now) }
     ensures state { friends.new
-        ≡ fold after friends.old (send_calls (config_in p.now) (E.Send element dst ttl key.now payload.now)) }
+        ≡ fold after friends.old
+        (send_calls (config_in p.now) (E.Send m.now.element m.now.dst m.now.ttl m.now.key.now payload.now)) }
 {
-    let Some((net, upper)) = send_keys(p, apps, key) else {
+    let Some((net, key)) = send_keys(p, apps, m.key) else {
         return;
     };
     let Some(payload) = short_payload(payload.as_slice()) else {
@@ -51,10 +49,10 @@ fn send_short(
     };
     friends.send(&OwnShort {
         net,
-        key: upper,
-        ttl,
-        src: p.element_address(element),
-        dst,
+        key,
+        ttl: m.ttl,
+        src: p.element_address(m.element),
+        dst: m.dst,
         payload,
     });
 }
@@ -92,7 +90,13 @@ pub fn store_send(
     };
     let befriended = friends.is_befriended(*dst);
     if let Answer::Planned = answer {
-        send_short(friends, p, apps, *element, *dst, *ttl, key, payload);
+        let message = AskedMessage {
+            element: *element,
+            dst: *dst,
+            ttl: *ttl,
+            key,
+        };
+        send_short(friends, p, apps, &message, payload);
     }
     befriended
 }

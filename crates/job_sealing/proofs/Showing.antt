@@ -1,5 +1,5 @@
 -- What a line shows, up to equations of the job and of the outcome.
-use Rattle.std.proofs.Common.{◌≡◌, ◌∙◌, ℕ, ◌<◌, ◌≤◌, Bool, true, false, List, [], ◌∷◌, length, Option, ap, refl, subst, sym}
+use Rattle.std.proofs.Common.{◌≡◌, ◌∙◌, ℕ, ◌<◌, ◌≤◌, Bool, true, false, List, [], ◌∷◌, length, Option, Some, ap, refl, subst, sym}
 use Rattle.std.specs.Prelude.{not, if◌then◌else◌}
 use Rattle.std.specs.Option.{option_to_list}
 use Rattle.mesh_base.specs.declared.address.Address.{Address}
@@ -15,6 +15,9 @@ use Rattle.mesh_types.specs.declared.jobs.Job.{Job}
 use Rattle.mesh_types.specs.declared.jobs.Segment.{Segment}
 use Rattle.mesh_types.specs.declared.lines.Outcome.{Outcome}
 use Rattle.run_definitions.specs.Lines.{Shows, after_line, drawn_of, is_late, segment_outcome, shows_late, shows_seg, shows_sent, shows_sent_long}
+
+pub some_is : {A : Type 0} {a b : A} → Some a ≡ Some b → a ≡ b
+some_is e = cc
 
 pub shown : (event : Event) (job job' : Job) (o o' : Outcome) → job ≡ job' → o ≡ o' → Shows event job' o' → Shows event job o
 shown event job job' o o' j e h = subst (λ x. Shows event x o) (sym j) (subst (λ x. Shows event job' x) (sym e) h)

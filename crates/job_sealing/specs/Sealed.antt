@@ -1,11 +1,11 @@
 -- What the kinds of lines show, in terms of the values that the code seals from.
-use Rattle.std.specs.Prelude.{◌≡◌, ℕ, ◌^◌, ◌<◌, ◌≤◌, false, Option, List, length}
+use Rattle.std.specs.Prelude.{◌≡◌, ℕ, ◌^◌, ◌<◌, ◌≤◌, false, Option, None, Some, List, length}
 use Rattle.std.specs.Option.{option_to_list}
+use Rattle.mesh_base.specs.declared.pair.Pair.{Pair}
 use Rattle.mesh_types.specs.declared.events.Event.TheVariants as E
 use Rattle.mesh_types.specs.declared.jobs.Job.{Job}
 use Rattle.mesh_types.specs.declared.jobs.Job.TheVariants as J
 use Rattle.run_definitions.specs.Lines.{Shows, after_line, drawn_of}
-use Rattle.std.specs.Prelude.{Some}
 use Rattle.layer_definitions.specs.Network.{net_text}
 use Rattle.mesh_types.specs.declared.events.Event.{Event}
 use Rattle.mesh_types.specs.declared.lines.Outcome.{Outcome}
@@ -22,6 +22,14 @@ pub record IsAccess (a : Access) : Type 0 where
   pub key : IsUpperKey a.key
   pub seq : a.pair.seq < 2 ^ 24
   pub ttl : a.ttl < 2 ^ 7
+
+-- that of a job, with the pair drawn for it
+abbrev pub access_in : Job → Pair → Option Access
+access_in (J.Message net material key ttl src dst payload keep) pair =
+    Some (record { net = net; material = material; key = key; pair = pair; ttl = ttl; src = src; dst = dst })
+access_in (J.Sent net material key ttl src dst) pair =
+    Some (record { net = net; material = material; key = key; pair = pair; ttl = ttl; src = src; dst = dst })
+access_in _ pair = None
 
 -- the octets of its network PDU where it goes unsegmented
 abbrev pub message_text : Access → List ℕ → List ℕ

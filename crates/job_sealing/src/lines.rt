@@ -10,7 +10,7 @@ ghost use Rattle.run_definitions.specs.Lines.{Shows, after_line, drawn_of, is_dr
 ghost use Rattle.run_definitions.specs.Order.{is_outside};
 ghost use Rattle.run_definitions.specs.Seals.{own_fields};
 ghost use Rattle.machine_contract.specs.Ranges.{IsEvent, IsJob};
-ghost use Rattle.job_sealing.specs.Sealed.{IsAccess, IsMessageJob, IsPayloadOf, IsSentJob, IsSentLine};
+ghost use Rattle.job_sealing.specs.Sealed.{IsAccess, IsMessageJob, IsPayloadOf, IsSentJob, IsSentLine, access_in};
 
 use crate::kept::KeptSeals;
 use crate::messages::{Access, UNSEGMENTED, long_line, short_line};
@@ -82,7 +82,17 @@ pub fn drawn_line(kept: &mut KeptSeals, event: &Event, job: &Job, pair: Pair) ->
             dst,
             tpdu,
             keep,
-        } => control_line(kept, material, pair, *ttl, *src, *dst, tpdu, keep),
+        } => {
+            let control = ControlPdu {
+                material,
+                pair,
+                ttl: *ttl,
+                src: *src,
+                dst: *dst,
+                tpdu,
+            };
+            control_line(kept, &control, keep)
+        }
         Job::Message { .. } => message_line(kept, job, pair),
         Job::Sent { .. } => send_line(kept, event, job, pair),
         Job::Segment(segment) => Line {
@@ -90,6 +100,40 @@ pub fn drawn_line(kept: &mut KeptSeals, event: &Event, job: &Job, pair: Pair) ->
             next: None,
         },
         Job::Relay { .. } | Job::Repeat { .. } | Job::Beacon(_) => unreachable!(),
+    }
+}
+
+/// The access message of a job that has one, with the pair drawn for it.
+fn access_of(job: &Job, pair: Pair) -> Option<Access>
+    ensures { result ≡ access_in job.now pair }
+{
+    match job {
+        Job::Message {
+            net,
+            material,
+            key,
+            ttl,
+            src,
+            dst,
+            ..
+        }
+        | Job::Sent {
+            net,
+            material,
+            key,
+            ttl,
+            src,
+            dst,
+        } => Some(Access {
+            net: *net,
+            material: *material,
+            key: *key,
+            pair,
+            ttl: *ttl,
+            src: *src,
+            dst: *dst,
+        }),
+        _ => None,
     }
 }
 
@@ -103,27 +147,11 @@ fn message_line(kept: &mut KeptSeals, job: &Job, pair: Pair) -> Line
     ensures own { IfSome result.next (λ e. is_outside e ≡ false) }
     ensures range { (elements : ℕ) → IfSome result.next (IsEvent elements) }
 {
-    let Job::Message {
-        net,
-        material,
-        key,
-        ttl,
-        src,
-        dst,
-        payload,
-        keep,
-    } = job
-    else {
+    let Job::Message { payload, keep, .. } = job else {
         unreachable!()
     };
-    let access = Access {
-        net: *net,
-        material: *material,
-        key: *key,
-        pair,
-        ttl: *ttl,
-        src: *src,
-        dst: *dst,
+    let Some(access) = access_of(job, pair) else {
+        unreachable!()
     };
     if payload.as_slice().len() <= UNSEGMENTED {
         short_line(kept, &access, payload.as_slice(), keep)
@@ -142,25 +170,8 @@ fn send_line(kept: &mut KeptSeals, event: &Event, job: &Job, pair: Pair) -> Line
     ensures own { IfSome result.next (λ e. is_outside e ≡ false) }
     ensures range { (elements : ℕ) → IfSome result.next (IsEvent elements) }
 {
-    let Job::Sent {
-        net,
-        material,
-        key,
-        ttl,
-        src,
-        dst,
-    } = job
-    else {
+    let Some(access) = access_of(job, pair) else {
         unreachable!()
-    };
-    let access = Access {
-        net: *net,
-        material: *material,
-        key: *key,
-        pair,
-        ttl: *ttl,
-        src: *src,
-        dst: *dst,
     };
     sent_line(kept, event, &access)
 }
@@ -206,44 +217,58 @@ fn relayed(kept: &mut KeptSeals, material: &NetMaterial, fields: &NetFields) -> 
     }
 }
 
-/// A control PDU of this node.
-fn control_line(
-    kept: &mut KeptSeals,
-    material: &NetMaterial,
+/// A control PDU of this node, with the pair drawn for it.
+#[derive(Drop)]
+struct ControlPdu<'a> {
+    /// The credentials that it goes under.
+    material: &'a NetMaterial,
+    /// Its IV Index and SEQ.
     pair: Pair,
+    /// TTL, 7 bits.
     ttl: u8,
+    /// SRC.
     src: Address,
+    /// DST.
     dst: Address,
-    tpdu: &Octets<16>,
-    keep: &Option<(Address, bool)>,
-) -> Line
-    requires nid { material.now.nid < 2 ^ 7 }
-    requires ttl { ttl < 2 ^ 7 }
-    requires least { 1 ≤ length tpdu.now }
-    requires most { length tpdu.now ≤ 12 }
-    requires pair { pair.seq < 2 ^ 24 }
+    /// The lower transport PDU, 1 to 12 octets.
+    tpdu: &'a Octets<16>,
+}
+
+/// The line of a control PDU; where it answers a Poll, its octets are kept.
+fn control_line(kept: &mut KeptSeals, c: &ControlPdu<'_>, keep: &Option<(Address, bool)>) -> Line
+    requires nid { c.now.material.now.nid < 2 ^ 7 }
+    requires ttl { c.now.ttl < 2 ^ 7 }
+    requires least { 1 ≤ length c.now.tpdu.now }
+    requires most { length c.now.tpdu.now ≤ 12 }
+    requires pair { c.now.pair.seq < 2 ^ 24 }
     ensures value { result.outcome
-        ≡ O.Ctl pair ttl src dst tpdu.now (net_text material.now (own_fields pair true ttl src dst tpdu.now)) }
+        ≡ O.Ctl c.now.pair c.now.ttl c.now.src c.now.dst c.now.tpdu.now
+        (net_text c.now.material.now (own_fields c.now.pair true c.now.ttl c.now.src c.now.dst c.now.tpdu.now)) }
     ensures next { option_to_list result.next
-        ≡ kept_events keep.now src pair (net_text material.now (own_fields pair true ttl src dst tpdu.now)) }
+        ≡ kept_events keep.now c.now.src c.now.pair
+        (net_text c.now.material.now (own_fields c.now.pair true c.now.ttl c.now.src c.now.dst c.now.tpdu.now)) }
 {
     let fields = NetFields {
-        iv: pair.iv,
+        iv: c.pair.iv,
         ctl: true,
-        ttl,
-        seq: pair.seq,
-        src,
-        dst,
-        tpdu: tpdu.copied(),
+        ttl: c.ttl,
+        seq: c.pair.seq,
+        src: c.src,
+        dst: c.dst,
+        tpdu: c.tpdu.copied(),
     };
-    let pdu = kept.seal(material, &fields);
+    let pdu = kept.seal(c.material, &fields);
+    let name = Name {
+        src: c.src,
+        pair: c.pair,
+    };
     Line {
-        next: kept_event(keep, Name { src, pair }, &pdu),
+        next: kept_event(keep, name, &pdu),
         outcome: Outcome::Ctl {
-            pair,
-            ttl,
-            src,
-            dst,
+            pair: c.pair,
+            ttl: c.ttl,
+            src: c.src,
+            dst: c.dst,
             tpdu: fields.tpdu,
             pdu,
         },

@@ -24,7 +24,7 @@ ghost use Rattle.event_definitions.specs.Answers.{cached_name, is_before_cache};
 ghost use Rattle.event_definitions.specs.History.{Past, ticks_after};
 
 use crate::again::put_reserved;
-use crate::lower::{accepted_part, hear_low};
+use crate::lower::{Before, accepted_part, hear_low};
 use crate::network::network_row;
 use crate::own::acknowledge;
 use crate::tables::Tables;
@@ -32,7 +32,7 @@ use early_reading::{Known, read_unless};
 use mesh_base::address::Address;
 use mesh_base::fields::Heard;
 use mesh_base::pair::Name;
-use mesh_reading::{HeardPdu, Keys, NetReading, Opened};
+use mesh_reading::{HeardPdu, NetReading, Opened};
 use mesh_types::answers::Answer;
 use node_limits::MESSAGE_CACHE;
 use node_records::Persist;
@@ -89,26 +89,20 @@ impl Hearing {
 }
 
 // From the lower transport layer on.
-fn hear_transport(
-    keys: &Keys,
-    p: &Persist,
-    again: &[Name],
-    parts: &mut Parts,
-    now: u64,
-    reading: NetReading,
-) -> Hearing
-    requires fit { keys.now ≡ held_in (config_in p.now) }
-    requires time { now ≤ 2 ^ 48 }
-    ensures value { (past : Past) → StandsBelow past p.now parts.old again.now now
+fn hear_transport(before: &Before<'_>, parts: &mut Parts, reading: NetReading) -> Hearing
+    requires fit { before.now.keys.now ≡ held_in (config_in before.now.p.now) }
+    requires time { before.now.ticks ≤ 2 ^ 48 }
+    ensures value { (past : Past) → StandsBelow past before.now.p.now parts.old before.now.again.now before.now.ticks
         → IsTransportAs past (reading_of reading) result }
     ensures reading { reading_in result.pdu ≡ Some reading }
     ensures late { is_late result.answer ≡ true }
     ensures parts { parts.new
-        ≡ fold after parts.old (message_calls now (config_in p.now) (insight_of result) result.answer) }
+        ≡ fold after parts.old
+        (message_calls before.now.ticks (config_in before.now.p.now) (insight_of result) result.answer) }
 {
     match lower_transport::read(reading.fields.ctl, reading.fields.tpdu.as_slice()) {
         Ok(low) => {
-            let judged = hear_low(keys, p, again, parts, now, &reading, &low);
+            let judged = hear_low(before, parts, &reading, &low);
             Hearing {
                 pdu: HeardPdu::lower(reading, low, judged.opened),
                 answer: judged.answer,
@@ -123,43 +117,44 @@ fn hear_transport(
 
 // What is heard of octets, and what becomes of the message cache and of the messages in progress.
 fn hear_octets(
-    keys: &Keys,
-    p: &Persist,
+    before: &Before<'_>,
     cache: &mut Cache,
     parts: &mut Parts,
-    again: &[Name],
-    now: u64,
     known: Known<'_>,
     more: &[Heard],
     octets: &[u8],
 ) -> Result<Hearing, AllocError>
-    requires fit { keys.now ≡ held_in (config_in p.now) }
-    requires known { IsKnown (view_of keys.now.nets more.now p.now.iv.current) octets.now known }
-    requires time { now ≤ 2 ^ 48 }
-    ensures heard { (past : Past) → IsFalse p.now.reset → cache.old ≡ last_of MESSAGE_CACHE (cached_names past.told)
-        → StandsBelow past p.now parts.old again.now now → more.now ≡ friend_keys past
+    requires fit { before.now.keys.now ≡ held_in (config_in before.now.p.now) }
+    requires known { IsKnown (view_of before.now.keys.now.nets more.now before.now.p.now.iv.current) octets.now known }
+    requires time { before.now.ticks ≤ 2 ^ 48 }
+    ensures heard { (past : Past) → IsFalse before.now.p.now.reset
+        → cache.old ≡ last_of MESSAGE_CACHE (cached_names past.told)
+        → StandsBelow past before.now.p.now parts.old before.now.again.now before.now.ticks
+        → more.now ≡ friend_keys past
         → IfOk result (IsReadAs past octets.now) }
     ensures cache { IfOk result
         (λ h. cache.new ≡ cache_after cache.old (cached_name (insight_of h) (is_before_cache h.answer))) }
     ensures parts { IfOk result
         (λ h. parts.new
-        ≡ fold after parts.old (message_calls now (config_in p.now) (insight_of h) h.answer ++ tick_calls h.answer)) }
+        ≡ fold after parts.old
+        (message_calls before.now.ticks (config_in before.now.p.now) (insight_of h) h.answer ++ tick_calls h.answer)) }
     ensures own { IfOk result (λ h. (at : ℕ) (event : Event) → own_calls at event h.answer ≡ heard_calls h.answer) }
-    ensures time { IfOk result (λ h. ticks_after now h.answer ≡ now) }
+    ensures time { IfOk result (λ h. ticks_after before.now.ticks h.answer ≡ before.now.ticks) }
     ensures unchanged { OnErr result ((cache.new ≡ cache.old) × (parts.new ≡ parts.old)) }
 {
-    let Some(reading) = read_unless(keys, known, more, p.iv.current, octets) else {
+    let p = before.p;
+    let Some(reading) = read_unless(before.keys, known, more, p.iv.current, octets) else {
         return Ok(Hearing {
             pdu: HeardPdu::Unread,
             answer: Answer::Unread,
         });
     };
-    match network_row(keys, p, cache, &reading)? {
+    match network_row(before.keys, p, cache, &reading)? {
         Some(answer) => Ok(Hearing {
             pdu: HeardPdu::Network(reading),
             answer,
         }),
-        None => Ok(hear_transport(keys, p, again, parts, now, reading)),
+        None => Ok(hear_transport(before, parts, reading)),
     }
 }
 
@@ -189,13 +184,16 @@ impl Tables {
             });
         }
         self.again.reserve(1)?;
-        let hearing = hear_octets(
-            &self.keys,
+        let before = Before {
+            keys: &self.keys,
             p,
+            again: self.again.as_slice(),
+            ticks: self.ticks,
+        };
+        let hearing = hear_octets(
+            &before,
             &mut self.cache,
             &mut self.parts,
-            self.again.as_slice(),
-            self.ticks,
             known,
             more,
             octets,

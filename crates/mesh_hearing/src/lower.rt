@@ -22,7 +22,7 @@ ghost use Rattle.store_definitions.specs.Entries.{entry_of};
 
 use crate::again::has_name;
 use crate::hearing::Hearing;
-use crate::whole::judge_whole;
+use crate::whole::{WholeMessage, judge_whole};
 use lower_transport::{Lower, seq_auth};
 use mesh_base::fields::NetFields;
 use mesh_base::octets::Octets;
@@ -164,35 +164,52 @@ fn take_low(
     }
 }
 
+/// What a node goes by as it hears a PDU.
+#[derive(Drop)]
+pub(crate) struct Before<'a> {
+    /// The keys that it holds.
+    pub keys: &'a Keys,
+    /// What its store says.
+    pub p: &'a Persist,
+    /// Of the names that it accepted from segments in this life the newest of each source.
+    pub again: &'a [Name],
+    /// The ticks of 10 ms of this life so far.
+    pub ticks: u64,
+}
+
 // The answer to a message with this name, and what it opened to.
 fn hear_named(
-    keys: &Keys,
-    p: &Persist,
-    again: &[Name],
+    before: &Before<'_>,
     parts: &mut Parts,
-    now: u64,
     r: &NetReading,
     low: &Lower,
     name: &Name,
 ) -> Judged
-    requires fit { keys.now ≡ held_in (config_in p.now) }
+    requires fit { before.now.keys.now ≡ held_in (config_in before.now.p.now) }
     requires fits { Fits low.now }
-    requires time { now ≤ 2 ^ 48 }
-    ensures value { (past : Past) → StandsBelow past p.now parts.old again.now now
+    requires time { before.now.ticks ≤ 2 ^ 48 }
+    ensures value { (past : Past) → StandsBelow past before.now.p.now parts.old before.now.again.now before.now.ticks
         → IsNamedAs past (reading_of r.now) low.now (Some name.now) result }
     ensures late { is_late result.answer ≡ true }
     ensures parts { parts.new
         ≡ fold after parts.old
-        (named_calls now (config_in p.now) (reading_of r.now) low.now result.answer (Some name.now)) }
+        (named_calls before.now.ticks (config_in before.now.p.now) (reading_of r.now) low.now result.answer
+        (Some name.now)) }
 {
+    let p = before.p;
     let kept = p.entry(name.src);
-    match known_row(again, kept, low, name) {
+    match known_row(before.again, kept, low, name) {
         Some(answer) => return Judged::early(answer),
         None => {}
     }
-    match take_low(p, parts, now, r, low, name) {
+    match take_low(p, parts, before.ticks, r, low, name) {
         Ok(octets) => {
-            let judged = judge_whole(keys, p, kept, r, low, name, octets.as_slice());
+            let message = WholeMessage {
+                reading: r,
+                name: *name,
+                octets: octets.as_slice(),
+            };
+            let judged = judge_whole(before.keys, p, kept, &message, low);
             parts.release(name);
             judged
         }
@@ -202,26 +219,23 @@ fn hear_named(
 
 /// The answer to a lower transport PDU, and what it opened to.
 pub(crate) fn hear_low(
-    keys: &Keys,
-    p: &Persist,
-    again: &[Name],
+    before: &Before<'_>,
     parts: &mut Parts,
-    now: u64,
     r: &NetReading,
     low: &Lower,
 ) -> Judged
-    requires fit { keys.now ≡ held_in (config_in p.now) }
+    requires fit { before.now.keys.now ≡ held_in (config_in before.now.p.now) }
     requires fits { Fits low.now }
-    requires time { now ≤ 2 ^ 48 }
-    ensures value { (past : Past) → StandsBelow past p.now parts.old again.now now
+    requires time { before.now.ticks ≤ 2 ^ 48 }
+    ensures value { (past : Past) → StandsBelow past before.now.p.now parts.old before.now.again.now before.now.ticks
         → IsNamedAs past (reading_of r.now) low.now (message_name_in r.now.fields low.now) result }
     ensures late { is_late result.answer ≡ true }
     ensures parts { parts.new ≡ fold after parts.old
-        (named_calls now (config_in p.now) (reading_of r.now) low.now result.answer
+        (named_calls before.now.ticks (config_in before.now.p.now) (reading_of r.now) low.now result.answer
         (message_name_in r.now.fields low.now)) }
 {
     match message_name(&r.fields, low) {
-        Some(name) => hear_named(keys, p, again, parts, now, r, low, &name),
+        Some(name) => hear_named(before, parts, r, low, &name),
         None => Judged::early(Answer::Malformed),
     }
 }

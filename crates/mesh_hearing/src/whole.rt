@@ -16,52 +16,61 @@ use mesh_reading::{Keys, NetReading, SealedBy};
 use message_answers::{Judged, judge_control, judge_opened};
 use node_records::Persist;
 
-// The answer to a whole access message.
+/// A message that is whole.
+#[derive(Drop)]
+pub(crate) struct WholeMessage<'a> {
+    /// The network PDU that it came in, or its last segment.
+    pub reading: &'a NetReading,
+    /// Its name.
+    pub name: Name,
+    /// Its octets: of an access message those that are sealed.
+    pub octets: &'a [u8],
+}
+
+// The answer to a whole access message that is sealed so.
 fn judge_access(
     keys: &Keys,
     p: &Persist,
     kept: Option<Pair>,
-    r: &NetReading,
-    name: &Name,
+    m: &WholeMessage<'_>,
     sealed: &SealedBy,
-    octets: &[u8],
 ) -> Judged
     requires fit { keys.now ≡ held_in (config_in p.now) }
-    requires kept { kept ≡ entry_in p.now name.now.src.0 }
-    requires most { length octets.now ≤ 384 }
+    requires kept { kept ≡ entry_in p.now m.now.name.src.0 }
+    requires most { length m.now.octets.now ≤ 384 }
     ensures value { (past : Past) → IsMeaningOf past.records p.now
-        → IsAccessAs past
-        (reading_of r.now) name.now sealed.now.akf sealed.now.aid sealed.now.long_mic octets.now result }
+        → IsAccessAs past (reading_of m.now.reading.now) m.now.name
+        sealed.now.akf sealed.now.aid sealed.now.long_mic m.now.octets.now result }
     ensures whole { is_of_whole result.answer ≡ true }
 {
-    let opened = keys.open(r, name, sealed, octets);
-    judge_opened(p, kept, r, name, opened)
+    let opened = keys.open(m.reading, &m.name, sealed, m.octets);
+    judge_opened(p, kept, m.reading, &m.name, opened)
 }
 
-/// The answer to a whole message with these octets, whose source has the entry `kept`.
+/// The answer to a whole message, which came as this lower transport PDU or as segments of which this is the last, and whose source has the entry
+/// `kept`.
 pub(crate) fn judge_whole(
     keys: &Keys,
     p: &Persist,
     kept: Option<Pair>,
-    r: &NetReading,
+    m: &WholeMessage<'_>,
     low: &Lower,
-    name: &Name,
-    octets: &[u8],
 ) -> Judged
     requires fit { keys.now ≡ held_in (config_in p.now) }
-    requires kept { kept ≡ entry_in p.now name.now.src.0 }
-    requires most { length octets.now ≤ 384 }
-    requires control { is_control low.now ≡ true → length octets.now ≤ 256 }
-    ensures value { (past : Past) → IsMeaningOf past.records p.now → octets.now ≡ whole_octets past name.now low.now
-        → IsWholeAs past (reading_of r.now) low.now name.now result }
+    requires kept { kept ≡ entry_in p.now m.now.name.src.0 }
+    requires most { length m.now.octets.now ≤ 384 }
+    requires control { is_control low.now ≡ true → length m.now.octets.now ≤ 256 }
+    ensures value { (past : Past) → IsMeaningOf past.records p.now
+        → m.now.octets.now ≡ whole_octets past m.now.name low.now
+        → IsWholeAs past (reading_of m.now.reading.now) low.now m.now.name result }
     ensures whole { is_of_whole result.answer ≡ true }
 {
     match low {
         Lower::Control { opcode, .. } => {
-            Judged::early(judge_control(p, kept, r, name, *opcode, octets))
+            Judged::early(judge_control(p, kept, m.reading, &m.name, *opcode, m.octets))
         }
         Lower::ControlPart { opcode, .. } => {
-            Judged::early(judge_control(p, kept, r, name, *opcode, octets))
+            Judged::early(judge_control(p, kept, m.reading, &m.name, *opcode, m.octets))
         }
         Lower::Access { akf, aid, .. } => {
             let sealed = SealedBy {
@@ -69,7 +78,7 @@ pub(crate) fn judge_whole(
                 aid: *aid,
                 long_mic: false,
             };
-            judge_access(keys, p, kept, r, name, &sealed, octets)
+            judge_access(keys, p, kept, m, &sealed)
         }
         Lower::AccessPart {
             akf,
@@ -82,7 +91,7 @@ pub(crate) fn judge_whole(
                 aid: *aid,
                 long_mic: *szmic,
             };
-            judge_access(keys, p, kept, r, name, &sealed, octets)
+            judge_access(keys, p, kept, m, &sealed)
         }
     }
 }

@@ -26,11 +26,11 @@ mod segments;
 mod ticks;
 
 pub use beacons::push_beacons;
-pub use messages::{begin_jobs, own_jobs, send_keys};
+pub use messages::{AskedMessage, OwnBasis, begin_jobs, own_jobs, send_keys};
 pub use pdus::{PduBasis, is_before_cache, pdu_jobs, push_ack, push_relay};
 pub use publishing::{is_still_held, publish_ttl, push_publications};
 pub use refresh::{KeyPhase, Phases, held_phases, push_refresh};
 pub use replies::is_stored;
-pub use replying::push_replies;
+pub use replying::{HeardMessage, push_replies};
 pub use segments::push_rounds;
 pub use ticks::{Span, TimeBasis, push_acks, push_beacons_due, tick_jobs};

@@ -68,18 +68,24 @@ pub fn send_keys(p: &Persist, apps: &AppKeys, key: &SendKey) -> Option<(u16, Upp
     }
 }
 
-// An access message whose payload is that of the event, from an element, under these keys.
-fn sent_job(
-    p: &Persist,
-    nets: &NetKeys,
-    element: u8,
-    dst: Address,
-    ttl: u8,
-    keys: (u16, UpperKey),
-) -> Option<Job>
+/// A message that the node is asked to send, but for its payload.
+#[derive(Drop)]
+pub struct AskedMessage<'a> {
+    /// The element that sends it, counted from 0.
+    pub element: u8,
+    /// DST.
+    pub dst: Address,
+    /// TTL, 7 bits.
+    pub ttl: u8,
+    /// By which rule it has its key.
+    pub key: &'a SendKey,
+}
+
+// An access message whose payload is that of the event, under these keys.
+fn sent_job(p: &Persist, nets: &NetKeys, m: &AskedMessage<'_>, keys: (u16, UpperKey)) -> Option<Job>
     requires nets { nets.now ≡ p.now.nets }
-    requires element { p.now.unicast.0 + element < 2 ^ 16 }
-    ensures { option_to_list result ≡ sent_job_in (config_in p.now) element dst ttl keys }
+    requires element { p.now.unicast.0 + m.now.element < 2 ^ 16 }
+    ensures { option_to_list result ≡ sent_job_in (config_in p.now) m.now.element m.now.dst m.now.ttl keys }
 {
     let (net, key) = keys;
     let material = nets.transmit(net)?;
@@ -87,48 +93,45 @@ fn sent_job(
         net,
         material,
         key,
-        ttl,
-        src: p.element_address(element),
-        dst,
+        ttl: m.ttl,
+        src: p.element_address(m.element),
+        dst: m.dst,
     })
 }
 
 // The job of a message that the node is asked to send, by the rule of its key.
-fn send_job(
-    p: &Persist,
-    nets: &NetKeys,
-    apps: &AppKeys,
-    element: u8,
-    dst: Address,
-    ttl: u8,
-    key: &SendKey,
-) -> Option<Job>
+fn send_job(p: &Persist, nets: &NetKeys, apps: &AppKeys, m: &AskedMessage<'_>) -> Option<Job>
     requires nets { nets.now ≡ p.now.nets }
     requires apps { apps.now ≡ record { apps = p.now.apps; nets = p.now.nets } }
-    requires element { p.now.unicast.0 + element < 2 ^ 16 }
+    requires element { p.now.unicast.0 + m.now.element < 2 ^ 16 }
     ensures { option_to_list result
-        ≡ option_map_or (sent_job_in (config_in p.now) element dst ttl) (send_keys_in (config_in p.now) key.now) [] }
+        ≡ option_map_or (sent_job_in (config_in p.now) m.now.element m.now.dst m.now.ttl)
+        (send_keys_in (config_in p.now) m.now.key.now) [] }
 {
-    let keys = send_keys(p, apps, key)?;
-    sent_job(p, nets, element, dst, ttl, keys)
+    let keys = send_keys(p, apps, m.key)?;
+    sent_job(p, nets, m, keys)
+}
+
+/// What the jobs of an event that asks for one at most are made of.
+#[derive(Drop)]
+pub struct OwnBasis<'a> {
+    /// The event.
+    pub event: &'a Event,
+    /// Whether it sends a message to an address of a friendship that stands.
+    pub befriended: bool,
 }
 
 // The job of an event that asks for one at most.
 #[tactic(auto, unfolding(event_definitions::specs::Jobs::jobs_of))]
-fn own_job(
-    p: &Persist,
-    nets: &NetKeys,
-    apps: &AppKeys,
-    event: &Event,
-    befriended: bool,
-) -> Option<Job>
+fn own_job(p: &Persist, nets: &NetKeys, apps: &AppKeys, basis: &OwnBasis<'_>) -> Option<Job>
     requires nets { nets.now ≡ p.now.nets }
     requires apps { apps.now ≡ record { apps = p.now.apps; nets = p.now.nets } }
-    requires single { IsSingle (config_in p.now) event.now }
-    ensures { (layers : Layers) (past : Past) (insight : Insight) → IsBefriended layers past event.now befriended
-        → option_to_list result ≡ jobs_of layers past (config_in p.now) event.now insight A.Planned }
+    requires single { IsSingle (config_in p.now) basis.now.event.now }
+    ensures { (layers : Layers) (past : Past) (insight : Insight)
+        → IsBefriended layers past basis.now.event.now basis.now.befriended
+        → option_to_list result ≡ jobs_of layers past (config_in p.now) basis.now.event.now insight A.Planned }
 {
-    match event {
+    match basis.event {
         Event::Raw { dst, ttl, tpdu } => raw_job(p, nets, *dst, *ttl, tpdu),
         Event::Send {
             element,
@@ -137,38 +140,44 @@ fn own_job(
             key,
             payload,
         } => {
-            if is_stored(befriended, payload.as_slice()) {
+            if is_stored(basis.befriended, payload.as_slice()) {
                 return None;
             }
-            send_job(p, nets, apps, *element, *dst, *ttl, key)
+            let message = AskedMessage {
+                element: *element,
+                dst: *dst,
+                ttl: *ttl,
+                key,
+            };
+            send_job(p, nets, apps, &message)
         }
         _ => None,
     }
 }
 
 /// The jobs of an event that asks for one at most: a message or a control PDU that the node is asked to send, where it was answered `planned`;
-/// a beacon heard and octets that were kept ask for none. `befriended` says whether the message goes to an address of a friendship that
-/// stands. `p` is what the records after the event say, and `nets` and `apps` are its keys. The jobs are made in `draft`, which has none.
+/// a beacon heard and octets that were kept ask for none. `p` is what the records after the event say, and `nets` and `apps` are its keys. The
+/// jobs are made in `draft`, which has none.
 #[tactic(auto, unfolding(event_definitions::specs::Jobs::jobs_of))]
 pub fn own_jobs(
     mut draft: JobDraft,
     p: &Persist,
     nets: &NetKeys,
     apps: &AppKeys,
-    event: &Event,
-    befriended: bool,
+    basis: &OwnBasis<'_>,
     answer: &Answer,
 ) -> Jobs
     requires empty { draft ≡ [] }
     requires nets { nets.now ≡ p.now.nets }
     requires apps { apps.now ≡ record { apps = p.now.apps; nets = p.now.nets } }
-    requires single { IsSingle (config_in p.now) event.now }
-    ensures value { (layers : Layers) (past : Past) (insight : Insight) → IsBefriended layers past event.now befriended
-        → result ≡ jobs_of layers past (config_in p.now) event.now insight answer.now }
+    requires single { IsSingle (config_in p.now) basis.now.event.now }
+    ensures value { (layers : Layers) (past : Past) (insight : Insight)
+        → IsBefriended layers past basis.now.event.now basis.now.befriended
+        → result ≡ jobs_of layers past (config_in p.now) basis.now.event.now insight answer.now }
     ensures few { length result ≤ 1 }
 {
     if let Answer::Planned = answer {
-        push_made(&mut draft, own_job(p, nets, apps, event, befriended));
+        push_made(&mut draft, own_job(p, nets, apps, basis));
     }
     draft.finish()
 }

@@ -28,10 +28,9 @@ ghost use Rattle.store_definitions.specs.Config.{is_element as is_element_in};
 use crate::acknowledgments::{acknowledgment, all_pieces};
 use crate::making::push_made;
 use crate::refresh::{Phases, push_refresh};
-use crate::replying::push_replies;
+use crate::replying::{HeardMessage, push_replies};
 use mesh_base::address::Address;
 use mesh_base::fields::NetFields;
-use mesh_base::keys::UpperKey;
 use mesh_base::lower::Lower;
 use mesh_reading::HeardPdu;
 use mesh_types::answers::Answer;
@@ -212,30 +211,6 @@ fn push_heard_ack(
     }
 }
 
-// Puts the replies to a message from `to` that was delivered behind the others, where a key opened it.
-fn push_delivered(
-    jobs: &mut JobDraft,
-    p: &Persist,
-    nets: &NetKeys,
-    r: &NetReading,
-    key: Option<&UpperKey>,
-    to: Address,
-    replies: &MessageReplies,
-)
-    requires room { length jobs.old + 9 ≤ JOBS }
-    requires nets { nets.now ≡ p.now.nets }
-    requires unicast { p.now.unicast.0 < 2 ^ 15 }
-    ensures value { jobs.new ≡ jobs.old
-        ++ option_map_or
-        (λ (k : Key). flat_map (sent_reply (config_in p.now) (heard_as r.now k to)) (replies_in replies.now))
-        (option_copied key.entry) [] }
-    ensures few { length jobs.new ≤ length jobs.old + 9 }
-{
-    if let Some(key) = key {
-        push_replies(jobs, p, nets, r, key, to, replies);
-    }
-}
-
 /// What the jobs of a network PDU heard are made of.
 #[derive(Drop)]
 pub struct PduBasis {
@@ -247,6 +222,34 @@ pub struct PduBasis {
     pub replies: MessageReplies,
     /// What a control message led to.
     pub act: FriendAct,
+}
+
+// Puts the replies to a message from `src` that was delivered behind the others, where a key opened it. `r` is the network PDU that it came in.
+fn push_delivered(
+    jobs: &mut JobDraft,
+    p: &Persist,
+    nets: &NetKeys,
+    r: &NetReading,
+    src: Address,
+    basis: &PduBasis,
+)
+    requires room { length jobs.old + 9 ≤ JOBS }
+    requires nets { nets.now ≡ p.now.nets }
+    requires unicast { p.now.unicast.0 < 2 ^ 15 }
+    ensures value { jobs.new ≡ jobs.old
+        ++ option_map_or
+        (λ (k : Key). flat_map (sent_reply (config_in p.now) (heard_as r.now k src)) (replies_in basis.now.replies))
+        (option_map (λ (o : Opening). o.key) (option_map opening_of (opened_in basis.now.heard))) [] }
+    ensures few { length jobs.new ≤ length jobs.old + 9 }
+{
+    if let Some(key) = basis.heard.key() {
+        let message = HeardMessage {
+            reading: r,
+            key,
+            src,
+        };
+        push_replies(jobs, p, nets, &message, &basis.replies);
+    }
 }
 
 // Puts what the message that an answer accepted asks for behind the others: what a control message led to, or the replies to an access
@@ -274,17 +277,7 @@ fn push_message_jobs(
 {
     match answer {
         Answer::Control { .. } => push_friend_jobs(jobs, p, nets, r, &basis.act),
-        Answer::Delivered { name, .. } => {
-            push_delivered(
-                jobs,
-                p,
-                nets,
-                r,
-                basis.heard.key(),
-                name.src,
-                &basis.replies,
-            );
-        }
+        Answer::Delivered { name, .. } => push_delivered(jobs, p, nets, r, name.src, basis),
         _ => {}
     }
 }

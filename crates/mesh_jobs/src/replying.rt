@@ -21,29 +21,40 @@ use node_limits::JOBS;
 use node_models::{MessageReplies, Replies};
 use node_records::Persist;
 
-// A reply of the element at this place to a message from `to`, under the keys by which that was heard.
+/// A message that is replied to, as it was heard.
+#[derive(Drop)]
+pub struct HeardMessage<'a> {
+    /// The network PDU that completed it.
+    pub reading: &'a NetReading,
+    /// The key that opened it.
+    pub key: &'a UpperKey,
+    /// SRC, to which replies go.
+    pub src: Address,
+}
+
+// A reply of the element at this place, under the keys by which the message was heard.
 fn reply_job(
     p: &Persist,
     nets: &NetKeys,
-    r: &NetReading,
-    key: &UpperKey,
-    to: Address,
+    m: &HeardMessage<'_>,
     element: u8,
     payload: &[u8],
 ) -> Option<Job>
     requires nets { nets.now ≡ p.now.nets }
     requires element { p.now.unicast.0 + element < 2 ^ 16 }
     requires short { length payload.now ≤ 48 }
-    ensures { option_to_list result ≡ sent_reply (config_in p.now) (heard_as r.now key.now to) (element, payload.now) }
+    ensures { option_to_list result
+        ≡ sent_reply (config_in p.now) (heard_as m.now.reading.now m.now.key.now m.now.src) (element, payload.now) }
 {
-    let material = nets.transmit(r.by.index)?;
+    let net = m.reading.by.index;
+    let material = nets.transmit(net)?;
     Some(Job::Message {
-        net: r.by.index,
+        net,
         material,
-        key: *key,
-        ttl: p.reply_ttl(r.fields.ttl),
+        key: *m.key,
+        ttl: p.reply_ttl(m.reading.fields.ttl),
         src: p.element_address(element),
-        dst: to,
+        dst: m.src,
         payload: payload_of(payload),
         keep: None,
     })
@@ -54,21 +65,19 @@ fn push_first_reply(
     jobs: &mut JobDraft,
     p: &Persist,
     nets: &NetKeys,
-    r: &NetReading,
-    key: &UpperKey,
-    to: Address,
+    m: &HeardMessage<'_>,
     payload: Option<&Octets<48>>,
 )
     requires room { length jobs.old < JOBS }
     requires nets { nets.now ≡ p.now.nets }
     requires unicast { p.now.unicast.0 < 2 ^ 15 }
     ensures value { jobs.new ≡ jobs.old
-        ++ flat_map (sent_reply (config_in p.now) (heard_as r.now key.now to))
+        ++ flat_map (sent_reply (config_in p.now) (heard_as m.now.reading.now m.now.key.now m.now.src))
         (map from_first (option_to_list (option_copied payload.entry))) }
     ensures few { length jobs.new ≤ length jobs.old + 1 }
 {
     if let Some(payload) = payload {
-        push_made(jobs, reply_job(p, nets, r, key, to, 0, payload.as_slice()));
+        push_made(jobs, reply_job(p, nets, m, 0, payload.as_slice()));
     }
 }
 
@@ -77,43 +86,41 @@ fn push_model_replies(
     jobs: &mut JobDraft,
     p: &Persist,
     nets: &NetKeys,
-    r: &NetReading,
-    key: &UpperKey,
-    to: Address,
+    m: &HeardMessage<'_>,
     replies: &Replies,
 )
     requires room { length jobs.old + 8 ≤ JOBS }
     requires nets { nets.now ≡ p.now.nets }
     requires unicast { p.now.unicast.0 < 2 ^ 15 }
     ensures value { jobs.new ≡ jobs.old
-        ++ flat_map (sent_reply (config_in p.now) (heard_as r.now key.now to)) (map reply_in replies.now) }
+        ++ flat_map (sent_reply (config_in p.now) (heard_as m.now.reading.now m.now.key.now m.now.src))
+        (map reply_in replies.now) }
     ensures few { length jobs.new ≤ length jobs.old + 8 }
 {
     for reply in replies.as_slice() {
-        let job = reply_job(p, nets, r, key, to, reply.element, reply.payload.as_slice());
+        let job = reply_job(p, nets, m, reply.element, reply.payload.as_slice());
         push_made(jobs, job);
     }
 }
 
 /// Puts the replies to a message behind the others, that of the Configuration Server first: each from its element to
-/// the message's source `to`, under the network key that the message was heard with, if that is held, and the key that
+/// the message's source, under the network key that the message was heard with, if that is held, and the key that
 /// opened it, with TTL 0 where it was heard with that, and else the Default TTL.
 pub fn push_replies(
     jobs: &mut JobDraft,
     p: &Persist,
     nets: &NetKeys,
-    r: &NetReading,
-    key: &UpperKey,
-    to: Address,
+    m: &HeardMessage<'_>,
     replies: &MessageReplies,
 )
     requires room { length jobs.old + 9 ≤ JOBS }
     requires nets { nets.now ≡ p.now.nets }
     requires unicast { p.now.unicast.0 < 2 ^ 15 }
     ensures value { jobs.new ≡ jobs.old
-        ++ flat_map (sent_reply (config_in p.now) (heard_as r.now key.now to)) (replies_in replies.now) }
+        ++ flat_map (sent_reply (config_in p.now) (heard_as m.now.reading.now m.now.key.now m.now.src))
+        (replies_in replies.now) }
     ensures few { length jobs.new ≤ length jobs.old + 9 }
 {
-    push_first_reply(jobs, p, nets, r, key, to, replies.configuration.as_ref());
-    push_model_replies(jobs, p, nets, r, key, to, &replies.models);
+    push_first_reply(jobs, p, nets, m, replies.configuration.as_ref());
+    push_model_replies(jobs, p, nets, m, &replies.models);
 }

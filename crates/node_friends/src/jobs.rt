@@ -41,48 +41,51 @@ fn control_octets(m: &ControlMsg) -> Octets<16>
     octets
 }
 
+// A control message of this node.
+#[derive(Drop)]
+struct OwnControl {
+    // TTL, 7 bits.
+    ttl: u8,
+    // DST.
+    dst: Address,
+    // What it says.
+    message: ControlMsg,
+}
+
 // A control message from the first element.
 fn own_control(
     p: &Persist,
-    ttl: u8,
-    dst: Address,
-    m: &ControlMsg,
+    m: &OwnControl,
     keep: Option<(Address, bool)>,
     material: NetMaterial,
 ) -> Job
-    requires { FitsControl m.now }
-    ensures { result ≡ own_control_in (config_in p.now) ttl dst m.now keep material }
+    requires { FitsControl m.now.message }
+    ensures { result ≡ own_control_in (config_in p.now) m.now.ttl m.now.dst m.now.message keep material }
 {
     Job::Control {
         material,
-        ttl,
+        ttl: m.ttl,
         src: p.unicast,
-        dst,
-        tpdu: control_octets(m),
+        dst: m.dst,
+        tpdu: control_octets(&m.message),
         keep,
     }
 }
 
 // Puts a control message behind the others, under the master credentials of the network key that another message was heard with, if that is
 // held.
-fn push_under(
-    jobs: &mut JobDraft,
-    p: &Persist,
-    nets: &NetKeys,
-    r: &NetReading,
-    ttl: u8,
-    dst: Address,
-    m: &ControlMsg,
-)
+fn push_under(jobs: &mut JobDraft, p: &Persist, nets: &NetKeys, r: &NetReading, m: &OwnControl)
     requires room { length jobs.old < JOBS }
     requires nets { nets.now ≡ p.now.nets }
-    requires fits { FitsControl m.now }
+    requires fits { FitsControl m.now.message }
     ensures value { jobs.new
-        ≡ jobs.old ++ under (config_in p.now) r.now.by.index (own_control_in (config_in p.now) ttl dst m.now None) }
+        ≡ jobs.old
+        ++ under (config_in p.now) r.now.by.index
+        (own_control_in (config_in p.now) m.now.ttl m.now.dst m.now.message None) }
     ensures few { length jobs.new ≤ length jobs.old + 1 }
 {
     if let Some(material) = nets.transmit(r.by.index) {
-        jobs.push(own_control(p, ttl, dst, m, None, material));
+        jobs.push(own_control(p, m, None, material));
     }
 }
 
@@ -123,8 +126,12 @@ fn update_job(p: &Persist, r: &NetReading, fsn: bool) -> Job
         (Some (r.now.fields.src, fsn)) r.now.by.material }
 {
     let keep = Some((r.fields.src, fsn));
-    let update = update_of(p, r.by.index);
-    own_control(p, 0, r.fields.src, &update, keep, r.by.material)
+    let update = OwnControl {
+        ttl: 0,
+        dst: r.fields.src,
+        message: update_of(p, r.by.index),
+    };
+    own_control(p, &update, keep, r.by.material)
 }
 
 // A stored PDU that answers a Poll.
@@ -197,11 +204,15 @@ fn push_clear(
     ensures few { length jobs.new ≤ length jobs.old + 1 }
 {
     if let Some((before, counter)) = clear {
-        let m = ControlMsg::Clear(Clear {
-            lpn: r.fields.src,
-            lpn_counter: *counter,
-        });
-        push_under(jobs, p, nets, r, p.ttl, *before, &m);
+        let clear = OwnControl {
+            ttl: p.ttl,
+            dst: *before,
+            message: ControlMsg::Clear(Clear {
+                lpn: r.fields.src,
+                lpn_counter: *counter,
+            }),
+        };
+        push_under(jobs, p, nets, r, &clear);
     }
 }
 
@@ -216,20 +227,34 @@ fn push_act(jobs: &mut JobDraft, p: &Persist, nets: &NetKeys, r: &NetReading, ac
     match act {
         FriendAct::Nothing => {}
         FriendAct::Offered(offer) => {
-            push_under(jobs, p, nets, r, 0, lpn, &ControlMsg::Offer(*offer));
+            let offer = OwnControl {
+                ttl: 0,
+                dst: lpn,
+                message: ControlMsg::Offer(*offer),
+            };
+            push_under(jobs, p, nets, r, &offer);
         }
         FriendAct::Answered { fsn, polled } => {
             push_answer(jobs, p, r, *fsn, &polled.answer);
             push_clear(jobs, p, nets, r, &polled.clear);
         }
         FriendAct::Confirmed { transaction } => {
-            let m = ControlMsg::ListConfirm {
-                transaction: *transaction,
+            let confirmation = OwnControl {
+                ttl: 0,
+                dst: lpn,
+                message: ControlMsg::ListConfirm {
+                    transaction: *transaction,
+                },
             };
-            jobs.push(own_control(p, 0, lpn, &m, None, r.by.material));
+            jobs.push(own_control(p, &confirmation, None, r.by.material));
         }
         FriendAct::Cleared(l) => {
-            push_under(jobs, p, nets, r, p.ttl, lpn, &ControlMsg::ClearConfirm(*l));
+            let confirmation = OwnControl {
+                ttl: p.ttl,
+                dst: lpn,
+                message: ControlMsg::ClearConfirm(*l),
+            };
+            push_under(jobs, p, nets, r, &confirmation);
         }
     }
 }

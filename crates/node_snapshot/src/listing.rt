@@ -94,15 +94,7 @@ fn pass_all(p: &Persist, names: &[Name], place: usize) -> Passed
     let left5 = pass_binds(p.binds.as_slice(), left4)?;
     let left6 = pass_subs(p.subs.as_slice(), left5)?;
     let left7 = pass_labels(p.labels.as_slice(), left6)?;
-    let left8 = pass_features(
-        p.beacon,
-        p.ttl,
-        p.friend,
-        p.relay,
-        p.retransmit,
-        p.transmit,
-        left7,
-    )?;
+    let left8 = pass_features(p, left7)?;
     let left9 = pass_models(&p.onoffs, &p.levels, left8)?;
     let left10 = pass_names(names, left9)?;
     let left11 = pass_reset(p.reset, left10)?;

@@ -1,7 +1,7 @@
 //! The records of each part of a value, passed one after another up to a place: nothing is held of those before it.
 #![tactic(auto)]
 
-ghost use Rattle.std.specs.Prelude.{◌≡◌, ◌<◌, [], ◌∷◌, ◌++◌};
+ghost use Rattle.std.specs.Prelude.{◌≡◌, ◌+◌, ◌*◌, ◌<◌, [], ◌∷◌, ◌++◌};
 ghost use Rattle.std.specs.List.{flat_map};
 ghost use Rattle.node_snapshot.specs.Parts.{identity_records, net_records, next_net, second_phase, app_records, next_app, bind_records, sub_records, label_records, feature_record, feature_records, model_record, element_records, model_records, reset_records, publish_records};
 ghost use Rattle.node_snapshot.specs.Passing.{passed};
@@ -9,6 +9,7 @@ ghost use Rattle.node_snapshot.specs.Passing.{passed};
 use mesh_base::address::Address;
 use mesh_base::keys::{AppKeyRow, NetKeyRow};
 use node_limits::ELEMENTS;
+use node_records::Persist;
 use record_types::records::{PublishRow, StoreRecord};
 
 /// What is left of a place behind a list: the number of places to go on; or, where it lies in the list, the record there.
@@ -187,24 +188,25 @@ fn pass_feature(which: u8, first: u16, value: u16, place: usize) -> Passed
     pass(StoreRecord::Feature { which, value }, place)
 }
 
-/// The features: beacon, Default TTL, friend, relay with its retransmissions, network transmit.
-pub(crate) fn pass_features(
-    beacon: u8,
-    ttl: u8,
-    friend: u8,
-    relay: u8,
-    retransmit: u8,
-    transmit: u8,
-    place: usize,
-) -> Passed
-    ensures value { result ≡ passed (feature_records beacon ttl friend relay retransmit transmit) place }
+/// The value of the relay feature: its state, and in the lower octet its retransmissions.
+fn relay_value(relay: u8, retransmit: u8) -> u16
+    ensures value { result ≡ relay * 256 + retransmit }
 {
-    let relayed = u16::from(relay) * 256 + u16::from(retransmit);
-    let first = pass_feature(1, 0, u16::from(beacon), place)?;
-    let second = pass_feature(2, 7, u16::from(ttl), first)?;
-    let third = pass_feature(3, 1, u16::from(friend), second)?;
+    u16::from(relay) * 256 + u16::from(retransmit)
+}
+
+/// The features of a value: beacon, Default TTL, friend, relay with its retransmissions, network transmit.
+pub(crate) fn pass_features(p: &Persist, place: usize) -> Passed
+    ensures value { result
+        ≡ passed
+        (feature_records p.now.beacon p.now.ttl p.now.friend p.now.relay p.now.retransmit p.now.transmit) place }
+{
+    let relayed = relay_value(p.relay, p.retransmit);
+    let first = pass_feature(1, 0, u16::from(p.beacon), place)?;
+    let second = pass_feature(2, 7, u16::from(p.ttl), first)?;
+    let third = pass_feature(3, 1, u16::from(p.friend), second)?;
     let fourth = pass_feature(4, 256, relayed, third)?;
-    pass_feature(5, 0, u16::from(transmit), fourth)
+    pass_feature(5, 0, u16::from(p.transmit), fourth)
 }
 
 /// The value that a model keeps, where it isn't 0.

@@ -17,7 +17,7 @@ returns-in-Ok-clause-value c = λ past below.
 
 pub returns-in-Ok-clause-parts : goal.returns-in-Ok-clause-parts
 returns-in-Ok-clause-parts c =
-    let now = c.args.now in
-    let n = config_in c.args.p.now in
+    let now = c.args.before.now.ticks in
+    let n = config_in c.args.before.now.p.now in
     c.hear_low-judged.ensures.parts
     ∙ ap (λ (i : Insight). fold after c.args.parts.now (message_calls now n i c.hear_low-judged.result.answer)) (sym c.lower.ensures.insight)

@@ -45,7 +45,7 @@ returns-in-Delivered-clause-value c past low opening key replies act =
     let d = c.in-Delivered in
     let insight = insight_of (Some r) low opening in
     c.push_delivered.ensures.value
-    ∙ ap (λ (k : Option UpperKey). c.args.jobs.now ++ option_map_or (λ (k : UpperKey). flat_map (sent_reply n (heard_as r k d.name.src)) (replies_in c.args.basis.now.replies)) k []) (c.key.ensures.value ∙ ap (λ (o : Option Opening). option_map (λ (p : Opening). p.key) o) key)
+    ∙ ap (λ (k : Option UpperKey). c.args.jobs.now ++ option_map_or (λ (k : UpperKey). flat_map (sent_reply n (heard_as r k d.name.src)) (replies_in c.args.basis.now.replies)) k []) (ap (λ (o : Option Opening). option_map (λ (p : Opening). p.key) o) key)
     ∙ ap (λ (js : List Job). c.args.jobs.now ++ js)
     (replies_are past n r low opening d.name d.dst d.key d.payload c.args.basis.now.replies
     (subst (λ (a : Answer). AreRepliesTo past insight a c.args.basis.now.replies) d.is replies)

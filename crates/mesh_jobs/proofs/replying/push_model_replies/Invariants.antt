@@ -12,7 +12,7 @@ invariant-loop-reply l =
     record {
       replies : l.jobs
           ≡ l.fn.jobs
-          ++ flat_map (sent_reply (config_in l.p) (heard_as l.r l.key l.to))
+          ++ flat_map (sent_reply (config_in l.p) (heard_as l.m.reading.now l.m.key.now l.m.src))
           (map reply_in (take l.reply-index l.reply-items));
       length : length l.jobs ≤ length l.fn.jobs + l.reply-index;
     }
