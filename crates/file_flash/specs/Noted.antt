@@ -1,6 +1,7 @@
 -- Writes that a place only notes, for its caller to make.
-use Rattle.std.specs.Prelude.{◌≡◌, ℕ, ◌+◌, ◌≤◌, List, [], ◌∷◌, ◌++◌, length, Option, Some, None}
+use Rattle.std.specs.Prelude.{◌≡◌, ℕ, ◌+◌, ◌*◌, ◌≤◌, List, [], ◌∷◌, ◌++◌, length, replicate, Option, Some, None}
 use Rattle.file_flash.specs.declared.noted.Write.{Write}
+use Rattle.file_flash.specs.declared.noted.Write.TheVariants as W
 use Rattle.file_flash.specs.Backing.{put_at}
 
 -- octets that are to stand at an offset
@@ -8,8 +9,15 @@ pub record Put : Type 0 where
   pub at : ℕ
   pub octets : List ℕ
 
+-- what a write is: an erase is one of 4,096 octets ff
 abbrev pub put_of : Write → Put
-put_of write = record { at = write.at; octets = write.octets.items }
+put_of (W.Program at octets) = record { at = at; octets = octets.items }
+put_of (W.Erase sector) = record { at = 4096 * sector; octets = replicate 4096 255 }
+
+-- how many octets it has
+abbrev pub size_of : Write → ℕ
+size_of (W.Program at octets) = length octets.items
+size_of (W.Erase sector) = 4096
 
 -- what the octets of a place become by these writes, one after another
 abbrev pub written : List Put → List ℕ → List ℕ
@@ -23,7 +31,7 @@ and_put at octets (Some puts) = Some (puts ++ record { at = at; octets = octets 
 
 -- a write lies within the 65,536 octets
 abbrev pub IsInside : Write → Type 0
-IsInside write = write.at + length write.octets.items ≤ 65536
+IsInside write = (put_of write).at + size_of write ≤ 65536
 
 -- Where a place notes writes, those that wait make what was saved what is read.
 abbrev pub AreNoted : Option (List Put) → List ℕ → List ℕ → Type 0

@@ -1,12 +1,15 @@
 // A place of 65,536 octets that outlives the process. A flash doesn't know what it is: it only puts octets there.
-ghost use Rattle.std.specs.Prelude.{◌≡◌, ℕ, ◌+◌, ◌≤◌, List, Option, Some, None, length, OnOk, OnErr};
+ghost use Rattle.std.specs.Prelude.{◌≡◌, ℕ, ◌+◌, ◌*◌, ◌<◌, ◌≤◌, List, Option, Some, None, length, replicate, OnOk, OnErr};
 ghost use Rattle.file_flash.specs.Backing.{WasPut, WasTorn, put_at};
 ghost use Rattle.file_flash.specs.Noted.{Put, and_put};
 
-use flash_model::FLASH_OCTETS;
+use flash_model::{FLASH_OCTETS, SECTOR_OCTETS, SECTORS};
 use std::fs::File;
 use std::os::unix::fs::FileExt;
 use thiserror::Error;
+
+/// Octets of a sector.
+const SECTOR: usize = SECTOR_OCTETS as usize;
 
 /// The place refused a write.
 #[derive(Clone, Copy, Debug, PartialEq, Eq, Error)]
@@ -34,6 +37,18 @@ pub trait Backing: Drop {
         ensures err { OnErr result (WasTorn at bytes.now (held self.old) (held self.new)) }
         ensures noted { OnOk result (waiting self.new ≡ and_put at bytes.now (waiting self.old)) }
         ensures unnoted { OnErr result (waiting self.new ≡ waiting self.old) };
+
+    /// Puts the octets of an erased sector, 4,096 octets ff, where the sector, 0 to 15, stands: as `put` of them, without octets to hand over.
+    ///
+    /// # Errors
+    ///
+    /// `Refused`: each bit of the range is old or new then, all else as it was (`err`).
+    fn erase_sector(&mut self, sector: u32) -> Result<(), Refused>
+        requires sector { sector < SECTORS }
+        ensures ok { OnOk result (WasPut (SECTOR_OCTETS * sector) (replicate SECTOR_OCTETS 255) (held self.old) (held self.new)) }
+        ensures err { OnErr result (WasTorn (SECTOR_OCTETS * sector) (replicate SECTOR_OCTETS 255) (held self.old) (held self.new)) }
+        ensures noted { OnOk result (waiting self.new ≡ and_put (SECTOR_OCTETS * sector) (replicate SECTOR_OCTETS 255) (waiting self.old)) }
+        ensures unnoted { OnErr result (waiting self.new ≡ waiting self.old) };
 }
 
 /// A file of the system, open for reading and writing, with 65,536 octets. It tells nothing of what it holds: that what it answers is so, is
@@ -57,6 +72,10 @@ impl Backing for StdBacking {
             Ok(()) => Ok(()),
             Err(_) => Err(Refused),
         }
+    }
+
+    fn erase_sector(&mut self, sector: u32) -> Result<(), Refused> {
+        self.put(SECTOR_OCTETS * sector, &[0xff; SECTOR])
     }
 }
 
@@ -106,6 +125,19 @@ impl Backing for MemBacking {
         self.calls -= 1;
         put_octets(&mut self.octets, at as usize, bytes);
         Ok(())
+    }
+
+    fn erase_sector(&mut self, sector: u32) -> Result<(), Refused>
+        requires sector { sector < SECTORS }
+        ensures ok { OnOk result
+            (WasPut (SECTOR_OCTETS * sector) (replicate SECTOR_OCTETS 255) (Some self.old.octets.items) (Some self.new.octets.items)) }
+        ensures err { OnErr result
+            (WasTorn (SECTOR_OCTETS * sector) (replicate SECTOR_OCTETS 255) (Some self.old.octets.items) (Some self.new.octets.items)) }
+        ensures cause { OnErr result (self.old.calls ≡ 0) }
+        ensures left { OnOk result (self.new.calls + 1 ≡ self.old.calls) }
+        ensures none { self.old.calls ≡ 0 → self.new.calls ≡ 0 }
+    {
+        self.put(SECTOR_OCTETS * sector, &[0xff; SECTOR])
     }
 }
 

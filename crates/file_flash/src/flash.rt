@@ -210,7 +210,7 @@ impl<F: Bench, B: Backing> Flash for FileFlash<F, B> {
             return self.mirror.erase(sector);
         }
         self.goal.erase(sector)?;
-        match self.backing.put(SECTOR_OCTETS * sector, &[0xff; SECTOR]) {
+        match self.backing.erase_sector(sector) {
             Ok(()) => self.mirror.erase(sector),
             Err(_) => {
                 self.failed = true;

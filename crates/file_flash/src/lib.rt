@@ -9,8 +9,9 @@
 //!
 //! # What a place must give
 //!
-//! A place is a type with `impl Backing`: one call, `put`, and two meanings that nobody runs: `held`, the 65,536 octets that whoever comes after
-//! this process finds there, or `None` where contracts can't know; and `waiting`, `None` but for a place that only notes its writes.
+//! A place is a type with `impl Backing`: two calls, `put`, and `erase_sector`, which is `put` of 4,096 octets ff that nobody hands over; and two
+//! meanings that nobody runs: `held`, the 65,536 octets that whoever comes after this process finds there, or `None` where contracts can't know;
+//! and `waiting`, `None` but for a place that only notes its writes.
 //!
 //! It may count on a range that lies within the 65,536 octets (`within`).
 //!

@@ -8,13 +8,21 @@ use flash_model::FLASH_OCTETS;
 use std::alloc::{AllocError, Global};
 use std::mem;
 
-/// A write that the caller of a flash makes.
+/// A write that the caller of a flash makes. To a contract it is octets that are to stand from an offset on (`put_of`).
 #[derive(Drop)]
-pub struct Write {
-    /// The offset of its first octet.
-    pub at: u32,
-    /// Its octets. An erase is a write of 4,096 octets ff.
-    pub octets: Vec<u8>,
+pub enum Write {
+    /// Octets that a program call left in its range.
+    Program {
+        /// The offset of the first octet.
+        at: u32,
+        /// The octets.
+        octets: Vec<u8>,
+    },
+    /// An erase of a sector: 4,096 octets ff. They are not kept.
+    Erase {
+        /// The sector, 0 to 15.
+        sector: u32,
+    },
 }
 
 /// A place whose writes are made by the caller of its flash: it notes them, in their order. Of what whoever comes next finds there it tells nothing.
@@ -42,7 +50,21 @@ impl NotedPlace {
     /// # Errors
     ///
     /// `AllocError`: nothing was noted.
-    fn note(&mut self, at: u32, bytes: &[u8]) -> Result<(), AllocError>
+    fn note(&mut self, write: Write) -> Result<(), AllocError>
+        requires inside { IsInside write }
+        ensures ok { OnOk result (map put_of self.new.writes.items ≡ map put_of self.old.writes.items ++ put_of write ∷ []) }
+        ensures err { OnErr result (self.new.writes.items ≡ self.old.writes.items) }
+    {
+        self.writes.push(write)?;
+        Ok(())
+    }
+
+    /// Notes octets at an offset.
+    ///
+    /// # Errors
+    ///
+    /// `AllocError`: nothing was noted.
+    fn note_octets(&mut self, at: u32, bytes: &[u8]) -> Result<(), AllocError>
         requires within { at + length bytes.now ≤ FLASH_OCTETS }
         ensures ok { OnOk result
             (map put_of self.new.writes.items
@@ -50,8 +72,7 @@ impl NotedPlace {
         ensures err { OnErr result (self.new.writes.items ≡ self.old.writes.items) }
     {
         let octets = bytes.to_vec(self.alloc)?;
-        self.writes.push(Write { at, octets })?;
-        Ok(())
+        self.note(Write::Program { at, octets })
     }
 
     /// The writes that were noted since this was called last, in their order. It takes no memory.
@@ -72,7 +93,15 @@ impl Backing for NotedPlace {
 
     /// Notes the write. It is refused for want of memory alone.
     fn put(&mut self, at: u32, bytes: &[u8]) -> Result<(), Refused> {
-        match self.note(at, bytes) {
+        match self.note_octets(at, bytes) {
+            Ok(()) => Ok(()),
+            Err(AllocError) => Err(Refused),
+        }
+    }
+
+    /// Notes the erase, which takes no memory for octets.
+    fn erase_sector(&mut self, sector: u32) -> Result<(), Refused> {
+        match self.note(Write::Erase { sector }) {
             Ok(()) => Ok(()),
             Err(AllocError) => Err(Refused),
         }
