@@ -24,6 +24,7 @@ module _ {M F : Type 0} (stands : Chip → List StoreRecord → M → Type 0) (v
     few = h.few;
     live = h.live;
     stopped = h.stopped;
+    no_fault = λ off. handed.faults ∙ h.no_fault off;
     later = record {
       faults = subst (λ n. (chip start).faults ≤ n) (sym handed.faults) h.later.faults;
       steady = handed.steady ∙ h.later.steady;

@@ -19,7 +19,8 @@ pub record IsLater (start now : Chip) : Type 0 where
   pub cycles : now.setting.cycles ≡ start.setting.cycles
   pub past : Remembers start now
 
--- the machine stands over this flash and the records that the life found, and bearers have stopped exactly if it is closed
+-- The machine stands over this flash and the records that the life found, and bearers have stopped exactly if it is closed. Else the flash didn't
+-- fail since.
 pub record Holds {M F : Type 0} (stands : Chip → List StoreRecord → M → Type 0) (view : M → MachineView)
     (chip : F → Chip) (machine : M) (start flash : F) (stops : ℕ) : Type 0 where
   pub over : List StoreRecord
@@ -28,6 +29,7 @@ pub record Holds {M F : Type 0} (stands : Chip → List StoreRecord → M → Ty
   pub few : stops < 2 ^ 32
   pub live : (view machine).closed ≡ false → stops ≡ 0
   pub stopped : (view machine).closed ≡ true → 0 < stops
+  pub no_fault : (view machine).closed ≡ false → (chip flash).faults ≡ (chip start).faults
   pub later : IsLater (chip start) (chip flash)
 
 -- the same as a caller sees it
@@ -39,6 +41,7 @@ pub record IsNode {F : Type 0} (role : Role) (image : List ℕ → Type 0) (chip
   pub few : n.stops < 2 ^ 32
   pub live : n.machine.closed ≡ false → n.stops ≡ 0
   pub stopped : n.machine.closed ≡ true → 0 < n.stops
+  pub no_fault : n.machine.closed ≡ false → (chip n.flash).faults ≡ (chip n.start).faults
   pub later : IsLater (chip n.start) (chip n.flash)
 
 -- A machine that shows this stands over the flash and the records that the life found.

@@ -84,6 +84,7 @@ impl<M: Machine, F: Flash + Send + Drop> Node<M, F> {
             × M.stands (F.chip flash) over machine }
         requires usable { (M.view machine).closed ≡ false }
         requires later { IsLater (F.chip start) (F.chip flash) }
+        requires no_fault { (F.chip flash).faults ≡ (F.chip start).faults }
         ensures value { IfOk result
             (λ node. node ≡ record { machine = M.view machine; start = start; flash = flash; stops = 0 }) }
     {
@@ -126,6 +127,7 @@ impl<M: Machine, F: Flash + Send + Drop> Node<M, F> {
             ≡ node_marks self.old
             ++ Marks.Handled (entry_for self.old.machine bearer number event.now r.answer r.jobs) ∷ []) }
         ensures place { IfOk result (λ r. r.at ≡ length (node_marks self.old)) }
+        ensures fills { OnOk result (self.new.machine.fills ≡ 0) }
         ensures jobs { IfOk result (λ r. All (IsJob event.now) r.jobs) }
         ensures quiet { is_outside event.now ≡ false → IfOk result (λ r. All IsQuiet r.jobs) }
         ensures stopped { IfErr result

@@ -8,3 +8,4 @@ pub mod Quiet
 pub mod Told
 pub mod Kind
 pub mod Handled
+pub mod Crossing

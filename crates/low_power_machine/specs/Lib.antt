@@ -4,3 +4,4 @@ pub mod Hearing
 pub mod Telling
 pub mod Views
 pub mod Parts
+pub mod Machine

@@ -5,7 +5,8 @@
 //! then the record of an accepted message is put; then its jobs are made; and then its entry is appended. What can fail for want of memory comes
 //! first, so after it nothing changed; what fails at the flash closes the machine. It has no timers, so nothing is ever due.
 //!
-//! - `machine`: [`LowPowerMachine`], its calls
+//! - `machine`: [`LowPowerMachine`]
+//! - `state`: what it is between two calls, and its calls
 //! - `planning`: the plan of an event: its answer, and what is to be sent
 //! - `hearing`: a network PDU heard
 //! - `telling`: what the node is told to do
@@ -21,6 +22,7 @@ mod opening;
 mod plan;
 mod planning;
 mod sending;
+mod state;
 mod telling;
 
 pub use machine::LowPowerMachine;

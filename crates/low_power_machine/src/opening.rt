@@ -1,8 +1,8 @@
 //! A life is opened, and the machine as the layers above see it.
 #![tactic(auto)]
 
-ghost use Rattle.std.specs.Prelude.{◌≡◌, ⊤, List, [], false, IfOk};
-ghost use Rattle.low_power_machine.specs.Views.{Stands, shown};
+ghost use Rattle.std.specs.Prelude.{◌≡◌, ⊤, List, [], drop, false, IfOk};
+ghost use Rattle.low_power_machine.specs.Machine.{Stands, shown};
 ghost use Rattle.low_power_definitions.specs.State.{no_friend};
 ghost use Rattle.low_power_role.specs.Role.{low_power_role};
 ghost use Rattle.machine_contract.specs.Idle.{IsQuietTick};
@@ -14,6 +14,7 @@ ghost use Rattle.seq_word.specs.Seen.{fresh};
 
 use crate::machine::LowPowerMachine;
 use crate::memory::Memory;
+use crate::state::LowPowerState;
 use entry_log::EntryLog;
 use flash_model::Flash;
 use machine_contract::{Answered, EarlyReads, Hand, History, Machine, StartFault, Started, Stop};
@@ -26,16 +27,17 @@ use seq_reserve::Reserve;
 use seq_word::{Keeper, Numbers};
 use std::alloc::{AllocError, Global};
 
-// Opens a life over a store that was mounted.
+// Opens a life over a store that was mounted. It stands apart, so that no caller has a place for what it boxes.
+#[inline(never)]
 fn open(alloc: Global, store: Store) -> Result<Started<LowPowerMachine>, AllocError>
     requires usable { store.journal.closed ≡ false }
     requires node { (over : List StoreRecord) × IsNodeStore over store.persist }
-    ensures machine { IfOk result (λ s. s.machine ≡ opened_by s.machine.reserve s.machine.tables store.persist.elements) }
-    ensures store { IfOk result (λ s. s.machine.reserve.store ≡ store) }
-    ensures published { IfOk result (λ s. IsPublished s.machine.reserve.store s.machine.reserve.keeper) }
-    ensures lpn { IfOk result (λ s. s.machine.tables.lpn ≡ no_friend store.persist.unicast store.persist.elements) }
-    ensures which { IfOk result (λ s. s.machine.reserve.keeper.which ≡ s.numbers.which) }
-    ensures advances { IfOk result (λ s. s.machine.reserve.keeper.advances ≡ []) }
+    ensures machine { IfOk result (λ s. s.machine.state.value ≡ opened_by s.machine.state.value.reserve s.machine.state.value.tables store.persist.elements) }
+    ensures store { IfOk result (λ s. s.machine.state.value.reserve.store ≡ store) }
+    ensures published { IfOk result (λ s. IsPublished s.machine.state.value.reserve.store s.machine.state.value.reserve.keeper) }
+    ensures lpn { IfOk result (λ s. s.machine.state.value.tables.lpn ≡ no_friend store.persist.unicast store.persist.elements) }
+    ensures which { IfOk result (λ s. s.machine.state.value.reserve.keeper.which ≡ s.numbers.which) }
+    ensures advances { IfOk result (λ s. s.machine.state.value.reserve.keeper.advances ≡ []) }
     ensures opened { IfOk result (λ s. s.numbers.opened ≡ store.persist.mark) }
     ensures drawer { IfOk result (λ s. s.drawer ≡ fresh s.numbers.which [] 1024) }
     ensures state { IfOk result (λ s. s.state ≡ store.persist.iv) }
@@ -48,7 +50,7 @@ fn open(alloc: Global, store: Store) -> Result<Started<LowPowerMachine>, AllocEr
     let state = p.iv;
     let mark = p.mark;
     let elements = p.elements;
-    let machine = LowPowerMachine {
+    let apart = LowPowerState {
         reserve,
         memory,
         history,
@@ -58,12 +60,37 @@ fn open(alloc: Global, store: Store) -> Result<Started<LowPowerMachine>, AllocEr
         elements,
     };
     Ok(Started {
-        machine,
+        machine: LowPowerMachine {
+            state: Box::new(alloc, apart)?,
+        },
         numbers,
         drawer,
         state,
         mark,
     })
+}
+
+// What is left of a machine: its entries that weren't taken, and its keeper.
+#[inline(never)]
+fn ended(state: Box<LowPowerState>) -> (History, Keeper)
+    ensures entries { result.0.entries.items ≡ drop state.value.taken state.value.entries }
+    ensures refills { result.0.refills ≡ state.value.fills }
+    ensures keeper { result.1 ≡ state.value.reserve.keeper }
+{
+    let LowPowerState {
+        reserve,
+        mut history,
+        fills,
+        ..
+    } = Box::into_inner(state);
+    let Reserve { store: _, keeper } = reserve;
+    (
+        History {
+            entries: history.take(),
+            refills: fills,
+        },
+        keeper,
+    )
 }
 
 impl Machine for LowPowerMachine {
@@ -75,7 +102,7 @@ impl Machine for LowPowerMachine {
 
     ghost view = { shown };
 
-    ghost advances = { λ m. m.reserve.keeper.advances };
+    ghost advances = { λ m. m.state.value.reserve.keeper.advances };
 
     ghost stands = { Stands };
 
@@ -109,19 +136,19 @@ impl Machine for LowPowerMachine {
         event: &Event,
         _reader: &(),
     ) -> Result<Answered, Stop> {
-        self.handle_event(n, flash, bearer, number, event)
+        self.state.handle_event(n, flash, bearer, number, event)
     }
 
     fn refill<F: Flash>(&mut self, n: &Numbers, flash: &mut F, seen: u64) -> Result<u64, Stop> {
-        self.refill_numbers(n, flash, seen)
+        self.state.refill_numbers(n, flash, seen)
     }
 
     fn take_entries<F: Flash>(&mut self) -> Vec<Entry> {
-        self.history.take()
+        self.state.take::<F>()
     }
 
     fn is_closed(&self) -> bool {
-        self.closed
+        self.state.closed
     }
 
     // A Low Power node has no timers.
@@ -130,11 +157,11 @@ impl Machine for LowPowerMachine {
     }
 
     fn count(&self) -> u64 {
-        self.history.count()
+        self.state.history.count()
     }
 
     fn elements(&self) -> u8 {
-        self.elements
+        self.state.elements
     }
 
     // Nothing is read before an event is handled.
@@ -146,20 +173,8 @@ impl Machine for LowPowerMachine {
     }
 
     fn finish(self) -> (History, Keeper) {
-        let LowPowerMachine {
-            reserve,
-            mut history,
-            fills,
-            ..
-        } = self;
-        let Reserve { store: _, keeper } = reserve;
-        (
-            History {
-                entries: history.take(),
-                refills: fills,
-            },
-            keeper,
-        )
+        let LowPowerMachine { state } = self;
+        ended(state)
     }
 
     fn tells<F: Flash>() {}

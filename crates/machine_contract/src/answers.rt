@@ -2,8 +2,8 @@
 #![tactic(auto)]
 
 use mesh_types::answers::Answer;
-use mesh_types::events::Event;
 use mesh_types::jobs::Jobs;
+use mesh_types::told::{Told, ToldEvent};
 use thiserror::Error;
 
 /// An event was handled.
@@ -11,8 +11,8 @@ use thiserror::Error;
 pub struct Answered {
     /// The place of its entry in the history, from 0 on.
     pub at: u32,
-    /// The answer.
-    pub answer: Answer,
+    /// The answer, for contracts alone: its entry has it.
+    pub answer: Told<Answer>,
     /// The jobs, in their order.
     pub jobs: Jobs,
 }
@@ -37,7 +37,7 @@ pub enum Hand {
     /// No call has failed.
     Nothing,
     /// This event was to be handled.
-    OfEvent(Event),
+    OfEvent(ToldEvent),
     /// A refill was to be stored.
     OfRefill,
 }

@@ -114,6 +114,7 @@ pub trait Machine: Send + Drop {
             (view self.new).mark) }
         ensures place { IfOk result (λ r. r.at ≡ length (view self.old).entries) }
         ensures usable { OnOk result ((view self.old).closed ≡ false) }
+        ensures no_fault { OnOk result ((F.chip flash.new).faults ≡ (F.chip flash.old).faults) }
         ensures jobs { IfOk result (λ r. All (IsJob event.now) r.jobs) }
         // After the lines of what isn't from outside nothing is handled.
         ensures quiet { is_outside event.now ≡ false → IfOk result (λ r. All IsQuiet r.jobs) }
@@ -141,6 +142,7 @@ pub trait Machine: Send + Drop {
         ensures ok { OnOk result
             (view self.new ≡ record (view self.old) { fills = (view self.new).fills; mark = (view self.new).mark }) }
         ensures usable { OnOk result ((view self.old).closed ≡ false) }
+        ensures no_fault { OnOk result ((F.chip flash.new).faults ≡ (F.chip flash.old).faults) }
 
         ensures refused { IfErr result
             (IsRefused F.chip Hand.OfRefill (view self.old) (view self.new) flash.old flash.new) }

@@ -1,15 +1,19 @@
 //! What handling an event does whatever its kind: memory before, and its entry.
 #![tactic(auto)]
 
-ghost use Rattle.std.specs.Prelude.{◌≡◌, ◌+◌, ◌-◌, ◌<◌, ◌^◌, [], ◌∷◌, ◌++◌, length, IfOk, OnOk};
+ghost use Rattle.std.specs.Prelude.{◌≡◌, ◌+◌, ◌-◌, ◌<◌, ◌^◌, [], ◌∷◌, ◌++◌, length, IfOk, OnOk, IfErr};
 
 use entry_log::EntryLog;
-use machine_contract::Answered;
+use machine_contract::{Answered, Stop};
 use mesh_types::answers::Answer;
 use mesh_types::events::Event;
 use mesh_types::history::Entry;
 use mesh_types::jobs::{JobDraft, Jobs};
+use mesh_types::told::{Told, ToldEvent};
 use std::alloc::AllocError;
+
+/// A history has at most so many entries.
+const MOST_ENTRIES: u64 = 0xffff_ffff;
 
 /// What every entry has beside what was answered.
 #[derive(Drop)]
@@ -22,48 +26,52 @@ pub struct Place {
     pub fills: u32,
 }
 
-/// Memory for the jobs of an event: two drafts of none.
-#[derive(Drop)]
-pub struct Drafts {
-    /// For those that are handed out.
-    pub handed: JobDraft,
-    /// For those that the entry keeps.
-    pub kept: JobDraft,
-}
-
-/// Takes memory for an entry and for its jobs. After an error the entries are as they were.
-pub fn room(history: &mut EntryLog) -> Result<Drafts, AllocError>
-    ensures handed { IfOk result (λ drafts. drafts.handed ≡ []) }
-    ensures kept { IfOk result (λ drafts. drafts.kept ≡ []) }
+// Memory for an entry more, and for the jobs of its event: a draft of none.
+fn memory_for_one(history: &mut EntryLog) -> Result<JobDraft, AllocError>
+    ensures draft { IfOk result (λ draft. draft ≡ []) }
     ensures room { OnOk result (0 < history.new.room) }
     ensures entries { history.new.entries ≡ history.old.entries }
     ensures taken { history.new.taken ≡ history.old.taken }
 {
     history.reserve()?;
-    let alloc = history.allocator();
-    let handed = JobDraft::new(alloc)?;
-    let kept = JobDraft::new(alloc)?;
-    Ok(Drafts { handed, kept })
+    JobDraft::new(history.allocator())
 }
 
-/// Appends the entry of an event, for which there is room, with its jobs once more in the memory of `draft`, which has none.
+/// Takes memory for an entry more and for the jobs of its event, a draft of none, where the history has a place for it. After a refusal, which is
+/// for want of memory, the entries are as they were.
+pub fn room(history: &mut EntryLog) -> Result<JobDraft, Stop>
+    ensures draft { IfOk result (λ draft. draft ≡ []) }
+    ensures room { OnOk result (0 < history.new.room) }
+    ensures few { OnOk result (length history.new.entries < 2 ^ 32 - 1) }
+    ensures memory { IfErr result (λ stop. stop ≡ Stop.Memory) }
+    ensures entries { history.new.entries ≡ history.old.entries }
+    ensures taken { history.new.taken ≡ history.old.taken }
+{
+    if history.count() >= MOST_ENTRIES {
+        return Err(Stop::Memory);
+    }
+    match memory_for_one(history) {
+        Ok(draft) => Ok(draft),
+        Err(_) => Err(Stop::Memory),
+    }
+}
+
+/// Appends the entry of an event, for which there is room.
 pub fn enter(
     history: &mut EntryLog,
     place: Place,
-    event: Event,
+    event: &Event,
     answer: Answer,
     jobs: Jobs,
-    draft: JobDraft,
 ) -> Answered
     requires room { 0 < history.old.room }
     requires few { length history.old.entries < 2 ^ 32 - 1 }
-    requires empty { draft ≡ [] }
     ensures entry { history.new.entries
         ≡ history.old.entries
         ++ (record {
           bearer = place.bearer;
           number = place.number;
-          event = event;
+          event = event.now;
           fills = place.fills;
           answer = result.answer;
           jobs = result.jobs;
@@ -73,14 +81,18 @@ pub fn enter(
     ensures answer { result.answer ≡ answer }
     ensures jobs { result.jobs ≡ jobs }
 {
-    let at = history.count() as u32;
+    let answered = Answered {
+        at: history.count() as u32,
+        answer: Told::of(&answer),
+        jobs,
+    };
     history.push(Entry {
         bearer: place.bearer,
         number: place.number,
-        event,
+        event: ToldEvent::of(event),
         fills: place.fills,
-        answer: answer.copied(),
-        jobs: jobs.copied(draft),
+        answer,
+        jobs: Told::of(&answered.jobs),
     });
-    Answered { at, answer, jobs }
+    answered
 }

@@ -11,5 +11,5 @@
 mod entering;
 mod opening;
 
-pub use entering::{Drafts, Place, enter, room};
+pub use entering::{Place, enter, room};
 pub use opening::mount_node;

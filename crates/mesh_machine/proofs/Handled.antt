@@ -143,6 +143,7 @@ done_by old stored log event place before after a plan tables asked st same e is
     usable = st.usable;
     value = st.value;
     kept = st.kept;
+    no_fault = st.no_fault;
     published = st.published;
     made = st.made;
     moved = st.moved;
@@ -169,6 +170,7 @@ nothing_stored old new event turn fit same chip = record {
       (subst (λ (l : List StoreRecord). IsMeaningOf l old.reserve.store.persist) (sym (append-nil records)) h);
   kept = λ records h. subst (λ (r : Reserve). IsStoreOf chip r.store (records ++ [])) (sym same)
       (subst (λ (l : List StoreRecord). IsStoreOf chip old.reserve.store l) (sym (append-nil records)) h);
+  no_fault = refl;
   published = subst (λ (r : Reserve). IsPublished r.store r.keeper) (sym same) turn.ready.published;
   made = ap (λ (r : Reserve). r.keeper.which) same;
   moved = ap (λ (r : Reserve). went_to r.keeper.advances) same ∙ sym (append-nil (went_to old.reserve.keeper.advances));

@@ -3,3 +3,4 @@ pub mod Same
 pub mod Within
 pub mod Handled
 pub mod Renewed
+pub mod Crossing

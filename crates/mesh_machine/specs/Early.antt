@@ -8,7 +8,7 @@ use Rattle.mesh_machine.specs.declared.machine.MeshMachine.{MeshMachine}
 
 -- by what it reads octets now
 abbrev pub view_now : MeshMachine → KeyView
-view_now m = view_in m.state.tables m.state.reserve.store.persist
+view_now m = view_in m.state.value.tables m.state.value.reserve.store.persist
 
 -- one more; at 2^64 - 1 a number stays
 abbrev pub one_more : ℕ → ℕ

@@ -18,11 +18,11 @@ use Rattle.machine_ties.specs.Kept.{IsBounded}
 use Rattle.machine_ties.specs.Ties.{IsReady}
 use Rattle.machine_ties.specs.Views.{NodeMachine}
 use Rattle.mesh_hearing.specs.Tables.{IsFit}
-use Rattle.machine_standing.specs.declared.entering.Drafts.{Drafts}
 use Rattle.machine_standing.specs.declared.entering.Place.{Place}
 use Rattle.mesh_machine.specs.declared.parts.Parts.{Parts}
 use Rattle.mesh_types.specs.declared.events.Event.{Event}
 use Rattle.mesh_types.specs.declared.events.Event.TheVariants as E
+use Rattle.mesh_types.specs.declared.jobs.Job.{Job}
 use Rattle.node_layers.specs.NodeLayers.{node_layers}
 use Rattle.node_records.specs.Meaning.{IsMeaningOf}
 use Rattle.node_records.specs.Tables.{config_in}
@@ -61,11 +61,10 @@ abbrev pub IsKnownFor : NodeTablesView → Persist → Event → Known → Type 
 IsKnownFor tables p event known = (octets : List ℕ) → event ≡ E.Net octets → IsKnown (view_in tables p) octets known
 
 -- there is memory for an entry and its jobs
-pub record HasRoom (parts : Parts) (drafts : Drafts) : Type 0 where
+pub record HasRoom (parts : Parts) (draft : List Job) : Type 0 where
   pub room : 0 < parts.history.room
   pub few : length parts.history.entries < 2 ^ 32 - 1
-  pub handed : drafts.handed ≡ []
-  pub kept : drafts.kept ≡ []
+  pub none : draft ≡ []
 
 -- The plan of an event, with the tables that it leaves, over what the store says and the tables of before.
 pub record IsAsked (parts : Parts) (event : Event) (plan : Plan) (tables : NodeTablesView) : Type 0 where
@@ -82,6 +81,7 @@ pub record AreStored (items : List StoreRecord) (old new : Parts) (before after 
       → IsMeaningOf (records ++ items) new.reserve.store.persist
   pub kept : (records : List StoreRecord) → IsStoreOf before old.reserve.store records
       → IsStoreOf after new.reserve.store (records ++ items)
+  pub no_fault : after.faults ≡ before.faults
   pub published : IsPublished new.reserve.store new.reserve.keeper
   pub made : new.reserve.keeper.which ≡ old.reserve.keeper.which
   -- with each that raised the transmit IV Index the counter was moved

@@ -10,11 +10,11 @@ use Rattle.record_types.specs.declared.records.StoreRecord.{StoreRecord}
 
 -- The counts of early reading are in nothing that it shows.
 abbrev pub shown : MeshMachine → MachineView
-shown m = views.shown m.state
+shown m = views.shown m.state.value
 
 abbrev pub Stands : Chip → List StoreRecord → MeshMachine → Type 0
-Stands chip over m = ties.Stands chip over m.state
+Stands chip over m = ties.Stands chip over m.state.value
 
 -- what is stored
 abbrev pub persist_of : MeshMachine → Persist
-persist_of m = m.state.reserve.store.persist
+persist_of m = m.state.value.reserve.store.persist

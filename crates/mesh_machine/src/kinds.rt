@@ -18,35 +18,50 @@ use event_plans::{
 };
 use flash_model::Flash;
 use machine_contract::{Answered, Stop};
-use machine_standing::{Drafts, Place, enter};
+use machine_standing::{Place, enter};
 use machine_ties::{are_bounded, ties_law};
 use mesh_base::octets::Octets;
 use mesh_reading::held_keys_law;
 use mesh_types::answers::Answer;
 use mesh_types::events::Event;
+use mesh_types::jobs::JobDraft;
 use next_due::wait;
 use seq_word::Numbers;
 
+/// An event that is to be handled, with the place of its entry, and memory for its jobs.
+#[derive(Drop)]
+pub(crate) struct Pending<'a> {
+    pub event: &'a Event,
+    pub place: Place,
+    pub draft: JobDraft,
+}
+
 // A network PDU was heard.
+#[inline(never)]
 fn hear<F: Flash>(
     parts: &mut Parts,
     n: &Numbers,
     flash: &mut F,
     octets: &Octets<40>,
     known: Known<'_>,
-    place: Place,
-    drafts: Drafts,
+    pending: Pending<'_>,
 ) -> Result<Answered, Stop>
+    requires heard { pending.event.now ≡ E.Net octets.now }
     requires turn { IsTurnOf parts.old (E.Net octets.now) }
     requires known { IsKnown (view_in parts.old.tables parts.old.reserve.store.persist) octets.now known }
     requires made { parts.old.reserve.keeper.which ≡ n.now.which }
-    requires room { HasRoom parts.old drafts }
+    requires room { HasRoom parts.old pending.draft }
     ensures done { IfOk result
-        (IsDone parts.old parts.new (E.Net octets.now) place (F.chip flash.old) (F.chip flash.new)) }
+        (IsDone parts.old parts.new (E.Net octets.now) pending.entry.place (F.chip flash.old) (F.chip flash.new)) }
     ensures stopped { IfErr result
         (IsStopped F.chip (E.Net octets.now) parts.old parts.new flash.old flash.new) }
     ensures frame { Keeps (F.chip flash.old) (F.chip flash.new) }
 {
+    let Pending {
+        event,
+        place,
+        draft,
+    } = pending;
     // They do nothing when they run: the proof uses what they say.
     ties_law();
     held_keys_law();
@@ -63,39 +78,37 @@ fn hear<F: Flash>(
                 Err(_) => return Err(Stop::Flash),
             }
             let p = parts.reserve.store.persist();
-            let jobs = jobs_of_pdu(drafts.handed, p, parts.tables.keys(), &plan);
-            let event = Event::Net(octets.copied());
-            Ok(enter(
-                &mut parts.history,
-                place,
-                event,
-                plan.answer,
-                jobs,
-                drafts.kept,
-            ))
+            let jobs = jobs_of_pdu(draft, p, parts.tables.keys(), &plan);
+            Ok(enter(&mut parts.history, place, event, plan.answer, jobs))
         }
         Err(_) => Err(Stop::Memory),
     }
 }
 
 // A beacon was heard.
+#[inline(never)]
 fn hear_beacon<F: Flash>(
     parts: &mut Parts,
     n: &Numbers,
     flash: &mut F,
     octets: &Octets<40>,
-    place: Place,
-    drafts: Drafts,
+    pending: Pending<'_>,
 ) -> Result<Answered, Stop>
+    requires heard { pending.event.now ≡ E.Bcn octets.now }
     requires turn { IsTurnOf parts.old (E.Bcn octets.now) }
     requires made { parts.old.reserve.keeper.which ≡ n.now.which }
-    requires room { HasRoom parts.old drafts }
+    requires room { HasRoom parts.old pending.draft }
     ensures done { IfOk result
-        (IsDone parts.old parts.new (E.Bcn octets.now) place (F.chip flash.old) (F.chip flash.new)) }
+        (IsDone parts.old parts.new (E.Bcn octets.now) pending.entry.place (F.chip flash.old) (F.chip flash.new)) }
     ensures stopped { IfErr result
         (IsStopped F.chip (E.Bcn octets.now) parts.old parts.new flash.old flash.new) }
     ensures frame { Keeps (F.chip flash.old) (F.chip flash.new) }
 {
+    let Pending {
+        event,
+        place,
+        draft,
+    } = pending;
     // They do nothing when they run: the proof uses what they say.
     ties_law();
     held_keys_law();
@@ -109,109 +122,80 @@ fn hear_beacon<F: Flash>(
         Ok(()) => {}
         Err(_) => return Err(Stop::Flash),
     }
-    let jobs = jobs_of_beacon(drafts.handed);
-    let event = Event::Bcn(octets.copied());
-    Ok(enter(
-        &mut parts.history,
-        place,
-        event,
-        plan.heard.answer,
-        jobs,
-        drafts.kept,
-    ))
-}
-
-// Time passed in which something may be due.
-fn pass<F: Flash>(
-    parts: &mut Parts,
-    n: &Numbers,
-    flash: &mut F,
-    ticks: u32,
-    place: Place,
-    drafts: Drafts,
-) -> Result<Answered, Stop>
-    requires turn { IsTurnOf parts.old (E.Tick ticks) }
-    requires made { parts.old.reserve.keeper.which ≡ n.now.which }
-    requires room { HasRoom parts.old drafts }
-    ensures done { IfOk result
-        (IsDone parts.old parts.new (E.Tick ticks) place (F.chip flash.old) (F.chip flash.new)) }
-    ensures stopped { IfErr result
-        (IsStopped F.chip (E.Tick ticks) parts.old parts.new flash.old flash.new) }
-    ensures frame { Keeps (F.chip flash.old) (F.chip flash.new) }
-{
-    // They do nothing when they run: the proof uses what they say.
-    ties_law();
-    held_keys_law();
-    are_within(parts.reserve.store.persist());
-    let plan = plan_tick(&mut parts.tables, parts.reserve.store.persist(), ticks);
-    match store(parts, n, flash, &plan.records) {
-        Ok(()) => {}
-        Err(_) => return Err(Stop::Flash),
-    }
-    let p = parts.reserve.store.persist();
-    let jobs = jobs_of_tick(drafts.handed, p, parts.tables.keys(), &plan);
-    Ok(enter(
-        &mut parts.history,
-        place,
-        Event::Tick(ticks),
-        plan.answer,
-        jobs,
-        drafts.kept,
-    ))
+    let jobs = jobs_of_beacon(draft);
+    Ok(enter(&mut parts.history, place, event, plan.heard.answer, jobs))
 }
 
 // Time passed: where nothing is due in it, it is told, and that is all.
+#[inline(never)]
 fn tick<F: Flash>(
     parts: &mut Parts,
     n: &Numbers,
     flash: &mut F,
     ticks: u32,
-    place: Place,
-    drafts: Drafts,
+    pending: Pending<'_>,
 ) -> Result<Answered, Stop>
+    requires told { pending.event.now ≡ E.Tick ticks }
     requires turn { IsTurnOf parts.old (E.Tick ticks) }
     requires made { parts.old.reserve.keeper.which ≡ n.now.which }
-    requires room { HasRoom parts.old drafts }
+    requires room { HasRoom parts.old pending.draft }
     ensures done { IfOk result
-        (IsDone parts.old parts.new (E.Tick ticks) place (F.chip flash.old) (F.chip flash.new)) }
+        (IsDone parts.old parts.new (E.Tick ticks) pending.entry.place (F.chip flash.old) (F.chip flash.new)) }
     ensures stopped { IfErr result
         (IsStopped F.chip (E.Tick ticks) parts.old parts.new flash.old flash.new) }
     ensures frame { Keeps (F.chip flash.old) (F.chip flash.new) }
 {
-    // It does nothing when it runs: the proof uses what it says.
+    let Pending {
+        event,
+        place,
+        draft,
+    } = pending;
+    // They do nothing when they run: the proof uses what they say.
     are_within(parts.reserve.store.persist());
+    ties_law();
+    held_keys_law();
     match wait(&mut parts.tables, parts.reserve.store.persist(), ticks) {
-        Some(now) => Ok(enter(
-            &mut parts.history,
-            place,
-            Event::Tick(ticks),
-            Answer::Ticked { now },
-            drafts.handed.finish(),
-            drafts.kept,
-        )),
-        None => pass(parts, n, flash, ticks, place, drafts),
+        Some(now) => {
+            let answer = Answer::Ticked { now };
+            let jobs = draft.finish();
+            let history = &mut parts.history;
+            let told = enter(history, place, event, answer, jobs);
+            Ok(told)
+        }
+        None => {
+            let plan = plan_tick(&mut parts.tables, parts.reserve.store.persist(), ticks);
+            let records = &plan.records;
+            match store(parts, n, flash, records) {
+                Ok(()) => {}
+                Err(_) => return Err(Stop::Flash),
+            }
+            let p = parts.reserve.store.persist();
+            let jobs = jobs_of_tick(draft, p, parts.tables.keys(), &plan);
+            let history = &mut parts.history;
+            let answered = enter(history, place, event, plan.answer, jobs);
+            Ok(answered)
+        }
     }
 }
 
 // An event that brings neither octets heard nor time. It stores nothing.
-fn act(parts: &mut Parts, event: &Event, place: Place, drafts: Drafts) -> Answered
-    requires turn { IsTurnOf parts.old event.now }
-    requires own { IsOwn event.now }
-    requires room { HasRoom parts.old drafts }
-    ensures done { IsActed parts.old parts.new event.now place result }
+#[inline(never)]
+fn act(parts: &mut Parts, pending: Pending<'_>) -> Answered
+    requires turn { IsTurnOf parts.old pending.event.now }
+    requires own { IsOwn pending.event.now }
+    requires room { HasRoom parts.old pending.draft }
+    ensures done { IsActed parts.old parts.new pending.entry.event.now pending.entry.place result }
 {
+    let Pending {
+        event,
+        place,
+        draft,
+    } = pending;
     are_within(parts.reserve.store.persist());
     let p = parts.reserve.store.persist();
     let plan = plan_own(&mut parts.tables, p, event);
-    let jobs = jobs_of_own(drafts.handed, p, parts.tables.keys(), event, &plan);
-    enter(
-        &mut parts.history,
-        place,
-        event.copied(),
-        plan.answer,
-        jobs,
-        drafts.kept,
-    )
+    let jobs = jobs_of_own(draft, p, parts.tables.keys(), event, &plan);
+    enter(&mut parts.history, place, event, plan.answer, jobs)
 }
 
 /// Handles an event over the parts of a machine, where there is memory for its entry and its jobs. What is known of the reading of a network
@@ -220,24 +204,23 @@ pub(crate) fn handle<F: Flash>(
     parts: &mut Parts,
     n: &Numbers,
     flash: &mut F,
-    event: &Event,
     known: Known<'_>,
-    place: Place,
-    drafts: Drafts,
+    pending: Pending<'_>,
 ) -> Result<Answered, Stop>
-    requires turn { IsTurnOf parts.old event.now }
-    requires known { IsKnownFor parts.old.tables parts.old.reserve.store.persist event.now known }
+    requires turn { IsTurnOf parts.old pending.event.now }
+    requires known { IsKnownFor parts.old.tables parts.old.reserve.store.persist pending.event.now known }
     requires made { parts.old.reserve.keeper.which ≡ n.now.which }
-    requires room { HasRoom parts.old drafts }
+    requires room { HasRoom parts.old pending.draft }
     ensures done { IfOk result
-        (IsDone parts.old parts.new event.now place (F.chip flash.old) (F.chip flash.new)) }
-    ensures stopped { IfErr result (IsStopped F.chip event.now parts.old parts.new flash.old flash.new) }
+        (IsDone parts.old parts.new pending.entry.event.now pending.entry.place (F.chip flash.old) (F.chip flash.new)) }
+    ensures stopped { IfErr result (IsStopped F.chip pending.entry.event.now parts.old parts.new flash.old flash.new) }
     ensures frame { Keeps (F.chip flash.old) (F.chip flash.new) }
 {
+    let event = pending.event;
     match event {
-        Event::Net(octets) => hear(parts, n, flash, octets, known, place, drafts),
-        Event::Bcn(octets) => hear_beacon(parts, n, flash, octets, place, drafts),
-        Event::Tick(ticks) => tick(parts, n, flash, *ticks, place, drafts),
-        _ => Ok(act(parts, event, place, drafts)),
+        Event::Net(octets) => hear(parts, n, flash, octets, known, pending),
+        Event::Bcn(octets) => hear_beacon(parts, n, flash, octets, pending),
+        Event::Tick(ticks) => tick(parts, n, flash, *ticks, pending),
+        _ => Ok(act(parts, pending)),
     }
 }

@@ -25,9 +25,11 @@ use mesh_types::events::Event;
 use seq_word::Numbers;
 
 /// The machine of a node. The flash stays with the caller, and is passed to each call.
+///
+/// What it keeps of its node is boxed where a life is opened, so that whoever hands the machine on moves a pointer.
 #[derive(Drop)]
 pub struct MeshMachine {
-    pub(crate) state: MeshState,
+    pub(crate) state: Box<MeshState>,
     // How often network PDUs were read before they were handled.
     pub(crate) reads: EarlyReads,
 }
@@ -66,7 +68,7 @@ impl MeshMachine {
         ensures known { (octets : List ℕ) → IfSome reader.now.last (λ e. e.octets ≡ octets)
             → IsKnown (view_now self.old) octets result }
         ensures reads { IsCounted (view_now self.old) reader.now.last self.old.reads self.new.reads }
-        ensures state { self.new.state ≡ self.old.state }
+        ensures state { self.new.state.value ≡ self.old.state.value }
     {
         let Some(early) = reader.last() else {
             return Known::Nothing;
@@ -103,6 +105,7 @@ impl MeshMachine {
             (shown self.new).mark) }
         ensures place { IfOk result (λ r. r.at ≡ length (shown self.old).entries) }
         ensures usable { OnOk result ((shown self.old).closed ≡ false) }
+        ensures no_fault { OnOk result ((F.chip flash.new).faults ≡ (F.chip flash.old).faults) }
         ensures jobs { IfOk result (λ r. All (IsJob event.now) r.jobs) }
         ensures quiet { is_outside event.now ≡ false → IfOk result (λ r. All IsQuiet r.jobs) }
         ensures steps { (w : World) → IsWorldOf w (persist_of self.old) (persist_of self.old).mark
@@ -141,6 +144,7 @@ impl MeshMachine {
             (shown self.new).mark) }
         ensures place { IfOk result (λ r. r.at ≡ length (shown self.old).entries) }
         ensures usable { OnOk result ((shown self.old).closed ≡ false) }
+        ensures no_fault { OnOk result ((F.chip flash.new).faults ≡ (F.chip flash.old).faults) }
         ensures jobs { IfOk result (λ r. All (IsJob (E.Net octets.now)) r.jobs) }
         ensures refused { IfErr result
             (IsRefused F.chip (Hand.OfEvent (E.Net octets.now)) (shown self.old) (shown self.new) flash.old flash.new) }

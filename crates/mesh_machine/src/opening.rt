@@ -1,7 +1,7 @@
 //! A life is opened, and the machine as the layers above see it.
 #![tactic(auto)]
 
-ghost use Rattle.std.specs.Prelude.{◌≡◌, ◌≤◌, false, List, [], IfErr, IfOk, IfSome};
+ghost use Rattle.std.specs.Prelude.{◌≡◌, ◌≤◌, drop, false, List, [], IfErr, IfOk, IfSome};
 ghost use Rattle.flash_model.specs.Chip.{IsFresh, Keeps};
 ghost use Rattle.machine_contract.specs.Opening.{IsNodeFlash};
 ghost use Rattle.machine_contract.specs.Refused.{IsStartCause};
@@ -38,18 +38,19 @@ use seq_reserve::Reserve;
 use seq_word::{Keeper, Numbers};
 use std::alloc::{AllocError, Global};
 
-// Opens a life over a store that was mounted, with memory for so many entries.
+// Opens a life over a store that was mounted, with memory for so many entries. It stands apart, so that no caller has a place for what it boxes.
+#[inline(never)]
 fn open(alloc: Global, store: Store, entries: usize) -> Result<Started<MeshMachine>, AllocError>
     requires usable { store.journal.closed ≡ false }
     requires node { (over : List StoreRecord) × IsNodeStore over store.persist }
-    ensures machine { IfOk result (λ s. s.machine.state ≡ opened s.machine.state.reserve s.machine.state.tables store.persist.elements) }
+    ensures machine { IfOk result (λ s. s.machine.state.value ≡ opened s.machine.state.value.reserve s.machine.state.value.tables store.persist.elements) }
     ensures reads { IfOk result (λ s. s.machine.reads ≡ record { again = 0; before = 0 }) }
-    ensures store { IfOk result (λ s. s.machine.state.reserve.store ≡ store) }
-    ensures published { IfOk result (λ s. IsPublished s.machine.state.reserve.store s.machine.state.reserve.keeper) }
+    ensures store { IfOk result (λ s. s.machine.state.value.reserve.store ≡ store) }
+    ensures published { IfOk result (λ s. IsPublished s.machine.state.value.reserve.store s.machine.state.value.reserve.keeper) }
     ensures tables { (over : List StoreRecord) → IsMeaningOf over store.persist
-        → IfOk result (λ s. AreNodeTablesOf s.machine.state.tables (record { told = []; records = over })) }
-    ensures which { IfOk result (λ s. s.machine.state.reserve.keeper.which ≡ s.numbers.which) }
-    ensures advances { IfOk result (λ s. s.machine.state.reserve.keeper.advances ≡ []) }
+        → IfOk result (λ s. AreNodeTablesOf s.machine.state.value.tables (record { told = []; records = over })) }
+    ensures which { IfOk result (λ s. s.machine.state.value.reserve.keeper.which ≡ s.numbers.which) }
+    ensures advances { IfOk result (λ s. s.machine.state.value.reserve.keeper.advances ≡ []) }
     ensures opened { IfOk result (λ s. s.numbers.opened ≡ store.persist.mark) }
     ensures drawer { IfOk result (λ s. s.drawer ≡ fresh s.numbers.which [] 1024) }
     ensures state { IfOk result (λ s. s.state ≡ store.persist.iv) }
@@ -82,7 +83,7 @@ fn open(alloc: Global, store: Store, entries: usize) -> Result<Started<MeshMachi
     };
     Ok(Started {
         machine: MeshMachine {
-            state: apart,
+            state: Box::new(alloc, apart)?,
             reads,
         },
         numbers,
@@ -90,6 +91,29 @@ fn open(alloc: Global, store: Store, entries: usize) -> Result<Started<MeshMachi
         state,
         mark,
     })
+}
+
+// What is left of a machine: its entries that weren't taken, and its keeper.
+#[inline(never)]
+fn ended(state: Box<MeshState>) -> (History, Keeper)
+    ensures entries { result.0.entries.items ≡ drop state.value.taken state.value.entries }
+    ensures refills { result.0.refills ≡ state.value.fills }
+    ensures keeper { result.1 ≡ state.value.reserve.keeper }
+{
+    let MeshState { parts, fills, .. } = Box::into_inner(state);
+    let Parts {
+        reserve,
+        mut history,
+        ..
+    } = parts;
+    let Reserve { store: _, keeper } = reserve;
+    (
+        History {
+            entries: history.take(),
+            refills: fills,
+        },
+        keeper,
+    )
 }
 
 impl MeshMachine {
@@ -123,7 +147,7 @@ impl Machine for MeshMachine {
 
     ghost view = { shown };
 
-    ghost advances = { λ m. m.state.reserve.keeper.advances };
+    ghost advances = { λ m. m.state.value.reserve.keeper.advances };
 
     ghost stands = { Stands };
 
@@ -194,20 +218,7 @@ impl Machine for MeshMachine {
 
     fn finish(self) -> (History, Keeper) {
         let MeshMachine { state, reads: _ } = self;
-        let MeshState { parts, fills, .. } = state;
-        let Parts {
-            reserve,
-            mut history,
-            ..
-        } = parts;
-        let Reserve { store: _, keeper } = reserve;
-        (
-            History {
-                entries: history.take(),
-                refills: fills,
-            },
-            keeper,
-        )
+        ended(state)
     }
 
     fn tells<F: Flash>() {}

@@ -1,7 +1,7 @@
 //! What a machine is between two calls.
 #![tactic(auto)]
 
-ghost use Rattle.std.specs.Prelude.{◌≡◌, ◌≢◌, ◌+◌, ◌-◌, ◌<◌, ◌^◌, List, [], All, drop, length, true, false, Ok, Err, IfOk, OnOk, IfErr};
+ghost use Rattle.std.specs.Prelude.{◌≡◌, ◌≢◌, ◌+◌, ◌<◌, ◌^◌, List, All, drop, length, true, false, Ok, Err, IfOk, OnOk, IfErr};
 ghost use Rattle.event_world.specs.Stepping.{HasStepped};
 ghost use Rattle.flash_model.specs.Chip.{Keeps};
 ghost use Rattle.machine_contract.specs.Ranges.{IsEvent, IsJob, IsQuiet};
@@ -16,23 +16,20 @@ ghost use Rattle.run_definitions.specs.Order.{is_outside};
 ghost use Rattle.seq_word.specs.Word.{seq_of};
 ghost use Rattle.store_world.specs.Standing.{IsWorldOf};
 
-use crate::kinds::handle;
+use crate::kinds::{Pending, handle};
 use crate::parts::Parts;
 use early_reading::Known;
-use entry_log::EntryLog;
 use event_world::event_law;
 use flash_model::Flash;
 use machine_contract::{Answered, Hand, Stop};
-use machine_standing::{Drafts, Place, room};
+use machine_standing::{Place, room};
 use machine_ties::ties_law;
 use mesh_types::events::Event;
 use mesh_types::history::Entry;
+use mesh_types::told::ToldEvent;
 use node_models::node_models_law;
 use seq_word::Numbers;
 use std::marker::Model;
-
-/// A history has at most so many entries.
-const MOST_ENTRIES: u64 = 0xffff_ffff;
 
 /// What the machine of a node is between two calls, apart from its counts of early reading. The flash stays with the caller, and is passed to
 /// each call.
@@ -55,25 +52,6 @@ impl Model for MeshState {
     ghost view = { λ m. machine_of m.parts m.fills m.closed m.hand m.elements };
 
     ghost invariant = { λ m. IsSound (machine_of m.parts m.fills m.closed m.hand m.elements) };
-}
-
-// Memory for one entry more and for its jobs, where the history has a place for it.
-fn room_for_one(history: &mut EntryLog) -> Result<Drafts, Stop>
-    ensures handed { IfOk result (λ drafts. drafts.handed ≡ []) }
-    ensures kept { IfOk result (λ drafts. drafts.kept ≡ []) }
-    ensures room { OnOk result (0 < history.new.room) }
-    ensures few { OnOk result (length history.new.entries < 2 ^ 32 - 1) }
-    ensures memory { IfErr result (λ stop. stop ≡ Stop.Memory) }
-    ensures entries { history.new.entries ≡ history.old.entries }
-    ensures taken { history.new.taken ≡ history.old.taken }
-{
-    if history.count() >= MOST_ENTRIES {
-        return Err(Stop::Memory);
-    }
-    match room(history) {
-        Ok(drafts) => Ok(drafts),
-        Err(_) => Err(Stop::Memory),
-    }
 }
 
 impl MeshState {
@@ -99,6 +77,7 @@ impl MeshState {
             (shown self.new).mark) }
         ensures place { IfOk result (λ r. r.at ≡ length (shown self.old).entries) }
         ensures usable { OnOk result ((shown self.old).closed ≡ false) }
+        ensures no_fault { OnOk result ((F.chip flash.new).faults ≡ (F.chip flash.old).faults) }
         ensures jobs { IfOk result (λ r. All (IsJob event.now) r.jobs) }
         ensures quiet { is_outside event.now ≡ false → IfOk result (λ r. All IsQuiet r.jobs) }
         ensures steps { (w : World) → IsWorldOf w self.old.reserve.store.persist self.old.reserve.store.persist.mark
@@ -118,13 +97,18 @@ impl MeshState {
         ties_law();
         node_models_law();
         event_law();
-        let drafts = room_for_one(&mut self.parts.history)?;
+        let draft = room(&mut self.parts.history)?;
         let place = Place {
             bearer,
             number,
             fills: self.fills,
         };
-        match handle(&mut self.parts, n, flash, event, known, place, drafts) {
+        let pending = Pending {
+            event,
+            place,
+            draft,
+        };
+        match handle(&mut self.parts, n, flash, known, pending) {
             Ok(answered) => {
                 self.fills = 0;
                 Ok(answered)
@@ -132,7 +116,7 @@ impl MeshState {
             Err(stop) => match stop {
                 Stop::Flash => {
                     self.closed = true;
-                    self.hand = Hand::OfEvent(event.copied());
+                    self.hand = Hand::OfEvent(ToldEvent::of(event));
                     Err(Stop::Flash)
                 }
                 Stop::Memory => Err(Stop::Memory),
@@ -141,8 +125,8 @@ impl MeshState {
         }
     }
 
-    /// The entries since this was called last: `take_entries` of `Machine` is this call. `F` is the type
-    /// of the flash that it stands over, which isn't called.
+    /// The entries since this was called last, or since the life began (`entries`); nothing else changes (`shown`). `take_entries` of `Machine` is
+    /// this call. `F` is the type of the flash that it stands over, which isn't called.
     pub(crate) fn take<F: Flash>(&mut self) -> Vec<Entry>
         ensures entries { result.items ≡ drop (shown self.old).taken (shown self.old).entries }
         ensures shown { shown self.new ≡ record (shown self.old) { taken = length (shown self.old).entries } }
@@ -151,8 +135,9 @@ impl MeshState {
         self.parts.history.take()
     }
 
-    /// Stores a refill, and publishes its mark, 256 higher, where `seen` is the mark published last; else nothing changes. Returns the mark
-    /// that is published then. It takes no memory: the refills behind one entry lie under one IV Index, so they are at most 65,536.
+    /// Stores a refill, and publishes its mark, 256 higher, where `seen` is the mark published last (`filled`); else nothing changes
+    /// (`nothing`). Returns the mark that is published then (`value`). It is never refused for want of memory (`memory`): of the refills behind
+    /// one entry only their number is kept, and that is at most 65,536, since they lie under one IV Index.
     pub(crate) fn refill_numbers<F: Flash>(
         &mut self,
         n: &Numbers,
@@ -172,6 +157,7 @@ impl MeshState {
             (shown self.new
             ≡ record (shown self.old) { fills = (shown self.new).fills; mark = (shown self.new).mark }) }
         ensures usable { OnOk result ((shown self.old).closed ≡ false) }
+        ensures no_fault { OnOk result ((F.chip flash.new).faults ≡ (F.chip flash.old).faults) }
         ensures closed { (shown self.old).closed ≡ true → result ≡ Err Stop.Closed }
         ensures memory { result ≢ Err Stop.Memory }
         ensures refused { IfErr result

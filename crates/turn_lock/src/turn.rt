@@ -202,7 +202,9 @@ impl<T: Logged + Drop> Turn<T> {
     {
         let more = value.count() - p.found;
         let table = &self.table.shared;
-        table.exchange(&mut p.seat, HOME, Some(value));
+        let None = table.exchange(&mut p.seat, HOME, Some(value)) else {
+            unreachable!()
+        };
         table.fetch_add::<CountEntries>(&mut p.seat, COUNT, more);
         table.fetch_add::<PassOn>(&mut p.seat, SERVING, 1);
     }

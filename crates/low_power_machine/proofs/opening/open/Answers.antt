@@ -10,8 +10,8 @@ use Rattle.node_records.specs.declared.persist.Persist.{Persist}
 use Rattle.node_store.specs.View.{StoreView}
 use Rattle.low_power_machine.proofs.opening.open.Goals as goal
 
-pub invariant_of-machine : goal.invariant_of-machine
-invariant_of-machine c e =
+pub invariant_of-apart : goal.invariant_of-apart
+invariant_of-apart c e =
     let (over, node) = c.requires.node in
     let r = c.in_ok-reserve.reserve in
     let t = c.new-memory.result in

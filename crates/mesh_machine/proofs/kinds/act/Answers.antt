@@ -1,8 +1,8 @@
-use Rattle.std.proofs.Common.{◌≡◌, ◌∷◌, ◌++◌, [], ◌∙◌, ap, arith, refl, subst, sym}
+use Rattle.std.proofs.Common.{◌≡◌, ◌∙◌, arith, refl, subst, sym}
 use Rattle.event_plans.specs.Plans.{of_own}
 use Rattle.event_plans.specs.Sending.{IsSendable}
 use Rattle.layer_laws.specs.Laws.{IsWithinLimits}
-use Rattle.mesh_machine.proofs.Handled.{asked_by, entry_of, own_bounded, turn_sendable}
+use Rattle.mesh_machine.proofs.Handled.{asked_by, own_bounded, turn_sendable}
 use Rattle.mesh_machine.specs.Handling.{IsAsked}
 use Rattle.mesh_types.specs.declared.events.Event.{Event}
 use Rattle.node_layers.specs.NodeLayers.{node_layers}
@@ -14,15 +14,15 @@ use Rattle.mesh_machine.proofs.kinds.act.Goals as goal
 
 pub plan_own-plan-requires-clause-sendable : goal.plan_own-plan-requires-clause-sendable
 plan_own-plan-requires-clause-sendable c =
-    subst (λ (p : Persist). IsSendable (config_in p) c.args.event.now) (sym c.persist-p.ensures.value) (turn_sendable c.args.parts.now c.args.event.now c.requires.turn)
+    subst (λ (p : Persist). IsSendable (config_in p) c.args.pending.event.now) (sym c.persist-p.ensures.value) (turn_sendable c.args.parts.now c.args.pending.event.now c.requires.turn)
 
 pub jobs_of_own-jobs-requires-clause-sendable : goal.jobs_of_own-jobs-requires-clause-sendable
 jobs_of_own-jobs-requires-clause-sendable c =
-    subst (λ (p : Persist). IsSendable (config_in p) c.args.event.now) (sym c.persist-p.ensures.value) (turn_sendable c.args.parts.now c.args.event.now c.requires.turn)
+    subst (λ (p : Persist). IsSendable (config_in p) c.args.pending.event.now) (sym c.persist-p.ensures.value) (turn_sendable c.args.parts.now c.args.pending.event.now c.requires.turn)
 
 pub returns : goal.returns
 returns c =
-    let event : Event = c.args.event.now in
+    let event : Event = c.args.pending.event.now in
     let old = c.args.parts.now in
     let asked : IsAsked old event (of_own c.plan_own-plan.result) c.plan_own-plan.new.tables =
     asked_by old event (of_own c.plan_own-plan.result) c.plan_own-plan.new.tables c.persist-p.result.now c.persist-p.ensures.value
@@ -38,7 +38,7 @@ returns c =
         jobs = λ past planned. c.enter.ensures.jobs
             ∙ subst (λ (p : Persist). c.jobs_of_own-jobs.result ≡ jobs_of node_layers past (config_in p) event OfNothing c.plan_own-plan.result.answer) c.persist-p.ensures.value
             (c.jobs_of_own-jobs.ensures.value past c.plan_own-plan.new.tables planned);
-        entry = c.enter.ensures.entry ∙ ap (λ (e : Event). old.history.entries ++ entry_of c.args.place e c.enter.result ∷ []) c.copied.ensures.value;
+        entry = c.enter.ensures.entry;
         taken = c.enter.ensures.taken;
         among = c.enter.ensures.place;
         few = omega (arith, c.requires.room.few);

@@ -13,7 +13,7 @@ hear-requires-clause-known g c = c.requires.known c.in-Net.octets c.in-Net.is
 
 pub returns-in-Net-clause-done : goal.returns-in-Net-clause-done
 returns-in-Net-clause-done g c =
-    subst (λ (e : Event). IfOk c.hear.result (IsDone c.args.parts.now c.hear.new.parts e c.args.place (g.F.Flash.chip c.args.flash.now) (g.F.Flash.chip c.hear.new.flash)))
+    subst (λ (e : Event). IfOk c.hear.result (IsDone c.args.parts.now c.hear.new.parts e c.args.pending.place (g.F.Flash.chip c.args.flash.now) (g.F.Flash.chip c.hear.new.flash)))
     (sym c.in-Net.is) c.hear.ensures.done
 
 pub returns-in-Net-clause-stopped : goal.returns-in-Net-clause-stopped
@@ -26,7 +26,7 @@ hear_beacon-requires-clause-turn g c = subst (λ (e : Event). IsTurnOf c.args.pa
 
 pub returns-in-Bcn-clause-done : goal.returns-in-Bcn-clause-done
 returns-in-Bcn-clause-done g c =
-    subst (λ (e : Event). IfOk c.hear_beacon.result (IsDone c.args.parts.now c.hear_beacon.new.parts e c.args.place (g.F.Flash.chip c.args.flash.now) (g.F.Flash.chip c.hear_beacon.new.flash)))
+    subst (λ (e : Event). IfOk c.hear_beacon.result (IsDone c.args.parts.now c.hear_beacon.new.parts e c.args.pending.place (g.F.Flash.chip c.args.flash.now) (g.F.Flash.chip c.hear_beacon.new.flash)))
     (sym c.in-Bcn.is) c.hear_beacon.ensures.done
 
 pub returns-in-Bcn-clause-stopped : goal.returns-in-Bcn-clause-stopped
@@ -39,7 +39,7 @@ tick-requires-clause-turn g c = subst (λ (e : Event). IsTurnOf c.args.parts.now
 
 pub returns-in-Tick-clause-done : goal.returns-in-Tick-clause-done
 returns-in-Tick-clause-done g c =
-    subst (λ (e : Event). IfOk c.tick.result (IsDone c.args.parts.now c.tick.new.parts e c.args.place (g.F.Flash.chip c.args.flash.now) (g.F.Flash.chip c.tick.new.flash)))
+    subst (λ (e : Event). IfOk c.tick.result (IsDone c.args.parts.now c.tick.new.parts e c.args.pending.place (g.F.Flash.chip c.args.flash.now) (g.F.Flash.chip c.tick.new.flash)))
     (sym c.in-Tick.is) c.tick.ensures.done
 
 pub returns-in-Tick-clause-stopped : goal.returns-in-Tick-clause-stopped
@@ -48,8 +48,8 @@ returns-in-Tick-clause-stopped g c =
     (sym c.in-Tick.is) c.tick.ensures.stopped
 
 pub act-requires-clause-own : goal.act-requires-clause-own
-act-requires-clause-own g c = own_left c.args.event.now c.in_default.not-Net c.in_default.not-Bcn c.in_default.not-Tick
+act-requires-clause-own g c = own_left c.args.pending.event.now c.in_default.not-Net c.in_default.not-Bcn c.in_default.not-Tick
 
 pub returns-in_default-clause-done : goal.returns-in_default-clause-done
 returns-in_default-clause-done g c =
-    acted_done c.args.parts.now c.act.new.parts c.args.event.now c.requires.turn c.args.place c.act.result c.act.ensures.done (g.F.Flash.chip c.args.flash.now)
+    acted_done c.args.parts.now c.act.new.parts c.args.pending.event.now c.requires.turn c.args.pending.place c.act.result c.act.ensures.done (g.F.Flash.chip c.args.flash.now)

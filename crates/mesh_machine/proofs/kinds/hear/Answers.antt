@@ -1,4 +1,4 @@
-use Rattle.std.proofs.Common.{List, ℕ, ◌<◌, ◌^◌, ap, refl, subst, sym}
+use Rattle.std.proofs.Common.{List, ℕ, ◌<◌, ◌^◌, refl, subst, sym}
 use Rattle.event_plans.specs.Plans.{IsPlanned, of_pdu}
 use Rattle.machine_ties.specs.Kept.{IsBounded}
 use Rattle.mesh_machine.proofs.Handled.{asked_by, asked_keys, asked_unicast, cut_by, done_by, some_plan}
@@ -53,8 +53,8 @@ returns-in-Ok-store-clause-done g c =
     c.in-Ok.ensures.may c.in-Ok.ensures.moves
     (subst (λ (p : Persist). IsBounded p (pdu_insight c.in-Ok.plan.basis.heard)) c.persist-in-Ok.ensures.value c.are_bounded.ensures.bounded)
     c.plan_pdu.ensures.fit in
-    done_by c.args.parts.now c.store.new.parts c.enter.new.history event c.args.place (g.F.Flash.chip c.args.flash.now) (g.F.Flash.chip c.store.new.flash) c.enter.result (of_pdu c.in-Ok.plan) c.plan_pdu.new.tables
-    asked c.in-Ok-store.ensures.stored c.store.ensures.history (E.Net c.copied.result) (ap (λ (l : List ℕ). E.Net l) c.copied.ensures.value)
+    done_by c.args.parts.now c.store.new.parts c.enter.new.history event c.args.pending.place (g.F.Flash.chip c.args.flash.now) (g.F.Flash.chip c.store.new.flash) c.enter.result (of_pdu c.in-Ok.plan) c.plan_pdu.new.tables
+    asked c.in-Ok-store.ensures.stored c.store.ensures.history c.args.pending.event.now c.requires.heard
     c.enter.ensures.entry c.enter.ensures.taken c.enter.ensures.place c.enter.ensures.answer c.requires.room.few c.persist-p.result.now c.persist-p.ensures.value c.jobs_of_pdu-jobs.result c.enter.ensures.jobs
     (λ past planned unicast leaves. c.jobs_of_pdu-jobs.ensures.value past c.args.octets.now c.plan_pdu.new.tables planned leaves)
 

@@ -1,4 +1,4 @@
-use Rattle.std.proofs.Common.{List, ℕ, ap, refl, subst}
+use Rattle.std.proofs.Common.{List, ℕ, refl, subst}
 use Rattle.event_plans.specs.Plans.{IsPlanned, of_beacon}
 use Rattle.mesh_machine.proofs.Handled.{asked_by, asked_keys, cut_by, done_by}
 use Rattle.mesh_machine.specs.Handling.{IsAsked}
@@ -30,8 +30,8 @@ returns-clause-done g c =
     c.plan_beacon-plan.ensures.may c.plan_beacon-plan.ensures.moves
     (beacon_bounded c.args.parts.now.reserve.store.persist c.plan_beacon-plan.result.heard.reset c.plan_beacon-plan.result.heard.beacon (subst (λ (p : Persist). IsWithinLimits (config_in p)) c.persist.ensures.value c.are_within.ensures.within))
     c.plan_beacon-plan.ensures.fit in
-    done_by c.args.parts.now c.store.new.parts c.enter.new.history event c.args.place (g.F.Flash.chip c.args.flash.now) (g.F.Flash.chip c.store.new.flash) c.enter.result (of_beacon c.plan_beacon-plan.result) c.plan_beacon-plan.new.tables
-    asked c.in-Ok.ensures.stored c.store.ensures.history (E.Bcn c.copied.result) (ap (λ (l : List ℕ). E.Bcn l) c.copied.ensures.value)
+    done_by c.args.parts.now c.store.new.parts c.enter.new.history event c.args.pending.place (g.F.Flash.chip c.args.flash.now) (g.F.Flash.chip c.store.new.flash) c.enter.result (of_beacon c.plan_beacon-plan.result) c.plan_beacon-plan.new.tables
+    asked c.in-Ok.ensures.stored c.store.ensures.history c.args.pending.event.now c.requires.heard
     c.enter.ensures.entry c.enter.ensures.taken c.enter.ensures.place c.enter.ensures.answer c.requires.room.few c.store.new.parts.reserve.store.persist refl c.jobs_of_beacon-jobs.result c.enter.ensures.jobs
     (λ past planned unicast leaves. c.jobs_of_beacon-jobs.ensures.value past _ c.args.octets.now _ _)
 

@@ -1,11 +1,10 @@
-use Rattle.std.proofs.Common.{◌≡◌, [], ◌∙◌, arith, refl, subst, sym}
-use Rattle.std.specs.Prelude.{IfErr, IfOk}
+use Rattle.std.proofs.Common.{◌≡◌, ◌<◌, ◌^◌, ◌∷◌, ◌++◌, [], ◌∙◌, ap, arith, refl, subst, sym}
 use Rattle.event_plans.specs.Basis.{Plan}
 use Rattle.event_plans.specs.Memory.{IsFitFor, NodeTablesView}
-use Rattle.event_plans.specs.Plans.{of_tick}
+use Rattle.event_plans.specs.Plans.{IsStanding, of_tick}
 use Rattle.layer_laws.specs.Laws.{IsWithinLimits}
-use Rattle.mesh_machine.proofs.Handled.{asked_by, nothing_stored, own_bounded}
-use Rattle.mesh_machine.specs.Handling.{IsAsked, IsDone, IsStopped, IsTurnOf}
+use Rattle.mesh_machine.proofs.Handled.{asked_by, asked_keys, asked_unicast, cut_by, done_by, entry_of, nothing_stored, own_bounded, some_plan}
+use Rattle.mesh_machine.specs.Handling.{IsAsked}
 use Rattle.mesh_machine.specs.declared.parts.Parts.{Parts}
 use Rattle.mesh_types.specs.declared.answers.Answer.{Answer}
 use Rattle.mesh_types.specs.declared.events.Event.{Event}
@@ -32,40 +31,82 @@ returns-in-Some-clause-done g c =
     asked_by old event plan c.wait.new.tables p c.persist-2.ensures.value c.in-Some.ensures.planned tt tt
     (own_bounded old.reserve.store.persist (subst (λ (q : Persist). IsWithinLimits (config_in q)) c.persist.ensures.value c.are_within.ensures.within))
     (c.wait.ensures.fit fit) in
-    let new : Parts = record old { tables = c.wait.new.tables; history = c.enter.new.history } in
+    let new : Parts = record old { tables = c.wait.new.tables; history = c.enter-told.new.history } in
     record {
       plan = plan;
       tables = c.wait.new.tables;
       asked = asked;
       stored = nothing_stored old new event c.requires.turn asked.fit.keys refl (g.F.Flash.chip c.args.flash.now);
-      answer = c.enter.ensures.answer;
+      answer = c.enter-told.ensures.answer;
       jobs = λ past standing planned unicast leaves.
           let means = subst (λ (q : Persist). IsMeaningOf past.records q) (sym c.persist-2.ensures.value) standing.meaning in
           let none = (c.in-Some.ensures.quiet past means standing.tables).jobs in
           let under = subst (λ (d : Config). jobs_of node_layers past d event OfNothing (tick_answer past c.args.ticks) ≡ []) (sym standing.meaning.config) none in
-          c.enter.ensures.jobs ∙ c.finish.ensures.value ∙ c.requires.room.handed
+          c.enter-told.ensures.jobs ∙ c.finish-jobs.ensures.value ∙ c.requires.room.none
           ∙ sym (subst (λ (a : Answer). jobs_of node_layers past (config_in old.reserve.store.persist) event OfNothing a ≡ []) (sym planned.answer) under);
-      entry = c.enter.ensures.entry;
-      taken = c.enter.ensures.taken;
-      among = c.enter.ensures.place;
+      entry = c.enter-told.ensures.entry ∙ ap (λ (e : Event). old.history.entries ++ entry_of c.args.pending.place e c.enter-told.result ∷ []) c.requires.told;
+      taken = c.enter-told.ensures.taken;
+      among = c.enter-told.ensures.place;
       few = omega (arith, c.requires.room.few);
     }
 
-pub pass-requires-clause-turn : goal.pass-requires-clause-turn
-pass-requires-clause-turn g c =
-    let old : Parts = c.args.parts.now in
-    subst (λ (t : NodeTablesView). IsTurnOf (record old { tables = t }) (E.Tick c.args.ticks)) (sym c.in-None.ensures.unchanged) c.requires.turn
+pub store-requires-clause-held : goal.store-requires-clause-held
+store-requires-clause-held g c =
+    let event : Event = E.Tick c.args.ticks in
+    let asked : IsAsked c.args.parts.now event (of_tick c.plan_tick-plan.result) c.plan_tick-plan.new.tables =
+    asked_by c.args.parts.now event (of_tick c.plan_tick-plan.result) c.plan_tick-plan.new.tables c.persist-in-None.result.now c.persist-in-None.ensures.value
+    (λ past s. c.plan_tick-plan.ensures.planned past (subst (λ (t : NodeTablesView). IsStanding past c.persist-in-None.result.now t) (sym c.in-None.ensures.unchanged) s))
+    c.plan_tick-plan.ensures.may c.plan_tick-plan.ensures.moves
+    (own_bounded c.args.parts.now.reserve.store.persist (subst (λ (p : Persist). IsWithinLimits (config_in p)) c.persist.ensures.value c.are_within.ensures.within))
+    c.plan_tick-plan.ensures.fit in
+    asked_keys c.ties_law.ensures.laws c.args.parts.now event c.requires.turn (of_tick c.plan_tick-plan.result) c.plan_tick-plan.new.tables asked c.held_keys_law.ensures.whole
 
-pub returns-in-None-clause-done : goal.returns-in-None-clause-done
-returns-in-None-clause-done g c =
-    let old : Parts = c.args.parts.now in
-    subst (λ (t : NodeTablesView). IfOk c.pass.result
-    (IsDone (record old { tables = t }) c.pass.new.parts (E.Tick c.args.ticks) c.args.place (g.F.Flash.chip c.args.flash.now) (g.F.Flash.chip c.pass.new.flash)))
-    c.in-None.ensures.unchanged c.pass.ensures.done
+pub jobs_of_tick-jobs-requires-clause-planned : goal.jobs_of_tick-jobs-requires-clause-planned
+jobs_of_tick-jobs-requires-clause-planned g c =
+    let event : Event = E.Tick c.args.ticks in
+    let asked : IsAsked c.args.parts.now event (of_tick c.plan_tick-plan.result) c.plan_tick-plan.new.tables =
+    asked_by c.args.parts.now event (of_tick c.plan_tick-plan.result) c.plan_tick-plan.new.tables c.persist-in-None.result.now c.persist-in-None.ensures.value
+    (λ past s. c.plan_tick-plan.ensures.planned past (subst (λ (t : NodeTablesView). IsStanding past c.persist-in-None.result.now t) (sym c.in-None.ensures.unchanged) s))
+    c.plan_tick-plan.ensures.may c.plan_tick-plan.ensures.moves
+    (own_bounded c.args.parts.now.reserve.store.persist (subst (λ (p : Persist). IsWithinLimits (config_in p)) c.persist.ensures.value c.are_within.ensures.within))
+    c.plan_tick-plan.ensures.fit in
+    (c.args.ticks, some_plan c.ties_law.ensures.laws c.args.parts.now event c.requires.turn (of_tick c.plan_tick-plan.result) c.plan_tick-plan.new.tables asked)
 
-pub returns-in-None-clause-stopped : goal.returns-in-None-clause-stopped
-returns-in-None-clause-stopped g c =
-    let old : Parts = c.args.parts.now in
-    subst (λ (t : NodeTablesView). IfErr c.pass.result
-    (IsStopped g.F.Flash.chip (E.Tick c.args.ticks) (record old { tables = t }) c.pass.new.parts c.args.flash.now c.pass.new.flash))
-    c.in-None.ensures.unchanged c.pass.ensures.stopped
+pub jobs_of_tick-jobs-requires-clause-unicast : goal.jobs_of_tick-jobs-requires-clause-unicast
+jobs_of_tick-jobs-requires-clause-unicast g c =
+    let event : Event = E.Tick c.args.ticks in
+    let asked : IsAsked c.args.parts.now event (of_tick c.plan_tick-plan.result) c.plan_tick-plan.new.tables =
+    asked_by c.args.parts.now event (of_tick c.plan_tick-plan.result) c.plan_tick-plan.new.tables c.persist-in-None.result.now c.persist-in-None.ensures.value
+    (λ past s. c.plan_tick-plan.ensures.planned past (subst (λ (t : NodeTablesView). IsStanding past c.persist-in-None.result.now t) (sym c.in-None.ensures.unchanged) s))
+    c.plan_tick-plan.ensures.may c.plan_tick-plan.ensures.moves
+    (own_bounded c.args.parts.now.reserve.store.persist (subst (λ (p : Persist). IsWithinLimits (config_in p)) c.persist.ensures.value c.are_within.ensures.within))
+    c.plan_tick-plan.ensures.fit in
+    subst (λ (q : Persist). q.unicast.0 < 2 ^ 15) (sym c.persist-p.ensures.value)
+    (asked_unicast c.ties_law.ensures.laws c.args.parts.now event c.requires.turn (of_tick c.plan_tick-plan.result) c.plan_tick-plan.new.tables asked c.store.new.parts.reserve.store.persist
+    (c.in-Ok.ensures.stored.value c.requires.turn.ready.past.records c.requires.turn.ready.before.standing.meaning))
+
+pub returns-in-Ok-clause-done : goal.returns-in-Ok-clause-done
+returns-in-Ok-clause-done g c =
+    let event : Event = E.Tick c.args.ticks in
+    let asked : IsAsked c.args.parts.now event (of_tick c.plan_tick-plan.result) c.plan_tick-plan.new.tables =
+    asked_by c.args.parts.now event (of_tick c.plan_tick-plan.result) c.plan_tick-plan.new.tables c.persist-in-None.result.now c.persist-in-None.ensures.value
+    (λ past s. c.plan_tick-plan.ensures.planned past (subst (λ (t : NodeTablesView). IsStanding past c.persist-in-None.result.now t) (sym c.in-None.ensures.unchanged) s))
+    c.plan_tick-plan.ensures.may c.plan_tick-plan.ensures.moves
+    (own_bounded c.args.parts.now.reserve.store.persist (subst (λ (p : Persist). IsWithinLimits (config_in p)) c.persist.ensures.value c.are_within.ensures.within))
+    c.plan_tick-plan.ensures.fit in
+    done_by c.args.parts.now c.store.new.parts c.enter-answered.new.history event c.args.pending.place (g.F.Flash.chip c.args.flash.now) (g.F.Flash.chip c.store.new.flash) c.enter-answered.result (of_tick c.plan_tick-plan.result) c.plan_tick-plan.new.tables
+    asked c.in-Ok.ensures.stored c.store.ensures.history c.args.pending.event.now c.requires.told
+    c.enter-answered.ensures.entry c.enter-answered.ensures.taken c.enter-answered.ensures.place c.enter-answered.ensures.answer c.requires.room.few c.persist-p.result.now c.persist-p.ensures.value c.jobs_of_tick-jobs.result c.enter-answered.ensures.jobs
+    (λ past planned unicast leaves. c.jobs_of_tick-jobs.ensures.value past c.args.ticks c.plan_tick-plan.new.tables planned unicast)
+
+pub returns-in-Err-clause-stopped : goal.returns-in-Err-clause-stopped
+returns-in-Err-clause-stopped g c =
+    let event : Event = E.Tick c.args.ticks in
+    let asked : IsAsked c.args.parts.now event (of_tick c.plan_tick-plan.result) c.plan_tick-plan.new.tables =
+    asked_by c.args.parts.now event (of_tick c.plan_tick-plan.result) c.plan_tick-plan.new.tables c.persist-in-None.result.now c.persist-in-None.ensures.value
+    (λ past s. c.plan_tick-plan.ensures.planned past (subst (λ (t : NodeTablesView). IsStanding past c.persist-in-None.result.now t) (sym c.in-None.ensures.unchanged) s))
+    c.plan_tick-plan.ensures.may c.plan_tick-plan.ensures.moves
+    (own_bounded c.args.parts.now.reserve.store.persist (subst (λ (p : Persist). IsWithinLimits (config_in p)) c.persist.ensures.value c.are_within.ensures.within))
+    c.plan_tick-plan.ensures.fit in
+    cut_by c.args.parts.now c.store.new.parts event (g.F.Flash.chip c.args.flash.now) (g.F.Flash.chip c.store.new.flash) (of_tick c.plan_tick-plan.result) c.plan_tick-plan.new.tables asked
+    c.in-Err.ensures.halted c.store.ensures.history

@@ -1,9 +1,10 @@
 use Rattle.std.proofs.Common.{◌≡◌, ◌∙◌, List, [], false, refl, ap, sym, subst}
-use Rattle.event_plans.specs.Memory.{IsFitFor}
+use Rattle.event_plans.specs.Memory.{AreNodeTablesOf, IsFitFor, NodeTablesView}
 use Rattle.machine_standing.proofs.Opened.{opened_ready}
 use Rattle.machine_standing.specs.Ties.{IsNodeStore}
 use Rattle.machine_ties.proofs.Standings.{opened_before}
 use Rattle.machine_ties.specs.Ties.{IsBefore, IsReady, opened}
+use Rattle.machine_ties.specs.Views.{NodeMachine}
 use Rattle.mesh_types.specs.declared.history.Entry.{Entry}
 use Rattle.node_records.specs.Meaning.{IsMeaningOf}
 use Rattle.node_records.specs.declared.persist.Persist.{Persist}
@@ -31,4 +32,6 @@ invariant_of-apart c e =
 
 pub returns-clause-tables : goal.returns-clause-tables
 returns-clause-tables c over meaning =
-    c.in_ok-tables.ensures.opened (record { told = []; records = over }) (subst (λ (p : Persist). IsMeaningOf over p) (sym c.persist.ensures.value) meaning) refl
+    let boxed : c.in_ok-new.field-0.value.tables ≡ c.in_ok-tables.tables = ap (λ (m : NodeMachine). m.tables) c.in_ok-new.ensures.ok in
+    subst (λ (t : NodeTablesView). AreNodeTablesOf t (record { told = []; records = over })) (sym boxed)
+    (c.in_ok-tables.ensures.opened (record { told = []; records = over }) (subst (λ (p : Persist). IsMeaningOf over p) (sym c.persist.ensures.value) meaning) refl)

@@ -19,6 +19,7 @@ returns-clause-stored g c =
       usable = puts.usable;
       value = puts.value;
       kept = puts.kept;
+      no_fault = c.in_ok-store_records.ensures.leaves.no_fault;
       published = c.store_records.ensures.published;
       made = c.store_records.ensures.made;
       moved = c.in_ok-store_records.ensures.advanced

@@ -24,6 +24,7 @@ invariant_of-self g c =
       few = h.few;
       live = h.live;
       stopped = h.stopped;
+      no_fault = λ off. kept.faults ∙ h.no_fault off;
       later = record {
         faults = subst (λ n. (g.F.Flash.chip held.start).faults ≤ n) (sym kept.faults) h.later.faults;
         steady = kept.steady ∙ h.later.steady;

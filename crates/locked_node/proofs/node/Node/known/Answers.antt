@@ -14,6 +14,7 @@ returns-clause-known g c =
       few = h.few;
       live = h.live;
       stopped = h.stopped;
+      no_fault = h.no_fault;
       later = h.later;
     })
 

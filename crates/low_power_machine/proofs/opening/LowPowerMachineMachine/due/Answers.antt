@@ -10,13 +10,13 @@ returns g c = record {
     told = s.life.told;
     entries = s.life.entries;
     handled = s.life.handled;
-    quiet = λ ticks l. quiet_tick (past_now low_power_role over s.life.told c.args.self.now.fills) ticks;
+    quiet = λ ticks l. quiet_tick (past_now low_power_role over s.life.told c.args.self.now.state.value.fills) ticks;
   };
   least = λ live f over s. record {
     told = s.life.told;
     entries = s.life.entries;
     handled = s.life.handled;
-    quiet = λ ticks l. quiet_tick (past_now low_power_role over s.life.told c.args.self.now.fills) ticks;
+    quiet = λ ticks l. quiet_tick (past_now low_power_role over s.life.told c.args.self.now.state.value.fills) ticks;
     reached = λ l q. omega (arith, l);
   };
   closed = λ e. refl;

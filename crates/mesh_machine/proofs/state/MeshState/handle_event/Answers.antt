@@ -27,9 +27,9 @@ pub handle-requires-clause-turn : goal.handle-requires-clause-turn
 handle-requires-clause-turn g c =
     let i = c.self.inside in
     let m : NodeMachine = machine_of i.parts i.fills i.closed i.hand i.elements in
-    let parts : Parts = record i.parts { history = c.room_for_one.new.history } in
+    let parts : Parts = record i.parts { history = c.room.new.history } in
     let same : machine_of parts i.fills i.closed i.hand i.elements ≡ m =
-    reserved_same i.parts c.room_for_one.new.history i.fills i.closed i.hand i.elements c.room_for_one.ensures.entries c.room_for_one.ensures.taken in
+    reserved_same i.parts c.room.new.history i.fills i.closed i.hand i.elements c.room.ensures.entries c.room.ensures.taken in
     let ready : IsReady (machine_of parts i.fills i.closed i.hand i.elements) = subst IsReady (sym same) (c.self.invariant c.if-self.false) in
     record { fills = i.fills; closed = i.closed; hand = i.hand; elements = i.elements; ready = ready; given = subst (λ (v : NodeMachine). IsEvent v.elements c.args.event.now) (sym c.self.view_is) c.requires.event }
 
@@ -41,9 +41,9 @@ pub invariant_of-self-in-Ok : goal.invariant_of-self-in-Ok
 invariant_of-self-in-Ok g c e =
     let i = c.self.inside in
     let m : NodeMachine = machine_of i.parts i.fills i.closed i.hand i.elements in
-    let parts : Parts = record i.parts { history = c.room_for_one.new.history } in
+    let parts : Parts = record i.parts { history = c.room.new.history } in
     let same : machine_of parts i.fills i.closed i.hand i.elements ≡ m =
-    reserved_same i.parts c.room_for_one.new.history i.fills i.closed i.hand i.elements c.room_for_one.ensures.entries c.room_for_one.ensures.taken in
+    reserved_same i.parts c.room.new.history i.fills i.closed i.hand i.elements c.room.ensures.entries c.room.ensures.taken in
     let ready : IsReady (machine_of parts i.fills i.closed i.hand i.elements) = subst IsReady (sym same) (c.self.invariant c.if-self.false) in
     let place : Place = record { bearer = c.args.bearer; number = c.args.number; fills = i.fills } in
     let old = g.F.Flash.chip c.args.flash.now in
@@ -57,9 +57,9 @@ pub returns-in-Ok-clause-ok : goal.returns-in-Ok-clause-ok
 returns-in-Ok-clause-ok g c =
     let i = c.self.inside in
     let m : NodeMachine = machine_of i.parts i.fills i.closed i.hand i.elements in
-    let parts : Parts = record i.parts { history = c.room_for_one.new.history } in
+    let parts : Parts = record i.parts { history = c.room.new.history } in
     let same : machine_of parts i.fills i.closed i.hand i.elements ≡ m =
-    reserved_same i.parts c.room_for_one.new.history i.fills i.closed i.hand i.elements c.room_for_one.ensures.entries c.room_for_one.ensures.taken in
+    reserved_same i.parts c.room.new.history i.fills i.closed i.hand i.elements c.room.ensures.entries c.room.ensures.taken in
     let place : Place = record { bearer = c.args.bearer; number = c.args.number; fills = i.fills } in
     let old = g.F.Flash.chip c.args.flash.now in
     let new = g.F.Flash.chip c.handle.new.flash in
@@ -74,9 +74,9 @@ pub returns-in-Ok-clause-place : goal.returns-in-Ok-clause-place
 returns-in-Ok-clause-place g c =
     let i = c.self.inside in
     let m : NodeMachine = machine_of i.parts i.fills i.closed i.hand i.elements in
-    let parts : Parts = record i.parts { history = c.room_for_one.new.history } in
+    let parts : Parts = record i.parts { history = c.room.new.history } in
     let same : machine_of parts i.fills i.closed i.hand i.elements ≡ m =
-    reserved_same i.parts c.room_for_one.new.history i.fills i.closed i.hand i.elements c.room_for_one.ensures.entries c.room_for_one.ensures.taken in
+    reserved_same i.parts c.room.new.history i.fills i.closed i.hand i.elements c.room.ensures.entries c.room.ensures.taken in
     let place : Place = record { bearer = c.args.bearer; number = c.args.number; fills = i.fills } in
     let old = g.F.Flash.chip c.args.flash.now in
     let new = g.F.Flash.chip c.handle.new.flash in
@@ -89,9 +89,9 @@ pub returns-in-Ok-clause-jobs : goal.returns-in-Ok-clause-jobs
 returns-in-Ok-clause-jobs g c =
     let i = c.self.inside in
     let m : NodeMachine = machine_of i.parts i.fills i.closed i.hand i.elements in
-    let parts : Parts = record i.parts { history = c.room_for_one.new.history } in
+    let parts : Parts = record i.parts { history = c.room.new.history } in
     let same : machine_of parts i.fills i.closed i.hand i.elements ≡ m =
-    reserved_same i.parts c.room_for_one.new.history i.fills i.closed i.hand i.elements c.room_for_one.ensures.entries c.room_for_one.ensures.taken in
+    reserved_same i.parts c.room.new.history i.fills i.closed i.hand i.elements c.room.ensures.entries c.room.ensures.taken in
     let ready : IsReady (machine_of parts i.fills i.closed i.hand i.elements) = subst IsReady (sym same) (c.self.invariant c.if-self.false) in
     let place : Place = record { bearer = c.args.bearer; number = c.args.number; fills = i.fills } in
     let old = g.F.Flash.chip c.args.flash.now in
@@ -105,9 +105,9 @@ pub returns-in-Ok-clause-quiet : goal.returns-in-Ok-clause-quiet
 returns-in-Ok-clause-quiet g c outside =
     let i = c.self.inside in
     let m : NodeMachine = machine_of i.parts i.fills i.closed i.hand i.elements in
-    let parts : Parts = record i.parts { history = c.room_for_one.new.history } in
+    let parts : Parts = record i.parts { history = c.room.new.history } in
     let same : machine_of parts i.fills i.closed i.hand i.elements ≡ m =
-    reserved_same i.parts c.room_for_one.new.history i.fills i.closed i.hand i.elements c.room_for_one.ensures.entries c.room_for_one.ensures.taken in
+    reserved_same i.parts c.room.new.history i.fills i.closed i.hand i.elements c.room.ensures.entries c.room.ensures.taken in
     let ready : IsReady (machine_of parts i.fills i.closed i.hand i.elements) = subst IsReady (sym same) (c.self.invariant c.if-self.false) in
     let place : Place = record { bearer = c.args.bearer; number = c.args.number; fills = i.fills } in
     let old = g.F.Flash.chip c.args.flash.now in
@@ -121,9 +121,9 @@ pub returns-in-Ok-clause-steps : goal.returns-in-Ok-clause-steps
 returns-in-Ok-clause-steps g c w world =
     let i = c.self.inside in
     let m : NodeMachine = machine_of i.parts i.fills i.closed i.hand i.elements in
-    let parts : Parts = record i.parts { history = c.room_for_one.new.history } in
+    let parts : Parts = record i.parts { history = c.room.new.history } in
     let same : machine_of parts i.fills i.closed i.hand i.elements ≡ m =
-    reserved_same i.parts c.room_for_one.new.history i.fills i.closed i.hand i.elements c.room_for_one.ensures.entries c.room_for_one.ensures.taken in
+    reserved_same i.parts c.room.new.history i.fills i.closed i.hand i.elements c.room.ensures.entries c.room.ensures.taken in
     let ready : IsReady (machine_of parts i.fills i.closed i.hand i.elements) = subst IsReady (sym same) (c.self.invariant c.if-self.false) in
     let place : Place = record { bearer = c.args.bearer; number = c.args.number; fills = i.fills } in
     let old = g.F.Flash.chip c.args.flash.now in
@@ -155,9 +155,9 @@ pub returns-in-Ok-clause-kept : goal.returns-in-Ok-clause-kept
 returns-in-Ok-clause-kept g c over stands =
     let i = c.self.inside in
     let m : NodeMachine = machine_of i.parts i.fills i.closed i.hand i.elements in
-    let parts : Parts = record i.parts { history = c.room_for_one.new.history } in
+    let parts : Parts = record i.parts { history = c.room.new.history } in
     let same : machine_of parts i.fills i.closed i.hand i.elements ≡ m =
-    reserved_same i.parts c.room_for_one.new.history i.fills i.closed i.hand i.elements c.room_for_one.ensures.entries c.room_for_one.ensures.taken in
+    reserved_same i.parts c.room.new.history i.fills i.closed i.hand i.elements c.room.ensures.entries c.room.ensures.taken in
     let place : Place = record { bearer = c.args.bearer; number = c.args.number; fills = i.fills } in
     let old = g.F.Flash.chip c.args.flash.now in
     let new = g.F.Flash.chip c.handle.new.flash in
@@ -171,13 +171,13 @@ pub returns-in-Flash-clause-kept : goal.returns-in-Flash-clause-kept
 returns-in-Flash-clause-kept g c over stands =
     let i = c.self.inside in
     let m : NodeMachine = machine_of i.parts i.fills i.closed i.hand i.elements in
-    let parts : Parts = record i.parts { history = c.room_for_one.new.history } in
+    let parts : Parts = record i.parts { history = c.room.new.history } in
     let same : machine_of parts i.fills i.closed i.hand i.elements ≡ m =
-    reserved_same i.parts c.room_for_one.new.history i.fills i.closed i.hand i.elements c.room_for_one.ensures.entries c.room_for_one.ensures.taken in
+    reserved_same i.parts c.room.new.history i.fills i.closed i.hand i.elements c.room.ensures.entries c.room.ensures.taken in
     let old = g.F.Flash.chip c.args.flash.now in
     let new = g.F.Flash.chip c.handle.new.flash in
     let d = of_flash g.F.Flash.chip c.args.event.now parts c.handle.new.parts c.args.flash.now c.handle.new.flash c.in-Err.stop c.in-Err.ensures.stopped c.in-Flash.is in
-    subst (λ (e : Event). Stands new over (machine_of c.handle.new.parts i.fills true (H.OfEvent e) i.elements)) (sym c.copied.ensures.value)
+    subst (λ (e : Event). Stands new over (machine_of c.handle.new.parts i.fills true (H.OfEvent e) i.elements)) (sym c.of.ensures.value)
     (stands_stopped c.ties_law.ensures.laws parts c.handle.new.parts c.args.event.now old new d i.fills i.closed i.hand i.elements over
     (subst (λ (v : NodeMachine). Stands old over v) (sym (same ∙ c.self.view_is)) stands) c.if-self.false c.handle.ensures.frame)
 
@@ -185,24 +185,24 @@ pub returns-in-Flash-clause-refused : goal.returns-in-Flash-clause-refused
 returns-in-Flash-clause-refused g c =
     let i = c.self.inside in
     let m : NodeMachine = machine_of i.parts i.fills i.closed i.hand i.elements in
-    let parts : Parts = record i.parts { history = c.room_for_one.new.history } in
+    let parts : Parts = record i.parts { history = c.room.new.history } in
     let same : machine_of parts i.fills i.closed i.hand i.elements ≡ m =
-    reserved_same i.parts c.room_for_one.new.history i.fills i.closed i.hand i.elements c.room_for_one.ensures.entries c.room_for_one.ensures.taken in
+    reserved_same i.parts c.room.new.history i.fills i.closed i.hand i.elements c.room.ensures.entries c.room.ensures.taken in
     let old = g.F.Flash.chip c.args.flash.now in
     let new = g.F.Flash.chip c.handle.new.flash in
     let d = of_flash g.F.Flash.chip c.args.event.now parts c.handle.new.parts c.args.flash.now c.handle.new.flash c.in-Err.stop c.in-Err.ensures.stopped c.in-Flash.is in
     let closes = closes_stopped c.ties_law.ensures.laws parts c.handle.new.parts c.args.event.now old new d i.fills i.closed i.hand i.elements c.if-self.false in
-    subst (λ (v : NodeMachine). Closes (H.OfEvent c.args.event.now) (shown v) (shown (machine_of c.handle.new.parts i.fills true (H.OfEvent c.copied.result) i.elements)) old new) (same ∙ c.self.view_is)
+    subst (λ (v : NodeMachine). Closes (H.OfEvent c.args.event.now) (shown v) (shown (machine_of c.handle.new.parts i.fills true (H.OfEvent c.of.result) i.elements)) old new) (same ∙ c.self.view_is)
     (subst (λ (e : Event). Closes (H.OfEvent c.args.event.now) (shown (machine_of parts i.fills i.closed i.hand i.elements)) (shown (machine_of c.handle.new.parts i.fills true (H.OfEvent e) i.elements)) old new)
-    (sym c.copied.ensures.value) closes)
+    (sym c.of.ensures.value) closes)
 
 pub returns-in-Memory-clause-refused : goal.returns-in-Memory-clause-refused
 returns-in-Memory-clause-refused g c =
     let i = c.self.inside in
     let m : NodeMachine = machine_of i.parts i.fills i.closed i.hand i.elements in
-    let parts : Parts = record i.parts { history = c.room_for_one.new.history } in
+    let parts : Parts = record i.parts { history = c.room.new.history } in
     let same : machine_of parts i.fills i.closed i.hand i.elements ≡ m =
-    reserved_same i.parts c.room_for_one.new.history i.fills i.closed i.hand i.elements c.room_for_one.ensures.entries c.room_for_one.ensures.taken in
+    reserved_same i.parts c.room.new.history i.fills i.closed i.hand i.elements c.room.ensures.entries c.room.ensures.taken in
     let (before, flash) = of_memory g.F.Flash.chip c.args.event.now parts c.handle.new.parts c.args.flash.now c.handle.new.flash c.in-Err.stop c.in-Err.ensures.stopped c.in-Memory.is in
     let back : machine_of c.handle.new.parts i.fills i.closed i.hand i.elements ≡ c.args.self.now =
     same_parts parts c.handle.new.parts i.fills i.closed i.hand i.elements before ∙ same ∙ c.self.view_is in
@@ -212,9 +212,9 @@ pub returns-in-Memory-clause-kept : goal.returns-in-Memory-clause-kept
 returns-in-Memory-clause-kept g c over stands =
     let i = c.self.inside in
     let m : NodeMachine = machine_of i.parts i.fills i.closed i.hand i.elements in
-    let parts : Parts = record i.parts { history = c.room_for_one.new.history } in
+    let parts : Parts = record i.parts { history = c.room.new.history } in
     let same : machine_of parts i.fills i.closed i.hand i.elements ≡ m =
-    reserved_same i.parts c.room_for_one.new.history i.fills i.closed i.hand i.elements c.room_for_one.ensures.entries c.room_for_one.ensures.taken in
+    reserved_same i.parts c.room.new.history i.fills i.closed i.hand i.elements c.room.ensures.entries c.room.ensures.taken in
     let (before, flash) = of_memory g.F.Flash.chip c.args.event.now parts c.handle.new.parts c.args.flash.now c.handle.new.flash c.in-Err.stop c.in-Err.ensures.stopped c.in-Memory.is in
     let back : machine_of c.handle.new.parts i.fills i.closed i.hand i.elements ≡ c.args.self.now =
     same_parts parts c.handle.new.parts i.fills i.closed i.hand i.elements before ∙ same ∙ c.self.view_is in
@@ -225,9 +225,9 @@ pub invariant_of-self-in-Memory : goal.invariant_of-self-in-Memory
 invariant_of-self-in-Memory g c =
     let i = c.self.inside in
     let m : NodeMachine = machine_of i.parts i.fills i.closed i.hand i.elements in
-    let parts : Parts = record i.parts { history = c.room_for_one.new.history } in
+    let parts : Parts = record i.parts { history = c.room.new.history } in
     let same : machine_of parts i.fills i.closed i.hand i.elements ≡ m =
-    reserved_same i.parts c.room_for_one.new.history i.fills i.closed i.hand i.elements c.room_for_one.ensures.entries c.room_for_one.ensures.taken in
+    reserved_same i.parts c.room.new.history i.fills i.closed i.hand i.elements c.room.ensures.entries c.room.ensures.taken in
     let (before, flash) = of_memory g.F.Flash.chip c.args.event.now parts c.handle.new.parts c.args.flash.now c.handle.new.flash c.in-Err.stop c.in-Err.ensures.stopped c.in-Memory.is in
     let back : machine_of c.handle.new.parts i.fills i.closed i.hand i.elements ≡ c.args.self.now =
     same_parts parts c.handle.new.parts i.fills i.closed i.hand i.elements before ∙ same ∙ c.self.view_is in
@@ -237,7 +237,7 @@ pub returns-in-Closed : goal.returns-in-Closed
 returns-in-Closed g c =
     let i = c.self.inside in
     let m : NodeMachine = machine_of i.parts i.fills i.closed i.hand i.elements in
-    let parts : Parts = record i.parts { history = c.room_for_one.new.history } in
+    let parts : Parts = record i.parts { history = c.room.new.history } in
     let same : machine_of parts i.fills i.closed i.hand i.elements ≡ m =
-    reserved_same i.parts c.room_for_one.new.history i.fills i.closed i.hand i.elements c.room_for_one.ensures.entries c.room_for_one.ensures.taken in
+    reserved_same i.parts c.room.new.history i.fills i.closed i.hand i.elements c.room.ensures.entries c.room.ensures.taken in
     absurd (never_closed g.F.Flash.chip c.args.event.now parts c.handle.new.parts c.args.flash.now c.handle.new.flash c.in-Err.stop c.in-Err.ensures.stopped c.in-Closed.is)

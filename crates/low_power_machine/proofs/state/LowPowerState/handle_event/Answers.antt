@@ -1,6 +1,5 @@
-use Rattle.std.proofs.Common.{◌≡◌, ◌+◌, ◌<◌, true, List, [], ◌∷◌, ◌++◌, refl, ap, sym, subst, ◌∙◌, arith}
+use Rattle.std.proofs.Common.{◌≡◌, ◌+◌, ◌-◌, ◌<◌, ◌^◌, true, List, [], ◌∷◌, ◌++◌, length, refl, ap, sym, subst, ◌∙◌, arith}
 use Rattle.std.specs.Prelude.{All}
-use Rattle.std.proofs.lemmas.Bool.Decides.{nat_tests}
 use Rattle.std.specs.List.{flat_map}
 use Rattle.std.specs.Option.{option_to_list}
 use Rattle.entry_log.specs.Log.{LogView}
@@ -35,7 +34,7 @@ use Rattle.node_store.specs.Tie.{IsFront}
 use Rattle.node_store.specs.Writing.{Puts}
 use Rattle.record_types.specs.declared.records.StoreRecord.{StoreRecord}
 use Rattle.seq_reserve.specs.declared.reserve.Reserve.{Reserve}
-use Rattle.low_power_machine.proofs.machine.LowPowerMachine.handle_event.Goals as goal
+use Rattle.low_power_machine.proofs.state.LowPowerState.handle_event.Goals as goal
 
 pub heard_records-records-requires : goal.heard_records-records-requires
 heard_records-records-requires g c =
@@ -99,20 +98,18 @@ invariant_of-self-2 g c e =
     let made : IsMade m event plan memory r log entry old new = record {
       plans = plans;
       may = may;
-      puts = subst (λ (l : List StoreRecord). Puts l old new i.reserve.store r.store) records (c.in-Ok-store_records.ensures.puts ready.usable);
+      puts = subst (λ (l : List StoreRecord). Puts l old new i.reserve.store r.store) records (c.in-Ok.ensures.puts ready.usable);
       is_entry = record {
         is_of = refl;
         has = c.enter-answered.ensures.answer;
         jobs = c.enter-answered.ensures.jobs ∙ c.jobs_of-jobs.ensures.value ∙ ap (λ (p : Persist). flat_map (jobs_under (config_in p)) (option_to_list plan.job)) c.persist-2.ensures.value;
       };
       fills = refl;
-      entries = c.enter-answered.ensures.entry
-          ∙ ap (λ (l : List Entry). l ++ (record entry { event = c.copied-copy.result }) ∷ []) c.room.ensures.entries
-          ∙ ap (λ (e : Event). i.history.entries ++ (record entry { event = e }) ∷ []) c.copied-copy.ensures.value;
+      entries = c.enter-answered.ensures.entry ∙ ap (λ (l : List Entry). l ++ entry ∷ []) c.room.ensures.entries;
       taken = c.enter-answered.ensures.taken ∙ c.room.ensures.taken;
       published = c.store_records.ensures.published;
       made = c.store_records.ensures.made;
-      moved = c.in-Ok-store_records.ensures.advanced ∙ ap (λ l. went_to i.reserve.keeper.advances ++ l) (advances_are (config_in i.reserve.store.persist) c.heard_records-records.result)
+      moved = c.in-Ok.ensures.advanced ∙ ap (λ l. went_to i.reserve.keeper.advances ++ l) (advances_are (config_in i.reserve.store.persist) c.heard_records-records.result)
           ∙ ap (λ (l : List StoreRecord). went_to i.reserve.keeper.advances ++ rises (config_in i.reserve.store.persist) l) records;
       fit = subst (λ (p : Persist). IsFitFor memory p) c.persist.ensures.value c.plan-plan.ensures.fit;
     } in
@@ -166,28 +163,27 @@ returns-clause-kept g c over stands =
     let made : IsMade m event plan memory r log entry old new = record {
       plans = plans;
       may = may;
-      puts = subst (λ (l : List StoreRecord). Puts l old new i.reserve.store r.store) records (c.in-Ok-store_records.ensures.puts ready.usable);
+      puts = subst (λ (l : List StoreRecord). Puts l old new i.reserve.store r.store) records (c.in-Ok.ensures.puts ready.usable);
       is_entry = record {
         is_of = refl;
         has = c.enter-answered.ensures.answer;
         jobs = c.enter-answered.ensures.jobs ∙ c.jobs_of-jobs.ensures.value ∙ ap (λ (p : Persist). flat_map (jobs_under (config_in p)) (option_to_list plan.job)) c.persist-2.ensures.value;
       };
       fills = refl;
-      entries = c.enter-answered.ensures.entry
-          ∙ ap (λ (l : List Entry). l ++ (record entry { event = c.copied-copy.result }) ∷ []) c.room.ensures.entries
-          ∙ ap (λ (e : Event). i.history.entries ++ (record entry { event = e }) ∷ []) c.copied-copy.ensures.value;
+      entries = c.enter-answered.ensures.entry ∙ ap (λ (l : List Entry). l ++ entry ∷ []) c.room.ensures.entries;
       taken = c.enter-answered.ensures.taken ∙ c.room.ensures.taken;
       published = c.store_records.ensures.published;
       made = c.store_records.ensures.made;
-      moved = c.in-Ok-store_records.ensures.advanced ∙ ap (λ l. went_to i.reserve.keeper.advances ++ l) (advances_are (config_in i.reserve.store.persist) c.heard_records-records.result)
+      moved = c.in-Ok.ensures.advanced ∙ ap (λ l. went_to i.reserve.keeper.advances ++ l) (advances_are (config_in i.reserve.store.persist) c.heard_records-records.result)
           ∙ ap (λ (l : List StoreRecord). went_to i.reserve.keeper.advances ++ rises (config_in i.reserve.store.persist) l) records;
       fit = subst (λ (p : Persist). IsFitFor memory p) c.persist.ensures.value c.plan-plan.ensures.fit;
     } in
+    let few : length i.history.entries < 2 ^ 32 - 1 = subst (λ (l : List Entry). length l < 2 ^ 32 - 1) c.room.ensures.entries c.in_ok-draft.ensures.few in
     stands_made m event plan memory r log entry old new made c.node_law.ensures.kept c.low_power_state_law.ensures.goes_on over
-    (subst (λ (v : LowPowerNode). Stands old over v) (sym c.self.view_is) stands) c.if-self.false (grind (arith, nat_tests, c.if-count-ge-MOST_ENTRIES.false, c.count.ensures.value)) c.store_records.ensures.leaves.frame
+    (subst (λ (v : LowPowerNode). Stands old over v) (sym c.self.view_is) stands) c.if-self.false (omega (arith, few)) c.store_records.ensures.leaves.frame
 
-pub returns-in-Err-store_records-clause-refused : goal.returns-in-Err-store_records-clause-refused
-returns-in-Err-store_records-clause-refused g c =
+pub returns-in-Err-clause-refused : goal.returns-in-Err-clause-refused
+returns-in-Err-clause-refused g c =
     let i = c.self.inside in
     let m : LowPowerNode = machine_of i.reserve i.memory i.history i.fills i.closed i.hand i.elements in
     let event : Event = c.args.event.now in
@@ -206,14 +202,14 @@ returns-in-Err-store_records-clause-refused g c =
     subst (λ (l : List StoreRecord). ArePuttable i.reserve.store.persist l) records
     (c.heard_records-records.ensures.may i.reserve.store.persist (place_of_answer ready.past i.reserve.store.persist event x.insight plan.answer ready.before.node.meaning x.sees x.answer)
     (λ q is. subst (λ (l : List StoreRecord). ArePuttable q l) (sym c.new.ensures.value) tt)) in
-    let rose : old.faults < new.faults = (c.in-Err-store_records.ensures.fails ready.usable).cause.rose in
+    let rose : old.faults < new.faults = (c.in-Err.ensures.fails ready.usable).cause.rose in
     let log : LogView = c.room.new.history in
-    subst (λ (v : LowPowerNode). Closes (H.OfEvent event) (shown v) (shown (machine_of r memory log i.fills true (H.OfEvent c.copied.result) i.elements)) old new) c.self.view_is
-    (subst (λ (e : Event). Closes (H.OfEvent event) (shown m) (shown (machine_of r memory log i.fills true (H.OfEvent e) i.elements)) old new) (sym c.copied.ensures.value)
+    subst (λ (v : LowPowerNode). Closes (H.OfEvent event) (shown v) (shown (machine_of r memory log i.fills true (H.OfEvent c.of.result) i.elements)) old new) c.self.view_is
+    (subst (λ (e : Event). Closes (H.OfEvent event) (shown m) (shown (machine_of r memory log i.fills true (H.OfEvent e) i.elements)) old new) (sym c.of.ensures.value)
     (closes c.node_law.ensures.kept c.low_power_state_law.ensures.goes_on m event plan memory r log old new plans may c.room.ensures.entries c.room.ensures.taken rose c.if-self.false c.store_records.ensures.made))
 
-pub returns-in-Err-store_records-clause-kept : goal.returns-in-Err-store_records-clause-kept
-returns-in-Err-store_records-clause-kept g c over stands =
+pub returns-in-Err-clause-kept : goal.returns-in-Err-clause-kept
+returns-in-Err-clause-kept g c over stands =
     let i = c.self.inside in
     let m : LowPowerNode = machine_of i.reserve i.memory i.history i.fills i.closed i.hand i.elements in
     let event : Event = c.args.event.now in
@@ -232,9 +228,9 @@ returns-in-Err-store_records-clause-kept g c over stands =
     subst (λ (l : List StoreRecord). ArePuttable i.reserve.store.persist l) records
     (c.heard_records-records.ensures.may i.reserve.store.persist (place_of_answer ready.past i.reserve.store.persist event x.insight plan.answer ready.before.node.meaning x.sees x.answer)
     (λ q is. subst (λ (l : List StoreRecord). ArePuttable q l) (sym c.new.ensures.value) tt)) in
-    let rose : old.faults < new.faults = (c.in-Err-store_records.ensures.fails ready.usable).cause.rose in
+    let rose : old.faults < new.faults = (c.in-Err.ensures.fails ready.usable).cause.rose in
     let log : LogView = c.room.new.history in
-    subst (λ (e : Event). Stands new over (machine_of r memory log i.fills true (H.OfEvent e) i.elements)) (sym c.copied.ensures.value)
+    subst (λ (e : Event). Stands new over (machine_of r memory log i.fills true (H.OfEvent e) i.elements)) (sym c.of.ensures.value)
     (stands_closed c.node_law.ensures.kept c.low_power_state_law.ensures.goes_on m event plan memory r log old new plans may c.room.ensures.entries c.room.ensures.taken rose over
     (subst (λ (v : LowPowerNode). Stands old over v) (sym c.self.view_is) stands) c.if-self.false c.store_records.ensures.leaves.frame
     (λ before held image is. subst (λ (l : List StoreRecord). IsFront before l image) records (c.store_records.ensures.fronts before held image is)) c.store_records.ensures.durable)

@@ -22,7 +22,7 @@ use Rattle.seq_word.specs.Seen.{KeeperView}
 use Rattle.seq_word.specs.Word.{seq_of}
 use Rattle.store_definitions.specs.Config.{Config, changed, config_of}
 use Rattle.store_definitions.specs.Numbers.{fill_of}
-use Rattle.low_power_machine.proofs.machine.LowPowerMachine.refill_numbers.Goals as goal
+use Rattle.low_power_machine.proofs.state.LowPowerState.refill_numbers.Goals as goal
 
 pub invariant_of-self : goal.invariant_of-self
 invariant_of-self g c e =

@@ -1,0 +1,7 @@
+use Rattle.std.proofs.Common.{subst, sym}
+use Rattle.low_power_machine.specs.Views.{LowPowerNode, Stands}
+use Rattle.low_power_machine.proofs.opening.LowPowerMachineMachine.refill.Goals as goal
+
+pub returns-clause-kept : goal.returns-clause-kept
+returns-clause-kept g c over s =
+    c.refill_numbers.ensures.kept over (subst (λ (m : LowPowerNode). Stands (g.F.Flash.chip c.args.flash.now) over m) (sym c.deref_mut.ensures.value) s)

@@ -1,0 +1,16 @@
+use Rattle.std.proofs.Common.{List, subst, sym}
+use Rattle.machine_standing.proofs.Taken.{stands_taken}
+use Rattle.low_power_machine.proofs.Kind.{before_taken}
+use Rattle.low_power_machine.specs.Parts.{machine_of}
+use Rattle.low_power_machine.specs.Views.{IsBefore, LowPowerNode, Stands}
+use Rattle.low_power_role.specs.Role.{low_power_role}
+use Rattle.mesh_types.specs.declared.history.Entry.{Entry}
+use Rattle.low_power_machine.proofs.state.LowPowerState.take.Goals as goal
+
+pub returns-clause-kept : goal.returns-clause-kept
+returns-clause-kept g c f over s =
+    let i = c.self.inside in
+    let m : LowPowerNode = machine_of i.reserve i.memory i.history i.fills i.closed i.hand i.elements in
+    let n = c.take.new.self.taken in
+    subst (λ (l : List Entry). Stands (g.F.Flash.chip f) over (record m { entries = l; taken = n })) (sym c.take.ensures.entries)
+    (stands_taken low_power_role IsBefore before_taken (g.F.Flash.chip f) over m n (subst (λ (v : LowPowerNode). Stands (g.F.Flash.chip f) over v) (sym c.self.view_is) s))

@@ -1,0 +1,13 @@
+-- The machine of a Low Power node: what it shows, and how it stands over its flash and over the records that its life opened over.
+use Rattle.std.specs.Prelude.{List}
+use Rattle.flash_model.specs.Chip.{Chip}
+use Rattle.low_power_machine.specs.Views as views
+use Rattle.low_power_machine.specs.declared.machine.LowPowerMachine.{LowPowerMachine}
+use Rattle.machine_contract.specs.View.{MachineView}
+use Rattle.record_types.specs.declared.records.StoreRecord.{StoreRecord}
+
+abbrev pub shown : LowPowerMachine → MachineView
+shown m = views.shown m.state.value
+
+abbrev pub Stands : Chip → List StoreRecord → LowPowerMachine → Type 0
+Stands chip over m = views.Stands chip over m.state.value
