@@ -132,12 +132,12 @@ impl<M: Machine> CalledNode<M, NotedFlash> {
         CalledNode::begun(alloc, life, writes)
     }
 
-    /// The next write that isn't taken yet: octets for an offset of the image, within its 65,536. Whoever takes it makes it durable before the ones
-    /// behind it, and all of them before the report leaves.
+    /// The next write that isn't taken yet: octets for an offset of the image, within its 65,536, or an erase of a sector. Whoever takes it makes it
+    /// durable before the ones behind it, and all of them before the report leaves.
     pub fn next_write(&self) -> Option<&Write>
         ensures value { MatchOption result (self.now.writes ≡ [])
             (λ w. (rest : List Put) × (self.now.writes ≡ put_of w.now ∷ rest)) }
-        ensures inside { IfSome result (λ w. w.now.at + length w.now.octets.items ≤ 65536) }
+        ensures inside { IfSome result (λ w. IsInside w.now) }
     {
         self.writes.get(self.taken)
     }
@@ -278,6 +278,7 @@ impl<M: Machine> CalledNode<M, NotedFlash> {
             (λ ticks. IsSomeAnd self.now.life
             (λ life. IsIdleNode M.role ⟦<NotedFlash as Flash>⟧.chip life.node ticks
             × IsDueNode M.role M.quiet ⟦<NotedFlash as Flash>⟧.chip life.node ticks)) }
+        ensures usable { IfSome result (λ ticks. IsUsable self.now) }
     {
         match &self.life {
             Some(life) if !life.is_closed() => Some(life.due()),

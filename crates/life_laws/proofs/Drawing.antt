@@ -1,16 +1,18 @@
 -- The pairs of a life.
-use Rattle.std.proofs.Common.{◌≢◌, ℕ, ◌<◌, ◌≤◌, List, arith}
-use Rattle.std.specs.Prelude.{All, slice_index_or}
+use Rattle.std.proofs.Common.{◌≡◌, ◌≢◌, ◌∙◌, inl, inr, ⊎_elim, ℕ, zero, suc, ◌+◌, ◌<◌, ◌≤◌, List, [], ◌∷◌, map, sym, ap, subst, append-nil, arith}
+use Rattle.std.specs.Prelude.{◌-◌, ◌*◌, ◌^◌, All, slice_index_or}
 use Rattle.std.specs.List.{Contains}
-use Rattle.std.proofs.lemmas.List.Elements.{All-contains, Contains-get_or}
+use Rattle.std.proofs.lemmas.List.Elements.{All-contains, All-head, All-tail, Contains-get_or}
+use Rattle.mesh_base.proofs.Pairs.{pairs_equal}
+use Rattle.mesh_base.specs.Pairs.{word_of}
+use Rattle.mesh_base.specs.declared.pair.Pair.{Pair}
 use Rattle.mesh_types.specs.declared.lines.Outcome.{Outcome}
 use Rattle.mesh_types.specs.declared.lines.Outcome.TheVariants as O
 use Rattle.record_types.specs.declared.records.StoreRecord.{StoreRecord}
 use Rattle.report_definitions.specs.Record.{Life, shown}
 use Rattle.run_definitions.specs.RunOf.{IsDrawn, IsSpentRight, draws}
-use Rattle.seq_word.specs.Rule.{times}
+use Rattle.seq_word.specs.Rule.{IsEndOf, times}
 use Rattle.seq_word.specs.Seen.{DrawerView}
-use Rattle.seq_word.specs.declared.looks.Look.{Look}
 use Rattle.seq_word.specs.declared.looks.Look.TheVariants as saw
 use Rattle.seq_word.proofs.Sums.{distinct}
 use Rattle.store_definitions.specs.Config.{config_of}
@@ -34,9 +36,33 @@ is_drawn over next l d h from below once =
       rise = rise_at l.entries l.sends h.drawns d.looks h.shown;
     }
 
-spent_right : (mark : ℕ) (looks : List Look) (o : Outcome) → ((word : ℕ) → Contains looks (saw.Counter word) → word ≤ mark) → IsSpentSeen looks o → IsSpentRight mark o
-spent_right mark looks (O.Spent iv) f h = f _ h
-spent_right mark looks _ f h = tt
+-- the last pair of an IV Index, by its word
+last_pair : (p : Pair) (iv : ℕ) → p.seq < 2 ^ 24 → word_of p ≡ iv * 2 ^ 25 + 2 ^ 24 - 1 → p ≡ record { iv = iv; seq = 2 ^ 24 - 1 }
+last_pair p iv short e = pairs_equal p (record { iv = iv; seq = 2 ^ 24 - 1 }) (omega (arith, short, e)) (omega (arith, short, e))
 
-pub is_spent : (mark : ℕ) (l : Life) (d : DrawerView) → PairsSo l.entries l.sends d → ((word : ℕ) → Contains d.looks (saw.Counter word) → word ≤ mark) → All (λ s. IsSpentRight mark s.outcome) (shown l)
-is_spent mark l d h f k s lt = spent_right mark d.looks _ f ((sum_up l.entries l.sends h.drawns d.looks h.shown).spent k s lt)
+last_drawn : (ps : List Pair) (iv : ℕ) → All (λ p. p.seq < 2 ^ 24) ps → Contains (map word_of ps) (iv * 2 ^ 25 + 2 ^ 24 - 1) → Contains ps (record { iv = iv; seq = 2 ^ 24 - 1 })
+last_drawn [] iv short (k, lt, e) = absurd (omega (arith, lt))
+last_drawn (p ∷ ps) iv short (zero, lt, e) = (0, omega arith, last_pair p iv (All-head (λ q. q.seq < 2 ^ 24) p ps short) e)
+last_drawn (p ∷ ps) iv short (suc k, lt, e) =
+    let c = last_drawn ps iv (All-tail (λ q. q.seq < 2 ^ 24) p ps short) (k, omega (arith, lt), e) in
+    (suc c.0, omega (arith, c.1), c.2)
+
+-- a word that was drawn at a seat is that of a line
+word_shown : (l : Life) (d : DrawerView) → PairsSo l.entries l.sends d → (x : ℕ) → Contains d.drawn x → Contains (map word_of (draws (shown l))) x
+word_shown l d h x c =
+    let whole : (y : ℕ) → times y (all_of (d.drawn ∷ [])) ≡ times y (all_of h.drawns) = λ y. ap (times y) (append-nil d.drawn) ∙ sym (h.counted y) in
+    subst (λ ws. Contains ws x) (sym (sum_up l.entries l.sends h.drawns d.looks h.shown).drawing)
+    (within_drawn (d.drawn ∷ []) (all_of h.drawns) whole x (subst (λ ws. Contains ws x) (sym (append-nil d.drawn)) c))
+
+module _ (over next : List StoreRecord) (l : Life) (d : DrawerView) (h : PairsSo l.entries l.sends d)
+    (below : (word : ℕ) → Contains d.looks (saw.Counter word) → word ≤ (config_of next).mark) (ends : All (IsEndOf (config_of over).mark d.drawn) d.looks) where
+  spent_right : (o : Outcome) → IsSpentSeen d.looks o → IsSpentRight over next l o
+  spent_right (O.Spent iv) seen =
+      let came = All-contains (IsEndOf (config_of over).mark d.drawn) d.looks (saw.Counter (iv * 2 ^ 25 + 2 ^ 24)) ends seen (omega arith) in (
+        below (iv * 2 ^ 25 + 2 ^ 24) seen,
+        ⊎_elim (λ opened. inl (sym opened)) (λ drawn. inr (last_drawn (draws (shown l)) iv (sum_up l.entries l.sends h.drawns d.looks h.shown).seq (word_shown l d h (iv * 2 ^ 25 + 2 ^ 24 - 1) drawn))) came,
+      )
+  spent_right _ seen = tt
+
+  pub is_spent : All (λ s. IsSpentRight over next l s.outcome) (shown l)
+  is_spent k s lt = spent_right _ ((sum_up l.entries l.sends h.drawns d.looks h.shown).spent k s lt)

@@ -69,7 +69,7 @@ module _ (role : Role) (plan : List Step) (over next : List StoreRecord) (told :
       → map (λ t. t.entry) told ≡ l.entries → AreHandled role over [] told → ((k : ℕ) → IsNumbered l k) → AreOrdered (is_cut l.end) (phases_of plan) l.entries l.sends
       → IsLeftBy role (past_now role over told l.refills) hand next → ((hand ≡ H.Nothing) ⊎ (is_cut l.end ≡ true))
       → ((event : Event) → hand ≡ H.OfEvent event → is_outside event ≡ true → IsNextIn (phases_of plan) l.entries event)
-      → IsDrawn over next l → All (λ s. IsSpentRight (config_of next).mark s.outcome) (shown l) → LifeOf role plan over l next
+      → IsDrawn over next l → All (λ s. IsSpentRight over next l s.outcome) (shown l) → LifeOf role plan over l next
   life_of hand runs opened entries handled numbers ordered left cut next_in drawn spent =
       let on : is_on l.opened ≡ true = ap is_on opened in
       record {
@@ -111,7 +111,7 @@ module _ (role : Role) (plan : List Step) (over next : List StoreRecord) (l : Li
     order = λ is. absurd (true≢false (sym is ∙ off));
     leaves = subst (λ n. Leaves role plan l (record { told = []; records = filled n over }) next) (sym refills) (record { more = []; outlasts = no_record; ranges = left.ranges; alike = left.alike });
     drawn = nothing_drawn;
-    spent = subst (All (λ s. IsSpentRight (config_of next).mark s.outcome)) (sym nothing_shown) (All-nil (λ (s : Shown). IsSpentRight (config_of next).mark s.outcome));
+    spent = subst (All (λ s. IsSpentRight over next l s.outcome)) (sym nothing_shown) (All-nil (λ (s : Shown). IsSpentRight over next l s.outcome));
   }
 
 pub run_life : (role : Role) → RunLife role

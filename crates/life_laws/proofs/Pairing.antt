@@ -1,6 +1,6 @@
 -- The lines of one phase more, and their pairs.
 use Rattle.std.proofs.Common.{◌≡◌, ◌≢◌, ◌∙◌, ℕ, zero, suc, ◌+◌, ◌<◌, Bool, true, false, List, [], ◌∷◌, ◌++◌, length, map, Option, Some, None, refl, sym, ap, subst, arith, length-append}
-use Rattle.std.specs.Prelude.{◌^◌, ◌==◌, All, AllPairs, option_and_then, replicate, slice_index_or}
+use Rattle.std.specs.Prelude.{◌≤◌, ◌^◌, ◌==◌, All, AllPairs, option_and_then, replicate, slice_index_or}
 use Rattle.std.specs.List.{Contains, filter, filter_map, flat_map, slice_get}
 use Rattle.std.proofs.lemmas.List.Sums.{length-filter}
 use Rattle.node_phase.proofs.Mine.{kept_no, kept_yes}
@@ -29,14 +29,14 @@ use Rattle.locked_node.specs.declared.marks.Mark.{Mark}
 use Rattle.locked_node.specs.declared.marks.Mark.TheVariants as M
 use Rattle.locked_node.specs.Node.{NodeView, event_in, node_marks, stop_marks}
 use Rattle.node_bearer.specs.Did.{BearerOf, Did}
-use Rattle.node_bearer.specs.Marked.{AreShown, IsSpentSeen, shown_at, shown_in}
-use Rattle.node_bearer.proofs.Doing.{shown_prefix}
-use Rattle.node_bearer.proofs.Lists.{get_longer}
+use Rattle.node_bearer.specs.Marked.{AreShown, HasOwnLooks, IsSpentSeen, end_told, ends_told, shown_at, shown_in, words_seen}
+use Rattle.node_bearer.proofs.Doing.{shown_prefix, words_more}
+use Rattle.node_bearer.proofs.Lists.{get_longer, times_append}
 use Rattle.node_phase.specs.declared.bearers.Done.{Done}
 use Rattle.node_phase.specs.Part.{HadMemory, lines_of}
 use Rattle.node_phase.specs.Worked.{WasPhase, Worked, done_of, drawn_by, looks_by}
 use Rattle.node_phase.proofs.Parting.{index_map}
-use Rattle.life_laws.specs.Pairs.{AreShownBy, PairsSo, ShowsIn, all_of}
+use Rattle.life_laws.specs.Pairs.{AreShownBy, PairsSo, ShowsIn, all_of, all_shown}
 use Rattle.life_laws.specs.Phases.{both_of}
 use Rattle.life_laws.proofs.Placing.{CameTo, came_to}
 
@@ -127,12 +127,6 @@ is_word x y = y == x
 
 times_kept : (x : ℕ) (xs : List ℕ) → times x xs ≡ length (filter (is_word x) xs)
 times_kept x xs = sym (length-filter (is_word x) xs)
-
-times_append : (x : ℕ) (xs ys : List ℕ) → times x (xs ++ ys) ≡ times x xs + times x ys
-times_append x xs ys =
-    let both : length (filter (is_word x) (xs ++ ys)) ≡ length (filter (is_word x) xs) + length (filter (is_word x) ys) =
-    ap length (filter-append (is_word x) xs ys) ∙ length-append (filter (is_word x) xs) (filter (is_word x) ys) in
-    omega (arith, both, times_kept x (xs ++ ys), times_kept x xs, times_kept x ys)
 
 word_is : (x y : ℕ) → y ≡ x → is_word x y ≡ true
 word_is x y e = grind (arith, nat_tests)
@@ -236,6 +230,69 @@ module _ {F : Type 0} (k : ℕ) (events : List Event) (old b : BearerOf F) where
 all_right : (P : ℕ → Type 0) (xs ys : List ℕ) → All P (xs ++ ys) → All P ys
 all_right P xs ys h k d lt = All-contains P (xs ++ ys) (slice_index_or ys k d) h (Contains-append_right xs ys (slice_index_or ys k d) (Contains-get_or ys k d lt))
 
+pub filter_found : {A B : Type 0} (f : A → Option B) (xs : List A) (ys : List B) → map f xs ≡ map Some ys → filter_map f xs ≡ ys
+filter_found f [] [] h = refl
+filter_found f [] (y ∷ ys) h = cc
+filter_found f (x ∷ xs) [] h = cc
+filter_found f (x ∷ xs) (y ∷ ys) h =
+    let head : f x ≡ Some y = cc in
+    let tail : map f xs ≡ map Some ys = cc in
+    rw head (ap (λ l. y ∷ l) (filter_found f xs ys tail))
+
+-- What lines say to be spent: as often as that stands in them, under entries and under more.
+abbrev ends_of : List Entry → List Sent → List ℕ
+ends_of es lines = ends_told (filter_map (shown_of es) lines)
+
+ends_cons : (x : ℕ) (es : List Entry) (s : List Sent) (sends : List (List Sent)) → times x (ends_told (all_shown es (s ∷ sends))) ≡ times x (ends_of es s) + times x (ends_told (all_shown es sends))
+ends_cons x es s sends =
+    ap (times x) (filter_map-append (λ (y : Shown). end_told y.outcome) (filter_map (shown_of es) s) (all_shown es sends)) ∙ times_append x (ends_of es s) (ends_told (all_shown es sends))
+
+ends_append : (x : ℕ) (es : List Entry) (a b : List Sent) → times x (ends_of es (a ++ b)) ≡ times x (ends_of es a) + times x (ends_of es b)
+ends_append x es a b =
+    ap (λ l. times x (ends_told l)) (filter_map-append (shown_of es) a b)
+    ∙ ap (times x) (filter_map-append (λ (y : Shown). end_told y.outcome) (filter_map (shown_of es) a) (filter_map (shown_of es) b)) ∙ times_append x (ends_of es a) (ends_of es b)
+
+ends_later : (x : ℕ) (es new : List Entry) (looks : List Look) (came : List Entry) → new ≡ es ++ came → (sends : List (List Sent)) (drawns : List (List ℕ)) → AreShownBy es sends drawns looks
+    → times x (ends_told (all_shown new sends)) ≡ times x (ends_told (all_shown es sends))
+ends_later x es new looks came is [] [] h = refl
+ends_later x es new looks came is [] (w ∷ drawns) h = absurd h
+ends_later x es new looks came is (s ∷ sends) [] h = absurd h
+ends_later x es new looks came is (s ∷ sends) (w ∷ drawns) h =
+    let now : map (shown_of new) s ≡ map Some h.0.shows = subst (λ l. map (shown_of l) s ≡ map Some h.0.shows) (sym is) (found_more es came s h.0.shows h.0.found) in
+    let one : ends_of new s ≡ ends_of es s = ap ends_told (filter_found (shown_of new) s h.0.shows now ∙ sym (filter_found (shown_of es) s h.0.shows h.0.found)) in
+    omega (arith, ends_cons x new s sends, ends_cons x es s sends, ap (times x) one, ends_later x es new looks came is sends drawns h.2)
+
+-- bearers that each have looks of their own
+abbrev HasOwn : {F : Type 0} → ℕ → List Entry → BearerOf F → Type 0
+HasOwn x es b = times x (ends_of es b.lines.items) ≤ times x (words_seen b.drawer.looks)
+
+own_of_all : {F : Type 0} (x : ℕ) (es : List Entry) (bs : List (BearerOf F)) → All (HasOwn x es) bs
+    → times x (ends_told (all_shown es (map lines_of (map done_of bs)))) ≤ times x (words_seen (flat_map looks_by bs))
+own_of_all x es [] each = omega arith
+own_of_all x es (b ∷ bs) each =
+    omega (
+      arith,
+      ends_cons x es b.lines.items (map lines_of (map done_of bs)),
+      words_more x b.drawer.looks (flat_map looks_by bs),
+      All-head (HasOwn x es) b bs each,
+      own_of_all x es bs (All-tail (HasOwn x es) b bs each),
+    )
+
+own_both : {F : Type 0} (x : ℕ) (es : List Entry) (sends : List (List Sent)) (bs : List (BearerOf F)) → All (HasOwn x es) bs
+    → times x (ends_told (all_shown es (both_of sends (map lines_of (map done_of bs))))) ≤ times x (ends_told (all_shown es sends)) + times x (words_seen (flat_map looks_by bs))
+own_both x es [] bs each = omega (arith, own_of_all x es bs each)
+own_both x es (s ∷ sends) [] each = omega arith
+own_both x es (s ∷ sends) (b ∷ bs) each =
+    omega (
+      arith,
+      ends_cons x es (s ++ b.lines.items) (both_of sends (map lines_of (map done_of bs))),
+      ends_append x es s b.lines.items,
+      ends_cons x es s sends,
+      words_more x b.drawer.looks (flat_map looks_by bs),
+      All-head (HasOwn x es) b bs each,
+      own_both x es sends bs (All-tail (HasOwn x es) b bs each),
+    )
+
 pub within_drawn : (drawns : List (List ℕ)) (d : List ℕ) → ((x : ℕ) → times x (all_of drawns) ≡ times x d) → (x : ℕ) → Contains (all_of drawns) x → Contains d x
 within_drawn drawns d counted x c = times_contains x d (omega (arith, counted x, contains_times x (all_of drawns) c))
 
@@ -278,6 +335,28 @@ module _ {F : Type 0} (old new : NodeView F) (d e : DrawerView) (events : List (
         above = λ j x lt'. all_right (λ y. y < slice_index_or mine.drawer.drawn j x) d.noted d.drawn (subst (All (λ y. y < slice_index_or mine.drawer.drawn j x)) noted (showed.above j x lt'));
       }
 
+  each_own : (x : ℕ) → All (HasOwn x new.machine.entries) w.bearers
+  each_own x k b lt =
+      let mine = slice_index_or w.bearers k b in
+      let showed = showed_by k (list_at events k) (slice_index_or w.before k b) mine mine.stop refl (had_memory k b lt) (w.worked k b (omega (arith, lt, w.long))) in
+      let shown = shown_prefix mine.pass.seen (node_marks new) mine.lines.items mine.drawer.drawn mine.drawer.looks (w.seen k b lt) showed.shown in
+      let are = filter_found (shown_of new.machine.entries) mine.lines.items shown.shows (found_entries new.machine.entries new.stops (event_in new.machine.hand) mine.lines.items shown.shows shown.found) in
+      subst (λ l. times x (ends_told l) ≤ times x (words_seen mine.drawer.looks)) (sym are) (shown.own x)
+
+  own_more : HasOwnLooks (ends_told (all_shown new.machine.entries (both_of sends (map lines_of dones)))) e.looks
+  own_more x =
+      let both : times x (ends_told (all_shown new.machine.entries (both_of sends (map lines_of dones)))) ≤ times x (ends_told (all_shown new.machine.entries sends)) + times x (words_seen (flat_map looks_by w.bearers)) =
+      subst (λ ds. times x (ends_told (all_shown new.machine.entries (both_of sends (map lines_of ds)))) ≤ times x (ends_told (all_shown new.machine.entries sends)) + times x (words_seen (flat_map looks_by w.bearers)))
+      (sym w.left) (own_both x new.machine.entries sends w.bearers (each_own x)) in
+      omega (
+        arith,
+        both,
+        ends_later x old.machine.entries new.machine.entries d.looks came.more came.is sends h.drawns h.shown,
+        h.own x,
+        ap (λ l. times x (words_seen l)) w.looks,
+        words_more x d.looks (flat_map looks_by w.bearers),
+      )
+
   pub pairs_more : PairsSo new.machine.entries (both_of sends (map lines_of dones)) e
   pairs_more = record {
     drawns = both_of h.drawns (map drawn_by w.bearers);
@@ -286,6 +365,7 @@ module _ {F : Type 0} (old new : NodeView F) (d e : DrawerView) (events : List (
         (shown_later old.machine.entries new.machine.entries d.looks e.looks came.more came.is (λ x c. subst (λ l. Contains l x) (sym w.looks) (Contains-append_left d.looks (flat_map looks_by w.bearers) x c)) sends h.drawns h.shown)
         (within_drawn h.drawns d.drawn h.counted) each same_count);
     counted = λ x. omega (arith, counted_both x h.drawns w.bearers, h.counted x, ap (times x) w.drawn, times_append x d.drawn (flat_map drawn_by w.bearers));
+    own = own_more;
   }
 
 -- The lines of all bearers together.
@@ -293,15 +373,6 @@ pub record Sum (entries : List Entry) (sends : List (List Sent)) (drawns : List 
   pub drawing : map word_of (draws (flat_map (filter_map (shown_of entries)) sends)) ≡ all_of drawns
   pub seq : All (λ p. p.seq < 2 ^ 24) (draws (flat_map (filter_map (shown_of entries)) sends))
   pub spent : All (λ s. IsSpentSeen looks s.outcome) (flat_map (filter_map (shown_of entries)) sends)
-
-pub filter_found : {A B : Type 0} (f : A → Option B) (xs : List A) (ys : List B) → map f xs ≡ map Some ys → filter_map f xs ≡ ys
-filter_found f [] [] h = refl
-filter_found f [] (y ∷ ys) h = cc
-filter_found f (x ∷ xs) [] h = cc
-filter_found f (x ∷ xs) (y ∷ ys) h =
-    let head : f x ≡ Some y = cc in
-    let tail : map f xs ≡ map Some ys = cc in
-    rw head (ap (λ l. y ∷ l) (filter_found f xs ys tail))
 
 pub sum_up : (entries : List Entry) (sends : List (List Sent)) (drawns : List (List ℕ)) (looks : List Look) → AreShownBy entries sends drawns looks → Sum entries sends drawns looks
 sum_up entries [] [] looks h = record { drawing = refl; seq = All-nil (λ p. p.seq < 2 ^ 24); spent = All-nil (λ (s : Shown). IsSpentSeen looks s.outcome) }
@@ -346,6 +417,10 @@ no_pairs (suc n) looks = (
   (λ i j d lt within. absurd (omega (arith, within))),
   no_pairs n looks,
 )
+
+pub no_ends : (n : ℕ) (looks : List Look) → HasOwnLooks (ends_told (all_shown [] (replicate n []))) looks
+no_ends zero looks = λ x. omega arith
+no_ends (suc n) looks = no_ends n looks
 
 pub empty_all : {A : Type 0} (n : ℕ) → all_of {A = A} (replicate n []) ≡ []
 empty_all zero = refl

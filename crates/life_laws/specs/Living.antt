@@ -29,7 +29,7 @@ RunLife role =
     → ((hand ≡ Hands.Nothing) ⊎ (is_cut l.end ≡ true))
     → ((event : Event) → hand ≡ Hands.OfEvent event → is_outside event ≡ true
     → IsNextIn (phases_of plan) l.entries event)
-    → IsDrawn over next l → All (λ s. IsSpentRight (config_of next).mark s.outcome) (shown l)
+    → IsDrawn over next l → All (λ s. IsSpentRight over next l s.outcome) (shown l)
     → LifeOf role plan over l next
 
 -- one that wasn't run since there was a Node Reset

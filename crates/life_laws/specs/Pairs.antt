@@ -1,6 +1,6 @@
 -- The lines of several phases, and the pairs that they draw.
 use Rattle.std.specs.Prelude.{◌≡◌, ℕ, ◌+◌, ◌^◌, ◌<◌, List, [], ◌∷◌, map, All, AllPairs, Some, ⊤}
-use Rattle.std.specs.List.{flat_map}
+use Rattle.std.specs.List.{filter_map, flat_map}
 use Rattle.mesh_base.specs.Pairs.{word_of}
 use Rattle.mesh_types.specs.declared.history.Entry.{Entry}
 use Rattle.mesh_types.specs.declared.history.Sent.{Sent}
@@ -9,7 +9,7 @@ use Rattle.run_definitions.specs.RunOf.{draws}
 use Rattle.seq_word.specs.Rule.{times}
 use Rattle.seq_word.specs.Seen.{DrawerView}
 use Rattle.seq_word.specs.declared.looks.Look.{Look}
-use Rattle.node_bearer.specs.Marked.{IsSpentSeen}
+use Rattle.node_bearer.specs.Marked.{HasOwnLooks, IsSpentSeen, ends_told}
 
 -- What the lines of a bearer show is among these entries; they draw these words, each with a SEQ below 2^24. A job's number, from 1 on, has 8
 -- bits.
@@ -31,8 +31,14 @@ AreShownBy entries _ _ looks = ⊥
 abbrev pub all_of : {A : Type 0} → List (List A) → List A
 all_of xs = flat_map (λ x. x) xs
 
--- The lines draw the words that were drawn at the seats, each as often as it was drawn there.
+-- the lines of all bearers
+abbrev pub all_shown : List Entry → List (List Sent) → List Shown
+all_shown entries sends = flat_map (filter_map (shown_of entries)) sends
+
+-- The lines draw the words that were drawn at the seats, each as often as it was drawn there. Each of them that says that no number was left
+-- has a look of its own, which found the counter at the end of that IV Index.
 pub record PairsSo (entries : List Entry) (sends : List (List Sent)) (d : DrawerView) : Type 0 where
   pub drawns : List (List ℕ)
   pub shown : AreShownBy entries sends drawns d.looks
   pub counted : (x : ℕ) → times x (all_of drawns) ≡ times x d.drawn
+  pub own : HasOwnLooks (ends_told (all_shown entries sends)) d.looks

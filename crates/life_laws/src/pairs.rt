@@ -8,7 +8,7 @@ ghost use Rattle.mesh_types.specs.declared.history.Sent.{Sent};
 ghost use Rattle.record_types.specs.declared.records.StoreRecord.{StoreRecord};
 ghost use Rattle.report_definitions.specs.Record.{Life, shown};
 ghost use Rattle.run_definitions.specs.RunOf.{IsDrawn, IsSpentRight};
-ghost use Rattle.seq_word.specs.Rule.{times};
+ghost use Rattle.seq_word.specs.Rule.{IsEndOf, times};
 ghost use Rattle.seq_word.specs.Seen.{DrawerView};
 ghost use Rattle.seq_word.specs.declared.looks.Look.TheVariants as saw;
 ghost use Rattle.store_definitions.specs.Config.{config_of};
@@ -30,12 +30,14 @@ pub fn pairs_law<F>()
 {}
 
 /// So they are the pairs of a life that opened over the one list of records and leaves the other, where each drawn word lies between the
-/// marks of these, and was drawn once; and where no look found more in the counter than the mark that is left.
+/// marks of these, and was drawn once; and where no look found more in the counter than the mark that is left, or the end of an IV Index there
+/// whose last number wasn't drawn, unless the life opened there.
 pub fn drawn_law()
     ensures drawn { (over next : List StoreRecord) (l : Life) (d : DrawerView) → PairsSo l.entries l.sends d
         → All (λ x. (config_of over).mark ≤ x) d.drawn → All (λ x. x < (config_of next).mark) d.drawn
         → ((x : ℕ) → times x d.drawn ≤ 1) → IsDrawn over next l }
-    ensures spent { (mark : ℕ) (l : Life) (d : DrawerView) → PairsSo l.entries l.sends d
-        → ((word : ℕ) → Contains d.looks (saw.Counter word) → word ≤ mark)
-        → All (λ s. IsSpentRight mark s.outcome) (shown l) }
+    ensures spent { (over next : List StoreRecord) (l : Life) (d : DrawerView) → PairsSo l.entries l.sends d
+        → ((word : ℕ) → Contains d.looks (saw.Counter word) → word ≤ (config_of next).mark)
+        → All (IsEndOf (config_of over).mark d.drawn) d.looks
+        → All (λ s. IsSpentRight over next l s.outcome) (shown l) }
 {}

@@ -99,6 +99,8 @@ module _ {S E K : Type 0} (clocked : Bool) (left : S → Option (List ℕ)) (sou
         node = lived.node;
         later = lived.later;
         cause = lived.cause;
+        no_fault = lived.no_fault;
+        moved = lived.moved;
       }
 
       abbrev Gave : LinePhases S E → Type 0

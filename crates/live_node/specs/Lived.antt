@@ -7,6 +7,7 @@ use Rattle.mesh_types.specs.declared.report.End.TheVariants as E
 use Rattle.mesh_types.specs.declared.report.Opened.{Opened}
 use Rattle.mesh_types.specs.declared.report.Opened.TheVariants as W
 use Rattle.mesh_types.specs.declared.report.ReportLine.{ReportLine}
+use Rattle.machine_contract.specs.Moved.{HasMoved}
 use Rattle.machine_contract.specs.Opening.{IsNodeFlash}
 use Rattle.machine_contract.specs.Refused.{IsUntouched, WasReset}
 use Rattle.machine_contract.specs.Standing.{IsSameFlash}
@@ -136,7 +137,11 @@ module _ (Stood : Standing) (role : Role) (image : List ℕ → Type 0) (hex : B
     pub wrote : writes (lines (W.On (config_of over).iv (config_of over).mark) did) before after
     pub node : IsNodeFlash image new
     pub later : IsLater start new
+    -- it was cut where the flash failed in it, and only where it failed since its power was cycled
     pub cause : closed ≡ true → new.setting.faults < new.faults
+    pub no_fault : closed ≡ false → new.faults ≡ start.faults
+    -- where it wasn't cut, the counter was moved with each record that raised the transmit IV Index, and at no other time
+    pub moved : closed ≡ false → HasMoved role over (entries_told did) refills drawn.advances
 
   -- the source came to its end, and all lines of the life were written
   abbrev pub LivedOut : Type 0
@@ -188,19 +193,21 @@ pub record OpeningFront (start : Chip) (before after : SinkView) : Type 0 where
   pub recovered : IsRecovered start.now over
   pub front : WrittenFront (opened_line 1 (opened_over over) ∷ []) before after
 
--- The life was given up before its first phase: no line was read, and nothing was written but a front of the line of its opening. The flash is
--- as it was, or recovers what it did.
+-- The life was given up before its first phase: no line was read, and nothing was written but a front of the line of its opening. The flash
+-- didn't fail, and is as it was, or recovers what it did.
 pub record Unopened (image : List ℕ → Type 0) (start new : Chip) (from to : StreamsAt) (before after : SinkView) : Type 0 where
   pub wrote : (after ≡ before) ⊎ OpeningFront start before after
   pub unread : to ≡ from
   pub kept : Keeps start new
+  pub no_fault : new.faults ≡ start.faults
   pub untouched : IsSameFlash start new ⊎ IsUntouched image start new
 
--- There was a Node Reset: the line of that was written, and nothing else was done.
+-- There was a Node Reset: the line of that was written, and nothing else was done. The flash didn't fail, and recovers what it did.
 pub record ToldReset (image : List ℕ → Type 0) (start new : Chip) (from to : StreamsAt) (before after : SinkView) : Type 0 where
   pub reset : WasReset start
   pub wrote : Written (opened_line 1 W.WasReset ∷ []) before after
   pub unread : to ≡ from
+  pub no_fault : new.faults ≡ start.faults
   pub untouched : IsUntouched image start new
 
 -- The flash failed as the life was opened: no line was read and none written, and the flash recovers what it did.

@@ -15,7 +15,7 @@ use Rattle.record_types.specs.declared.records.StoreRecord.{StoreRecord}
 use Rattle.event_definitions.specs.Role.{Role}
 use Rattle.run_definitions.specs.Order.{Step, is_cut, phases_of}
 use Rattle.run_definitions.specs.RunOf.{LifeOf, Opens, cut_at_start, is_on, was_reset}
-use Rattle.seq_word.specs.Rule.{IsWithin, times}
+use Rattle.seq_word.specs.Rule.{IsEndOf, IsWithin, times}
 use Rattle.seq_word.specs.Seen.{ClosedView, DrawerView}
 use Rattle.store_definitions.specs.Config.{config_of}
 use Rattle.store_definitions.specs.Recovered.{IsRecovered}
@@ -65,6 +65,7 @@ module _ {M F : Type 0} (view : M → MachineView) (stands : Chip → List Store
   all_lives = each_life role image chip plan node d (map (λ v. v.items) log.sends.items) (life_of log) h over entries refills refl cut
       (subst (λ o. (config_of o).reset ≡ false) begun_is runs) (subst (λ o. log.opened ≡ W.On (config_of o).iv (config_of o).mark) begun_is opened)
       next mark order marks (subst (λ o. All (λ x. (config_of o).mark ≤ x) d.drawn) begun_is (subst (λ m. All (λ x. m ≤ x) d.drawn) firsts from)) below once seen
+      (subst (λ m. All (IsEndOf m d.drawn) d.looks) (firsts ∙ ap (λ o. (config_of o).mark) begun_is) closes.ends)
 
   pairs : PairsSo (life_of log).entries (life_of log).sends d
   pairs = subst (λ es. PairsSo es (map (λ v. v.items) log.sends.items) d) (sym entries) over.pairs
@@ -94,6 +95,7 @@ module _ {M F : Type 0} (view : M → MachineView) (stands : Chip → List Store
     };
     later = subst (λ s. IsLater (chip s) (chip node.flash)) is_start h.later;
     cause = λ is. h.life.failed (sym cut ∙ is);
+    no_fault = λ off. subst (λ s. (chip node.flash).faults ≡ (chip s).faults) is_start (h.no_fault (sym cut ∙ off));
     arm = arm;
     calls = calls;
     drawn = subst (TellsDrawn (life_of log)) (sym drawn)
@@ -135,6 +137,7 @@ module _ {M F : Type 0} (view : M → MachineView) (stands : Chip → List Store
         printable = r.printable;
         later = subst (λ n. n ≤ new.faults) count.faults r.later.faults;
         cause = λ cut. subst (λ n. n < new.faults) now (r.cause cut);
+        no_fault = λ off. r.no_fault off ∙ count.faults;
         steady = r.later.steady ∙ count.steady;
         setting = now;
         cycles = r.later.cycles ∙ cycled;
@@ -150,8 +153,8 @@ module _ {M F : Type 0} (view : M → MachineView) (stands : Chip → List Store
 
   -- a life that wasn't run
   pub lives_idle : Keeps start new → (IsTrue old.steady → log.opened ≢ W.WasReset → IsGiven plan new.setting.arm) → (u : IsUntouched image start new) → is_on log.opened ≡ false → log.drawn ≡ None → log.history.entries.items ≡ [] → log.history.refills ≡ 0 → log.sends.items ≡ []
-      → Opens (config_of u.over) log.opened log.end → (is_cut log.end ≡ true → start.faults < new.faults) → IfSome (cut_calls log.end) (λ n. n ≡ new.changes) → IsUnread log → Lives view stands chip role image plan old log left
-  lives_idle keeps armed u off none entries refills sends opening failed calls early =
+      → Opens (config_of u.over) log.opened log.end → (is_cut log.end ≡ true → start.faults < new.faults) → (is_cut log.end ≡ false → new.faults ≡ start.faults) → IfSome (cut_calls log.end) (λ n. n ≡ new.changes) → IsUnread log → Lives view stands chip role image plan old log left
+  lives_idle keeps armed u off none entries refills sends opening failed stays calls early =
       record {
         over = u.over;
         image = start.now;
@@ -163,6 +166,7 @@ module _ {M F : Type 0} (view : M → MachineView) (stands : Chip → List Store
         printable = idle_printable (life_of log) entries (ap (map (λ (v : Vec Sent Global). v.items)) sends);
         later = subst (λ n. n ≤ new.faults) count.faults keeps.later;
         cause = λ cut. subst (λ n. n < new.faults) count.faults (failed cut);
+        no_fault = λ off. stays off ∙ count.faults;
         steady = keeps.steady ∙ count.steady;
         setting = ap (λ (s : Setting). s.faults) keeps.setting ∙ began;
         cycles = ap (λ (s : Setting). s.cycles) keeps.setting ∙ cycled;
@@ -186,12 +190,12 @@ module _ {M F : Type 0} (view : M → MachineView) (stands : Chip → List Store
       let order' : IsOfPlan plan new.setting.arm = subst (IsOfPlan plan) (sym (ap (λ (s : Setting). s.arm) keeps.setting)) order in
       lives_idle keeps (λ steady other. given_one items new.setting.arm single order' (later steady now)) u (ap is_on opened) none entries refills sends
       (subst (λ o. Opens (config_of u.over) o log.end) (sym opened) (subst (λ e. Opens (config_of u.over) W.CutAtStart e) (sym end) cut_at_start))
-      (λ cut. failed) (subst (λ e. IfSome (cut_calls e) (λ n. n ≡ new.changes)) (sym end) refl) early
+      (λ cut. failed) (λ off. absurd (true≢false (sym (ap is_cut end) ∙ off))) (subst (λ e. IfSome (cut_calls e) (λ n. n ≡ new.changes)) (sym end) refl) early
 
   -- there was a Node Reset
-  pub lives_reset : Keeps start new → (u : IsUntouched image start new) → (config_of u.over).reset ≡ true → log.opened ≡ W.WasReset → log.end ≡ Ends.Ended
+  pub lives_reset : Keeps start new → new.faults ≡ start.faults → (u : IsUntouched image start new) → (config_of u.over).reset ≡ true → log.opened ≡ W.WasReset → log.end ≡ Ends.Ended
       → log.drawn ≡ None → log.history.entries.items ≡ [] → log.history.refills ≡ 0 → log.sends.items ≡ [] → IsUnread log → Lives view stands chip role image plan old log left
-  lives_reset keeps u reset opened end none entries refills sends early =
+  lives_reset keeps same u reset opened end none entries refills sends early =
       lives_idle keeps (λ steady other. absurd (other opened)) u (ap is_on opened) none entries refills sends
       (subst (λ o. Opens (config_of u.over) o log.end) (sym opened) (subst (λ e. Opens (config_of u.over) W.WasReset e) (sym end) (was_reset reset)))
-      (λ cut. absurd (true≢false (sym cut ∙ ap is_cut end))) (subst (λ e. IfSome (cut_calls e) (λ n. n ≡ new.changes)) (sym end) tt) early
+      (λ cut. absurd (true≢false (sym cut ∙ ap is_cut end))) (λ off. same) (subst (λ e. IfSome (cut_calls e) (λ n. n ≡ new.changes)) (sym end) tt) early

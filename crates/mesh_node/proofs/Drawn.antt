@@ -13,7 +13,7 @@ use Rattle.seq_word.specs.Seen.{ClosedView, DrawerView}
 use Rattle.seq_word.specs.Word.{seq_of}
 use Rattle.seq_word.specs.declared.looks.Look.TheVariants as saw
 use Rattle.seq_word.specs.declared.looks.Look.{Look}
-use Rattle.node_bearer.specs.Marked.{IsSpentSeen}
+use Rattle.node_bearer.specs.Marked.{HasOwnLooks, IsSpentSeen, ends_told}
 use Rattle.life_laws.specs.Pairs.{PairsSo, all_of}
 use Rattle.life_laws.proofs.Pairing.{sum_up, within_drawn}
 use Rattle.mesh_node.specs.Drawn.{AreWordsOf, IsSpentBy, TellsWords, opened_at}
@@ -52,6 +52,7 @@ tells_words l d closed on h pairs =
       words = words_of l d closed.drawn h.drawn h.apart pairs;
       since = subst (All (λ x. opened_at l.opened ≤ x)) (sym h.drawn) h.since;
       spent = seen;
+      own = subst (HasOwnLooks (ends_told (shown l))) (sym h.looks) pairs.own;
       ends = λ k s lt. spent_by (opened_at l.opened) closed.drawn closed.looks ends _ (seen k s lt);
       all = λ x. omega (arith, h.all x, ap (times x) h.drawn);
       firsts = h.firsts;

@@ -14,7 +14,7 @@ use Rattle.report_definitions.specs.Record.{Life}
 use Rattle.event_definitions.specs.Role.{Role}
 use Rattle.run_definitions.specs.Order.{Step, is_cut, is_outside, phases_of}
 use Rattle.run_definitions.specs.RunOf.{LifeOf}
-use Rattle.seq_word.specs.Rule.{IsWithin, times}
+use Rattle.seq_word.specs.Rule.{IsEndOf, IsWithin, times}
 use Rattle.seq_word.specs.Seen.{DrawerView}
 use Rattle.seq_word.specs.declared.looks.Look.TheVariants as saw
 use Rattle.store_definitions.specs.Config.{config_of}
@@ -32,7 +32,7 @@ module _ {F : Type 0} (role : Role) (image : List ℕ → Type 0) (chip : F → 
     (entries : l.entries ≡ node.machine.entries) (refills : l.refills ≡ node.machine.fills) (lines : l.sends ≡ sends) (cut : is_cut l.end ≡ node.machine.closed)
     (runs : (config_of h.over).reset ≡ false) (opened : l.opened ≡ W.On (config_of h.over).iv (config_of h.over).mark)
     (next mark : ℕ) (order : next ≤ mark) (marks : mark ≡ node.machine.mark)
-    (from : All (λ x. (config_of h.over).mark ≤ x) d.drawn) (below : All (λ x. x < next) d.drawn) (once : (x : ℕ) → times x d.drawn ≤ 1) (seen : All (IsWithin next mark) d.looks) where
+    (from : All (λ x. (config_of h.over).mark ≤ x) d.drawn) (below : All (λ x. x < next) d.drawn) (once : (x : ℕ) → times x d.drawn ≤ 1) (seen : All (IsWithin next mark) d.looks) (ends : All (IsEndOf (config_of h.over).mark d.drawn) d.looks) where
   cut_stops : 0 < node.stops → is_cut l.end ≡ true
   cut_stops some = by_closed node.machine.closed refl where
     by_closed : (b : Bool) → node.machine.closed ≡ b → is_cut l.end ≡ true
@@ -61,4 +61,4 @@ module _ {F : Type 0} (role : Role) (image : List ℕ → Type 0) (chip : F → 
       (subst (λ es. AreOrdered (is_cut l.end) (phases_of plan) es l.sends) (sym entries) (subst (λ ss. AreOrdered (is_cut l.end) (phases_of plan) node.machine.entries ss) (sym lines) (over.ordered (is_cut l.end) cut_stops)))
       (subst (λ n. IsLeftBy role (past_now role h.over h.life.told n) node.machine.hand after) (sym refills) left.0) hand_cut in_hand
       (is_drawn h.over after l d pairs from (λ k x lt. let low : slice_index_or d.drawn k x < next = below k x lt in omega (arith, low, order, high)) once)
-      (is_spent (config_of after).mark l d pairs (λ word c. let low : word ≤ next = All-contains (IsWithin next mark) d.looks (saw.Counter word) seen c in omega (arith, low, order, high)))
+      (is_spent h.over after l d pairs (λ word c. let low : word ≤ next = All-contains (IsWithin next mark) d.looks (saw.Counter word) seen c in omega (arith, low, order, high)) ends)

@@ -98,6 +98,7 @@ module _ {F M Reader : Type 0} {role : Role} {image : List ℕ → Type 0} {chip
         few = k.few;
         live = k.live;
         stopped = k.stopped;
+        no_fault = k.no_fault;
         later = k.later;
       })
 

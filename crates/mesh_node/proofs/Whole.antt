@@ -7,7 +7,7 @@ use Rattle.mesh_types.specs.declared.report.End.{End}
 use Rattle.record_types.specs.declared.records.StoreRecord.{StoreRecord}
 use Rattle.event_definitions.specs.Role.{Role}
 use Rattle.run_definitions.specs.Order.{Step, is_cut, phase, phases_of}
-use Rattle.seq_word.specs.Rule.{IsWithin, times}
+use Rattle.seq_word.specs.Rule.{IsEndOf, IsWithin, times}
 use Rattle.seq_word.specs.Seen.{ClosedView, DrawerView}
 use Rattle.store_definitions.specs.Config.{config_of}
 use Rattle.store_definitions.specs.Recovered.{IsRecovered}
@@ -52,7 +52,8 @@ module _ {M F S T : Type 0} (view : M → MachineView) (stands : Chip → List S
       record {
         life = each_life role image chip (map phase went.phases) node d (sends_told bearers went.did) l h over entries refl refl cut
             (subst (λ o. (config_of o).reset ≡ false) begun_is runs) refl closed.next closed.mark order marks
-            (subst (λ o. All (λ x. (config_of o).mark ≤ x) d.drawn) begun_is (subst (λ m. All (λ x. m ≤ x) d.drawn) firsts since)) below once seen;
+            (subst (λ o. All (λ x. (config_of o).mark ≤ x) d.drawn) begun_is (subst (λ m. All (λ x. m ≤ x) d.drawn) firsts since)) below once seen
+            (subst (λ m. All (IsEndOf m d.drawn) d.looks) (firsts ∙ ap (λ o. (config_of o).mark) begun_is) closes.ends);
         printable = record {
           entries = subst (λ (es : List Entry). length es < 2 ^ 32) (sym entries) h.life.few;
           bearers = omega (arith, went.many, few);
@@ -79,6 +80,7 @@ module _ {M F S T : Type 0} (view : M → MachineView) (stands : Chip → List S
     node = h.life.node;
     later = subst (λ s. IsLater (chip s) (chip node.flash)) is_start h.later;
     cause = λ is. h.life.failed is;
+    no_fault = λ off. subst (λ s. (chip node.flash).faults ≡ (chip s).faults) is_start (h.no_fault off);
     all = record {
       machine = node.machine;
       stood = (held.machine, held.shows, subst (λ o. stands (chip node.flash) o held.machine) held_over held.tie);

@@ -12,7 +12,7 @@ use Rattle.run_definitions.specs.RunOf.{draws, is_on}
 use Rattle.seq_word.specs.Rule.{once_below, passed_over, times}
 use Rattle.seq_word.specs.Seen.{ClosedView}
 use Rattle.seq_word.specs.Word.{seq_of}
-use Rattle.node_bearer.specs.Marked.{IsSpentSeen}
+use Rattle.node_bearer.specs.Marked.{HasOwnLooks, IsSpentSeen, ends_told}
 
 -- these words are those of these pairs, each once, and no other
 pub record AreWordsOf (words : List ℕ) (pairs : List Pair) : Type 0 where
@@ -37,6 +37,8 @@ pub record TellsWords (life : Life) (closed : ClosedView) : Type 0 where
   pub words : AreWordsOf closed.drawn (draws (shown life))
   pub since : All (λ x. opened_at life.opened ≤ x) closed.drawn
   pub spent : All (λ s. IsSpentSeen closed.looks s.outcome) (shown life)
+  -- each such line has a look of its own
+  pub own : HasOwnLooks (ends_told (shown life)) closed.looks
   pub ends : All (λ s. IsSpentBy (opened_at life.opened) closed.drawn s.outcome) (shown life)
   -- No number was lost in the life: each word from the mark that it opened with on and below the counter was drawn or passed over, once, and
   -- no other was. Only to SEQ 0 of an IV Index did the counter go on.

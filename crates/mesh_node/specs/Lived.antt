@@ -78,7 +78,8 @@ pub record IsAllTold (Stood : List StoreRecord → MachineView → Type 0) (over
   pub is_closed : machine.closed ≡ closed
 
 module _ {S T : Type 0} (Stood : List StoreRecord → MachineView → Type 0) (role : Role) (image : List ℕ → Type 0) (source : SourceSteps S) (sink : SinkSteps T) (from to : S) (began now : T) (bearers : ℕ) where
-  -- The life that opened over what the flash recovered at its beginning. It is cut exactly where the flash failed.
+  -- The life that opened over what the flash recovered at its beginning. It is cut where the flash failed in it, and only
+  -- where it failed since its power was cycled.
   pub record LivedOn (start new : Chip) (refills : ℕ) (drawn : ClosedView) (closed : Bool) (last : LastStep) : Type 0 where
     pub phases : List (List (List Event))
     pub did : List PhaseDid
@@ -94,6 +95,7 @@ module _ {S T : Type 0} (Stood : List StoreRecord → MachineView → Type 0) (r
     pub node : IsNodeFlash image new
     pub later : IsLater start new
     pub cause : closed ≡ true → new.setting.faults < new.faults
+    pub no_fault : closed ≡ false → new.faults ≡ start.faults
     pub all : IsAllTold Stood over did refills closed
     -- where it wasn't cut, the counter was moved with each record that raised the transmit IV Index, and at no other time
     pub moved : closed ≡ false → HasMoved role over (entries_told did) refills drawn.advances

@@ -55,9 +55,10 @@ pub record Lives {M F : Type 0} (view : M → MachineView) (stands : Chip → Li
   pub life : EachRecovered (chip new) (λ next. LifeOf role plan over (life_of log) next)
   pub node : IsNodeFlash IsNodeImage (chip new)
   pub printable : IsPrintable (life_of log)
-  -- the causes of a cut
+  -- it was cut exactly where the flash failed
   pub later : old.faults ≤ (chip new).faults
   pub cause : is_cut log.end ≡ true → old.faults < (chip new).faults
+  pub no_fault : is_cut log.end ≡ false → (chip new).faults ≡ old.faults
   pub steady : (chip new).steady ≡ old.steady
   pub setting : (chip new).setting.faults ≡ old.faults
   -- its power was cycled once, at the beginning

@@ -26,6 +26,7 @@ pub record Ran {M F : Type 0} (view : M → MachineView) (stands : Chip → List
   pub printable : IsPrintable (life_of log)
   pub later : IsLater start (chip new)
   pub cause : is_cut log.end ≡ true → (chip new).setting.faults < (chip new).faults
+  pub no_fault : is_cut log.end ≡ false → (chip new).faults ≡ start.faults
   pub arm : IsOfPlan plan (chip new).setting.arm
   pub calls : IfSome (cut_calls log.end) (λ calls. calls ≡ (chip new).changes)
   pub drawn : TellsDrawn (life_of log) log.drawn

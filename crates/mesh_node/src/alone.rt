@@ -80,14 +80,8 @@ pub fn one_phase_alone<M: Machine, F: Flash + Send + Drop>(
         gate: &FreeGate,
         numbers: &seats.numbers,
     };
-    let (mut node, done) = run_alone(
-        &host,
-        &mut seats.drawer,
-        node,
-        events,
-        seats.counts[0],
-        &mut seats.kept,
-    )?;
+    let had = seats.counts[0];
+    let (mut node, done) = run_alone(&host, &mut seats.drawer, node, events, had, &mut seats.kept)?;
     let mut dones = Vec::with_capacity(alloc, 1)?;
     dones.push(done)?;
     let closed = has_stopped(dones.as_slice())?;

@@ -235,7 +235,8 @@ impl<M: Machine, F: Flash + Send + Drop> HeldLife<M, F> {
         self.going.node.is_closed()
     }
 
-    /// Ends the life, and gives back what is left of it. It is cut exactly where the flash failed; else its owner had no phase more.
+    /// Ends the life, and gives back what is left of it. It is cut where the flash failed in it, and only where it failed since its power was cycled;
+    /// else its owner had no phase more.
     pub fn close(self) -> LifeLeft<F>
         ensures last { result.last ≡ last_held self.node.machine.closed }
         ensures flash { result.flash ≡ self.node.flash }

@@ -3,3 +3,4 @@ pub mod Living
 pub mod Progress
 pub mod Ends
 pub mod Generating
+pub mod Crossing

@@ -60,6 +60,7 @@ progress_none chip kind s told start v nodes h none = record {
     found = λ t le. All-nil (IsFoundSince (chip start) t);
     at_exit = λ image last is read. record { first = h.exactly image last is read; lives = tt };
     faults = omega arith;
+    no_fault = λ none. refl;
     armed = λ steady. tt;
     cycles = omega arith;
   };
@@ -129,6 +130,14 @@ module _ {F : Type 0} (chip : F → Chip) (kind : MachineKind) (s : Script) (sta
       by_end true e = rw e (let m = cause e in omega arith)
       by_end false e = rw e (let k : 0 + (chip old).faults ≤ (chip new).faults = omega (arith, h.lives.later) in k)
 
+  -- and did not, if it wasn't
+  uncut : cuts (x ∷ []) ≡ 0 → (chip new).faults ≡ (chip old).faults
+  uncut none = by_end (is_cut x.life.end) refl
+    where
+      by_end : (b : Bool) → is_cut x.life.end ≡ b → (chip new).faults ≡ (chip old).faults
+      by_end true e = absurd (let one : cuts (x ∷ []) ≡ 1 = rw e refl in omega (arith, one, none))
+      by_end false e = subst (λ l. is_cut l.end ≡ false → (chip new).faults ≡ (chip old).faults) h.is h.lives.no_fault e
+
   is_armed : IsTrue (chip start).steady → IsArmed plan x.life
   is_armed steady = subst (λ l. IsArmed plan l) h.is (λ cut.
       reached plan h.log.end (chip new).setting.arm (chip new).changes h.lives.arm
@@ -150,6 +159,7 @@ module _ {F : Type 0} (chip : F → Chip) (kind : MachineKind) (s : Script) (sta
     found = found_one;
     at_exit = runs;
     faults = rw (cuts_more lives x) (omega (arith, ran.faults, cut_once));
+    no_fault = λ none. let all : cuts lives + cuts (x ∷ []) ≡ 0 = sym (cuts_more lives x) ∙ none in uncut (omega (arith, all)) ∙ ran.no_fault (omega (arith, all));
     armed = λ steady. rw taken (armed_more (take i s.lives) lives plan x (ran.armed steady) (is_armed steady));
     cycles = let more : length (lives ++ x ∷ []) ≡ length lives + 1 = length-append lives (x ∷ []) in omega (arith, ran.cycles, h.lives.cycles, more);
   }

@@ -4,7 +4,7 @@ use Rattle.command_words.specs.declared.commands.NodeKind.{NodeKind}
 use Rattle.command_words.specs.declared.commands.NodeKind.TheVariants as N
 use Rattle.event_definitions.specs.Role.{Role, node_role}
 use Rattle.flash_model.specs.Chip.{Chip}
-use Rattle.low_power_machine.specs.Views as LowPower
+use Rattle.low_power_machine.specs.Machine as LowPower
 use Rattle.low_power_role.specs.Role.{low_power_role}
 use Rattle.machine_contract.specs.View.{MachineView}
 use Rattle.mesh_machine.specs.Machine.{Stands, shown}

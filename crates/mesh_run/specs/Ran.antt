@@ -52,8 +52,9 @@ pub record RanAll {F : Type 0} (chip : F → Chip) (kind : MachineKind) (s : Scr
   pub found : AreFound (chip start) (chip left) lives
   -- whatever an image of the flash recovers, the run may end with it
   pub at_exit : EachRecovered (chip left) (λ last. RunOf kind.role s (record { lives = lives; last = last }))
-  -- at most as many lives were cut as the flash failed, and over a steady flash only those that were to be
+  -- at most as many lives were cut as the flash failed, and where none was cut it didn't; over a steady flash only those that were to be
   pub faults : cuts lives + (chip start).faults ≤ (chip left).faults
+  pub no_fault : cuts lives ≡ 0 → (chip left).faults ≡ (chip start).faults
   pub armed : IsTrue (chip start).steady → AreArmed s.lives lives
   -- power was cycled once for each life
   pub cycles : (chip left).setting.cycles ≡ (chip start).setting.cycles + length lives

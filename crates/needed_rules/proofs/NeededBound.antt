@@ -184,7 +184,7 @@ life_by = record {
   order = λ e. ordered;
   leaves = leaves;
   drawn = drawn;
-  spent = all_of (λ (s : Shown). IsSpentRight (config_of next).mark s.outcome) (shown life) (tt, (tt, tt));
+  spent = all_of (λ (s : Shown). IsSpentRight over next life s.outcome) (shown life) (tt, (tt, tt));
 }
 
 abbrev script : Script

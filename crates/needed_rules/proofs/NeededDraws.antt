@@ -191,7 +191,7 @@ first_life is_drawn p octet h = record {
   order = λ e. ordered (mark + 0) p octet;
   leaves = first_leaves is_drawn p octet;
   drawn = h;
-  spent = all_of (λ (s : Shown). IsSpentRight (config_of second_list).mark s.outcome) (shown (life (mark + 0) p octet)) (tt, tt);
+  spent = all_of (λ (s : Shown). IsSpentRight first_list second_list (life (mark + 0) p octet) s.outcome) (shown (life (mark + 0) p octet)) (tt, tt);
 }
 
 abbrev second_told : ℕ → Told
@@ -222,7 +222,7 @@ second_life is_drawn p octet h = record {
   order = λ e. ordered (mark + 256) p octet;
   leaves = second_leaves is_drawn p octet;
   drawn = h;
-  spent = all_of (λ (s : Shown). IsSpentRight (config_of third_list).mark s.outcome) (shown (life (mark + 256) p octet)) (tt, tt);
+  spent = all_of (λ (s : Shown). IsSpentRight second_list third_list (life (mark + 256) p octet) s.outcome) (shown (life (mark + 256) p octet)) (tt, tt);
 }
 
 abbrev script : Script

@@ -187,7 +187,7 @@ first_by without other e = record {
   order = λ e. empty_ordered;
   leaves = record { more = []; outlasts = no_record; ranges = all_of IsInRange first first_range; alike = record { config = e; entries = first_entries other } };
   drawn = nothing_drawn first (over other) empty refl (λ k. refl);
-  spent = all_of (λ (s : Shown). IsSpentRight (config_of (over other)).mark s.outcome) (shown empty) tt;
+  spent = all_of (λ (s : Shown). IsSpentRight first (over other) empty s.outcome) (shown empty) tt;
 }
 
 -- The lives that let a PDU go on.
@@ -208,7 +208,7 @@ life_by without octet h other = record {
   order = λ e. ordered octet;
   leaves = leaves without octet other;
   drawn = nothing_drawn (over other) (over other) (life octet) refl (draws_none octet);
-  spent = all_of (λ (s : Shown). IsSpentRight (config_of (over other)).mark s.outcome) (shown (life octet)) (tt, tt);
+  spent = all_of (λ (s : Shown). IsSpentRight (over other) (over other) (life octet) s.outcome) (shown (life octet)) (tt, tt);
 }
 
 abbrev script : Script

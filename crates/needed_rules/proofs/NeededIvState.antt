@@ -207,7 +207,7 @@ life_by = record {
   order = λ e. ordered;
   leaves = leaves;
   drawn = nothing_drawn first_list first_list life refl shows_nothing;
-  spent = all_of (λ (s : Shown). IsSpentRight (config_of first_list).mark s.outcome) (shown life) tt;
+  spent = all_of (λ (s : Shown). IsSpentRight first_list first_list life s.outcome) (shown life) tt;
 }
 
 -- the same life twice

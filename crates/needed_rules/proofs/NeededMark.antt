@@ -50,7 +50,7 @@ empty_by does_outlast is_alike leaves = record {
   order = λ e. empty_ordered;
   leaves = leaves;
   drawn = nothing_drawn second_list first_list empty_life refl (λ k. refl);
-  spent = all_of (λ (s : Shown). IsSpentRight (config_of first_list).mark s.outcome) (shown empty_life) tt;
+  spent = all_of (λ (s : Shown). IsSpentRight second_list first_list empty_life s.outcome) (shown empty_life) tt;
 }
 
 -- the life that draws the first number
@@ -78,7 +78,7 @@ life_by does_outlast is_alike octet leaves = record {
   order = λ e. ordered (mark + 0) (pair 0) octet;
   leaves = leaves;
   drawn = drawn octet;
-  spent = all_of (λ (s : Shown). IsSpentRight (config_of second_list).mark s.outcome) (shown (life (mark + 0) (pair 0) octet)) (tt, tt);
+  spent = all_of (λ (s : Shown). IsSpentRight first_list second_list (life (mark + 0) (pair 0) octet) s.outcome) (shown (life (mark + 0) (pair 0) octet)) (tt, tt);
 }
 
 abbrev script : Script

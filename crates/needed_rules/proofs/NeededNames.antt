@@ -166,7 +166,7 @@ life_by = record {
   order = λ e. ordered 5;
   leaves = leaves;
   drawn = nothing_drawn first_list first_list (life 5) refl (shows_nothing 5);
-  spent = all_of (λ (s : Shown). IsSpentRight (config_of first_list).mark s.outcome) (shown (life 5)) tt;
+  spent = all_of (λ (s : Shown). IsSpentRight first_list first_list (life 5) s.outcome) (shown (life 5)) tt;
 }
 
 -- the same life twice

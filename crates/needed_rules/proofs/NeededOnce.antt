@@ -109,7 +109,7 @@ life_by = record {
   order = λ e. ordered;
   leaves = leaves;
   drawn = drawn;
-  spent = all_of (λ (s : Shown). IsSpentRight (config_of second_list).mark s.outcome) (shown life) (tt, (tt, tt));
+  spent = all_of (λ (s : Shown). IsSpentRight first_list second_list life s.outcome) (shown life) (tt, (tt, tt));
 }
 
 abbrev script : Script

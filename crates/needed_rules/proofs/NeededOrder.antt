@@ -137,7 +137,7 @@ life_by is_idle is_ordered opened end opening idle order = record {
   order = order;
   leaves = leaves is_idle is_ordered opened end;
   drawn = nothing_drawn first_list first_list (life opened end) refl (draws_none opened end);
-  spent = all_of (λ (s : Shown). IsSpentRight (config_of first_list).mark s.outcome) (shown (life opened end)) (tt, (tt, tt));
+  spent = all_of (λ (s : Shown). IsSpentRight first_list first_list (life opened end) s.outcome) (shown (life opened end)) (tt, (tt, tt));
 }
 
 abbrev script : Script

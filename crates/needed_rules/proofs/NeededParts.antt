@@ -96,7 +96,7 @@ life_by is_ordered ordered = record {
   order = λ e. ordered;
   leaves = leaves is_ordered;
   drawn = nothing_drawn first_list first_list life refl draws_none;
-  spent = all_of (λ (s : Shown). IsSpentRight (config_of first_list).mark s.outcome) (shown life) (tt, (tt, tt));
+  spent = all_of (λ (s : Shown). IsSpentRight first_list first_list life s.outcome) (shown life) (tt, (tt, tt));
 }
 
 abbrev script : Script

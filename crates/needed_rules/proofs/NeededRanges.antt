@@ -155,7 +155,7 @@ life_by n h = record {
   order = λ e. ordered n;
   leaves = leaves n;
   drawn = drawn n h;
-  spent = all_of (λ (s : Shown). IsSpentRight (config_of (next n)).mark s.outcome) (shown (life n)) (tt, (tt, tt));
+  spent = all_of (λ (s : Shown). IsSpentRight first_list (next n) (life n) s.outcome) (shown (life n)) (tt, (tt, tt));
 }
 
 abbrev script : Script

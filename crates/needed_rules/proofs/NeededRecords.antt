@@ -53,7 +53,7 @@ life_by over e = record {
   order = λ e. ordered 5;
   leaves = leaves over;
   drawn = nothing_drawn over left (life 5) refl (shows_nothing 5);
-  spent = all_of (λ (s : Shown). IsSpentRight (config_of left).mark s.outcome) (shown (life 5)) tt;
+  spent = all_of (λ (s : Shown). IsSpentRight over left (life 5) s.outcome) (shown (life 5)) tt;
 }
 
 same_config : config_of left ≡ config_of first_list

@@ -55,7 +55,7 @@ life_by = record {
   order = λ e. ordered 3;
   leaves = leaves;
   drawn = nothing_drawn first_list first_list (life 3) refl (shows_nothing 3);
-  spent = all_of (λ (s : Shown). IsSpentRight (config_of first_list).mark s.outcome) (shown (life 3)) tt;
+  spent = all_of (λ (s : Shown). IsSpentRight first_list first_list (life 3) s.outcome) (shown (life 3)) tt;
 }
 
 -- the same life twice

@@ -191,7 +191,7 @@ first_by = record {
   order = λ e. first_ordered;
   leaves = first_leaves;
   drawn = nothing_drawn first_list first_left first_life refl first_shows;
-  spent = all_of (λ (s : Shown). IsSpentRight (config_of first_left).mark s.outcome) (shown first_life) tt;
+  spent = all_of (λ (s : Shown). IsSpentRight first_list first_left first_life s.outcome) (shown first_life) tt;
 }
 
 -- The second life: a step back to 5, and the message again.
@@ -310,7 +310,7 @@ second_by = record {
   order = λ e. second_ordered;
   leaves = second_leaves;
   drawn = nothing_drawn first_left second_left second_life refl second_shows;
-  spent = all_of (λ (s : Shown). IsSpentRight (config_of second_left).mark s.outcome) (shown second_life) tt;
+  spent = all_of (λ (s : Shown). IsSpentRight first_left second_left second_life s.outcome) (shown second_life) tt;
 }
 
 abbrev script : Script

@@ -327,8 +327,8 @@ drawn = record {
     rises zero = pairs_from_apart (λ p q. word_of p < word_of q) (pair 0 ∷ []) (tt, tt)
     rises (suc k) = pairs_from_apart (λ p q. word_of p < word_of q) [] tt
 
-spent : All (λ s. IsSpentRight (config_of left).mark s.outcome) (shown life)
-spent = all_of (λ (s : Shown). IsSpentRight (config_of left).mark s.outcome) (shown life) (tt, (tt, (tt, tt)))
+spent : All (λ s. IsSpentRight over left life s.outcome) (shown life)
+spent = all_of (λ (s : Shown). IsSpentRight over left life s.outcome) (shown life) (tt, (tt, (tt, tt)))
 
 opens_on : Opens (config_of over) life.opened life.end
 unfolding changed transmit_of

@@ -1,16 +1,22 @@
 -- Lists with one item more, and what stands at a place of a longer list.
 use Rattle.std.proofs.Common.{◌≡◌, ◌∙◌, ℕ, zero, suc, ◌+◌, ◌<◌, ◌≤◌, List, [], ◌∷◌, ◌++◌, length, drop, take, map, Option, Some, None, refl, sym, ap, subst, arith, append-nil, append_assoc, length-append}
-use Rattle.std.specs.Prelude.{slice_get, slice_index_or, slice_set, AllPairs, All, option_and_then}
+use Rattle.std.specs.Prelude.{◌==◌, cond, slice_get, slice_index_or, slice_set, AllPairs, All, option_and_then}
 use Rattle.std.specs.List.{enumerate_from, range_with_len}
 use Rattle.std.proofs.Math.Seq.{drop-append_seam}
 use Rattle.std.proofs.lemmas.List.{drop-append-le, length-drop, map-append, take-append-drop}
 use Rattle.std.proofs.lemmas.List.Elements.{All-head, All-push, All-tail}
 use Rattle.std.proofs.lemmas.List.Kept.{AllPairs-cons}
+use Rattle.std.proofs.lemmas.List.Sums.{sum_by-append}
+use Rattle.seq_word.specs.Rule.{times}
 use Rattle.mesh_types.specs.declared.history.Sent.{Sent}
 use Rattle.report_definitions.specs.Record.{Shown}
 use Rattle.turn_lock.specs.Entries.{IsPrefix, added}
 use Rattle.locked_node.specs.declared.marks.Mark.{Mark}
 use Rattle.node_bearer.specs.Marked.{shown_at, shown_in}
+
+-- how often a word stands in two lists
+pub times_append : (x : ℕ) (xs ys : List ℕ) → times x (xs ++ ys) ≡ times x xs + times x ys
+times_append x xs ys = sum_by-append (λ (y : ℕ). cond (y == x) 1 0) xs ys
 
 pub get_longer : {A : Type 0} (xs rest : List A) (i : ℕ) (e : A) → slice_get xs i ≡ Some e → slice_get (xs ++ rest) i ≡ Some e
 get_longer [] rest i e h = cc

@@ -1,16 +1,12 @@
 -- A turn at the lock: what is added is the bearer's own, and it has seen all that stands there.
 use Rattle.std.proofs.Common.{◌≡◌, ◌∙◌, ℕ, ◌+◌, true, false, List, [], ◌∷◌, ◌++◌, length, Option, Some, None, refl, sym, ap, subst, append_assoc, append-nil, arith}
 use Rattle.std.specs.Prelude.{Result, Ok, Err, IfErr, IfOk, IsErrAnd, OnOk, slice_get}
-use Rattle.std.specs.List.{Contains}
-use Rattle.std.proofs.lemmas.List.Elements.{Contains-append_right}
 use Rattle.machine_contract.specs.declared.answers.Stop.{Stop}
 use Rattle.machine_contract.specs.declared.answers.Stop.TheVariants as S
 use Rattle.mesh_types.specs.declared.events.Event.{Event}
 use Rattle.mesh_types.specs.declared.history.Entry.{Entry}
 use Rattle.mesh_types.specs.declared.jobs.Job.{Job}
 use Rattle.run_definitions.specs.Order.{Task, write_tasks}
-use Rattle.seq_word.specs.declared.looks.Look.{Look}
-use Rattle.seq_word.specs.declared.looks.Look.TheVariants as saw
 use Rattle.turn_lock.specs.Entries.{IsPrefix, added}
 use Rattle.turn_lock.specs.Views.{PassView}
 use Rattle.locked_node.specs.declared.marks.Mark.{Mark}
@@ -61,10 +57,6 @@ entry_on a b at event jobs on h = subst (λ ms. HasEntry ms at event jobs) (sym 
 
 pub job_on : {F : Type 0} (a b : BearerOf F) (at j : ℕ) (event : Event) (job : Job) → GoesOn a b → HasJob a.pass.seen at j event job → HasJob b.pass.seen at j event job
 job_on a b at j event job on h = record { jobs = h.jobs; entry = entry_on a b at event h.jobs on h.entry; place = h.place; short = h.short }
-
-pub contains_spent : (looks front : List Look) (mark word : ℕ) → looks ≡ front ++ saw.Mark mark ∷ saw.Counter word ∷ [] → Contains looks (saw.Counter word)
-contains_spent looks front mark word e =
-    subst (λ l. Contains l (saw.Counter word)) (sym e) (Contains-append_right front (saw.Mark mark ∷ saw.Counter word ∷ []) (saw.Counter word) (1, omega arith, refl))
 
 pub front_of_itself : {E : Type 0} (ms : List E) → IsPrefix ms ms
 front_of_itself ms = record { rest = []; is = sym (append-nil ms) }

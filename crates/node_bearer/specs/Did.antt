@@ -1,5 +1,5 @@
 -- What a bearer did with its tasks.
-use Rattle.std.specs.Prelude.{◌≡◌, ℕ, ◌+◌, ◌*◌, ◌^◌, ◌<◌, false, IsTrue, List, [], ◌∷◌, ◌++◌, map, length, All, AllPairs, Option, Some, ⊤}
+use Rattle.std.specs.Prelude.{◌≡◌, ℕ, ◌+◌, ◌*◌, ◌^◌, ◌<◌, ◌≤◌, false, IsTrue, List, [], ◌∷◌, ◌++◌, map, length, All, AllPairs, Option, Some, ⊤}
 use Rattle.std.specs.List.{Contains, range_with_len}
 use Rattle.mesh_base.specs.Pairs.{word_of}
 use Rattle.mesh_base.specs.declared.pair.Pair.{Pair}
@@ -7,6 +7,7 @@ use Rattle.mesh_types.specs.declared.events.Event.{Event}
 use Rattle.mesh_types.specs.declared.history.Sent.{Sent}
 use Rattle.machine_contract.specs.Ranges.{IsEvent}
 use Rattle.run_definitions.specs.Order.{Placed, Task, Walks, handle, follow, is_outside}
+use Rattle.seq_word.specs.Rule.{times}
 use Rattle.seq_word.specs.Seen.{DrawerView, NumbersView}
 use Rattle.seq_word.specs.Seen as seen
 use Rattle.seq_word.specs.declared.looks.Look.TheVariants as saw
@@ -15,7 +16,7 @@ use Rattle.locked_node.specs.declared.marks.Mark.{Mark}
 use Rattle.locked_node.specs.declared.marks.Mark.TheVariants as M
 use Rattle.locked_node.specs.declared.marks.Origin.{Origin}
 use Rattle.locked_node.specs.Node.{NodeView}
-use Rattle.node_bearer.specs.Marked.{AreShown}
+use Rattle.node_bearer.specs.Marked.{AreShown, words_seen}
 use Rattle.node_bearer.specs.declared.bearer.Bearer.{Bearer}
 use Rattle.node_bearer.specs.declared.bearer.Drawn.{Drawn}
 use Rattle.node_bearer.specs.declared.bearer.Drawn.TheVariants as D
@@ -78,11 +79,24 @@ pub record Drew {F : Type 0} (p : Pair) (k first : ℕ) (tasks left : List Task)
   pub did : Did k first tasks left b.pass.own b.pass.seen b.lines.items b.number before
   pub pair : DrewPair p before b.drawer
 
--- what a draw left: a pair more, or the end of an IV Index was seen
+-- nothing was drawn, and the counter was seen at the end of this IV Index once more than before
+pub record SawEnd (iv : ℕ) (d e : DrawerView) : Type 0 where
+  pub drawn : e.drawn ≡ d.drawn
+  pub noted : e.noted ≡ d.noted
+  pub looks : seen.IsPrefix d.looks e.looks
+  pub here : Contains e.looks (saw.Counter (iv * 2 ^ 25 + 2 ^ 24))
+  pub once_more : (x : ℕ)
+      → times x ((iv * 2 ^ 25 + 2 ^ 24) ∷ []) + times x (words_seen d.looks) ≤ times x (words_seen e.looks)
+
+pub record FoundEnd {F : Type 0} (iv k first : ℕ) (tasks left : List Task) (b : BearerOf F) : Type 0 where
+  pub before : DrawerView
+  pub did : Did k first tasks left b.pass.own b.pass.seen b.lines.items b.number before
+  pub saw : SawEnd iv before b.drawer
+
+-- what a draw left: a pair more, or the end of an IV Index was seen, by a look of which no line tells yet
 abbrev pub DrewBy : {F : Type 0} → Drawn → ℕ → ℕ → List Task → List Task → BearerOf F → Type 0
 DrewBy (D.Pair p) k first tasks left b = Drew p k first tasks left b
-DrewBy (D.Spent iv) k first tasks left b =
-    DidBy k first tasks left b × Contains b.drawer.looks (saw.Counter (iv * 2 ^ 25 + 2 ^ 24))
+DrewBy (D.Spent iv) k first tasks left b = FoundEnd iv k first tasks left b
 
 abbrev pub IsUnspent : Drawn → Type 0
 IsUnspent (D.Pair p) = p.seq < 2 ^ 24

@@ -1,6 +1,6 @@
 -- Lines and the entries that they are of, where entries stand among the marks of a node's lock.
-use Rattle.std.specs.Prelude.{◌≡◌, ℕ, ◌+◌, ◌*◌, ◌^◌, ◌<◌, List, map, All, Option, Some, None, option_and_then, ⊤}
-use Rattle.std.specs.List.{Contains, slice_get}
+use Rattle.std.specs.Prelude.{◌≡◌, ℕ, ◌+◌, ◌*◌, ◌^◌, ◌<◌, ◌≤◌, List, map, All, Option, Some, None, option_and_then, ⊤}
+use Rattle.std.specs.List.{Contains, filter_map, slice_get}
 use Rattle.std.specs.Option.{option_map}
 use Rattle.mesh_base.specs.Pairs.{word_of}
 use Rattle.mesh_types.specs.declared.events.Event.{Event}
@@ -11,6 +11,7 @@ use Rattle.mesh_types.specs.declared.lines.Outcome.{Outcome}
 use Rattle.mesh_types.specs.declared.lines.Outcome.TheVariants as O
 use Rattle.report_definitions.specs.Record.{Shown}
 use Rattle.run_definitions.specs.RunOf.{draws}
+use Rattle.seq_word.specs.Rule.{times}
 use Rattle.seq_word.specs.declared.looks.Look.{Look}
 use Rattle.seq_word.specs.declared.looks.Look.TheVariants as saw
 use Rattle.locked_node.specs.declared.marks.Mark.{Mark}
@@ -30,6 +31,26 @@ abbrev pub IsSpentSeen : List Look → Outcome → Type 0
 IsSpentSeen looks (O.Spent iv) = Contains looks (saw.Counter (iv * 2 ^ 25 + 2 ^ 24))
 IsSpentSeen looks _ = ⊤
 
+-- the word behind the last number of an IV Index, under which a line says that no number was left
+abbrev pub end_told : Outcome → Option ℕ
+end_told (O.Spent iv) = Some (iv * 2 ^ 25 + 2 ^ 24)
+end_told _ = None
+
+abbrev pub ends_told : List Shown → List ℕ
+ends_told shows = filter_map (λ s. end_told s.outcome) shows
+
+-- the words that looks found in the counter
+abbrev pub word_seen : Look → Option ℕ
+word_seen (saw.Mark word) = None
+word_seen (saw.Counter word) = Some word
+
+abbrev pub words_seen : List Look → List ℕ
+words_seen looks = filter_map word_seen looks
+
+-- each line that says that no number was left has a look of its own, which found the counter there
+abbrev pub HasOwnLooks : List ℕ → List Look → Type 0
+HasOwnLooks ends looks = (x : ℕ) → times x ends ≤ times x (words_seen looks)
+
 -- The entry and the job of each line are there; the lines draw these words, each with a SEQ below 2^24. A job's number, from 1 on, has 8 bits.
 pub record AreShown (marks : List Mark) (lines : List Sent) (drawn : List ℕ) (looks : List Look) : Type 0 where
   pub shows : List Shown
@@ -38,6 +59,7 @@ pub record AreShown (marks : List Mark) (lines : List Sent) (drawn : List ℕ) (
   pub drawing : map word_of (draws shows) ≡ drawn
   pub seq : All (λ p. p.seq < 2 ^ 24) (draws shows)
   pub spent : All (λ s. IsSpentSeen looks s.outcome) shows
+  pub own : HasOwnLooks (ends_told shows) looks
 
 -- at this place stands the entry of this event, which has these jobs
 pub record HasEntry (marks : List Mark) (at : ℕ) (event : Event) (jobs : List Job) : Type 0 where

@@ -13,8 +13,8 @@ ghost use Rattle.node_bearer.specs.Marked.{HasEntry};
 ghost use Rattle.node_bearer.specs.Turns.{AreRead, after_turn, left_of};
 
 use crate::bearer::{Acted, Bearer};
-use crate::place::Place;
 use crate::sharing::Sharing;
+use crate::workplace::Workplace;
 use flash_model::Flash;
 use locked_node::{Node, Raised};
 use machine_contract::{Answered, Machine, Stop};
@@ -65,7 +65,7 @@ fn renew_each<M: Machine, F: Flash + Send + Drop, S: Sharing>(
 
 /// Has an event handled by the node in hand, of which a reader may have read before.
 fn handle_one<M: Machine, F: Flash + Send + Drop, S: Sharing>(
-    place: &Place<'_, Node<M, F>, S>,
+    place: &Workplace<'_, Node<M, F>, S>,
     node: &mut Node<M, F>,
     b: &mut Bearer<Node<M, F>>,
     event: &Event,
@@ -108,7 +108,7 @@ fn ends_turn(answered: &Answered, at: usize, count: usize) -> bool
 /// Has events handled by the node in hand, one after another, and none behind one that leaves jobs. Each may have been read before, by the reader
 /// of its place.
 fn handle_all<M: Machine, F: Flash + Send + Drop, S: Sharing>(
-    place: &Place<'_, Node<M, F>, S>,
+    place: &Workplace<'_, Node<M, F>, S>,
     node: &mut Node<M, F>,
     b: &mut Bearer<Node<M, F>>,
     events: &[Event],
@@ -148,7 +148,7 @@ fn handle_all<M: Machine, F: Flash + Send + Drop, S: Sharing>(
 /// Takes a turn at the lock, in which an event is handled, of which the bearer's reader may have read before. The reader is renewed under the
 /// same lock.
 pub fn act<M: Machine, F: Flash + Send + Drop, S: Sharing>(
-    place: &Place<'_, Node<M, F>, S>,
+    place: &Workplace<'_, Node<M, F>, S>,
     b: &mut Bearer<Node<M, F>>,
     event: &Event,
     reader: &mut M::Reader,
@@ -181,7 +181,7 @@ pub fn act<M: Machine, F: Flash + Send + Drop, S: Sharing>(
 /// Takes a turn at the lock, in which the first of these events is handled, and each next one where the one before left no jobs. Each may have
 /// been read before, by the reader of its place. All these readers are renewed under the same lock.
 pub fn act_on<M: Machine, F: Flash + Send + Drop, S: Sharing>(
-    place: &Place<'_, Node<M, F>, S>,
+    place: &Workplace<'_, Node<M, F>, S>,
     b: &mut Bearer<Node<M, F>>,
     events: &[Event],
     readers: &mut [M::Reader],
@@ -217,7 +217,7 @@ pub fn act_on<M: Machine, F: Flash + Send + Drop, S: Sharing>(
 /// Has a refill stored, where the mark that was reached is still the one that was published last, and can be raised. Then another mark is
 /// published, and no longer the one that was reached (`raised`).
 pub fn refill<M: Machine, F: Flash + Send + Drop, S: Sharing>(
-    place: &Place<'_, Node<M, F>, S>,
+    place: &Workplace<'_, Node<M, F>, S>,
     b: &mut Bearer<Node<M, F>>,
     dry: Dry,
 ) -> Result<Raised, Stop>

@@ -12,8 +12,8 @@ ghost use Rattle.node_bearer.specs.Tries.{DrawsUntil, IsRaised};
 
 use crate::acting::refill;
 use crate::bearer::{Bearer, Drawn};
-use crate::place::Place;
 use crate::sharing::Sharing;
+use crate::workplace::Workplace;
 use flash_model::Flash;
 use locked_node::{Node, Raised};
 use machine_contract::{Machine, Stop};
@@ -32,7 +32,7 @@ const MOST_TRIES: u32 = u32::MAX;
 
 /// Has a mark raised that the counter has reached, where SEQ of the mark is below 2^24 (`raised`); else it does nothing (`last`).
 fn raise<M: Machine, F: Flash + Send + Drop, S: Sharing>(
-    place: &Place<'_, Node<M, F>, S>,
+    place: &Workplace<'_, Node<M, F>, S>,
     b: &mut Bearer<Node<M, F>>,
     dry: Dry,
 ) -> Result<Option<Raised>, Stop>
@@ -83,7 +83,7 @@ fn draw_below(n: &Numbers, d: &mut Drawer) -> Result<Pair, Option<DrawStop>>
 /// Draws a pair. Where the counter has reached the mark, it has a refill stored and draws again, and for no other cause. It waits for
 /// nobody but for its turn to have a refill stored; after 2^32 - 1 tries it gives up, as for want of memory.
 pub fn draw<M: Machine, F: Flash + Send + Drop, S: Sharing>(
-    place: &Place<'_, Node<M, F>, S>,
+    place: &Workplace<'_, Node<M, F>, S>,
     b: &mut Bearer<Node<M, F>>,
 ) -> Result<Drawn, Stop>
     requires rider { IsRider S.parts place.now.numbers.now place.now.turn.now b.old }

@@ -13,8 +13,8 @@ ghost use Rattle.node_bearer.specs.Marked.{HasEntry, HasJob};
 use crate::acting::act;
 use crate::bearer::{Bearer, Drawn};
 use crate::drawing::draw;
-use crate::place::Place;
 use crate::sharing::Sharing;
+use crate::workplace::Workplace;
 use flash_model::Flash;
 use job_sealing::{drawn_line, draws, plain_line};
 use locked_node::Node;
@@ -117,7 +117,7 @@ fn drawn_job<M: Machine, F: Flash + Send + Drop>(
 
 /// Does a job: draws for it if it is one that draws, seals it, and notes its line. Returns the node's own event that is to be handled next.
 fn do_job<M: Machine, F: Flash + Send + Drop, S: Sharing>(
-    place: &Place<'_, Node<M, F>, S>,
+    place: &Workplace<'_, Node<M, F>, S>,
     b: &mut Bearer<Node<M, F>>,
     at: u32,
     j: u8,
@@ -150,7 +150,7 @@ fn do_job<M: Machine, F: Flash + Send + Drop, S: Sharing>(
 
 /// Does the jobs of an entry after whose lines nothing is handled.
 fn do_quiet_jobs<M: Machine, F: Flash + Send + Drop, S: Sharing>(
-    place: &Place<'_, Node<M, F>, S>,
+    place: &Workplace<'_, Node<M, F>, S>,
     b: &mut Bearer<Node<M, F>>,
     at: u32,
     event: &Event,
@@ -178,7 +178,7 @@ fn do_quiet_jobs<M: Machine, F: Flash + Send + Drop, S: Sharing>(
 
 /// Has an event of the node's own handled, and does its jobs.
 fn do_next<M: Machine, F: Flash + Send + Drop, S: Sharing>(
-    place: &Place<'_, Node<M, F>, S>,
+    place: &Workplace<'_, Node<M, F>, S>,
     b: &mut Bearer<Node<M, F>>,
     event: &Event,
     reader: &mut M::Reader,
@@ -202,7 +202,7 @@ fn do_next<M: Machine, F: Flash + Send + Drop, S: Sharing>(
 
 /// Has handled what follows a line, if anything does, and does its jobs.
 fn do_following<M: Machine, F: Flash + Send + Drop, S: Sharing>(
-    place: &Place<'_, Node<M, F>, S>,
+    place: &Workplace<'_, Node<M, F>, S>,
     b: &mut Bearer<Node<M, F>>,
     next: Option<Event>,
     reader: &mut M::Reader,
@@ -227,7 +227,7 @@ fn do_following<M: Machine, F: Flash + Send + Drop, S: Sharing>(
 
 /// Does the jobs of an entry, and has handled what follows their lines.
 pub fn do_jobs<M: Machine, F: Flash + Send + Drop, S: Sharing>(
-    place: &Place<'_, Node<M, F>, S>,
+    place: &Workplace<'_, Node<M, F>, S>,
     b: &mut Bearer<Node<M, F>>,
     at: u32,
     event: &Event,

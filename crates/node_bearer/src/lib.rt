@@ -1,6 +1,6 @@
 //! One bearer of a node, which takes its events to the machine behind the lock and does the jobs that they give it.
 //!
-//! - `bearer`: what a bearer has; `place`: where it works; `gate`: who is told of its steps
+//! - `bearer`: what a bearer has; `workplace`: where it works; `gate`: who is told of its steps
 //! - `sharing`: how it comes to its turn at the lock, beside others or alone
 //! - `acting`: events are handled in a turn at the lock, and a refill is stored
 //! - `drawing`: a sequence number is drawn, without the lock
@@ -13,12 +13,12 @@ mod bearer;
 mod drawing;
 mod gate;
 mod jobs;
-mod place;
 mod sharing;
 mod working;
+mod workplace;
 
 pub use bearer::{Bearer, Drawn};
 pub use gate::{FreeGate, Gate};
-pub use place::Place;
 pub use sharing::{Alone, Sharing};
 pub use working::work;
+pub use workplace::Workplace;

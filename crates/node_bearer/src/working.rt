@@ -10,8 +10,8 @@ use crate::acting::{act_on, read_each};
 use crate::bearer::Bearer;
 use crate::gate::Gate;
 use crate::jobs::do_jobs;
-use crate::place::Place;
 use crate::sharing::Sharing;
+use crate::workplace::Workplace;
 use flash_model::Flash;
 use locked_node::Node;
 use machine_contract::{Machine, Stop};
@@ -29,7 +29,7 @@ struct Stride {
 /// Has events from outside handled in one turn, as far as none leaves jobs, and does all that follows. Each is read before the lock is taken, by
 /// the reader of its place. All these readers are renewed.
 fn do_events<M: Machine, F: Flash + Send + Drop, G: Gate, S: Sharing>(
-    place: &Place<'_, Node<M, F>, S>,
+    place: &Workplace<'_, Node<M, F>, S>,
     gate: &G,
     b: &mut Bearer<Node<M, F>>,
     events: &[Event],
@@ -101,7 +101,7 @@ fn next_ahead(ahead: usize, most: usize) -> usize
 /// As long as events leave no jobs, it takes more and more of them to the lock at once, and has them handled in one turn: at most as many as
 /// there are readers, and one where the gate is told. Each is read before by a reader of its own, which was renewed in the turn before.
 pub fn work<M: Machine, F: Flash + Send + Drop, G: Gate, S: Sharing>(
-    place: &Place<'_, Node<M, F>, S>,
+    place: &Workplace<'_, Node<M, F>, S>,
     gate: &G,
     b: &mut Bearer<Node<M, F>>,
     events: &[Event],

@@ -57,6 +57,7 @@ nothing_shown marks looks = record {
   drawing = refl;
   seq = All-nil (λ p. p.seq < 2 ^ 24);
   spent = All-nil (λ (s : Shown). IsSpentSeen looks s.outcome);
+  own = λ x. omega arith;
 }
 
 pub did_nothing : (k number : ℕ) (tasks : List Task) (own : List (ℕ × Mark)) (marks : List Mark) (lines : List Sent) (d : DrawerView)

@@ -13,7 +13,7 @@ use flash_model::Flash;
 use locked_node::Node;
 use machine_contract::Machine;
 use mesh_types::events::Event;
-use node_bearer::{Alone, Bearer, Gate, Place};
+use node_bearer::{Alone, Bearer, Gate, Workplace};
 use seq_word::Drawer;
 use std::alloc::AllocError;
 use turn_lock::Turn;
@@ -54,7 +54,7 @@ pub fn run_alone<M: Machine, F: Flash + Send + Drop, G: Gate>(
         stop: None,
     };
     let mut seated = Seated { bearer, readers };
-    let place = Place {
+    let place = Workplace {
         sharing: host.rt,
         numbers: host.numbers,
         turn: &turn,

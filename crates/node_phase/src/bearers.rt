@@ -15,7 +15,7 @@ use locked_node::{Mark, Node};
 use machine_contract::{Machine, Stop};
 use mesh_types::events::Event;
 use mesh_types::history::Sent;
-use node_bearer::{Bearer, Gate, Place, Sharing, work};
+use node_bearer::{Bearer, Gate, Sharing, Workplace, work};
 use seq_word::{Drawer, Numbers};
 use std::alloc::{AllocError, Global};
 use std::marker::Model;
@@ -139,7 +139,7 @@ pub fn split_all<M: Machine, F: Flash + Send + Drop>(
 
 /// One bearer, at all its events.
 pub fn work_phase<M: Machine, F: Flash + Send + Drop, G: Gate, S: Sharing>(
-    place: &Place<'_, Node<M, F>, S>,
+    place: &Workplace<'_, Node<M, F>, S>,
     gate: &G,
     b: &mut Seated<M, F>,
     events: &[Event],

@@ -10,7 +10,7 @@ use flash_model::Flash;
 use locked_node::Node;
 use machine_contract::Machine;
 use mesh_types::events::Event;
-use node_bearer::{Gate, Place};
+use node_bearer::{Gate, Workplace};
 use node_limits::BEARERS;
 use seq_word::Numbers;
 use std::sync::Wait;
@@ -51,7 +51,7 @@ pub fn work_all<M: Machine, F: Flash + Send + Drop, G: Gate, R: Threads + Wait +
             ensures rider { IsRider 1 n.entry.now turn.entry.now b.exit.now }
             ensures worked { (p : _) → Worked i (slice_index_or plan.entry.now i p).items b.entry.now b.exit.now }
         {
-            let place = Place {
+            let place = Workplace {
                 sharing: rt,
                 numbers: n,
                 turn,

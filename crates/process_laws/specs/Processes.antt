@@ -1,9 +1,13 @@
 -- Lives that processes led, one after another, over one flash that outlasts them.
-use Rattle.std.specs.Prelude.{◌≡◌, List, [], ◌∷◌, map, ⊤}
+use Rattle.std.specs.Prelude.{◌≡◌, ℕ, List, [], ◌∷◌, map, ⊤}
 use Rattle.event_definitions.specs.Role.{Role}
 use Rattle.flash_model.specs.Chip.{Chip}
 use Rattle.machine_contract.specs.Opening.{EachRecovered}
 use Rattle.mesh_types.specs.declared.events.Event.{Event}
+use Rattle.mesh_types.specs.declared.report.End.{End}
+use Rattle.mesh_types.specs.declared.report.End.TheVariants as E
+use Rattle.mesh_types.specs.declared.report.Opened.{Opened}
+use Rattle.mesh_types.specs.declared.report.Opened.TheVariants as W
 use Rattle.record_types.specs.declared.records.StoreRecord.{StoreRecord}
 use Rattle.report_definitions.specs.Record.{Life, LifeOver, Run}
 use Rattle.run_definitions.specs.Order.{Step, phase}
@@ -24,6 +28,16 @@ pub record Process (F : Type 0) : Type 0 where
 abbrev pub led_life : {F : Type 0} → List (List (List Event)) → List StoreRecord → Life → F → F → Process F
 led_life phases over life found left =
     record { plan = map phase phases; over = over; life = life; found = found; left = left }
+
+-- a life in which nothing was done: it was cut as it was opened, after so many calls; or it wasn't run, since there was a Node Reset
+abbrev pub idle : Opened → End → Life
+idle opened end = record { opened = opened; entries = []; refills = 0; sends = []; end = end }
+
+abbrev pub cut_at_start : ℕ → Life
+cut_at_start calls = idle W.CutAtStart (E.Cut calls)
+
+abbrev pub was_reset : Life
+was_reset = idle W.WasReset E.Ended
 
 module _ (role : Role) {F : Type 0} (chip : F → Chip) where
   -- It opened over what its flash recovered. Whatever an image recovers of what it left, it is a life of its plan that leaves this.

@@ -7,8 +7,10 @@
 //!
 //! In `specs/`, `Processes` says what lives of processes are, `Outputs` what they told, and `Laws` has the laws.
 //!
-//! A process that is killed needs no law of its own: it left one of the images that its flash allows, as a power cut does, and a flash in a file
-//! is then opened from that image. What it told is a part of what it would have told.
+//! Of a process that is killed no clause speaks, since none speaks of a call that doesn't return: that it is one of these is argued, and not proved.
+//! It did what one does of which the call that it was in fails, done as far as it was, and each later call of what is outside (its flash, a source, a
+//! sink) fails and changes nothing. Of that one the clauses speak, since each of these calls may fail at any time. So what it left is one of the
+//! images of its flash, from which a flash in a file is then opened, and what it told is a front of what is told of its life.
 #![tactic(auto)]
 
 pub mod outputs;

@@ -1,6 +1,6 @@
 -- When a record is one of a run: the relation of a life to its plan, and of a run to its script.
-use Rattle.std.specs.Prelude.{◌≡◌, ◌≢◌, ℕ, ◌+◌, ◌*◌, ◌^◌, ◌<◌, ◌≤◌, ◌==◌, Bool, true, false, IsTrue, List, [], ◌∷◌, ◌++◌, length, map, filter, take, All, AllPairs, Option, Some, ⊤}
-use Rattle.std.specs.List.{filter_map, flat_map, range_with_len, slice_get}
+use Rattle.std.specs.Prelude.{◌≡◌, ◌≢◌, ◌⊎◌, ℕ, ◌+◌, ◌-◌, ◌*◌, ◌^◌, ◌<◌, ◌≤◌, ◌==◌, Bool, true, false, IsTrue, List, [], ◌∷◌, ◌++◌, length, map, filter, take, All, AllPairs, Option, Some, ⊤}
+use Rattle.std.specs.List.{Contains, filter_map, flat_map, range_with_len, slice_get}
 use Rattle.mesh_base.specs.declared.pair.Pair.{Pair}
 use Rattle.mesh_types.specs.declared.events.Event.{Event}
 use Rattle.mesh_types.specs.declared.history.Entry.{Entry}
@@ -95,10 +95,14 @@ pub record IsDrawn (over next : List StoreRecord) (l : Life) : Type 0 where
   pub once : AllPairs (λ p q. word_of p ≢ word_of q) (draws (shown l))
   pub rise : (k : ℕ) → AllPairs (λ p q. word_of p < word_of q) (draws (shown_by l k))
 
--- a line says that no number is left only where the mark that the life leaves has reached the end of that IV Index
-abbrev pub IsSpentRight : ℕ → Outcome → Type 0
-IsSpentRight mark (O.Spent iv) = iv * 2 ^ 25 + 2 ^ 24 ≤ mark
-IsSpentRight mark _ = ⊤
+-- A line says that no number is left under an IV Index only where the mark that the life leaves has reached the end of that, and the life
+-- drew the last number under it, for one of its lines, or opened with the mark behind that number.
+abbrev pub IsSpentRight : List StoreRecord → List StoreRecord → Life → Outcome → Type 0
+IsSpentRight over next l (O.Spent iv) =
+    (iv * 2 ^ 25 + 2 ^ 24 ≤ (config_of next).mark)
+    × (((config_of over).mark ≡ iv * 2 ^ 25 + 2 ^ 24)
+    ⊎ Contains (draws (shown l)) (record { iv = iv; seq = 2 ^ 24 - 1 }))
+IsSpentRight over next l _ = ⊤
 
 -- The life is one of this plan: it opens over the one list of records and leaves the other.
 pub record LifeOf (role : Role) (plan : List Step) (over : List StoreRecord) (l : Life)
@@ -113,7 +117,7 @@ pub record LifeOf (role : Role) (plan : List Step) (over : List StoreRecord) (l 
   pub order : is_on l.opened ≡ true → IsOrdered plan l
   pub leaves : Leaves role plan l (past_at_end role over l told) next
   pub drawn : IsDrawn over next l
-  pub spent : All (λ s. IsSpentRight (config_of next).mark s.outcome) (shown l)
+  pub spent : All (λ s. IsSpentRight over next l s.outcome) (shown l)
 
 -- Runs.
 

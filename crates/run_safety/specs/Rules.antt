@@ -38,7 +38,7 @@ pub record Rules : Type 1 where
   pub is_in_range : StoreRecord → Type 0
   pub is_alike : List StoreRecord → List StoreRecord → Type 0
   pub is_drawn : List StoreRecord → List StoreRecord → Life → Type 0
-  pub is_spent : List StoreRecord → Life → Type 0
+  pub is_spent : List StoreRecord → List StoreRecord → Life → Type 0
 
 -- the entries of a life are those that are told
 abbrev pub AreTold : List Told → Life → Type 0
@@ -58,7 +58,7 @@ all_rules = record {
   is_in_range = IsInRange;
   is_alike = IsAlike;
   is_drawn = IsDrawn;
-  is_spent = λ next l. All (λ s. IsSpentRight (config_of next).mark s.outcome) (shown l);
+  is_spent = λ over next l. All (λ s. IsSpentRight over next l s.outcome) (shown l);
 }
 
 -- A run by these rules.
@@ -81,7 +81,7 @@ pub record LifeBy (rules : Rules) (role : Role) (plan : List Step) (over : List 
   pub order : is_on l.opened ≡ true → rules.is_ordered plan l
   pub leaves : LeavesBy rules role plan l (past_at_end role over l told) next
   pub drawn : rules.is_drawn over next l
-  pub spent : rules.is_spent next l
+  pub spent : rules.is_spent over next l
 
 abbrev pub LivesBy : Rules → Role → List (List Step) → List LifeOver → List StoreRecord → Type 0
 LivesBy rules role [] [] last = ⊤
@@ -142,7 +142,7 @@ enough_rules = record all_rules {
   is_in_range = HasFitNumbers;
   is_alike = KeepsNode;
   is_drawn = DrawsInAnyOrder;
-  is_spent = λ next l. ⊤;
+  is_spent = λ over next l. ⊤;
 }
 
 -- each run of a node is one by these

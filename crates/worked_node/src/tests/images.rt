@@ -1,8 +1,9 @@
 //! The image of a new node, from docs/FORMATS.md (Flash), and writes on it.
 
-ghost use Rattle.std.specs.Prelude.{◌+◌, ◌≤◌, length};
+ghost use Rattle.file_flash.specs.Noted.{IsInside};
 
 use file_flash::Write;
+use flash_model::SECTOR_OCTETS;
 
 /// The octets of an image.
 pub(super) const IMAGE: usize = 65_536;
@@ -43,9 +44,16 @@ pub(super) fn new_image() -> [u8; IMAGE] {
 
 /// Makes a write on an image.
 pub(super) fn put(image: &mut [u8; IMAGE], write: &Write)
-    requires inside { write.now.at + length write.now.octets.items ≤ 65536 }
+    requires inside { IsInside write.now }
 {
-    let at = write.at as usize;
-    let octets = write.octets.as_slice();
-    image[at..at + octets.len()].copy_from_slice(octets);
+    match write {
+        Write::Program { at, octets } => {
+            let at = *at as usize;
+            image[at..at + octets.len()].copy_from_slice(octets.as_slice());
+        }
+        Write::Erase { sector } => {
+            let at = (SECTOR_OCTETS * *sector) as usize;
+            image[at..at + SECTOR_OCTETS as usize].fill(0xff);
+        }
+    }
 }

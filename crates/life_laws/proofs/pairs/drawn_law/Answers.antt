@@ -5,4 +5,4 @@ pub returns-clause-drawn : goal.returns-clause-drawn
 returns-clause-drawn c = λ over next l d h from below once. is_drawn over next l d h from below once
 
 pub returns-clause-spent : goal.returns-clause-spent
-returns-clause-spent c = λ mark l d h f. is_spent mark l d h f
+returns-clause-spent c = λ over next l d h f ends. is_spent over next l d h f ends

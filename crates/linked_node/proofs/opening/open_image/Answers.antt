@@ -1,6 +1,24 @@
-use Rattle.std.proofs.Common.{◌∙◌}
+use Rattle.mesh_machine.specs.contracts.machine.MeshMachine as MeshMachine
+use denote.Param.Send.{IsSend, sendable}
+use Rattle.std.proofs.Common.{◌∙◌, subst, sym}
+use Rattle.std.specs.Prelude.{IsTrue}
+use Rattle.mesh_machine.proofs.Crossing.{machine_send}
+use Rattle.node_store.specs.Tie.{IsNode}
 use Rattle.linked_node.proofs.Opened.{reset_is}
 use Rattle.linked_node.proofs.opening.open_image.Goals as goal
+
+pub open-requires-send-M : goal.open-requires-send-M
+open-requires-send-M c κs = let sent : IsSend MeshMachine.the_row = machine_send in search sendable
+
+-- what was read is of the one image that the flash has, and it stays
+pub open-requires-clause-node : goal.open-requires-clause-node
+open-requires-clause-node c κs =
+    let read = c.in-Ok-read_image.ensures in
+    let fresh = c.in-Ok.ensures.fresh in
+    record {
+      honest = subst IsTrue (sym read.frame.honest) fresh.honest;
+      each = λ image now. subst IsNode (sym (fresh.only image ((read.stays fresh.honest).images image now))) (read.node fresh.honest);
+    }
 
 pub returns-in-WasReset-clause-cause : goal.returns-in-WasReset-clause-cause
 returns-in-WasReset-clause-cause c =

@@ -1,3 +1,5 @@
+use Rattle.mesh_machine.specs.contracts.machine.MeshMachine as MeshMachine
+use denote.Param.Send.{IsSend, sendable}
 use Rattle.event_definitions.specs.Role.{node_role}
 use Rattle.mesh_machine.specs.Machine.{Stands, shown}
 use Rattle.mesh_node.specs.Given.{Stood}
@@ -8,6 +10,7 @@ use Rattle.live_node.specs.Lived.{streams_at}
 use Rattle.live_node.specs.declared.status.Status.TheVariants as S
 use Rattle.live_node.proofs.Causes.{stream_causes}
 use Rattle.live_node.proofs.Statuses.{lost_of, memory_of, some_of}
+use Rattle.mesh_machine.proofs.Crossing.{machine_send}
 use Rattle.live_node.proofs.running.run_node.Goals as goal
 
 pub returns : goal.returns
@@ -39,3 +42,6 @@ returns g c =
       source_cause = causes.0;
       errors_cause = causes.1;
     }
+
+pub run_machine-requires-send-M : goal.run_machine-requires-send-M
+run_machine-requires-send-M g c κs = let sent : IsSend MeshMachine.the_row = machine_send in search sendable

@@ -20,6 +20,7 @@ returns-in-Err-clause-ended g c =
       wrote = inr (opening_front (chip b.start) before after s.over b.started.state b.started.mark s.read s.runs s.state s.mark c.in-Err.ensures.err);
       unread = refl;
       kept = c.requires.kept;
+      no_fault = s.no_fault;
       untouched = inr (started_untouched g.M.Machine.view g.M.Machine.stands g.M.Machine.role g.M.Machine.image (chip b.start) (chip b.flash) b.started s life);
     }) c.in-Err.stop)
 
@@ -36,6 +37,7 @@ returns-in_default-clause-ended g c =
         wrote = inl refl;
         unread = refl;
         kept = c.requires.kept;
+        no_fault = s.no_fault;
         untouched = inr (started_untouched g.M.Machine.view g.M.Machine.stands g.M.Machine.role g.M.Machine.image (chip b.start) (chip b.flash) b.started s life);
       },
     ))

@@ -1,3 +1,5 @@
+use Rattle.mesh_run.specs.contracts.machine.ScriptMachine as ScriptMachine
+use denote.Param.Send.{IsSend, sendable}
 use Rattle.std.proofs.Common.{◌∙◌, ap, false}
 use Rattle.life_plans.specs.Plans.{script_of}
 use Rattle.report_writer.specs.Writing.{view_of}
@@ -8,6 +10,7 @@ use Rattle.script_generator.specs.Generated.{generated}
 use Rattle.store_definitions.specs.Provisioning.{provisioned}
 use Rattle.mesh_run.specs.Kind.{node_kind}
 use Rattle.mesh_run.proofs.Generating.{all_unwritten, front_summarized, left_then, silent_all, summarized}
+use Rattle.mesh_run.proofs.Crossing.{script_machine_send}
 use Rattle.mesh_run.proofs.generated.run_generated.Goals as goal
 
 pub run_script-ended-requires-clause-read : goal.run_script-ended-requires-clause-read
@@ -55,3 +58,6 @@ returns-in-Done-clause-unwritten g c = λ memory.
     ap view (c.sum_up.ensures.memory memory)
     ∙ silent_all chip node_kind s (format_by false) (provisioned s.node) (chip c.args.flash) (view c.args.sink.now) _ (view c.run_script-ended.new.sink) (λ lives told. told.0)
     c.run_script-ended.result.flash (c.run_script-ended.ensures.done c.in-Done.is)
+
+pub run_script-ended-requires-send-M : goal.run_script-ended-requires-send-M
+run_script-ended-requires-send-M g c κs = let sent : IsSend ScriptMachine.the_row = script_machine_send in search sendable

@@ -1,18 +1,16 @@
 use Rattle.std.proofs.Common.{◌∙◌, ◌++◌, ◌∷◌, ap, append_assoc, subst, sym}
 use Rattle.seq_word.specs.Seen.{AfterLost, DrawerView, HasCause}
 use Rattle.seq_word.specs.declared.miss.Miss.TheVariants as missed
-use Rattle.node_bearer.proofs.Doing.{did_looked}
-use Rattle.node_bearer.proofs.Turning.{contains_spent, stops}
+use Rattle.node_bearer.proofs.Doing.{did_looked, saw_end}
+use Rattle.node_bearer.proofs.Turning.{stops}
 use Rattle.node_bearer.proofs.drawing.draw.Goals as goal
 
 pub returns-in-Err-Some-Spent-clause-did : goal.returns-in-Err-Some-Spent-clause-did
 returns-in-Err-Some-Spent-clause-did g c = λ k first tasks rest h.
     let b = c.loop.b in
     let e = c.in-Err-Some-Spent.ensures in
-    let cause = rw c.in-Err-Some-Spent.field-0-0-is at rw c.in-Err-Some-Spent.field-0-is at e.cause in (
-      did_looked k first tasks rest b.pass.own b.pass.seen b.lines.items b.number b.drawer c.draw_below.new.d e.err.drawn e.err.noted e.looks (c.loop.invariant.did k first tasks rest h),
-      contains_spent c.draw_below.new.d.looks cause.1.looks cause.3.0 _ cause.3.1,
-    )
+    let cause = rw c.in-Err-Some-Spent.field-0-0-is at rw c.in-Err-Some-Spent.field-0-is at e.cause in
+    record { before = b.drawer; did = c.loop.invariant.did k first tasks rest h; saw = saw_end c.in-Err-Some-Spent.iv b.drawer c.draw_below.new.d e.err cause }
 
 pub returns-in-Err-Some-Spent-clause-tries : goal.returns-in-Err-Some-Spent-clause-tries
 returns-in-Err-Some-Spent-clause-tries g c =

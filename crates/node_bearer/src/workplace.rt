@@ -6,7 +6,7 @@ use turn_lock::{Logged, Turn};
 
 /// Where a bearer works: what it shares with the other bearers of its node, and which of them it is.
 #[derive(Drop)]
-pub struct Place<'a, T: Logged, S> {
+pub struct Workplace<'a, T: Logged, S> {
     /// How it comes to its turn at the lock.
     pub sharing: &'a S,
     /// The counter and the mark.
