@@ -344,9 +344,9 @@ pub fn command_of<'a>(alloc: Global, words: &'a [&'a str]) -> Result<Option<Comm
     Ok(with_clock(file_command(alloc, rest.as_slice())?))
 }
 
-/// The file that the words of a command name: the second word.
+/// The file that the words of a command name: the second word, or the empty one.
 pub fn file_of<'a>(words: &[&'a str]) -> &'a str
-    ensures value { 1 < length words.now → result.now ≡ word_at (map (λ w. w.now) words.now) 1 }
+    ensures value { result.now ≡ word_at (map (λ w. w.now) words.now) 1 }
 {
     if words.len() > 1 { words[1] } else { "" }
 }

@@ -8,35 +8,23 @@
 //! status's name and numbers on standard error where it isn't `done`.
 #![tactic(auto)]
 
-use flash_model::MemFlash;
+ghost use Rattle.std.specs.Prelude.{◌≡◌, ℕ, List, map, string_bytes};
+ghost use Rattle.std.specs.Process.{exit_status};
+ghost use Rattle.command_words.specs.Commands.{command_of};
+ghost use Rattle.report_writer.specs.Writing.{view_of};
+ghost use Rattle.run_steps.specs.Status.{exit_number};
+ghost use Rattle.meshnode.specs.Answering.{IsAnswered};
+
+use flash_model::{Flash, MemFlash};
 use mesh_base::outside::{Sink, Source};
 use mesh_base::standard::{StdSink, StdSource};
 use mesh_node::FreeGate;
 use mesh_run::{Status, run};
-use std::alloc::{AllocError, Global};
+use program_words::{NoWords, arguments_of, words_of};
 use std::env::Env;
 use std::process::ExitCode;
 use std::sync::Wait;
 use std::thread::Threads;
-use std::{env, io};
-
-/// The program's arguments, without its name.
-fn arguments<R: Env + AllocGlobal>(rt: &R) -> io::Result<Vec<String>> {
-    let mut arguments = Vec::new(rt.alloc());
-    for argument in env::args(rt)?.skip(1) {
-        arguments.push(argument)?;
-    }
-    Ok(arguments)
-}
-
-/// The arguments as text.
-fn words(alloc: Global, arguments: &[String]) -> Result<Vec<&str>, AllocError> {
-    let mut words = Vec::new(alloc);
-    for argument in arguments {
-        words.push(argument.as_str())?;
-    }
-    Ok(words)
-}
 
 /// Runs the command of these words over an erased flash in memory.
 fn run_words<R: AllocGlobal + Threads + Wait + Sync, S: Source, K: Sink>(
@@ -44,29 +32,54 @@ fn run_words<R: AllocGlobal + Threads + Wait + Sync, S: Source, K: Sink>(
     words: &[&str],
     source: &mut S,
     sink: &mut K,
-) -> Status {
-    match MemFlash::new(rt.alloc()) {
-        Ok(flash) => run(rt, rt.alloc(), words, source, sink, flash, &FreeGate).status,
+) -> Status
+    ensures answers { IsAnswered (⟦<MemFlash as Flash>⟧.chip) S.left S.faults (view_of K.held K.pieces) K.faults
+        (command_of (map (λ w. w.now) words.now)) result source.old source.new sink.old sink.new }
+{
+    let Ok(flash) = MemFlash::new(rt.alloc()) else {
+        return Status::Memory;
+    };
+    run(rt, rt.alloc(), words, source, sink, flash, &FreeGate).status
+}
+
+/// Runs the command of these arguments.
+fn run_given<R: AllocGlobal + Threads + Wait + Sync, S: Source, K: Sink>(
+    rt: &R,
+    arguments: &[String],
+    source: &mut S,
+    sink: &mut K,
+) -> Status
+    ensures answers { IsAnswered (⟦<MemFlash as Flash>⟧.chip) S.left S.faults (view_of K.held K.pieces) K.faults
+        (command_of (map (λ a. string_bytes a) arguments.now)) result source.old source.new sink.old sink.new }
+{
+    match words_of(rt.alloc(), arguments) {
+        Ok(words) => run_words(rt, words.as_slice(), source, sink),
         Err(_) => Status::Memory,
     }
 }
 
-/// Runs the command of the program's arguments.
+/// Runs the command of the program's arguments. Where one isn't text they are no command.
 fn run_arguments<R: Env + AllocGlobal + Threads + Wait + Sync, S: Source, K: Sink>(
     rt: &R,
     source: &mut S,
     sink: &mut K,
-) -> Status {
-    let arguments = match arguments(rt) {
-        Ok(arguments) => arguments,
-        // An argument that isn't text is no word of a command.
-        Err(error) if error.kind() == io::ErrorKind::InvalidData => return Status::Usage,
-        Err(_) => return Status::Memory,
-    };
-    match words(rt.alloc(), arguments.as_slice()) {
-        Ok(words) => run_words(rt, words.as_slice(), source, sink),
-        Err(_) => Status::Memory,
+) -> Status
+    ensures answers { (words : List (List ℕ))
+        × IsAnswered (⟦<MemFlash as Flash>⟧.chip) S.left S.faults (view_of K.held K.pieces) K.faults
+        (command_of words) result source.old source.new sink.old sink.new }
+{
+    match arguments_of(rt) {
+        Ok(arguments) => run_given(rt, arguments.as_slice(), source, sink),
+        Err(NoWords::NotText) => Status::Usage,
+        Err(NoWords::Memory) => Status::Memory,
     }
+}
+
+/// What the program ends with.
+fn exit_code(status: Status) -> ExitCode
+    ensures value { exit_status result ≡ exit_number status }
+{
+    ExitCode::from(status.number())
 }
 
 fn main(rt: HostRuntime) -> ExitCode {
@@ -77,5 +90,5 @@ fn main(rt: HostRuntime) -> ExitCode {
         // Where standard error can't be written, the number tells the status.
         let _ = eprintln!(rt; "{status}");
     }
-    ExitCode::from(status.number())
+    exit_code(status)
 }

@@ -1,2 +1,4 @@
 mod Told
 mod Ran
+mod Doing
+mod Made

@@ -35,20 +35,20 @@ module _ {F : Type 0} (chip : F → Chip) (opens : Chip → Type 0) (start : F) 
 
 -- Why a node wasn't run.
 
-module _ {F : Type 0} (chip : F → Chip) (opens : Chip → Type 0) (hex : Bool) (bearers : ℕ) (clocked : Bool) (from to : StreamsAt) (before after : SinkView) where
+module _ {F : Type 0} (chip : F → Chip) (opens : Chip → Type 0) (hex : Bool) (bearers : ℕ) (clocked : Bool) (from to : StreamsAt) (before after : SinkView) (refuses : OpenFault → Type 0) where
   abbrev NotRun : Failure → Type 0
-  NotRun failure = IsNotRun chip opens hex bearers clocked from to before after failure
+  NotRun failure = IsNotRun chip opens hex bearers clocked from to before after refuses failure
 
   -- the file wasn't opened
-  pub unopened : to ≡ from → after ≡ before → (fault : OpenFault) → NotRun (open_failure fault)
-  unopened read wrote O.Memory = (read, wrote)
-  unopened read wrote O.Missing = (read, wrote)
-  unopened read wrote O.NotAFile = (read, wrote)
-  unopened read wrote O.SecondName = (read, wrote)
-  unopened read wrote O.Locked = (read, wrote)
-  unopened read wrote (O.Size octets) = (read, wrote)
-  unopened read wrote (O.Image image) = (read, wrote)
-  unopened read wrote (O.System error) = (read, wrote)
+  pub unopened : to ≡ from → after ≡ before → (fault : OpenFault) → refuses fault → NotRun (open_failure fault)
+  unopened read wrote O.Memory h = (h, read, wrote)
+  unopened read wrote O.Missing h = (h, read, wrote)
+  unopened read wrote O.NotAFile h = (h, read, wrote)
+  unopened read wrote O.SecondName h = (h, read, wrote)
+  unopened read wrote O.Locked h = (h, read, wrote)
+  unopened read wrote (O.Size octets) h = (h, read, wrote)
+  unopened read wrote (O.Image image) h = (h, read, wrote)
+  unopened read wrote (O.System error) h = (h, read, wrote)
 
   -- a life ended so
   failed : (status : Status) (closed : Bool) → HasEnded chip opens hex bearers clocked from to before after status closed → (failure : Failure) → IsAnswerOf status closed failure → NotRun failure
@@ -67,6 +67,6 @@ module _ {F : Type 0} (chip : F → Chip) (opens : Chip → Type 0) (hex : Bool)
   failed status closed ended (failures.Clock error) h = absurd h
 
   pub failed_err : {T : Type 0} (r : Result T Failure) (status : Status) (closed : Bool) → HasEnded chip opens hex bearers clocked from to before after status closed
-      → IfErr r (IsAnswerOf status closed) → IfErr r (IsNotRun chip opens hex bearers clocked from to before after)
+      → IfErr r (IsAnswerOf status closed) → IfErr r (IsNotRun chip opens hex bearers clocked from to before after refuses)
   failed_err (Ok x) status closed ended h = tt
   failed_err (Err e) status closed ended h = failed status closed ended e h

@@ -3,3 +3,4 @@ pub mod Failing
 pub mod Answering
 pub mod Running
 pub mod Reading
+pub mod Doing

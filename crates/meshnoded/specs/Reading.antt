@@ -2,8 +2,12 @@
 use Rattle.std.specs.Prelude.{◌≡◌, ◌⊎◌, ℕ, ◌<◌, ◌≤◌, List, length, Option, Some, None}
 use Rattle.std.specs.Io.KnownBytes.{Consumes, IsAtEnd}
 use Rattle.daemon_words.specs.Keys.{keys_of}
+use Rattle.daemon_words.specs.Numbers.{provision_of}
 use Rattle.daemon_words.specs.declared.keys.NodeKeys.{NodeKeys}
+use Rattle.daemon_words.specs.declared.numbers.NodeNumbers.{NodeNumbers}
 use Rattle.mesh_base.specs.Outside.{Rose}
+use Rattle.node_file.specs.declared.faults.MakeFault.{MakeFault}
+use Rattle.node_store.specs.declared.provision.Provision.{Provision}
 use Rattle.meshnoded.specs.declared.failure.Failure.{Failure}
 use Rattle.meshnoded.specs.declared.failure.Failure.TheVariants as F
 
@@ -45,7 +49,8 @@ IsKeyless old before new after F.Read = Rose before after
 IsKeyless old before new after F.Memory = after ≡ before
 IsKeyless old before new after _ = ⊥
 
--- why no file was made: there were no keys, or the file itself was refused
-abbrev pub IsUnmade : Option (List ℕ) → ℕ → Option (List ℕ) → ℕ → Failure → Type 0
-IsUnmade old before new after (F.Make fault) = (keys : NodeKeys) × HasKeys old new keys
-IsUnmade old before new after failure = IsKeyless old before new after failure
+-- why no file was made of a node with these numbers: there were no keys, or the file itself was refused
+abbrev pub IsUnmade : (Provision → MakeFault → Type 0) → NodeNumbers → Option (List ℕ) → ℕ → Option (List ℕ) → ℕ → Failure → Type 0
+IsUnmade unmakes numbers old before new after (F.Make fault) =
+    (keys : NodeKeys) × HasKeys old new keys × unmakes (provision_of numbers keys) fault
+IsUnmade unmakes numbers old before new after failure = IsKeyless old before new after failure

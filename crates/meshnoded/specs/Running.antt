@@ -8,6 +8,8 @@ use Rattle.live_node.specs.declared.status.Status.{Status}
 use Rattle.live_node.specs.declared.status.Status.TheVariants as S
 use Rattle.mesh_machine.specs.Machine.{Stands, shown}
 use Rattle.mesh_node.specs.Given.{Stood}
+use Rattle.node_file.specs.declared.faults.OpenFault.{OpenFault}
+use Rattle.node_file.specs.declared.faults.OpenFault.TheVariants as faults
 use Rattle.node_layers.specs.NodeLayers.{node_layers}
 use Rattle.node_store.specs.Tie.{IsNode}
 use Rattle.report_writer.specs.Writing.{SinkView}
@@ -37,11 +39,14 @@ module _ {F : Type 0} (chip : F → Chip) (opens : Chip → Type 0) (hex : Bool)
     pub flash : Option F
     pub ends : EndsAs (node_role node_layers) IsNode hex bearers clocked (chip start) from to before after chip (Stood shown Stands chip) status closed flash
 
-  -- Why a node wasn't run to the end of its source. Its file wasn't opened, or there was no memory to open it; then nothing was read or
-  -- written. Or its life ended so.
+module _ {F : Type 0} (chip : F → Chip) (opens : Chip → Type 0) (hex : Bool) (bearers : ℕ) (clocked : Bool) (from to : StreamsAt) (before after : SinkView) (refuses : OpenFault → Type 0) where
+  -- Why a node wasn't run to the end of its source. Its file wasn't opened, for this fault, or there was no memory to open it; then nothing was
+  -- read or written. Or its life ended so.
   abbrev pub IsNotRun : Failure → Type 0
-  IsNotRun (failures.Open fault) = (to ≡ from) × (after ≡ before)
-  IsNotRun failures.Memory = (to ≡ from) × (after ≡ before)
-  IsNotRun (failures.Life status) = (closed : Bool) × IsAnswerOf status closed (failures.Life status) × HasEnded status closed
-  IsNotRun (failures.LifeAndFlash status) = (closed : Bool) × IsAnswerOf status closed (failures.LifeAndFlash status) × HasEnded status closed
+  IsNotRun (failures.Open fault) = refuses fault × (to ≡ from) × (after ≡ before)
+  IsNotRun failures.Memory = refuses faults.Memory × (to ≡ from) × (after ≡ before)
+  IsNotRun (failures.Life status) =
+      (closed : Bool) × IsAnswerOf status closed (failures.Life status) × HasEnded chip opens hex bearers clocked from to before after status closed
+  IsNotRun (failures.LifeAndFlash status) =
+      (closed : Bool) × IsAnswerOf status closed (failures.LifeAndFlash status) × HasEnded chip opens hex bearers clocked from to before after status closed
   IsNotRun _ = ⊥

@@ -5,9 +5,11 @@ ghost use Rattle.std.specs.Prelude.{◌≡◌, ◌⊎◌, ℕ, IfErr, IfOk, OnEr
 ghost use Rattle.daemon_words.specs.Commands.{HasNumbers};
 ghost use Rattle.daemon_words.specs.Numbers.{IsNumbers};
 ghost use Rattle.mesh_base.specs.Outside.{Rose};
+ghost use Rattle.node_file.specs.declared.faults.OpenFault.{OpenFault};
 ghost use Rattle.report_writer.specs.Handing.{HandedFront, IsHanded};
 ghost use Rattle.report_writer.specs.Writing.{view_of};
 ghost use Rattle.meshnoded.specs.Answering.{IsMade, IsOpened, IsTold, IsUntold};
+ghost use Rattle.meshnoded.specs.Failing.{open_failure};
 ghost use Rattle.meshnoded.specs.Reading.{HasKeys, HasText, IsKeyless, IsUnmade, IsUnread};
 ghost use Rattle.meshnoded.specs.declared.failure.Failure.TheVariants as failures;
 
@@ -105,7 +107,8 @@ pub fn init<H: NodeFiles, S: Source>(
     ensures made { OnOk result
         (IsMade (H.makes files.now file.now) numbers (S.left source.old) (S.left source.new)) }
     ensures err { IfErr result
-        (IsUnmade (S.left source.old) (S.faults source.old) (S.left source.new) (S.faults source.new)) }
+        (IsUnmade (H.unmakes files.now file.now) numbers (S.left source.old) (S.faults source.old) (S.left source.new)
+        (S.faults source.new)) }
 {
     let keys = read_keys(alloc, source)?;
     files.make(alloc, file, &provision_with(numbers, keys))?;
@@ -123,7 +126,8 @@ pub fn tell<H: NodeFiles, K: Sink>(
         (IsTold (⟦<NodeFlash as Flash>⟧.chip) (H.opens files.now file.now)
         (λ text. IsHanded text (view_of K.held K.pieces sink.old) (view_of K.held K.pieces sink.new))) }
     ensures err { IfErr result
-        (IsUntold (⟦<NodeFlash as Flash>⟧.chip) (H.opens files.now file.now) (view_of K.held K.pieces sink.old) (view_of K.held K.pieces sink.new)) }
+        (IsUntold (⟦<NodeFlash as Flash>⟧.chip) (H.opens files.now file.now) (H.refuses files.now file.now)
+        (view_of K.held K.pieces sink.old) (view_of K.held K.pieces sink.new)) }
 {
     let mut flash = files.open(alloc, file)?;
     let text = show(alloc, &mut flash)?;
@@ -133,6 +137,8 @@ pub fn tell<H: NodeFiles, K: Sink>(
 /// `check`: it is told by the answer whether the file holds a node.
 pub fn check<H: NodeFiles>(files: &H, alloc: Global, file: &str) -> Result<(), Failure>
     ensures opened { OnOk result (IsOpened (⟦<NodeFlash as Flash>⟧.chip) (H.opens files.now file.now)) }
+    ensures unopened { IfErr result
+        (λ failure. (fault : OpenFault) × (failure ≡ open_failure fault) × H.refuses files.now file.now fault) }
 {
     files.open(alloc, file)?;
     Ok(())

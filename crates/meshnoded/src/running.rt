@@ -72,7 +72,8 @@ pub fn run<
         (IsNotRun (⟦<NodeFlash as Flash>⟧.chip) (H.opens files.now file.now) ways.hex ways.bearers S.clocked
         (streams_at S.left S.faults E.held E.pieces E.faults streams)
         (streams_at S.left S.faults E.held E.pieces E.faults result.streams)
-        (view_of K.held K.pieces streams.sink) (view_of K.held K.pieces result.streams.sink)) }
+        (view_of K.held K.pieces streams.sink) (view_of K.held K.pieces result.streams.sink)
+        (H.refuses files.now file.now)) }
 {
     let flash = match files.open(alloc, file) {
         Ok(flash) => flash,
