@@ -6,6 +6,7 @@
 #include <fcntl.h>
 #include <stdio.h>
 #include <stdlib.h>
+#include <string.h>
 #include <sys/file.h>
 #include <sys/stat.h>
 #include <unistd.h>
@@ -37,11 +38,11 @@ static void store(uint32_t at, meshnode_size size) {
 
 /* All that a call wrote, in its order. Only behind it leaves what the call handed out. */
 static void store_all(void) {
-    uint32_t at;
+    uint32_t at, answer;
     meshnode_size size;
-    uint32_t answer;
-    while ((answer = meshnode_node_write(&node, &at, octets, OCTETS, &size)) == MESHNODE_OK)
-        store(at, size);
+    for (bool erased = false; (answer = meshnode_node_write(&node, &at, octets, OCTETS, &size, &erased)) == MESHNODE_OK; store(at, size))
+        if (erased)
+            memset(octets, 0xff, size);
     if (answer != MESHNODE_NOTHING)
         ends(CUT, "a write couldn't be taken");
 }

@@ -25,7 +25,7 @@ extern "C" {
 /* All went well. */
 #define MESHNODE_OK 0u
 
-/* A slice hasn't the length that the call asks for. Nothing was written. */
+/* A slice hasn't the length that the call asks for. Nothing was written, but `size` where the call says that it tells how many octets it needs. */
 #define MESHNODE_LENGTH 1u
 
 /* A number is out of its range. Nothing was written. */
@@ -37,7 +37,7 @@ extern "C" {
 /* The text is none that can be audited. */
 #define MESHNODE_NOT_REPORT 4u
 
-/* There was no memory. */
+/* There was no memory, and nothing happened: the call may be made again. */
 #define MESHNODE_MEMORY 5u
 
 /* The struct holds no node. */
@@ -49,7 +49,7 @@ extern "C" {
 /* The image holds no node that can be run: it is erased, it is damaged, or its records say what no node has. */
 #define MESHNODE_NO_NODE 8u
 
-/* There was a Node Reset: the node has to be provisioned anew. */
+/* There was a Node Reset: it can't be run any more. Another image has to be made, of a node with another address and other keys. */
 #define MESHNODE_WAS_RESET 9u
 
 /* There is nothing: the line is empty or a comment, or no write is left. */
@@ -61,10 +61,11 @@ extern "C" {
 /* Something of the phase before isn't taken yet. */
 #define MESHNODE_WAITING 12u
 
-/* The node takes no line more: its flash failed, or it was lost. */
+/* The node takes no line more: its flash failed, or it was lost. It is closed, and opened anew from the image that is stored. */
 #define MESHNODE_OVER 13u
 
-/* Memory ran out within the phase: the node was lost, and nothing of the phase is left. To the image the phase never came. */
+/* Memory ran out within the phase: the node was lost, and nothing of the phase is left. To the image the phase never came. It is closed, and opened
+ * anew from the image that is stored. */
 #define MESHNODE_LOST 14u
 
 /* Audits a text: at most 16 lines `key NET`, and then lines of reports, as `meshnoded run --hex` writes them, at most 4,194,304 octets. The line of the
@@ -90,14 +91,24 @@ uint32_t meshnode_ccm_open(const uint8_t *key, meshnode_size key_length, const u
 /* AES-CMAC of a message of any length: 16 octets, under a key of 16. */
 uint32_t meshnode_cmac(const uint8_t *key, meshnode_size key_length, const uint8_t *message, meshnode_size message_length, uint8_t *mac, meshnode_size mac_length);
 
+/* Credentials: what network PDUs are sealed and opened with, as `meshnode_k2` derives it of a network key. */
+struct meshnode_credentials {
+    /* NID, below 128. */
+    uint8_t nid;
+    /* The EncryptionKey. */
+    uint8_t encryption[16];
+    /* The PrivacyKey. */
+    uint8_t privacy[16];
+};
+
 /* s1: a salt of 16 octets from a text of any length. */
 uint32_t meshnode_s1(const uint8_t *message, meshnode_size message_length, uint8_t *salt, meshnode_size salt_length);
 
 /* k1: a key of 16 octets from key material, a salt of 16 octets and a text. */
 uint32_t meshnode_k1(const uint8_t *n, meshnode_size n_length, const uint8_t *salt, meshnode_size salt_length, const uint8_t *p, meshnode_size p_length, uint8_t *key, meshnode_size key_length);
 
-/* k2: NID, EncryptionKey and PrivacyKey, 16 octets each, from a network key of 16 octets and P, 1 to 32 octets: 00 for the master credentials. */
-uint32_t meshnode_k2(const uint8_t *n, meshnode_size n_length, const uint8_t *p, meshnode_size p_length, uint8_t *nid, uint8_t *encryption, meshnode_size encryption_length, uint8_t *privacy, meshnode_size privacy_length);
+/* k2: credentials from a network key of 16 octets and P, 1 to 32 octets: 00 for the master credentials. */
+uint32_t meshnode_k2(const uint8_t *n, meshnode_size n_length, const uint8_t *p, meshnode_size p_length, struct meshnode_credentials *to);
 
 /* k3: the Network ID, 8 octets, of a network key of 16. */
 uint32_t meshnode_k3(const uint8_t *n, meshnode_size n_length, uint8_t *id, meshnode_size id_length);
@@ -141,12 +152,12 @@ struct meshnode_acknowledgment {
     uint32_t block_ack;
 };
 
-/* The octets of the lower transport PDU of these fields: at most 16, in the front of `tpdu`, which has room for 16; `size` tells how many. An
+/* The octets of the lower transport PDU of these fields: at most 16, in the front of `tpdu`, whose length is 16; `size` tells how many. An
  * unsegmented access message has 5 to 15 octets, its upper transport PDU; an unsegmented control message 0 to 11, its parameters. A segment of
  * an access message has 12 and of a control message 8, the last one 1 to so many. Where a length and a number are wrong it is `MESHNODE_LENGTH`. */
 uint32_t meshnode_lower_write(const struct meshnode_lower *head, const uint8_t *octets, meshnode_size octets_length, uint8_t *tpdu, meshnode_size tpdu_length, meshnode_size *size);
 
-/* Reads the transport PDU of a network PDU with this CTL. Its octets are put into the front of `octets`, which has room for 15, and `size` tells
+/* Reads the transport PDU of a network PDU with this CTL. Its octets are put into the front of `octets`, whose length is 15, and `size` tells
  * how many. Reserved bits, and AID with the device key, are read as anything. `MESHNODE_UNREAD` where no PDU has these octets. */
 uint32_t meshnode_lower_read(bool ctl, const uint8_t *tpdu, meshnode_size tpdu_length, struct meshnode_lower *head, uint8_t *octets, meshnode_size octets_length, meshnode_size *size);
 
@@ -176,14 +187,13 @@ struct meshnode_head {
     uint8_t ttl;
 };
 
-/* The octets of the network PDU of these fields: at most 29, in the front of `pdu`, which has room for 29; `size` tells how many. NID is below 128,
- * the EncryptionKey and the PrivacyKey have 16 octets; the transport PDU 1 to 16, or 1 to 12 in a control message. Where a length and a number are
- * wrong it is `MESHNODE_LENGTH`. */
-uint32_t meshnode_net_seal(uint8_t nid, const uint8_t *encryption, meshnode_size encryption_length, const uint8_t *privacy, meshnode_size privacy_length, const struct meshnode_head *head, const uint8_t *tpdu, meshnode_size tpdu_length, uint8_t *pdu, meshnode_size pdu_length, meshnode_size *size);
+/* The octets of the network PDU of these fields: at most 29, in the front of `pdu`, whose length is 29; `size` tells how many. The transport PDU
+ * has 1 to 16 octets, or 1 to 12 in a control message. Where a length and a number are wrong it is `MESHNODE_LENGTH`. */
+uint32_t meshnode_net_seal(const struct meshnode_credentials *by, const struct meshnode_head *head, const uint8_t *tpdu, meshnode_size tpdu_length, uint8_t *pdu, meshnode_size pdu_length, meshnode_size *size);
 
 /* Opens a network PDU, heard by a node whose IV Index is `current`: it may be under this one or the one before. The transport PDU is put into the
- * front of `tpdu`, which has room for 16 octets, and `size` tells how many. `MESHNODE_UNREAD` where it is none under this key. */
-uint32_t meshnode_net_open(uint8_t nid, const uint8_t *encryption, meshnode_size encryption_length, const uint8_t *privacy, meshnode_size privacy_length, uint32_t current, const uint8_t *pdu, meshnode_size pdu_length, struct meshnode_head *head, uint8_t *tpdu, meshnode_size tpdu_length, meshnode_size *size);
+ * front of `tpdu`, whose length is 16, and `size` tells how many. `MESHNODE_UNREAD` where it is none under these credentials. */
+uint32_t meshnode_net_open(const struct meshnode_credentials *by, uint32_t current, const uint8_t *pdu, meshnode_size pdu_length, struct meshnode_head *head, uint8_t *tpdu, meshnode_size tpdu_length, meshnode_size *size);
 
 /* A node, or none: where all its octets are 0 it holds none. Only these calls write it, and a copy of it isn't used. */
 struct meshnode {
@@ -200,18 +210,22 @@ uint32_t meshnode_node_open(struct meshnode *node, const uint8_t *image, meshnod
  * Where the line is wrong `rule` tells by which rule it fails first: 1, 3, 4 or 5. */
 uint32_t meshnode_node_line(struct meshnode *node, const uint8_t *line, meshnode_size line_length, uint32_t *rule);
 
-/* Takes the next write, in their order: its octets are put into the front of `octets`, `size` tells how many, and `at` the offset in the image from
- * which on they are to stand. Made one after another on the image of before, the writes give the image that the node reads now; the caller makes
- * each durable before the next, and all before the report leaves. An erase of a sector is a write of 4,096 octets ff. Where `octets` is too
- * short `size` tells how many it must have, and the write stays: 65,536 always do. */
-uint32_t meshnode_node_write(struct meshnode *node, uint32_t *at, uint8_t *octets, meshnode_size octets_length, meshnode_size *size);
+/* Takes the next write, in their order. `erased` tells whether it is an erase of a sector: then the 4,096 octets from `at` on, the sector's first,
+ * are to become ff, `size` is 4,096, and `octets` is as it was, however long it is. Else the octets are put into the front of `octets`, `size`
+ * tells how many, and `at` the offset in the image from which on they are to stand. Made one after another on the image of before, the writes
+ * give the image that the node reads now; the caller makes each durable before the next, and all before the report leaves. As the code stands,
+ * a write that is no erase lies within one sector and only clears bits. Where `octets` is too short for one `size` tells how many it must have,
+ * and the write stays: 65,536 always do, and 31 as the code stands. */
+uint32_t meshnode_node_write(struct meshnode *node, uint32_t *at, uint8_t *octets, meshnode_size octets_length, meshnode_size *size, bool *erased);
 
 /* Takes the report of the last phase, which may be no octet: its lines as `meshnoded --hex` writes them, each with its LF, are put into the front of
  * `text`, and `size` tells how many octets they have. While a write is left it is `MESHNODE_WAITING`. Where `text` is too short `size` tells how many
  * octets it must have, and the report stays. */
 uint32_t meshnode_node_report(struct meshnode *node, uint8_t *text, meshnode_size text_length, meshnode_size *size);
 
-/* Tells in how many ticks of 10 ms something of the node is due: an event of fewer ticks stores nothing and has no jobs. */
+/* Tells in how many ticks of 10 ms behind the last line `tick` something of the node is due: an event of fewer ticks stores nothing and has no jobs. It
+ * may be 0, and as the code stands it is 2^32 - 1 where nothing is due any more; a line `tick` takes 1 to 100,000,000. `MESHNODE_OVER` where the node takes
+ * no line more. */
 uint32_t meshnode_node_due(struct meshnode *node, uint32_t *ticks);
 
 /* Ends the life of the node, and frees it: the struct holds none then. Where the life ends in order its last line, `end` and an LF, is put into the
@@ -238,8 +252,8 @@ struct meshnode_message {
  * number are wrong it is `MESHNODE_LENGTH`. */
 uint32_t meshnode_access_seal(bool device, const uint8_t *key, meshnode_size key_length, const struct meshnode_message *message, const uint8_t *label, meshnode_size label_length, const uint8_t *payload, meshnode_size payload_length, uint8_t *upper, meshnode_size upper_length);
 
-/* Opens the octets of an upper transport PDU, sealed as `meshnode_access_seal` says: `payload` has room for as many octets as they are without
- * the TransMIC. `MESHNODE_UNREAD` where they don't open under this key with these fields. Of the SEQ the low 24 bits count. */
+/* Opens the octets of an upper transport PDU, sealed as `meshnode_access_seal` says: `payload` has as many octets as they are without the
+ * TransMIC, no more. `MESHNODE_UNREAD` where they don't open under this key with these fields. Of the SEQ the low 24 bits count. */
 uint32_t meshnode_access_open(bool device, const uint8_t *key, meshnode_size key_length, const struct meshnode_message *message, const uint8_t *label, meshnode_size label_length, const uint8_t *upper, meshnode_size upper_length, uint8_t *payload, meshnode_size payload_length);
 
 #ifdef __cplusplus

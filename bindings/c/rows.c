@@ -151,7 +151,8 @@ static int transport_answer(char **w, uint8_t in[WORDS][OCTETS], const meshnode_
 static int answer(char **w, char *text) {
     static uint8_t in[WORDS][OCTETS];
     meshnode_size n[WORDS] = {0};
-    uint8_t out[16], mic[8], key[16], privacy[16], id[8], beacon[22], pdu[29], small;
+    uint8_t out[16], mic[8], id[8], beacon[22], pdu[29], small;
+    struct meshnode_credentials by;
     uint16_t dst;
     for (int i = 1; i < WORDS && w[i] != NULL; i++)
         n[i] = octets_of(w[i], in[i]);
@@ -177,10 +178,10 @@ static int answer(char **w, char *text) {
         if (meshnode_k1(in[1], n[1], in[2], n[2], in[3], n[3], out, 16) == MESHNODE_OK)
             put(text, out, 16);
     } else if (strcmp(w[0], "k2") == 0) {
-        if (meshnode_k2(in[1], n[1], in[2], n[2], &small, key, 16, privacy, 16) == MESHNODE_OK) {
-            put(text, &small, 1);
-            put(text, key, 16);
-            put(text, privacy, 16);
+        if (meshnode_k2(in[1], n[1], in[2], n[2], &by) == MESHNODE_OK) {
+            put(text, &by.nid, 1);
+            put(text, by.encryption, 16);
+            put(text, by.privacy, 16);
         } else
             strcpy(text, " a refusal");
     } else if (strcmp(w[0], "k3") == 0) {
@@ -200,11 +201,11 @@ static int answer(char **w, char *text) {
         struct meshnode_head heard = {0};
         meshnode_size size, tpdu_size;
         uint8_t tpdu[16];
-        meshnode_k2(in[1], n[1], (uint8_t[]){0}, 1, &small, key, 16, privacy, 16);
-        if (meshnode_net_seal(small, key, 16, privacy, 16, &head, in[8], n[8], pdu, 29, &size) == MESHNODE_OK) {
+        meshnode_k2(in[1], n[1], (uint8_t[]){0}, 1, &by);
+        if (meshnode_net_seal(&by, &head, in[8], n[8], pdu, 29, &size) == MESHNODE_OK) {
             put(text, pdu, size);
             /* and it opens as what it was sealed from */
-            if (meshnode_net_open(small, key, 16, privacy, 16, head.iv, pdu, size, &heard, tpdu, 16, &tpdu_size) != MESHNODE_OK
+            if (meshnode_net_open(&by, head.iv, pdu, size, &heard, tpdu, 16, &tpdu_size) != MESHNODE_OK
                 || heard.iv != head.iv || heard.seq != head.seq || heard.src != head.src || heard.dst != head.dst || heard.ctl != head.ctl
                 || heard.ttl != head.ttl || tpdu_size != n[8] || memcmp(tpdu, in[8], tpdu_size) != 0)
                 strcpy(text, " it doesn't open");
@@ -243,11 +244,12 @@ static int refuses_transport(void) {
 static int refuses(void) {
     uint8_t key[16] = {0}, mac[16] = {7}, text[4] = {1, 2, 3, 4}, mic[8] = {0}, pdu[29] = {7}, tpdu[16] = {7};
     struct meshnode_head head = {0, 1, 1, 2, false, 128}, same = head;
+    struct meshnode_credentials by = {0};
     meshnode_size size = 5;
     return meshnode_cmac(key, 15, text, 4, mac, 16) == MESHNODE_LENGTH && meshnode_cmac(key, 16, text, 4, mac, 15) == MESHNODE_LENGTH
         && meshnode_ccm_seal(key, 16, key, 13, key, 0, text, 4, mic, 5) == MESHNODE_LENGTH && text[0] == 1
-        && meshnode_net_seal(0, key, 16, key, 16, &head, text, 4, pdu, 29, &size) == MESHNODE_RANGE
-        && meshnode_net_open(0, key, 16, key, 16, 0, pdu, 29, &head, tpdu, 16, &size) == MESHNODE_UNREAD
+        && meshnode_net_seal(&by, &head, text, 4, pdu, 29, &size) == MESHNODE_RANGE
+        && meshnode_net_open(&by, 0, pdu, 29, &head, tpdu, 16, &size) == MESHNODE_UNREAD
         && memcmp(&head, &same, sizeof head) == 0 && mac[0] == 7 && pdu[0] == 7 && tpdu[0] == 7 && size == 5
         && meshnode_ccm_open(key, 16, key, 13, key, 0, text, 4, mic, 8) == MESHNODE_UNREAD && text[0] == 0;
 }

@@ -39,26 +39,24 @@ static void change(uint32_t at, uint8_t octet) {
     done++;
 }
 
-/* Makes one write of the node durable. That of a whole sector is an erase; any other one clears bits alone, as a flash can. */
-static void store(uint32_t at, meshnode_size size) {
-    uint8_t all = ERASED;
-    for (meshnode_size i = 0; i < size; i++)
-        all &= written[i];
-    int erases = size == SECTOR && at % SECTOR == 0 && all == ERASED;
+/* Makes one write of the node durable: an erase of a sector, or one that clears bits alone, as a flash can. */
+static void store(uint32_t at, meshnode_size size, bool erased) {
+    if (erased && (size != SECTOR || at % SECTOR != 0))
+        ends("an erase is of no sector");
     for (meshnode_size i = 0; i < size; i++) {
-        if (!erases && (written[i] & ~flash[at + i]) != 0)
+        if (!erased && (written[i] & ~flash[at + i]) != 0)
             ends("a write sets a bit");
-        change(at + (uint32_t)i, written[i]);
+        change(at + (uint32_t)i, erased ? ERASED : written[i]);
     }
 }
 
 /* All writes of a call, in their order. Only behind them its report leaves. */
 static void store_all(void) {
-    uint32_t at;
+    uint32_t at, answer;
     meshnode_size size;
-    uint32_t answer;
-    while ((answer = meshnode_node_write(&node, &at, written, sizeof written, &size)) == MESHNODE_OK)
-        store(at, size);
+    bool erased = false;
+    while ((answer = meshnode_node_write(&node, &at, written, sizeof written, &size, &erased)) == MESHNODE_OK)
+        store(at, size, erased);
     if (answer != MESHNODE_NOTHING)
         ends("a write has no room");
 }

@@ -14,7 +14,9 @@ static struct timer *const timer = (struct timer *)0x40000000;
 
 static uint8_t key[16] = {1, 2, 3}, privacy[16] = {4, 5}, nonce[13] = {6}, text[20] = "a text of 20 octets", sealed[20], mic[8], mac[16];
 static uint8_t tpdu[16] = "sixteen octets..", heard[16], pdu[29], beacon[22], payload[11] = "11 octets..", upper[15], identity[8];
-static uint8_t nid, aid, flags;
+static uint8_t aid, flags;
+static const struct meshnode_credentials by = {5, {1, 2, 3}, {4, 5}};
+static struct meshnode_credentials derived;
 static struct meshnode_head head = {0x12345678, 1, 0x1201, 3, false, 7}, opened;
 static struct meshnode_lower lower = {.akf = true, .aid = 0x26};
 static struct meshnode_message message = {0x12345678, 1, 0x1201, 3, false};
@@ -28,7 +30,7 @@ static uint32_t ccm_open(void) { return ccm_seal() | meshnode_ccm_open(key, 16, 
 static uint32_t cmac(void) { return meshnode_cmac(key, 16, text, 16, mac, 16); }
 static uint32_t s1(void) { return meshnode_s1(text, 4, mac, 16); }
 static uint32_t k1(void) { return meshnode_k1(key, 16, privacy, 16, text, 4, mac, 16); }
-static uint32_t k2(void) { return meshnode_k2(key, 16, (const uint8_t[]){0}, 1, &nid, mac, 16, privacy, 16); }
+static uint32_t k2(void) { return meshnode_k2(key, 16, (const uint8_t[]){0}, 1, &derived); }
 static uint32_t k3(void) { return meshnode_k3(key, 16, identity, 8); }
 static uint32_t k4(void) { return meshnode_k4(key, 16, &aid); }
 static uint32_t virtual_address(void) { return meshnode_virtual_address(key, 16, &address); }
@@ -36,8 +38,8 @@ static uint32_t access_seal(void) { return meshnode_access_seal(false, key, 16, 
 static uint32_t access_open(void) { return meshnode_access_open(false, key, 16, &message, key, 0, upper, 15, payload, 11); }
 static uint32_t lower_write(void) { return meshnode_lower_write(&lower, upper, 15, tpdu, 16, &size); }
 static uint32_t lower_read(void) { return meshnode_lower_read(false, tpdu, 16, &lower, upper, 15, &size); }
-static uint32_t net_seal(void) { return meshnode_net_seal(5, key, 16, mac, 16, &head, tpdu, 16, pdu, 29, &size); }
-static uint32_t net_open(void) { return meshnode_net_open(5, key, 16, mac, 16, head.iv, pdu, 29, &opened, heard, 16, &size); }
+static uint32_t net_seal(void) { return meshnode_net_seal(&by, &head, tpdu, 16, pdu, 29, &size); }
+static uint32_t net_open(void) { return meshnode_net_open(&by, head.iv, pdu, 29, &opened, heard, 16, &size); }
 static uint32_t beacon_made(void) { return meshnode_beacon(key, 16, 0, head.iv, beacon, 22); }
 static uint32_t beacon_open(void) { return meshnode_beacon_open(key, 16, beacon, 22, &flags, &iv); }
 

@@ -53,8 +53,8 @@ static __attribute__((noinline)) void tell(const char *name) {
 MEASURED(open, (struct meshnode *node, const uint8_t *image, meshnode_size image_length, uint8_t *text, meshnode_size text_length, meshnode_size *size),
          (node, image, image_length, text, text_length, size))
 MEASURED(line, (struct meshnode *node, const uint8_t *line, meshnode_size line_length, uint32_t *rule), (node, line, line_length, rule))
-MEASURED(write, (struct meshnode *node, uint32_t *at, uint8_t *octets, meshnode_size octets_length, meshnode_size *size),
-         (node, at, octets, octets_length, size))
+MEASURED(write, (struct meshnode *node, uint32_t *at, uint8_t *octets, meshnode_size octets_length, meshnode_size *size, bool *erased),
+         (node, at, octets, octets_length, size, erased))
 MEASURED(report, (struct meshnode *node, uint8_t *text, meshnode_size text_length, meshnode_size *size), (node, text, text_length, size))
 
 /* A block of the heap, with its size in front of it. */

@@ -175,16 +175,7 @@ pub fn virtual_address(label: &[u8; 16]) -> Result<u16, Refused> {
     Ok(address)
 }
 
-/// What k2 derives of a network key.
-#[derive(Clone, Copy)]
-pub struct Credentials {
-    /// NID, below 128.
-    pub nid: u8,
-    /// The EncryptionKey.
-    pub encryption: [u8; 16],
-    /// The PrivacyKey.
-    pub privacy: [u8; 16],
-}
+pub use raw::MeshnodeCredentials as Credentials;
 
 /// k2, of P of 1 to 32 octets: 00 for the master credentials.
 ///
@@ -198,12 +189,7 @@ pub struct Credentials {
 /// ```
 pub fn k2(key: &[u8; 16], p: &[u8]) -> Result<Credentials, Refused> {
     let mut derived = Credentials { nid: 0, encryption: [0; 16], privacy: [0; 16] };
-    answer(unsafe {
-        raw::meshnode_k2(
-            key.as_ptr(), key.len(), p.as_ptr(), p.len(), &mut derived.nid, derived.encryption.as_mut_ptr(), 16,
-            derived.privacy.as_mut_ptr(), 16,
-        )
-    })?;
+    answer(unsafe { raw::meshnode_k2(key.as_ptr(), key.len(), p.as_ptr(), p.len(), &mut derived) })?;
     Ok(derived)
 }
 
@@ -254,11 +240,7 @@ pub use raw::MeshnodeHead as Head;
 pub fn net_seal(by: &Credentials, head: &Head, tpdu: &[u8]) -> Result<Vec<u8>, Refused> {
     let mut pdu = [0; 29];
     let mut size = 0;
-    answer(unsafe {
-        raw::meshnode_net_seal(
-            by.nid, by.encryption.as_ptr(), 16, by.privacy.as_ptr(), 16, head, tpdu.as_ptr(), tpdu.len(), pdu.as_mut_ptr(), pdu.len(), &mut size,
-        )
-    })?;
+    answer(unsafe { raw::meshnode_net_seal(by, head, tpdu.as_ptr(), tpdu.len(), pdu.as_mut_ptr(), pdu.len(), &mut size) })?;
     Ok(pdu[..size].to_vec())
 }
 
@@ -276,10 +258,7 @@ pub fn net_open(by: &Credentials, current: u32, pdu: &[u8]) -> Result<(Head, Vec
     let mut tpdu = [0; 16];
     let mut size = 0;
     answer(unsafe {
-        raw::meshnode_net_open(
-            by.nid, by.encryption.as_ptr(), 16, by.privacy.as_ptr(), 16, current, pdu.as_ptr(), pdu.len(), &mut head, tpdu.as_mut_ptr(), tpdu.len(),
-            &mut size,
-        )
+        raw::meshnode_net_open(by, current, pdu.as_ptr(), pdu.len(), &mut head, tpdu.as_mut_ptr(), tpdu.len(), &mut size)
     })?;
     Ok((head, tpdu[..size].to_vec()))
 }

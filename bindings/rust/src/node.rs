@@ -7,6 +7,9 @@ use std::ptr::null_mut;
 /// The octets of the image of a flash.
 pub const IMAGE: usize = 65_536;
 
+/// A sector that is erased.
+static ERASED: [u8; 4096] = [0xff; 4096];
+
 /// What a line that isn't wrong came to.
 #[derive(Clone, Copy, Debug, PartialEq, Eq)]
 pub enum Line {
@@ -117,17 +120,17 @@ impl Node {
         }
     }
 
-    /// Hands each write that isn't taken yet to `put`, in their order: octets for an offset of the image, within it. `put` is to make them durable
-    /// before it answers.
+    /// Hands each write that isn't taken yet to `put`, in their order: octets for an offset of the image, within it; an erase of a sector as 4,096
+    /// octets ff at its beginning. `put` is to make them durable before it answers.
     ///
     /// Where it can't, the node is over, and its error is handed on: what is stored is as after a loss of power.
     pub fn store<E>(&mut self, mut put: impl FnMut(u32, &[u8]) -> Result<(), E>) -> Result<(), E> {
-        let (mut at, mut size) = (0, 0);
+        let (mut at, mut size, mut erased) = (0, 0, false);
         loop {
             let room = self.octets.as_mut_ptr();
-            match unsafe { raw::meshnode_node_write(&mut self.held, &mut at, room, self.octets.len(), &mut size) } {
+            match unsafe { raw::meshnode_node_write(&mut self.held, &mut at, room, self.octets.len(), &mut size, &mut erased) } {
                 raw::OK => {
-                    if let Err(fault) = put(at, &self.octets[..size]) {
+                    if let Err(fault) = put(at, if erased { &ERASED } else { &self.octets[..size] }) {
                         self.end();
                         return Err(fault);
                     }

@@ -20,6 +20,18 @@ pub struct Meshnode {
     pub at: *mut u8,
 }
 
+/// Credentials: what network PDUs are sealed and opened with, as k2 derives it of a network key.
+#[repr(C)]
+#[derive(Clone, Copy)]
+pub struct MeshnodeCredentials {
+    /// NID, below 128.
+    pub nid: u8,
+    /// The EncryptionKey.
+    pub encryption: [u8; 16],
+    /// The PrivacyKey.
+    pub privacy: [u8; 16],
+}
+
 /// The fields of a network PDU but for its transport PDU.
 #[repr(C)]
 #[derive(Clone, Copy, Debug, PartialEq, Eq)]
@@ -136,18 +148,15 @@ extern "C" {
         device: bool, key: *const u8, key_length: usize, message: *const MeshnodeMessage, label: *const u8, label_length: usize,
         upper: *const u8, upper_length: usize, payload: *mut u8, payload_length: usize,
     ) -> u32;
-    pub fn meshnode_k2(
-        n: *const u8, n_length: usize, p: *const u8, p_length: usize, nid: *mut u8, encryption: *mut u8, encryption_length: usize, privacy: *mut u8,
-        privacy_length: usize,
-    ) -> u32;
+    pub fn meshnode_k2(n: *const u8, n_length: usize, p: *const u8, p_length: usize, to: *mut MeshnodeCredentials) -> u32;
     pub fn meshnode_beacon(key: *const u8, key_length: usize, flags: u8, iv: u32, beacon: *mut u8, beacon_length: usize) -> u32;
     pub fn meshnode_net_seal(
-        nid: u8, encryption: *const u8, encryption_length: usize, privacy: *const u8, privacy_length: usize, head: *const MeshnodeHead,
-        tpdu: *const u8, tpdu_length: usize, pdu: *mut u8, pdu_length: usize, size: *mut usize,
+        by: *const MeshnodeCredentials, head: *const MeshnodeHead, tpdu: *const u8, tpdu_length: usize, pdu: *mut u8, pdu_length: usize,
+        size: *mut usize,
     ) -> u32;
     pub fn meshnode_net_open(
-        nid: u8, encryption: *const u8, encryption_length: usize, privacy: *const u8, privacy_length: usize, current: u32, pdu: *const u8,
-        pdu_length: usize, head: *mut MeshnodeHead, tpdu: *mut u8, tpdu_length: usize, size: *mut usize,
+        by: *const MeshnodeCredentials, current: u32, pdu: *const u8, pdu_length: usize, head: *mut MeshnodeHead, tpdu: *mut u8,
+        tpdu_length: usize, size: *mut usize,
     ) -> u32;
     pub fn meshnode_audit(
         text: *const u8, text_length: usize, verdict: *mut u8, verdict_length: usize, size: *mut usize, line: *mut u32,
@@ -156,7 +165,9 @@ extern "C" {
         node: *mut Meshnode, image: *const u8, image_length: usize, text: *mut u8, text_length: usize, size: *mut usize,
     ) -> u32;
     pub fn meshnode_node_line(node: *mut Meshnode, line: *const u8, line_length: usize, rule: *mut u32) -> u32;
-    pub fn meshnode_node_write(node: *mut Meshnode, at: *mut u32, octets: *mut u8, octets_length: usize, size: *mut usize) -> u32;
+    pub fn meshnode_node_write(
+        node: *mut Meshnode, at: *mut u32, octets: *mut u8, octets_length: usize, size: *mut usize, erased: *mut bool,
+    ) -> u32;
     pub fn meshnode_node_report(node: *mut Meshnode, text: *mut u8, text_length: usize, size: *mut usize) -> u32;
     pub fn meshnode_node_due(node: *mut Meshnode, ticks: *mut u32) -> u32;
     pub fn meshnode_node_close(node: *mut Meshnode, text: *mut u8, text_length: usize, size: *mut usize) -> u32;

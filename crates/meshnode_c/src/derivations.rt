@@ -5,7 +5,8 @@ ghost use Rattle.std.specs.Prelude.{◌≡◌, ◌≢◌, ◌↔◌, ◌≤◌, 
 ghost use Rattle.cipher_definitions.specs.Kdf.{k1, k2, k3, k4, s1, virtual_address};
 
 use crate::arrays::{KEY, key_of};
-use mesh_kdf::{address, k1 as k1_of, k2 as k2_of, k3 as k3_of, k4 as k4_of, s1 as s1_of};
+use crate::credentials::MeshnodeCredentials;
+use mesh_kdf::{K2, address, k1 as k1_of, k2 as k2_of, k3 as k3_of, k4 as k4_of, s1 as s1_of};
 use node_handle::status::{LENGTH, OK};
 
 /// Octets of what k3 derives.
@@ -42,34 +43,28 @@ pub extern "C" fn meshnode_k1(n: &[u8], salt: &[u8], p: &[u8], key: &mut [u8]) -
     OK
 }
 
-/// k2: NID, EncryptionKey and PrivacyKey, 16 octets each, from a network key of 16 octets and P, 1 to 32 octets: 00 for the master credentials.
+/// k2: credentials from a network key of 16 octets and P, 1 to 32 octets: 00 for the master credentials.
 #[unsafe(no_mangle)]
-pub extern "C" fn meshnode_k2(
-    n: &[u8],
-    p: &[u8],
-    nid: &mut u8,
-    encryption: &mut [u8],
-    privacy: &mut [u8],
-) -> u32
-    ensures when { result ≡ 0
-        ↔ (length n.now ≡ 16) × (1 ≤ length p.now) × (length p.now ≤ 32) × (length encryption.old ≡ 16)
-        × (length privacy.old ≡ 16) }
-    ensures nid { result ≡ 0 → nid.new ≡ (k2 n.now p.now).nid }
-    ensures encryption { result ≡ 0 → encryption.new ≡ (k2 n.now p.now).encryption }
-    ensures privacy { result ≡ 0 → privacy.new ≡ (k2 n.now p.now).privacy }
-    ensures refused { result ≢ 0
-        → (result ≡ 1) × (nid.new ≡ nid.old) × (encryption.new ≡ encryption.old) × (privacy.new ≡ privacy.old) }
+pub extern "C" fn meshnode_k2(n: &[u8], p: &[u8], to: &mut MeshnodeCredentials) -> u32
+    ensures when { result ≡ 0 ↔ (length n.now ≡ 16) × (1 ≤ length p.now) × (length p.now ≤ 32) }
+    ensures nid { result ≡ 0 → to.new.nid ≡ (k2 n.now p.now).nid }
+    ensures encryption { result ≡ 0 → to.new.encryption ≡ (k2 n.now p.now).encryption }
+    ensures privacy { result ≡ 0 → to.new.privacy ≡ (k2 n.now p.now).privacy }
+    ensures refused { result ≢ 0 → (result ≡ 1) × (to.new ≡ to.old) }
 {
     if n.len() != KEY || p.is_empty() || p.len() > MOST_P {
         return LENGTH;
     }
-    if encryption.len() != KEY || privacy.len() != KEY {
-        return LENGTH;
-    }
-    let derived = k2_of(&key_of(n), p);
-    *nid = derived.nid;
-    encryption.copy_from_slice(&derived.encryption);
-    privacy.copy_from_slice(&derived.privacy);
+    let K2 {
+        nid,
+        encryption,
+        privacy,
+    } = k2_of(&key_of(n), p);
+    *to = MeshnodeCredentials {
+        nid,
+        encryption,
+        privacy,
+    };
     OK
 }
 

@@ -4,6 +4,7 @@
 //!
 //! - `arrays`: octets of a slice as an array
 //! - `ciphers`: AES-CCM and AES-CMAC
+//! - `credentials`: what network PDUs are sealed with
 //! - `derivations`: s1, k1 to k4, virtual addresses
 //! - `network`: network PDUs
 //! - `lower`: lower transport PDUs, Segment Acknowledgments, SeqAuth
@@ -25,6 +26,7 @@ mod arrays;
 mod audit;
 mod beacons;
 mod ciphers;
+mod credentials;
 mod derivations;
 mod lower;
 mod network;

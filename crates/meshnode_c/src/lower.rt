@@ -192,7 +192,7 @@ fn pdu_of(head: &MeshnodeLower, octets: &[u8]) -> Option<Lower>
     })
 }
 
-/// The octets of the lower transport PDU of these fields: at most 16, in the front of `tpdu`, which has room for 16; `size` tells how many. An
+/// The octets of the lower transport PDU of these fields: at most 16, in the front of `tpdu`, whose length is 16; `size` tells how many. An
 /// unsegmented access message has 5 to 15 octets, its upper transport PDU; an unsegmented control message 0 to 11, its parameters. A segment of
 /// an access message has 12 and of a control message 8, the last one 1 to so many. Where a length and a number are wrong it is `MESHNODE_LENGTH`.
 #[unsafe(no_mangle)]
@@ -300,7 +300,7 @@ fn octets_of(lower: &Lower) -> &[u8]
     }
 }
 
-/// Reads the transport PDU of a network PDU with this CTL. Its octets are put into the front of `octets`, which has room for 15, and `size` tells
+/// Reads the transport PDU of a network PDU with this CTL. Its octets are put into the front of `octets`, whose length is 15, and `size` tells
 /// how many. Reserved bits, and AID with the device key, are read as anything. `MESHNODE_UNREAD` where no PDU has these octets.
 #[unsafe(no_mangle)]
 pub extern "C" fn meshnode_lower_read(

@@ -6,9 +6,9 @@ ghost use Rattle.mesh_base.specs.declared.fields.NetFields.{NetFields as Fields}
 ghost use Rattle.layer_definitions.specs.Network.{ReadsUnder, net_text};
 ghost use Rattle.meshnode_c.specs.Network.{fields_of, material_of};
 
-use crate::arrays::{KEY, key_of};
+use crate::credentials::{MeshnodeCredentials, material_of};
 use mesh_base::address::Address;
-use mesh_base::fields::{NetFields, NetMaterial};
+use mesh_base::fields::NetFields;
 use mesh_base::octets::Octets;
 use network_layer::{NetSchedules, read_one, seal};
 use node_handle::status::{LENGTH, OK, RANGE, UNREAD};
@@ -45,51 +45,38 @@ pub struct MeshnodeHead {
     pub ttl: u8,
 }
 
-/// The octets of the network PDU of these fields: at most 29, in the front of `pdu`, which has room for 29; `size` tells how many. NID is below 128,
-/// the EncryptionKey and the PrivacyKey have 16 octets; the transport PDU 1 to 16, or 1 to 12 in a control message. Where a length and a number are
-/// wrong it is `MESHNODE_LENGTH`.
+/// The octets of the network PDU of these fields: at most 29, in the front of `pdu`, whose length is 29; `size` tells how many. The transport PDU
+/// has 1 to 16 octets, or 1 to 12 in a control message. Where a length and a number are wrong it is `MESHNODE_LENGTH`.
 #[unsafe(no_mangle)]
 pub extern "C" fn meshnode_net_seal(
-    nid: u8,
-    encryption: &[u8],
-    privacy: &[u8],
+    by: &MeshnodeCredentials,
     head: &MeshnodeHead,
     tpdu: &[u8],
     pdu: &mut [u8],
     size: &mut usize,
 ) -> u32
-    ensures value { result ≡ 0
-        → take size.new pdu.new
-        ≡ net_text (material_of nid encryption.now privacy.now) (fields_of head.now tpdu.now) }
-    ensures size { result ≡ 0
-        → size.new ≡ length (net_text (material_of nid encryption.now privacy.now) (fields_of head.now tpdu.now)) }
+    ensures value { result ≡ 0 → take size.new pdu.new ≡ net_text (material_of by.now) (fields_of head.now tpdu.now) }
+    ensures size { result ≡ 0 → size.new ≡ length (net_text (material_of by.now) (fields_of head.now tpdu.now)) }
     ensures when { result ≡ 0
-        ↔ (length encryption.now ≡ 16) × (length privacy.now ≡ 16) × (length pdu.old ≡ 29) × (1 ≤ length tpdu.now)
-        × (length tpdu.now ≤ (if head.now.ctl then 12 else 16)) × (nid < 2 ^ 7) × (head.now.ttl < 2 ^ 7)
-        × (head.now.seq < 2 ^ 24) }
+        ↔ (length pdu.old ≡ 29) × (1 ≤ length tpdu.now) × (length tpdu.now ≤ (if head.now.ctl then 12 else 16))
+        × (by.now.nid < 2 ^ 7) × (head.now.ttl < 2 ^ 7) × (head.now.seq < 2 ^ 24) }
     ensures lengths { result ≢ 1
-        ↔ (length encryption.now ≡ 16) × (length privacy.now ≡ 16) × (length pdu.old ≡ 29) × (1 ≤ length tpdu.now)
-        × (length tpdu.now ≤ (if head.now.ctl then 12 else 16)) }
+        ↔ (length pdu.old ≡ 29) × (1 ≤ length tpdu.now) × (length tpdu.now ≤ (if head.now.ctl then 12 else 16)) }
     ensures refused { result ≢ 0 → (pdu.new ≡ pdu.old) × (size.new ≡ size.old) }
     ensures bound { (result ≡ 0) ⊎ (result ≡ 1) ⊎ (result ≡ 2) }
 {
-    if encryption.len() != KEY || privacy.len() != KEY || pdu.len() != MOST_PDU {
+    if pdu.len() != MOST_PDU {
         return LENGTH;
     }
     let most = if head.ctl { MOST_CONTROL } else { MOST_ACCESS };
     if tpdu.is_empty() || tpdu.len() > most {
         return LENGTH;
     }
-    if nid >= SEVEN_BITS || head.ttl >= SEVEN_BITS || head.seq >= SEQ_END {
+    if by.nid >= SEVEN_BITS || head.ttl >= SEVEN_BITS || head.seq >= SEQ_END {
         return RANGE;
     }
     let Ok(tpdu) = Octets::of(tpdu) else {
         return LENGTH;
-    };
-    let material = NetMaterial {
-        nid,
-        encryption: key_of(encryption),
-        privacy: key_of(privacy),
     };
     let fields = NetFields {
         iv: head.iv,
@@ -100,7 +87,7 @@ pub extern "C" fn meshnode_net_seal(
         dst: Address(head.dst),
         tpdu,
     };
-    let octets = seal(&material, &fields);
+    let octets = seal(&material_of(by), &fields);
     let octets = octets.as_slice();
     pdu[..octets.len()].copy_from_slice(octets);
     *size = octets.len();
@@ -108,12 +95,10 @@ pub extern "C" fn meshnode_net_seal(
 }
 
 /// Opens a network PDU, heard by a node whose IV Index is `current`: it may be under this one or the one before. The transport PDU is put into the
-/// front of `tpdu`, which has room for 16 octets, and `size` tells how many. `MESHNODE_UNREAD` where it is none under this key.
+/// front of `tpdu`, whose length is 16, and `size` tells how many. `MESHNODE_UNREAD` where it is none under these credentials.
 #[unsafe(no_mangle)]
 pub extern "C" fn meshnode_net_open(
-    nid: u8,
-    encryption: &[u8],
-    privacy: &[u8],
+    by: &MeshnodeCredentials,
     current: u32,
     pdu: &[u8],
     head: &mut MeshnodeHead,
@@ -121,24 +106,17 @@ pub extern "C" fn meshnode_net_open(
     size: &mut usize,
 ) -> u32
     ensures ok { result ≡ 0
-        → ReadsUnder (material_of nid encryption.now privacy.now) current pdu.now (fields_of head.new (take size.new tpdu.new)) }
+        → ReadsUnder (material_of by.now) current pdu.now (fields_of head.new (take size.new tpdu.new)) }
     ensures size { result ≡ 0 → size.new ≤ 16 }
-    ensures unread { result ≡ 3
-        → (fields : Fields) → ReadsUnder (material_of nid encryption.now privacy.now) current pdu.now fields → ⊥ }
-    ensures when { result ≢ 1
-        ↔ (length encryption.now ≡ 16) × (length privacy.now ≡ 16) × (length tpdu.old ≡ 16) }
+    ensures unread { result ≡ 3 → (fields : Fields) → ReadsUnder (material_of by.now) current pdu.now fields → ⊥ }
+    ensures when { result ≢ 1 ↔ length tpdu.old ≡ 16 }
     ensures refused { result ≢ 0 → (head.new ≡ head.old) × (tpdu.new ≡ tpdu.old) × (size.new ≡ size.old) }
     ensures bound { (result ≡ 0) ⊎ (result ≡ 1) ⊎ (result ≡ 3) }
 {
-    if encryption.len() != KEY || privacy.len() != KEY || tpdu.len() != MOST_ACCESS {
+    if tpdu.len() != MOST_ACCESS {
         return LENGTH;
     }
-    let material = NetMaterial {
-        nid,
-        encryption: key_of(encryption),
-        privacy: key_of(privacy),
-    };
-    let Some(fields) = read_one(&NetSchedules::new(&material), current, pdu) else {
+    let Some(fields) = read_one(&NetSchedules::new(&material_of(by)), current, pdu) else {
         return UNREAD;
     };
     head.iv = fields.iv;

@@ -1,15 +1,15 @@
 //! A node, held by C.
 #![tactic(auto)]
 
-ghost use Rattle.std.specs.Prelude.{◌≡◌, ◌≢◌, ◌⊎◌, ◌↔◌, ◌+◌, ◌<◌, ◌≤◌, [], None, length, take, IsSomeAnd};
+ghost use Rattle.std.specs.Prelude.{◌≡◌, ◌≢◌, ◌⊎◌, ◌↔◌, ◌+◌, ◌<◌, ◌≤◌, [], None, false, length, take, true, IsSomeAnd};
 ghost use Rattle.event_definitions.specs.Role.{node_role};
 ghost use Rattle.file_flash.specs.Noted.{Put};
 ghost use Rattle.linked_node.specs.Causes.{IsOpenCause};
 ghost use Rattle.linked_node.specs.declared.faults.OpenFault.{OpenFault as Fault};
 ghost use Rattle.locked_node.specs.Stands.{IsDueNode, IsIdleNode};
 ghost use Rattle.node_layers.specs.NodeLayers.{node_layers};
-ghost use Rattle.called_node.specs.Called.{IsOver};
-ghost use Rattle.node_handle.specs.Nodes.{Became, HasNext, IsAnswered, IsClosedAs, IsOpened, IsPassed, IsPhase, IsReported, open_status};
+ghost use Rattle.called_node.specs.Called.{IsOver, IsUsable};
+ghost use Rattle.node_handle.specs.Nodes.{Became, HasNext, IsAnswered, IsClosedAs, IsErase, IsOpened, IsPassed, IsPhase, IsReported, open_status, told_put};
 
 use file_flash::NotedFlash;
 use flash_model::Flash;
@@ -63,10 +63,12 @@ pub extern "C" fn meshnode_node_line(
     node.line(alloc, line, rule)
 }
 
-/// Takes the next write, in their order: its octets are put into the front of `octets`, `size` tells how many, and `at` the offset in the image from
-/// which on they are to stand. Made one after another on the image of before, the writes give the image that the node reads now; the caller makes
-/// each durable before the next, and all before the report leaves. An erase of a sector is a write of 4,096 octets ff. Where `octets` is too
-/// short `size` tells how many it must have, and the write stays: 65,536 always do.
+/// Takes the next write, in their order. `erased` tells whether it is an erase of a sector: then the 4,096 octets from `at` on, the sector's first,
+/// are to become ff, `size` is 4,096, and `octets` is as it was, however long it is. Else the octets are put into the front of `octets`, `size`
+/// tells how many, and `at` the offset in the image from which on they are to stand. Made one after another on the image of before, the writes
+/// give the image that the node reads now; the caller makes each durable before the next, and all before the report leaves. As the code stands,
+/// a write that is no erase lies within one sector and only clears bits. Where `octets` is too short for one `size` tells how many it must have,
+/// and the write stays: 65,536 always do, and 31 as the code stands.
 #[unsafe(no_mangle)]
 pub extern "C" fn meshnode_node_write(
     alloc: Global,
@@ -74,22 +76,24 @@ pub extern "C" fn meshnode_node_write(
     at: &mut u32,
     octets: &mut [u8],
     size: &mut usize,
+    erased: &mut bool,
 ) -> u32
     ensures ok { result ≡ 0
-        → Became (λ a b. IsPassed a.calls b.calls (record { at = at.new; octets = take size.new octets.new })) node.old.value
-        node.new.value }
-    ensures within { result ≡ 0 → size.new ≤ length octets.old }
+        → Became (λ a b. IsPassed a.calls b.calls (told_put at.new erased.new size.new octets.new)) node.old.value node.new.value }
+    ensures erase { result ≡ 0 → erased.new ≡ true → IsErase at.new size.new octets.old octets.new }
+    ensures within { result ≡ 0 → erased.new ≡ false → size.new ≤ length octets.old }
     ensures inside { result ≡ 0 → at.new + size.new ≤ 65536 }
     ensures length { result ≡ 1
         → IsSomeAnd node.old.value
         (λ n. (put : Put) × HasNext n.calls put × (length octets.old < length put.octets) × (size.new ≡ length put.octets)) }
     ensures nothing { result ≡ 10 → IsSomeAnd node.old.value (λ n. n.calls.writes ≡ []) }
     ensures empty { result ≡ 6 ↔ node.old.value ≡ None }
-    ensures same { result ≢ 0 → (node.new.value ≡ node.old.value) × (at.new ≡ at.old) × (octets.new ≡ octets.old) }
+    ensures same { result ≢ 0
+        → (node.new.value ≡ node.old.value) × (at.new ≡ at.old) × (octets.new ≡ octets.old) × (erased.new ≡ erased.old) }
     ensures same_size { result ≢ 0 → result ≢ 1 → size.new ≡ size.old }
     ensures bound { (result ≡ 0) ⊎ (result ≡ 1) ⊎ (result ≡ 6) ⊎ (result ≡ 10) }
 {
-    node.write(alloc, at, octets, size)
+    node.write(alloc, at, octets, size, erased)
 }
 
 /// Takes the report of the last phase, which may be no octet: its lines as `meshnoded --hex` writes them, each with its LF, are put into the front of
@@ -117,7 +121,9 @@ pub extern "C" fn meshnode_node_report(
     node.report(alloc, text, size)
 }
 
-/// Tells in how many ticks of 10 ms something of the node is due: an event of fewer ticks stores nothing and has no jobs.
+/// Tells in how many ticks of 10 ms behind the last line `tick` something of the node is due: an event of fewer ticks stores nothing and has no jobs. It
+/// may be 0, and as the code stands it is 2^32 - 1 where nothing is due any more; a line `tick` takes 1 to 100,000,000. `MESHNODE_OVER` where the node takes
+/// no line more.
 #[unsafe(no_mangle)]
 pub extern "C" fn meshnode_node_due(alloc: Global, node: &mut Meshnode, ticks: &mut u32) -> u32
     ensures ok { result ≡ 0
@@ -125,6 +131,7 @@ pub extern "C" fn meshnode_node_due(alloc: Global, node: &mut Meshnode, ticks: &
         (λ n. IsSomeAnd n.calls.life
         (λ life. IsIdleNode (node_role node_layers) ⟦<NotedFlash as Flash>⟧.chip life.node ticks.new
         × IsDueNode (node_role node_layers) ⟦<MeshMachine as Machine>⟧.quiet ⟦<NotedFlash as Flash>⟧.chip life.node ticks.new)) }
+    ensures usable { result ≡ 0 → IsSomeAnd node.old.value (λ n. IsUsable n.calls) }
     ensures over { result ≡ 13 → IsSomeAnd node.old.value (λ n. IsOver n.calls) }
     ensures empty { result ≡ 6 ↔ node.old.value ≡ None }
     ensures same { node.new.value ≡ node.old.value }

@@ -184,8 +184,8 @@ pub extern "C" fn meshnode_access_seal(
     OK
 }
 
-/// Opens the octets of an upper transport PDU, sealed as `meshnode_access_seal` says: `payload` has room for as many octets as they are without
-/// the TransMIC. `MESHNODE_UNREAD` where they don't open under this key with these fields. Of the SEQ the low 24 bits count.
+/// Opens the octets of an upper transport PDU, sealed as `meshnode_access_seal` says: `payload` has as many octets as they are without the
+/// TransMIC, no more. `MESHNODE_UNREAD` where they don't open under this key with these fields. Of the SEQ the low 24 bits count.
 #[unsafe(no_mangle)]
 pub extern "C" fn meshnode_access_open(
     device: bool,

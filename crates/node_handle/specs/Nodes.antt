@@ -1,7 +1,9 @@
 -- What a call does to the node that is held.
-use Rattle.std.specs.Prelude.{◌≡◌, ℕ, List, [], ◌∷◌, Option, false, IsSomeAnd}
+use Rattle.std.specs.Prelude.{◌≡◌, ℕ, ◌*◌, List, [], ◌∷◌, Bool, Option, false, true, replicate, take, IsSomeAnd}
 use Rattle.event_definitions.specs.Role.{node_role}
 use Rattle.file_flash.specs.Noted.{Put}
+use Rattle.file_flash.specs.declared.noted.Write.{Write}
+use Rattle.file_flash.specs.declared.noted.Write.TheVariants as V
 use Rattle.flash_model.specs.Chip.{Chip}
 use Rattle.mesh_node.specs.Held.{HeldView}
 use Rattle.mesh_types.specs.declared.report.Opened.TheVariants as W
@@ -77,6 +79,22 @@ pub record IsAnswered {F : Type 0} (text : List ℕ) (now : CalledView F) (rule_
 pub record HasNext {F : Type 0} (now : CalledView F) (put : Put) : Type 0 where
   pub rest : List Put
   pub is : now.writes ≡ put ∷ rest
+
+-- The write that was told: an erase has 4,096 octets ff, any other one so many octets of the front of a slice.
+abbrev pub told_put : ℕ → Bool → ℕ → List ℕ → Put
+told_put at true size octets = record { at = at; octets = replicate 4096 255 }
+told_put at false size octets = record { at = at; octets = take size octets }
+
+-- What is told of an erase of a sector, beside where it begins. The slice is as it was.
+pub record IsErase (at size : ℕ) (before after : List ℕ) : Type 0 where
+  pub sector : ℕ
+  pub at_is : at ≡ 4096 * sector
+  pub size_is : size ≡ 4096
+  pub same : after ≡ before
+
+abbrev pub is_erase : Write → Bool
+is_erase (V.Program at octets) = false
+is_erase (V.Erase sector) = true
 
 -- It was taken, and nothing else changed.
 pub record IsPassed {F : Type 0} (old new : CalledView F) (put : Put) : Type 0 where

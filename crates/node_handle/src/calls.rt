@@ -1,15 +1,15 @@
 //! The calls of a [`Meshnode`].
 #![tactic(auto)]
 
-ghost use Rattle.std.specs.Prelude.{◌≡◌, ◌≢◌, ◌⊎◌, ◌↔◌, ◌+◌, ◌<◌, ◌≤◌, [], None, length, take, IsSomeAnd};
+ghost use Rattle.std.specs.Prelude.{◌≡◌, ◌≢◌, ◌⊎◌, ◌↔◌, ◌+◌, ◌<◌, ◌≤◌, [], None, false, length, take, true, IsSomeAnd};
 ghost use Rattle.event_definitions.specs.Role.{node_role};
 ghost use Rattle.file_flash.specs.Noted.{Put};
 ghost use Rattle.linked_node.specs.Causes.{IsOpenCause};
 ghost use Rattle.linked_node.specs.declared.faults.OpenFault.{OpenFault as Fault};
 ghost use Rattle.locked_node.specs.Stands.{IsDueNode, IsIdleNode};
 ghost use Rattle.node_layers.specs.NodeLayers.{node_layers};
-ghost use Rattle.called_node.specs.Called.{IsOver};
-ghost use Rattle.node_handle.specs.Nodes.{Became, HasNext, IsAnswered, IsClosedAs, IsOpened, IsPassed, IsPhase, IsReported, open_status};
+ghost use Rattle.called_node.specs.Called.{IsOver, IsUsable};
+ghost use Rattle.node_handle.specs.Nodes.{Became, HasNext, IsAnswered, IsClosedAs, IsErase, IsOpened, IsPassed, IsPhase, IsReported, open_status, told_put};
 
 use crate::handing::{END, answer_line, hand_end, hand_report, hand_write, put_octets};
 use crate::held::Meshnode;
@@ -77,29 +77,39 @@ impl Meshnode {
         answer_line(called, rule)
     }
 
-    /// Takes the next write, in their order: its octets are put into the front of `octets`, `size` tells how many, and `at` the offset in the image
-    /// from which on they are to stand. Made one after another on the image of before, the writes give the image that the node reads now; the caller
-    /// makes each durable before the next, and all before the report leaves. An erase of a sector is a write of 4,096 octets ff. Where `octets` is
-    /// too short `size` tells how many it must have, and the write stays: 65,536 always do.
-    pub fn write(&mut self, alloc: Global, at: &mut u32, octets: &mut [u8], size: &mut usize) -> u32
+    /// Takes the next write, in their order. `erased` tells whether it is an erase of a sector: then the 4,096 octets from `at` on, the sector's first,
+    /// are to become ff, `size` is 4,096, and `octets` is as it was, however long it is. Else the octets are put into the front of `octets`, `size`
+    /// tells how many, and `at` the offset in the image from which on they are to stand. Made one after another on the image of before, the writes
+    /// give the image that the node reads now; the caller makes each durable before the next, and all before the report leaves. As the code stands,
+    /// a write that is no erase lies within one sector and only clears bits. Where `octets` is too short for one `size` tells how many it must have,
+    /// and the write stays: 65,536 always do, and 31 as the code stands.
+    pub fn write(
+        &mut self,
+        alloc: Global,
+        at: &mut u32,
+        octets: &mut [u8],
+        size: &mut usize,
+        erased: &mut bool,
+    ) -> u32
         ensures ok { result ≡ 0
-            → Became (λ a b. IsPassed a.calls b.calls (record { at = at.new; octets = take size.new octets.new })) self.old.value
-            self.new.value }
-        ensures within { result ≡ 0 → size.new ≤ length octets.old }
+            → Became (λ a b. IsPassed a.calls b.calls (told_put at.new erased.new size.new octets.new)) self.old.value self.new.value }
+        ensures erase { result ≡ 0 → erased.new ≡ true → IsErase at.new size.new octets.old octets.new }
+        ensures within { result ≡ 0 → erased.new ≡ false → size.new ≤ length octets.old }
         ensures inside { result ≡ 0 → at.new + size.new ≤ 65536 }
         ensures length { result ≡ 1
             → IsSomeAnd self.old.value
             (λ n. (put : Put) × HasNext n.calls put × (length octets.old < length put.octets) × (size.new ≡ length put.octets)) }
         ensures nothing { result ≡ 10 → IsSomeAnd self.old.value (λ n. n.calls.writes ≡ []) }
         ensures empty { result ≡ 6 ↔ self.old.value ≡ None }
-        ensures same { result ≢ 0 → (self.new.value ≡ self.old.value) × (at.new ≡ at.old) × (octets.new ≡ octets.old) }
+        ensures same { result ≢ 0
+            → (self.new.value ≡ self.old.value) × (at.new ≡ at.old) × (octets.new ≡ octets.old) × (erased.new ≡ erased.old) }
         ensures same_size { result ≢ 0 → result ≢ 1 → size.new ≡ size.old }
         ensures bound { (result ≡ 0) ⊎ (result ≡ 1) ⊎ (result ≡ 6) ⊎ (result ≡ 10) }
     {
         let Some(mut held) = self.take(alloc) else {
             return EMPTY;
         };
-        let status = hand_write(&mut held.calls, at, octets, size);
+        let status = hand_write(&mut held.calls, at, octets, size, erased);
         self.put(held);
         status
     }
@@ -128,13 +138,16 @@ impl Meshnode {
         status
     }
 
-    /// Tells in how many ticks of 10 ms something of the node is due: an event of fewer ticks stores nothing and has no jobs.
+    /// Tells in how many ticks of 10 ms behind the last line `tick` something of the node is due: an event of fewer ticks stores nothing and has no jobs. It
+    /// may be 0, and as the code stands it is 2^32 - 1 where nothing is due any more; a line `tick` takes 1 to 100,000,000. `OVER` where the node takes
+    /// no line more.
     pub fn due(&mut self, alloc: Global, ticks: &mut u32) -> u32
         ensures ok { result ≡ 0
             → IsSomeAnd self.old.value
             (λ n. IsSomeAnd n.calls.life
             (λ life. IsIdleNode (node_role node_layers) ⟦<NotedFlash as Flash>⟧.chip life.node ticks.new
             × IsDueNode (node_role node_layers) ⟦<MeshMachine as Machine>⟧.quiet ⟦<NotedFlash as Flash>⟧.chip life.node ticks.new)) }
+        ensures usable { result ≡ 0 → IsSomeAnd self.old.value (λ n. IsUsable n.calls) }
         ensures over { result ≡ 13 → IsSomeAnd self.old.value (λ n. IsOver n.calls) }
         ensures empty { result ≡ 6 ↔ self.old.value ≡ None }
         ensures same { self.new.value ≡ self.old.value }

@@ -1,13 +1,14 @@
 //! What the last phase left, handed out into slices.
 #![tactic(auto)]
 
-ghost use Rattle.std.specs.Prelude.{◌≡◌, ◌≢◌, ◌⊎◌, ◌+◌, ◌<◌, ◌≤◌, [], length, take};
-ghost use Rattle.file_flash.specs.Noted.{Put};
-ghost use Rattle.node_handle.specs.Nodes.{HasNext, IsPassed, IsReported, IsClosedAs, rule_of, status_of};
+ghost use Rattle.std.specs.Prelude.{◌≡◌, ◌≢◌, ◌⊎◌, ◌+◌, ◌<◌, ◌≤◌, [], false, length, take, true};
+ghost use Rattle.file_flash.specs.Noted.{IsInside, Put, put_of};
+ghost use Rattle.node_handle.specs.Nodes.{HasNext, IsErase, IsPassed, IsReported, IsClosedAs, is_erase, rule_of, status_of, told_put};
 
 use crate::status::{LENGTH, LOST, MEMORY, NOTHING, OK, OVER, WAITING, WRONG};
 use called_node::{Called, CalledNode};
-use file_flash::NotedFlash;
+use file_flash::{NotedFlash, Write};
+use flash_model::SECTOR_OCTETS;
 use mesh_machine::MeshMachine;
 
 /// The calls of a node over the writes that its caller makes.
@@ -45,33 +46,73 @@ pub(crate) fn answer_line(called: Called, rule: &mut u32) -> u32
     }
 }
 
+/// Tells a write: its octets are put into the front of a slice, but of an erase there are none to put. Whether the slice has room for it.
+fn tell_write(
+    write: &Write,
+    at: &mut u32,
+    octets: &mut [u8],
+    size: &mut usize,
+    erased: &mut bool,
+) -> bool
+    requires inside { IsInside write.now }
+    ensures told { result ≡ true → told_put at.new erased.new size.new octets.new ≡ put_of write.now }
+    ensures erased { result ≡ true → erased.new ≡ is_erase write.now }
+    ensures erase { result ≡ true → erased.new ≡ true → IsErase at.new size.new octets.old octets.new }
+    ensures within { result ≡ true → erased.new ≡ false → size.new ≤ length octets.old }
+    ensures inside { result ≡ true → at.new + size.new ≤ 65536 }
+    ensures room { result ≡ false
+        → (length octets.old < length (put_of write.now).octets) × (size.new ≡ length (put_of write.now).octets)
+        × (is_erase write.now ≡ false) }
+    ensures same { result ≡ false → (at.new ≡ at.old) × (octets.new ≡ octets.old) × (erased.new ≡ erased.old) }
+{
+    match write {
+        Write::Program {
+            at: from,
+            octets: told,
+        } => {
+            if told.len() > octets.len() {
+                *size = told.len();
+                return false;
+            }
+            put_octets(told.as_slice(), octets, size);
+            *at = *from;
+            *erased = false;
+        }
+        Write::Erase { sector } => {
+            *at = SECTOR_OCTETS * *sector;
+            *size = SECTOR_OCTETS as usize;
+            *erased = true;
+        }
+    }
+    true
+}
+
 /// Hands out the next write.
 pub(crate) fn hand_write(
     calls: &mut Calls,
     at: &mut u32,
     octets: &mut [u8],
     size: &mut usize,
+    erased: &mut bool,
 ) -> u32
-    ensures ok { result ≡ 0 → IsPassed calls.old calls.new (record { at = at.new; octets = take size.new octets.new }) }
-    ensures within { result ≡ 0 → size.new ≤ length octets.old }
+    ensures ok { result ≡ 0 → IsPassed calls.old calls.new (told_put at.new erased.new size.new octets.new) }
+    ensures erase { result ≡ 0 → erased.new ≡ true → IsErase at.new size.new octets.old octets.new }
+    ensures within { result ≡ 0 → erased.new ≡ false → size.new ≤ length octets.old }
     ensures inside { result ≡ 0 → at.new + size.new ≤ 65536 }
     ensures length { result ≡ 1
         → (put : Put) × HasNext calls.old put × (length octets.old < length put.octets) × (size.new ≡ length put.octets) }
     ensures nothing { result ≡ 10 → calls.old.writes ≡ [] }
-    ensures same { result ≢ 0 → (calls.new ≡ calls.old) × (at.new ≡ at.old) × (octets.new ≡ octets.old) }
+    ensures same { result ≢ 0
+        → (calls.new ≡ calls.old) × (at.new ≡ at.old) × (octets.new ≡ octets.old) × (erased.new ≡ erased.old) }
     ensures same_size { result ≢ 0 → result ≢ 1 → size.new ≡ size.old }
     ensures bound { (result ≡ 0) ⊎ (result ≡ 1) ⊎ (result ≡ 10) }
 {
     let Some(write) = calls.next_write() else {
         return NOTHING;
     };
-    let told = write.octets.as_slice();
-    if told.len() > octets.len() {
-        *size = told.len();
+    if !tell_write(write, at, octets, size, erased) {
         return LENGTH;
     }
-    put_octets(told, octets, size);
-    *at = write.at;
     calls.pass_write();
     OK
 }

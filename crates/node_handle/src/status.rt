@@ -4,7 +4,7 @@
 /// All went well.
 pub const OK: u32 = 0;
 
-/// A slice hasn't the length that the call asks for. Nothing was written.
+/// A slice hasn't the length that the call asks for. Nothing was written, but `size` where the call says that it tells how many octets it needs.
 pub const LENGTH: u32 = 1;
 
 /// A number is out of its range. Nothing was written.
@@ -16,7 +16,7 @@ pub const UNREAD: u32 = 3;
 /// The text is none that can be audited.
 pub const NOT_REPORT: u32 = 4;
 
-/// There was no memory.
+/// There was no memory, and nothing happened: the call may be made again.
 pub const MEMORY: u32 = 5;
 
 /// The struct holds no node.
@@ -28,7 +28,7 @@ pub const HELD: u32 = 7;
 /// The image holds no node that can be run: it is erased, it is damaged, or its records say what no node has.
 pub const NO_NODE: u32 = 8;
 
-/// There was a Node Reset: the node has to be provisioned anew.
+/// There was a Node Reset: it can't be run any more. Another image has to be made, of a node with another address and other keys.
 pub const WAS_RESET: u32 = 9;
 
 /// There is nothing: the line is empty or a comment, or no write is left.
@@ -40,8 +40,9 @@ pub const WRONG: u32 = 11;
 /// Something of the phase before isn't taken yet.
 pub const WAITING: u32 = 12;
 
-/// The node takes no line more: its flash failed, or it was lost.
+/// The node takes no line more: its flash failed, or it was lost. It is closed, and opened anew from the image that is stored.
 pub const OVER: u32 = 13;
 
-/// Memory ran out within the phase: the node was lost, and nothing of the phase is left. To the image the phase never came.
+/// Memory ran out within the phase: the node was lost, and nothing of the phase is left. To the image the phase never came. It is closed, and opened
+/// anew from the image that is stored.
 pub const LOST: u32 = 14;
