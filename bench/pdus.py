@@ -97,6 +97,25 @@ def message(seq, payload=b'\x80\x08\0'):
     return seal(MASTER, 0, 4, seq, 0x0003, 0x1201, b'\0' + ccm(bytes.fromhex(DEV_KEY), nonce, payload, 4))
 
 
+APP_KEY, APP_AID = '63964771734fbd76e3b40519d1d94a48', 0x26
+# What configures the node by its client: an application key in two segments, to which the OnOff Server of 1201 is bound; relaying.
+ADD_KEY = f'talk {NET_KEY} dev:{DEV_KEY} {IV:08x} 04 000001 {{}} 0003 1201 {{}} 00000000{APP_KEY}\n'
+ASKED = f'talk {NET_KEY} dev:{DEV_KEY} {IV:08x} 04 {{}} {{}} 0003 1201 u {{}}\n'
+BOUND = [f'b0 {ADD_KEY.format("000001", 0)}', f'b0 {ADD_KEY.format("000002", 1)}', f'b0 {ASKED.format("000003", "000003", "803d011200000010")}']
+RELAYS = [f'b0 {ASKED.format("000001", "000001", "80270100")}']
+
+
+def switch(seq):
+    """A network PDU with an OnOff Set under the application key: on and off by turns, each with a transaction of its own."""
+    nonce = b'\1\0' + seq.to_bytes(3, 'big') + b'\0\3' + b'\x12\1' + IV.to_bytes(4, 'big')
+    sealed = ccm(bytes.fromhex(APP_KEY), nonce, b'\x82\2' + bytes([seq & 1, seq & 0xff]), 4)
+    return seal(MASTER, 0, 4, seq, 0x0003, 0x1201, bytes([0x40 | APP_AID]) + sealed)
+
+
+# The lines that stand before events of this name.
+BEFORE = {'onoff': BOUND, 'relayed': RELAYS}
+
+
 # The name, what it is, and the line of the event with a number.
 EVENTS = [
     ('raw', '`raw`: a control PDU is sent', lambda i: 'b0 raw fffd 00 034b50057e400000010000\n'),
@@ -104,6 +123,8 @@ EVENTS = [
     ('taken', 'heard and delivered, a message of no model', lambda i: f'b0 net {message(i + 1, bytes([0x7e, 1]))}\n'),
     ('control', 'heard, a control PDU accepted', lambda i: f'b0 net {seal(MASTER, 1, 1, i + 1, 5, 0x1201, bytes([0x7f]))}\n'),
     ('heard', 'heard and delivered, a Composition Data Get, and its reply', lambda i: f'b0 net {message(i + 1)}\n'),
+    ('onoff', 'heard and delivered, an OnOff Set, its reply, and two records', lambda i: f'b0 net {switch(i + 16)}\n'),
+    ('relayed', 'heard, not for this node, and relayed', lambda i: f'b0 net {seal(MASTER, 1, 5, i + 16, 5, 9, bytes([0x7f]))}\n'),
     ('notmine', 'heard, not for this node', lambda i: f'b0 net {seal(MASTER, 1, 1, i + 1, 5, 9, bytes([0x7f]))}\n'),
     ('again', 'heard once more (cached)', lambda i: f'b0 net {seal(MASTER, 1, 1, 1, 5, 9, bytes([0x7f]))}\n'),
     ('foreign', 'another network, another NID', lambda i: f'b0 net {seal((0x7f, *ALIKE[1:]), 1, 1, i + 1, 5, 9, bytes([0x7f] * 11))}\n'),
