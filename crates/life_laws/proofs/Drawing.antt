@@ -18,7 +18,7 @@ use Rattle.seq_word.proofs.Sums.{distinct}
 use Rattle.store_definitions.specs.Config.{config_of}
 use Rattle.node_bearer.specs.Marked.{IsSpentSeen}
 use Rattle.life_laws.specs.Pairs.{PairsSo, all_of}
-use Rattle.life_laws.proofs.Pairing.{all_words, pairs_words, rise_at, sum_up, within_drawn}
+use Rattle.life_laws.proofs.Pairing.{all_words, onward_at, pairs_words, rise_at, sum_up, within_drawn}
 
 pub is_drawn : (over next : List StoreRecord) (l : Life) (d : DrawerView) → PairsSo l.entries l.sends d
     → All (λ x. (config_of over).mark ≤ x) d.drawn → All (λ x. x < (config_of next).mark) d.drawn → ((x : ℕ) → times x d.drawn ≤ 1) → IsDrawn over next l
@@ -34,6 +34,7 @@ is_drawn over next l d h from below once =
           (λ k x lt. All-contains (λ y. y < (config_of next).mark) d.drawn (slice_index_or ws k x) below (within (slice_index_or ws k x) (Contains-get_or ws k x lt)));
       once = pairs_words (λ a b. a ≢ b) (draws (shown l)) ws sum.drawing (distinct ws (λ x. omega (arith, h.counted x, once x)));
       rise = rise_at l.entries l.sends h.drawns d.looks h.shown;
+      onward = onward_at l.entries l.sends h.drawns d.looks h.shown;
     }
 
 -- the last pair of an IV Index, by its word

@@ -16,7 +16,7 @@ use Rattle.event_definitions.specs.Handling.{AreHandled}
 use Rattle.event_definitions.specs.History.{Past, Told}
 use Rattle.event_definitions.specs.Role.{Role}
 use Rattle.run_definitions.specs.Order.{Step, is_cut, is_outside, phases_of}
-use Rattle.run_definitions.specs.RunOf.{IsDrawn, IsNumbered, IsSpentRight, Leaves, LifeOf, Opens, cut_at_start, draws, is_on, no_record, of_event, of_refill, opens, past_at_end, plan_events, was_reset}
+use Rattle.run_definitions.specs.RunOf.{IsDrawn, IsNumbered, IsSpentRight, Leaves, LifeOf, Opens, cut_at_start, draws, is_on, no_record, of_event, of_refill, opens, past_at_end, plan_events, was_reset, words_told}
 use Rattle.store_definitions.specs.Config.{config_of}
 use Rattle.machine_contract.specs.declared.answers.Hand.{Hand}
 use Rattle.machine_contract.specs.declared.answers.Hand.TheVariants as H
@@ -98,6 +98,7 @@ module _ (role : Role) (plan : List Step) (over next : List StoreRecord) (l : Li
         below = subst (All (λ p. word_of p < (config_of next).mark)) (sym none) (All-nil (λ (p : Pair). word_of p < (config_of next).mark));
         once = subst (AllPairs (λ p q. word_of p ≢ word_of q)) (sym none) (λ i j p lt within. absurd (omega (arith, within)));
         rise = λ k. subst (λ ss. AllPairs (λ p q. word_of p < word_of q) (draws (filter_map (shown_of l.entries) (list_at ss k)))) (sym sends) (λ i j p lt within. absurd (omega (arith, within)));
+        onward = λ k. subst (λ ss. AllPairs (λ x y. x ≤ y) (words_told (filter_map (shown_of l.entries) (list_at ss k)))) (sym sends) (λ i j x lt within. absurd (omega (arith, within)));
       }
 
   pub idle_life : Opens (config_of over) l.opened l.end → IsLeft over [] next → LifeOf role plan over l next

@@ -1,5 +1,5 @@
 -- The lines of one phase more, and their pairs.
-use Rattle.std.proofs.Common.{◌≡◌, ◌≢◌, ◌∙◌, ℕ, zero, suc, ◌+◌, ◌<◌, Bool, true, false, List, [], ◌∷◌, ◌++◌, length, map, Option, Some, None, refl, sym, ap, subst, arith, length-append}
+use Rattle.std.proofs.Common.{◌≡◌, ◌≢◌, ◌∙◌, ℕ, zero, suc, ◌+◌, ◌<◌, Bool, true, false, List, [], ◌∷◌, ◌++◌, length, map, Option, Some, None, refl, sym, ap, subst, arith, append-nil, length-append}
 use Rattle.std.specs.Prelude.{◌≤◌, ◌^◌, ◌==◌, All, AllPairs, option_and_then, replicate, slice_index_or}
 use Rattle.std.specs.List.{Contains, filter, filter_map, flat_map, slice_get}
 use Rattle.std.proofs.lemmas.List.Sums.{length-filter}
@@ -21,16 +21,17 @@ use Rattle.mesh_types.specs.declared.lines.Outcome.TheVariants as O
 use Rattle.report_definitions.specs.Record.{Shown, list_at, shown_of}
 use Rattle.run_definitions.specs.Lines.{drawn_of}
 use Rattle.run_definitions.specs.Order.{Task, handle}
-use Rattle.run_definitions.specs.RunOf.{draws}
-use Rattle.seq_word.specs.Rule.{times}
+use Rattle.run_definitions.specs.RunOf.{draws, word_told, words_told}
+use Rattle.seq_word.specs.Rule.{IsPast, times}
 use Rattle.seq_word.specs.Seen.{DrawerView}
 use Rattle.seq_word.specs.declared.looks.Look.{Look}
+use Rattle.seq_word.specs.declared.looks.Look.TheVariants as saw
 use Rattle.locked_node.specs.declared.marks.Mark.{Mark}
 use Rattle.locked_node.specs.declared.marks.Mark.TheVariants as M
 use Rattle.locked_node.specs.Node.{NodeView, event_in, node_marks, stop_marks}
 use Rattle.node_bearer.specs.Did.{BearerOf, Did}
 use Rattle.node_bearer.specs.Marked.{AreShown, HasOwnLooks, IsSpentSeen, end_told, ends_told, shown_at, shown_in, words_seen}
-use Rattle.node_bearer.proofs.Doing.{shown_prefix, words_more}
+use Rattle.node_bearer.proofs.Doing.{shown_prefix, told_each, words_more}
 use Rattle.node_bearer.proofs.Lists.{get_longer, times_append}
 use Rattle.node_phase.specs.declared.bearers.Done.{Done}
 use Rattle.node_phase.specs.Part.{HadMemory, lines_of}
@@ -99,11 +100,21 @@ shows_more es new lines drawn looks more came is f h = record {
   drawing = h.drawing;
   seq = h.seq;
   spent = λ k d lt. spent_in looks more _ f (h.spent k d lt);
+  onward = h.onward;
 }
 
+pairs_append : (R : ℕ → ℕ → Type 0) (xs ys : List ℕ) → AllPairs R xs → AllPairs R ys → All (λ y. All (λ x. R x y) xs) ys → AllPairs R (xs ++ ys)
+pairs_append R [] ys p q h = q
+pairs_append R (x ∷ xs) ys p q h =
+    AllPairs-cons R x (xs ++ ys)
+    (All-append (R x) xs ys (λ k d lt. p 0 (suc k) d (omega arith) (omega (arith, lt))) (λ k d lt. All-head (λ z. R z (slice_index_or ys k d)) x xs (h k d lt)))
+    (pairs_append R xs ys (λ i j d lt within. p (suc i) (suc j) d (omega (arith, lt)) (omega (arith, within))) q (λ k d lt. All-tail (λ z. R z (slice_index_or ys k d)) x xs (h k d lt)))
+
 -- lines behind others
-shows_both : (es : List Entry) (a b : List Sent) (v w : List ℕ) (looks : List Look) → ShowsIn es a v looks → ShowsIn es b w looks → ShowsIn es (a ++ b) (v ++ w) looks
-shows_both es a b v w looks h k =
+shows_both : (es : List Entry) (a b : List Sent) (v w : List ℕ) (looks : List Look) (h : ShowsIn es a v looks) (k : ShowsIn es b w looks) → All (λ y. All (λ x. x ≤ y) (words_told h.shows)) (words_told k.shows)
+    → ShowsIn es (a ++ b) (v ++ w) looks
+shows_both es a b v w looks h k over =
+    let told : words_told (h.shows ++ k.shows) ≡ words_told h.shows ++ words_told k.shows = filter_map-append (λ (s : Shown). word_told s.job s.outcome) h.shows k.shows in
     let more : draws (h.shows ++ k.shows) ≡ draws h.shows ++ draws k.shows = filter_map-append (λ (s : Shown). drawn_of s.job s.outcome) h.shows k.shows in
     record {
       shows = h.shows ++ k.shows;
@@ -112,14 +123,8 @@ shows_both es a b v w looks h k =
       drawing = ap (map word_of) more ∙ map-append word_of (draws h.shows) (draws k.shows) ∙ ap (λ l. l ++ map word_of (draws k.shows)) h.drawing ∙ ap (λ l. v ++ l) k.drawing;
       seq = subst (All (λ p. p.seq < 2 ^ 24)) (sym more) (All-append (λ p. p.seq < 2 ^ 24) (draws h.shows) (draws k.shows) h.seq k.seq);
       spent = All-append (λ s. IsSpentSeen looks s.outcome) h.shows k.shows h.spent k.spent;
+      onward = subst (AllPairs (λ x y. x ≤ y)) (sym told) (pairs_append (λ x y. x ≤ y) (words_told h.shows) (words_told k.shows) h.onward k.onward over);
     }
-
-pairs_append : (xs ys : List ℕ) → AllPairs (λ a b. a < b) xs → AllPairs (λ a b. a < b) ys → All (λ y. All (λ x. x < y) xs) ys → AllPairs (λ a b. a < b) (xs ++ ys)
-pairs_append [] ys p q h = q
-pairs_append (x ∷ xs) ys p q h =
-    AllPairs-cons (λ a b. a < b) x (xs ++ ys)
-    (All-append (λ b. x < b) xs ys (λ k d lt. p 0 (suc k) d (omega arith) (omega (arith, lt))) (λ k d lt. All-head (λ z. z < slice_index_or ys k d) x xs (h k d lt)))
-    (pairs_append xs ys (λ i j d lt within. p (suc i) (suc j) d (omega (arith, lt)) (omega (arith, within))) q (λ k d lt. All-tail (λ z. z < slice_index_or ys k d) x xs (h k d lt)))
 
 -- how often a word stands there
 abbrev is_word : ℕ → ℕ → Bool
@@ -162,29 +167,47 @@ contains_flat f [] k d x lt h = absurd (omega (arith, lt))
 contains_flat f (y ∷ xs) zero d x lt h = Contains-append_left (f y) (flat_map f xs) x h
 contains_flat f (y ∷ xs) (suc k) d x lt h = Contains-append_right (f y) (flat_map f xs) x (contains_flat f xs k d x (omega (arith, lt)) h)
 
+-- a word is above all that was drawn before the phase, and not below what looks had found in the counter
+record IsOver (d : DrawerView) (word : ℕ) : Type 0 where
+  pub drawn : All (λ x. x < word) d.drawn
+  pub looks : All (IsPast word) d.looks
+
 -- what one bearer did in the phase, among the entries and the looks behind it
 record ShownOf {F : Type 0} (entries : List Entry) (d : DrawerView) (looks : List Look) (b : BearerOf F) : Type 0 where
   pub shown : ShowsIn entries b.lines.items b.drawer.drawn looks
   pub rise : AllPairs (λ x y. x < y) b.drawer.drawn
   pub above : All (λ x. All (λ y. y < x) d.drawn) b.drawer.drawn
+  pub over : All (IsOver d) (words_told shown.shows)
+
+-- the word of a line is not below one that is told by lines of before
+over_told : (entries : List Entry) (lines : List Sent) (w : List ℕ) (d : DrawerView) (h : ShowsIn entries lines w d.looks) → ((x : ℕ) → Contains w x → Contains d.drawn x) → (word : ℕ) → IsOver d word
+    → All (λ x. x ≤ word) (words_told h.shows)
+over_told entries lines w d h within word over =
+    told_each (λ x. x ≤ word) d.looks (λ x c. All-contains (IsPast word) d.looks (saw.Counter x) over.looks c) h.shows
+    (subst (All (λ x. x ≤ word)) (sym h.drawing)
+    (λ k x lt. let below : slice_index_or w k x < word = All-contains (λ y. y < word) d.drawn (slice_index_or w k x) over.drawn (within (slice_index_or w k x) (Contains-get_or w k x lt)) in omega (arith, below)))
+    h.spent
 
 -- each list of bearers, behind those of before
-shown_all : {F : Type 0} (entries : List Entry) (d : DrawerView) (looks : List Look) (sends : List (List Sent)) (drawns : List (List ℕ)) (bs : List (BearerOf F))
-    → AreShownBy entries sends drawns looks → ((x : ℕ) → Contains (all_of drawns) x → Contains d.drawn x) → All (ShownOf entries d looks) bs → length sends ≡ length bs
+shown_all : {F : Type 0} (entries : List Entry) (d : DrawerView) (looks : List Look) (f : (x : Look) → Contains d.looks x → Contains looks x) (sends : List (List Sent)) (drawns : List (List ℕ)) (bs : List (BearerOf F))
+    → AreShownBy entries sends drawns d.looks → ((x : ℕ) → Contains (all_of drawns) x → Contains d.drawn x) → All (ShownOf entries d looks) bs → length sends ≡ length bs
     → AreShownBy entries (both_of sends (map lines_of (map done_of bs))) (both_of drawns (map drawn_by bs)) looks
-shown_all entries d looks [] [] [] h within each same = tt
-shown_all entries d looks [] [] (b ∷ bs) h within each same = absurd (omega (arith, same))
-shown_all entries d looks [] (w ∷ drawns) bs h within each same = absurd h
-shown_all entries d looks (s ∷ sends) [] bs h within each same = absurd h
-shown_all entries d looks (s ∷ sends) (w ∷ drawns) [] h within each same = absurd (omega (arith, same))
-shown_all entries d looks (s ∷ sends) (w ∷ drawns) (b ∷ bs) h within each same =
+unfolding shows_more
+shown_all entries d looks f [] [] [] h within each same = tt
+shown_all entries d looks f [] [] (b ∷ bs) h within each same = absurd (omega (arith, same))
+shown_all entries d looks f [] (w ∷ drawns) bs h within each same = absurd h
+shown_all entries d looks f (s ∷ sends) [] bs h within each same = absurd h
+shown_all entries d looks f (s ∷ sends) (w ∷ drawns) [] h within each same = absurd (omega (arith, same))
+shown_all entries d looks f (s ∷ sends) (w ∷ drawns) (b ∷ bs) h within each same =
     let one = All-head (ShownOf entries d looks) b bs each in
     let below : All (λ y. All (λ x. x < y) w) b.drawer.drawn =
     λ k e lt j f lt'. All-contains (λ x. x < slice_index_or b.drawer.drawn k e) d.drawn (slice_index_or w j f) (one.above k e lt)
-    (within (slice_index_or w j f) (Contains-append_left w (all_of drawns) (slice_index_or w j f) (Contains-get_or w j f lt'))) in (
-      shows_both entries s b.lines.items w b.drawer.drawn looks h.0 one.shown,
-      pairs_append w b.drawer.drawn h.1 one.rise below,
-      shown_all entries d looks sends drawns bs h.2 (λ x c. within x (Contains-append_right w (all_of drawns) x c)) (All-tail (ShownOf entries d looks) b bs each) (omega (arith, same)),
+    (within (slice_index_or w j f) (Contains-append_left w (all_of drawns) (slice_index_or w j f) (Contains-get_or w j f lt'))) in
+    let over : All (λ y. All (λ x. x ≤ y) (words_told h.0.shows)) (words_told one.shown.shows) =
+    λ k e lt. over_told entries s w d h.0 (λ x c. within x (Contains-append_left w (all_of drawns) x c)) (slice_index_or (words_told one.shown.shows) k e) (one.over k e lt) in (
+      shows_both entries s b.lines.items w b.drawer.drawn looks (shows_more entries entries s w d.looks looks [] (sym (append-nil entries)) f h.0) one.shown over,
+      pairs_append (λ a b. a < b) w b.drawer.drawn h.1 one.rise below,
+      shown_all entries d looks f sends drawns bs h.2 (λ x c. within x (Contains-append_right w (all_of drawns) x c)) (All-tail (ShownOf entries d looks) b bs each) (omega (arith, same)),
     )
 
 shown_later : (es new : List Entry) (looks more : List Look) (came : List Entry) → new ≡ es ++ came → ((x : Look) → Contains looks x → Contains more x)
@@ -213,7 +236,7 @@ counted_both x (w ∷ drawns) (b ∷ bs) =
 
 -- what a bearer showed, whether it stopped or not
 record Showed {F : Type 0} (b : BearerOf F) : Type 0 where
-  pub shown : AreShown b.pass.seen b.lines.items b.drawer.drawn b.drawer.looks
+  pub shown : AreShown b.pass.seen b.lines.items b.drawer
   pub rise : AllPairs (λ x y. x < y) b.drawer.drawn
   pub above : All (λ x. All (λ y. y < x) b.drawer.noted) b.drawer.drawn
 
@@ -227,7 +250,7 @@ module _ {F : Type 0} (k : ℕ) (events : List Event) (old b : BearerOf F) where
   showed_by (Some S.Memory) is m w = absurd (m refl)
   showed_by (Some S.Flash) is m w = let x = w.broke S.Flash is in showed_did old.number (map handle events) x.left x.before x.did
 
-all_right : (P : ℕ → Type 0) (xs ys : List ℕ) → All P (xs ++ ys) → All P ys
+all_right : {A : Type 0} (P : A → Type 0) (xs ys : List A) → All P (xs ++ ys) → All P ys
 all_right P xs ys h k d lt = All-contains P (xs ++ ys) (slice_index_or ys k d) h (Contains-append_right xs ys (slice_index_or ys k d) (Contains-get_or ys k d lt))
 
 pub filter_found : {A B : Type 0} (f : A → Option B) (xs : List A) (ys : List B) → map f xs ≡ map Some ys → filter_map f xs ≡ ys
@@ -320,8 +343,9 @@ module _ {F : Type 0} (old new : NodeView F) (d e : DrawerView) (events : List (
       let within : k < length w.before = omega (arith, lt, w.long) in
       let worked = w.worked k b within in
       let showed = showed_by k (list_at events k) (slice_index_or w.before k b) mine mine.stop refl (had_memory k b lt) worked in
-      let shown = shown_prefix mine.pass.seen (node_marks new) mine.lines.items mine.drawer.drawn mine.drawer.looks (w.seen k b lt) showed.shown in
+      let shown = shown_prefix mine.pass.seen (node_marks new) mine.lines.items mine.drawer (w.seen k b lt) showed.shown in
       let noted : mine.drawer.noted ≡ d.noted ++ d.drawn = worked.noted ∙ w.noted k b within in
+      let known : mine.drawer.known ≡ d.known ++ d.looks = worked.known ∙ w.known k b within in
       record {
         shown = record {
           shows = shown.shows;
@@ -330,16 +354,24 @@ module _ {F : Type 0} (old new : NodeView F) (d e : DrawerView) (events : List (
           drawing = shown.drawing;
           seq = shown.seq;
           spent = λ j s lt'. spent_in mine.drawer.looks e.looks _ (λ x c. subst (λ l. Contains l x) (sym w.looks) (Contains-append_right d.looks (flat_map looks_by w.bearers) x (contains_flat looks_by w.bearers k b x lt c))) (shown.spent j s lt');
+          onward = shown.onward;
         };
         rise = showed.rise;
         above = λ j x lt'. all_right (λ y. y < slice_index_or mine.drawer.drawn j x) d.noted d.drawn (subst (All (λ y. y < slice_index_or mine.drawer.drawn j x)) noted (showed.above j x lt'));
+        over = λ j x lt'.
+            let word = slice_index_or (words_told shown.shows) j x in
+            let behind = shown.behind j x lt' in
+            record {
+              drawn = all_right (λ y. y < word) d.noted d.drawn (subst (All (λ y. y < word)) noted behind.noted);
+              looks = all_right (IsPast word) d.known d.looks (subst (All (IsPast word)) known behind.known);
+            };
       }
 
   each_own : (x : ℕ) → All (HasOwn x new.machine.entries) w.bearers
   each_own x k b lt =
       let mine = slice_index_or w.bearers k b in
       let showed = showed_by k (list_at events k) (slice_index_or w.before k b) mine mine.stop refl (had_memory k b lt) (w.worked k b (omega (arith, lt, w.long))) in
-      let shown = shown_prefix mine.pass.seen (node_marks new) mine.lines.items mine.drawer.drawn mine.drawer.looks (w.seen k b lt) showed.shown in
+      let shown = shown_prefix mine.pass.seen (node_marks new) mine.lines.items mine.drawer (w.seen k b lt) showed.shown in
       let are = filter_found (shown_of new.machine.entries) mine.lines.items shown.shows (found_entries new.machine.entries new.stops (event_in new.machine.hand) mine.lines.items shown.shows shown.found) in
       subst (λ l. times x (ends_told l) ≤ times x (words_seen mine.drawer.looks)) (sym are) (shown.own x)
 
@@ -361,8 +393,8 @@ module _ {F : Type 0} (old new : NodeView F) (d e : DrawerView) (events : List (
   pairs_more = record {
     drawns = both_of h.drawns (map drawn_by w.bearers);
     shown = subst (λ ds. AreShownBy new.machine.entries (both_of sends (map lines_of ds)) (both_of h.drawns (map drawn_by w.bearers)) e.looks) (sym w.left)
-        (shown_all new.machine.entries d e.looks sends h.drawns w.bearers
-        (shown_later old.machine.entries new.machine.entries d.looks e.looks came.more came.is (λ x c. subst (λ l. Contains l x) (sym w.looks) (Contains-append_left d.looks (flat_map looks_by w.bearers) x c)) sends h.drawns h.shown)
+        (shown_all new.machine.entries d e.looks (λ x c. subst (λ l. Contains l x) (sym w.looks) (Contains-append_left d.looks (flat_map looks_by w.bearers) x c)) sends h.drawns w.bearers
+        (shown_later old.machine.entries new.machine.entries d.looks d.looks came.more came.is (λ x c. c) sends h.drawns h.shown)
         (within_drawn h.drawns d.drawn h.counted) each same_count);
     counted = λ x. omega (arith, counted_both x h.drawns w.bearers, h.counted x, ap (times x) w.drawn, times_append x d.drawn (flat_map drawn_by w.bearers));
     own = own_more;
@@ -410,10 +442,18 @@ rise_at entries (s ∷ sends) (w ∷ drawns) looks h zero =
     pairs_words (λ a b. a < b) (draws (filter_map (shown_of entries) s)) w (ap (λ l. map word_of (draws l)) (filter_found (shown_of entries) s h.0.shows h.0.found) ∙ h.0.drawing) h.1
 rise_at entries (s ∷ sends) (w ∷ drawns) looks h (suc k) = rise_at entries sends drawns looks h.2 k
 
+pub onward_at : (entries : List Entry) (sends : List (List Sent)) (drawns : List (List ℕ)) (looks : List Look) → AreShownBy entries sends drawns looks
+    → (k : ℕ) → AllPairs (λ x y. x ≤ y) (words_told (filter_map (shown_of entries) (list_at sends k)))
+onward_at entries [] [] looks h k = λ i j x lt within. absurd (omega (arith, within))
+onward_at entries [] (w ∷ drawns) looks h k = absurd h
+onward_at entries (s ∷ sends) [] looks h k = absurd h
+onward_at entries (s ∷ sends) (w ∷ drawns) looks h zero = subst (λ l. AllPairs (λ x y. x ≤ y) (words_told l)) (sym (filter_found (shown_of entries) s h.0.shows h.0.found)) h.0.onward
+onward_at entries (s ∷ sends) (w ∷ drawns) looks h (suc k) = onward_at entries sends drawns looks h.2 k
+
 pub no_pairs : (n : ℕ) (looks : List Look) → AreShownBy [] (replicate n []) (replicate n []) looks
 no_pairs zero looks = tt
 no_pairs (suc n) looks = (
-  record { shows = []; found = refl; short = All-nil (λ (s : Sent). s.job + 1 < 2 ^ 8); drawing = refl; seq = All-nil (λ p. p.seq < 2 ^ 24); spent = All-nil (λ (s : Shown). IsSpentSeen looks s.outcome) },
+  record { shows = []; found = refl; short = All-nil (λ (s : Sent). s.job + 1 < 2 ^ 8); drawing = refl; seq = All-nil (λ p. p.seq < 2 ^ 24); spent = All-nil (λ (s : Shown). IsSpentSeen looks s.outcome); onward = λ i j x lt within. absurd (omega (arith, within)) },
   (λ i j d lt within. absurd (omega (arith, within))),
   no_pairs n looks,
 )

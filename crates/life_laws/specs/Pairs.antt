@@ -1,18 +1,18 @@
 -- The lines of several phases, and the pairs that they draw.
-use Rattle.std.specs.Prelude.{◌≡◌, ℕ, ◌+◌, ◌^◌, ◌<◌, List, [], ◌∷◌, map, All, AllPairs, Some, ⊤}
+use Rattle.std.specs.Prelude.{◌≡◌, ℕ, ◌+◌, ◌^◌, ◌<◌, ◌≤◌, List, [], ◌∷◌, map, All, AllPairs, Some, ⊤}
 use Rattle.std.specs.List.{filter_map, flat_map}
 use Rattle.mesh_base.specs.Pairs.{word_of}
 use Rattle.mesh_types.specs.declared.history.Entry.{Entry}
 use Rattle.mesh_types.specs.declared.history.Sent.{Sent}
 use Rattle.report_definitions.specs.Record.{Shown, shown_of}
-use Rattle.run_definitions.specs.RunOf.{draws}
+use Rattle.run_definitions.specs.RunOf.{draws, words_told}
 use Rattle.seq_word.specs.Rule.{times}
 use Rattle.seq_word.specs.Seen.{DrawerView}
 use Rattle.seq_word.specs.declared.looks.Look.{Look}
 use Rattle.node_bearer.specs.Marked.{HasOwnLooks, IsSpentSeen, ends_told}
 
 -- What the lines of a bearer show is among these entries; they draw these words, each with a SEQ below 2^24. A job's number, from 1 on, has 8
--- bits.
+-- bits. None tells a word below that of an earlier one.
 pub record ShowsIn (entries : List Entry) (lines : List Sent) (drawn : List ℕ) (looks : List Look) : Type 0 where
   pub shows : List Shown
   pub found : map (shown_of entries) lines ≡ map Some shows
@@ -20,6 +20,7 @@ pub record ShowsIn (entries : List Entry) (lines : List Sent) (drawn : List ℕ)
   pub drawing : map word_of (draws shows) ≡ drawn
   pub seq : All (λ p. p.seq < 2 ^ 24) (draws shows)
   pub spent : All (λ s. IsSpentSeen looks s.outcome) shows
+  pub onward : AllPairs (λ x y. x ≤ y) (words_told shows)
 
 -- of each bearer, and the words of each rise
 abbrev pub AreShownBy : List Entry → List (List Sent) → List (List ℕ) → List Look → Type 0

@@ -29,7 +29,7 @@ use Rattle.store_definitions.specs.Ranges.{IsInRange}
 use Rattle.event_definitions.specs.Readings.{sees_nothing}
 use Rattle.report_definitions.specs.Record.{Life, Run, Shown, list_at, shown, shown_by}
 use Rattle.event_definitions.specs.Role.{node_role}
-use Rattle.run_definitions.specs.RunOf.{IsNumbered, IsSpentRight, Opens, Script, draws, no_record, opens, past_at_end}
+use Rattle.run_definitions.specs.RunOf.{IsNumbered, IsSpentRight, Opens, Script, draws, no_record, opens, past_at_end, words_told}
 use Rattle.store_definitions.specs.Provisioning.{Provisioning, provisioned}
 use Rattle.event_definitions.specs.Stores.{stores}
 use Rattle.run_definitions.specs.Uses.{seals_of, uses}
@@ -157,6 +157,10 @@ rises : (k : ℕ) → AllPairs (λ p q. word_of p < word_of q) (draws (shown_by 
 rises zero = pairs_from_apart (λ p q. word_of p < word_of q) (pair 0 ∷ beyond ∷ []) ((lit< tt, tt), (tt, tt))
 rises (suc k) = pairs_from_apart (λ p q. word_of p < word_of q) [] tt
 
+onward : (k : ℕ) → AllPairs (λ x y. x ≤ y) (words_told (shown_by life k))
+onward zero = pairs_from_apart (λ x y. x ≤ y) (word_of (pair 0) ∷ word_of beyond ∷ []) ((lit≤ tt, tt), (tt, tt))
+onward (suc k) = pairs_from_apart (λ x y. x ≤ y) [] tt
+
 other_words : word_of (pair 0) ≢ word_of beyond
 other_words e = absurd (omega (arith, e))
 
@@ -167,6 +171,7 @@ drawn = record {
   below = all_of (λ (p : Pair). word_of p < (config_of next).mark) (pair 0 ∷ beyond ∷ []) (lit< tt, (lit< tt, tt));
   once = pairs_from_apart (λ p q. word_of p ≢ word_of q) (pair 0 ∷ beyond ∷ []) ((other_words, tt), (tt, tt));
   rise = rises;
+  onward = onward;
 }
 
 opening : Opens (config_of over) life.opened life.end

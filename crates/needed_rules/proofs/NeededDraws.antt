@@ -31,7 +31,7 @@ use Rattle.store_definitions.specs.Ranges.{IsInRange}
 use Rattle.event_definitions.specs.Readings.{sees_nothing}
 use Rattle.report_definitions.specs.Record.{Life, Run, Shown, list_at, shown, shown_by}
 use Rattle.event_definitions.specs.Role.{node_role}
-use Rattle.run_definitions.specs.RunOf.{IsNumbered, IsSpentRight, Opens, Script, draws, no_record, opens, past_at_end}
+use Rattle.run_definitions.specs.RunOf.{IsNumbered, IsSpentRight, Opens, Script, draws, no_record, opens, past_at_end, words_told}
 use Rattle.store_definitions.specs.Provisioning.{provisioned}
 use Rattle.run_definitions.specs.Seals.{own_fields}
 use Rattle.event_definitions.specs.Stores.{stores}
@@ -247,6 +247,10 @@ pub rises : (from : ℕ) (p : Pair) (octet k : ℕ) → AllPairs (λ p q. word_o
 rises from p octet zero = pairs_from_apart (λ p q. word_of p < word_of q) (p ∷ []) (tt, tt)
 rises from p octet (suc k) = pairs_from_apart (λ p q. word_of p < word_of q) [] tt
 
+pub onward : (from : ℕ) (p : Pair) (octet k : ℕ) → AllPairs (λ x y. x ≤ y) (words_told (shown_by (life from p octet) k))
+onward from p octet zero = pairs_from_apart (λ x y. x ≤ y) (word_of p ∷ []) (tt, tt)
+onward from p octet (suc k) = pairs_from_apart (λ x y. x ≤ y) [] tt
+
 pub once : (p : Pair) → AllPairs (λ p q. word_of p ≢ word_of q) (p ∷ [])
 once p = pairs_from_apart (λ p q. word_of p ≢ word_of q) (p ∷ []) (tt, tt)
 
@@ -262,8 +266,8 @@ from_needed = (
   run (pair 0),
   quiet_safe,
   by_both DrawsFromAnywhere (pair 0)
-      (record { seq = each (λ (p : Pair). p.seq < 2 ^ 24) (pair 0) (lit< tt); below = each (λ (p : Pair). word_of p < (config_of second_list).mark) (pair 0) (lit< tt); once = once (pair 0); rise = rises mark (pair 0) 0x7f })
-      (record { seq = each (λ (p : Pair). p.seq < 2 ^ 24) (pair 0) (lit< tt); below = each (λ (p : Pair). word_of p < (config_of third_list).mark) (pair 0) (lit< tt); once = once (pair 0); rise = rises (mark + 256) (pair 0) 0x7e }),
+      (record { seq = each (λ (p : Pair). p.seq < 2 ^ 24) (pair 0) (lit< tt); below = each (λ (p : Pair). word_of p < (config_of second_list).mark) (pair 0) (lit< tt); once = once (pair 0); rise = rises mark (pair 0) 0x7f; onward = onward mark (pair 0) 0x7f })
+      (record { seq = each (λ (p : Pair). p.seq < 2 ^ 24) (pair 0) (lit< tt); below = each (λ (p : Pair). word_of p < (config_of third_list).mark) (pair 0) (lit< tt); once = once (pair 0); rise = rises (mark + 256) (pair 0) 0x7e; onward = onward (mark + 256) (pair 0) 0x7e }),
   clash (pair 0),
 )
 
@@ -276,7 +280,7 @@ below_needed = (
   run (pair 300),
   quiet_safe,
   by_both DrawsUnreserved (pair 300)
-      (record { seq = each (λ (p : Pair). p.seq < 2 ^ 24) (pair 300) (lit< tt); from = each (λ (p : Pair). (config_of first_list).mark ≤ word_of p) (pair 300) (lit≤ tt); once = once (pair 300); rise = rises mark (pair 300) 0x7f })
-      (record { seq = each (λ (p : Pair). p.seq < 2 ^ 24) (pair 300) (lit< tt); from = each (λ (p : Pair). (config_of second_list).mark ≤ word_of p) (pair 300) (lit≤ tt); once = once (pair 300); rise = rises (mark + 256) (pair 300) 0x7e }),
+      (record { seq = each (λ (p : Pair). p.seq < 2 ^ 24) (pair 300) (lit< tt); from = each (λ (p : Pair). (config_of first_list).mark ≤ word_of p) (pair 300) (lit≤ tt); once = once (pair 300); rise = rises mark (pair 300) 0x7f; onward = onward mark (pair 300) 0x7f })
+      (record { seq = each (λ (p : Pair). p.seq < 2 ^ 24) (pair 300) (lit< tt); from = each (λ (p : Pair). (config_of second_list).mark ≤ word_of p) (pair 300) (lit≤ tt); once = once (pair 300); rise = rises (mark + 256) (pair 300) 0x7e; onward = onward (mark + 256) (pair 300) 0x7e }),
   clash (pair 300),
 )

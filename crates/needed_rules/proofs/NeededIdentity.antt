@@ -29,7 +29,7 @@ use Rattle.store_definitions.specs.Ranges.{IsInRange}
 use Rattle.event_definitions.specs.Readings.{IsReading, sees_pdu}
 use Rattle.report_definitions.specs.Record.{Life, Run, Shown, list_at, shown, shown_by}
 use Rattle.event_definitions.specs.Role.{node_role}
-use Rattle.run_definitions.specs.RunOf.{IsNumbered, IsSpentRight, Opens, Script, draws, no_record, opens, past_at_end}
+use Rattle.run_definitions.specs.RunOf.{IsNumbered, IsSpentRight, Opens, Script, draws, no_record, opens, past_at_end, words_told}
 use Rattle.store_definitions.specs.Provisioning.{Provisioning, provisioned}
 use Rattle.event_definitions.specs.Stores.{stores}
 use Rattle.run_definitions.specs.Uses.{NoReuse, seals_of, uses}
@@ -97,9 +97,9 @@ numbered : (octet k : ℕ) → IsNumbered (life octet) k
 numbered octet zero = refl
 numbered octet (suc k) = rw (others_none k (entry octet ∷ []) (refl, tt)) refl
 
-draws_none : (octet k : ℕ) → draws (shown_by (life octet) k) ≡ []
-draws_none octet zero = refl
-draws_none octet (suc k) = refl
+draws_none : (octet k : ℕ) → (draws (shown_by (life octet) k) ≡ []) × (words_told (shown_by (life octet) k) ≡ [])
+draws_none octet zero = (refl, refl)
+draws_none octet (suc k) = (refl, refl)
 
 has_pdu : (octet : ℕ) → HasPdu (fields 2 octet)
 has_pdu octet = record { ttl = lit< tt; seq = lit< tt; least = lit≤ tt; most = lit≤ tt }
@@ -186,7 +186,7 @@ first_by without other e = record {
   numbers = λ k. refl;
   order = λ e. empty_ordered;
   leaves = record { more = []; outlasts = no_record; ranges = all_of IsInRange first first_range; alike = record { config = e; entries = first_entries other } };
-  drawn = nothing_drawn first (over other) empty refl (λ k. refl);
+  drawn = nothing_drawn first (over other) empty refl (λ k. (refl, refl));
   spent = all_of (λ (s : Shown). IsSpentRight first (over other) empty s.outcome) (shown empty) tt;
 }
 

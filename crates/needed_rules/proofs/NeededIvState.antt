@@ -29,7 +29,7 @@ use Rattle.store_definitions.specs.Ranges.{IsInRange}
 use Rattle.event_definitions.specs.Readings.{IsBeacon, IsReading, sees_beacon, sees_nothing, sees_pdu}
 use Rattle.report_definitions.specs.Record.{Life, Run, Shown, list_at, shown, shown_by}
 use Rattle.event_definitions.specs.Role.{node_role}
-use Rattle.run_definitions.specs.RunOf.{IsNumbered, IsSpentRight, Script, draws, no_record, past_at_end}
+use Rattle.run_definitions.specs.RunOf.{IsNumbered, IsSpentRight, Script, draws, no_record, past_at_end, words_told}
 use Rattle.event_definitions.specs.Stores.{stores}
 use Rattle.needed_rules.specs.Needed.{IsAlikeBut, Repeats, without_iv_state}
 use Rattle.run_safety.specs.Rules.{LeavesBy, LifeBy, Rules, all_rules}
@@ -193,8 +193,8 @@ leaves : LeavesBy any_state (node_role quiet_layers) plan life (past_at_end (nod
 unfolding changed stores transmit_of iv_due
 leaves = record { more = []; outlasts = no_record; ranges = all_of IsInRange at_end ranges; alike = record { config = refl; entries = same_entries } }
 
-shows_nothing : (k : ℕ) → draws (shown_by life k) ≡ []
-shows_nothing k = rw (no_sends k) refl
+shows_nothing : (k : ℕ) → (draws (shown_by life k) ≡ []) × (words_told (shown_by life k) ≡ [])
+shows_nothing k = rw (no_sends k) (refl, refl)
 
 life_by : LifeBy any_state (node_role quiet_layers) plan first_list life first_list
 life_by = record {

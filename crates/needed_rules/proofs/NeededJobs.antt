@@ -20,7 +20,7 @@ use Rattle.store_definitions.specs.Ranges.{IsInRange}
 use Rattle.event_definitions.specs.Readings.{sees_nothing}
 use Rattle.report_definitions.specs.Record.{Life, Run, Shown, list_at, shown, shown_by}
 use Rattle.event_definitions.specs.Role.{node_role}
-use Rattle.run_definitions.specs.RunOf.{IsNumbered, IsSpentRight, Script, draws, no_record, past_at_end}
+use Rattle.run_definitions.specs.RunOf.{IsNumbered, IsSpentRight, Script, draws, no_record, past_at_end, words_told}
 use Rattle.run_definitions.specs.Seals.{own_fields}
 use Rattle.event_definitions.specs.Stores.{stores}
 use Rattle.run_definitions.specs.Uses.{seals_of, uses}
@@ -91,9 +91,9 @@ leaves : LeavesBy any_jobs (node_role quiet_layers) (plan 0x7f) life (past_at_en
 unfolding changed stores
 leaves = record { more = []; outlasts = no_record; ranges = all_of IsInRange first_list ranges; alike = record { config = refl; entries = λ src. refl } }
 
-pub draws_none : (k : ℕ) → draws (shown_by life k) ≡ []
-draws_none zero = refl
-draws_none (suc k) = refl
+pub draws_none : (k : ℕ) → (draws (shown_by life k) ≡ []) × (words_told (shown_by life k) ≡ [])
+draws_none zero = (refl, refl)
+draws_none (suc k) = (refl, refl)
 
 life_by : LifeBy any_jobs (node_role quiet_layers) (plan 0x7f) first_list life first_list
 life_by = record {

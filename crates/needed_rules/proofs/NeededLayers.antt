@@ -23,7 +23,7 @@ use Rattle.store_definitions.specs.Ranges.{IsInRange}
 use Rattle.event_definitions.specs.Readings.{sees_nothing}
 use Rattle.report_definitions.specs.Record.{Life, Run, Shown, list_at, shown, shown_by}
 use Rattle.event_definitions.specs.Role.{node_role}
-use Rattle.run_definitions.specs.RunOf.{IsNumbered, IsSpentRight, Script, draws, no_record, past_at_end}
+use Rattle.run_definitions.specs.RunOf.{IsNumbered, IsSpentRight, Script, draws, no_record, past_at_end, words_told}
 use Rattle.event_definitions.specs.Stores.{stores}
 use Rattle.run_definitions.specs.Uses.{seals_of, uses}
 use Rattle.needed_rules.specs.WrittenRun.{address, material, node, opened_state, pair}
@@ -89,9 +89,9 @@ leaves : Leaves (node_role unsafe_layers) plan life (past_at_end (node_role unsa
 unfolding changed stores
 leaves = record { more = []; outlasts = no_record; ranges = all_of IsInRange first_list ranges; alike = record { config = refl; entries = λ src. refl } }
 
-draws_none : (k : ℕ) → draws (shown_by life k) ≡ []
-draws_none zero = refl
-draws_none (suc k) = refl
+draws_none : (k : ℕ) → (draws (shown_by life k) ≡ []) × (words_told (shown_by life k) ≡ [])
+draws_none zero = (refl, refl)
+draws_none (suc k) = (refl, refl)
 
 life_of : LifeOf (node_role unsafe_layers) plan first_list life first_list
 life_of = record {

@@ -22,7 +22,7 @@ use Rattle.run_definitions.specs.Uses.{seals_of, uses}
 use Rattle.needed_rules.specs.Needed.{IsAlikeBut, OutlastsAnything, Reuses, without_mark}
 use Rattle.run_safety.specs.Rules.{LeavesBy, LifeBy, Rules, all_rules}
 use Rattle.needed_rules.specs.WrittenRun.{node, opened_state, pair}
-use Rattle.needed_rules.proofs.NeededDraws.{Clash, each, first_handled, first_list, first_opens, first_range, first_told, life, mark, numbered, numbers, once, ordered, other_text, plan, rises, second_list, second_opens, some_use}
+use Rattle.needed_rules.proofs.NeededDraws.{Clash, each, first_handled, first_list, first_opens, first_range, first_told, life, mark, numbered, numbers, once, onward, ordered, other_text, plan, rises, second_list, second_opens, some_use}
 use Rattle.needed_rules.proofs.NeededNames.{nothing_drawn}
 use Rattle.needed_rules.proofs.WrittenRun.{all_of, dev_key_is, net_key_is, quiet_safe}
 
@@ -49,7 +49,7 @@ empty_by does_outlast is_alike leaves = record {
   numbers = λ k. refl;
   order = λ e. empty_ordered;
   leaves = leaves;
-  drawn = nothing_drawn second_list first_list empty_life refl (λ k. refl);
+  drawn = nothing_drawn second_list first_list empty_life refl (λ k. (refl, refl));
   spent = all_of (λ (s : Shown). IsSpentRight second_list first_list empty_life s.outcome) (shown empty_life) tt;
 }
 
@@ -63,6 +63,7 @@ drawn octet = record {
   below = each (λ (p : Pair). word_of p < (config_of second_list).mark) (pair 0) (lit< tt);
   once = once (pair 0);
   rise = rises (mark + 0) (pair 0) octet;
+  onward = onward (mark + 0) (pair 0) octet;
 }
 
 life_by : (does_outlast : Role → List Step → Life → Past → List StoreRecord → Type 0) (is_alike : List StoreRecord → List StoreRecord → Type 0) (octet : ℕ)

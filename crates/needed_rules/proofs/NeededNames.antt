@@ -25,7 +25,7 @@ use Rattle.mesh_base.specs.Pairs.{word_of}
 use Rattle.store_definitions.specs.Ranges.{IsInRange}
 use Rattle.report_definitions.specs.Record.{Life, Run, Shown, list_at, shown, shown_by}
 use Rattle.event_definitions.specs.Role.{node_role}
-use Rattle.run_definitions.specs.RunOf.{IsNumbered, IsSpentRight, Script, draws, no_record, past_at_end}
+use Rattle.run_definitions.specs.RunOf.{IsNumbered, IsSpentRight, Script, draws, no_record, past_at_end, words_told}
 use Rattle.event_definitions.specs.Stores.{stores}
 use Rattle.event_definitions.specs.Layers.{quiet_layers}
 use Rattle.needed_rules.specs.WrittenRun.{address, material, node, opened_state, pair}
@@ -76,13 +76,14 @@ control_lower = record { kind = refl; fits = (lit< tt, lit≤ tt); text = refl }
 zero_of : (e : Entry) → e.bearer ≡ 0 → AllByRecursion (λ (x : Entry). x.bearer ≡ 0) (e ∷ [])
 zero_of e h = (h, tt)
 
-pub nothing_drawn : (over next : List StoreRecord) (l : Life) → draws (shown l) ≡ [] → ((k : ℕ) → draws (shown_by l k) ≡ []) → IsDrawn over next l
+pub nothing_drawn : (over next : List StoreRecord) (l : Life) → draws (shown l) ≡ [] → ((k : ℕ) → (draws (shown_by l k) ≡ []) × (words_told (shown_by l k) ≡ [])) → IsDrawn over next l
 nothing_drawn over next l e f = record {
   seq = rw e (all_of (λ (p : Pair). p.seq < 2 ^ 24) [] tt);
   from = rw e (all_of (λ (p : Pair). (config_of over).mark ≤ word_of p) [] tt);
   below = rw e (all_of (λ (p : Pair). word_of p < (config_of next).mark) [] tt);
   once = rw e (pairs_from_apart (λ p q. word_of p ≢ word_of q) [] tt);
-  rise = λ k. rw (f k) (pairs_from_apart (λ p q. word_of p < word_of q) [] tt);
+  rise = λ k. rw (f k).0 (pairs_from_apart (λ p q. word_of p < word_of q) [] tt);
+  onward = λ k. rw (f k).1 (pairs_from_apart (λ x y. x ≤ y) [] tt);
 }
 
 pub no_sends : (k : ℕ) → list_at {A = Sent} ([] ∷ []) k ≡ []
@@ -132,8 +133,8 @@ pub numbered : (iv k : ℕ) → IsNumbered (life iv) k
 numbered iv zero = refl
 numbered iv (suc k) = rw (others_none k (control_entry 1 iv ∷ []) (refl, tt)) refl
 
-pub shows_nothing : (iv k : ℕ) → draws (shown_by (life iv) k) ≡ []
-shows_nothing iv k = rw (no_sends k) refl
+pub shows_nothing : (iv k : ℕ) → (draws (shown_by (life iv) k) ≡ []) × (words_told (shown_by (life iv) k) ≡ [])
+shows_nothing iv k = rw (no_sends k) (refl, refl)
 
 abbrev forgetful : Rules
 forgetful = record all_rules { is_alike = SaysTheSame }

@@ -24,7 +24,7 @@ use Rattle.store_definitions.specs.Ranges.{IsInRange}
 use Rattle.event_definitions.specs.Readings.{sees_nothing}
 use Rattle.report_definitions.specs.Record.{Life, Run, Shown, list_at, shown, shown_by}
 use Rattle.event_definitions.specs.Role.{node_role}
-use Rattle.run_definitions.specs.RunOf.{IsNumbered, IsSpentRight, Script, draws, no_record, past_at_end}
+use Rattle.run_definitions.specs.RunOf.{IsNumbered, IsSpentRight, Script, draws, no_record, past_at_end, words_told}
 use Rattle.event_definitions.specs.Stores.{stores}
 use Rattle.run_definitions.specs.Uses.{seals_of, uses}
 use Rattle.event_definitions.specs.Layers.{quiet_layers}
@@ -89,6 +89,11 @@ rises zero = pairs_from_apart (λ p q. word_of p < word_of q) (pair 0 ∷ []) (t
 rises (suc zero) = pairs_from_apart (λ p q. word_of p < word_of q) (pair 0 ∷ []) (tt, tt)
 rises (suc (suc k)) = pairs_from_apart (λ p q. word_of p < word_of q) [] tt
 
+onward : (k : ℕ) → AllPairs (λ x y. x ≤ y) (words_told (shown_by life k))
+onward zero = pairs_from_apart (λ x y. x ≤ y) (word_of (pair 0) ∷ []) (tt, tt)
+onward (suc zero) = pairs_from_apart (λ x y. x ≤ y) (word_of (pair 0) ∷ []) (tt, tt)
+onward (suc (suc k)) = pairs_from_apart (λ x y. x ≤ y) [] tt
+
 drawn : DrawsTwice first_list second_list life
 unfolding changed transmit_of
 drawn = record {
@@ -96,6 +101,7 @@ drawn = record {
   from = all_of (λ (p : Pair). (config_of first_list).mark ≤ word_of p) (pair 0 ∷ pair 0 ∷ []) (lit≤ tt, (lit≤ tt, tt));
   below = all_of (λ (p : Pair). word_of p < (config_of second_list).mark) (pair 0 ∷ pair 0 ∷ []) (lit< tt, (lit< tt, tt));
   rise = rises;
+  onward = onward;
 }
 
 life_by : LifeBy (drawn_only DrawsTwice) (node_role quiet_layers) plan first_list life second_list

@@ -28,7 +28,7 @@ use Rattle.event_definitions.specs.Readings.{sees_nothing}
 use Rattle.report_definitions.specs.Record.{Life, Run, Shown, list_at, shown, shown_by}
 use Rattle.run_definitions.specs.Order.{IsOrdered, Part, Step, placed_from}
 use Rattle.event_definitions.specs.Role.{node_role}
-use Rattle.run_definitions.specs.RunOf.{IsIdle, IsNumbered, IsSpentRight, Opens, Script, cut_at_start, draws, is_on, no_record, past_at_end}
+use Rattle.run_definitions.specs.RunOf.{IsIdle, IsNumbered, IsSpentRight, Opens, Script, cut_at_start, draws, is_on, no_record, past_at_end, words_told}
 use Rattle.event_definitions.specs.Stores.{stores}
 use Rattle.run_definitions.specs.Uses.{seals_of, uses}
 use Rattle.event_definitions.specs.Layers.{quiet_layers}
@@ -118,9 +118,9 @@ leaves : (is_idle : Life → Type 0) (is_ordered : List Step → Life → Type 0
 unfolding changed stores
 leaves is_idle is_ordered opened end = record { more = []; outlasts = no_record; ranges = all_of IsInRange first_list ranges; alike = record { config = refl; entries = λ src. refl } }
 
-draws_none : (opened : Opened) (end : End) (k : ℕ) → draws (shown_by (life opened end) k) ≡ []
-draws_none opened end zero = refl
-draws_none opened end (suc k) = refl
+draws_none : (opened : Opened) (end : End) (k : ℕ) → (draws (shown_by (life opened end) k) ≡ []) × (words_told (shown_by (life opened end) k) ≡ [])
+draws_none opened end zero = (refl, refl)
+draws_none opened end (suc k) = (refl, refl)
 
 life_by : (is_idle : Life → Type 0) (is_ordered : List Step → Life → Type 0) (opened : Opened) (end : End)
     → Opens (config_of first_list) opened end

@@ -23,7 +23,7 @@ use Rattle.store_definitions.specs.Ranges.{IsInRange}
 use Rattle.event_definitions.specs.Readings.{sees_nothing}
 use Rattle.report_definitions.specs.Record.{Life, Run, Shown, list_at, shown, shown_by}
 use Rattle.event_definitions.specs.Role.{node_role}
-use Rattle.run_definitions.specs.RunOf.{IsNumbered, IsSpentRight, Script, draws, no_record, past_at_end}
+use Rattle.run_definitions.specs.RunOf.{IsNumbered, IsSpentRight, Script, draws, no_record, past_at_end, words_told}
 use Rattle.event_definitions.specs.Stores.{stores}
 use Rattle.run_definitions.specs.Uses.{seals_of, uses}
 use Rattle.needed_rules.specs.Needed.{Reuses, WorksOnAnything, WritesAnything}
@@ -74,9 +74,9 @@ numbered : (k : ℕ) → IsNumbered life k
 numbered zero = refl
 numbered (suc k) = rw (others_none k entries (refl, (refl, tt))) refl
 
-draws_none : (k : ℕ) → draws (shown_by life k) ≡ []
-draws_none zero = refl
-draws_none (suc k) = refl
+draws_none : (k : ℕ) → (draws (shown_by life k) ≡ []) × (words_told (shown_by life k) ≡ [])
+draws_none zero = (refl, refl)
+draws_none (suc k) = (refl, refl)
 
 abbrev rules : (List Step → Life → Type 0) → Rules
 rules is_ordered = record all_rules { is_ordered = is_ordered }

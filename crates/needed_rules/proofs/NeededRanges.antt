@@ -24,7 +24,7 @@ use Rattle.mesh_base.specs.Pairs.{word_of}
 use Rattle.event_definitions.specs.Readings.{sees_nothing}
 use Rattle.report_definitions.specs.Record.{Life, Run, Shown, list_at, shown, shown_by}
 use Rattle.event_definitions.specs.Role.{node_role}
-use Rattle.run_definitions.specs.RunOf.{IsDrawn, IsNumbered, IsSpentRight, Script, draws, no_record, past_at_end}
+use Rattle.run_definitions.specs.RunOf.{IsDrawn, IsNumbered, IsSpentRight, Script, draws, no_record, past_at_end, words_told}
 use Rattle.event_definitions.specs.Stores.{stores}
 use Rattle.store_definitions.specs.Numbers.{fill_of, filled}
 use Rattle.run_definitions.specs.Uses.{seals_of, uses}
@@ -128,6 +128,10 @@ rises : (n k : ℕ) → AllPairs (λ p q. word_of p < word_of q) (draws (shown_b
 rises n zero = pairs_from_apart (λ p q. word_of p < word_of q) (pair 0 ∷ far ∷ []) ((lit< tt, tt), (tt, tt))
 rises n (suc k) = pairs_from_apart (λ p q. word_of p < word_of q) [] tt
 
+onward : (n k : ℕ) → AllPairs (λ x y. x ≤ y) (words_told (shown_by (life n) k))
+onward n zero = pairs_from_apart (λ x y. x ≤ y) (word_of (pair 0) ∷ word_of far ∷ []) ((lit≤ tt, tt), (tt, tt))
+onward n (suc k) = pairs_from_apart (λ x y. x ≤ y) [] tt
+
 other_words : word_of (pair 0) ≢ word_of far
 other_words e = absurd (omega (arith, e))
 
@@ -142,6 +146,7 @@ drawn n h = record {
   below = all_of (λ (p : Pair). word_of p < (config_of (next n)).mark) (pair 0 ∷ far ∷ []) (below_next n _ (lit≤ tt) h, (below_next n _ (lit≤ tt) h, tt));
   once = pairs_from_apart (λ p q. word_of p ≢ word_of q) (pair 0 ∷ far ∷ []) ((other_words, tt), (tt, tt));
   rise = rises n;
+  onward = onward n;
 }
 
 life_by : (n : ℕ) → 2 ^ 49 < n → LifeBy any_fields (node_role quiet_layers) plan first_list (life n) (next n)

@@ -24,7 +24,7 @@ use Rattle.run_definitions.specs.Order.{Does, IsOrdered, Part, ends, handles, ph
 use Rattle.store_definitions.specs.Ranges.{IsInRange}
 use Rattle.report_definitions.specs.Record.{Life, Run, Shown, list_at, shown, shown_by}
 use Rattle.event_definitions.specs.Role.{node_role}
-use Rattle.run_definitions.specs.RunOf.{IsNumbered, IsSpentRight, Opens, Script, draws, no_record, opens, past_at_end}
+use Rattle.run_definitions.specs.RunOf.{IsNumbered, IsSpentRight, Opens, Script, draws, no_record, opens, past_at_end, words_told}
 use Rattle.event_definitions.specs.Stores.{stores}
 use Rattle.event_definitions.specs.Layers.{quiet_layers}
 use Rattle.needed_rules.specs.WrittenRun.{material, net_key, node, opened_state, pair}
@@ -177,8 +177,8 @@ first_leaves : LeavesBy any_step (node_role quiet_layers) (phase first_events �
 unfolding changed stores transmit_of
 first_leaves = record { more = []; outlasts = no_record; ranges = all_of IsInRange first_all first_ranges; alike = record { config = refl; entries = same_entries } }
 
-first_shows : (k : ℕ) → draws (shown_by first_life k) ≡ []
-first_shows k = rw (no_sends k) refl
+first_shows : (k : ℕ) → (draws (shown_by first_life k) ≡ []) × (words_told (shown_by first_life k) ≡ [])
+first_shows k = rw (no_sends k) (refl, refl)
 
 first_by : LifeBy any_step (node_role quiet_layers) (phase first_events ∷ []) first_list first_life first_left
 first_by = record {
@@ -292,8 +292,8 @@ second_leaves : LeavesBy any_step (node_role quiet_layers) (phase second_events 
 unfolding changed stores transmit_of
 second_leaves = record { more = []; outlasts = no_record; ranges = all_of IsInRange second_left second_ranges; alike = record { config = refl; entries = λ src. refl } }
 
-second_shows : (k : ℕ) → draws (shown_by second_life k) ≡ []
-second_shows k = rw (no_sends k) refl
+second_shows : (k : ℕ) → (draws (shown_by second_life k) ≡ []) × (words_told (shown_by second_life k) ≡ [])
+second_shows k = rw (no_sends k) (refl, refl)
 
 second_opening : Opens (config_of first_left) second_life.opened second_life.end
 unfolding changed transmit_of

@@ -38,7 +38,7 @@ use Rattle.store_definitions.specs.Ranges.{IsInRange, IsKey}
 use Rattle.event_definitions.specs.Readings.{IsOpened, IsReading, Sees, sees_pdu, sees_nothing}
 use Rattle.report_definitions.specs.Record.{Shown, list_at, shown, shown_by}
 use Rattle.event_definitions.specs.Role.{node_role}
-use Rattle.run_definitions.specs.RunOf.{IsDrawn, IsNumbered, IsSpentRight, Leaves, LifeOf, Opens, draws, no_record, opens, past_at_end}
+use Rattle.run_definitions.specs.RunOf.{IsDrawn, IsNumbered, IsSpentRight, Leaves, LifeOf, Opens, draws, no_record, opens, past_at_end, words_told}
 use Rattle.store_definitions.specs.Provisioning.{provisioned}
 use Rattle.event_definitions.specs.Safe.{AreSafe}
 use Rattle.run_definitions.specs.Seals.{own_upper}
@@ -321,11 +321,16 @@ drawn = record {
   below = all_of (λ (p : Pair). word_of p < 5 * 2 ^ 25 + 256) (pair 0 ∷ []) (lit< tt, tt);
   once = pairs_from_apart (λ p q. word_of p ≢ word_of q) (pair 0 ∷ []) (tt, tt);
   rise = rises;
+  onward = onward;
 }
   where
     rises : (k : ℕ) → AllPairs (λ p q. word_of p < word_of q) (draws (shown_by life k))
     rises zero = pairs_from_apart (λ p q. word_of p < word_of q) (pair 0 ∷ []) (tt, tt)
     rises (suc k) = pairs_from_apart (λ p q. word_of p < word_of q) [] tt
+
+    onward : (k : ℕ) → AllPairs (λ x y. x ≤ y) (words_told (shown_by life k))
+    onward zero = pairs_from_apart (λ x y. x ≤ y) (word_of (pair 0) ∷ []) (tt, tt)
+    onward (suc k) = pairs_from_apart (λ x y. x ≤ y) [] tt
 
 spent : All (λ s. IsSpentRight over left life s.outcome) (shown life)
 spent = all_of (λ (s : Shown). IsSpentRight over left life s.outcome) (shown life) (tt, (tt, (tt, tt)))

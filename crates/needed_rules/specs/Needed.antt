@@ -14,7 +14,7 @@ use Rattle.run_definitions.specs.Order.{Part, PartsOf, Step, is_cut, phases_of, 
 use Rattle.mesh_base.specs.Pairs.{word_of}
 use Rattle.report_definitions.specs.Record.{Life, Run, list_at, shown, shown_by}
 use Rattle.event_definitions.specs.Role.{Role, node_role}
-use Rattle.run_definitions.specs.RunOf.{RunOf, Script, draws}
+use Rattle.run_definitions.specs.RunOf.{RunOf, Script, draws, words_told}
 use Rattle.run_safety.specs.Rules.{Rules, RunBy, all_rules}
 use Rattle.event_definitions.specs.Safe.{AreSafe}
 use Rattle.store_definitions.specs.Numbers.{filled}
@@ -41,6 +41,7 @@ pub record DrawsWithoutBound (over next : List StoreRecord) (l : Life) : Type 0 
   pub below : All (λ p. word_of p < (config_of next).mark) (draws (shown l))
   pub once : AllPairs (λ p q. word_of p ≢ word_of q) (draws (shown l))
   pub rise : (k : ℕ) → AllPairs (λ p q. word_of p < word_of q) (draws (shown_by l k))
+  pub onward : (k : ℕ) → AllPairs (λ x y. x ≤ y) (words_told (shown_by l k))
 
 -- without the mark that a life opens with: it may draw what the life before drew
 pub record DrawsFromAnywhere (over next : List StoreRecord) (l : Life) : Type 0 where
@@ -48,6 +49,7 @@ pub record DrawsFromAnywhere (over next : List StoreRecord) (l : Life) : Type 0 
   pub below : All (λ p. word_of p < (config_of next).mark) (draws (shown l))
   pub once : AllPairs (λ p q. word_of p ≢ word_of q) (draws (shown l))
   pub rise : (k : ℕ) → AllPairs (λ p q. word_of p < word_of q) (draws (shown_by l k))
+  pub onward : (k : ℕ) → AllPairs (λ x y. x ≤ y) (words_told (shown_by l k))
 
 -- without the mark that it leaves: it may draw what the next life draws
 pub record DrawsUnreserved (over next : List StoreRecord) (l : Life) : Type 0 where
@@ -55,6 +57,7 @@ pub record DrawsUnreserved (over next : List StoreRecord) (l : Life) : Type 0 wh
   pub from : All (λ p. (config_of over).mark ≤ word_of p) (draws (shown l))
   pub once : AllPairs (λ p q. word_of p ≢ word_of q) (draws (shown l))
   pub rise : (k : ℕ) → AllPairs (λ p q. word_of p < word_of q) (draws (shown_by l k))
+  pub onward : (k : ℕ) → AllPairs (λ x y. x ≤ y) (words_told (shown_by l k))
 
 -- without a rule for two bearers: both may draw one pair
 pub record DrawsTwice (over next : List StoreRecord) (l : Life) : Type 0 where
@@ -62,6 +65,7 @@ pub record DrawsTwice (over next : List StoreRecord) (l : Life) : Type 0 where
   pub from : All (λ p. (config_of over).mark ≤ word_of p) (draws (shown l))
   pub below : All (λ p. word_of p < (config_of next).mark) (draws (shown l))
   pub rise : (k : ℕ) → AllPairs (λ p q. word_of p < word_of q) (draws (shown_by l k))
+  pub onward : (k : ℕ) → AllPairs (λ x y. x ≤ y) (words_told (shown_by l k))
 
 -- Without the order of a bearer's work: the first segment of a message may go without the line that sealed the message.
 pub record IsInAnyOrder (plan : List Step) (l : Life) : Type 0 where

@@ -1,9 +1,11 @@
 -- When a record is one of a run: the relation of a life to its plan, and of a run to its script.
 use Rattle.std.specs.Prelude.{◌≡◌, ◌≢◌, ◌⊎◌, ℕ, ◌+◌, ◌-◌, ◌*◌, ◌^◌, ◌<◌, ◌≤◌, ◌==◌, Bool, true, false, IsTrue, List, [], ◌∷◌, ◌++◌, length, map, filter, take, All, AllPairs, Option, Some, ⊤}
 use Rattle.std.specs.List.{Contains, filter_map, flat_map, range_with_len, slice_get}
+use Rattle.std.specs.Option.{option_map}
 use Rattle.mesh_base.specs.declared.pair.Pair.{Pair}
 use Rattle.mesh_types.specs.declared.events.Event.{Event}
 use Rattle.mesh_types.specs.declared.history.Entry.{Entry}
+use Rattle.mesh_types.specs.declared.jobs.Job.{Job}
 use Rattle.mesh_types.specs.declared.lines.Outcome.{Outcome}
 use Rattle.mesh_types.specs.declared.lines.Outcome.TheVariants as O
 use Rattle.record_types.specs.declared.records.StoreRecord.{StoreRecord}
@@ -86,14 +88,24 @@ pub record Leaves (role : Role) (plan : List Step) (l : Life) (past : Past) (nex
 abbrev pub draws : List Shown → List Pair
 draws lines = filter_map (λ s. drawn_of s.job s.outcome) lines
 
+-- the word of the pair that a line draws; or, where it says that no number was left, the word at the end of that IV Index
+abbrev pub word_told : Job → Outcome → Option ℕ
+word_told job (O.Spent iv) = Some (iv * 2 ^ 25 + 2 ^ 24)
+word_told job outcome = option_map word_of (drawn_of job outcome)
+
+abbrev pub words_told : List Shown → List ℕ
+words_told lines = filter_map (λ s. word_told s.job s.outcome) lines
+
 -- Each pair drawn has a SEQ below 2^24 and lies from the mark that the life opened with up to, and not at, the mark that it leaves; no
--- two lines draw one pair; and the pairs of a bearer rise.
+-- two lines draw one pair; the pairs of a bearer rise; and of its lines, those that say that no number was left among them, none tells a word
+-- below that of an earlier one.
 pub record IsDrawn (over next : List StoreRecord) (l : Life) : Type 0 where
   pub seq : All (λ p. p.seq < 2 ^ 24) (draws (shown l))
   pub from : All (λ p. (config_of over).mark ≤ word_of p) (draws (shown l))
   pub below : All (λ p. word_of p < (config_of next).mark) (draws (shown l))
   pub once : AllPairs (λ p q. word_of p ≢ word_of q) (draws (shown l))
   pub rise : (k : ℕ) → AllPairs (λ p q. word_of p < word_of q) (draws (shown_by l k))
+  pub onward : (k : ℕ) → AllPairs (λ x y. x ≤ y) (words_told (shown_by l k))
 
 -- A line says that no number is left under an IV Index only where the mark that the life leaves has reached the end of that, and the life
 -- drew the last number under it, for one of its lines, or opened with the mark behind that number.

@@ -13,7 +13,7 @@ use Rattle.seq_word.specs.declared.looks.Look.{Look}
 use Rattle.seq_word.specs.declared.looks.Look.TheVariants as saw
 use Rattle.seq_word.specs.declared.rule.View.{View}
 use Rattle.seq_word.specs.Word.{IsWord, seq_of}
-use Rattle.seq_word.specs.Rule.{times, once_below, passed_over, gone, drawn_here, IsReached, HasReached, IsEndOf, IsWithin, Fits, Stands, Ruled, nobody, first_keeper, without_parts, first_drawer, part_of, keeping, split_off, both, seeing, drawing, publishing, advancing, IsLastSeen, SeesMark, SeesNext, Draws, Publishes, Advances, DrawnOnce}
+use Rattle.seq_word.specs.Rule.{times, once_below, passed_over, gone, drawn_here, IsReached, HasReached, IsEndOf, IsOver, IsPast, IsWithin, Fits, Stands, Ruled, nobody, first_keeper, without_parts, first_drawer, part_of, keeping, split_off, both, seeing, drawing, publishing, advancing, IsLastSeen, SeesMark, SeesNext, Draws, Publishes, Advances, DrawnOnce}
 use Rattle.seq_word.proofs.Sums.{sum_by_at, share_of_one, share_of_two, share_alone, part_of-one, part_of-none, once_below-le, once_below_more, once_below-max, same-one, times_contains}
 
 -- the last two of a list
@@ -33,6 +33,7 @@ fits_later o n m k n' m' k' by v h up up' keeper = record {
   raised = λ i d l. omega (arith, h.raised i d l);
   noted = λ i d l. omega (arith, h.noted i d l);
   looks = All-weaker (IsWithin n m) (IsWithin n' m') (within_later n m n' m' up up') v.looks h.looks;
+  known = All-weaker (IsWithin n m) (IsWithin n' m') (within_later n m n' m' up up') v.known h.known;
   advances = λ i d l. omega (arith, h.advances i d l);
   keeps = λ is. let was = h.keeps is in let now = keeper was.0 in (now.0, was.1 ∙ now.1);
   plain = h.plain;
@@ -117,10 +118,24 @@ fits_seeing o n m k by v look within fits = record {
   raised = fits.raised;
   noted = fits.noted;
   looks = All-push (IsWithin n m) v.looks look fits.looks within;
+  known = fits.known;
   advances = fits.advances;
   keeps = fits.keeps;
   plain = fits.plain;
   idle = fits.idle;
+}
+
+-- what the counter is is past what looks found there
+past : (n m : ℕ) (look : Look) → IsWithin n m look → IsPast n look
+past n m (saw.Mark x) h = tt
+past n m (saw.Counter x) h = h
+
+over : (o n m k by : ℕ) (v : View) → Fits o n m k by v → IsOver n v
+over o n m k by v fits = record {
+  drawn = fits.drawn;
+  noted = fits.noted;
+  looks = All-weaker (IsWithin n m) (IsPast n) (past n m) v.looks fits.looks;
+  known = All-weaker (IsWithin n m) (IsPast n) (past n m) v.known fits.known;
 }
 
 -- a look at either word
@@ -142,7 +157,7 @@ sees_mark {S} o slots id me =
 pub sees_next : {S : Type 0} (o slots id : ℕ) (me : Me S View) → Allows (Ruled o) slots id me 0 (λ n. n) (SeesNext (step slots 0 0 0 none) me)
 sees_next {S} o slots id me =
     goes_counter o slots id me (λ n. n) (SeesNext (step slots 0 0 0 none) me)
-    (λ n m k views h at. let same : n ≤ n = omega arith in (seeing me.0 (saw.Counter n), looks o n m k views id me.0 (saw.Counter n) h at same h.reached, (h.counter_word, refl)))
+    (λ n m k views h at. let same : n ≤ n = omega arith in (seeing me.0 (saw.Counter n), looks o n m k views id me.0 (saw.Counter n) h at same h.reached, (h.counter_word, refl, over o n m k id me.0 (h.each id me.0 at))))
 
 -- the number n is drawn, and the counter raised to n + 1
 drawn_now : (o n m k : ℕ) (views : List View) (id : ℕ) (v : View) → Stands o n m k views → get_elem? views id ≡ some v → v.draws ≡ true → n < m → n % 2 ^ 25 < 2 ^ 24 → Stands o (n + 1) m k (set views id (drawing v n (n + 1)))
@@ -166,6 +181,7 @@ drawn_now o n m k views id v h at is below unspent =
       raised = All-push (λ x. x ≤ n + 1) v.raised (n + 1) later.raised (omega arith);
       noted = later.noted;
       looks = later.looks;
+      known = later.known;
       advances = later.advances;
       keeps = later.keeps;
       plain = later.plain;
@@ -216,6 +232,7 @@ publishes {S} o slots id me mark is up word =
             raised = fits.raised;
             noted = fits.noted;
             looks = All-weaker (IsWithin n m) (IsWithin n mark) (within_later n m n mark (omega arith) rises) v.looks fits.looks;
+            known = All-weaker (IsWithin n m) (IsWithin n mark) (within_later n m n mark (omega arith) rises) v.known fits.known;
             advances = fits.advances;
             keeps = λ _. (keeper.0, refl);
             plain = fits.plain;
@@ -256,6 +273,7 @@ advances {S} o slots id me to is within word first =
             raised = later.raised;
             noted = later.noted;
             looks = later.looks;
+            known = later.known;
             advances = All-push (λ a. a.1 ≤ n') v.advances (n, to) later.advances (omega arith);
             keeps = later.keeps;
             plain = λ not. absurd (true≢false (sym is ∙ not));
@@ -284,6 +302,7 @@ fits_nobody o n m k by = record {
   raised = All-nil (λ x. x ≤ n);
   noted = All-nil (λ x. x < n);
   looks = All-nil (IsWithin n m);
+  known = All-nil (IsWithin n m);
   advances = All-nil (λ a. a.1 ≤ n);
   keeps = λ e. absurd (off e);
   plain = λ _. refl;
@@ -307,6 +326,7 @@ begins {S} next mark nw mw order = record {
       raised = none.raised;
       noted = none.noted;
       looks = none.looks;
+      known = none.known;
       advances = none.advances;
       keeps = λ _. (refl, refl);
       plain = λ _. refl;
@@ -376,8 +396,9 @@ cuts o n m k views id v u w h at goes left_fits right_fits same_drawn same_looks
     total = omega (arith, sum_by_at parts_of views id v u at, sum_by_push parts_of (set views id u) w)
 
 -- a seat of a drawer, fresh but for what it notes
-fits_drawer : (o n m k by : ℕ) (parts : ℕ) (noted : List ℕ) → All (λ x. x < n) noted → Fits o n m k by (record nobody { draws = true; parts = parts; noted = noted })
-fits_drawer o n m k by parts noted below =
+fits_drawer : (o n m k by : ℕ) (parts : ℕ) (noted : List ℕ) (known : List Look) → All (λ x. x < n) noted → All (IsWithin n m) known
+    → Fits o n m k by (record nobody { draws = true; parts = parts; noted = noted; known = known })
+fits_drawer o n m k by parts noted known below within =
     let none = fits_nobody o n m k by in
     record {
       since = none.since;
@@ -385,6 +406,7 @@ fits_drawer o n m k by parts noted below =
       raised = none.raised;
       noted = below;
       looks = none.looks;
+      known = within;
       advances = none.advances;
       keeps = none.keeps;
       plain = λ _. refl;
@@ -399,6 +421,7 @@ fits_parts o n m k by parts v fits = record {
   raised = fits.raised;
   noted = fits.noted;
   looks = fits.looks;
+  known = fits.known;
   advances = fits.advances;
   keeps = fits.keeps;
   plain = fits.plain;
@@ -431,7 +454,8 @@ splits {S} o id v is s h at =
       stands = cuts o h.next h.mark h.keeper s.views id v (keeping v) (split_off v) st at
           (λ x. omega arith)
           (fits_parts o h.next h.mark h.keeper id (v.parts - 1) v fits)
-          (λ by. fits_drawer o h.next h.mark h.keeper by (part_of v.parts) (v.noted ++ v.drawn) (All-append (λ x. x < h.next) v.noted v.drawn fits.noted fits.drawn))
+          (λ by. fits_drawer o h.next h.mark h.keeper by (part_of v.parts) (v.noted ++ v.drawn) (v.known ++ v.looks) (All-append (λ x. x < h.next) v.noted v.drawn fits.noted fits.drawn)
+          (All-append (IsWithin h.next h.mark) v.known v.looks fits.known fits.looks))
           refl
           refl
           refl
@@ -453,7 +477,7 @@ opens {S} o id v not some_part s h at =
       stands = cuts o h.next h.mark h.keeper s.views id v (without_parts v) (first_drawer v) st at
           (λ x. omega arith)
           (fits_parts o h.next h.mark h.keeper id 0 v fits)
-          (λ by. fits_drawer o h.next h.mark h.keeper by v.parts [] (All-nil (λ x. x < h.next)))
+          (λ by. fits_drawer o h.next h.mark h.keeper by v.parts [] [] (All-nil (λ x. x < h.next)) (All-nil (IsWithin h.next h.mark)))
           refl
           refl
           refl
@@ -475,6 +499,7 @@ glues o n m k k' views id other v w h at apart there mine others =
       raised = All-append (λ x. x ≤ n) v.raised w.raised fits.raised theirs.raised;
       noted = All-append (λ x. x < n) v.noted w.noted fits.noted theirs.noted;
       looks = All-append (IsWithin n m) v.looks w.looks fits.looks theirs.looks;
+      known = All-append (IsWithin n m) v.known w.known fits.known theirs.known;
       advances = All-append (λ a. a.1 ≤ n) v.advances w.advances fits.advances theirs.advances;
       keeps = mine;
       plain = λ not. let each = neither v.keeps w.keeps not in no_more v.advances w.advances (fits.plain each.0) (theirs.plain each.1);

@@ -31,6 +31,11 @@ abbrev pub IsWithin : ℕ → ℕ → Look → Type 0
 IsWithin next mark (saw.Mark found) = found ≤ mark
 IsWithin next mark (saw.Counter found) = found ≤ next
 
+-- the word is not below what a look found in the counter
+abbrev pub IsPast : ℕ → Look → Type 0
+IsPast word (saw.Mark found) = ⊤
+IsPast word (saw.Counter found) = found ≤ word
+
 -- how often x was drawn at this seat
 abbrev pub drawn_here : ℕ → View → ℕ
 drawn_here x v = times x v.drawn
@@ -62,6 +67,8 @@ pub record Fits (opened next mark keeper by : ℕ) (v : View) : Type 0 where
   pub noted : All (λ x. x < next) v.noted
   -- each mark seen is at most the mark, and each word seen in the counter at most the counter
   pub looks : All (IsWithin next mark) v.looks
+  -- so is what looks found at the seat from which this one was split off
+  pub known : All (IsWithin next mark) v.known
   -- the counter has not gone below where the keeper moved it to
   pub advances : All (λ a. a.1 ≤ next) v.advances
   -- only the keeper's seat keeps a mark, and that is the mark
@@ -108,6 +115,7 @@ nobody =
       raised = [];
       noted = [];
       looks = [];
+      known = [];
     }
 
 -- the keeper's seat at the start, with all parts
@@ -129,9 +137,16 @@ part_of parts = if nat_lt 1 parts then 1 else 0
 abbrev pub keeping : View → View
 keeping v = record v { parts = v.parts - 1 }
 
--- what a seat knows that is split off: all that was drawn at the other seat, or noted there, is noted
+-- what a seat knows that is split off: all that was drawn at the other seat, or noted there, is noted, and the looks there, or known there, are
+-- known
 abbrev pub split_off : View → View
-split_off v = record nobody { draws = true; parts = part_of v.parts; noted = v.noted ++ v.drawn }
+split_off v =
+    record nobody {
+      draws = true;
+      parts = part_of v.parts;
+      noted = v.noted ++ v.drawn;
+      known = v.known ++ v.looks;
+    }
 
 -- two seats as one, which keeps the mark where one of them did
 abbrev pub both : View → View → View
@@ -145,6 +160,7 @@ both v w = record {
   raised = v.raised ++ w.raised;
   noted = v.noted ++ w.noted;
   looks = v.looks ++ w.looks;
+  known = v.known ++ w.known;
 }
 
 abbrev pub seeing : View → Look → View
@@ -167,14 +183,21 @@ pub record IsLastSeen (word : ℕ) (v : View) : Type 0 where
   pub looks : v.looks ≡ earlier ++ saw.Mark mark ∷ saw.Counter word ∷ []
   pub below : word < mark
 
+-- The word is above all that was drawn or noted at the seat, and not below what looks found in the counter there, or are known to have found.
+pub record IsOver (word : ℕ) (v : View) : Type 0 where
+  pub drawn : All (λ x. x < word) v.drawn
+  pub noted : All (λ x. x < word) v.noted
+  pub looks : All (IsPast word) v.looks
+  pub known : All (IsPast word) v.known
+
 module _ {S : Type 0} where
   -- a load of the mark: it is noted as seen
   abbrev pub SeesMark : Step S → Me S View → ℕ → Me S View → Type 0
   SeesMark st v found w = w ≡ (seeing v.0 (saw.Mark found), v.1)
 
-  -- a load of the counter: the word is noted as seen
+  -- a load of the counter: the word is noted as seen, which is over all that is known of the counter
   abbrev pub SeesNext : Step S → Me S View → ℕ → Me S View → Type 0
-  SeesNext st v found w = IsWord found × (w ≡ (seeing v.0 (saw.Counter found), v.1))
+  SeesNext st v found w = IsWord found × (w ≡ (seeing v.0 (saw.Counter found), v.1)) × IsOver found v.0
 
   -- A compare-exchange on the counter, only from the word last seen there to the next. Where it is won, the word found is
   -- drawn, above all that was drawn or noted at the seat. Else the word found, which is higher, is noted as seen

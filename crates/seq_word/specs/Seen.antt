@@ -1,5 +1,5 @@
 -- What contracts see of the two words and of the seats at them, and what one try to draw tells.
-use Rattle.std.specs.Prelude.{◌≡◌, ℕ, ◌+◌, ◌*◌, ◌^◌, ◌<◌, ◌≤◌, List, [], ◌∷◌, ◌++◌, All}
+use Rattle.std.specs.Prelude.{◌≡◌, ℕ, ◌+◌, ◌*◌, ◌^◌, ◌<◌, ◌≤◌, List, [], ◌∷◌, ◌++◌, All, ⊤}
 use Rattle.atomic_table.specs.Seated.{TableId}
 use Rattle.mesh_base.specs.declared.pair.Pair.{Pair}
 use Rattle.seq_word.specs.declared.looks.Look.{Look}
@@ -9,6 +9,7 @@ use Rattle.seq_word.specs.declared.miss.Miss.TheVariants as missed
 use Rattle.seq_word.specs.declared.miss.DrawStop.{DrawStop}
 use Rattle.seq_word.specs.declared.miss.DrawStop.TheVariants as stopped
 use Rattle.mesh_base.specs.Pairs.{word_of}
+use Rattle.seq_word.specs.Rule.{IsPast, part_of}
 use Rattle.seq_word.specs.Word.{seq_of}
 
 -- The two words: which they are, and where the counter was opened
@@ -17,19 +18,25 @@ pub record NumbersView : Type 0 where
   pub opened : ℕ
 
 -- A seat that draws: at which words, the words that it drew, what each draw left in the counter, the words that were drawn
--- before it was split off, its looks at the two words in their order, and its parts of the 1,024 that the drawers of these
--- words have between them
+-- before it was split off, its looks at the two words in their order, those that had been made before it was split off, and its parts of the
+-- 1,024 that the drawers of these words have between them
 pub record DrawerView : Type 0 where
   pub which : TableId
   pub drawn : List ℕ
   pub raised : List ℕ
   pub noted : List ℕ
   pub looks : List Look
+  pub known : List Look
   pub parts : ℕ
 
 -- a seat that has drawn and seen nothing, where these words had been drawn before it was split off
 abbrev pub fresh : TableId → List ℕ → ℕ → DrawerView
-fresh which noted parts = record { which = which; drawn = []; raised = []; noted = noted; looks = []; parts = parts }
+fresh which noted parts =
+    record { which = which; drawn = []; raised = []; noted = noted; looks = []; known = []; parts = parts }
+
+-- one that was split off another, so that it knows what that one saw
+abbrev pub split_from : DrawerView → DrawerView
+split_from v = record (fresh v.which (v.noted ++ v.drawn) (part_of v.parts)) { known = v.known ++ v.looks }
 
 -- The keeper's seat: at which words, the mark, and of each advance the word that it found in the counter and the one that it
 -- moved the counter to
@@ -46,9 +53,13 @@ pub record ClosedView : Type 0 where
   pub looks : List Look
   pub advances : List (ℕ × ℕ)
 
--- the word is above all that was drawn at the seat, and all that had been drawn before it was split off
-abbrev pub IsAbove : DrawerView → ℕ → Type 0
-IsAbove v word = All (λ x. x < word) v.drawn × All (λ x. x < word) v.noted
+-- The word is above all that was drawn at the seat, and all that had been drawn before it was split off; and not below what a look found in
+-- the counter, at the seat or before it was split off.
+pub record IsAbove (v : DrawerView) (word : ℕ) : Type 0 where
+  pub drawn : All (λ x. x < word) v.drawn
+  pub noted : All (λ x. x < word) v.noted
+  pub looks : All (IsPast word) v.looks
+  pub known : All (IsPast word) v.known
 
 -- the list begins with these looks
 pub record IsPrefix (front list : List Look) : Type 0 where
@@ -72,12 +83,18 @@ HasCause (missed.Lost expected found) v w =
     (mark : ℕ) × (w.looks ≡ v.looks ++ saw.Mark mark ∷ saw.Counter expected ∷ saw.Counter found ∷ [])
     × (expected < found) × (expected < mark) × (seq_of expected < 2 ^ 24)
 
+-- where no number was left, the counter stood at a word that is so
+abbrev pub IsEndAbove : DrawerView → Miss → Type 0
+IsEndAbove v (missed.Spent iv) = IsAbove v (iv * 2 ^ 25 + 2 ^ 24)
+IsEndAbove v _ = ⊤
+
 -- the seat has drawn nothing more, and still draws at the same words
 pub record SameDrawn (v w : DrawerView) : Type 0 where
   pub which : w.which ≡ v.which
   pub drawn : w.drawn ≡ v.drawn
   pub raised : w.raised ≡ v.raised
   pub noted : w.noted ≡ v.noted
+  pub known : w.known ≡ v.known
   pub parts : w.parts ≡ v.parts
 
 -- between v and w these tries were lost, the latest first, and nothing else was done

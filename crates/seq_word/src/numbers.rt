@@ -5,8 +5,8 @@ ghost use Rattle.std.specs.Prelude.{◌≡◌, ◌≢◌, ℕ, ◌+◌, ◌-◌,
 ghost use Rattle.mesh_base.specs.Pairs.{word_of};
 ghost use Rattle.seq_word.specs.Word.{seq_of, IsWord};
 ghost use Rattle.seq_word.specs.declared.looks.Look.TheVariants as saw;
-ghost use Rattle.seq_word.specs.Rule.{IsEndOf, IsWithin, part_of, times, once_below, passed_over};
-ghost use Rattle.seq_word.specs.Seen.{fresh, IsAbove, IsPrefix, Finds, HasCause, SameDrawn, AfterLost, miss_of};
+ghost use Rattle.seq_word.specs.Rule.{IsEndOf, IsWithin, times, once_below, passed_over};
+ghost use Rattle.seq_word.specs.Seen.{fresh, IsAbove, IsEndAbove, IsPrefix, Finds, HasCause, SameDrawn, AfterLost, miss_of, split_from};
 
 use crate::closed::Closed;
 use crate::drawer::Drawer;
@@ -80,6 +80,7 @@ impl Numbers {
 
         ensures word { IsWord result.next }
         ensures looks { d.new.looks ≡ d.old.looks ++ saw.Mark result.mark ∷ saw.Counter result.next ∷ [] }
+        ensures above { IsAbove d.old result.next }
         ensures unchanged { SameDrawn d.old d.new }
     {
         let mark = self.table.shared.load::<SeesMark>(&mut d.seat, MARK);
@@ -94,7 +95,8 @@ impl Numbers {
         requires made { d.old.which ≡ self.now.which }
 
         ensures looks { IsPrefix d.old.looks d.new.looks }
-        ensures frame { (d.new.which ≡ d.old.which) × (d.new.noted ≡ d.old.noted) × (d.new.parts ≡ d.old.parts) }
+        ensures frame { (d.new.which ≡ d.old.which) × (d.new.noted ≡ d.old.noted) × (d.new.known ≡ d.old.known)
+            × (d.new.parts ≡ d.old.parts) }
 
         ensures drawn { IfOk result (λ p. d.new.drawn ≡ d.old.drawn ++ word_of p ∷ []) }
         ensures raised { IfOk result (λ p. d.new.raised ≡ d.old.raised ++ (word_of p + 1) ∷ []) }
@@ -104,6 +106,7 @@ impl Numbers {
 
         ensures err { OnErr result (SameDrawn d.old d.new) }
         ensures cause { IfErr result (λ e. HasCause e d.old d.new) }
+        ensures end { IfErr result (IsEndAbove d.old) }
     {
         let Found { mark, next } = self.look(d);
         let pair = pair_of(next);
@@ -130,7 +133,8 @@ impl Numbers {
         requires made { d.old.which ≡ self.now.which }
 
         ensures looks { IsPrefix d.old.looks d.new.looks }
-        ensures frame { (d.new.which ≡ d.old.which) × (d.new.noted ≡ d.old.noted) × (d.new.parts ≡ d.old.parts) }
+        ensures frame { (d.new.which ≡ d.old.which) × (d.new.noted ≡ d.old.noted) × (d.new.known ≡ d.old.known)
+            × (d.new.parts ≡ d.old.parts) }
 
         ensures drawn { IfOk result (λ p. d.new.drawn ≡ d.old.drawn ++ word_of p ∷ []) }
         ensures raised { IfOk result (λ p. d.new.raised ≡ d.old.raised ++ (word_of p + 1) ∷ []) }
@@ -140,6 +144,7 @@ impl Numbers {
 
         ensures err { OnErr result (SameDrawn d.old d.new) }
         ensures cause { IfErr result (λ e. AfterLost (HasCause (miss_of e)) d.old d.new) }
+        ensures end { IfErr result (λ e. IsEndAbove d.old (miss_of e)) }
     {
         for _ in rt.forever() {
             match self.try_draw(d) {
@@ -177,12 +182,12 @@ impl Numbers {
         words.fetch_max::<Advances>(&mut k.seat, COUNTER, to);
     }
 
-    /// A new seat. What it draws is above all that this one has drawn so far. It takes one of this one's parts. Where this
-    /// one has one part alone, that part is lost, and `close` can't tell any more that all seats were joined.
+    /// A new seat. What it draws is above all that this one has drawn so far, and not below what this one has seen. It takes one of this one's
+    /// parts. Where this one has one part alone, that part is lost, and `close` can't tell any more that all seats were joined.
     pub fn split(&self, d: &mut Drawer) -> Drawer
         requires made { d.old.which ≡ self.now.which }
 
-        ensures value { result ≡ fresh d.old.which (d.old.noted ++ d.old.drawn) (part_of d.old.parts) }
+        ensures value { result ≡ split_from d.old }
         ensures frame { d.new ≡ record d.old { parts = d.old.parts - 1 } }
     {
         Drawer {
@@ -200,6 +205,7 @@ impl Numbers {
         ensures raised { d.new.raised ≡ d.old.raised ++ other.raised }
         ensures noted { d.new.noted ≡ d.old.noted ++ other.noted }
         ensures looks { d.new.looks ≡ d.old.looks ++ other.looks }
+        ensures known { d.new.known ≡ d.old.known ++ other.known }
         ensures parts { d.new.parts ≡ d.old.parts + other.parts }
     {
         let Drawer { seat } = other;

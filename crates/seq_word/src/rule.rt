@@ -9,7 +9,7 @@
 //! | a compare-exchange on the counter, only from the word last seen there to the next | a drawer | won: the word as drawn, and what it left in the counter; lost: the word found, among its looks |
 //! | a store on the mark | the keeper | the mark as its own |
 //! | a fetch_max on the counter | the keeper | the word found, and the one moved to |
-//! | a split | a drawer | it has one part less; the new seat has that, and notes all that was drawn here, or noted. At the start the keeper's seat hands all its parts to the first drawer |
+//! | a split | a drawer | it has one part less; the new seat has that, notes all that was drawn here, or noted, and knows the looks here, or known. At the start the keeper's seat hands all its parts to the first drawer |
 //! | a join | a drawer | all that the other seat knows, and its parts; at the end also the keeper's mark. The other seat is left knowing nothing |
 #![tactic(auto)]
 
@@ -44,6 +44,8 @@ pub struct View {
     pub noted: LinkedList<u64>,
     /// The looks at the two words, in their order.
     pub looks: LinkedList<Look>,
+    /// The looks at the seat from which this one was split off, or that were known there.
+    pub known: LinkedList<Look>,
 }
 
 /// What the words are when the table is made.
