@@ -1,10 +1,10 @@
 -- What a bearer did, with one step more.
 use Rattle.std.proofs.Common.{◌≡◌, ◌∙◌, ℕ, suc, ◌+◌, ◌^◌, ◌<◌, false, true≢false, true, List, [], ◌∷◌, ◌++◌, length, map, Option, Some, None, refl, sym, ap, arith, subst, length-append, append-nil, append_assoc}
-use Rattle.std.specs.Prelude.{◌*◌, ◌≤◌, All, AllPairs, slice_get}
+use Rattle.std.specs.Prelude.{◌*◌, ◌≤◌, All, AllPairs, IfSome, slice_get, slice_index_or}
 use Rattle.std.specs.List.{Contains, range_with_len}
-use Rattle.std.specs.Option.{option_to_list}
+use Rattle.std.specs.Option.{option_map, option_to_list}
 use Rattle.std.proofs.lemmas.List.{map-append}
-use Rattle.std.proofs.lemmas.List.Elements.{All-append, All-cons, All-nil, All-push, Contains-append_left, Contains-append_right, filter_map-append}
+use Rattle.std.proofs.lemmas.List.Elements.{All-append, All-cons, All-contains, All-head, All-nil, All-push, All-tail, All-weaker, Contains-append_left, Contains-append_right, filter_map-append}
 use Rattle.mesh_base.specs.Pairs.{word_of}
 use Rattle.mesh_base.specs.declared.pair.Pair.{Pair}
 use Rattle.mesh_types.specs.declared.events.Event.{Event}
@@ -17,8 +17,8 @@ use Rattle.mesh_types.specs.declared.lines.Outcome.TheVariants as O
 use Rattle.report_definitions.specs.Record.{Shown}
 use Rattle.run_definitions.specs.Lines.{Shows, after_line, drawn_of, is_drawing, shows_spent}
 use Rattle.run_definitions.specs.Order.{Placed, Task, follow, Walks, job_tasks, stops, write, write_tasks, writes}
-use Rattle.run_definitions.specs.RunOf.{draws}
-use Rattle.seq_word.specs.Rule.{times}
+use Rattle.run_definitions.specs.RunOf.{draws, word_told, words_told}
+use Rattle.seq_word.specs.Rule.{IsPast, times}
 use Rattle.seq_word.specs.Seen.{AfterLost, DrawerView, HasCause, LostTries, SameDrawn}
 use Rattle.seq_word.specs.Seen as seen
 use Rattle.seq_word.specs.declared.looks.Look.{Look}
@@ -28,13 +28,13 @@ use Rattle.turn_lock.specs.Entries.{IsPrefix, added}
 use Rattle.locked_node.specs.declared.marks.Mark.{Mark}
 use Rattle.locked_node.specs.declared.marks.Mark.TheVariants as M
 use Rattle.node_bearer.specs.Did.{Did, DrewPair, IsFor, SawEnd}
-use Rattle.node_bearer.specs.Marked.{AreShown, HasJob, IsSpentSeen, end_told, ends_told, shown_in, word_seen, words_seen}
-use Rattle.node_bearer.proofs.Lists.{added_one, found_longer, pairs_more, range_more, times_append}
+use Rattle.node_bearer.specs.Marked.{AreShown, HasJob, IsBehind, IsSpentSeen, end_told, ends_told, shown_in, word_seen, words_seen}
+use Rattle.node_bearer.proofs.Lists.{added_one, found_longer, no_lower, pairs_more, range_more, times_append}
 use Rattle.node_bearer.proofs.Walking.{acts, walk_more}
 
 -- more is seen of the marks
-pub shown_more : (marks rest : List Mark) (lines : List Sent) (drawn : List ℕ) (looks : List Look) → AreShown marks lines drawn looks → AreShown (marks ++ rest) lines drawn looks
-shown_more marks rest lines drawn looks h = record {
+pub shown_more : (marks rest : List Mark) (lines : List Sent) (d : DrawerView) → AreShown marks lines d → AreShown (marks ++ rest) lines d
+shown_more marks rest lines d h = record {
   shows = h.shows;
   found = found_longer marks rest lines h.shows h.found;
   short = h.short;
@@ -42,10 +42,12 @@ shown_more marks rest lines drawn looks h = record {
   seq = h.seq;
   spent = h.spent;
   own = h.own;
+  onward = h.onward;
+  behind = h.behind;
 }
 
-pub shown_prefix : (marks more : List Mark) (lines : List Sent) (drawn : List ℕ) (looks : List Look) → IsPrefix marks more → AreShown marks lines drawn looks → AreShown more lines drawn looks
-shown_prefix marks more lines drawn looks p h = subst (λ ms. AreShown ms lines drawn looks) (sym p.is) (shown_more marks p.rest lines drawn looks h)
+pub shown_prefix : (marks more : List Mark) (lines : List Sent) (d : DrawerView) → IsPrefix marks more → AreShown marks lines d → AreShown more lines d
+shown_prefix marks more lines d p h = subst (λ ms. AreShown ms lines d) (sym p.is) (shown_more marks p.rest lines d h)
 
 -- more looks
 spent_more : (looks rest : List Look) (o : Outcome) → IsSpentSeen looks o → IsSpentSeen (looks ++ rest) o
@@ -58,19 +60,27 @@ words_more x looks rest = ap (times x) (filter_map-append word_seen looks rest) 
 spent_front : (looks more : List Look) (o : Outcome) → seen.IsPrefix looks more → IsSpentSeen looks o → IsSpentSeen more o
 spent_front looks more o front h = subst (λ ls. IsSpentSeen ls o) (sym front.is) (spent_more looks front.rest o h)
 
-looks_longer : (marks : List Mark) (lines : List Sent) (drawn : List ℕ) (looks rest : List Look) → AreShown marks lines drawn looks → AreShown marks lines drawn (looks ++ rest)
-looks_longer marks lines drawn looks rest h = record {
+-- a word stays behind what was known at first
+behind_still : (d e : DrawerView) → e.noted ≡ d.noted → e.known ≡ d.known → (x : ℕ) → IsBehind d x → IsBehind e x
+behind_still d e noted known x h = record {
+  noted = subst (All (λ y. y < x)) (sym noted) h.noted;
+  known = subst (All (IsPast x)) (sym known) h.known;
+}
+
+-- a seat that has looked more
+shown_still : (marks : List Mark) (lines : List Sent) (d e : DrawerView) → e.drawn ≡ d.drawn → e.noted ≡ d.noted → e.known ≡ d.known → seen.IsPrefix d.looks e.looks
+    → AreShown marks lines d → AreShown marks lines e
+shown_still marks lines d e drawn noted known front h = record {
   shows = h.shows;
   found = h.found;
   short = h.short;
-  drawing = h.drawing;
+  drawing = h.drawing ∙ sym drawn;
   seq = h.seq;
-  spent = λ k d lt. spent_more looks rest _ (h.spent k d lt);
-  own = λ x. omega (arith, h.own x, words_more x looks rest);
+  spent = λ k s lt. spent_front d.looks e.looks _ front (h.spent k s lt);
+  own = λ x. omega (arith, h.own x, ap (λ l. times x (words_seen l)) front.is, words_more x d.looks front.rest);
+  onward = h.onward;
+  behind = All-weaker (IsBehind d) (IsBehind e) (behind_still d e noted known) (words_told h.shows) h.behind;
 }
-
-pub looks_more : (marks : List Mark) (lines : List Sent) (drawn : List ℕ) (looks more : List Look) → seen.IsPrefix looks more → AreShown marks lines drawn looks → AreShown marks lines drawn more
-looks_more marks lines drawn looks more p h = subst (λ ls. AreShown marks lines drawn ls) (sym p.is) (looks_longer marks lines drawn looks p.rest h)
 
 -- a line more: what it shows of its job, and the pair that it draws
 found_here : (marks : List Mark) (at j : ℕ) (event : Event) (job : Job) (o : Outcome) (h : HasJob marks at j event job)
@@ -93,33 +103,100 @@ ends_one e job (O.Rep name pdu) = refl
 ends_one e job (O.Bcn octets) = refl
 ends_one e job (O.Late pair) = refl
 
--- with the looks of before and, behind them, those that were taken for the line
-pub line_more : (marks : List Mark) (lines : List Sent) (drawn : List ℕ) (looks more : List Look) (at j : ℕ) (event : Event) (job : Job) (o : Outcome) (p : Option Pair)
-    → AreShown marks lines drawn looks → seen.IsPrefix looks more → HasJob marks at j event job → drawn_of job o ≡ p → All (λ q. q.seq < 2 ^ 24) (option_to_list p) → IsSpentSeen more o
-    → ((x : ℕ) → times x (option_to_list (end_told o)) + times x (words_seen looks) ≤ times x (words_seen more))
-    → AreShown marks (lines ++ record { entry = at; job = j; outcome = o } ∷ []) (drawn ++ map word_of (option_to_list p)) more
-line_more marks lines drawn looks more at j event job o p h front there d seq spent own =
+-- the word that it tells
+told_one : (e : Entry) (job : Job) (o : Outcome) (w : Option ℕ) → word_told job o ≡ w → words_told (record { entry = e; job = job; outcome = o } ∷ []) ≡ option_to_list w
+told_one e job o None h = rw h refl
+told_one e job o (Some w) h = rw h refl
+
+-- where it draws a pair, or none, and doesn't say that no number was left
+pub word_of_line : (job : Job) (o : Outcome) (p : Option Pair) → drawn_of job o ≡ p → end_told o ≡ None → word_told job o ≡ option_map word_of p
+word_of_line job (O.Spent iv) p h none = cc
+word_of_line job (O.Ctl pair ttl src dst tpdu pdu) p h none = ap (option_map word_of) h
+word_of_line job (O.Msg pair ttl src dst key payload pdu) p h none = ap (option_map word_of) h
+word_of_line job (O.Long pair ttl src dst key payload) p h none = ap (option_map word_of) h
+word_of_line job (O.Seg pair ttl src dst seg_o seg_n auth pdu) p h none = ap (option_map word_of) h
+word_of_line job (O.Relay pair ctl ttl src dst tpdu pdu) p h none = ap (option_map word_of) h
+word_of_line job (O.Rep name pdu) p h none = ap (option_map word_of) h
+word_of_line job (O.Bcn octets) p h none = ap (option_map word_of) h
+word_of_line job (O.Late pair) p h none = ap (option_map word_of) h
+
+-- What holds of the words drawn, and of each that a look found in the counter, holds of the words that lines tell.
+pub told_each : (P : ℕ → Type 0) (looks : List Look) → ((x : ℕ) → Contains looks (saw.Counter x) → P x) → (shows : List Shown) → All P (map word_of (draws shows)) → All (λ s. IsSpentSeen looks s.outcome) shows
+    → All P (words_told shows)
+told_each P looks f [] drawn spent = All-nil P
+told_each P looks f (s ∷ shows) drawn spent =
+    by_line (λ more. told_each P looks f shows more (All-tail (λ (y : Shown). IsSpentSeen looks y.outcome) s shows spent)) s.outcome (drawn_of s.job s.outcome) refl refl
+  where
+    Rest : Type 0
+    Rest = All P (map word_of (draws shows)) → All P (words_told shows)
+
+    -- the line draws this, and doesn't say that no number was left
+    by_pair : Rest → (p : Option Pair) → drawn_of s.job s.outcome ≡ p → word_told s.job s.outcome ≡ option_map word_of p → All P (words_told (s ∷ shows))
+    by_pair rest None e w = rw w (rest (rw e at drawn))
+    by_pair rest (Some p) e w =
+        let all : All P (word_of p ∷ map word_of (draws shows)) = rw e at drawn in
+        rw w (All-cons P (word_of p) (words_told shows) (All-head P (word_of p) (map word_of (draws shows)) all) (rest (All-tail P (word_of p) (map word_of (draws shows)) all)))
+
+    by_line : Rest → (o : Outcome) (p : Option Pair) → s.outcome ≡ o → drawn_of s.job s.outcome ≡ p → All P (words_told (s ∷ shows))
+    by_line rest (O.Spent iv) p is e =
+        let none : drawn_of s.job s.outcome ≡ None = ap (drawn_of s.job) is in
+        let told : word_told s.job s.outcome ≡ Some (iv * 2 ^ 25 + 2 ^ 24) = ap (word_told s.job) is in
+        let here = subst (IsSpentSeen looks) is (All-head (λ (y : Shown). IsSpentSeen looks y.outcome) s shows spent) in
+        rw told (All-cons P (iv * 2 ^ 25 + 2 ^ 24) (words_told shows) (f (iv * 2 ^ 25 + 2 ^ 24) here) (rest (rw none at drawn)))
+    by_line rest o p is e = by_pair rest p e (word_of_line s.job s.outcome p e (ap end_told is))
+
+-- a word that is above all that a seat drew and saw is not below one that its lines tell
+told_up : (marks : List Mark) (lines : List Sent) (d : DrawerView) (w : ℕ) (h : AreShown marks lines d) → seen.IsAbove d w → All (λ x. x ≤ w) (words_told h.shows)
+told_up marks lines d w h above =
+    told_each (λ x. x ≤ w) d.looks (λ x c. All-contains (IsPast w) d.looks (saw.Counter x) above.looks c) h.shows
+    (subst (All (λ x. x ≤ w)) (sym h.drawing) (λ k x lt. let below : slice_index_or d.drawn k x < w = above.drawn k x lt in omega (arith, below)))
+    h.spent
+
+-- With the seat of before, and as it is behind the draw of the line: what the line draws, and the word that it tells.
+pub line_more : (marks : List Mark) (lines : List Sent) (d e : DrawerView) (at j : ℕ) (event : Event) (job : Job) (o : Outcome) (p : Option Pair) (w : Option ℕ)
+    → AreShown marks lines d → e.drawn ≡ d.drawn ++ map word_of (option_to_list p) → e.noted ≡ d.noted → e.known ≡ d.known → seen.IsPrefix d.looks e.looks
+    → HasJob marks at j event job → drawn_of job o ≡ p → All (λ q. q.seq < 2 ^ 24) (option_to_list p) → IsSpentSeen e.looks o
+    → ((x : ℕ) → times x (option_to_list (end_told o)) + times x (words_seen d.looks) ≤ times x (words_seen e.looks))
+    → word_told job o ≡ w → IfSome w (seen.IsAbove d)
+    → AreShown marks (lines ++ record { entry = at; job = j; outcome = o } ∷ []) e
+line_more marks lines d e at j event job o p w h drawn noted known front there drew seq spent own tells above =
     let line : Sent = record { entry = at; job = j; outcome = o } in
     let show : Shown = record { entry = there.entry.entry; job = job; outcome = o } in
     let draws_are : draws (h.shows ++ show ∷ []) ≡ draws h.shows ++ option_to_list p =
-    filter_map-append (λ s. drawn_of s.job s.outcome) h.shows (show ∷ []) ∙ ap (λ l. draws h.shows ++ l) (draws_one there.entry.entry job o p d) in
+    filter_map-append (λ s. drawn_of s.job s.outcome) h.shows (show ∷ []) ∙ ap (λ l. draws h.shows ++ l) (draws_one there.entry.entry job o p drew) in
     let ends_are : ends_told (h.shows ++ show ∷ []) ≡ ends_told h.shows ++ option_to_list (end_told o) =
     filter_map-append (λ (s : Shown). end_told s.outcome) h.shows (show ∷ []) ∙ ap (λ l. ends_told h.shows ++ l) (ends_one there.entry.entry job o) in
+    let told_are : words_told (h.shows ++ show ∷ []) ≡ words_told h.shows ++ option_to_list w =
+    filter_map-append (λ (s : Shown). word_told s.job s.outcome) h.shows (show ∷ []) ∙ ap (λ l. words_told h.shows ++ l) (told_one there.entry.entry job o w tells) in
+    let still = All-weaker (IsBehind d) (IsBehind e) (behind_still d e noted known) (words_told h.shows) h.behind in
     record {
       shows = h.shows ++ show ∷ [];
       found =
           map-append (shown_in marks) lines (line ∷ []) ∙ ap (λ l. l ++ map (shown_in marks) (line ∷ [])) h.found
           ∙ ap (λ x. map Some h.shows ++ x ∷ []) (found_here marks at j event job o there) ∙ sym (map-append Some h.shows (show ∷ []));
       short = All-push (λ (s : Sent). s.job + 1 < 2 ^ 8) lines line h.short there.short;
-      drawing = ap (map word_of) draws_are ∙ map-append word_of (draws h.shows) (option_to_list p) ∙ ap (λ l. l ++ map word_of (option_to_list p)) h.drawing;
+      drawing = ap (map word_of) draws_are ∙ map-append word_of (draws h.shows) (option_to_list p) ∙ ap (λ l. l ++ map word_of (option_to_list p)) h.drawing ∙ sym drawn;
       seq = subst (All (λ q. q.seq < 2 ^ 24)) (sym draws_are) (All-append (λ q. q.seq < 2 ^ 24) (draws h.shows) (option_to_list p) h.seq seq);
-      spent = All-push (λ s. IsSpentSeen more s.outcome) h.shows show (λ k e lt. spent_front looks more _ front (h.spent k e lt)) spent;
+      spent = All-push (λ s. IsSpentSeen e.looks s.outcome) h.shows show (λ k s lt. spent_front d.looks e.looks _ front (h.spent k s lt)) spent;
       own = λ x. omega (arith, ap (times x) ends_are, times_append x (ends_told h.shows) (option_to_list (end_told o)), h.own x, own x);
+      onward = subst (AllPairs (λ x y. x ≤ y)) (sym told_are) (onward_one w above);
+      behind = subst (All (IsBehind e)) (sym told_are) (behind_one w still above);
     }
+  where
+    onward_one : (o : Option ℕ) → IfSome o (seen.IsAbove d) → AllPairs (λ x y. x ≤ y) (words_told h.shows ++ option_to_list o)
+    onward_one None a = subst (AllPairs (λ x y. x ≤ y)) (sym (append-nil (words_told h.shows))) h.onward
+    onward_one (Some x) a = no_lower (words_told h.shows) x h.onward (told_up marks lines d x h a)
+
+    behind_one : (o : Option ℕ) → All (IsBehind e) (words_told h.shows) → IfSome o (seen.IsAbove d) → All (IsBehind e) (words_told h.shows ++ option_to_list o)
+    behind_one None still a = subst (All (IsBehind e)) (sym (append-nil (words_told h.shows))) still
+    behind_one (Some x) still a = All-push (IsBehind e) (words_told h.shows) x still (behind_still d e noted known x (record { noted = a.noted; known = a.known }))
 
 -- no look is needed for a line that doesn't say so
 pub no_end : (looks : List Look) (o : Outcome) → end_told o ≡ None → (x : ℕ) → times x (option_to_list (end_told o)) + times x (words_seen looks) ≤ times x (words_seen looks)
 no_end looks o none x = rw none (let same : times x [] + times x (words_seen looks) ≤ times x (words_seen looks) = omega arith in same)
+
+no_end_more : (looks more : List Look) (o : Outcome) → end_told o ≡ None → seen.IsPrefix looks more → (x : ℕ) → times x (option_to_list (end_told o)) + times x (words_seen looks) ≤ times x (words_seen more)
+no_end_more looks more o none front x = omega (arith, no_end looks o none x, ap (λ l. times x (words_seen l)) front.is, words_more x looks front.rest)
 
 same_looks : (looks : List Look) → seen.IsPrefix looks looks
 same_looks looks = record { rest = []; is = sym (append-nil looks) }
@@ -147,7 +224,7 @@ module _ (k first : ℕ) (tasks : List Task) where
         bearer = All-push (λ q. q.entry.bearer ≡ k) h.entries p h.bearer by;
         numbers = mine ∙ ap (range_with_len (first + 1)) (sym long);
         count = omega (arith, h.count, long);
-        shown = shown_prefix marks (ms ++ M.Handled e ∷ []) lines d.drawn d.looks (record { rest = front.rest ++ M.Handled e ∷ []; is = ap (λ l. l ++ M.Handled e ∷ []) front.is ∙ append_assoc marks front.rest (M.Handled e ∷ []) }) h.shown;
+        shown = shown_prefix marks (ms ++ M.Handled e ∷ []) lines d (record { rest = front.rest ++ M.Handled e ∷ []; is = ap (λ l. l ++ M.Handled e ∷ []) front.is ∙ append_assoc marks front.rest (M.Handled e ∷ []) }) h.shown;
         rise = h.rise;
         above = h.above;
       }
@@ -162,22 +239,23 @@ module _ (k first : ℕ) (tasks : List Task) where
     bearer = h.bearer;
     numbers = h.numbers;
     count = h.count;
-    shown = shown_prefix marks ms lines d.drawn d.looks front h.shown;
+    shown = shown_prefix marks ms lines d front h.shown;
     rise = h.rise;
     above = h.above;
   }
 
   -- a look at the words gave no number
   pub did_looked : (left : List Task) (own : List (ℕ × Mark)) (marks : List Mark) (lines : List Sent) (number : ℕ) (d e : DrawerView)
-      → e.drawn ≡ d.drawn → e.noted ≡ d.noted → seen.IsPrefix d.looks e.looks → Did k first tasks left own marks lines number d → Did k first tasks left own marks lines number e
-  did_looked left own marks lines number d e drawn noted looks h = record {
+      → e.drawn ≡ d.drawn → e.noted ≡ d.noted → e.known ≡ d.known → seen.IsPrefix d.looks e.looks → Did k first tasks left own marks lines number d
+      → Did k first tasks left own marks lines number e
+  did_looked left own marks lines number d e drawn noted known looks h = record {
     entries = h.entries;
     own_are = h.own_are;
     walks = h.walks;
     bearer = h.bearer;
     numbers = h.numbers;
     count = h.count;
-    shown = subst (λ ws. AreShown marks lines ws e.looks) (sym drawn) (looks_more marks lines d.drawn d.looks e.looks looks h.shown);
+    shown = shown_still marks lines d e drawn noted known looks h.shown;
     rise = subst (AllPairs (λ x y. x < y)) (sym drawn) h.rise;
     above = subst (λ ws. All (λ x. All (λ y. y < x) e.noted) ws) (sym drawn) (subst (λ ns. All (λ x. All (λ y. y < x) ns) d.drawn) (sym noted) h.above);
   }
@@ -195,8 +273,8 @@ module _ (k first : ℕ) (tasks : List Task) where
     bearer = h.bearer;
     numbers = h.numbers;
     count = h.count;
-    shown = subst (λ ws. AreShown marks (lines ++ record { entry = at; job = j; outcome = o } ∷ []) ws d.looks) (append-nil d.drawn)
-        (line_more marks lines d.drawn d.looks d.looks at j event job o None h.shown (same_looks d.looks) there drawn (All-nil (λ q. q.seq < 2 ^ 24)) spent (no_end d.looks o none));
+    shown = line_more marks lines d d at j event job o None None h.shown (sym (append-nil d.drawn)) refl refl (same_looks d.looks) there drawn (All-nil (λ q. q.seq < 2 ^ 24)) spent (no_end d.looks o none)
+        (word_of_line job o None drawn none) tt;
     rise = h.rise;
     above = h.above;
   }
@@ -208,7 +286,6 @@ module _ (k first : ℕ) (tasks : List Task) where
       → Did k first tasks (map follow after ++ rest) own marks (lines ++ record { entry = at; job = j; outcome = o } ∷ []) number e
   did_drawn rest own marks lines number d e p at j event job o after there shows drawn spent none next new h =
       let line : List Sent = record { entry = at; job = j; outcome = o } ∷ [] in
-      let shown' = line_more marks lines d.drawn d.looks d.looks at j event job o (Some p) h.shown (same_looks d.looks) there drawn (All-cons (λ q. q.seq < 2 ^ 24) p [] new.seq (All-nil (λ q. q.seq < 2 ^ 24))) spent (no_end d.looks o none) in
       record {
         entries = h.entries;
         own_are = h.own_are;
@@ -217,10 +294,12 @@ module _ (k first : ℕ) (tasks : List Task) where
         bearer = h.bearer;
         numbers = h.numbers;
         count = h.count;
-        shown = subst (λ ws. AreShown marks (lines ++ line) ws e.looks) (sym new.drawn) (looks_more marks (lines ++ line) (d.drawn ++ word_of p ∷ []) d.looks e.looks new.looks shown');
-        rise = subst (AllPairs (λ x y. x < y)) (sym new.drawn) (pairs_more d.drawn (word_of p) h.rise new.above);
+        shown = line_more marks lines d e at j event job o (Some p) (Some (word_of p)) h.shown new.drawn new.noted new.known new.looks there drawn
+            (All-cons (λ q. q.seq < 2 ^ 24) p [] new.seq (All-nil (λ q. q.seq < 2 ^ 24))) (spent_front d.looks e.looks o new.looks spent) (no_end_more d.looks e.looks o none new.looks)
+            (word_of_line job o (Some p) drawn none) new.above;
+        rise = subst (AllPairs (λ x y. x < y)) (sym new.drawn) (pairs_more d.drawn (word_of p) h.rise new.above.drawn);
         above = subst (λ ws. All (λ x. All (λ y. y < x) e.noted) ws) (sym new.drawn) (subst (λ ns. All (λ x. All (λ y. y < x) ns) (d.drawn ++ word_of p ∷ [])) (sym new.noted)
-            (All-push (λ x. All (λ y. y < x) d.noted) d.drawn (word_of p) h.above new.over));
+            (All-push (λ x. All (λ y. y < x) d.noted) d.drawn (word_of p) h.above new.above.noted));
       }
 
   -- a line that says that no number was left, with the look that found that
@@ -230,7 +309,6 @@ module _ (k first : ℕ) (tasks : List Task) where
       → Did k first tasks rest own marks (lines ++ record { entry = at; job = j; outcome = O.Spent iv } ∷ []) number e
   did_spent rest own marks lines number d e at j event job iv there draws' next new h =
       let line : List Sent = record { entry = at; job = j; outcome = O.Spent iv } ∷ [] in
-      let shown' = line_more marks lines d.drawn d.looks e.looks at j event job (O.Spent iv) None h.shown new.looks there refl (All-nil (λ q. q.seq < 2 ^ 24)) new.here new.once_more in
       record {
         entries = h.entries;
         own_are = h.own_are;
@@ -239,7 +317,8 @@ module _ (k first : ℕ) (tasks : List Task) where
         bearer = h.bearer;
         numbers = h.numbers;
         count = h.count;
-        shown = subst (λ ws. AreShown marks (lines ++ line) ws e.looks) (append-nil d.drawn ∙ sym new.drawn) shown';
+        shown = line_more marks lines d e at j event job (O.Spent iv) None (Some (iv * 2 ^ 25 + 2 ^ 24)) h.shown (new.drawn ∙ sym (append-nil d.drawn)) new.noted new.known new.looks there refl
+            (All-nil (λ q. q.seq < 2 ^ 24)) new.here new.once_more refl new.above;
         rise = subst (AllPairs (λ x y. x < y)) (sym new.drawn) h.rise;
         above = subst (λ ws. All (λ x. All (λ y. y < x) e.noted) ws) (sym new.drawn) (subst (λ ns. All (λ x. All (λ y. y < x) ns) d.drawn) (sym new.noted) h.above);
       }
@@ -255,13 +334,15 @@ lost_looks (t ∷ tries) v w (u, before, same, (mark, looks, more, below, seq)) 
     }
 
 -- a draw that found the end of an IV Index
-pub saw_end : (iv : ℕ) (d e : DrawerView) → SameDrawn d e → AfterLost (HasCause (missed.Spent iv)) d e → SawEnd iv d e
-saw_end iv d e same (tries, u, lost, (mark, looks)) =
+pub saw_end : (iv : ℕ) (d e : DrawerView) → SameDrawn d e → AfterLost (HasCause (missed.Spent iv)) d e → seen.IsAbove d (iv * 2 ^ 25 + 2 ^ 24) → SawEnd iv d e
+saw_end iv d e same (tries, u, lost, (mark, looks)) above =
     let front = lost_looks tries d u lost in
     let last : List Look = saw.Mark mark ∷ saw.Counter (iv * 2 ^ 25 + 2 ^ 24) ∷ [] in
     record {
       drawn = same.drawn;
       noted = same.noted;
+      known = same.known;
+      above = above;
       looks = record { rest = front.rest ++ last; is = looks ∙ ap (λ l. l ++ last) front.is ∙ append_assoc d.looks front.rest last };
       here = subst (λ l. Contains l (saw.Counter (iv * 2 ^ 25 + 2 ^ 24))) (sym looks) (Contains-append_right u.looks last (saw.Counter (iv * 2 ^ 25 + 2 ^ 24)) (1, omega arith, refl));
       once_more = λ x. omega (

@@ -86,6 +86,14 @@ pairs_more (y ∷ xs) x rise below i j d lt within =
     AllPairs-cons (λ a b. a < b) y (xs ++ x ∷ []) (All-push (λ b. y < b) xs x (λ k d lt. rise 0 (suc k) d (omega arith) (omega (arith, lt))) (All-head (λ a. a < x) y xs below))
     (pairs_more xs x (λ i j d lt within. rise (suc i) (suc j) d (omega (arith, lt)) (omega (arith, within))) (All-tail (λ a. a < x) y xs below)) i j d lt within
 
+-- no item is above the new one
+pub no_lower : (xs : List ℕ) (x : ℕ) → AllPairs (λ a b. a ≤ b) xs → All (λ a. a ≤ x) xs → AllPairs (λ a b. a ≤ b) (xs ++ x ∷ [])
+no_lower [] x rise below i zero d lt within = absurd (omega (arith, lt))
+no_lower [] x rise below i (suc j) d lt within = absurd (omega (arith, within))
+no_lower (y ∷ xs) x rise below i j d lt within =
+    AllPairs-cons (λ a b. a ≤ b) y (xs ++ x ∷ []) (All-push (λ b. y ≤ b) xs x (λ k d lt. rise 0 (suc k) d (omega arith) (omega (arith, lt))) (All-head (λ a. a ≤ x) y xs below))
+    (no_lower xs x (λ i j d lt within. rise (suc i) (suc j) d (omega (arith, lt)) (omega (arith, within))) (All-tail (λ a. a ≤ x) y xs below)) i j d lt within
+
 shown_longer : (marks rest : List Mark) (s : Sent) (y : Shown) (o : Option Mark) → slice_get marks s.entry ≡ o → option_and_then (λ m. shown_at m s) o ≡ Some y
     → shown_in (marks ++ rest) s ≡ Some y
 shown_longer marks rest s y None e h = cc

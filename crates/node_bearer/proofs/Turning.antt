@@ -45,9 +45,13 @@ goes_on a b c p q = record {
   rest = p.rest ++ q.rest;
   more = q.more ∙ ap (λ l. l ++ q.rest) p.more ∙ append_assoc a.pass.seen p.rest q.rest;
   noted = q.noted ∙ p.noted;
+  known = q.known ∙ p.known;
   parts = q.parts ∙ p.parts;
   stop = q.stop ∙ p.stop;
 }
+
+pub on_still : {F : Type 0} (b : BearerOf F) → GoesOn b b
+on_still b = record { rest = []; more = sym (append-nil b.pass.seen); noted = refl; known = refl; parts = refl; stop = refl }
 
 pub entry_longer : (marks rest : List Mark) (at : ℕ) (event : Event) (jobs : List Job) → HasEntry marks at event jobs → HasEntry (marks ++ rest) at event jobs
 entry_longer marks rest at event jobs h = record { entry = h.entry; here = get_longer marks rest at (M.Handled h.entry) h.here; event_is = h.event_is; jobs_are = h.jobs_are }

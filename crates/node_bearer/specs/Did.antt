@@ -34,7 +34,7 @@ pub record Did (k first : ℕ) (tasks left : List Task) (own : List (ℕ × Mark
   pub bearer : All (λ p. p.entry.bearer ≡ k) entries
   pub numbers : map (λ p. p.entry.number) entries ≡ range_with_len (first + 1) (length entries)
   pub count : number ≡ first + length entries
-  pub shown : AreShown marks lines d.drawn d.looks
+  pub shown : AreShown marks lines d
   pub rise : AllPairs (λ x y. x < y) d.drawn
   pub above : All (λ x. All (λ y. y < x) d.noted) d.drawn
 
@@ -69,9 +69,9 @@ pub record Broke {F : Type 0} (k first : ℕ) (tasks : List Task) (b : BearerOf 
 pub record DrewPair (p : Pair) (d e : DrawerView) : Type 0 where
   pub drawn : e.drawn ≡ d.drawn ++ word_of p ∷ []
   pub noted : e.noted ≡ d.noted
+  pub known : e.known ≡ d.known
   pub looks : seen.IsPrefix d.looks e.looks
-  pub above : All (λ x. x < word_of p) d.drawn
-  pub over : All (λ x. x < word_of p) d.noted
+  pub above : seen.IsAbove d (word_of p)
   pub seq : p.seq < 2 ^ 24
 
 pub record Drew {F : Type 0} (p : Pair) (k first : ℕ) (tasks left : List Task) (b : BearerOf F) : Type 0 where
@@ -79,11 +79,13 @@ pub record Drew {F : Type 0} (p : Pair) (k first : ℕ) (tasks left : List Task)
   pub did : Did k first tasks left b.pass.own b.pass.seen b.lines.items b.number before
   pub pair : DrewPair p before b.drawer
 
--- nothing was drawn, and the counter was seen at the end of this IV Index once more than before
+-- nothing was drawn, and the counter was seen at the end of this IV Index once more than before; that is above all before it
 pub record SawEnd (iv : ℕ) (d e : DrawerView) : Type 0 where
   pub drawn : e.drawn ≡ d.drawn
   pub noted : e.noted ≡ d.noted
+  pub known : e.known ≡ d.known
   pub looks : seen.IsPrefix d.looks e.looks
+  pub above : seen.IsAbove d (iv * 2 ^ 25 + 2 ^ 24)
   pub here : Contains e.looks (saw.Counter (iv * 2 ^ 25 + 2 ^ 24))
   pub once_more : (x : ℕ)
       → times x ((iv * 2 ^ 25 + 2 ^ 24) ∷ []) + times x (words_seen d.looks) ≤ times x (words_seen e.looks)
@@ -116,6 +118,7 @@ pub record GoesOn {F : Type 0} (old new : BearerOf F) : Type 0 where
   pub rest : List Mark
   pub more : new.pass.seen ≡ old.pass.seen ++ rest
   pub noted : new.drawer.noted ≡ old.drawer.noted
+  pub known : new.drawer.known ≡ old.drawer.known
   pub parts : new.drawer.parts ≡ old.drawer.parts
   pub stop : new.stop ≡ old.stop
 

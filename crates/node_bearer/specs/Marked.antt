@@ -1,5 +1,5 @@
 -- Lines and the entries that they are of, where entries stand among the marks of a node's lock.
-use Rattle.std.specs.Prelude.{◌≡◌, ℕ, ◌+◌, ◌*◌, ◌^◌, ◌<◌, ◌≤◌, List, map, All, Option, Some, None, option_and_then, ⊤}
+use Rattle.std.specs.Prelude.{◌≡◌, ℕ, ◌+◌, ◌*◌, ◌^◌, ◌<◌, ◌≤◌, List, map, All, AllPairs, Option, Some, None, option_and_then, ⊤}
 use Rattle.std.specs.List.{Contains, filter_map, slice_get}
 use Rattle.std.specs.Option.{option_map}
 use Rattle.mesh_base.specs.Pairs.{word_of}
@@ -10,8 +10,9 @@ use Rattle.mesh_types.specs.declared.jobs.Job.{Job}
 use Rattle.mesh_types.specs.declared.lines.Outcome.{Outcome}
 use Rattle.mesh_types.specs.declared.lines.Outcome.TheVariants as O
 use Rattle.report_definitions.specs.Record.{Shown}
-use Rattle.run_definitions.specs.RunOf.{draws}
-use Rattle.seq_word.specs.Rule.{times}
+use Rattle.run_definitions.specs.RunOf.{draws, words_told}
+use Rattle.seq_word.specs.Rule.{IsPast, times}
+use Rattle.seq_word.specs.Seen.{DrawerView}
 use Rattle.seq_word.specs.declared.looks.Look.{Look}
 use Rattle.seq_word.specs.declared.looks.Look.TheVariants as saw
 use Rattle.locked_node.specs.declared.marks.Mark.{Mark}
@@ -51,15 +52,23 @@ words_seen looks = filter_map word_seen looks
 abbrev pub HasOwnLooks : List ℕ → List Look → Type 0
 HasOwnLooks ends looks = (x : ℕ) → times x ends ≤ times x (words_seen looks)
 
--- The entry and the job of each line are there; the lines draw these words, each with a SEQ below 2^24. A job's number, from 1 on, has 8 bits.
-pub record AreShown (marks : List Mark) (lines : List Sent) (drawn : List ℕ) (looks : List Look) : Type 0 where
+-- the word is behind all that had been drawn where the seat was split off, and not below what a look had found in the counter then
+pub record IsBehind (d : DrawerView) (word : ℕ) : Type 0 where
+  pub noted : All (λ x. x < word) d.noted
+  pub known : All (IsPast word) d.known
+
+-- The entry and the job of each line are there; the lines draw the words of this seat, each with a SEQ below 2^24. A job's number, from 1 on,
+-- has 8 bits. No line tells a word below that of an earlier one, or below what was known where the seat was split off.
+pub record AreShown (marks : List Mark) (lines : List Sent) (d : DrawerView) : Type 0 where
   pub shows : List Shown
   pub found : map (shown_in marks) lines ≡ map Some shows
   pub short : All (λ s. s.job + 1 < 2 ^ 8) lines
-  pub drawing : map word_of (draws shows) ≡ drawn
+  pub drawing : map word_of (draws shows) ≡ d.drawn
   pub seq : All (λ p. p.seq < 2 ^ 24) (draws shows)
-  pub spent : All (λ s. IsSpentSeen looks s.outcome) shows
-  pub own : HasOwnLooks (ends_told shows) looks
+  pub spent : All (λ s. IsSpentSeen d.looks s.outcome) shows
+  pub own : HasOwnLooks (ends_told shows) d.looks
+  pub onward : AllPairs (λ x y. x ≤ y) (words_told shows)
+  pub behind : All (IsBehind d) (words_told shows)
 
 -- at this place stands the entry of this event, which has these jobs
 pub record HasEntry (marks : List Mark) (at : ℕ) (event : Event) (jobs : List Job) : Type 0 where

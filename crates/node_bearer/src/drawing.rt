@@ -4,7 +4,7 @@
 ghost use Rattle.std.specs.Prelude.{◌≡◌, ℕ, ◌<◌, ◌≤◌, ◌^◌, List, [], ◌∷◌, ◌++◌, None, Ok, IfOk, OnOk, IfErr, IfSome, OnErr};
 ghost use Rattle.mesh_base.specs.Pairs.{word_of};
 ghost use Rattle.run_definitions.specs.Order.{Task};
-ghost use Rattle.seq_word.specs.Seen.{AfterLost, Finds, HasCause, IsAbove, IsPrefix, SameDrawn, miss_of};
+ghost use Rattle.seq_word.specs.Seen.{AfterLost, Finds, HasCause, IsAbove, IsEndAbove, IsPrefix, SameDrawn, miss_of};
 ghost use Rattle.seq_word.specs.Word.{seq_of};
 ghost use Rattle.locked_node.specs.Node.{OnStop};
 ghost use Rattle.node_bearer.specs.Did.{Broke, DidBy, DrewBy, GoesOn, IsRider, IsUnspent};
@@ -61,13 +61,15 @@ fn raise<M: Machine, F: Flash + Send + Drop, S: Sharing>(
 fn draw_below(n: &Numbers, d: &mut Drawer) -> Result<Pair, Option<DrawStop>>
     requires made { d.old.which ≡ n.now.which }
     ensures looks { IsPrefix d.old.looks d.new.looks }
-    ensures frame { (d.new.which ≡ d.old.which) × (d.new.noted ≡ d.old.noted) × (d.new.parts ≡ d.old.parts) }
+    ensures frame { (d.new.which ≡ d.old.which) × (d.new.noted ≡ d.old.noted) × (d.new.known ≡ d.old.known)
+        × (d.new.parts ≡ d.old.parts) }
     ensures drawn { IfOk result (λ p. d.new.drawn ≡ d.old.drawn ++ word_of p ∷ []) }
     ensures above { IfOk result (λ p. IsAbove d.old (word_of p)) }
     ensures unspent { IfOk result (λ p. p.seq < 2 ^ 24) }
     ensures found { IfOk result (λ p. AfterLost (Finds p) d.old d.new) }
     ensures err { OnErr result (SameDrawn d.old d.new) }
     ensures cause { IfErr result (λ e. IfSome e (λ s. AfterLost (HasCause (miss_of s)) d.old d.new)) }
+    ensures end { IfErr result (λ e. IfSome e (λ s. IsEndAbove d.old (miss_of s))) }
 {
     for _ in 0..MOST_TRIES {
         match n.try_draw(d) {

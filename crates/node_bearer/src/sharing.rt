@@ -6,6 +6,7 @@ ghost use Rattle.turn_lock.specs.Entries.{IsPrefix, StandFrom};
 ghost use Rattle.turn_lock.specs.Views.{IsPassOf};
 
 use std::sync::Wait;
+use std::thread;
 use turn_lock::{Logged, Pass, Turn};
 
 /// How bearers share what the lock hands out. Whoever may wait, shares it with the bearers of other threads; `Alone` with nobody.
@@ -26,6 +27,9 @@ pub trait Sharing {
         ensures seen { IsPrefix p.old.seen (T.entries result) }
         ensures stands { StandFrom 0 (T.entries result) p.old.own }
         ensures frame { p.new ≡ record p.old { inside = true; seen = T.entries result } };
+
+    /// Lets others run, where they share the lock.
+    fn make_way(&self);
 }
 
 impl<R: Wait> Sharing for R {
@@ -37,6 +41,10 @@ impl<R: Wait> Sharing for R {
 
     fn enter<T: Logged + Drop>(&self, turn: &Turn<T>, p: &mut Pass<T>) -> T {
         turn.enter(self, p)
+    }
+
+    fn make_way(&self) {
+        thread::yield_now();
     }
 }
 
@@ -57,4 +65,6 @@ impl Sharing for Alone {
     fn enter<T: Logged + Drop>(&self, turn: &Turn<T>, p: &mut Pass<T>) -> T {
         turn.enter_alone(p)
     }
+
+    fn make_way(&self) {}
 }

@@ -24,6 +24,8 @@ struct Stride {
     events: usize,
     /// Whether none of them left jobs.
     quiet: bool,
+    /// The place of the last one's entry in the history.
+    at: u32,
 }
 
 /// Has events from outside handled in one turn, as far as none leaves jobs, and does all that follows. Each is read before the lock is taken, by
@@ -65,6 +67,7 @@ fn do_events<M: Machine, F: Flash + Send + Drop, G: Gate, S: Sharing>(
     Ok(Stride {
         events: last + 1,
         quiet: jobs.is_empty(),
+        at: acted.answered.at,
     })
 }
 
@@ -95,6 +98,14 @@ fn next_ahead(ahead: usize, most: usize) -> usize
     ahead.saturating_mul(2).min(most)
 }
 
+// Lets others run where they had turns since the entry at this place: whoever is next may wait for this very processor.
+fn make_way<S: Sharing>(sharing: &S, at: u32, stride: &Stride) {
+    let follows = u64::from(at).wrapping_add(stride.events as u64);
+    if u64::from(stride.at) != follows {
+        sharing.make_way();
+    }
+}
+
 /// Has all events of a bearer handled, in their order, and does all that follows from each before it comes to the next. It stops at the
 /// first refusal.
 ///
@@ -122,11 +133,14 @@ pub fn work<M: Machine, F: Flash + Send + Drop, G: Gate, S: Sharing>(
     let most = most_at_once(gate, readers.len());
     let mut ahead = 1;
     let mut done = 0;
+    let mut at = 0;
     while done < events.len() {
         let count = ahead.min(events.len() - done);
         let next = next_ahead(ahead, most);
         let batch = &events[done..done + count];
         let stride = do_events(place, gate, b, batch, &mut readers[..next])?;
+        make_way(place.sharing, at, &stride);
+        at = stride.at;
         done += stride.events;
         ahead = ahead_after(stride.quiet, next);
     }

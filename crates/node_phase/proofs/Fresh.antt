@@ -15,11 +15,10 @@ use Rattle.mesh_types.specs.declared.history.Sent.{Sent}
 use Rattle.report_definitions.specs.Record.{Shown}
 use Rattle.run_definitions.specs.Order.{Placed, Task, Walks, handle, stops}
 use Rattle.seq_word.specs.Seen.{DrawerView}
-use Rattle.seq_word.specs.declared.looks.Look.{Look}
 use Rattle.locked_node.specs.declared.marks.Mark.{Mark}
 use Rattle.locked_node.specs.Node.{OnStop}
 use Rattle.node_bearer.specs.Did.{BearerOf, Broke, Did, DidBy, GoesOn}
-use Rattle.node_bearer.specs.Marked.{AreShown, IsSpentSeen}
+use Rattle.node_bearer.specs.Marked.{AreShown, IsBehind, IsSpentSeen}
 use Rattle.node_bearer.proofs.Turning.{on_stop}
 use Rattle.node_phase.specs.Worked.{IsFresh, Worked}
 
@@ -49,15 +48,17 @@ sum_ones f [] each = refl
 sum_ones f (x ∷ xs) each =
     omega (arith, sum_by-cons f x xs, All-head (λ y. f y ≡ 1) x xs each, sum_ones f xs (All-tail (λ y. f y ≡ 1) x xs each))
 
-nothing_shown : (marks : List Mark) (looks : List Look) → AreShown marks [] [] looks
-nothing_shown marks looks = record {
+nothing_shown : (marks : List Mark) (d : DrawerView) → d.drawn ≡ [] → AreShown marks [] d
+nothing_shown marks d w = record {
   shows = [];
   found = refl;
   short = All-nil (λ (s : Sent). s.job + 1 < 2 ^ 8);
-  drawing = refl;
+  drawing = sym w;
   seq = All-nil (λ p. p.seq < 2 ^ 24);
-  spent = All-nil (λ (s : Shown). IsSpentSeen looks s.outcome);
+  spent = All-nil (λ (s : Shown). IsSpentSeen d.looks s.outcome);
   own = λ x. omega arith;
+  onward = λ i j e lt within. absurd (omega (arith, within));
+  behind = All-nil (IsBehind d);
 }
 
 pub did_nothing : (k number : ℕ) (tasks : List Task) (own : List (ℕ × Mark)) (marks : List Mark) (lines : List Sent) (d : DrawerView)
@@ -69,7 +70,7 @@ did_nothing k number tasks own marks lines d o l w = record {
   bearer = All-nil (λ (p : Placed). p.entry.bearer ≡ k);
   numbers = refl;
   count = omega arith;
-  shown = subst (λ ls. AreShown marks ls d.drawn d.looks) (sym l) (subst (λ ws. AreShown marks [] ws d.looks) (sym w) (nothing_shown marks d.looks));
+  shown = subst (λ ls. AreShown marks ls d) (sym l) (nothing_shown marks d w);
   rise = subst (AllPairs (λ x y. x < y)) (sym w) (λ i j e lt within. absurd (omega (arith, within)));
   above = subst (All (λ x. All (λ y. y < x) d.noted)) (sym w) (All-nil (λ x. All (λ y. y < x) d.noted));
 }
@@ -85,6 +86,7 @@ module _ {F : Type 0} (k : ℕ) (events : List Event) (old b : BearerOf F) where
   worked_by (Ok u) stop is on fresh did broke = record {
     seen = record { rest = on.rest; is = on.more };
     noted = on.noted;
+    known = on.known;
     parts = on.parts;
     did = λ none. did old.number (map handle events) (begins fresh);
     broke = λ e some. absurd (let bad : None ≡ Some e = sym is ∙ some in cc);
@@ -92,6 +94,7 @@ module _ {F : Type 0} (k : ℕ) (events : List Event) (old b : BearerOf F) where
   worked_by (Err e) stop is on fresh did broke = record {
     seen = record { rest = on.rest; is = on.more };
     noted = on.noted;
+    known = on.known;
     parts = on.parts;
     did = λ none. absurd (let bad : Some e ≡ None = sym is ∙ none in cc);
     broke = λ f some. let same : e ≡ f = (let h : Some e ≡ Some f = sym is ∙ some in cc) in

@@ -24,6 +24,7 @@ pub record IsFresh {F : Type 0} (b : BearerOf F) : Type 0 where
 pub record Worked {F : Type 0} (k : ℕ) (events : List Event) (old new : BearerOf F) : Type 0 where
   pub seen : IsPrefix old.pass.seen new.pass.seen
   pub noted : new.drawer.noted ≡ old.drawer.noted
+  pub known : new.drawer.known ≡ old.drawer.known
   pub parts : new.drawer.parts ≡ old.drawer.parts
   pub did : new.stop ≡ None → DidBy k old.number (map handle events) [] new
   pub broke : (e : Stop) → new.stop ≡ Some e → OnStop e (Broke k old.number (map handle events) new)
@@ -52,6 +53,7 @@ pub record WasPhase {F : Type 0} (old new : NodeView F) (d e : DrawerView) (even
   pub long : length bearers ≡ length before
   pub numbers : map (λ b. b.number) before ≡ counts
   pub noted : All (λ b. b.drawer.noted ≡ d.noted ++ d.drawn) before
+  pub known : All (λ b. b.drawer.known ≡ d.known ++ d.looks) before
   pub worked : (k : ℕ) (b : BearerOf F) → k < length before
       → Worked k (list_at events k) (slice_index_or before k b) (slice_index_or bearers k b)
   pub drawn : e.drawn ≡ d.drawn ++ flat_map drawn_by bearers

@@ -9,7 +9,7 @@ ghost use Rattle.locked_node.specs.declared.marks.Mark.{Mark};
 ghost use Rattle.node_bearer.specs.Did.{AreEvents, IsRider};
 ghost use Rattle.node_phase.specs.Worked.{IsFresh, Worked, done_of, drawn_by, looks_by, own_of, parts_by};
 
-use crate::kept::KeptByBearers;
+use crate::kept::{KeptByBearers, add_readers};
 use flash_model::Flash;
 use locked_node::{Mark, Node};
 use machine_contract::{Machine, Stop};
@@ -34,7 +34,7 @@ pub struct Done {
 }
 
 /// How many events a bearer that runs beside others takes to the lock at most.
-const AT_ONCE: usize = 8;
+const AT_ONCE: usize = 16;
 
 /// What the bearers of a phase share, and where memory comes from.
 #[derive(Drop)]
@@ -112,6 +112,7 @@ pub fn split_all<M: Machine, F: Flash + Send + Drop>(
     ensures riders { IfOk result (λ v. All (IsRider 1 shared.now.numbers.now shared.now.turn.now) v.items) }
     ensures fresh { IfOk result (λ v. All IsFresh v.items) }
     ensures noted { IfOk result (λ v. All (λ b. b.drawer.noted ≡ drawer.old.noted ++ drawer.old.drawn) v.items) }
+    ensures known { IfOk result (λ v. All (λ b. b.drawer.known ≡ drawer.old.known ++ drawer.old.looks) v.items) }
     ensures shares { length counts.now < drawer.old.parts
         → IfOk result
         (λ v. (drawer.new.parts + length v.items ≡ drawer.old.parts) × All (λ b. b.drawer.parts ≡ 1) v.items) }
@@ -150,6 +151,7 @@ pub fn work_phase<M: Machine, F: Flash + Send + Drop, G: Gate, S: Sharing>(
     ensures rider { IsRider S.parts place.now.numbers.now place.now.turn.now b.new }
     ensures worked { Worked place.now.bearer events.now b.old b.new }
 {
+    add_readers::<M>(&mut b.readers);
     let readers = b.readers.as_mut_slice();
     b.bearer.stop = work(place, gate, &mut b.bearer, events, readers).err();
 }

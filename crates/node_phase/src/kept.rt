@@ -1,7 +1,7 @@
 //! What bearers keep from phase to phase.
 #![tactic(auto)]
 
-ghost use Rattle.std.specs.Prelude.{◌≤◌, length, IfOk};
+ghost use Rattle.std.specs.Prelude.{◌≤◌, length, vec_capacity, IfOk};
 
 use job_sealing::KeptSeals;
 use machine_contract::Machine;
@@ -54,17 +54,19 @@ impl<M: Machine> KeptByBearers<M> {
         Ok(self.readers.remove(0))
     }
 
-    /// What the first bearer read by whose wasn't taken yet, and new readers, where it had fewer than so many. The error is for want of memory,
-    /// which is taken for new ones alone.
+    /// What the first bearer read by whose wasn't taken yet, a reader at least, and memory for so many: the others are made by `add_readers`. The
+    /// error is for want of memory.
     pub(crate) fn take_readers(
         &mut self,
         alloc: Global,
         count: usize,
     ) -> Result<Vec<M::Reader>, AllocError>
-        ensures many { IfOk result (λ readers. count ≤ length readers.items) }
+        ensures some { IfOk result (λ readers. 1 ≤ length readers.items) }
+        ensures room { IfOk result (λ readers. count ≤ vec_capacity readers) }
     {
         let mut readers = self.first_readers(alloc, count)?;
-        while readers.len() < count {
+        readers.reserve_exact(count.saturating_sub(readers.len()))?;
+        if readers.is_empty() {
             readers.push(M::new_reader())?;
         }
         Ok(readers)
@@ -73,5 +75,15 @@ impl<M: Machine> KeptByBearers<M> {
     /// Keeps what a bearer reads by, behind that of the bearers before it. Where there is no memory, it is dropped, and made anew.
     pub(crate) fn put_readers(&mut self, readers: Vec<M::Reader>) {
         let _ = self.readers.push(readers);
+    }
+}
+
+/// Makes a new reader wherever there is memory for one. The thread that reads by them calls it, so that what they take is made beside the work of
+/// others.
+pub(crate) fn add_readers<M: Machine>(readers: &mut Vec<M::Reader>)
+    ensures more { length readers.old.items ≤ length readers.new.items }
+{
+    while readers.len() < readers.capacity() {
+        readers.push_reserved(M::new_reader());
     }
 }

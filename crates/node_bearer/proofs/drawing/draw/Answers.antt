@@ -10,7 +10,8 @@ returns-in-Err-Some-Spent-clause-did g c = λ k first tasks rest h.
     let b = c.loop.b in
     let e = c.in-Err-Some-Spent.ensures in
     let cause = rw c.in-Err-Some-Spent.field-0-0-is at rw c.in-Err-Some-Spent.field-0-is at e.cause in
-    record { before = b.drawer; did = c.loop.invariant.did k first tasks rest h; saw = saw_end c.in-Err-Some-Spent.iv b.drawer c.draw_below.new.d e.err cause }
+    let above = rw c.in-Err-Some-Spent.field-0-0-is at rw c.in-Err-Some-Spent.field-0-is at e.end in
+    record { before = b.drawer; did = c.loop.invariant.did k first tasks rest h; saw = saw_end c.in-Err-Some-Spent.iv b.drawer c.draw_below.new.d e.err cause above }
 
 pub returns-in-Err-Some-Spent-clause-tries : goal.returns-in-Err-Some-Spent-clause-tries
 returns-in-Err-Some-Spent-clause-tries g c =
@@ -39,13 +40,14 @@ loop-preserved g c =
         rest = was.on.rest ++ c.raise.ensures.on.rest;
         more = c.raise.ensures.on.more ∙ ap (λ l. l ++ c.raise.ensures.on.rest) was.on.more ∙ append_assoc _ was.on.rest c.raise.ensures.on.rest;
         noted = c.raise.ensures.on.noted ∙ e.err.noted ∙ was.on.noted;
+        known = c.raise.ensures.on.known ∙ e.err.known ∙ was.on.known;
         parts = c.raise.ensures.on.parts ∙ e.err.parts ∙ was.on.parts;
         stop = c.raise.ensures.on.stop ∙ was.on.stop;
       };
       dry = (c.in-Err-Some-Dry.dry ∷ was.dry.0, (b.drawer, was.dry.1, subst (λ (d : DrawerView). AfterLost (HasCause (missed.Dry c.in-Err-Some-Dry.dry)) b.drawer d) (sym c.raise.ensures.frame.1) cause));
       frame = c.raise.ensures.frame.0 ∙ was.frame;
       did = λ k first tasks rest h. c.in_ok-raise-in-Err-Some-Dry.ensures.did k first tasks rest
-          (did_looked k first tasks rest b.pass.own b.pass.seen b.lines.items b.number b.drawer c.draw_below.new.d e.err.drawn e.err.noted e.looks (was.did k first tasks rest h));
+          (did_looked k first tasks rest b.pass.own b.pass.seen b.lines.items b.number b.drawer c.draw_below.new.d e.err.drawn e.err.noted e.err.known e.looks (was.did k first tasks rest h));
     }
 
 pub returns-in_err-raise-in-Err-Some-Dry-clause-stopped : goal.returns-in_err-raise-in-Err-Some-Dry-clause-stopped
@@ -53,4 +55,4 @@ returns-in_err-raise-in-Err-Some-Dry-clause-stopped g c = λ k first tasks rest 
     let b = c.loop.b in
     let e = c.in-Err-Some-Dry.ensures in
     stops _ c.from_residual.result c.in_err-raise-in-Err-Some-Dry.field-0.0 c.from_residual.ensures.1 (c.in_err-raise-in-Err-Some-Dry.ensures.stopped k first tasks rest
-    (did_looked k first tasks rest b.pass.own b.pass.seen b.lines.items b.number b.drawer c.draw_below.new.d e.err.drawn e.err.noted e.looks (c.loop.invariant.did k first tasks rest h)))
+    (did_looked k first tasks rest b.pass.own b.pass.seen b.lines.items b.number b.drawer c.draw_below.new.d e.err.drawn e.err.noted e.err.known e.looks (c.loop.invariant.did k first tasks rest h)))

@@ -13,6 +13,7 @@ loop-preserved c =
         drawn = lost.err.drawn ∙ was.drawn;
         raised = lost.err.raised ∙ was.raised;
         noted = lost.err.noted ∙ was.noted;
+        known = lost.err.known ∙ was.known;
         parts = lost.err.parts ∙ was.parts;
       };
       looks = prefix_trans before.looks lost.looks;

@@ -1,9 +1,9 @@
-use Rattle.std.proofs.Common.{rules, ◌+◌, ◌-◌, ◌∙◌, ap, drop, map, subst, sym}
+use Rattle.std.proofs.Common.{arith, rules, ◌+◌, ◌-◌, ◌∙◌, ap, drop, map, subst, sym}
 use Rattle.std.proofs.lemmas.List.{drop-drop}
 use Rattle.run_definitions.specs.Order.{handle}
 use Rattle.node_bearer.specs.Did.{DidBy}
 use Rattle.node_bearer.proofs.Lists.{drop_front, few_left, take_front}
-use Rattle.node_bearer.proofs.Turning.{goes_on, stops}
+use Rattle.node_bearer.proofs.Turning.{goes_on, on_still, stops}
 use Rattle.node_bearer.proofs.working.work.Goals as goal
 
 pub returns-in_err-stride-clause-stopped : goal.returns-in_err-stride-clause-stopped
@@ -14,6 +14,16 @@ returns-in_err-stride-clause-stopped g c = λ first tasks h.
     let later = map (λ x. handle x) (drop (l.done + c.min-count.result - l.done) rest) in
     let was = subst (λ ts. DidBy k first tasks ts l.b) (sym (take_front (λ x. handle x) rest (l.done + c.min-count.result - l.done))) (l.invariant.did first tasks h) in
     stops _ c.from_residual.result c.in_err-stride.field-0.0 c.from_residual.ensures.1 (c.in_err-stride.ensures.stopped first tasks later was)
+
+pub loop-done-init : goal.loop-done-init
+loop-done-init g c = record {
+  rider = c.requires.rider;
+  on = on_still c.args.b.now;
+  within = omega arith;
+  some = omega arith;
+  few = c.most_at_once-most.ensures.some;
+  did = λ first tasks h. h;
+}
 
 pub loop-done-preserved : goal.loop-done-preserved
 loop-done-preserved g c = record {

@@ -29,6 +29,7 @@ returns-clause-was g c =
       long = refl;
       numbers = refl;
       noted = All-cons (λ (x : BearerOf g.row.F.Denot). x.drawer.noted ≡ d.noted ++ d.drawn) old [] (ap (λ x. x.noted) seat.value) (All-nil (λ (x : BearerOf g.row.F.Denot). x.drawer.noted ≡ d.noted ++ d.drawn));
+      known = All-cons (λ (x : BearerOf g.row.F.Denot). x.drawer.known ≡ d.known ++ d.looks) old [] (ap (λ x. x.known) seat.value) (All-nil (λ (x : BearerOf g.row.F.Denot). x.drawer.known ≡ d.known ++ d.looks));
       worked = only;
       drawn = joined.drawn ∙ ap (λ x. x.drawn ++ b.drawer.drawn) seat.frame ∙ ap (λ l. d.drawn ++ l) (sym (append-nil b.drawer.drawn));
       looks = joined.looks ∙ ap (λ x. x.looks ++ b.drawer.looks) seat.frame ∙ ap (λ l. d.looks ++ l) (sym (append-nil b.drawer.looks));

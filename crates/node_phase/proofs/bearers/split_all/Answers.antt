@@ -43,6 +43,8 @@ loop-number-preserved g c =
       }));
       noted = subst (All (λ b. b.drawer.noted ≡ d.noted ++ d.drawn)) (sym items) (All-push (λ b. b.drawer.noted ≡ d.noted ++ d.drawn) was _ inv.noted
           (ap (λ x. x.noted) seat.value ∙ ap (λ x. x.noted ++ x.drawn) inv.drawer));
+      known = subst (All (λ b. b.drawer.known ≡ d.known ++ d.looks)) (sym items) (All-push (λ b. b.drawer.known ≡ d.known ++ d.looks) was _ inv.known
+          (ap (λ x. x.known) seat.value ∙ ap (λ x. x.known ++ x.looks) inv.drawer));
       shares = λ few.
           let s = inv.shares few in
           let more : 1 < l.drawer.parts = omega (arith, s.0, few, inv.count, c.loop-number-test.true) in (

@@ -15,5 +15,6 @@ invariant-loop-number g l = record {
   riders : All (IsRider 1 l.shared.numbers.now l.shared.turn.now) l.bearers.items;
   fresh : All IsFresh l.bearers.items;
   noted : All (λ b. b.drawer.noted ≡ l.initial.drawer.noted ++ l.initial.drawer.drawn) l.bearers.items;
+  known : All (λ b. b.drawer.known ≡ l.initial.drawer.known ++ l.initial.drawer.looks) l.bearers.items;
   shares : length l.counts < l.initial.drawer.parts → (l.drawer.parts + length l.bearers.items ≡ l.initial.drawer.parts) × All (λ b. b.drawer.parts ≡ 1) l.bearers.items;
 }

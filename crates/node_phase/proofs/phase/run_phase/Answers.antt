@@ -36,6 +36,7 @@ returns-clause-was g c =
       long = count;
       numbers = numbers;
       noted = subst (All (λ b. b.drawer.noted ≡ d.noted ++ d.drawn)) (sym same) split.noted;
+      known = subst (All (λ b. b.drawer.known ≡ d.known ++ d.looks)) (sym same) split.known;
       worked = λ k b lt.
           let within : k < length plan = omega (arith, lt, c.requires.plan, ap length numbers, length-map slice (λ x. x.number)) in
           let p = first_of plan k within in
