@@ -2,5 +2,6 @@ pub mod Memory
 pub mod Delivered
 pub mod Own
 pub mod Basis
+pub mod Heard
 pub mod Plans
 pub mod Sending

@@ -2,7 +2,7 @@
 //! them anew.
 #![tactic(auto)]
 
-ghost use Rattle.std.specs.Prelude.{◌≡◌, ◌+◌, ◌≤◌, ◌<◌, ◌^◌, length};
+ghost use Rattle.std.specs.Prelude.{◌≡◌, ◌↔◌, ◌+◌, ◌≤◌, ◌<◌, ◌^◌, length, IsTrue};
 ghost use Rattle.layer_definitions.specs.Network.{HasPdu, net_text};
 ghost use Rattle.layer_definitions.specs.Upper.{trans_mic_length, upper_text};
 
@@ -12,6 +12,26 @@ use mesh_base::keys::UpperKey;
 use mesh_base::octets::Octets;
 use mesh_base::upper::UpperFields;
 use std::marker::Model;
+
+/// Whether the octets of two keys are the same. It looks at all of them, so that they are compared at once.
+fn are_same_octets(a: &[u8; 16], b: &[u8; 16]) -> bool
+    ensures same { IsTrue result ↔ (a.now ≡ b.now) }
+{
+    let mut so_far = true;
+    for i in 0..16 {
+        so_far = so_far & (a[i] == b[i]);
+    }
+    so_far
+}
+
+/// Whether it's the same material.
+fn is_same_material(a: &NetMaterial, b: &NetMaterial) -> bool
+    ensures same { IsTrue result ↔ (a.now ≡ b.now) }
+{
+    a.nid == b.nid
+        && are_same_octets(&a.encryption, &b.encryption)
+        && are_same_octets(&a.privacy, &b.privacy)
+}
 
 /// Network material with its schedules.
 #[derive(Drop)]
@@ -63,7 +83,7 @@ impl KeptSeals {
         ensures value { result ≡ net_text material.now fields.now }
     {
         match &self.net {
-            Some(kept) if kept.material == *material => {
+            Some(kept) if is_same_material(&kept.material, material) => {
                 network_layer::seal_kept(&kept.schedules, fields)
             }
             _ => {

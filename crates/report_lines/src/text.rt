@@ -167,9 +167,14 @@ impl LineText {
     }
 
     /// A number in decimal.
+    #[tactic(auto, using(std::proofs::lemmas::Fmt::decimal_digit))]
     pub fn push_decimal(&mut self, n: u64) -> Result<(), AllocError>
         ensures ok { OnOk result (self.new ≡ self.old ++ decimal n) }
     {
+        // Bearers, jobs and small counts have one digit, which is pushed without the room of twenty.
+        if n < 10 {
+            return self.push(&[b'0' + n as u8]);
+        }
         let mut digits = itoa::Buffer::new();
         self.push(digits.format(n).as_bytes())
     }

@@ -1,9 +1,10 @@
 -- A text cut at its first LF.
-use Rattle.std.proofs.Common.{◌≡◌, ℕ, ◌+◌, ◌<◌, Bool, true, false, ◌==◌, List, [], ◌∷◌, ◌++◌, length, get_or, take, drop, All, refl, sym, ap, ◌∙◌, inl, inr, take-append-drop, append_assoc, append-nil, not, filter, if◌then◌else◌}
+use Rattle.std.proofs.Common.{◌≡◌, ℕ, zero, suc, ◌+◌, ◌<◌, ◌≤◌, arith, Bool, true, false, ◌==◌, List, [], ◌∷◌, ◌++◌, length, get_or, take, drop, All, refl, sym, ap, subst, ◌∙◌, inl, inr, take-append-drop, append_assoc, append-nil, not, filter, if◌then◌else◌}
 use Rattle.std.specs.List.{slice_split, onto_first}
 use Rattle.std.proofs.lemmas.Bool.{cases_Bool, cond-true, cond-false}
 use Rattle.std.proofs.lemmas.List.{drop_more, take_more}
 use Rattle.std.proofs.lemmas.List.Elements.{All-head, All-tail, All-push, filter-append}
+use Rattle.memchr.specs.Find.{Nowhere, Passes, is_byte}
 use Rattle.script_definitions.specs.Words.{pieces, without_cr, before_lf, lines_of}
 
 module _ {X : Type 0} (p : X → Bool) where
@@ -74,3 +75,20 @@ line_read text i lt e h =
 pub line_last : (text : List ℕ) → All (λ b. (b == 10) ≡ false) text → lines_of text ≡ text ∷ []
 unfolding before_lf
 line_last text h = ap before_lf (split_none (λ b. b == 10) text h)
+
+-- What a search for an octet says of those that it passes.
+
+not_true : (b : Bool) → (b ≡ true → ⊥) → b ≡ false
+not_true b h =
+    elim (cases_Bool b) [
+      | inl e ↦ absurd (h e)
+      | inr e ↦ e
+    ]
+
+pub none_before : (c : ℕ) (xs : List ℕ) (n : ℕ) → n ≤ length xs → Nowhere (Passes (is_byte c) xs) 0 n → All (λ b. (b == c) ≡ false) (take n xs)
+none_before c xs zero le h = λ k d l. absurd (omega (arith, l))
+none_before c xs (suc n) le h =
+    let more : n + 1 ≡ suc n = omega arith in
+    subst (λ m. All (λ b. (b == c) ≡ false) (take m xs)) more
+    (no_more (λ b. b == c) xs n (omega (arith, le)) (not_true (get_or xs n 0 == c) (h n (omega arith) (omega arith)))
+    (none_before c xs n (omega (arith, le)) (λ k low high. h k low (omega (arith, high)))))

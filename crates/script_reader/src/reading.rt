@@ -38,11 +38,15 @@ pub enum ScriptStop {
     Memory,
 }
 
-/// Whether each octet of a line is of 20 to 7e.
+/// Whether each octet of a line is of 20 to 7e. It looks at all of them, so that several are tested at once.
 fn is_printable(line: &[u8]) -> bool
     ensures value { result ≡ list_all (λ b. nat_le 32 b && nat_le b 126) line.now }
 {
-    line.iter().all(|b| *b >= 0x20 && *b <= 0x7e)
+    let mut so_far = true;
+    for b in line {
+        so_far = so_far & ((*b >= 0x20) & (*b <= 0x7e));
+    }
+    so_far
 }
 
 /// Whether a line has at most 1,200 octets, each of 20 to 7e.

@@ -6,6 +6,7 @@ ghost use Rattle.std.specs.Bool.{OnTrue};
 ghost use Rattle.std.specs.Option.{option_map_or};
 ghost use Rattle.script_definitions.specs.Words.{lines_of, without_cr, begins_with, ends_with, pieces, whole_words, words_of, word_at};
 
+use memchr::memchr;
 use std::alloc::{AllocError, Global};
 
 /// What stands before an LF, without a CR directly before it.
@@ -24,12 +25,10 @@ pub fn cut_line(text: &[u8]) -> (&[u8], Option<&[u8]>)
     ensures value { lines_of text.now ≡ result.0.now ∷ option_map_or (λ more. lines_of more.now) result.1 [] }
     ensures shorter { IfSome result.1 (λ more. length more.now < length text.now) }
 {
-    for (at, b) in text.iter().enumerate() {
-        if *b == b'\n' {
-            return (without_cr(&text[..at]), Some(&text[at + 1..]));
-        }
+    match memchr(b'\n', text) {
+        Some(at) => (without_cr(&text[..at]), Some(&text[at + 1..])),
+        None => (text, None),
     }
-    (text, None)
 }
 
 /// The first piece of a line that its spaces part, and the line behind that space; None where it is the last piece.
@@ -37,12 +36,10 @@ fn cut_piece(line: &[u8]) -> (&[u8], Option<&[u8]>)
     ensures value { pieces 32 line.now ≡ result.0.now ∷ option_map_or (λ more. pieces 32 more.now) result.1 [] }
     ensures shorter { IfSome result.1 (λ more. length more.now < length line.now) }
 {
-    for (at, b) in line.iter().enumerate() {
-        if *b == b' ' {
-            return (&line[..at], Some(&line[at + 1..]));
-        }
+    match memchr(b' ', line) {
+        Some(at) => (&line[..at], Some(&line[at + 1..])),
+        None => (line, None),
     }
-    (line, None)
 }
 
 /// Puts a piece behind the words, unless it is empty.

@@ -1,15 +1,16 @@
-use Rattle.std.proofs.Common.{arith, take_all, eq-eqb, ◌==◌}
+use Rattle.std.proofs.Common.{◌==◌, ◌≡◌, length, false, All, arith, subst, take_all, List, ℕ}
 use Rattle.std.proofs.lemmas.List.{take_rest}
-use Rattle.std.proofs.lemmas.Bool.Decides.{nat_tests}
-use Rattle.script_reader.proofs.Cuts.{line_read, line_last, no_more}
+use Rattle.script_reader.proofs.Cuts.{line_last, line_read, none_before}
 use Rattle.script_reader.proofs.words.cut_line.Goals as goal
 
-pub returns-then-b-eq10-clause-value : goal.returns-then-b-eq10-clause-value
-returns-then-b-eq10-clause-value c =
-    rw (take_rest, c.without_cr.ensures.value) (line_read _ _ c.loop-at-test.true (eq-eqb _ 10 c.if-b-eq10.true) c.loop-at.invariant)
+pub returns-in-Some-clause-value : goal.returns-in-Some-clause-value
+returns-in-Some-clause-value c =
+    let found = c.in-Some.ensures in
+    rw (take_rest, c.without_cr.ensures.value)
+    (line_read _ _ found.0.high found.1 (none_before 10 c.args.text.now c.in-Some.at (omega (arith, found.0.high)) found.0.before))
 
-pub returns-clause-value : goal.returns-clause-value
-returns-clause-value c = line_last _ (rw (take_all _ _ c.loop-at-test.false) at c.loop-at.invariant)
-
-pub loop-at-preserved : goal.loop-at-preserved
-loop-at-preserved c = no_more (λ b. b == 10) _ _ c.loop-at-test.true (grind (arith, nat_tests)) c.loop-at.invariant
+pub returns-in-None-clause-value : goal.returns-in-None-clause-value
+returns-in-None-clause-value c =
+    let xs = c.args.text.now in
+    line_last _
+    (subst (λ (ys : List ℕ). All (λ b. (b == 10) ≡ false) ys) (take_all (length xs) xs (omega arith)) (none_before 10 xs (length xs) (omega arith) c.in-None.ensures))

@@ -1,15 +1,16 @@
-use Rattle.std.proofs.Common.{arith, take_all, eq-eqb, ◌==◌}
+use Rattle.std.proofs.Common.{◌==◌, ◌≡◌, length, false, All, arith, subst, take_all, List, ℕ}
 use Rattle.std.proofs.lemmas.List.{take_rest}
-use Rattle.std.proofs.lemmas.Bool.Decides.{nat_tests}
-use Rattle.script_reader.proofs.Cuts.{split_none, split_read, no_more}
+use Rattle.script_reader.proofs.Cuts.{none_before, split_none, split_read}
 use Rattle.script_reader.proofs.words.cut_piece.Goals as goal
 
-pub returns-then-b-eq32-clause-value : goal.returns-then-b-eq32-clause-value
-returns-then-b-eq32-clause-value c =
-    rw take_rest (split_read (λ b. b == 32) _ _ c.loop-at-test.true (eq-eqb _ 32 c.if-b-eq32.true) c.loop-at.invariant)
+pub returns-in-Some-clause-value : goal.returns-in-Some-clause-value
+returns-in-Some-clause-value c =
+    let found = c.in-Some.ensures in
+    rw take_rest
+    (split_read (λ b. b == 32) _ _ found.0.high found.1 (none_before 32 c.args.line.now c.in-Some.at (omega (arith, found.0.high)) found.0.before))
 
-pub returns-clause-value : goal.returns-clause-value
-returns-clause-value c = split_none (λ b. b == 32) _ (rw (take_all _ _ c.loop-at-test.false) at c.loop-at.invariant)
-
-pub loop-at-preserved : goal.loop-at-preserved
-loop-at-preserved c = no_more (λ b. b == 32) _ _ c.loop-at-test.true (grind (arith, nat_tests)) c.loop-at.invariant
+pub returns-in-None-clause-value : goal.returns-in-None-clause-value
+returns-in-None-clause-value c =
+    let xs = c.args.line.now in
+    split_none (λ b. b == 32) _
+    (subst (λ (ys : List ℕ). All (λ b. (b == 32) ≡ false) ys) (take_all (length xs) xs (omega arith)) (none_before 32 xs (length xs) (omega arith) c.in-None.ensures))
