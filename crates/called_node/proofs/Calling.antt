@@ -1,6 +1,6 @@
 -- A phase of a life, and what it leaves.
 use mathlib.Core.Logic.{∥∥₁_elim, ∥∥₁_map}
-use Rattle.std.proofs.Common.{◌≡◌, ◌∙◌, ℕ, List, [], ◌∷◌, ◌++◌, Vec, Global, map, sym, ap, subst, arith}
+use Rattle.std.proofs.Common.{◌≡◌, ◌∙◌, ℕ, List, [], ◌∷◌, ◌++◌, Vec, Global, Option, Some, map, sym, ap, subst, arith}
 use Rattle.std.proofs.Props.{props}
 use Rattle.std.proofs.lemmas.List.Elements.{All-map}
 use Rattle.std.specs.Prelude.{All}
@@ -51,12 +51,17 @@ module _ {F : Type 0} (role : Role) (image : List ℕ → Type 0) (chip : F → 
     pub story_more : HasStory role image chip old → HasStory role image chip new
     story_more story = ∥∥₁_map story more
 
-    pub phase_done : (text : List ℕ) → text ≡ text_of did → IsPhaseDone role image chip events old new puts text
-    phase_done text is = record {
+    pub phase_done : (waiting : F → Option (List Put)) (text : List ℕ) → Some puts ≡ waiting mid.node.flash → text ≡ text_of did
+        → IsPhaseDone role image chip waiting events old new puts text
+    phase_done waiting text noted is = record {
       did = did;
       part = subst (λ (c : _). IsPartDone c events did) (sym (ap (λ (h : HeldView F). h.node.machine.closed) b.frame)) b.part;
       lived = λ phases told h. b.stays (phases ++ events ∷ []) (told ++ did ∷ []) (b.held phases told h);
       text_is = is;
       writes_are = ap (written puts) (sym b.saved) ∙ b.writes ∙ sym b.handed.now;
       saved = ap (λ s. s.saved) b.handed.setting ∙ sym b.handed.now;
+      taken_from = mid;
+      frame = b.frame;
+      handed = b.handed;
+      noted = noted;
     }

@@ -1,5 +1,5 @@
 -- What a line says to the life that is there, and what comes of it.
-use Rattle.std.proofs.Common.{◌≡◌, ◌∙◌, ℕ, false, List, [], ◌∷◌, ◌++◌, length, Vec, Global, Option, Some, None, map, sym, ap, subst, refl, arith}
+use Rattle.std.proofs.Common.{◌≡◌, ◌∙◌, ℕ, Bool, false, List, [], ◌∷◌, ◌++◌, length, Vec, Global, Option, Some, None, map, sym, ap, subst, refl, arith}
 use Rattle.std.proofs.lemmas.List.{get_or-map, length-map}
 use Rattle.std.proofs.lemmas.List.Elements.{All-map}
 use Rattle.std.specs.Prelude.{All, IsSomeAnd}
@@ -70,39 +70,42 @@ module _ {F : Type 0} where
       (fits k d.items (omega (arith, length-map lists (λ v. v.items))))
 
 module _ {F : Type 0} (role : Role) (image : List ℕ → Type 0) (chip : F → Chip) where
-  pub line_done : (text : List ℕ) (old new : CalledView F) (lists : List (List Event)) (life behind : HeldView F) (writes : List Put) (report : List ℕ)
-      → IsGiven text old lists → old.life ≡ Some life → new ≡ record { life = Some behind; writes = writes; report = report }
-      → IsPhaseDone role image chip lists life behind writes report → IsLineDone role image chip text old new
-  line_done text old new lists life behind writes report g is now done = record {
-    before = life;
-    behind = behind;
-    line = g.line;
-    was = is;
-    is = ap (λ (n : CalledView F). n.life) now;
-    says = subst (λ (h : HeldView F). line_says 1 h.node.machine.elements text ≡ S.Happens g.line) (same_life text old lists life g is) g.said.value;
-    done = subst (λ (ls : List (List Event)). IsPhaseDone role image chip ls life behind new.writes new.report) g.lists_are
-        (subst (λ (n : CalledView F). IsPhaseDone role image chip lists life behind n.writes n.report) (sym now) done);
-    no_writes = g.said.taken.writes;
-    no_report = g.said.taken.report;
-  }
-
   -- a life at its beginning, whose first writes were taken
   pub begun_story : (old new : HeldView F) → HasLived role image chip old [] []
       → ((phases : List (List (List Event))) (did : List PhaseDid) → HasLived role image chip old phases did → HasLived role image chip new phases did)
       → HasStory role image chip new
   begun_story old new begins held = ∣ record { phases = []; did = []; lived = held [] [] begins } ∣₁
 
-  pub begun_is : (life begun : HeldView F) (writes : List Put) (now : CalledView F)
-      → now ≡ record { life = Some begun; writes = writes; report = [] } → life.node.machine.closed ≡ false → HasLived role image chip life [] []
+module _ {F : Type 0} (role : Role) (image : List ℕ → Type 0) (chip : F → Chip) (waiting : F → Option (List Put)) where
+  pub line_done : (text : List ℕ) (old new : CalledView F) (lists : List (List Event)) (life behind : HeldView F) (writes : List Put) (erases : List Bool) (report : List ℕ)
+      → IsGiven text old lists → old.life ≡ Some life → new ≡ record { life = Some behind; writes = writes; erases = erases; report = report }
+      → IsPhaseDone role image chip waiting lists life behind writes report → IsLineDone role image chip waiting text old new
+  line_done text old new lists life behind writes erases report g is now done = record {
+    before = life;
+    behind = behind;
+    line = g.line;
+    was = is;
+    is = ap (λ (n : CalledView F). n.life) now;
+    says = subst (λ (h : HeldView F). line_says 1 h.node.machine.elements text ≡ S.Happens g.line) (same_life text old lists life g is) g.said.value;
+    done = subst (λ (ls : List (List Event)). IsPhaseDone role image chip waiting ls life behind new.writes new.report) g.lists_are
+        (subst (λ (n : CalledView F). IsPhaseDone role image chip waiting lists life behind n.writes n.report) (sym now) done);
+    no_writes = g.said.taken.writes;
+    no_report = g.said.taken.report;
+  }
+
+  -- a life at its beginning, whose first writes were taken
+  pub begun_is : (life begun : HeldView F) (writes : List Put) (erases : List Bool) (now : CalledView F)
+      → now ≡ record { life = Some begun; writes = writes; erases = erases; report = [] } → life.node.machine.closed ≡ false → HasLived role image chip life [] []
       → ((phases : List (List (List Event))) (did : List PhaseDid) → HasLived role image chip life phases did → HasLived role image chip begun phases did)
       → IsHandedOut (chip life.node.flash) (chip begun.node.flash) → begun ≡ record life { node = record life.node { flash = begun.node.flash } }
-      → written writes (chip life.node.flash).setting.saved ≡ (chip life.node.flash).now → IsBegun role image chip life now
-  begun_is life begun writes now is usable begins held handed frame makes = record {
+      → Some writes ≡ waiting life.node.flash → written writes (chip life.node.flash).setting.saved ≡ (chip life.node.flash).now → IsBegun role image chip waiting life now
+  begun_is life begun writes erases now is usable begins held handed frame noted makes = record {
     begun = begun;
     is = ap (λ (n : CalledView F). n.life) is;
     lived = held [] [] begins;
     usable = ap (λ (h : HeldView F). h.node.machine.closed) frame ∙ usable;
     start = ap (λ (h : HeldView F). h.node.start) frame;
+    noted = ap (λ (n : CalledView F). Some n.writes) is ∙ noted;
     writes_are = ap (λ (n : CalledView F). written n.writes (chip life.node.flash).setting.saved) is ∙ makes ∙ sym handed.now;
     saved = ap (λ s. s.saved) handed.setting ∙ sym handed.now;
     no_report = ap (λ (n : CalledView F). n.report) is;

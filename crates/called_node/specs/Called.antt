@@ -1,8 +1,11 @@
 -- A node as calls: what a contract sees of it, and what a line does.
-use Rattle.std.specs.Prelude.{◌≡◌, ℕ, true, false, List, [], ◌∷◌, ◌++◌, All, IfSome, IsSomeAnd, Option, Some}
+use Rattle.std.specs.Prelude.{◌≡◌, ℕ, Bool, true, false, List, [], ◌∷◌, ◌++◌, All, IfSome, IsSomeAnd, Option, Some}
 use Rattle.std.specs.List.{flat_map}
 use Rattle.event_definitions.specs.Role.{Role}
+use Rattle.file_flash.specs.Handed.{IsHandedOut}
 use Rattle.file_flash.specs.Noted.{Put, written}
+use Rattle.file_flash.specs.declared.noted.Write.{Write}
+use Rattle.file_flash.specs.declared.noted.Write.TheVariants as W
 use Rattle.flash_model.specs.Chip.{Chip}
 use Rattle.live_lines.specs.Saying.{line_says, phase_of}
 use Rattle.live_lines.specs.declared.saying.Saying.{Saying}
@@ -17,11 +20,16 @@ use Rattle.script_definitions.specs.declared.line.ScriptLine.{ScriptLine}
 use Rattle.called_node.specs.declared.called.Called.{Called}
 use Rattle.called_node.specs.declared.called.Called.TheVariants as C
 
--- The life, as long as there was memory for it; the writes that weren't taken; and the text that wasn't.
+-- The life, as long as there was memory for it; the writes that weren't taken, and of each whether it is an erase; and the text that wasn't.
 pub record CalledView (F : Type 0) : Type 0 where
   pub life : Option (HeldView F)
   pub writes : List Put
+  pub erases : List Bool
   pub report : List ℕ
+
+abbrev pub is_erase : Write → Bool
+is_erase (W.Program at octets) = false
+is_erase (W.Erase sector) = true
 
 -- the text of what a phase did, with the octets of network PDUs
 abbrev pub text_of : PhaseDid → List ℕ
@@ -80,16 +88,22 @@ module _ {F : Type 0} (role : Role) (image : List ℕ → Type 0) (chip : F → 
   abbrev pub HasStory : HeldView F → Type 0
   HasStory life = ∥ Story life ∥₁
 
+-- `waiting` is what waits of the writes that a flash noted.
+module _ {F : Type 0} (role : Role) (image : List ℕ → Type 0) (chip : F → Chip) (waiting : F → Option (List Put)) where
   -- A life did one phase more, of these events. The text is that of what it did. The writes, made in their order on what is there once all writes
-  -- of before were made, give what is read now.
+  -- of before were made, give what is read now. They are those that were noted, in that order, when they were taken from the life behind the phase.
   pub record IsPhaseDone (events : List (List Event)) (old new : HeldView F) (writes : List Put) (text : List ℕ) : Type 0 where
     pub did : PhaseDid
     pub part : IsPartDone new.node.machine.closed events did
-    pub lived : (phases : List (List (List Event))) (told : List PhaseDid) → Lived old phases told
-        → Lived new (phases ++ events ∷ []) (told ++ did ∷ [])
+    pub lived : (phases : List (List (List Event))) (told : List PhaseDid) → Lived role image chip old phases told
+        → Lived role image chip new (phases ++ events ∷ []) (told ++ did ∷ [])
     pub text_is : text ≡ text_of did
     pub writes_are : written writes (chip old.node.flash).setting.saved ≡ (chip new.node.flash).now
     pub saved : (chip new.node.flash).setting.saved ≡ (chip new.node.flash).now
+    pub taken_from : HeldView F
+    pub frame : new ≡ record taken_from { node = record taken_from.node { flash = new.node.flash } }
+    pub handed : IsHandedOut (chip taken_from.node.flash) (chip new.node.flash)
+    pub noted : Some writes ≡ waiting taken_from.node.flash
 
   -- A line of what happens was taken: it was one phase. Nothing had been left of the phases before it.
   pub record IsLineDone (text : List ℕ) (old new : CalledView F) : Type 0 where
@@ -103,13 +117,15 @@ module _ {F : Type 0} (role : Role) (image : List ℕ → Type 0) (chip : F → 
     pub no_writes : old.writes ≡ []
     pub no_report : old.report ≡ []
 
-  -- A node as calls was made of this life, which is at its beginning. The writes, made on what is there, give what is read now.
+  -- A node as calls was made of this life, which is at its beginning. The writes, made on what is there, give what is read now. They are those that
+  -- the flash of this life had noted, in that order.
   pub record IsBegun (life : HeldView F) (now : CalledView F) : Type 0 where
     pub begun : HeldView F
     pub is : now.life ≡ Some begun
-    pub lived : Lived begun [] []
+    pub lived : Lived role image chip begun [] []
     pub usable : begun.node.machine.closed ≡ false
     pub start : begun.node.start ≡ life.node.start
+    pub noted : Some now.writes ≡ waiting life.node.flash
     pub writes_are : written now.writes (chip life.node.flash).setting.saved ≡ (chip begun.node.flash).now
     pub saved : (chip begun.node.flash).setting.saved ≡ (chip begun.node.flash).now
     pub no_report : now.report ≡ []

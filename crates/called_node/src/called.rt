@@ -1,17 +1,17 @@
 //! A node as calls.
 #![tactic(auto)]
 
-ghost use Rattle.std.specs.Prelude.{◌≡◌, ◌≢◌, ◌↔◌, ◌+◌, ◌≤◌, List, [], ◌∷◌, None, Some, false, length, true, map, All, IfOk, IfErr, IfSome, IsSomeAnd, MatchOption};
+ghost use Rattle.std.specs.Prelude.{◌≡◌, ◌≢◌, ◌↔◌, ◌+◌, ◌≤◌, Bool, List, [], ◌∷◌, None, Some, false, length, true, map, All, IfOk, IfErr, IfSome, IsSomeAnd, MatchOption};
 ghost use Rattle.std.specs.Option.{ForSome};
 ghost use Rattle.file_flash.specs.Noted.{IsInside, Put, put_of};
 ghost use Rattle.locked_node.specs.Stands.{IsDueNode, IsIdleNode};
 ghost use Rattle.mesh_node.specs.Held.{HasLived};
 ghost use Rattle.node_bearer.specs.Did.{AreEvents};
-ghost use Rattle.called_node.specs.Called.{HasStory, IsBegun, IsCause, IsGiven, IsLineDone, IsOver, IsPhaseDone, IsTaken, IsUsable};
+ghost use Rattle.called_node.specs.Called.{HasStory, IsBegun, IsCause, IsGiven, IsLineDone, IsOver, IsPhaseDone, IsTaken, IsUsable, is_erase};
 ghost use Rattle.called_node.specs.declared.called.Called.TheVariants as C;
 
 use crate::phase::{PhaseLeft, do_phase};
-use file_flash::{NotedFlash, Write};
+use file_flash::{Backing, NotedFlash, NotedPlace, Write};
 use flash_model::Flash;
 use live_lines::phase::phase_of;
 use live_lines::{Saying, line_says};
@@ -67,13 +67,14 @@ pub struct CalledNode<M: Machine, F: Flash + Send + Drop> {
 impl<M: Machine, F: Flash + Send + Drop> Model for CalledNode<M, F> {
     ghost use Rattle.std.specs.Prelude.{drop, map};
     ghost use Rattle.file_flash.specs.Noted.{put_of};
-    ghost use Rattle.called_node.specs.Called.{CalledView};
+    ghost use Rattle.called_node.specs.Called.{CalledView, is_erase};
 
     ghost Value = { CalledView F };
 
     ghost view = { λ n. record {
       life = n.life;
       writes = drop n.taken (map put_of n.writes.items);
+      erases = drop n.taken (map is_erase n.writes.items);
       report = n.report.items;
     } };
 }
@@ -99,8 +100,8 @@ fn do_line<M: Machine>(
     ensures story { IfOk result (λ r. HasStory M.role M.image ⟦<NotedFlash as Flash>⟧.chip r.life) }
     ensures inside { IfOk result (λ r. All IsInside r.writes.items) }
     ensures done { IfOk result
-        (λ r. IsPhaseDone M.role M.image ⟦<NotedFlash as Flash>⟧.chip (map (λ v. v.items) lists.now) life r.life (map put_of r.writes.items)
-        r.report.items) }
+        (λ r. IsPhaseDone M.role M.image ⟦<NotedFlash as Flash>⟧.chip (λ f. ⟦<NotedPlace as Backing>⟧.waiting f.backing)
+        (map (λ v. v.items) lists.now) life r.life (map put_of r.writes.items) r.report.items) }
 {
     do_phase(alloc, life, only_list(lists))
 }
@@ -110,7 +111,13 @@ impl<M: Machine> CalledNode<M, NotedFlash> {
     fn begun(alloc: Global, life: HeldLife<M, NotedFlash>, writes: Vec<Write>) -> Self
         requires story { HasStory M.role M.image ⟦<NotedFlash as Flash>⟧.chip life }
         requires inside { All IsInside writes.items }
-        ensures value { result ≡ record { life = Some life; writes = map put_of writes.items; report = [] } }
+        ensures value { result
+            ≡ record {
+              life = Some life;
+              writes = map put_of writes.items;
+              erases = map is_erase writes.items;
+              report = [];
+            } }
     {
         CalledNode {
             life: Some(life),
@@ -125,7 +132,8 @@ impl<M: Machine> CalledNode<M, NotedFlash> {
     pub fn new(alloc: Global, life: HeldLife<M, NotedFlash>) -> Self
         requires usable { life.node.machine.closed ≡ false }
         requires begins { HasLived M.role M.image ⟦<NotedFlash as Flash>⟧.chip life [] [] }
-        ensures begun { IsBegun M.role M.image ⟦<NotedFlash as Flash>⟧.chip life result }
+        ensures begun { IsBegun M.role M.image ⟦<NotedFlash as Flash>⟧.chip (λ f. ⟦<NotedPlace as Backing>⟧.waiting f.backing) life
+            result }
     {
         let mut life = life;
         let writes = life.take_writes();
@@ -137,6 +145,7 @@ impl<M: Machine> CalledNode<M, NotedFlash> {
     pub fn next_write(&self) -> Option<&Write>
         ensures value { MatchOption result (self.now.writes ≡ [])
             (λ w. (rest : List Put) × (self.now.writes ≡ put_of w.now ∷ rest)) }
+        ensures kind { IfSome result (λ w. (rest : List Bool) × (self.now.erases ≡ is_erase w.now ∷ rest)) }
         ensures inside { IfSome result (λ w. IsInside w.now) }
     {
         self.writes.get(self.taken)
@@ -145,8 +154,9 @@ impl<M: Machine> CalledNode<M, NotedFlash> {
     /// Takes the next write, if there is one.
     pub fn pass_write(&mut self)
         ensures writes { (put : Put) (rest : List Put) → self.old.writes ≡ put ∷ rest → self.new.writes ≡ rest }
+        ensures kinds { (erase : Bool) (rest : List Bool) → self.old.erases ≡ erase ∷ rest → self.new.erases ≡ rest }
         ensures none { self.old.writes ≡ [] → self.new.writes ≡ [] }
-        ensures frame { self.new ≡ record self.old { writes = self.new.writes } }
+        ensures frame { self.new ≡ record self.old { writes = self.new.writes; erases = self.new.erases } }
     {
         if self.taken < self.writes.len() {
             self.taken += 1;
@@ -232,7 +242,12 @@ impl<M: Machine> CalledNode<M, NotedFlash> {
         requires story { HasStory M.role M.image ⟦<NotedFlash as Flash>⟧.chip left.life }
         requires inside { All IsInside left.writes.items }
         ensures value { self.new
-            ≡ record { life = Some left.life; writes = map put_of left.writes.items; report = left.report.items } }
+            ≡ record {
+              life = Some left.life;
+              writes = map put_of left.writes.items;
+              erases = map is_erase left.writes.items;
+              report = left.report.items;
+            } }
     {
         let PhaseLeft {
             life,
@@ -251,8 +266,10 @@ impl<M: Machine> CalledNode<M, NotedFlash> {
     /// `live_lines`.
     #[tactic(auto, using(crate::proofs::Lines::is_there))]
     pub fn line(&mut self, alloc: Global, text: &[u8]) -> Called
-        ensures happened { result ≡ C.Happened → IsLineDone M.role M.image ⟦<NotedFlash as Flash>⟧.chip text.now self.old self.new }
-        ensures lost { result ≡ C.Lost → self.new ≡ record { life = None; writes = []; report = [] } }
+        ensures happened { result ≡ C.Happened
+            → IsLineDone M.role M.image ⟦<NotedFlash as Flash>⟧.chip (λ f. ⟦<NotedPlace as Backing>⟧.waiting f.backing) text.now self.old
+            self.new }
+        ensures lost { result ≡ C.Lost → self.new ≡ record { life = None; writes = []; erases = []; report = [] } }
         ensures still { result ≢ C.Happened → result ≢ C.Lost → self.new ≡ self.old }
         ensures cause { IsCause text.now self.old result }
     {

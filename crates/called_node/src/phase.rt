@@ -7,7 +7,7 @@ ghost use Rattle.mesh_node.specs.Told.{IsPrintablePhase, did_of};
 ghost use Rattle.node_bearer.specs.Did.{AreEvents};
 ghost use Rattle.called_node.specs.Called.{HasStory, IsPhaseDone, text_of};
 
-use file_flash::{NotedFlash, Write};
+use file_flash::{Backing, NotedFlash, NotedPlace, Write};
 use flash_model::Flash;
 use machine_contract::Machine;
 use mesh_base::memory::MemSink;
@@ -58,7 +58,8 @@ pub(crate) fn do_phase<M: Machine>(
     ensures story { IfOk result (λ r. HasStory M.role M.image ⟦<NotedFlash as Flash>⟧.chip r.life) }
     ensures inside { IfOk result (λ r. All IsInside r.writes.items) }
     ensures done { IfOk result
-        (λ r. IsPhaseDone M.role M.image ⟦<NotedFlash as Flash>⟧.chip (events.now ∷ []) life r.life (map put_of r.writes.items) r.report.items) }
+        (λ r. IsPhaseDone M.role M.image ⟦<NotedFlash as Flash>⟧.chip (λ f. ⟦<NotedPlace as Backing>⟧.waiting f.backing) (events.now ∷ [])
+        life r.life (map put_of r.writes.items) r.report.items) }
 {
     let done = life.phase(alloc, events)?;
     let HeldPhase { mut life, log } = done;

@@ -1,5 +1,5 @@
 -- Calls of a node behind a pointer, one after another.
-use Rattle.std.specs.Prelude.{◌≡◌, ℕ, List, [], ◌∷◌, Some}
+use Rattle.std.specs.Prelude.{◌≡◌, ℕ, Bool, List, [], ◌∷◌, Option, Some}
 use Rattle.called_node.specs.Called.{CalledView}
 use Rattle.file_flash.specs.Noted.{Put, written}
 use Rattle.flash_model.specs.Chip.{Chip}
@@ -19,12 +19,13 @@ handed_out (Wrote put ∷ calls) = put ∷ handed_out calls
 handed_out (Reported text ∷ calls) = handed_out calls
 handed_out (Happened line ∷ calls) = handed_out calls
 
-module _ {F : Type 0} (chip : F → Chip) where
+-- `waiting` is what waits of the writes that a flash noted.
+module _ {F : Type 0} (chip : F → Chip) (waiting : F → Option (List Put)) where
   -- what a call did to the node
   abbrev pub DidCall : Call → CalledView F → CalledView F → Type 0
-  DidCall (Wrote put) old new = IsPassed old new put
+  DidCall (Wrote put) old new = (erased : Bool) × IsPassed old new put erased
   DidCall (Reported text) old new = IsReported old new text
-  DidCall (Happened line) old new = IsPhase chip line old new
+  DidCall (Happened line) old new = IsPhase chip waiting line old new
 
   -- what calls did, one after another
   abbrev pub DidCalls : List Call → CalledView F → CalledView F → Type 0
@@ -35,5 +36,5 @@ module _ {F : Type 0} (chip : F → Chip) where
   -- life reads.
   abbrev pub WritesMakeImage : Type 0
   WritesMakeImage =
-      (image line : List ℕ) (calls : List Call) (opened now : CalledView F) (life : HeldView F) → IsOpened chip image line opened
+      (image line : List ℕ) (calls : List Call) (opened now : CalledView F) (life : HeldView F) → IsOpened chip waiting image line opened
       → DidCalls calls opened now → now.life ≡ Some life → written now.writes (written (handed_out calls) image) ≡ (chip life.node.flash).now

@@ -6,12 +6,12 @@
 
 ghost use Rattle.handle_laws.specs.Calls.{WritesMakeImage};
 
-use file_flash::NotedFlash;
+use file_flash::{Backing, NotedFlash, NotedPlace};
 use flash_model::Flash;
 
 /// The law of the writes. Take any calls of a node that was opened over an image, whatever came between them that was refused. The writes that were handed
 /// out so far, made one after another on that image, and then those that are left, give what the flash of the node's life reads; so once none is
 /// left, those that were handed out give it alone.
 pub fn writes_law()
-    ensures made { WritesMakeImage ⟦<NotedFlash as Flash>⟧.chip }
+    ensures made { WritesMakeImage ⟦<NotedFlash as Flash>⟧.chip (λ f. ⟦<NotedPlace as Backing>⟧.waiting f.backing) }
 {}

@@ -1,7 +1,7 @@
 //! A life of one bearer that its owner holds between its phases: who links a node has no source and no sink, but calls.
 #![tactic(auto)]
 
-ghost use Rattle.std.specs.Prelude.{◌≡◌, ◌≤◌, ◌-◌, ◌^◌, List, [], ◌∷◌, ◌++◌, length, map, All, true, false, None, IfErr, IfOk, IfSome, OnErr};
+ghost use Rattle.std.specs.Prelude.{◌≡◌, ◌≤◌, ◌-◌, ◌^◌, List, [], ◌∷◌, ◌++◌, length, map, All, true, false, None, Some, IfErr, IfOk, IfSome, OnErr};
 ghost use Rattle.file_flash.specs.Handed.{IsHandedOut};
 ghost use Rattle.file_flash.specs.Noted.{IsInside, put_of, written};
 ghost use Rattle.flash_model.specs.Chip.{IsFresh, Keeps};
@@ -21,7 +21,7 @@ ghost use Rattle.mesh_node.specs.Told.{IsPartDone, IsPrintablePhase, PhaseDid, d
 use crate::alone::one_phase_alone;
 use crate::edges::{Beginning, Going, Gone, LifeLeft, begin, end_life};
 use crate::told::{LastStep, PhaseLog};
-use file_flash::{NotedFlash, Write};
+use file_flash::{Backing, NotedFlash, NotedPlace, Write};
 use flash_model::Flash;
 use locked_node::Known;
 use machine_contract::{Machine, StartFault};
@@ -259,14 +259,15 @@ impl<M: Machine, F: Flash + Send + Drop> HeldLife<M, F> {
 }
 
 impl<M: Machine> HeldLife<M, NotedFlash> {
-    /// The writes of the flash since this was called last, or since it was made, as `Node::take_writes` says it. The life goes on as it was
-    /// (`held`).
+    /// The writes of the flash since this was called last, or since it was made, as `Node::take_writes` says it: those that the flash noted, in
+    /// that order (`noted`). The life goes on as it was (`held`).
     ///
     /// Whoever takes them makes them durable, in their order, before anything leaves that a call of this life handed out.
     pub fn take_writes(&mut self) -> Vec<Write>
         ensures writes { written (map put_of result.items) (⟦<NotedFlash as Flash>⟧.chip self.old.node.flash).setting.saved
             ≡ (⟦<NotedFlash as Flash>⟧.chip self.old.node.flash).now }
         ensures inside { All IsInside result.items }
+        ensures noted { Some (map put_of result.items) ≡ ⟦<NotedPlace as Backing>⟧.waiting self.old.node.flash.backing }
         ensures flash { IsHandedOut (⟦<NotedFlash as Flash>⟧.chip self.old.node.flash)
             (⟦<NotedFlash as Flash>⟧.chip self.new.node.flash) }
         ensures frame { self.new ≡ record self.old { node = record self.old.node { flash = self.new.node.flash } } }

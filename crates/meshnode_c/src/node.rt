@@ -11,7 +11,7 @@ ghost use Rattle.node_layers.specs.NodeLayers.{node_layers};
 ghost use Rattle.called_node.specs.Called.{IsOver, IsUsable};
 ghost use Rattle.node_handle.specs.Nodes.{Became, HasNext, IsAnswered, IsClosedAs, IsErase, IsOpened, IsPassed, IsPhase, IsReported, open_status, told_put};
 
-use file_flash::NotedFlash;
+use file_flash::{Backing, NotedFlash, NotedPlace};
 use flash_model::Flash;
 use machine_contract::Machine;
 use mesh_machine::MeshMachine;
@@ -31,7 +31,8 @@ pub extern "C" fn meshnode_node_open(
 ) -> u32
     ensures ok { result ≡ 0
         → IsSomeAnd node.new.value
-        (λ n. IsOpened ⟦<NotedFlash as Flash>⟧.chip image.now (take size.new text.new) n.calls) }
+        (λ n. IsOpened ⟦<NotedFlash as Flash>⟧.chip (λ f. ⟦<NotedPlace as Backing>⟧.waiting f.backing) image.now
+        (take size.new text.new) n.calls) }
     ensures within { result ≡ 0 → size.new ≤ length text.old }
     ensures held { result ≢ 7 ↔ node.old.value ≡ None }
     ensures length { result ≡ 1 ↔ (node.old.value ≡ None) × ((length image.now ≢ 65536) ⊎ (length text.old < 35)) }
@@ -53,8 +54,9 @@ pub extern "C" fn meshnode_node_line(
     rule: &mut u32,
 ) -> u32
     ensures happened { result ≡ 0
-        → Became (λ a b. IsPhase ⟦<NotedFlash as Flash>⟧.chip line.now a.calls b.calls) node.old.value node.new.value }
-    ensures lost { result ≡ 14 → IsSomeAnd node.new.value (λ n. n.calls ≡ record { life = None; writes = []; report = [] }) }
+        → Became (λ a b. IsPhase ⟦<NotedFlash as Flash>⟧.chip (λ f. ⟦<NotedPlace as Backing>⟧.waiting f.backing) line.now a.calls b.calls)
+        node.old.value node.new.value }
+    ensures lost { result ≡ 14 → IsSomeAnd node.new.value (λ n. n.calls ≡ record { life = None; writes = []; erases = []; report = [] }) }
     ensures empty { result ≡ 6 ↔ node.old.value ≡ None }
     ensures cause { result ≢ 6 → IsSomeAnd node.old.value (λ n. IsAnswered line.now n.calls rule.old result rule.new) }
     ensures same { result ≢ 0 → result ≢ 14 → node.new.value ≡ node.old.value }
@@ -79,13 +81,13 @@ pub extern "C" fn meshnode_node_write(
     erased: &mut bool,
 ) -> u32
     ensures ok { result ≡ 0
-        → Became (λ a b. IsPassed a.calls b.calls (told_put at.new erased.new size.new octets.new)) node.old.value node.new.value }
+        → Became (λ a b. IsPassed a.calls b.calls (told_put at.new erased.new size.new octets.new) erased.new) node.old.value node.new.value }
     ensures erase { result ≡ 0 → erased.new ≡ true → IsErase at.new size.new octets.old octets.new }
     ensures within { result ≡ 0 → erased.new ≡ false → size.new ≤ length octets.old }
     ensures inside { result ≡ 0 → at.new + size.new ≤ 65536 }
     ensures length { result ≡ 1
         → IsSomeAnd node.old.value
-        (λ n. (put : Put) × HasNext n.calls put × (length octets.old < length put.octets) × (size.new ≡ length put.octets)) }
+        (λ n. (put : Put) × HasNext n.calls put false × (length octets.old < length put.octets) × (size.new ≡ length put.octets)) }
     ensures nothing { result ≡ 10 → IsSomeAnd node.old.value (λ n. n.calls.writes ≡ []) }
     ensures empty { result ≡ 6 ↔ node.old.value ≡ None }
     ensures same { result ≢ 0

@@ -2,8 +2,6 @@
 use Rattle.std.specs.Prelude.{◌≡◌, ℕ, ◌*◌, List, [], ◌∷◌, Bool, Option, false, true, replicate, take, IsSomeAnd}
 use Rattle.event_definitions.specs.Role.{node_role}
 use Rattle.file_flash.specs.Noted.{Put}
-use Rattle.file_flash.specs.declared.noted.Write.{Write}
-use Rattle.file_flash.specs.declared.noted.Write.TheVariants as V
 use Rattle.flash_model.specs.Chip.{Chip}
 use Rattle.mesh_node.specs.Held.{HeldView}
 use Rattle.mesh_types.specs.declared.report.Opened.TheVariants as W
@@ -54,10 +52,11 @@ pub record IsFirstLine (image line : List ℕ) : Type 0 where
   pub runs : (config_of over).reset ≡ false
   pub is : line ≡ line_text (opened_line 1 (W.On (config_of over).iv (config_of over).mark))
 
-module _ {F : Type 0} (chip : F → Chip) where
+-- `waiting` is what waits of the writes that a flash noted.
+module _ {F : Type 0} (chip : F → Chip) (waiting : F → Option (List Put)) where
   -- A line was one phase of the node.
   abbrev pub IsPhase : List ℕ → CalledView F → CalledView F → Type 0
-  IsPhase = IsLineDone (node_role node_layers) IsNode chip
+  IsPhase = IsLineDone (node_role node_layers) IsNode chip waiting
 
   -- A node was opened over an image: a life begins over the records that the image recovers, which the line tells. The writes of opening are those
   -- on the image.
@@ -66,7 +65,7 @@ module _ {F : Type 0} (chip : F → Chip) where
     pub life : HeldView F
     pub start : (chip life.node.start).now ≡ image
     pub saved : (chip life.node.flash).setting.saved ≡ image
-    pub begun : IsBegun (node_role node_layers) IsNode chip life now
+    pub begun : IsBegun (node_role node_layers) IsNode chip waiting life now
 
 -- Why a line came to this, as a status and a rule.
 pub record IsAnswered {F : Type 0} (text : List ℕ) (now : CalledView F) (rule_before status rule : ℕ) : Type 0 where
@@ -75,10 +74,12 @@ pub record IsAnswered {F : Type 0} (text : List ℕ) (now : CalledView F) (rule_
   pub status_is : status ≡ status_of called
   pub rule_is : rule ≡ rule_of called rule_before
 
--- The next write is this one, and these are behind it.
-pub record HasNext {F : Type 0} (now : CalledView F) (put : Put) : Type 0 where
+-- The next write is this one, an erase or none, and these are behind it.
+pub record HasNext {F : Type 0} (now : CalledView F) (put : Put) (erased : Bool) : Type 0 where
   pub rest : List Put
   pub is : now.writes ≡ put ∷ rest
+  pub kinds : List Bool
+  pub kind : now.erases ≡ erased ∷ kinds
 
 -- The write that was told: an erase has 4,096 octets ff, any other one so many octets of the front of a slice.
 abbrev pub told_put : ℕ → Bool → ℕ → List ℕ → Put
@@ -92,15 +93,13 @@ pub record IsErase (at size : ℕ) (before after : List ℕ) : Type 0 where
   pub size_is : size ≡ 4096
   pub same : after ≡ before
 
-abbrev pub is_erase : Write → Bool
-is_erase (V.Program at octets) = false
-is_erase (V.Erase sector) = true
-
--- It was taken, and nothing else changed.
-pub record IsPassed {F : Type 0} (old new : CalledView F) (put : Put) : Type 0 where
+-- It was taken, an erase or none, and nothing else changed.
+pub record IsPassed {F : Type 0} (old new : CalledView F) (put : Put) (erased : Bool) : Type 0 where
   pub rest : List Put
   pub was : old.writes ≡ put ∷ rest
-  pub is : new ≡ record old { writes = rest }
+  pub kinds : List Bool
+  pub kind : old.erases ≡ erased ∷ kinds
+  pub is : new ≡ record old { writes = rest; erases = kinds }
 
 -- The text was taken, and nothing else changed. No write was left before.
 pub record IsReported {F : Type 0} (old new : CalledView F) (text : List ℕ) : Type 0 where

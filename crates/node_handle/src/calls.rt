@@ -15,7 +15,7 @@ use crate::handing::{END, answer_line, hand_end, hand_report, hand_write, put_oc
 use crate::held::Meshnode;
 use crate::opening::{OpenedNode, open_node, open_status};
 use crate::status::{EMPTY, HELD, LENGTH, OK, OVER};
-use file_flash::NotedFlash;
+use file_flash::{Backing, NotedFlash, NotedPlace};
 use flash_model::{FLASH_OCTETS, Flash};
 use machine_contract::Machine;
 use mesh_machine::MeshMachine;
@@ -31,7 +31,8 @@ impl Meshnode {
     pub fn open(&mut self, alloc: Global, image: &[u8], text: &mut [u8], size: &mut usize) -> u32
         ensures ok { result ≡ 0
             → IsSomeAnd self.new.value
-            (λ n. IsOpened ⟦<NotedFlash as Flash>⟧.chip image.now (take size.new text.new) n.calls) }
+            (λ n. IsOpened ⟦<NotedFlash as Flash>⟧.chip (λ f. ⟦<NotedPlace as Backing>⟧.waiting f.backing) image.now
+            (take size.new text.new) n.calls) }
         ensures within { result ≡ 0 → size.new ≤ length text.old }
         ensures held { result ≢ 7 ↔ self.old.value ≡ None }
         ensures length { result ≡ 1 ↔ (self.old.value ≡ None) × ((length image.now ≢ 65536) ⊎ (length text.old < 35)) }
@@ -62,8 +63,10 @@ impl Meshnode {
     /// line. Where the line is wrong `rule` tells by which rule it fails first: 1, 3, 4 or 5.
     pub fn line(&mut self, alloc: Global, line: &[u8], rule: &mut u32) -> u32
         ensures happened { result ≡ 0
-            → Became (λ a b. IsPhase ⟦<NotedFlash as Flash>⟧.chip line.now a.calls b.calls) self.old.value self.new.value }
-        ensures lost { result ≡ 14 → IsSomeAnd self.new.value (λ n. n.calls ≡ record { life = None; writes = []; report = [] }) }
+            → Became
+            (λ a b. IsPhase ⟦<NotedFlash as Flash>⟧.chip (λ f. ⟦<NotedPlace as Backing>⟧.waiting f.backing) line.now a.calls b.calls)
+            self.old.value self.new.value }
+        ensures lost { result ≡ 14 → IsSomeAnd self.new.value (λ n. n.calls ≡ record { life = None; writes = []; erases = []; report = [] }) }
         ensures empty { result ≡ 6 ↔ self.old.value ≡ None }
         ensures cause { result ≢ 6 → IsSomeAnd self.old.value (λ n. IsAnswered line.now n.calls rule.old result rule.new) }
         ensures same { result ≢ 0 → result ≢ 14 → self.new.value ≡ self.old.value }
@@ -92,13 +95,13 @@ impl Meshnode {
         erased: &mut bool,
     ) -> u32
         ensures ok { result ≡ 0
-            → Became (λ a b. IsPassed a.calls b.calls (told_put at.new erased.new size.new octets.new)) self.old.value self.new.value }
+            → Became (λ a b. IsPassed a.calls b.calls (told_put at.new erased.new size.new octets.new) erased.new) self.old.value self.new.value }
         ensures erase { result ≡ 0 → erased.new ≡ true → IsErase at.new size.new octets.old octets.new }
         ensures within { result ≡ 0 → erased.new ≡ false → size.new ≤ length octets.old }
         ensures inside { result ≡ 0 → at.new + size.new ≤ 65536 }
         ensures length { result ≡ 1
             → IsSomeAnd self.old.value
-            (λ n. (put : Put) × HasNext n.calls put × (length octets.old < length put.octets) × (size.new ≡ length put.octets)) }
+            (λ n. (put : Put) × HasNext n.calls put false × (length octets.old < length put.octets) × (size.new ≡ length put.octets)) }
         ensures nothing { result ≡ 10 → IsSomeAnd self.old.value (λ n. n.calls.writes ≡ []) }
         ensures empty { result ≡ 6 ↔ self.old.value ≡ None }
         ensures same { result ≢ 0

@@ -3,7 +3,8 @@
 
 ghost use Rattle.std.specs.Prelude.{◌≡◌, ◌≢◌, ◌⊎◌, ◌+◌, ◌<◌, ◌≤◌, [], false, length, take, true};
 ghost use Rattle.file_flash.specs.Noted.{IsInside, Put, put_of};
-ghost use Rattle.node_handle.specs.Nodes.{HasNext, IsErase, IsPassed, IsReported, IsClosedAs, is_erase, rule_of, status_of, told_put};
+ghost use Rattle.called_node.specs.Called.{is_erase};
+ghost use Rattle.node_handle.specs.Nodes.{HasNext, IsErase, IsPassed, IsReported, IsClosedAs, rule_of, status_of, told_put};
 
 use crate::status::{LENGTH, LOST, MEMORY, NOTHING, OK, OVER, WAITING, WRONG};
 use called_node::{Called, CalledNode};
@@ -95,12 +96,12 @@ pub(crate) fn hand_write(
     size: &mut usize,
     erased: &mut bool,
 ) -> u32
-    ensures ok { result ≡ 0 → IsPassed calls.old calls.new (told_put at.new erased.new size.new octets.new) }
+    ensures ok { result ≡ 0 → IsPassed calls.old calls.new (told_put at.new erased.new size.new octets.new) erased.new }
     ensures erase { result ≡ 0 → erased.new ≡ true → IsErase at.new size.new octets.old octets.new }
     ensures within { result ≡ 0 → erased.new ≡ false → size.new ≤ length octets.old }
     ensures inside { result ≡ 0 → at.new + size.new ≤ 65536 }
     ensures length { result ≡ 1
-        → (put : Put) × HasNext calls.old put × (length octets.old < length put.octets) × (size.new ≡ length put.octets) }
+        → (put : Put) × HasNext calls.old put false × (length octets.old < length put.octets) × (size.new ≡ length put.octets) }
     ensures nothing { result ≡ 10 → calls.old.writes ≡ [] }
     ensures same { result ≢ 0
         → (calls.new ≡ calls.old) × (at.new ≡ at.old) × (octets.new ≡ octets.old) × (erased.new ≡ erased.old) }

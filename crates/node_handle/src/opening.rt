@@ -10,7 +10,7 @@ ghost use Rattle.node_handle.specs.Nodes.{IsFirstLine, IsOpened, open_status};
 use crate::held::HeldNode;
 use crate::status::{LENGTH, MEMORY, NO_NODE, WAS_RESET};
 use called_node::CalledNode;
-use file_flash::{FileFlash, NotedFlash, NotedPlace};
+use file_flash::{Backing, FileFlash, NotedFlash, NotedPlace};
 use flash_model::{FLASH_OCTETS, Flash};
 use linked_node::{OpenFault, open_image};
 use mesh_types::report::ReportLine;
@@ -84,7 +84,9 @@ fn life_line(alloc: Global, image: &[u8]) -> Result<LineText, OpenFault>
 /// Opens a node over an image.
 pub(crate) fn open_node(alloc: Global, image: &[u8]) -> Result<OpenedNode, OpenFault>
     requires size { length image.now ≡ FLASH_OCTETS }
-    ensures ok { IfOk result (λ r. IsOpened ⟦<NotedFlash as Flash>⟧.chip image.now r.line r.node.value.calls) }
+    ensures ok { IfOk result
+        (λ r. IsOpened ⟦<NotedFlash as Flash>⟧.chip (λ f. ⟦<NotedPlace as Backing>⟧.waiting f.backing) image.now r.line
+        r.node.value.calls) }
     ensures room { IfOk result (λ r. length r.line ≤ 35) }
     ensures cause { IfErr result (IsOpenCause image.now) }
 {

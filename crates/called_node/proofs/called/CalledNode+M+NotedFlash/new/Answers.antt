@@ -1,6 +1,6 @@
 use Rattle.std.proofs.Common.{rules, map, refl}
 use Rattle.file_flash.specs.Noted.{put_of}
-use Rattle.called_node.specs.Called.{HasStory}
+use Rattle.called_node.specs.Called.{HasStory, is_erase}
 use Rattle.called_node.proofs.Lines.{begun_is, begun_story}
 use Rattle.called_node.proofs.called.CalledNode+M+NotedFlash.new.Goals as goal
 
@@ -13,6 +13,6 @@ pub returns : goal.returns
 returns g c =
     let out = c.take_writes-writes in
     record {
-      begun = begun_is g.M.Machine.role g.M.Machine.image _ c.args.life out.new.self (map put_of out.result.items) _ c.begun.ensures.value c.requires.usable c.requires.begins
-          out.ensures.held out.ensures.flash out.ensures.frame out.ensures.writes;
+      begun = begun_is g.M.Machine.role g.M.Machine.image _ _ c.args.life out.new.self (map put_of out.result.items) (map is_erase out.result.items) _ c.begun.ensures.value c.requires.usable c.requires.begins
+          out.ensures.held out.ensures.flash out.ensures.frame out.ensures.noted out.ensures.writes;
     }
