@@ -1,8 +1,9 @@
 -- From what the parts of a run do to what the run does.
-use Rattle.std.proofs.Common.{◌≡◌, ◌⊎◌, ◌<◌, ◌≤◌, ◌+◌, ℕ, List, ◌++◌, length, length-append, refl, inl, inr, sym, ap, ◌∙◌, subst, arith, append-nil, Option, Some, None, IsTrue}
+use Rattle.std.proofs.Common.{◌≡◌, ◌⊎◌, ◌<◌, ◌≤◌, ◌+◌, ℕ, List, ◌++◌, length, length-append, refl, inl, inr, sym, ap, ◌∙◌, subst, arith, append-nil, min, Option, Some, None, IsTrue}
 use Rattle.std.specs.Prelude.{IfSome, IsSomeAnd}
 use Rattle.std.specs.Io.KnownBytes.{Consumes, IsAtEnd}
 use Rattle.flash_model.proofs.Runs.{past_more}
+use Rattle.flash_model.specs.Arming.{Begins}
 use Rattle.flash_model.specs.Chip.{Chip, IsFresh, Keeps, KeepsCount, LeavesOnly, Setting, Stays}
 use Rattle.slot_journal.specs.Format.{IsErased, IsFirstWritten}
 use Rattle.node_store.specs.Provisioning.{provisioning}
@@ -66,11 +67,25 @@ cycled old mid h k = record { honest = subst IsTrue (sym k.honest) h; steady = k
 pub through : (old mid new : Chip) → IsSameFlash old mid → Keeps mid new → IsSameFlash old new
 through old mid new h k = record { honest = subst IsTrue (sym k.honest) h.honest; steady = k.steady ∙ h.steady; later = omega (arith, h.later, k.later); past = past_more old mid new h.past k.past }
 
+-- what was set when power was cycled is set still
+set_after : (old mid new : Chip) → new.setting ≡ mid.setting → mid.setting ≡ record { faults = old.faults; arm = None; saved = mid.now; moment = mid.moment; cycles = old.setting.cycles + 1 }
+    → new.setting ≡ record { faults = old.faults; arm = None; saved = mid.now; moment = new.setting.moment; cycles = old.setting.cycles + 1 }
+set_after old mid new kept is = subst (λ (s : Setting). s ≡ record { faults = old.faults; arm = None; saved = mid.now; moment = s.moment; cycles = old.setting.cycles + 1 }) (sym (kept ∙ is)) refl
+
 -- an octet isn't erased, and the content stays
-pub written_at : (old mid new : Chip) (at : ℕ) → old.images mid.now → IsFirstWritten mid.now at → ((IsErased mid.now → ⊥) → Stays mid new) → IsWrittenAt at old new
-written_at old mid new at image first unchanged =
+pub written_at : (old mid new : Chip) (at : ℕ) → KeepsCount old mid → old.images mid.now → IsFresh mid
+    → mid.setting ≡ record { faults = old.faults; arm = None; saved = mid.now; moment = mid.moment; cycles = old.setting.cycles + 1 } → Keeps mid new → new.faults ≡ mid.faults
+    → IsFirstWritten mid.now at → ((IsErased mid.now → ⊥) → Stays mid new) → IsWrittenAt at old new
+written_at old mid new at count image fresh setting keeps same first unchanged =
     let stays = unchanged (λ erased. first.written (erased at first.within)) in
-    (subst old.images (sym stays.now) image, subst (λ c. IsFirstWritten c at) (sym stays.now) first)
+    record {
+      was = subst old.images (sym stays.now) image;
+      first = subst (λ c. IsFirstWritten c at) (sym stays.now) first;
+      setting = subst (λ (c : List ℕ). new.setting ≡ record { faults = old.faults; arm = None; saved = c; moment = new.setting.moment; cycles = old.setting.cycles + 1 })
+          (sym stays.now) (set_after old mid new keeps.setting setting);
+      no_fault = same ∙ count.faults;
+      stays = λ c among. fresh.only c (stays.images c among) ∙ sym stays.now;
+    }
 
 -- the octet that a status names, if it names one
 abbrev octet_named : Status → ℕ
@@ -88,11 +103,6 @@ not_erased old mid at image first erased = first.written (erased mid.now image a
 
 pub was_erased : (old mid : Chip) → old.images mid.now → IsErased mid.now → WasErased old
 was_erased old mid image erased = (mid.now, image, erased)
-
--- what was set when power was cycled is set still
-set_after : (old mid new : Chip) → new.setting ≡ mid.setting → mid.setting ≡ record { faults = old.faults; arm = None; saved = mid.now; moment = mid.moment; cycles = old.setting.cycles + 1 }
-    → new.setting ≡ record { faults = old.faults; arm = None; saved = mid.now; moment = new.setting.moment; cycles = old.setting.cycles + 1 }
-set_after old mid new kept is = subst (λ (s : Setting). s ≡ record { faults = old.faults; arm = None; saved = mid.now; moment = s.moment; cycles = old.setting.cycles + 1 }) (sym (kept ∙ is)) refl
 
 -- the flash failed while the node was provisioned
 pub fails_early : (records : List StoreRecord) (old mid new : Chip) → KeepsCount old mid → old.images mid.now → IsFresh mid
@@ -114,11 +124,15 @@ pub failed_first : {F : Type 0} (chip : F → Chip) (records : List StoreRecord)
 failed_first chip records old None early unfailed = early
 failed_first chip records old (Some f) early unfailed = unfailed (ap (λ (s : Setting). s.cycles) early.setting, early.failed)
 
+-- so many calls were begun since power was cycled
+begun_since : (mid new : Chip) → mid.changes ≡ 0 → Begins 8 mid new → new.changes ≡ 8
+begun_since mid new none begins = begins ∙ ap (λ (k : ℕ). min (k + 8) 4294967295) none
+
 -- the node was provisioned on it in this format
 pub was_provisioned : (format : ℕ) (p q : Provision) (old mid new : Chip) → p ≡ q → KeepsCount old mid → old.images mid.now
     → mid.setting ≡ record { faults = old.faults; arm = None; saved = mid.now; moment = mid.moment; cycles = old.setting.cycles + 1 } → IsErased mid.now → Keeps mid new → new.faults ≡ mid.faults
-    → IsProvisioned new (provisioned (provisioning p)) → IsInFormat format new → WasProvisioned format (provisioned (provisioning q)) old new
-was_provisioned format p q old mid new of count image setting erased keeps same made is = record {
+    → mid.changes ≡ 0 → (IsTrue mid.steady → Begins 8 mid new) → IsProvisioned new (provisioned (provisioning p)) → IsInFormat format new → WasProvisioned format (provisioned (provisioning q)) old new
+was_provisioned format p q old mid new of count image setting erased keeps same none costs made is = record {
   found = mid.now;
   was = image;
   erased = erased;
@@ -127,6 +141,7 @@ was_provisioned format p q old mid new of count image setting erased keeps same 
   faults = same ∙ count.faults;
   setting = set_after old mid new keeps.setting setting;
   steady = keeps.steady ∙ count.steady;
+  calls = λ steady. begun_since mid new none (costs (subst IsTrue (sym count.steady) steady));
   past = past_more old mid new count.past keeps.past;
 }
 

@@ -1,5 +1,5 @@
 -- Where each status of a run comes.
-use Rattle.std.specs.Prelude.{◌≡◌, ◌⊎◌, ℕ, ◌+◌, ◌<◌, ◌≤◌, nat_lt, Bool, true, false, IsTrue, List, length, Option, Some, ⊤}
+use Rattle.std.specs.Prelude.{◌≡◌, ◌⊎◌, ℕ, ◌+◌, ◌<◌, ◌≤◌, nat_lt, Bool, true, false, IsTrue, List, length, Option, Some, None, ⊤}
 use Rattle.flash_model.specs.Chip.{Chip, Remembers}
 use Rattle.script_definitions.specs.Reading.{Reading, reading}
 use Rattle.script_definitions.specs.Reading.Reading.{Fails, IsScript}
@@ -102,9 +102,15 @@ IsErasedFlash chip = (c : List ℕ) → chip.images c → IsErased c
 abbrev pub WasErased : Chip → Type 0
 WasErased chip = (c : List ℕ) × chip.images c × IsErased c
 
--- what its power cycle left is what is read, and this is the first octet that isn't ff
-abbrev pub IsWrittenAt : ℕ → Chip → Chip → Type 0
-IsWrittenAt at old new = old.images new.now × IsFirstWritten new.now at
+-- What its power cycle left is what is read and the only image, and this is the first octet that isn't ff. The flash didn't fail since then, and
+-- was given no order to tear a call.
+pub record IsWrittenAt (at : ℕ) (old new : Chip) : Type 0 where
+  pub was : old.images new.now
+  pub first : IsFirstWritten new.now at
+  pub setting : new.setting
+      ≡ record { faults = old.faults; arm = None; saved = new.now; moment = new.setting.moment; cycles = old.setting.cycles + 1 }
+  pub no_fault : new.faults ≡ old.faults
+  pub stays : (image : List ℕ) → new.images image → image ≡ new.now
 
 -- The flash failed in the first power cycle since then.
 abbrev pub FailedFirst : Chip → Chip → Type 0

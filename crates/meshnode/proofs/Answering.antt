@@ -42,7 +42,7 @@ module _ {F R K : Type 0} (chip : F → Chip) (left : R → Option (List ℕ)) (
     summary_run = λ is wrote. inr refl;
     done = λ e. absurd cc;
     front = λ e. absurd cc;
-    whole = λ e. of_any command _ (λ kind flags is. inl refl) (λ is. refl) (λ count start is. refl);
+    whole = λ e. of_any command _ (λ kind flags is. inl refl) (λ is. refl) (λ count start is. (refl, inl refl));
     nothing_written = λ e. absurd e;
     nothing_read = λ e. refl;
     unread = λ e. refl;

@@ -24,7 +24,7 @@ erased_flash chip is only c image = erased_to 65536 c (only c image ∙ is)
 
 -- so no octet of it is written
 never_written : (at : ℕ) (old new : Chip) → IsErasedFlash old → IsWrittenAt at old new → ⊥
-never_written at old new erased h = h.1.written (erased new.now h.0 at h.1.within)
+never_written at old new erased h = h.first.written (erased new.now h.was at h.first.within)
 
 pub never_by : {F : Type 0} (chip : F → Chip) (at : ℕ) (old : Chip) → IsErasedFlash old → (left : Option F) → IsSomeAnd left (λ f. IsWrittenAt at old (chip f)) → ⊥
 never_by chip at old erased None h = absurd h
@@ -89,6 +89,11 @@ module _ {F : Type 0} (chip : F → Chip) (flash : F) (erased : IsErasedFlash (c
       → Same ⊎ IfSome o (λ text. IsScriptAnd (read text) (λ s. FromErased chip (Did s)))
   short_text Same Did read o (inl same) = inl same.0
   short_text Same Did read o (inr h) = inr (from_text Did read o h)
+
+  -- no life was run; or the first ones were, or all
+  pub short_generated : (Same : Type 0) (Did : F → Option F → Type 0) → (Same × (left ≡ Some flash)) ⊎ Did flash left → Same ⊎ FromErased chip Did
+  short_generated Same Did (inl same) = inl same.0
+  short_generated Same Did (inr h) = inr (record { given = flash; erased = erased; left = left; did = h })
 
 -- one of three that isn't the last
 pub first_two : (A B D : Type 0) → (D → ⊥) → A ⊎ B ⊎ D → A ⊎ B

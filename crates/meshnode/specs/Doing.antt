@@ -6,8 +6,8 @@ use Rattle.flash_model.specs.Chip.{Chip}
 use Rattle.life_plans.specs.Plans.{script_of}
 use Rattle.mesh_run.specs.Causes.{IsErasedFlash, IsScriptAnd}
 use Rattle.mesh_run.specs.Kind.{grammar_of, machines_of, node_kind}
-use Rattle.mesh_run.specs.Ran.{FirstFrom, FrontFrom, RanFrom}
-use Rattle.mesh_run.specs.Reporting.{ReportsFront}
+use Rattle.mesh_run.specs.Ran.{FirstFrom, FirstOrAllFrom, FrontFrom, RanFrom}
+use Rattle.mesh_run.specs.Reporting.{ReportsFront, Unwritten}
 use Rattle.report_writer.specs.Reporting.{Reports}
 use Rattle.report_writer.specs.Writing.{SinkView}
 use Rattle.run_steps.specs.Audited.{Audited, AuditedFront}
@@ -51,7 +51,8 @@ module _ {F : Type 0} (chip : F → Chip) where
   IsBroken read before after (C.Generate count start) =
       OverErased (λ given left. RanFrom chip node_kind (format_by false) (script_of (generated count start)) SummarizesFront (chip given) before left after)
 
-  -- There was no memory for it: nothing was written, or the report of the first lives of a script.
+  -- There was no memory for it: nothing was written, or the report of the first lives of a script. Of a script that is generated nothing is written,
+  -- and none of its lives was run, or its first lives were, or all.
   abbrev pub IsShort : {K : Type 0} → (K → SinkView) → Option (List ℕ) → K → K → Command → Type 0
   IsShort view read before after (C.Run kind flags) = (after ≡ before)
       ⊎ IfSome read
@@ -59,4 +60,7 @@ module _ {F : Type 0} (chip : F → Chip) where
       (λ s. FromErased
       (λ given left. FirstFrom chip (machines_of kind) (format_by flags.old) (script_of s) (Reports flags.hex) (chip given) (view before) left (view after))))
   IsShort view read before after C.Audit = after ≡ before
-  IsShort view read before after (C.Generate count start) = view after ≡ view before
+  IsShort view read before after (C.Generate count start) = (view after ≡ view before)
+      × ((after ≡ before)
+      ⊎ FromErased
+      (λ given left. FirstOrAllFrom chip node_kind (format_by false) (script_of (generated count start)) Unwritten (chip given) (view before) left (view after)))

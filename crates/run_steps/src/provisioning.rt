@@ -5,6 +5,7 @@ ghost use Rattle.std.specs.Prelude.{◌≡◌, IsTrue, IfErr, OnOk};
 ghost use Rattle.flash_model.specs.Chip.{IsFresh, Keeps, LeavesOnly, Stays};
 ghost use Rattle.node_store.specs.Provisioning.{IsProvision, provisioning};
 ghost use Rattle.node_store.specs.Tie.{IsMade};
+ghost use Rattle.node_store.specs.Writing.{CostsCalls};
 ghost use Rattle.slot_journal.specs.Causes.{IsFormatCause, IsNotErased};
 ghost use Rattle.slot_journal.specs.Format.{IsErased};
 ghost use Rattle.store_definitions.specs.Provisioning.{provisioned};
@@ -27,6 +28,8 @@ fn provision_now<F: Flash>(flash: &mut F, p: &Provision) -> Result<(), FormatFau
     ensures format { IsFresh (F.chip flash.old) → OnOk result (IsInFormat 2 (F.chip flash.new)) }
     ensures any_moment { IsFresh (F.chip flash.old) → IsErased (F.chip flash.old).now
         → LeavesOnly (F.chip flash.old) (F.chip flash.new) (IsMade (provisioned (provisioning p.now))) }
+    // over a steady flash: two program calls for each record and two for the header, and never more
+    ensures costs { IsTrue (F.chip flash.old).steady → CostsCalls 8 result (F.chip flash.old) (F.chip flash.new) }
     ensures no_fault { OnOk result ((F.chip flash.new).faults ≡ (F.chip flash.old).faults) }
     ensures sure { IsTrue (F.chip flash.old).sure → IfErr result IsNotErased }
     ensures frame { Keeps (F.chip flash.old) (F.chip flash.new) }
@@ -51,6 +54,8 @@ pub fn provision<F: Flash>(flash: &mut F, old: bool, p: &Provision) -> Result<()
     ensures format { IsFresh (F.chip flash.old) → OnOk result (IsInFormat (format_by old) (F.chip flash.new)) }
     ensures any_moment { IsFresh (F.chip flash.old) → IsErased (F.chip flash.old).now
         → LeavesOnly (F.chip flash.old) (F.chip flash.new) (IsMade (provisioned (provisioning p.now))) }
+    // over a steady flash: as many calls in either format
+    ensures costs { IsTrue (F.chip flash.old).steady → CostsCalls 8 result (F.chip flash.old) (F.chip flash.new) }
     ensures no_fault { OnOk result ((F.chip flash.new).faults ≡ (F.chip flash.old).faults) }
     ensures sure { IsTrue (F.chip flash.old).sure → IfErr result IsNotErased }
     ensures frame { Keeps (F.chip flash.old) (F.chip flash.new) }

@@ -6,7 +6,7 @@ use Rattle.mesh_run.specs.Kind.{grammar_of}
 use Rattle.run_steps.specs.declared.status.Status.TheVariants as S
 use Rattle.script_definitions.specs.Reading.{reading}
 use Rattle.meshnode.proofs.Answering.{no_memory}
-use Rattle.meshnode.proofs.Doing.{erased_flash, first_two, never_broken, never_by, never_done, of_any, of_command, over, over_text, short_text, two_of_text}
+use Rattle.meshnode.proofs.Doing.{erased_flash, first_two, never_broken, never_by, never_done, of_any, of_command, over, over_text, short_generated, short_text, two_of_text}
 use Rattle.meshnode.proofs.run_words.Goals as goal
 
 pub returns : goal.returns
@@ -46,7 +46,10 @@ returns g c =
         whole = λ short. of_any _ _
             (λ kind flags is. short_text chip flash erased left _ _ (λ text. reading (grammar_of kind) text) _ (ran.whole kind flags is short))
             (λ is. ran.verdict_memory is short)
-            (λ count start is. ran.summary_unwritten (subst IsGenerate (sym is) tt) short);
+            (λ count start is. (
+              ran.summary_unwritten (subst IsGenerate (sym is) tt) short,
+              short_generated chip flash erased left _ _ (ran.summary_memory count start is short),
+            ));
         nothing_written = ran.nothing_written;
         nothing_read = ran.nothing_read;
         unread = ran.unread;

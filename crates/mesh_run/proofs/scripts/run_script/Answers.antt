@@ -57,7 +57,8 @@ returns-in-Err-NotErased-clause-ends g c =
     let fresh = cycle.fresh c.requires.honest in
     let cause = subst (IsFormatCause mid new) c.in-Err-NotErased.field-0-is c.in-Err-NotErased.ensures.cause in
     let said : IsWrittenAt c.in-Err-NotErased.at old new =
-    written_at old mid new c.in-Err-NotErased.at (cycle.image c.requires.honest) (cause.1 fresh.honest) (c.provision.ensures.unchanged fresh.honest) in
+    written_at old mid new c.in-Err-NotErased.at cycle.frame (cycle.image c.requires.honest) fresh cycle.setting c.provision.ensures.frame cause.0
+    (cause.1 fresh.honest) (c.provision.ensures.unchanged fresh.honest) in
     record {
       due = search rules;
       write_fault = search rules;
@@ -92,7 +93,8 @@ returns-in-Ok-live_all-clause-done g c = λ is.
     let fresh = cycle.fresh c.requires.honest in
     let was : WasProvisioned format (provisioned s.node) old start =
     was_provisioned format c.provision_of.result (provision_of (g.S.LifeSource.script c.args.script.now).provision) old (chip c.power_cycle.new.self) start (c.provision_of.ensures.value ∙ ap provision_of c.node.ensures.value) cycle.frame
-    (cycle.image c.requires.honest) cycle.setting (c.in-Ok.ensures.erased fresh.honest) c.provision.ensures.frame c.in-Ok.ensures.no_fault (c.in-Ok.ensures.provisioned fresh) (c.in-Ok.ensures.format fresh) in
+    (cycle.image c.requires.honest) cycle.setting (c.in-Ok.ensures.erased fresh.honest) c.provision.ensures.frame c.in-Ok.ensures.no_fault
+    cycle.changes (λ steady. (c.in-Ok.ensures.costs steady).calls) (c.in-Ok.ensures.provisioned fresh) (c.in-Ok.ensures.format fresh) in
     subst (λ e. IsSomeAnd e.flash (λ f. RanFrom chip kind format s told old before f after))
     (sym c.with_flash-in-Ok-live_all.ensures.value) (record { start = c.provision.new.flash; provisioned = was; ran = c.in-Ok-live_all.ensures.all })
 
@@ -113,7 +115,8 @@ returns-in-Err-Fault-clause-front g c = λ is.
     let fresh = cycle.fresh c.requires.honest in
     let was : WasProvisioned format (provisioned s.node) old start =
     was_provisioned format c.provision_of.result (provision_of (g.S.LifeSource.script c.args.script.now).provision) old (chip c.power_cycle.new.self) start (c.provision_of.ensures.value ∙ ap provision_of c.node.ensures.value) cycle.frame
-    (cycle.image c.requires.honest) cycle.setting (c.in-Ok.ensures.erased fresh.honest) c.provision.ensures.frame c.in-Ok.ensures.no_fault (c.in-Ok.ensures.provisioned fresh) (c.in-Ok.ensures.format fresh) in
+    (cycle.image c.requires.honest) cycle.setting (c.in-Ok.ensures.erased fresh.honest) c.provision.ensures.frame c.in-Ok.ensures.no_fault
+    cycle.changes (λ steady. (c.in-Ok.ensures.costs steady).calls) (c.in-Ok.ensures.provisioned fresh) (c.in-Ok.ensures.format fresh) in
     let ran : RanFront chip kind s told broken c.provision.new.flash before c.in-Err-Fault.flash after =
     subst (λ e. IsSinkFault (Err e) → IsSomeAnd (flash_left (Err e)) (λ f. RanFront chip kind s told broken c.provision.new.flash before f after)) c.in-Err-Fault.field-0-is c.in-Err-Fault.ensures.front tt in
     subst (λ e. IsSomeAnd e.flash (λ f. FrontFrom chip kind format s told broken old before f after))
@@ -136,7 +139,8 @@ returns-in-Err-Memory-clause-whole g c = λ is.
     let fresh = cycle.fresh c.requires.honest in
     let was : WasProvisioned format (provisioned s.node) old start =
     was_provisioned format c.provision_of.result (provision_of (g.S.LifeSource.script c.args.script.now).provision) old (chip c.power_cycle.new.self) start (c.provision_of.ensures.value ∙ ap provision_of c.node.ensures.value) cycle.frame
-    (cycle.image c.requires.honest) cycle.setting (c.in-Ok.ensures.erased fresh.honest) c.provision.ensures.frame c.in-Ok.ensures.no_fault (c.in-Ok.ensures.provisioned fresh) (c.in-Ok.ensures.format fresh) in
+    (cycle.image c.requires.honest) cycle.setting (c.in-Ok.ensures.erased fresh.honest) c.provision.ensures.frame c.in-Ok.ensures.no_fault
+    cycle.changes (λ steady. (c.in-Ok.ensures.costs steady).calls) (c.in-Ok.ensures.provisioned fresh) (c.in-Ok.ensures.format fresh) in
     record {
       start = c.provision.new.flash;
       provisioned = was;
