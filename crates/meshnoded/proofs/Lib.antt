@@ -2,3 +2,4 @@ mod Told
 mod Ran
 mod Doing
 mod Made
+mod Causes

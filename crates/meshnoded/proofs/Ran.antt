@@ -3,6 +3,7 @@ use Rattle.std.proofs.Common.{◌≡◌, ℕ, Bool, Option, Some, None, Result, 
 use Rattle.std.specs.Prelude.{IsSomeAnd, OnOk}
 use Rattle.event_definitions.specs.Role.{node_role}
 use Rattle.flash_model.specs.Chip.{Chip}
+use Rattle.live_node.specs.Ends.{IsErrorsCause, IsSourceCause}
 use Rattle.live_node.specs.Lived.{LivedOut, StreamsAt}
 use Rattle.mesh_machine.specs.Machine.{Stands, shown}
 use Rattle.mesh_node.specs.Given.{Stood}
@@ -10,6 +11,7 @@ use Rattle.node_layers.specs.NodeLayers.{node_layers}
 use Rattle.node_store.specs.Tie.{IsNode}
 use Rattle.report_writer.specs.Writing.{SinkView}
 use Rattle.live_node.specs.declared.status.Status.{Status}
+use Rattle.live_node.specs.declared.status.Status.TheVariants as S
 use Rattle.node_file.specs.declared.faults.OpenFault.{OpenFault}
 use Rattle.node_file.specs.declared.faults.OpenFault.TheVariants as O
 use Rattle.meshnoded.specs.Failing.{open_failure}
@@ -24,14 +26,19 @@ module _ {F : Type 0} (chip : F → Chip) (opens : Chip → Type 0) (start : F) 
   Left flash = IsSomeAnd flash
       (λ f. LivedOut (Stood shown Stands chip f) (node_role node_layers) IsNode hex bearers clocked (chip start) (chip f) from to before after)
 
-  has_run : (flash : Option F) → Left flash → HasRun chip opens hex bearers clocked from to before after
-  has_run None left = absurd left
-  has_run (Some f) left = record { start = start; opened = opened; flash = f; lived = left }
+  has_run : (flash : Option F) → Left flash → to.source_faults ≡ from.source_faults → to.sink_faults ≡ from.sink_faults
+      → HasRun chip opens hex bearers clocked from to before after
+  has_run None left read told = absurd left
+  has_run (Some f) left read told =
+      record { start = start; opened = opened; flash = f; lived = left; no_source_fault = read; no_errors_fault = told }
 
-  pub has_run_ok : {T E : Type 0} (Done : Type 0) (r : Result T E) (flash : Option F) → (Done → Left flash) → OnOk r Done
-      → OnOk r (HasRun chip opens hex bearers clocked from to before after)
-  has_run_ok Done (Ok x) flash left done = has_run flash (left done)
-  has_run_ok Done (Err e) flash left done = tt
+  pub has_run_ok : {T E : Type 0} (status : Status) (r : Result T E) (flash : Option F) → (status ≡ S.Done → Left flash)
+      → IsSourceCause status from.source_faults to.source_faults → IsErrorsCause status from.sink_faults to.sink_faults
+      → OnOk r (status ≡ S.Done) → OnOk r (HasRun chip opens hex bearers clocked from to before after)
+  has_run_ok status (Ok x) flash left read told done =
+      has_run flash (left done) (subst (λ s. IsSourceCause s from.source_faults to.source_faults) done read)
+      (subst (λ s. IsErrorsCause s from.sink_faults to.sink_faults) done told)
+  has_run_ok status (Err e) flash left read told done = tt
 
 -- Why a node wasn't run.
 

@@ -1,5 +1,7 @@
 pub mod Numbers
 pub mod Failing
+pub mod Causes
+pub mod Streams
 pub mod Answering
 pub mod Running
 pub mod Reading

@@ -2,7 +2,7 @@
 use Rattle.std.specs.Prelude.{◌≡◌, ◌≢◌, ◌⊎◌, ℕ, Bool, true, false, Option}
 use Rattle.event_definitions.specs.Role.{node_role}
 use Rattle.flash_model.specs.Chip.{Chip}
-use Rattle.live_node.specs.Ends.{EndsAs}
+use Rattle.live_node.specs.Ends.{EndsAs, IsClosedBy, IsErrorsCause, IsSourceCause}
 use Rattle.live_node.specs.Lived.{LivedOut, StreamsAt}
 use Rattle.live_node.specs.declared.status.Status.{Status}
 use Rattle.live_node.specs.declared.status.Status.TheVariants as S
@@ -31,6 +31,9 @@ module _ {F : Type 0} (chip : F → Chip) (opens : Chip → Type 0) (hex : Bool)
     pub opened : opens (chip start)
     pub flash : F
     pub lived : LivedOut (Stood shown Stands chip flash) (node_role node_layers) IsNode hex bearers clocked (chip start) (chip flash) from to before after
+    -- no read failed, and nothing that is told of wrong lines
+    pub no_source_fault : to.source_faults ≡ from.source_faults
+    pub no_errors_fault : to.sink_faults ≡ from.sink_faults
 
   -- The file was opened, and a life of its node ended so: what it left is what `run_node` says of this status.
   pub record HasEnded (status : Status) (closed : Bool) : Type 0 where
@@ -38,6 +41,10 @@ module _ {F : Type 0} (chip : F → Chip) (opens : Chip → Type 0) (hex : Bool)
     pub opened : opens (chip start)
     pub flash : Option F
     pub ends : EndsAs (node_role node_layers) IsNode hex bearers clocked (chip start) from to before after chip (Stood shown Stands chip) status closed flash
+    -- whether the flash failed, and which stream
+    pub closed_by : IsClosedBy status closed
+    pub source_cause : IsSourceCause status from.source_faults to.source_faults
+    pub errors_cause : IsErrorsCause status from.sink_faults to.sink_faults
 
 module _ {F : Type 0} (chip : F → Chip) (opens : Chip → Type 0) (hex : Bool) (bearers : ℕ) (clocked : Bool) (from to : StreamsAt) (before after : SinkView) (refuses : OpenFault → Type 0) where
   -- Why a node wasn't run to the end of its source. Its file wasn't opened, for this fault, or there was no memory to open it; then nothing was

@@ -9,6 +9,7 @@ ghost use Rattle.node_file.specs.declared.faults.OpenFault.{OpenFault};
 ghost use Rattle.report_writer.specs.Handing.{HandedFront, IsHanded};
 ghost use Rattle.report_writer.specs.Writing.{view_of};
 ghost use Rattle.meshnoded.specs.Answering.{IsMade, IsOpened, IsTold, IsUntold};
+ghost use Rattle.meshnoded.specs.Causes.{IsSinkFailure, IsSourceFailure};
 ghost use Rattle.meshnoded.specs.Failing.{open_failure};
 ghost use Rattle.meshnoded.specs.Reading.{HasKeys, HasText, IsKeyless, IsUnmade, IsUnread};
 ghost use Rattle.meshnoded.specs.declared.failure.Failure.TheVariants as failures;
@@ -47,6 +48,8 @@ pub fn tell_help<K: Sink>(sink: &mut K) -> Result<(), Failure>
     ensures err { IfErr result
         (λ failure. (failure ≡ failures.Write)
         × HandedFront HELP.now (view_of K.held K.pieces sink.old) (view_of K.held K.pieces sink.new)) }
+    ensures cause { OnErr result (Rose (K.faults sink.old) (K.faults sink.new)) }
+    ensures no_fault { OnOk result (K.faults sink.new ≡ K.faults sink.old) }
 {
     print(sink, HELP.as_bytes())
 }
@@ -58,6 +61,8 @@ pub fn tell_version<K: Sink>(sink: &mut K) -> Result<(), Failure>
     ensures err { IfErr result
         (λ failure. (failure ≡ failures.Write)
         × HandedFront VERSION.now (view_of K.held K.pieces sink.old) (view_of K.held K.pieces sink.new)) }
+    ensures cause { OnErr result (Rose (K.faults sink.old) (K.faults sink.new)) }
+    ensures no_fault { OnOk result (K.faults sink.new ≡ K.faults sink.old) }
 {
     print(sink, VERSION.as_bytes())
 }
@@ -68,6 +73,7 @@ fn read_text<S: Source>(alloc: Global, source: &mut S) -> Result<Vec<u8>, Failur
     ensures no_fault { OnOk result (S.faults source.new ≡ S.faults source.old) }
     ensures err { IfErr result
         (IsUnread (S.left source.old) (S.faults source.old) (S.left source.new) (S.faults source.new)) }
+    ensures cause { IfErr result (λ failure. IsSourceFailure failure (S.faults source.old) (S.faults source.new)) }
 {
     let mut text = Vec::new(alloc);
     let mut octets = [0u8; MOST_OCTETS];
@@ -87,6 +93,7 @@ fn read_keys<S: Source>(alloc: Global, source: &mut S) -> Result<NodeKeys, Failu
     ensures no_fault { OnOk result (S.faults source.new ≡ S.faults source.old) }
     ensures err { IfErr result
         (IsKeyless (S.left source.old) (S.faults source.old) (S.left source.new) (S.faults source.new)) }
+    ensures cause { IfErr result (λ failure. IsSourceFailure failure (S.faults source.old) (S.faults source.new)) }
 {
     let text = read_text(alloc, source)?;
     match keys_of(alloc, text.as_slice())? {
@@ -109,6 +116,8 @@ pub fn init<H: NodeFiles, S: Source>(
     ensures err { IfErr result
         (IsUnmade (H.unmakes files.now file.now) numbers (S.left source.old) (S.faults source.old) (S.left source.new)
         (S.faults source.new)) }
+    ensures cause { IfErr result (λ failure. IsSourceFailure failure (S.faults source.old) (S.faults source.new)) }
+    ensures no_fault { OnOk result (S.faults source.new ≡ S.faults source.old) }
 {
     let keys = read_keys(alloc, source)?;
     files.make(alloc, file, &provision_with(numbers, keys))?;
@@ -128,6 +137,8 @@ pub fn tell<H: NodeFiles, K: Sink>(
     ensures err { IfErr result
         (IsUntold (⟦<NodeFlash as Flash>⟧.chip) (H.opens files.now file.now) (H.refuses files.now file.now)
         (view_of K.held K.pieces sink.old) (view_of K.held K.pieces sink.new)) }
+    ensures cause { IfErr result (λ failure. IsSinkFailure failure (K.faults sink.old) (K.faults sink.new)) }
+    ensures no_fault { OnOk result (K.faults sink.new ≡ K.faults sink.old) }
 {
     let mut flash = files.open(alloc, file)?;
     let text = show(alloc, &mut flash)?;

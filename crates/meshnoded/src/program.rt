@@ -1,14 +1,16 @@
 //! The program, over whatever its files and streams are.
 #![tactic(auto)]
 
-ghost use Rattle.std.specs.Prelude.{◌≡◌, ℕ, List, map, string_bytes, IfErr, OnOk};
+ghost use Rattle.std.specs.Prelude.{◌≡◌, ℕ, List, map, string_bytes, IfErr, IfSome, OnOk};
 ghost use Rattle.std.specs.Process.{exit_status};
 ghost use Rattle.daemon_words.specs.Commands.{HasNumbers};
 ghost use Rattle.daemon_words.specs.Numbers.{IsBearers};
 ghost use Rattle.live_node.specs.Lived.{streams_at};
 ghost use Rattle.report_writer.specs.Writing.{view_of};
+ghost use Rattle.meshnoded.specs.Causes.{IsAnswerBy, IsErrorsFailure, IsSinkFailure, IsSourceFailure};
 ghost use Rattle.meshnoded.specs.Doing.{IsClockless, IsDone, IsDoneBy, IsFailed, IsFailedBy};
 ghost use Rattle.meshnoded.specs.Numbers.{answer_number};
+ghost use Rattle.meshnoded.specs.Streams.{back_at};
 
 use crate::commands::{check, init, tell, tell_help, tell_version};
 use crate::failure::Failure;
@@ -43,24 +45,51 @@ pub struct Program<'a, R, H, S, E, K> {
 
 /// What became of what was asked for.
 #[derive(Drop)]
-pub struct Answered<E, K> {
+pub struct Answered<S, E, K> {
     /// That it was done, or why not.
     pub answer: Result<(), Failure>,
+    /// Where lines and keys come from. There is none where a thread reads it.
+    pub source: Option<S>,
     /// Where it is told what is wrong with a line.
     pub errors: E,
     /// Where it is told what was asked for.
     pub sink: K,
 }
 
-/// What became of a node that was to be run.
-fn answered_by<S: Drop, E: Drop, K: Drop>(ran: Ran<S, E, K>) -> Answered<E, K>
+/// What became of a node that was to be run over the source of the process.
+fn answered_by<S, E, K>(ran: Ran<S, E, K>) -> Answered<S, E, K>
     ensures value { result
-        ≡ record { answer = ran.answer; errors = ran.streams.errors; sink = ran.streams.sink } }
+        ≡ record {
+          answer = ran.answer;
+          source = Some ran.streams.source;
+          errors = ran.streams.errors;
+          sink = ran.streams.sink;
+        } }
+{
+    let Ran { answer, streams } = ran;
+    let Streams {
+        source,
+        errors,
+        sink,
+    } = streams;
+    Answered {
+        answer,
+        source: Some(source),
+        errors,
+        sink,
+    }
+}
+
+/// What became of a node that was to be run over another source.
+fn answered_beside<T: Drop, S, E, K>(ran: Ran<T, E, K>) -> Answered<S, E, K>
+    ensures value { result
+        ≡ record { answer = ran.answer; source = None; errors = ran.streams.errors; sink = ran.streams.sink } }
 {
     let Ran { answer, streams } = ran;
     let Streams { errors, sink, .. } = streams;
     Answered {
         answer,
+        source: None,
         errors,
         sink,
     }
@@ -94,32 +123,38 @@ impl<
     K: Sink + Drop,
 > Program<'_, R, H, S, E, K> {
     /// That this became of it, where no node was run.
-    fn answered(self, answer: Result<(), Failure>) -> Answered<E, K>
+    fn answered(self, answer: Result<(), Failure>) -> Answered<S, E, K>
         ensures value { result
-            ≡ record { answer = answer; errors = self.entry.streams.errors; sink = self.entry.streams.sink } }
+            ≡ record {
+              answer = answer;
+              source = Some self.entry.streams.source;
+              errors = self.entry.streams.errors;
+              sink = self.entry.streams.sink;
+            } }
     {
         let Program { streams, .. } = self;
-        let Streams { errors, sink, .. } = streams;
-        Answered {
-            answer,
-            errors,
-            sink,
-        }
+        answered_by(Ran { answer, streams })
     }
 
     /// Runs the node of a file, with a clock or without.
-    fn run_node(self, file: &str, ways: RunWays) -> Answered<E, K>
+    fn run_node(self, file: &str, ways: RunWays) -> Answered<S, E, K>
         requires bearers { IsBearers ways.bearers }
         ensures done { OnOk result.answer
             (IsDone (⟦<NodeFlash as Flash>⟧.chip) (H.opens self.entry.files.now) (H.makes self.entry.files.now) S.clocked
             (streams_at S.left S.faults E.held E.pieces E.faults self.entry.streams)
-            (view_of K.held K.pieces self.entry.streams.sink) (view_of E.held E.pieces result.errors)
-            (view_of K.held K.pieces result.sink) (Command.Run ways) file.now) }
+            (back_at S.left S.faults E.held E.pieces E.faults result.source result.errors)
+            (view_of K.held K.pieces self.entry.streams.sink) (view_of K.held K.pieces result.sink) (Command.Run ways) file.now) }
         ensures failed { IfErr result.answer
             (IsFailed (⟦<NodeFlash as Flash>⟧.chip) (H.opens self.entry.files.now) (H.refuses self.entry.files.now)
             (H.unmakes self.entry.files.now) S.clocked (streams_at S.left S.faults E.held E.pieces E.faults self.entry.streams)
-            (view_of K.held K.pieces self.entry.streams.sink) (view_of E.held E.pieces result.errors)
-            (view_of K.held K.pieces result.sink) (Command.Run ways) file.now) }
+            (back_at S.left S.faults E.held E.pieces E.faults result.source result.errors)
+            (view_of K.held K.pieces self.entry.streams.sink) (view_of K.held K.pieces result.sink) (Command.Run ways) file.now) }
+        ensures source_cause { IfSome result.source
+            (λ source. IsAnswerBy IsSourceFailure result.answer (S.faults self.entry.streams.source) (S.faults source)) }
+        ensures errors_cause { IsAnswerBy IsErrorsFailure result.answer (E.faults self.entry.streams.errors)
+            (E.faults result.errors) }
+        ensures sink_cause { IsAnswerBy IsSinkFailure result.answer (K.faults self.entry.streams.sink)
+            (K.faults result.sink) }
     {
         let alloc = self.rt.alloc();
         let Program { rt, files, streams } = self;
@@ -136,6 +171,7 @@ impl<
             Err(error) => {
                 return Answered {
                     answer: Err(not_begun(error)),
+                    source: None,
                     errors,
                     sink,
                 };
@@ -146,22 +182,28 @@ impl<
             errors,
             sink,
         };
-        answered_by(run(rt, files, alloc, file, ways, streams))
+        answered_beside(run(rt, files, alloc, file, ways, streams))
     }
 
     /// Does what a command asks for, of the file that it names.
-    fn run_command(self, command: Command, file: &str) -> Answered<E, K>
+    fn run_command(self, command: Command, file: &str) -> Answered<S, E, K>
         requires numbers { HasNumbers command }
         ensures done { OnOk result.answer
             (IsDone (⟦<NodeFlash as Flash>⟧.chip) (H.opens self.entry.files.now) (H.makes self.entry.files.now) S.clocked
             (streams_at S.left S.faults E.held E.pieces E.faults self.entry.streams)
-            (view_of K.held K.pieces self.entry.streams.sink) (view_of E.held E.pieces result.errors)
-            (view_of K.held K.pieces result.sink) command file.now) }
+            (back_at S.left S.faults E.held E.pieces E.faults result.source result.errors)
+            (view_of K.held K.pieces self.entry.streams.sink) (view_of K.held K.pieces result.sink) command file.now) }
         ensures failed { IfErr result.answer
             (IsFailed (⟦<NodeFlash as Flash>⟧.chip) (H.opens self.entry.files.now) (H.refuses self.entry.files.now)
             (H.unmakes self.entry.files.now) S.clocked (streams_at S.left S.faults E.held E.pieces E.faults self.entry.streams)
-            (view_of K.held K.pieces self.entry.streams.sink) (view_of E.held E.pieces result.errors)
-            (view_of K.held K.pieces result.sink) command file.now) }
+            (back_at S.left S.faults E.held E.pieces E.faults result.source result.errors)
+            (view_of K.held K.pieces self.entry.streams.sink) (view_of K.held K.pieces result.sink) command file.now) }
+        ensures source_cause { IfSome result.source
+            (λ source. IsAnswerBy IsSourceFailure result.answer (S.faults self.entry.streams.source) (S.faults source)) }
+        ensures errors_cause { IsAnswerBy IsErrorsFailure result.answer (E.faults self.entry.streams.errors)
+            (E.faults result.errors) }
+        ensures sink_cause { IsAnswerBy IsSinkFailure result.answer (K.faults self.entry.streams.sink)
+            (K.faults result.sink) }
     {
         let alloc = self.rt.alloc();
         let mut program = self;
@@ -197,17 +239,23 @@ impl<
     }
 
     /// Does what words ask for.
-    fn run_words(self, words: &[&str]) -> Answered<E, K>
+    fn run_words(self, words: &[&str]) -> Answered<S, E, K>
         ensures done { OnOk result.answer
             (IsDoneBy (⟦<NodeFlash as Flash>⟧.chip) (H.opens self.entry.files.now) (H.makes self.entry.files.now) S.clocked
             (streams_at S.left S.faults E.held E.pieces E.faults self.entry.streams)
-            (view_of K.held K.pieces self.entry.streams.sink) (view_of E.held E.pieces result.errors)
-            (view_of K.held K.pieces result.sink) (map (λ w. w.now) words.now)) }
+            (back_at S.left S.faults E.held E.pieces E.faults result.source result.errors)
+            (view_of K.held K.pieces self.entry.streams.sink) (view_of K.held K.pieces result.sink) (map (λ w. w.now) words.now)) }
         ensures failed { IfErr result.answer
             (IsFailedBy (⟦<NodeFlash as Flash>⟧.chip) (H.opens self.entry.files.now) (H.refuses self.entry.files.now)
             (H.unmakes self.entry.files.now) S.clocked (streams_at S.left S.faults E.held E.pieces E.faults self.entry.streams)
-            (view_of K.held K.pieces self.entry.streams.sink) (view_of E.held E.pieces result.errors)
-            (view_of K.held K.pieces result.sink) (map (λ w. w.now) words.now)) }
+            (back_at S.left S.faults E.held E.pieces E.faults result.source result.errors)
+            (view_of K.held K.pieces self.entry.streams.sink) (view_of K.held K.pieces result.sink) (map (λ w. w.now) words.now)) }
+        ensures source_cause { IfSome result.source
+            (λ source. IsAnswerBy IsSourceFailure result.answer (S.faults self.entry.streams.source) (S.faults source)) }
+        ensures errors_cause { IsAnswerBy IsErrorsFailure result.answer (E.faults self.entry.streams.errors)
+            (E.faults result.errors) }
+        ensures sink_cause { IsAnswerBy IsSinkFailure result.answer (K.faults self.entry.streams.sink)
+            (K.faults result.sink) }
     {
         match command_of(self.rt.alloc(), words) {
             Ok(Some(command)) => self.run_command(command, file_of(words)),
@@ -217,17 +265,23 @@ impl<
     }
 
     /// Does what arguments ask for.
-    fn run_given(self, arguments: &[String]) -> Answered<E, K>
+    fn run_given(self, arguments: &[String]) -> Answered<S, E, K>
         ensures done { OnOk result.answer
             (IsDoneBy (⟦<NodeFlash as Flash>⟧.chip) (H.opens self.entry.files.now) (H.makes self.entry.files.now) S.clocked
             (streams_at S.left S.faults E.held E.pieces E.faults self.entry.streams)
-            (view_of K.held K.pieces self.entry.streams.sink) (view_of E.held E.pieces result.errors)
-            (view_of K.held K.pieces result.sink) (map (λ a. string_bytes a) arguments.now)) }
+            (back_at S.left S.faults E.held E.pieces E.faults result.source result.errors)
+            (view_of K.held K.pieces self.entry.streams.sink) (view_of K.held K.pieces result.sink) (map (λ a. string_bytes a) arguments.now)) }
         ensures failed { IfErr result.answer
             (IsFailedBy (⟦<NodeFlash as Flash>⟧.chip) (H.opens self.entry.files.now) (H.refuses self.entry.files.now)
             (H.unmakes self.entry.files.now) S.clocked (streams_at S.left S.faults E.held E.pieces E.faults self.entry.streams)
-            (view_of K.held K.pieces self.entry.streams.sink) (view_of E.held E.pieces result.errors)
-            (view_of K.held K.pieces result.sink) (map (λ a. string_bytes a) arguments.now)) }
+            (back_at S.left S.faults E.held E.pieces E.faults result.source result.errors)
+            (view_of K.held K.pieces self.entry.streams.sink) (view_of K.held K.pieces result.sink) (map (λ a. string_bytes a) arguments.now)) }
+        ensures source_cause { IfSome result.source
+            (λ source. IsAnswerBy IsSourceFailure result.answer (S.faults self.entry.streams.source) (S.faults source)) }
+        ensures errors_cause { IsAnswerBy IsErrorsFailure result.answer (E.faults self.entry.streams.errors)
+            (E.faults result.errors) }
+        ensures sink_cause { IsAnswerBy IsSinkFailure result.answer (K.faults self.entry.streams.sink)
+            (K.faults result.sink) }
     {
         match words_of(self.rt.alloc(), arguments) {
             Ok(words) => self.run_words(words.as_slice()),
@@ -236,19 +290,25 @@ impl<
     }
 
     /// Does what the arguments of the process ask for. Where one isn't text they are no command.
-    pub fn run_arguments(self) -> Answered<E, K>
+    pub fn run_arguments(self) -> Answered<S, E, K>
         ensures done { OnOk result.answer
             ((words : List (List ℕ))
             × IsDoneBy (⟦<NodeFlash as Flash>⟧.chip) (H.opens self.entry.files.now) (H.makes self.entry.files.now) S.clocked
             (streams_at S.left S.faults E.held E.pieces E.faults self.entry.streams)
-            (view_of K.held K.pieces self.entry.streams.sink) (view_of E.held E.pieces result.errors)
-            (view_of K.held K.pieces result.sink) words) }
+            (back_at S.left S.faults E.held E.pieces E.faults result.source result.errors)
+            (view_of K.held K.pieces self.entry.streams.sink) (view_of K.held K.pieces result.sink) words) }
         ensures failed { IfErr result.answer
             (λ failure. (words : List (List ℕ))
             × IsFailedBy (⟦<NodeFlash as Flash>⟧.chip) (H.opens self.entry.files.now) (H.refuses self.entry.files.now)
             (H.unmakes self.entry.files.now) S.clocked (streams_at S.left S.faults E.held E.pieces E.faults self.entry.streams)
-            (view_of K.held K.pieces self.entry.streams.sink) (view_of E.held E.pieces result.errors)
-            (view_of K.held K.pieces result.sink) words failure) }
+            (back_at S.left S.faults E.held E.pieces E.faults result.source result.errors)
+            (view_of K.held K.pieces self.entry.streams.sink) (view_of K.held K.pieces result.sink) words failure) }
+        ensures source_cause { IfSome result.source
+            (λ source. IsAnswerBy IsSourceFailure result.answer (S.faults self.entry.streams.source) (S.faults source)) }
+        ensures errors_cause { IsAnswerBy IsErrorsFailure result.answer (E.faults self.entry.streams.errors)
+            (E.faults result.errors) }
+        ensures sink_cause { IsAnswerBy IsSinkFailure result.answer (K.faults self.entry.streams.sink)
+            (K.faults result.sink) }
     {
         match arguments_of(self.rt) {
             Ok(arguments) => self.run_given(arguments.as_slice()),

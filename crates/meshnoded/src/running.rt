@@ -5,6 +5,7 @@ ghost use Rattle.std.specs.Prelude.{◌≡◌, IfErr, OnOk};
 ghost use Rattle.daemon_words.specs.Numbers.{IsBearers};
 ghost use Rattle.live_node.specs.Lived.{streams_at};
 ghost use Rattle.report_writer.specs.Writing.{view_of};
+ghost use Rattle.meshnoded.specs.Causes.{IsAnswerBy, IsErrorsFailure, IsSinkFailure, IsSourceFailure};
 ghost use Rattle.meshnoded.specs.Running.{HasRun, IsAnswerOf, IsNotRun};
 
 use crate::failure::Failure;
@@ -74,6 +75,9 @@ pub fn run<
         (streams_at S.left S.faults E.held E.pieces E.faults result.streams)
         (view_of K.held K.pieces streams.sink) (view_of K.held K.pieces result.streams.sink)
         (H.refuses files.now file.now)) }
+    ensures source_cause { IsAnswerBy IsSourceFailure result.answer (S.faults streams.source) (S.faults result.streams.source) }
+    ensures errors_cause { IsAnswerBy IsErrorsFailure result.answer (E.faults streams.errors) (E.faults result.streams.errors) }
+    ensures sink_cause { IsAnswerBy IsSinkFailure result.answer (K.faults streams.sink) (K.faults result.streams.sink) }
 {
     let flash = match files.open(alloc, file) {
         Ok(flash) => flash,

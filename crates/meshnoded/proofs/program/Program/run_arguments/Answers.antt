@@ -10,6 +10,9 @@ returns-in-Ok g c =
     record {
       done = on_ok_weaker c.run_given.result.answer (λ done. (words, done)) c.run_given.ensures.done;
       failed = if_err_so _ _ c.run_given.result.answer (λ failure h. (words, h)) c.run_given.ensures.failed;
+      source_cause = c.run_given.ensures.source_cause;
+      errors_cause = c.run_given.ensures.errors_cause;
+      sink_cause = c.run_given.ensures.sink_cause;
     }
 
 pub returns-in-Err-NotText-clause-failed : goal.returns-in-Err-NotText-clause-failed

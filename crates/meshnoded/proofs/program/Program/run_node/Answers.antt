@@ -2,6 +2,7 @@ use Rattle.std.proofs.Common.{None, refl}
 use Rattle.std.proofs.lemmas.Result.{on_ok_weaker}
 use Rattle.live_node.specs.Lived.{StreamsAt, streams_at}
 use Rattle.report_writer.specs.Writing.{view_of}
+use Rattle.meshnoded.proofs.Causes.{clockless}
 use Rattle.meshnoded.proofs.Doing.{not_over_a_thread, not_over_these, over_a_thread, over_these}
 use Rattle.meshnoded.proofs.program.Program.run_node.Goals as goal
 
@@ -19,8 +20,8 @@ returns-clause-done g c =
     let new = c.run-2.result.streams in
     let from : StreamsAt = record { left = None; told = told old.errors; source_faults = c.in-Ok.source.faults; sink_faults = g.E.Sink.faults old.errors } in
     let to : StreamsAt = record { left = None; told = told new.errors; source_faults = new.source.faults; sink_faults = g.E.Sink.faults new.errors } in
-    rw c.answered_by-2.ensures.value
-    (on_ok_weaker c.run-2.result.answer (over_a_thread _ g.S.ClockedSource.clocked (at old) from to c.args.ways.clock c.if-not-ways.false refl) c.run-2.ensures.done)
+    rw c.answered_beside.ensures.value
+    (on_ok_weaker c.run-2.result.answer (over_a_thread _ g.S.ClockedSource.clocked (at old) from to c.args.ways.clock c.if-not-ways.false refl refl) c.run-2.ensures.done)
 
 pub returns-then-not-ways-clause-failed : goal.returns-then-not-ways-clause-failed
 returns-then-not-ways-clause-failed g c =
@@ -36,5 +37,11 @@ returns-clause-failed g c =
     let new = c.run-2.result.streams in
     let from : StreamsAt = record { left = None; told = told old.errors; source_faults = c.in-Ok.source.faults; sink_faults = g.E.Sink.faults old.errors } in
     let to : StreamsAt = record { left = None; told = told new.errors; source_faults = new.source.faults; sink_faults = g.E.Sink.faults new.errors } in
-    rw c.answered_by-2.ensures.value
-    (not_over_a_thread _ _ g.S.ClockedSource.clocked (at old) from to c.args.ways.clock c.if-not-ways.false refl c.run-2.result.answer c.run-2.ensures.failed)
+    rw c.answered_beside.ensures.value
+    (not_over_a_thread _ _ g.S.ClockedSource.clocked (at old) from to c.args.ways.clock c.if-not-ways.false refl refl c.run-2.result.answer c.run-2.ensures.failed)
+
+pub returns-in-Err-clause-errors_cause : goal.returns-in-Err-clause-errors_cause
+returns-in-Err-clause-errors_cause g c = (clockless _ 0 c.not_begun.result c.not_begun.ensures.cause).0
+
+pub returns-in-Err-clause-sink_cause : goal.returns-in-Err-clause-sink_cause
+returns-in-Err-clause-sink_cause g c = (clockless 0 _ c.not_begun.result c.not_begun.ensures.cause).1
