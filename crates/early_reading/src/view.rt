@@ -5,7 +5,7 @@ ghost use Rattle.std.specs.Prelude.{◌≡◌, ◌≤◌, ◌↔◌, ◌++◌, l
 ghost use Rattle.early_reading.specs.Views.{view_of};
 ghost use Rattle.layer_definitions.specs.KeyRefresh.{heard_keys};
 
-use kept_keys::HeardSchedules;
+use kept_keys::{HeardSchedules, is_same_material};
 use mesh_base::fields::Heard;
 use mesh_base::table::Table;
 use net_keys::NetKeys;
@@ -22,17 +22,6 @@ pub struct KeyView {
     pub current: u32,
 }
 
-// Whether the octets of two keys are the same. It looks at all of them, so that they are compared at once.
-fn are_same_octets(a: &[u8; 16], b: &[u8; 16]) -> bool
-    ensures same { IsTrue result ↔ (a.now ≡ b.now) }
-{
-    let mut so_far = true;
-    for i in 0..16 {
-        so_far = so_far & (a[i] == b[i]);
-    }
-    so_far
-}
-
 // Whether two keys are the same.
 fn is_same_key(a: &Heard, b: &Heard) -> bool
     ensures { IsTrue result ↔ (a.now ≡ b.now) }
@@ -40,9 +29,7 @@ fn is_same_key(a: &Heard, b: &Heard) -> bool
     a.index == b.index
         && a.lpn == b.lpn
         && a.fresh == b.fresh
-        && a.material.nid == b.material.nid
-        && are_same_octets(&a.material.encryption, &b.material.encryption)
-        && are_same_octets(&a.material.privacy, &b.material.privacy)
+        && is_same_material(&a.material, &b.material)
 }
 
 // Whether two lists of keys are the same.

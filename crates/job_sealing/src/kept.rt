@@ -2,36 +2,16 @@
 //! them anew.
 #![tactic(auto)]
 
-ghost use Rattle.std.specs.Prelude.{◌≡◌, ◌↔◌, ◌+◌, ◌≤◌, ◌<◌, ◌^◌, length, IsTrue};
+ghost use Rattle.std.specs.Prelude.{◌≡◌, ◌+◌, ◌≤◌, ◌<◌, ◌^◌, length};
 ghost use Rattle.layer_definitions.specs.Network.{HasPdu, net_text};
 ghost use Rattle.layer_definitions.specs.Upper.{trans_mic_length, upper_text};
 
-use kept_keys::{NetSchedules, UpperSchedule};
+use kept_keys::{NetSchedules, UpperSchedule, is_same_material};
 use mesh_base::fields::{NetFields, NetMaterial};
 use mesh_base::keys::UpperKey;
 use mesh_base::octets::Octets;
 use mesh_base::upper::UpperFields;
 use std::marker::Model;
-
-/// Whether the octets of two keys are the same. It looks at all of them, so that they are compared at once.
-fn are_same_octets(a: &[u8; 16], b: &[u8; 16]) -> bool
-    ensures same { IsTrue result ↔ (a.now ≡ b.now) }
-{
-    let mut so_far = true;
-    for i in 0..16 {
-        so_far = so_far & (a[i] == b[i]);
-    }
-    so_far
-}
-
-/// Whether it's the same material.
-fn is_same_material(a: &NetMaterial, b: &NetMaterial) -> bool
-    ensures same { IsTrue result ↔ (a.now ≡ b.now) }
-{
-    a.nid == b.nid
-        && are_same_octets(&a.encryption, &b.encryption)
-        && are_same_octets(&a.privacy, &b.privacy)
-}
 
 /// Network material with its schedules.
 #[derive(Drop)]

@@ -1,2 +1,3 @@
+mod Same
 pub mod Fitting
 pub mod Finding

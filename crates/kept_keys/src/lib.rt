@@ -12,5 +12,5 @@
 mod network;
 mod upper;
 
-pub use network::{HeardSchedules, NetSchedules};
+pub use network::{HeardSchedules, NetSchedules, is_same_material};
 pub use upper::{BoundSchedule, UpperSchedule};

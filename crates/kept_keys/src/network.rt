@@ -1,11 +1,31 @@
 //! Network material (Mesh Profile 1.0.1, section 3.8.6.3.1) with the schedules of its two keys.
 #![tactic(auto)]
 
-ghost use Rattle.std.specs.Prelude.{◌≡◌};
+ghost use Rattle.std.specs.Prelude.{◌≡◌, ◌↔◌, IsTrue};
 
 use aes_block::Schedule;
 use mesh_base::fields::{Heard, NetMaterial};
 use std::marker::Model;
+
+// Whether the octets of two keys are the same. It looks at all of them, so that they are compared at once.
+fn are_same_octets(a: &[u8; 16], b: &[u8; 16]) -> bool
+    ensures same { IsTrue result ↔ (a.now ≡ b.now) }
+{
+    let mut so_far = true;
+    for i in 0..16 {
+        so_far = so_far & (a[i] == b[i]);
+    }
+    so_far
+}
+
+/// Whether it's the same material (Mesh Profile 1.0.1, section 3.8.6.3.1). How long it takes may tell which of its fields differs first.
+pub fn is_same_material(a: &NetMaterial, b: &NetMaterial) -> bool
+    ensures same { IsTrue result ↔ (a.now ≡ b.now) }
+{
+    a.nid == b.nid
+        && are_same_octets(&a.encryption, &b.encryption)
+        && are_same_octets(&a.privacy, &b.privacy)
+}
 
 /// Network material with the schedules of its two keys. A clause sees it as the material.
 #[derive(Drop)]

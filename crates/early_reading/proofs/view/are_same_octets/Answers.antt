@@ -1,6 +1,0 @@
-use Rattle.std.proofs.Common.{arith}
-use Rattle.early_reading.proofs.Same.{one_more}
-use Rattle.early_reading.proofs.view.are_same_octets.Goals as goal
-
-pub loop-i-preserved : goal.loop-i-preserved
-loop-i-preserved c = one_more _ _ _ _ (omega arith) (omega arith) c.loop-i.invariant
