@@ -72,6 +72,7 @@ impl EntryLog {
     }
 
     /// Appends an entry, for which there is room.
+    #[inline(always)]
     pub fn push(&mut self, entry: Entry)
         requires room { 0 < self.old.room }
         requires few { length self.old.entries + 1 < 2 ^ 64 }

@@ -1,7 +1,6 @@
 pub mod Narrow
 pub mod Delivered
 pub mod Friends
-pub mod Passing
 pub mod Accepts
 pub mod Beacons
 pub mod Own

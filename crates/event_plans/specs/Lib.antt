@@ -2,6 +2,5 @@ pub mod Memory
 pub mod Delivered
 pub mod Own
 pub mod Basis
-pub mod Heard
 pub mod Plans
 pub mod Sending

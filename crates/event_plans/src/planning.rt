@@ -1,20 +1,17 @@
 //! The plan of an event, by its kind.
 #![tactic(auto)]
 
-ghost use Rattle.std.specs.Prelude.{◌≡◌, ℕ, ◌+◌, ◌≤◌, ◌^◌, List, None, min, IfOk, OnErr};
+ghost use Rattle.std.specs.Prelude.{◌≡◌, ◌+◌, ◌≤◌, ◌^◌, min, IfOk, OnErr};
 ghost use Rattle.early_reading.specs.Known.{IsKnown};
-ghost use Rattle.event_plans.specs.Heard.{HasHeard};
 ghost use Rattle.event_plans.specs.Memory.{IsFitFor, view_in};
 ghost use Rattle.event_plans.specs.Plans.{IsPlanned, IsSomePast, IsStanding, of_beacon, of_own, of_pdu, of_tick};
 ghost use Rattle.event_plans.specs.Sending.{IsOwn, IsSendable};
 ghost use Rattle.event_records.specs.Putting.{AreMoves, ArePuttable};
 ghost use Rattle.friend_steps.specs.Sending.{IsSend};
 ghost use Rattle.mesh_types.specs.declared.events.Event.TheVariants as E;
-ghost use Rattle.node_models.specs.Models.{AreWithin};
 ghost use Rattle.node_records.specs.Meaning.{IsSaid};
 ghost use Rattle.node_records.specs.Tables.{config_in};
 ghost use Rattle.node_records.specs.declared.persist.Persist.{Persist as PersistValue};
-ghost use Rattle.event_definitions.specs.Answers.{accepted as accepted_in};
 ghost use Rattle.event_definitions.specs.History.{Past};
 ghost use Rattle.segment_sender.specs.Held.{IsOutgoing};
 
@@ -23,92 +20,23 @@ use crate::models::{publish_due, take_heard};
 use crate::plan::{BeaconPlan, OwnPlan, PduPlan, TickPlan};
 use crate::tables::NodeTables;
 use early_reading::Known;
-use event_records::{Records, beacon_records, heard_records, tick_records};
-use friend_steps::{friend_steps_law, hear_friends, hear_passing, keep_octets, store_send};
+use event_records::{beacon_records, heard_records, tick_records};
+use friend_steps::{friend_steps_law, hear_friends, keep_octets, store_send};
 use iv_update::steps_law;
 use mesh_base::address::Address;
 use mesh_base::octets::Octets;
 use mesh_base::pair::Name;
-use mesh_hearing::{Hearing, tables_law};
+use mesh_hearing::tables_law;
 use mesh_jobs::{PduBasis, Span, TimeBasis, held_phases};
 use mesh_types::answers::Answer;
 use mesh_types::events::{Event, Outgoing};
-use node_friends::FriendAct;
-use node_models::{MessageReplies, node_models_law};
+use node_models::node_models_law;
 use node_records::Persist;
 use node_records::laws::value_law;
 use std::alloc::AllocError;
 
 /// The ticks of a life stop here.
 const MOST_TICKS: u64 = 1 << 48;
-
-// The name of a message that an answer accepts, if it does.
-fn accepted(answer: &Answer) -> Option<Name>
-    ensures { result ≡ accepted_in answer.now }
-{
-    match answer {
-        Answer::Delivered { name, .. } | Answer::Control { name, .. } => Some(*name),
-        _ => None,
-    }
-}
-
-// Of a network PDU that brought a message: a function of its own, since the compiler clears the room of what a message leads to where a function
-// begins, and few PDUs bring one. `now` is the moment of the life, in ticks of 10 ms.
-#[inline(never)]
-fn plan_accepted(tables: &mut NodeTables, p: &Persist, now: u64, heard: Hearing) -> PduPlan
-    requires heard { (past : Past) × (octets : List ℕ) × HasHeard past octets p.now heard tables.old now }
-    requires within { AreWithin tables.old.models p.now }
-    requires time { now ≤ 2 ^ 48 }
-    ensures planned { (past : Past) (octets : List ℕ) → HasHeard past octets p.now heard tables.old now
-        → IsPlanned past (E.Net octets) (of_pdu result) tables.new }
-    ensures may { ArePuttable p.now result.records }
-    ensures moves { AreMoves (config_in p.now) result.records }
-    ensures hearing { tables.new.hearing ≡ tables.old.hearing }
-    ensures within { AreWithin tables.new.models p.now }
-{
-    let phases = held_phases(p);
-    let polls = tables.friends.polls();
-    let taken = take_heard(&mut tables.models, p, now, polls.as_slice(), &heard);
-    let records = heard_records(&heard.answer, &taken.changes);
-    let left = hear_friends(&mut tables.friends, p, now, &heard, taken);
-    PduPlan {
-        answer: heard.answer,
-        records,
-        basis: PduBasis {
-            heard: heard.pdu,
-            phases,
-            replies: left.replies,
-            act: left.act,
-        },
-    }
-}
-
-// Of a network PDU that brought no message: it stores nothing, the models have no part in it, and of the jobs only its relay and an
-// acknowledgment may be asked for. `now` is the moment of the life, in ticks of 10 ms.
-fn plan_passing(tables: &mut NodeTables, p: &Persist, now: u64, heard: Hearing) -> PduPlan
-    requires heard { (past : Past) × (octets : List ℕ) × HasHeard past octets p.now heard tables.old now }
-    requires passing { accepted_in heard.answer ≡ None }
-    ensures planned { (past : Past) (octets : List ℕ) → HasHeard past octets p.now heard tables.old now
-        → IsPlanned past (E.Net octets) (of_pdu result) tables.new }
-    ensures may { ArePuttable p.now result.records }
-    ensures moves { AreMoves (config_in p.now) result.records }
-    ensures hearing { tables.new.hearing ≡ tables.old.hearing }
-    ensures models { tables.new.models ≡ tables.old.models }
-{
-    // It does nothing when it runs: the proof uses what it says.
-    node_models_law();
-    hear_passing(&mut tables.friends, &heard);
-    PduPlan {
-        answer: heard.answer,
-        records: Records::new(),
-        basis: PduBasis {
-            heard: heard.pdu,
-            phases: held_phases(p),
-            replies: MessageReplies::none(),
-            act: FriendAct::Nothing,
-        },
-    }
-}
 
 /// The plan of a network PDU heard, where the records before it say `p`, and what is kept in memory with it. What is known of
 /// its reading is used. An error says that memory ran out, and then all is as before.
@@ -131,13 +59,24 @@ pub fn plan_pdu(
     ensures fit { IsFitFor tables.new p.now }
     ensures unchanged { OnErr result (tables.new ≡ tables.old) }
 {
+    let phases = held_phases(p);
     let now = tables.hearing.ticks();
+    let polls = tables.friends.polls();
     let keys = tables.friends.keys();
     let heard = tables.hearing.hear(p, known, keys.as_slice(), octets)?;
-    match accepted(&heard.answer) {
-        Some(_) => Ok(plan_accepted(tables, p, now, heard)),
-        None => Ok(plan_passing(tables, p, now, heard)),
-    }
+    let taken = take_heard(&mut tables.models, p, now, polls.as_slice(), &heard);
+    let records = heard_records(&heard.answer, &taken.changes);
+    let left = hear_friends(&mut tables.friends, p, now, &heard, taken);
+    Ok(PduPlan {
+        answer: heard.answer,
+        records,
+        basis: PduBasis {
+            heard: heard.pdu,
+            phases,
+            replies: left.replies,
+            act: left.act,
+        },
+    })
 }
 
 /// The plan of a beacon heard, where the records before it say `p`, and what is kept in memory with it.

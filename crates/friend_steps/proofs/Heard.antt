@@ -32,7 +32,7 @@ use Rattle.node_records.specs.Meaning.{IsMeaningOf}
 use Rattle.node_records.specs.Tables.{config_in}
 use Rattle.node_records.specs.declared.persist.Persist.{Persist}
 use Rattle.record_types.specs.declared.records.StoreRecord.{StoreRecord}
-use Rattle.event_definitions.specs.Answers.{accepted, config_before}
+use Rattle.event_definitions.specs.Answers.{config_before}
 use Rattle.event_definitions.specs.History.{Insight, OfBeacon, OfNothing, OfPdu, Past, Told, now_of}
 use Rattle.event_definitions.specs.Layers.{AccessMessage}
 use Rattle.event_definitions.specs.Stores.{message_of}
@@ -185,16 +185,3 @@ module _ (law : KeepsAddress) (past : Past) (p : Persist) (st : FriendsState) (n
       ∙ sym (ap (λ (rs : List StoreRecord). friends_step st (record { told = past.told; records = rs }) e) records)
       ))
       (more st past.told e stand.friends)
-
--- Of a PDU that brought no message nothing is asked, and it changes nothing behind what is stored.
-
-pub none_taken_by : (past : Past) (insight : Insight) (a : Answer) (ttl : ℕ) (ends : Bool) (replies : MessageReplies) → accepted a ≡ None
-    → AreTakenBy past insight a ttl ends replies
-none_taken_by past insight (A.Delivered name dst key payload) ttl ends replies h = absurd cc
-none_taken_by past insight _ ttl ends replies h = λ m is. absurd cc
-
-pub none_left : (st : FriendsState) (c : Config) (now : ℕ) (unicast : Address) (ttl : ℕ) (ends : Bool) (replies : List (ℕ × List ℕ)) (insight : Insight)
-    (a : Answer) → accepted a ≡ None → st ≡ message_left (control_left st c now insight a) unicast ttl ends replies insight a
-none_left st c now unicast ttl ends replies insight (A.Delivered name dst key payload) h = absurd cc
-none_left st c now unicast ttl ends replies insight (A.Control name dst opcode params) h = absurd cc
-none_left st c now unicast ttl ends replies insight _ h = refl

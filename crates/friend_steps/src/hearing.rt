@@ -1,7 +1,7 @@
 //! A network PDU heard.
 #![tactic(auto)]
 
-ghost use Rattle.std.specs.Prelude.{◌≡◌, ℕ, ◌<◌, ◌≤◌, ◌^◌, ◌++◌, ◌∷◌, [], false, None, List, All};
+ghost use Rattle.std.specs.Prelude.{◌≡◌, ℕ, ◌<◌, ◌≤◌, ◌^◌, ◌++◌, ◌∷◌, [], false, List, All};
 ghost use Rattle.element_models.specs.Messages.{HasOctet};
 ghost use Rattle.friend_steps.specs.Hearing.{AreTakenBy, FriendsStandFor, IsActBy, IsOpenedWell, IsReadWell, IsSomeReading, control_left, message_left, replies_left};
 ghost use Rattle.mesh_jobs.specs.Acting.{IsActIn};
@@ -15,8 +15,6 @@ ghost use Rattle.node_friends.specs.Steps.{AreFriendsOf, heard_step};
 ghost use Rattle.node_models.specs.Models.{is_ticked};
 ghost use Rattle.node_models.specs.Replies.{replies_in};
 ghost use Rattle.node_records.specs.Tables.{config_in};
-ghost use Rattle.node_records.specs.declared.persist.Persist.{Persist as PersistValue};
-ghost use Rattle.event_definitions.specs.Answers.{accepted};
 ghost use Rattle.event_definitions.specs.History.{Past, Told};
 
 use crate::replying::{ReplyTo, store_replies};
@@ -136,21 +134,4 @@ pub fn hear_friends(
     let act = hear_control(friends, p, now, heard);
     let replies = hear_replies(friends, p, heard, taken);
     FriendsHeard { act, replies }
-}
-
-/// What the friendships make of a network PDU heard that brought no message to this node: it is stored, for each Low Power node that it is for.
-/// It is what `hear_friends` does with such a PDU, without the room of what a message leads to. The friendships then stand for the entry of the
-/// PDU too.
-pub fn hear_passing(friends: &mut NodeFriends, heard: &Hearing)
-    requires read { IsSomeReading friends.old (insight_of heard.now) }
-    requires passing { accepted heard.now.answer ≡ None }
-    ensures friends { (past : Past) (p : PersistValue) (now : ℕ) (e : Told) (octets : List ℕ) → FriendsStandFor past p friends.old now
-        → is_ticked heard.now.answer ≡ false
-        → e.entry.event ≡ E.Net octets → e.insight ≡ insight_of heard.now → e.entry.answer ≡ heard.now.answer
-        → e.records ≡ past.records → AreFriendsOf friends.new (past.told ++ e ∷ []) }
-{
-    // They do nothing when they run: the proof uses what they say.
-    friends_law();
-    node_models_law();
-    hear_pdu(friends, heard);
 }

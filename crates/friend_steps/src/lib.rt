@@ -18,7 +18,7 @@ mod replying;
 mod sending;
 mod short;
 
-pub use hearing::{FriendsHeard, hear_friends, hear_passing};
+pub use hearing::{FriendsHeard, hear_friends};
 pub use laws::friend_steps_law;
 pub use publishing::store_publications;
 pub use sending::{keep_octets, store_send};

@@ -57,6 +57,7 @@ pub fn room(history: &mut EntryLog) -> Result<JobDraft, Stop>
 }
 
 /// Appends the entry of an event, for which there is room.
+#[inline(always)]
 pub fn enter(
     history: &mut EntryLog,
     place: Place,
