@@ -12,7 +12,7 @@ ghost use Rattle.run_definitions.specs.Order.{is_outside};
 ghost use Rattle.seq_word.specs.Word.{seq_of};
 ghost use Rattle.machine_contract.specs.Idle.{IsDueIn, IsIdleFor, IsQuietTick};
 ghost use Rattle.machine_contract.specs.Moved.{HasMoved};
-ghost use Rattle.machine_contract.specs.Opening.{IsNodeFlash};
+ghost use Rattle.machine_contract.specs.Opening.{IsNodeFlash, IsUnwritten, MigratesOnly};
 ghost use Rattle.machine_contract.specs.Ranges.{IsEvent, IsJob, IsQuiet};
 ghost use Rattle.machine_contract.specs.Refused.{IsRefused, IsStartCause};
 ghost use Rattle.machine_contract.specs.Standing.{IsLifeSoFar, IsSameFlash};
@@ -66,13 +66,16 @@ pub trait Machine: Send + Drop {
     /// Opens a life over what the flash recovers. The flash went through a power cycle, since when its count of faults didn't fall, and each
     /// image of it recovers a node or a reset.
     ///
-    /// The counter opens at the mark that the records say.
+    /// The counter opens at the mark that the records say. It writes only where it migrates a flash of format 01 (`writes`), and a node that was
+    /// reset isn't migrated (`reset`).
     fn start<F: Flash>(alloc: Global, flash: &mut F) -> Result<Started<Self>, StartFault>
         requires fresh { IsFresh (F.chip flash.old) }
         requires node { IsNodeFlash image (F.chip flash.old) }
         requires began { (F.chip flash.old).setting.faults ≤ (F.chip flash.old).faults }
         ensures ok { IfOk result (IsStarted view stands (F.chip flash.old) (F.chip flash.new)) }
         ensures cause { IfErr result (IsStartCause image (F.chip flash.old) (F.chip flash.new)) }
+        ensures writes { MigratesOnly (F.chip flash.old) (F.chip flash.new) }
+        ensures reset { IfErr result (λ e. e ≡ StartFault.WasReset → IsUnwritten (F.chip flash.old) (F.chip flash.new)) }
         ensures frame { Keeps (F.chip flash.old) (F.chip flash.new) };
 
     /// A reader that was renewed from no machine yet. It has read nothing, and takes no memory.

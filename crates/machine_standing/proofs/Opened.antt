@@ -1,8 +1,10 @@
 -- What a life opens with, what a refused opening leaves, and what an arm leaves.
 use Rattle.std.proofs.Common.{◌≡◌, ℕ, ◌≤◌, Bool, true, false, List, [], append-nil, refl, ap, sym, subst, ◌∙◌, arith, true≢false}
 use Rattle.std.specs.Prelude.{IsTrue}
-use Rattle.flash_model.specs.Chip.{Chip}
+use Rattle.flash_model.specs.Chip.{Chip, Stays}
+use Rattle.machine_contract.specs.declared.opening.StartFault.TheVariants as S
 use Rattle.machine_contract.specs.Moved.{IsMoved}
+use Rattle.machine_contract.specs.Opening.{IsUnwritten}
 use Rattle.machine_contract.specs.Refused.{IsStartCause, IsUntouched, WasReset}
 use Rattle.machine_contract.specs.Standing.{IsSameFlash}
 use Rattle.machine_standing.proofs.Images.{held_left, store_left, store_mark, store_node}
@@ -132,3 +134,16 @@ start_cause old new node F.Flash law honest cause same sound = (cause, same)
 start_cause old new node F.NoNode law honest cause same sound = (was_reset old node F.NoNode law (cause honest), same, sound tt)
 start_cause old new node (F.Damaged n) law honest cause same sound = (was_reset old node (F.Damaged n) law (cause honest), same, sound tt)
 start_cause old new node F.WasReset law honest cause same sound = (was_reset old node F.WasReset law (cause honest), same, sound tt)
+
+-- A store that is refused though the flash didn't fail leaves nothing written.
+
+flash_or_reset : S.Flash ≡ S.WasReset → ⊥
+flash_or_reset e = cc
+
+pub unwritten_reset : (old new : Chip) (fault : StoreFault) → IsTrue old.honest → (IsTrue old.honest → IsNotFlash fault → Stays old new)
+    → (IsNotFlash fault → (new.faults ≡ old.faults) × (IsTrue old.steady → new.changes ≡ old.changes)) → start_fault_of fault ≡ S.WasReset
+    → IsUnwritten old new
+unwritten_reset old new F.Flash honest stays none is = absurd (flash_or_reset is)
+unwritten_reset old new F.NoNode honest stays none is = record { stays = stays honest tt; no_calls = (none tt).1 }
+unwritten_reset old new (F.Damaged n) honest stays none is = record { stays = stays honest tt; no_calls = (none tt).1 }
+unwritten_reset old new F.WasReset honest stays none is = record { stays = stays honest tt; no_calls = (none tt).1 }

@@ -1,20 +1,22 @@
 //! A life is opened, and the machine as the layers above see it.
 #![tactic(auto)]
 
-ghost use Rattle.std.specs.Prelude.{◌≡◌, ◌≤◌, drop, false, List, [], IfErr, IfOk, IfSome};
+ghost use Rattle.std.specs.Prelude.{◌≡◌, ◌≤◌, drop, false, List, [], IfErr, IfOk, IfSome, IsTrue};
+ghost use Rattle.flash_model.specs.Arming.{Begins};
 ghost use Rattle.flash_model.specs.Chip.{IsFresh, Keeps};
-ghost use Rattle.machine_contract.specs.Opening.{IsNodeFlash};
+ghost use Rattle.machine_contract.specs.Opening.{HasFormat, IsNodeFlash, IsUnwritten, MigratesOnly};
 ghost use Rattle.machine_contract.specs.Refused.{IsStartCause};
 ghost use Rattle.machine_contract.specs.Started.{IsStarted};
 ghost use Rattle.event_plans.specs.Memory.{AreNodeTablesOf};
 ghost use Rattle.machine_standing.specs.Ties.{IsNodeStore};
 ghost use Rattle.machine_ties.specs.Ties.{opened};
-ghost use Rattle.mesh_machine.specs.Machine.{Stands, shown};
+ghost use Rattle.mesh_machine.specs.Machine.{Stands, persist_of, shown};
 ghost use Rattle.mesh_types.specs.declared.events.Event.TheVariants as E;
 ghost use Rattle.event_definitions.specs.Role.{node_role};
 ghost use Rattle.next_due.specs.Quiet.{IsQuiet};
 ghost use Rattle.node_layers.specs.NodeLayers.{node_layers};
 ghost use Rattle.node_records.specs.Meaning.{IsMeaningOf};
+ghost use Rattle.node_store.specs.Calls.{compaction};
 ghost use Rattle.node_store.specs.Tie.{IsNode};
 ghost use Rattle.record_types.specs.declared.records.StoreRecord.{StoreRecord};
 ghost use Rattle.seq_reserve.specs.Reserving.{IsPublished};
@@ -117,7 +119,8 @@ fn ended(state: Box<MeshState>) -> (History, Keeper)
 }
 
 impl MeshMachine {
-    /// `start` of `Machine`, which takes memory for so many entries besides: so as many events take none for their entries.
+    /// `start` of `Machine`, which takes memory for so many entries besides: so as many events take none for their entries. Where it migrates a
+    /// flash of format 01, a steady one counts the calls of a compaction to the records that say the same (`calls`).
     pub fn start_with_room<F: Flash>(
         alloc: Global,
         flash: &mut F,
@@ -128,6 +131,10 @@ impl MeshMachine {
         requires began { (F.chip flash.old).setting.faults ≤ (F.chip flash.old).faults }
         ensures ok { IfOk result (IsStarted shown Stands (F.chip flash.old) (F.chip flash.new)) }
         ensures cause { IfErr result (IsStartCause IsNode (F.chip flash.old) (F.chip flash.new)) }
+        ensures writes { MigratesOnly (F.chip flash.old) (F.chip flash.new) }
+        ensures reset { IfErr result (λ e. e ≡ StartFault.WasReset → IsUnwritten (F.chip flash.old) (F.chip flash.new)) }
+        ensures calls { IsTrue (F.chip flash.old).steady → HasFormat 1 (F.chip flash.old).now
+            → IfOk result (λ s. Begins (compaction (persist_of s.machine)) (F.chip flash.old) (F.chip flash.new)) }
         ensures frame { Keeps (F.chip flash.old) (F.chip flash.new) }
     {
         let store = mount_node(flash)?;

@@ -1,7 +1,7 @@
 use Rattle.std.proofs.Common.{◌≡◌, false, ap, sym, subst, ◌∙◌}
 use Rattle.machine_contract.specs.Refused.{IsStartCause, IsUntouched}
 use Rattle.machine_contract.specs.declared.opening.StartFault.{StartFault}
-use Rattle.machine_standing.proofs.Opened.{start_cause, untouched}
+use Rattle.machine_standing.proofs.Opened.{start_cause, untouched, unwritten_reset}
 use Rattle.node_records.specs.Meaning.{IsMeaningOf}
 use Rattle.node_store.proofs.Holding.{holds_exactly, store_meaning}
 use Rattle.node_store.specs.Mounted.{IsMounted}
@@ -54,3 +54,23 @@ returns-in-Ok-clause-ok g c =
       node = record { meaning = meaning; ranges = node.read.held.ranges; whole = node.whole runs };
       usable = c.in-Ok.ensures.usable;
     }
+
+pub returns-in-Ok-clause-writes : goal.returns-in-Ok-clause-writes
+returns-in-Ok-clause-writes g c = record {
+  unwritten = λ other. record { stays = c.mount.ensures.stays c.requires.fresh.honest other; no_calls = λ steady. c.mount.ensures.no_calls steady c.requires.fresh.honest other };
+  most_calls = c.mount.ensures.most_calls;
+}
+
+pub returns-in-Err-clause-writes : goal.returns-in-Err-clause-writes
+returns-in-Err-clause-writes g c = record {
+  unwritten = λ other. record { stays = c.mount.ensures.stays c.requires.fresh.honest other; no_calls = λ steady. c.mount.ensures.no_calls steady c.requires.fresh.honest other };
+  most_calls = c.mount.ensures.most_calls;
+}
+
+pub returns-in-Err-clause-reset : goal.returns-in-Err-clause-reset
+returns-in-Err-clause-reset g c = λ e.
+    unwritten_reset (g.F.Flash.chip c.args.flash.now) (g.F.Flash.chip c.mount.new.flash) c.in-Err.fault c.requires.fresh.honest c.in-Err.ensures.unchanged c.in-Err.ensures.refused
+    (sym c.start_fault.ensures ∙ e)
+
+pub returns-in-Ok-clause-calls : goal.returns-in-Ok-clause-calls
+returns-in-Ok-clause-calls g c = λ steady old. c.in-Ok.ensures.calls steady c.requires.fresh.honest old
