@@ -32,6 +32,7 @@ module _ {M F : Type 0} (stands : Chip → List StoreRecord → M → Type 0) (v
       cycles = ap (λ (s : Setting). s.cycles) handed.setting ∙ h.later.cycles;
       past = past_more (chip start) (chip old) (chip new) h.later.past (record { later = omega (arith, handed.moment); keeps = λ t c le since. handed.keeps t c since });
     };
+    asked = h.asked;
   }
 
 -- it holds of what was borrowed

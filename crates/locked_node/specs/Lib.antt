@@ -1,3 +1,4 @@
 pub mod Known
 pub mod Node
+pub mod Asked
 pub mod Stands

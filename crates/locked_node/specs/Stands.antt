@@ -8,6 +8,7 @@ use Rattle.record_types.specs.declared.records.StoreRecord.{StoreRecord}
 use Rattle.event_definitions.specs.History.{Past}
 use Rattle.event_definitions.specs.Role.{Role}
 use Rattle.store_definitions.specs.Recovered.{IsRecovered}
+use Rattle.locked_node.specs.Asked.{AreAsked}
 use Rattle.locked_node.specs.Node.{NodeView}
 
 -- the flash is the one that was found, some calls later
@@ -20,7 +21,7 @@ pub record IsLater (start now : Chip) : Type 0 where
   pub past : Remembers start now
 
 -- The machine stands over this flash and the records that the life found, and bearers have stopped exactly if it is closed. Else the flash didn't
--- fail since.
+-- fail since. No refill was stored before there was a job that draws.
 pub record Holds {M F : Type 0} (stands : Chip → List StoreRecord → M → Type 0) (view : M → MachineView)
     (chip : F → Chip) (machine : M) (start flash : F) (stops : ℕ) : Type 0 where
   pub over : List StoreRecord
@@ -31,6 +32,7 @@ pub record Holds {M F : Type 0} (stands : Chip → List StoreRecord → M → Ty
   pub stopped : (view machine).closed ≡ true → 0 < stops
   pub no_fault : (view machine).closed ≡ false → (chip flash).faults ≡ (chip start).faults
   pub later : IsLater (chip start) (chip flash)
+  pub asked : AreAsked (view machine).entries (view machine).fills
 
 -- the same as a caller sees it
 pub record IsNode {F : Type 0} (role : Role) (image : List ℕ → Type 0) (chip : F → Chip)
@@ -43,6 +45,8 @@ pub record IsNode {F : Type 0} (role : Role) (image : List ℕ → Type 0) (chip
   pub stopped : n.machine.closed ≡ true → 0 < n.stops
   pub no_fault : n.machine.closed ≡ false → (chip n.flash).faults ≡ (chip n.start).faults
   pub later : IsLater (chip n.start) (chip n.flash)
+  -- no refill was stored before there was a job that draws
+  pub asked : AreAsked n.machine.entries n.machine.fills
 
 -- A machine that shows this stands over the flash and the records that the life found.
 pub record HasMachine {M F : Type 0} (stands : Chip → List StoreRecord → M → Type 0) (view : M → MachineView)

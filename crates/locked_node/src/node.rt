@@ -11,6 +11,7 @@ ghost use Rattle.turn_lock.specs.Entries.{IsPrefix};
 ghost use Rattle.machine_contract.specs.Ranges.{IsEvent, IsJob, IsQuiet};
 ghost use Rattle.machine_contract.specs.View.{entry_for};
 ghost use Rattle.locked_node.specs.declared.marks.Mark.TheVariants as Marks;
+ghost use Rattle.locked_node.specs.Asked.{AreAsked, WasAsked};
 ghost use Rattle.locked_node.specs.Node.{IsStopped, IsStoppedBare, NodeView, OnStop, node_marks, origin_of};
 ghost use Rattle.locked_node.specs.Stands.{HasMachine, Holds, IsLater, IsNode};
 
@@ -85,6 +86,7 @@ impl<M: Machine, F: Flash + Send + Drop> Node<M, F> {
         requires usable { (M.view machine).closed ≡ false }
         requires later { IsLater (F.chip start) (F.chip flash) }
         requires no_fault { (F.chip flash).faults ≡ (F.chip start).faults }
+        requires asked { AreAsked (M.view machine).entries (M.view machine).fills }
         ensures value { IfOk result
             (λ node. node ≡ record { machine = M.view machine; start = start; flash = flash; stops = 0 }) }
     {
@@ -158,13 +160,14 @@ impl<M: Machine, F: Flash + Send + Drop> Node<M, F> {
     /// nothing changes (`nothing`). It answers the mark that is published then, another one. Where the flash failed, the bearer's mark is put.
     ///
     /// It takes what the draw answered: so for each time that a bearer reached the mark, one refill is stored at most, and none without a look
-    /// at it.
+    /// at it. It is asked for only where an entry has a job that draws (`asked`): so a life stores none before that, as `known` tells.
     ///
     /// It is refused for want of memory only where 2^32 - 1 bearers have stopped.
     pub fn refill(&mut self, n: &Numbers, dry: Dry) -> Result<Raised, Stop>
         requires made { self.old.machine.which ≡ n.now.which }
         requires reached { dry.which ≡ n.now.which }
         requires seq { seq_of dry.mark < 2 ^ 24 }
+        requires asked { WasAsked (node_marks self.old) }
         ensures filled { dry.mark ≡ self.old.machine.mark
             → OnOk result
             (self.new.machine

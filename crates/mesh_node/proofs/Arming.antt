@@ -57,18 +57,19 @@ first_given (P.Phase lists ∷ xs) n = tt
 
 -- the flash with the order, and without one
 pub armed_by_first : (old new : Chip) (calls mask : ℕ) (xs : List PlanStep)
-    → new.setting ≡ record old.setting { arm = Some (record { calls = calls; mask = mask; changes = old.changes }) } → KeepsCount old new → (IsTrue old.honest → Stays old new)
+    → new.setting ≡ record old.setting { arm = Some (record { calls = calls; mask = mask; changes = old.changes }) } → KeepsCount old new → new.changes ≡ old.changes → (IsTrue old.honest → Stays old new)
     → IsArmedFirst (P.Arm calls mask ∷ xs) old new
-armed_by_first old new calls mask xs setting count stays = record {
+armed_by_first old new calls mask xs setting count changes stays = record {
   order = ap (λ (s : Setting). s.arm) setting;
   steady = count.steady;
   cycles = ap (λ (s : Setting). s.cycles) setting;
+  changes = changes;
   past = count.past;
   same = λ honest. record { honest = count.honest; stays = (stays honest).images; now = (stays honest).now; faults = count.faults; began = ap (λ (s : Setting). s.faults) setting };
 }
 
 pub armed_by_none : (chip : Chip) (xs : List PlanStep) → chip.setting.arm ≡ first_order xs chip.changes → IsArmedFirst xs chip chip
-armed_by_none chip xs none = record { order = none; steady = refl; cycles = refl; past = past_none chip; same = λ honest. record { honest = refl; stays = λ image among. among; now = refl; faults = refl; began = refl } }
+armed_by_none chip xs none = record { order = none; steady = refl; cycles = refl; changes = refl; past = past_none chip; same = λ honest. record { honest = refl; stays = λ image among. among; now = refl; faults = refl; began = refl } }
 
 -- a flash that a life finds, where power was cycled and an order that stands first was given
 pub record Powered (image : List ℕ → Type 0) (steps : List PlanStep) (old start : Chip) : Type 0 where
@@ -78,6 +79,7 @@ pub record Powered (image : List ℕ → Type 0) (steps : List PlanStep) (old st
   pub began : start.setting.faults ≡ old.faults
   pub count : KeepsCount old start
   pub cycles : start.setting.cycles ≡ old.setting.cycles + 1
+  pub uncalled : start.changes ≡ 0
   pub order : IsOfPlan (steps_of steps) start.setting.arm
   pub first : IsFirstGiven steps start.setting.arm
   pub armed : start.setting.arm ≡ first_order steps 0
@@ -97,6 +99,7 @@ powered image steps old cycled start h count fresh is setting none armed =
       began = same.began ∙ ap (λ (s : Setting). s.faults) setting;
       count = record { honest = same.honest ∙ count.honest; steady = armed.steady ∙ count.steady; faults = same.faults ∙ count.faults; past = past_more old cycled start count.past armed.past };
       cycles = armed.cycles ∙ ap (λ (s : Setting). s.cycles) setting;
+      uncalled = armed.changes ∙ none;
       order = subst (IsOfPlan (steps_of steps)) (sym armed.order) (first_of steps cycled.changes);
       first = subst (IsFirstGiven steps) (sym armed.order) (first_given steps cycled.changes);
       armed = armed.order ∙ ap (first_order steps) none;

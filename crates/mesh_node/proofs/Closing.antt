@@ -1,14 +1,15 @@
 -- A life between a flash and the flash.
-use Rattle.std.proofs.Common.{◌≡◌, ◌≢◌, ◌∙◌, ◌+◌, ℕ, ◌<◌, ◌≤◌, true, false, true≢false, Bool, List, [], Vec, Global, length, map, Some, None, refl, sym, ap, subst, arith}
+use Rattle.std.proofs.Common.{◌≡◌, ◌≢◌, ◌∙◌, inl, inr, ◌+◌, ℕ, zero, suc, Option, ◌<◌, ◌≤◌, true, false, true≢false, Bool, List, [], Vec, Global, length, map, Some, None, refl, sym, ap, subst, arith}
 use Rattle.std.specs.Prelude.{◌^◌, All, IfSome, IsTrue}
 use Rattle.std.proofs.lemmas.List.{length-map}
-use Rattle.flash_model.specs.Arming.{IsExplained}
+use Rattle.flash_model.specs.Arming.{IsExplained, IsReached}
 use Rattle.flash_model.proofs.Runs.{past_more}
-use Rattle.flash_model.specs.Chip.{Chip, Keeps, KeepsCount, Setting}
+use Rattle.flash_model.specs.Chip.{Arm, Chip, Keeps, KeepsCount, Setting}
 use Rattle.machine_contract.specs.Moved.{HasMoved}
-use Rattle.machine_contract.specs.Opening.{EachRecovered}
+use Rattle.machine_contract.specs.Opening.{EachRecovered, HasFormat, MigratesOnly}
 use Rattle.machine_contract.specs.Refused.{IsUntouched}
 use Rattle.mesh_types.specs.declared.history.Sent.{Sent}
+use Rattle.mesh_types.specs.declared.report.End.{End}
 use Rattle.mesh_types.specs.declared.report.End.TheVariants as Ends
 use Rattle.mesh_types.specs.declared.report.Opened.TheVariants as W
 use Rattle.record_types.specs.declared.records.StoreRecord.{StoreRecord}
@@ -17,8 +18,10 @@ use Rattle.run_definitions.specs.Order.{Step, is_cut, phases_of}
 use Rattle.run_definitions.specs.RunOf.{LifeOf, Opens, cut_at_start, is_on, was_reset}
 use Rattle.seq_word.specs.Rule.{IsEndOf, IsWithin, times}
 use Rattle.seq_word.specs.Seen.{ClosedView, DrawerView}
+use Rattle.node_limits.specs.declared.TheConstants.{COMPACTION_CALLS}
 use Rattle.store_definitions.specs.Config.{config_of}
 use Rattle.store_definitions.specs.Recovered.{IsRecovered}
+use Rattle.locked_node.specs.Asked.{AreAsked}
 use Rattle.locked_node.specs.Node.{NodeView}
 use Rattle.locked_node.specs.Stands.{HasMachine, IsLater, IsNode}
 use Rattle.life_laws.specs.Pairs.{PairsSo}
@@ -43,6 +46,34 @@ use Rattle.mesh_node.proofs.Printing.{idle_printable, sends_short}
 -- nothing was read before an event was handled
 abbrev pub IsUnread : LifeLog → Type 0
 IsUnread log = log.early ≡ record { again = 0; before = 0 }
+
+-- it was cut as it opened only where it migrated format 01, and within the calls of that
+abbrev pub OpensWithin : Bool → List ℕ → LifeLog → Type 0
+OpensWithin steady found log = IsTrue steady → log.opened ≡ W.CutAtStart → HasFormat 1 found × IfSome (cut_calls log.end) (λ n. n ≤ COMPACTION_CALLS)
+
+reset_or_cut : W.WasReset ≡ W.CutAtStart → ⊥
+reset_or_cut e = cc
+
+-- what isn't other than 1 is 1
+one_or : (o : Option ℕ) → ((o ≡ Some 1 → ⊥) → ⊥) → o ≡ Some 1
+one_or None h = absurd (h (λ e. cc))
+one_or (Some zero) h = absurd (h (λ e. cc))
+one_or (Some (suc zero)) h = refl
+one_or (Some (suc (suc n))) h = absurd (h (λ e. cc))
+
+-- no order is reached without a call
+unreached : (o : Option Arm) → IsReached o 0 → ⊥
+unreached None r = r
+unreached (Some a) (inl less) = omega (arith, less)
+unreached (Some a) (inr full) = omega (arith, full)
+
+-- Cut as it opens, by an order of so many calls: of another format it made none.
+opens_within : (start new : Chip) (end : End) → start.changes ≡ 0 → MigratesOnly start new → IsTrue start.steady → IsReached new.setting.arm new.changes → end ≡ Ends.Cut new.changes
+    → HasFormat 1 start.now × IfSome (cut_calls end) (λ n. n ≤ COMPACTION_CALLS)
+opens_within start new end none only steady reached is = (
+  one_or _ (λ other. unreached new.setting.arm (subst (IsReached new.setting.arm) ((only.unwritten other).no_calls steady ∙ none) reached)),
+  subst (λ e. IfSome (cut_calls e) (λ n. n ≤ COMPACTION_CALLS)) (sym is) (omega (arith, only.most_calls steady, none)),
+)
 
 -- a life that was run
 module _ {M F : Type 0} (view : M → MachineView) (stands : Chip → List StoreRecord → M → Type 0) (role : Role) (image : List ℕ → Type 0) (chip : F → Chip) (plan : List Step) (start : F) (node : NodeView F) (d : DrawerView) (log : LifeLog)
@@ -99,7 +130,8 @@ module _ {M F : Type 0} (view : M → MachineView) (stands : Chip → List Store
     arm = arm;
     calls = calls;
     drawn = subst (TellsDrawn (life_of log)) (sym drawn)
-        (tells_words (life_of log) d closed (ap is_on opened) (subst (Closes d closed) (sym (ap opened_at opened ∙ sym firsts)) closes) pairs);
+        (tells_words (life_of log) d closed (ap is_on opened) (subst (Closes d closed) (sym (ap opened_at opened ∙ sym firsts)) closes) pairs
+        (subst (λ es. AreAsked es log.history.refills) (sym entries) (subst (AreAsked node.machine.entries) (sym refills) h.asked)));
     moved = λ off. subst (λ o. IfSome o (λ (words : ClosedView). HasMoved role h.over log.history.entries.items log.history.refills words.advances)) (sym drawn) (moved h.over read_over (sym cut ∙ off));
     armed = given_all;
     given = placed h.over read_over;
@@ -143,6 +175,7 @@ module _ {M F : Type 0} (view : M → MachineView) (stands : Chip → List Store
         cycles = r.later.cycles ∙ cycled;
         arm = r.arm;
         calls = r.calls;
+        opening = λ steady cut. absurd (true≢false (sym r.on ∙ ap is_on cut));
         drawn = r.drawn;
         moved = r.moved;
         armed = λ steady other. given_one items new.setting.arm single r.arm (r.armed (subst IsTrue (sym (r.later.steady ∙ count.steady)) steady));
@@ -153,8 +186,8 @@ module _ {M F : Type 0} (view : M → MachineView) (stands : Chip → List Store
 
   -- a life that wasn't run
   pub lives_idle : Keeps start new → (IsTrue old.steady → log.opened ≢ W.WasReset → IsGiven plan new.setting.arm) → (u : IsUntouched image start new) → is_on log.opened ≡ false → log.drawn ≡ None → log.history.entries.items ≡ [] → log.history.refills ≡ 0 → log.sends.items ≡ []
-      → Opens (config_of u.over) log.opened log.end → (is_cut log.end ≡ true → start.faults < new.faults) → (is_cut log.end ≡ false → new.faults ≡ start.faults) → IfSome (cut_calls log.end) (λ n. n ≡ new.changes) → IsUnread log → Lives view stands chip role image plan old log left
-  lives_idle keeps armed u off none entries refills sends opening failed stays calls early =
+      → Opens (config_of u.over) log.opened log.end → (is_cut log.end ≡ true → start.faults < new.faults) → (is_cut log.end ≡ false → new.faults ≡ start.faults) → IfSome (cut_calls log.end) (λ n. n ≡ new.changes) → OpensWithin old.steady start.now log → IsUnread log → Lives view stands chip role image plan old log left
+  lives_idle keeps armed u off none entries refills sends opening failed stays calls within early =
       record {
         over = u.over;
         image = start.now;
@@ -172,6 +205,7 @@ module _ {M F : Type 0} (view : M → MachineView) (stands : Chip → List Store
         cycles = ap (λ (s : Setting). s.cycles) keeps.setting ∙ cycled;
         arm = subst (IsOfPlan plan) (sym (ap (λ (s : Setting). s.arm) keeps.setting)) order;
         calls = calls;
+        opening = within;
         drawn = subst (TellsDrawn (life_of log)) (sym none) off;
         moved = λ runs. subst (λ o. IfSome o (λ (words : ClosedView). HasMoved role u.over log.history.entries.items log.history.refills words.advances)) (sym none) tt;
         armed = armed;
@@ -181,16 +215,17 @@ module _ {M F : Type 0} (view : M → MachineView) (stands : Chip → List Store
       }
 
   -- it was cut while it opened
-  pub lives_cut : Keeps start new → IsExplained new → IsUntouched image start new → start.faults < new.faults → log.opened ≡ W.CutAtStart → log.end ≡ Ends.Cut new.changes
+  pub lives_cut : Keeps start new → start.changes ≡ 0 → MigratesOnly start new → IsExplained new → IsUntouched image start new → start.faults < new.faults → log.opened ≡ W.CutAtStart → log.end ≡ Ends.Cut new.changes
       → log.drawn ≡ None → log.history.entries.items ≡ [] → log.history.refills ≡ 0 → log.sends.items ≡ [] → IsUnread log → Lives view stands chip role image plan old log left
-  lives_cut keeps explained u failed opened end none entries refills sends early =
+  lives_cut keeps uncalled only explained u failed opened end none entries refills sends early =
       let later : IsTrue old.steady → new.setting.faults < new.faults → HasGiven plan new.setting.arm =
       λ steady more calls mask among. reached_some new.setting.arm new.changes (explained (subst IsTrue (sym (keeps.steady ∙ count.steady)) steady) more) in
       let now : new.setting.faults < new.faults = subst (λ n. n < new.faults) (count.faults ∙ sym began ∙ sym (ap (λ (s : Setting). s.faults) keeps.setting)) failed in
       let order' : IsOfPlan plan new.setting.arm = subst (IsOfPlan plan) (sym (ap (λ (s : Setting). s.arm) keeps.setting)) order in
       lives_idle keeps (λ steady other. given_one items new.setting.arm single order' (later steady now)) u (ap is_on opened) none entries refills sends
       (subst (λ o. Opens (config_of u.over) o log.end) (sym opened) (subst (λ e. Opens (config_of u.over) W.CutAtStart e) (sym end) cut_at_start))
-      (λ cut. failed) (λ off. absurd (true≢false (sym (ap is_cut end) ∙ off))) (subst (λ e. IfSome (cut_calls e) (λ n. n ≡ new.changes)) (sym end) refl) early
+      (λ cut. failed) (λ off. absurd (true≢false (sym (ap is_cut end) ∙ off))) (subst (λ e. IfSome (cut_calls e) (λ n. n ≡ new.changes)) (sym end) refl)
+      (λ steady cut. opens_within start new log.end uncalled only (subst IsTrue (sym count.steady) steady) (explained (subst IsTrue (sym (keeps.steady ∙ count.steady)) steady) now) end) early
 
   -- there was a Node Reset
   pub lives_reset : Keeps start new → new.faults ≡ start.faults → (u : IsUntouched image start new) → (config_of u.over).reset ≡ true → log.opened ≡ W.WasReset → log.end ≡ Ends.Ended
@@ -198,4 +233,5 @@ module _ {M F : Type 0} (view : M → MachineView) (stands : Chip → List Store
   lives_reset keeps same u reset opened end none entries refills sends early =
       lives_idle keeps (λ steady other. absurd (other opened)) u (ap is_on opened) none entries refills sends
       (subst (λ o. Opens (config_of u.over) o log.end) (sym opened) (subst (λ e. Opens (config_of u.over) W.WasReset e) (sym end) (was_reset reset)))
-      (λ cut. absurd (true≢false (sym cut ∙ ap is_cut end))) (λ off. same) (subst (λ e. IfSome (cut_calls e) (λ n. n ≡ new.changes)) (sym end) tt) early
+      (λ cut. absurd (true≢false (sym cut ∙ ap is_cut end))) (λ off. same) (subst (λ e. IfSome (cut_calls e) (λ n. n ≡ new.changes)) (sym end) tt)
+      (λ steady cut. absurd (reset_or_cut (sym opened ∙ cut))) early

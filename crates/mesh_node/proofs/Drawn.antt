@@ -13,6 +13,7 @@ use Rattle.seq_word.specs.Seen.{ClosedView, DrawerView}
 use Rattle.seq_word.specs.Word.{seq_of}
 use Rattle.seq_word.specs.declared.looks.Look.TheVariants as saw
 use Rattle.seq_word.specs.declared.looks.Look.{Look}
+use Rattle.locked_node.specs.Asked.{AreAsked}
 use Rattle.node_bearer.specs.Marked.{HasOwnLooks, IsSpentSeen, ends_told}
 use Rattle.life_laws.specs.Pairs.{PairsSo, all_of}
 use Rattle.life_laws.proofs.Pairing.{sum_up, within_drawn}
@@ -42,8 +43,8 @@ spent_by first words looks ends (O.Spent iv) h =
     All-contains (IsEndOf first words) looks (saw.Counter (iv * 2 ^ 25 + 2 ^ 24)) ends h (omega arith)
 spent_by first words looks ends o h = tt
 
-pub tells_words : (l : Life) (d : DrawerView) (closed : ClosedView) → is_on l.opened ≡ true → Closes d closed (opened_at l.opened) → PairsSo l.entries l.sends d → TellsWords l closed
-tells_words l d closed on h pairs =
+pub tells_words : (l : Life) (d : DrawerView) (closed : ClosedView) → is_on l.opened ≡ true → Closes d closed (opened_at l.opened) → PairsSo l.entries l.sends d → AreAsked l.entries l.refills → TellsWords l closed
+tells_words l d closed on h pairs asked =
     let seen = spent_of l d closed.looks h.looks pairs in
     let ends : All (IsEndOf (opened_at l.opened) closed.drawn) closed.looks =
     subst (λ ws. All (IsEndOf (opened_at l.opened) ws) closed.looks) (sym h.drawn) (subst (All (IsEndOf (opened_at l.opened) d.drawn)) (sym h.looks) h.ends) in
@@ -57,4 +58,5 @@ tells_words l d closed on h pairs =
       all = λ x. omega (arith, h.all x, ap (times x) h.drawn);
       firsts = h.firsts;
       reached = h.reached;
+      asked = asked;
     }

@@ -100,6 +100,7 @@ module _ {F M Reader : Type 0} {role : Role} {image : List ℕ → Type 0} {chip
         stopped = k.stopped;
         no_fault = k.no_fault;
         later = k.later;
+        asked = k.asked;
       })
 
   came : CameTo old new

@@ -11,6 +11,7 @@ use Rattle.seq_word.specs.Rule.{IsEndOf, IsWithin, times}
 use Rattle.seq_word.specs.Seen.{ClosedView, DrawerView}
 use Rattle.store_definitions.specs.Config.{config_of}
 use Rattle.store_definitions.specs.Recovered.{IsRecovered}
+use Rattle.locked_node.specs.Asked.{AreAsked}
 use Rattle.locked_node.specs.Node.{NodeView}
 use Rattle.locked_node.specs.Stands.{HasMachine, IsLater, IsNode}
 use Rattle.machine_contract.specs.Moved.{HasMoved}
@@ -59,7 +60,8 @@ module _ {M F S T : Type 0} (view : M → MachineView) (stands : Chip → List S
           bearers = omega (arith, went.many, few);
           lines = sends_short node.machine.entries (sends_told bearers went.did) went.over.pairs.drawns d.looks h.life.few went.over.pairs.shown;
         };
-        drawn = tells_words l d closed refl (subst (Closes d closed) (firsts ∙ ap (λ o. (config_of o).mark) begun_is) closes) pairs;
+        drawn = tells_words l d closed refl (subst (Closes d closed) (firsts ∙ ap (λ o. (config_of o).mark) begun_is) closes) pairs
+            (subst (λ (es : List Entry). AreAsked es node.machine.fills) (sym entries) h.asked);
       }
 
   held_over : held.over ≡ h.over

@@ -12,6 +12,7 @@ use Rattle.run_definitions.specs.RunOf.{draws, is_on}
 use Rattle.seq_word.specs.Rule.{once_below, passed_over, times}
 use Rattle.seq_word.specs.Seen.{ClosedView}
 use Rattle.seq_word.specs.Word.{seq_of}
+use Rattle.locked_node.specs.Asked.{AreAsked}
 use Rattle.node_bearer.specs.Marked.{HasOwnLooks, IsSpentSeen, ends_told}
 
 -- these words are those of these pairs, each once, and no other
@@ -47,6 +48,8 @@ pub record TellsWords (life : Life) (closed : ClosedView) : Type 0 where
       ≡ once_below x closed.next
   pub firsts : All (λ a. seq_of a.1 ≡ 0) closed.advances
   pub reached : All (λ a. a.1 ≤ closed.next) closed.advances
+  -- No refill was stored before there was a job that draws: so a life that had none stored none.
+  pub asked : AreAsked life.entries life.refills
 
 -- nothing is told of a life that wasn't run
 abbrev pub TellsDrawn : Life → Option ClosedView → Type 0

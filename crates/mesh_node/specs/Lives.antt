@@ -2,7 +2,7 @@
 use Rattle.std.specs.Prelude.{◌≡◌, ℕ, ◌+◌, ◌^◌, ◌<◌, ◌≤◌, ◌≢◌, length, true, false, IsTrue, List, Option, None, IfSome}
 use Rattle.flash_model.specs.Chip.{Chip, Remembers}
 use Rattle.machine_contract.specs.Moved.{HasMoved}
-use Rattle.machine_contract.specs.Opening.{EachRecovered, IsNodeFlash}
+use Rattle.machine_contract.specs.Opening.{EachRecovered, HasFormat, IsNodeFlash}
 use Rattle.mesh_types.specs.declared.history.Sent.{Sent}
 use Rattle.mesh_types.specs.declared.report.End.{End}
 use Rattle.mesh_types.specs.declared.report.End.TheVariants as F
@@ -22,7 +22,7 @@ use Rattle.mesh_node.specs.Drawn.{TellsDrawn}
 use Rattle.mesh_node.specs.Given.{IsTold, WasGiven}
 use Rattle.life_laws.specs.Plan.{HasOneArm, IsStep, life_of}
 use Rattle.mesh_node.specs.Steps.{IsGiven, IsOfPlan}
-use Rattle.node_limits.specs.declared.TheConstants.{BEARERS}
+use Rattle.node_limits.specs.declared.TheConstants.{BEARERS, COMPACTION_CALLS}
 
 -- A plan for a node that any image of the flash recovers: at most `BEARERS` bearers, at most one order to tear a call, and events that the node may have.
 pub record IsPlanned (chip : Chip) (plan : LifePlan) : Type 0 where
@@ -66,6 +66,9 @@ pub record Lives {M F : Type 0} (view : M → MachineView) (stands : Chip → Li
   pub arm : IsOfPlan plan (chip new).setting.arm
   pub calls : IfSome (cut_calls log.end) (λ calls. calls ≡ (chip new).changes)
   pub drawn : TellsDrawn (life_of log) log.drawn
+  -- over a flash that fails by an order alone, one can be cut as it opens only where it migrates format 01, and within the calls of that
+  pub opening : IsTrue old.steady → log.opened ≡ W.CutAtStart
+      → HasFormat 1 image × IfSome (cut_calls log.end) (λ calls. calls ≤ COMPACTION_CALLS)
   -- where it wasn't cut, the counter was moved with each record that raised the transmit IV Index, and at no other time
   pub moved : is_cut log.end ≡ false
       → IfSome log.drawn (λ words. HasMoved role over log.history.entries.items log.history.refills words.advances)

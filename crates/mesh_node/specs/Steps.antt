@@ -64,5 +64,6 @@ pub record IsArmedFirst (steps : List PlanStep) (old new : Chip) : Type 0 where
   pub order : new.setting.arm ≡ first_order steps old.changes
   pub steady : new.steady ≡ old.steady
   pub cycles : new.setting.cycles ≡ old.setting.cycles
+  pub changes : new.changes ≡ old.changes
   pub past : Remembers old new
   pub same : IsTrue old.honest → IsSameFlash old new

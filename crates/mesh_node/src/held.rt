@@ -7,7 +7,7 @@ ghost use Rattle.file_flash.specs.Noted.{IsInside, put_of, written};
 ghost use Rattle.flash_model.specs.Chip.{IsFresh, Keeps};
 ghost use Rattle.mesh_types.specs.declared.events.Event.{Event};
 ghost use Rattle.machine_contract.specs.declared.opening.StartFault.TheVariants as faults;
-ghost use Rattle.machine_contract.specs.Opening.{IsNodeFlash};
+ghost use Rattle.machine_contract.specs.Opening.{IsNodeFlash, MigratesOnly};
 ghost use Rattle.machine_contract.specs.Refused.{IsStartCause};
 ghost use Rattle.machine_contract.specs.Started.{IsStarted};
 ghost use Rattle.locked_node.specs.Stands.{IsDueNode, IsIdleNode};
@@ -118,7 +118,8 @@ impl<M: Machine, F: Flash + Send + Drop> HeldLife<M, F> {
         Ok(HeldLife { going })
     }
 
-    /// A life over a flash from which one can be opened: it is started, and begins.
+    /// A life over a flash from which one can be opened: it is started, and begins. That changes what a flash holds only where it
+    /// migrates one of format 01, and calls a steady one only then (`opened`, `unopened`).
     ///
     /// # Errors
     ///
@@ -132,8 +133,10 @@ impl<M: Machine, F: Flash + Send + Drop> HeldLife<M, F> {
         ensures usable { IfOk result (λ r. r.node.machine.closed ≡ false) }
         ensures begins { IfOk result (λ r. r.node.machine.entries ≡ []) }
         ensures held { IfOk result (λ r. HasLived M.role M.image F.chip r [] []) }
+        ensures opened { IfOk result (λ r. MigratesOnly (F.chip flash) (F.chip r.node.flash)) }
         ensures cause { IfErr result
             (λ e. IfSome e.flash (λ f. IsStartCause M.image (F.chip flash) (F.chip f) e.fault)) }
+        ensures unopened { IfErr result (λ e. IfSome e.flash (λ f. MigratesOnly (F.chip flash) (F.chip f))) }
         ensures kept { IfErr result (λ e. IfSome e.flash (λ f. Keeps (F.chip flash) (F.chip f))) }
         ensures lost { IfErr result (λ e. e.flash ≡ None → e.fault ≡ faults.Memory) }
     {

@@ -32,6 +32,8 @@ use store_definitions::recovery::one_list_is_recovered;
 /// One life of a node: power is cycled, an order to tear a call that stands first in the plan is given, the node opens over what the flash
 /// recovers, its bearers do what they have, and the flash is handed back. The flash is honest, and each image of it recovers a node or a
 /// reset; so it is when it is handed back. For want of memory the flash is dropped.
+///
+/// Over a flash that fails by an order alone it is cut as it opens only where it migrates format 01 (`opening` of `Lives`).
 pub fn life<M: Machine, B: Bench, G: Gate, R: Threads + Wait + Sync>(
     rt: &R,
     alloc: Global,

@@ -6,11 +6,13 @@ use Rattle.machine_contract.specs.declared.answers.Stop.TheVariants as S
 use Rattle.mesh_types.specs.declared.events.Event.{Event}
 use Rattle.mesh_types.specs.declared.history.Entry.{Entry}
 use Rattle.mesh_types.specs.declared.jobs.Job.{Job}
+use Rattle.run_definitions.specs.Lines.{is_drawing}
 use Rattle.run_definitions.specs.Order.{Task, write_tasks}
 use Rattle.turn_lock.specs.Entries.{IsPrefix, added}
 use Rattle.turn_lock.specs.Views.{PassView}
 use Rattle.locked_node.specs.declared.marks.Mark.{Mark}
 use Rattle.locked_node.specs.declared.marks.Mark.TheVariants as M
+use Rattle.locked_node.specs.Asked.{WasAsked}
 use Rattle.locked_node.specs.Node.{IsStopped, IsStoppedBare, NodeView, OnStop, node_marks}
 use Rattle.node_bearer.specs.Did.{BearerOf, Broke, Did, DidBy, GoesOn, IsFor, IsNext}
 use Rattle.node_bearer.specs.Marked.{HasEntry, HasJob}
@@ -61,6 +63,27 @@ entry_on a b at event jobs on h = subst (λ ms. HasEntry ms at event jobs) (sym 
 
 pub job_on : {F : Type 0} (a b : BearerOf F) (at j : ℕ) (event : Event) (job : Job) → GoesOn a b → HasJob a.pass.seen at j event job → HasJob b.pass.seen at j event job
 job_on a b at j event job on h = record { jobs = h.jobs; entry = entry_on a b at event h.jobs on h.entry; place = h.place; short = h.short }
+
+-- a job that draws, of an entry that a bearer has seen, is among what it sees later
+asked_longer : (marks rest : List Mark) → WasAsked marks → WasAsked (marks ++ rest)
+asked_longer marks rest w = record { at = w.at; entry = w.entry; here = get_longer marks rest w.at (M.Handled w.entry) w.here; place = w.place; job = w.job; has = w.has; draws = w.draws }
+
+pub asked_front : (front marks : List Mark) → IsPrefix front marks → WasAsked front → WasAsked marks
+asked_front front marks p w = subst WasAsked (sym p.is) (asked_longer front p.rest w)
+
+pub asked_on : {F : Type 0} (a b : BearerOf F) → GoesOn a b → WasAsked a.pass.seen → WasAsked b.pass.seen
+asked_on a b on w = subst WasAsked (sym on.more) (asked_longer a.pass.seen on.rest w)
+
+pub asked_by : (marks : List Mark) (at j : ℕ) (event : Event) (job : Job) → HasJob marks at j event job → is_drawing job ≡ true → WasAsked marks
+asked_by marks at j event job h draws = record {
+  at = at;
+  entry = h.entry.entry;
+  here = h.entry.here;
+  place = j;
+  job = job;
+  has = subst (λ jobs. slice_get jobs j ≡ Some job) (sym h.entry.jobs_are) h.place;
+  draws = draws;
+}
 
 pub front_of_itself : {E : Type 0} (ms : List E) → IsPrefix ms ms
 front_of_itself ms = record { rest = []; is = sym (append-nil ms) }

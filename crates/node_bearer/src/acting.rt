@@ -7,6 +7,7 @@ ghost use Rattle.machine_contract.specs.Ranges.{IsEvent, IsJob, IsQuiet};
 ghost use Rattle.run_definitions.specs.Order.{Task, handle, is_outside, write_tasks};
 ghost use Rattle.seq_word.specs.Word.{seq_of};
 ghost use Rattle.turn_lock.specs.Entries.{IsPrefix};
+ghost use Rattle.locked_node.specs.Asked.{WasAsked};
 ghost use Rattle.locked_node.specs.Node.{OnStop, node_marks, origin_of};
 ghost use Rattle.node_bearer.specs.Did.{AreEvents, Broke, DidBy, GoesOn, IsFor, IsRider};
 ghost use Rattle.node_bearer.specs.Marked.{HasEntry};
@@ -215,7 +216,7 @@ pub fn act_on<M: Machine, F: Flash + Send + Drop, S: Sharing>(
 }
 
 /// Has a refill stored, where the mark that was reached is still the one that was published last, and can be raised. Then another mark is
-/// published, and no longer the one that was reached (`raised`).
+/// published, and no longer the one that was reached (`raised`). It is asked for by a bearer that has seen a job that draws (`asked`).
 pub fn refill<M: Machine, F: Flash + Send + Drop, S: Sharing>(
     place: &Workplace<'_, Node<M, F>, S>,
     b: &mut Bearer<Node<M, F>>,
@@ -224,6 +225,7 @@ pub fn refill<M: Machine, F: Flash + Send + Drop, S: Sharing>(
     requires rider { IsRider S.parts place.now.numbers.now place.now.turn.now b.old }
     requires reached { dry.which ≡ place.now.numbers.now.which }
     requires seq { seq_of dry.mark < 2 ^ 24 }
+    requires asked { WasAsked b.old.pass.seen }
     ensures rider { IsRider S.parts place.now.numbers.now place.now.turn.now b.new }
     ensures on { GoesOn b.old b.new }
     ensures frame { (b.new.lines ≡ b.old.lines) × (b.new.drawer ≡ b.old.drawer) }

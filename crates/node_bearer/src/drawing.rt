@@ -6,6 +6,7 @@ ghost use Rattle.mesh_base.specs.Pairs.{word_of};
 ghost use Rattle.run_definitions.specs.Order.{Task};
 ghost use Rattle.seq_word.specs.Seen.{AfterLost, Finds, HasCause, IsAbove, IsEndAbove, IsPrefix, SameDrawn, miss_of};
 ghost use Rattle.seq_word.specs.Word.{seq_of};
+ghost use Rattle.locked_node.specs.Asked.{WasAsked};
 ghost use Rattle.locked_node.specs.Node.{OnStop};
 ghost use Rattle.node_bearer.specs.Did.{Broke, DidBy, DrewBy, GoesOn, IsRider, IsUnspent};
 ghost use Rattle.node_bearer.specs.Tries.{DrawsUntil, IsRaised};
@@ -38,6 +39,7 @@ fn raise<M: Machine, F: Flash + Send + Drop, S: Sharing>(
 ) -> Result<Option<Raised>, Stop>
     requires rider { IsRider S.parts place.now.numbers.now place.now.turn.now b.old }
     requires reached { dry.which ≡ place.now.numbers.now.which }
+    requires asked { WasAsked b.old.pass.seen }
     ensures rider { IsRider S.parts place.now.numbers.now place.now.turn.now b.new }
     ensures on { GoesOn b.old b.new }
     ensures frame { (b.new.lines ≡ b.old.lines) × (b.new.drawer ≡ b.old.drawer) }
@@ -84,11 +86,14 @@ fn draw_below(n: &Numbers, d: &mut Drawer) -> Result<Pair, Option<DrawStop>>
 
 /// Draws a pair. Where the counter has reached the mark, it has a refill stored and draws again, and for no other cause. It waits for
 /// nobody but for its turn to have a refill stored; after 2^32 - 1 tries it gives up, as for want of memory.
+///
+/// It draws only once an entry that the bearer has seen at the lock has a job that draws (`asked`).
 pub fn draw<M: Machine, F: Flash + Send + Drop, S: Sharing>(
     place: &Workplace<'_, Node<M, F>, S>,
     b: &mut Bearer<Node<M, F>>,
 ) -> Result<Drawn, Stop>
     requires rider { IsRider S.parts place.now.numbers.now place.now.turn.now b.old }
+    requires asked { WasAsked b.old.pass.seen }
     ensures rider { IsRider S.parts place.now.numbers.now place.now.turn.now b.new }
     ensures on { GoesOn b.old b.new }
     ensures frame { b.new.lines ≡ b.old.lines }

@@ -97,7 +97,7 @@ returns-in-Err-Flash g c =
     let log = c.idle_log.ensures in
     record {
       life = lives_cut g.M.Machine.view g.M.Machine.stands chip g.M.Machine.role g.M.Machine.image items c.requires.plan.arm old start c.start.new.flash c.idle_log.result
-          p.is p.began p.order p.armed p.count p.cycles c.start.ensures.frame ((g.met.B.Bench g.world.𝓛 g.world.𝓜 g.world.𝓡 ((λ s x. x), (λ x. x), (λ x. x), λ x. x)).explained c.start.new.flash) cause.1 cause.0 log.opened (log.end ∙ ap Ends.Cut c.changes.ensures) log.drawn log.entries log.refills log.sends log.early;
+          p.is p.began p.order p.armed p.count p.cycles c.start.ensures.frame p.uncalled c.start.ensures.writes ((g.met.B.Bench g.world.𝓛 g.world.𝓜 g.world.𝓡 ((λ s x. x), (λ x. x), (λ x. x), λ x. x)).explained c.start.new.flash) cause.1 cause.0 log.opened (log.end ∙ ap Ends.Cut c.changes.ensures) log.drawn log.entries log.refills log.sends log.early;
     }
 
 pub returns-in-Err-WasReset : goal.returns-in-Err-WasReset

@@ -5,6 +5,7 @@ use Rattle.mesh_types.specs.declared.report.Opened.TheVariants as W
 use Rattle.store_definitions.specs.Config.{config_of}
 use Rattle.life_laws.specs.declared.plan.LifeLog.{LifeLog}
 use Rattle.run_definitions.specs.Order.{phases_of}
+use Rattle.locked_node.specs.Asked.{AreAsked}
 use Rattle.mesh_node.specs.Going.{IsOver}
 use Rattle.mesh_node.specs.Lives.{cut_calls}
 use Rattle.life_laws.specs.Plan.{IsStep, steps_of}
@@ -28,6 +29,12 @@ pub new-requires-clause-later : goal.new-requires-clause-later
 new-requires-clause-later g c κs lives =
     let kept = c.requires.kept in
     record { faults = kept.later; steady = kept.steady; began = ap (λ (s : Setting). s.faults) kept.setting; cycles = ap (λ (s : Setting). s.cycles) kept.setting; past = kept.past }
+
+-- it opens with no entry and no refill
+pub new-requires-clause-asked : goal.new-requires-clause-asked
+new-requires-clause-asked g c κs lives =
+    let s = c.requires.started in
+    subst (λ es. AreAsked es (g.M.Machine.view c.args.started.machine).fills) (sym s.entries) s.fills
 
 -- the elements of the node are those that the records say
 pub do_steps-requires-clause-steps : goal.do_steps-requires-clause-steps

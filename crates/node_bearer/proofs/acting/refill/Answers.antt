@@ -1,6 +1,10 @@
 use Rattle.locked_node.specs.Node.{node_marks}
-use Rattle.node_bearer.proofs.Turning.{broke_left, did_left, did_visited, entered, front_by, if_err, on_ok, on_stop, stopped_bare}
+use Rattle.node_bearer.proofs.Turning.{asked_front, broke_left, did_left, did_visited, entered, front_by, if_err, on_ok, on_stop, stopped_bare}
 use Rattle.node_bearer.proofs.acting.refill.Goals as goal
+
+-- it has seen the job that it draws for, and so the node has it
+pub refill-result-requires-clause-asked : goal.refill-result-requires-clause-asked
+refill-result-requires-clause-asked g c κs lives = asked_front c.args.b.now.pass.seen (node_marks c.enter-node.result) c.enter-node.ensures.seen c.requires.asked
 
 pub returns-clause-did : goal.returns-clause-did
 returns-clause-did g c = λ k first tasks rest h.

@@ -2,7 +2,7 @@ use Rattle.std.proofs.Common.{◌∙◌, ◌++◌, ◌∷◌, ap, append_assoc, 
 use Rattle.seq_word.specs.Seen.{AfterLost, DrawerView, HasCause}
 use Rattle.seq_word.specs.declared.miss.Miss.TheVariants as missed
 use Rattle.node_bearer.proofs.Doing.{did_looked, saw_end}
-use Rattle.node_bearer.proofs.Turning.{stops}
+use Rattle.node_bearer.proofs.Turning.{asked_on, stops}
 use Rattle.node_bearer.proofs.drawing.draw.Goals as goal
 
 pub returns-in-Err-Some-Spent-clause-did : goal.returns-in-Err-Some-Spent-clause-did
@@ -27,6 +27,9 @@ raise-requires-clause-reached g c κs lives =
     let e = c.in-Err-Some-Dry.ensures in
     let cause = rw c.in-Err-Some-Dry.field-0-0-is at rw c.in-Err-Some-Dry.field-0-is at e.cause in
     cause.3.3 ∙ e.frame.0 ∙ c.loop.invariant.rider.draws
+
+pub raise-requires-clause-asked : goal.raise-requires-clause-asked
+raise-requires-clause-asked g c κs lives = asked_on c.args.b.now c.loop.b c.loop.invariant.on c.requires.asked
 
 pub loop-preserved : goal.loop-preserved
 loop-preserved g c =

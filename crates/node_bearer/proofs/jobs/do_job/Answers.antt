@@ -1,8 +1,14 @@
-use Rattle.std.proofs.Common.{◌∷◌, subst}
+use Rattle.std.proofs.Common.{◌≡◌, true, ◌∷◌, subst}
+use Rattle.run_definitions.specs.Lines.{is_drawing}
 use Rattle.run_definitions.specs.Order.{write}
 use Rattle.node_bearer.specs.Did.{DrewBy}
-use Rattle.node_bearer.proofs.Turning.{stops}
+use Rattle.node_bearer.proofs.Turning.{asked_by, stops}
 use Rattle.node_bearer.proofs.jobs.do_job.Goals as goal
+
+pub draw-requires-clause-asked : goal.draw-requires-clause-asked
+draw-requires-clause-asked g c κs lives =
+    let draws : is_drawing c.args.job.now ≡ true = cc (c.draws.ensures.value, c.if-not-draws.false) in
+    asked_by c.args.b.now.pass.seen c.args.at c.args.j c.args.event.now c.args.job.now c.requires.there draws
 
 pub returns-in_err-pair-clause-stopped : goal.returns-in_err-pair-clause-stopped
 returns-in_err-pair-clause-stopped g c = λ k first tasks rest h. stops _ c.from_residual.result c.in_err-pair.field-0.0 c.from_residual.ensures.1 (c.in_err-pair.ensures.stopped k first tasks _ h)

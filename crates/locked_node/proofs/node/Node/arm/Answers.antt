@@ -32,4 +32,5 @@ invariant_of-self g c =
         cycles = ap (λ s. s.cycles) c.arm.ensures.setting ∙ h.later.cycles;
         past = past_more (g.F.Flash.chip held.start) (g.F.Flash.chip held.flash) (g.F.Flash.chip c.arm.new.self) h.later.past kept.past;
       };
+      asked = h.asked;
     }

@@ -16,6 +16,7 @@ returns-clause-known g c =
       stopped = h.stopped;
       no_fault = h.no_fault;
       later = h.later;
+      asked = h.asked;
     })
 
 pub returns-clause-stands : goal.returns-clause-stands
