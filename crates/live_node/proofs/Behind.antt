@@ -5,20 +5,19 @@ use Rattle.event_definitions.specs.Role.{Role}
 use Rattle.mesh_types.specs.declared.report.End.TheVariants as Z
 use Rattle.mesh_types.specs.declared.report.Opened.{Opened}
 use Rattle.mesh_types.specs.declared.report.Opened.TheVariants as W
-use Rattle.mesh_types.specs.declared.report.ReportLine.{ReportLine}
 use Rattle.report_definitions.specs.Report.{end_lines, opened_line}
 use Rattle.seq_word.specs.Seen.{ClosedView}
 use Rattle.machine_contract.specs.View.{MachineView}
 use Rattle.record_types.specs.declared.records.StoreRecord.{StoreRecord}
 use Rattle.store_definitions.specs.Config.{config_of}
 use Rattle.mesh_node.specs.Lived.{FellShort, LivedOn}
-use Rattle.mesh_node.specs.Told.{BySteps, PhaseDid, SinkSteps}
+use Rattle.mesh_node.specs.Told.{BySteps, FailedAtLast, PhaseDid, SinkSteps}
 use Rattle.mesh_node.specs.declared.told.LastStep.{LastStep}
 use Rattle.mesh_node.specs.declared.told.LastStep.TheVariants as T
 use Rattle.report_writer.specs.Writing.{SinkView, Written, WrittenFront, view_of}
 use Rattle.report_writer.specs.declared.lives.WriteStop.{WriteStop}
 use Rattle.report_writer.specs.declared.lives.WriteStop.TheVariants as stop
-use Rattle.report_writer.proofs.Written.{front_behind, front_whole, written_more}
+use Rattle.report_writer.proofs.Written.{written_more}
 use Rattle.live_lines.specs.Moves.{LinesAt}
 use Rattle.live_lines.specs.Sources.{FailsAs, FailsBehind}
 use Rattle.live_lines.specs.Steps.{Ends, Fails}
@@ -26,22 +25,17 @@ use Rattle.live_lines.specs.Turns.{IsFrontOf}
 use Rattle.live_lines.specs.declared.line_phases.LinePhases.{LinePhases}
 use Rattle.live_lines.specs.declared.lines.LineStop.{LineStop}
 use Rattle.live_lines.specs.declared.lines.LineStop.TheVariants as L
-use Rattle.live_report.specs.Laws.{AllIsWritten, EndIsFront}
-use Rattle.live_report.specs.Lines.{phases_lines}
-use Rattle.live_report.specs.Steps.{WroteTo}
+use Rattle.live_report.specs.Laws.{AllIsWritten}
+use Rattle.live_report.specs.Lines.{did_lines, phases_lines}
+use Rattle.live_report.specs.Steps.{FailsAtLast, WroteTo}
 use Rattle.live_report.specs.declared.report.LiveReport.{LiveReport}
 use Rattle.live_node.specs.Ending.{IsEndTold, status_behind}
 use Rattle.live_node.specs.Ends.{EndsOver}
-use Rattle.live_node.specs.Lived.{GoesOn, LivedBy, LivedShort, StreamsAt, Writes, at_end, begun, by_line, ended_lines, failed, open_lines, streams_of, unasked, unended}
+use Rattle.live_node.specs.Lived.{BrokenAtLast, GoesOn, LivedBy, LivedShort, StreamsAt, Tells, at_end, begun, broken_at_end, by_line, failed, open_lines, streams_of, told_ended, told_open, unasked, unended}
 use Rattle.live_node.specs.Status.{line_status, stop_status}
 use Rattle.live_node.specs.declared.status.Status.{Status}
 use Rattle.live_node.specs.declared.status.Status.TheVariants as V
 use Rattle.live_node.proofs.Said as Said
-
--- what is known of the lines that were written
-pub record Laws : Type 0 where
-  pub whole : AllIsWritten
-  pub end : EndIsFront
 
 module _ {S E K : Type 0} (clocked : Bool) (left : S → Option (List ℕ)) (source_faults : S → ℕ) (took : E → Option (List ℕ)) (told_pieces : E → Option (List (List ℕ))) (errors_faults : E → ℕ)
     (held : K → Option (List ℕ)) (pieces : K → Option (List (List ℕ))) (faults : K → ℕ)
@@ -59,7 +53,7 @@ module _ {S E K : Type 0} (clocked : Bool) (left : S → Option (List ℕ)) (sou
   abbrev Lived : LastStep → Type 0
   Lived last = LivedOn Stood role image (Said.line_steps clocked left source_faults took told_pieces errors_faults) sinks lines lines' report report' bearers start new refills drawn closed last
 
-  module _ (from : StreamsAt) (before : SinkView) (opened : Opened) (laws : Laws) (first : Written (opened_line 1 opened ∷ []) before (view report.sink)) (begins : at lines ≡ begun from) (unfailed_yet : lines.lines.why ≡ None) (unused : IsFrontOf lines.front []) where
+  module _ (from : StreamsAt) (before : SinkView) (opened : Opened) (whole : AllIsWritten) (first : Written (opened_line 1 opened ∷ []) before (view report.sink)) (begins : at lines ≡ begun from) (unfailed_yet : lines.lines.why ≡ None) (unused : IsFrontOf lines.front []) where
     abbrev to : StreamsAt
     to = streams_of (at lines')
 
@@ -74,11 +68,11 @@ module _ {S E K : Type 0} (clocked : Bool) (left : S → Option (List ℕ)) (sou
           subst (λ a. BySteps (by_line bearers (config_of lived.over).elements clocked) a lived.phases mid) begins
           (subst (λ e. BySteps (by_line bearers e clocked) (at lines) lived.phases mid) elements (subst (λ b. BySteps (by_line b lines.lines.elements clocked) (at lines) lived.phases mid) many said))
 
-      build : (goes : GoesOn) (shown : Opened → List PhaseDid → List ReportLine) (writes : Writes) (mid last : LinesAt) → streams_of last ≡ to
+      build : (goes : GoesOn) (tells : Tells) (mid last : LinesAt) → streams_of last ≡ to
           → BySteps (by_line lines.lines.bearers lines.lines.elements clocked) (at lines) lived.phases mid
-          → goes lines.lines.bearers lines.lines.elements clocked mid last → writes (shown opened lived.did) before (view sink)
-          → LivedBy Stood role image report.hex bearers clocked start new from to before (view sink) closed goes shown writes
-      build goes shown writes mid last same said goes_on wrote = record {
+          → goes lines.lines.bearers lines.lines.elements clocked mid last → tells opened lived.did before (view sink)
+          → LivedBy Stood role image report.hex bearers clocked start new from to before (view sink) closed goes tells
+      build goes tells mid last same said goes_on wrote = record {
         over = lived.over;
         recovered = lived.recovered;
         phases = lived.phases;
@@ -95,7 +89,7 @@ module _ {S E K : Type 0} (clocked : Bool) (left : S → Option (List ℕ)) (sou
         each = lived.each;
         all = lived.all;
         life = lived.life;
-        wrote = subst (λ o. writes (shown o lived.did) before (view sink)) is wrote;
+        wrote = subst (λ o. tells o lived.did before (view sink)) is wrote;
         node = lived.node;
         later = lived.later;
         cause = lived.cause;
@@ -109,141 +103,149 @@ module _ {S E K : Type 0} (clocked : Bool) (left : S → Option (List ℕ)) (sou
       -- the source came to its end
       ended : (mid : LinePhases S E) → Gave mid
           → ((used : List ℕ) → IsFrontOf mid.front used → Ends mid.lines.bearers mid.lines.elements (behind used mid) (at lines'))
-          → (shown : Opened → List PhaseDid → List ReportLine) (writes : Writes) → writes (shown opened lived.did) before (view sink)
-          → LivedBy Stood role image report.hex bearers clocked start new from to before (view sink) closed at_end shown writes
-      ended mid gave ends shown writes wrote =
+          → (tells : Tells) → tells opened lived.did before (view sink)
+          → LivedBy Stood role image report.hex bearers clocked start new from to before (view sink) closed at_end tells
+      ended mid gave ends tells wrote =
           let said = Said.said_all clocked left source_faults took told_pieces errors_faults [] lines mid lived.phases unused gave in
           let here = behind said.used mid in
-          build at_end shown writes here (at lines') refl said.said
+          build at_end tells here (at lines') refl said.said
           (subst (λ e. Ends lines.lines.bearers e here (at lines')) said.elements
           (subst (λ b. Ends b mid.lines.elements here (at lines')) said.bearers (ends said.used said.is))) wrote
 
       -- it failed, for this cause
       gave_up : (mid : LinePhases S E) → Gave mid
           → (why : LineStop) → ((used : List ℕ) → IsFrontOf mid.front used → Fails mid.lines.bearers mid.lines.elements clocked why (behind used mid) (at lines'))
-          → (shown : Opened → List PhaseDid → List ReportLine) (writes : Writes) → writes (shown opened lived.did) before (view sink)
+          → (tells : Tells) → tells opened lived.did before (view sink)
           → (goes : GoesOn)
           → ((m : LinesAt) → Fails lines.lines.bearers lines.lines.elements clocked why m (at lines') → goes lines.lines.bearers lines.lines.elements clocked m (at lines'))
-          → LivedBy Stood role image report.hex bearers clocked start new from to before (view sink) closed goes shown writes
-      gave_up mid gave why fails shown writes wrote goes is_so =
+          → LivedBy Stood role image report.hex bearers clocked start new from to before (view sink) closed goes tells
+      gave_up mid gave why fails tells wrote goes is_so =
           let said = Said.said_all clocked left source_faults took told_pieces errors_faults [] lines mid lived.phases unused gave in
           let here = behind said.used mid in
-          build goes shown writes here (at lines') refl said.said
+          build goes tells here (at lines') refl said.said
           (is_so here (subst (λ e. Fails lines.lines.bearers e clocked why here (at lines')) said.elements
           (subst (λ b. Fails b mid.lines.elements clocked why here (at lines')) said.bearers (fails said.used said.is)))) wrote
 
       -- it gave none, and nothing moved
       stayed : (mid : LinePhases S E) → Gave mid
-          → ((used : List ℕ) → IsFrontOf mid.front used → behind used lines' ≡ behind used mid) → (shown : Opened → List PhaseDid → List ReportLine) (writes : Writes) → writes (shown opened lived.did) before (view sink)
-          → LivedBy Stood role image report.hex bearers clocked start new from to before (view sink) closed unended shown writes
-      stayed mid gave same shown writes wrote =
+          → ((used : List ℕ) → IsFrontOf mid.front used → behind used lines' ≡ behind used mid) → (tells : Tells) → tells opened lived.did before (view sink)
+          → LivedBy Stood role image report.hex bearers clocked start new from to before (view sink) closed unended tells
+      stayed mid gave same tells wrote =
           let said = Said.said_all clocked left source_faults took told_pieces errors_faults [] lines mid lived.phases unused gave in
           let here = behind said.used mid in
-          build unended shown writes here here (ap streams_of (sym (same said.used said.is))) said.said (inl refl) wrote
+          build unended tells here here (ap streams_of (sym (same said.used said.is))) said.said (inl refl) wrote
 
       -- it wasn't asked any more
       asked : Gave lines'
-          → (shown : Opened → List PhaseDid → List ReportLine) (writes : Writes) → writes (shown opened lived.did) before (view sink)
+          → (tells : Tells) → tells opened lived.did before (view sink)
           → (goes : GoesOn) → ((m : LinesAt) → goes lines.lines.bearers lines.lines.elements clocked m m)
-          → LivedBy Stood role image report.hex bearers clocked start new from to before (view sink) closed goes shown writes
-      asked gave shown writes wrote goes is_so =
+          → LivedBy Stood role image report.hex bearers clocked start new from to before (view sink) closed goes tells
+      asked gave tells wrote goes is_so =
           let said = Said.said_all clocked left source_faults took told_pieces errors_faults [] lines lines' lived.phases unused gave in
           let here = behind said.used lines' in
-          build goes shown writes here here refl said.said (is_so here) wrote
+          build goes tells here here refl said.said (is_so here) wrote
 
-    -- what stands in the sink behind the opening
-    abbrev Shown : Bool → (Opened → List PhaseDid → List ReportLine) → GoesOn → Writes → Type 0
-    Shown b shown goes writes = LivedBy Stood role image report.hex bearers clocked start new from to before (view sink) b goes shown writes
+    -- what was written of the life
+    abbrev Shown : Bool → GoesOn → Tells → Type 0
+    Shown b goes tells = LivedBy Stood role image report.hex bearers clocked start new from to before (view sink) b goes tells
+
+    -- the lines of the opening and of phases
+    open_written : (did : List PhaseDid) (k : SinkView) → Written (phases_lines report.hex did) (view report.sink) k → Written (open_lines report.hex opened did) before k
+    open_written did k wrote = written_more (opened_line 1 opened ∷ []) (phases_lines report.hex did) before (view report.sink) k first wrote
 
     -- a front of the line of the end was written
     end_broken : (lived : Lived T.Ended) → opened ≡ W.On (config_of lived.over).iv (config_of lived.over).mark → lines.lines.elements ≡ (config_of lived.over).elements → lines.lines.bearers ≡ bearers
         → Written (phases_lines report.hex lived.did) (view report.sink) (view report'.sink) → WrittenFront (end_lines opened Z.Ended) (view report'.sink) (view sink)
-        → Shown false (ended_lines report.hex) at_end WrittenFront
+        → Shown false at_end (broken_at_end report.hex)
     end_broken lived is el many wrote front =
         let (mid, gave, ends) = lived.gave in
-        subst (λ b. Shown b (ended_lines report.hex) at_end WrittenFront) lived.end
-        (ended T.Ended lived is el many mid gave ends.1 (ended_lines report.hex) WrittenFront
-        (laws.end report.hex 1 opened lived.did Z.Ended before (view report.sink) (view report'.sink) (view sink) first wrote front))
-
-    -- the lines of the opening and of the phases, as a front of themselves
-    open_front : (did : List PhaseDid) → Written (phases_lines report.hex did) (view report.sink) (view sink) → WrittenFront (open_lines report.hex opened did) before (view sink)
-    open_front did wrote =
-        front_whole (open_lines report.hex opened did) before (view sink)
-        (written_more (opened_line 1 opened ∷ []) (phases_lines report.hex did) before (view report.sink) (view sink) first wrote)
+        subst (λ b. Shown b at_end (broken_at_end report.hex)) lived.end
+        (ended T.Ended lived is el many mid gave ends.1 (broken_at_end report.hex)
+        (view report'.sink, open_written lived.did (view report'.sink) wrote, front))
 
     behind_end : (lived : Lived T.Ended) → opened ≡ W.On (config_of lived.over).iv (config_of lived.over).mark → lines.lines.elements ≡ (config_of lived.over).elements → lines.lines.bearers ≡ bearers
         → WroteTo held pieces faults T.Ended (phases_lines report.hex lived.did) report report'
         → (status : Status) → IsEndTold opened status (view report'.sink) (faults report'.sink) (view sink) (faults sink) → Over status
     behind_end lived is el many wrote V.Done h =
         let (mid, gave, ends) = lived.gave in
-        subst (λ b. Shown b (ended_lines report.hex) at_end Written) lived.end
-        (ended T.Ended lived is el many mid gave ends.1 (ended_lines report.hex) Written
-        (laws.whole report.hex 1 opened lived.did Z.Ended before (view report.sink) (view report'.sink) (view sink) first wrote.written h.0))
+        subst (λ b. Shown b at_end (told_ended report.hex)) lived.end
+        (ended T.Ended lived is el many mid gave ends.1 (told_ended report.hex)
+        (whole report.hex 1 opened lived.did Z.Ended before (view report.sink) (view report'.sink) (view sink) first wrote.written h.0))
     behind_end lived is el many wrote V.WriteFault h = inr (inl (lived.end, end_broken lived is el many wrote.written h.0))
-    behind_end lived is el many wrote V.Memory h = inr (inl (lived.end, end_broken lived is el many wrote.written h.0))
+    behind_end lived is el many wrote V.Memory h = inr (inl (inl (lived.end, end_broken lived is el many wrote.written h.0)))
     behind_end lived is el many wrote V.ReadFault h = absurd h
     behind_end lived is el many wrote V.FlashFault h = absurd h
     behind_end lived is el many wrote V.Cut h = absurd h
     behind_end lived is el many wrote V.ErrorsFault h = absurd h
     behind_end lived is el many wrote V.WasReset h = absurd h
 
+    -- no stream failed, and the source gave none
+    unfed : (lived : Lived T.Unread) → Shown closed unended (told_open report.hex) → Over V.Memory
+    unfed lived h = inr (inr (lived.end, subst (λ b. Shown b unended (told_open report.hex)) lived.end h))
+
     behind_failure : (lived : Lived T.Unread) → opened ≡ W.On (config_of lived.over).iv (config_of lived.over).mark → lines.lines.elements ≡ (config_of lived.over).elements → lines.lines.bearers ≡ bearers
         → Written (phases_lines report.hex lived.did) (view report.sink) (view sink)
         → (mid : LinePhases S E) → BySteps (Said.line_steps clocked left source_faults took told_pieces errors_faults).gives lines lived.phases mid
         → (why : LineStop) → FailsAs clocked left source_faults took told_pieces errors_faults why mid lines' → Over (line_status why)
     behind_failure lived is el many wrote mid gave L.Source fails =
-        subst (λ b. Shown b (open_lines report.hex) (failed L.Source) Written) lived.end
-        (gave_up T.Unread lived is el many mid gave L.Source fails (open_lines report.hex) Written
-        (written_more (opened_line 1 opened ∷ []) (phases_lines report.hex lived.did) before (view report.sink) (view sink) first wrote) (failed L.Source) (λ m k. k))
+        subst (λ b. Shown b (failed L.Source) (told_open report.hex)) lived.end
+        (gave_up T.Unread lived is el many mid gave L.Source fails (told_open report.hex) (open_written lived.did (view sink) wrote) (failed L.Source) (λ m k. k))
     behind_failure lived is el many wrote mid gave L.Errors fails =
-        subst (λ b. Shown b (open_lines report.hex) (failed L.Errors) Written) lived.end
-        (gave_up T.Unread lived is el many mid gave L.Errors fails (open_lines report.hex) Written
-        (written_more (opened_line 1 opened ∷ []) (phases_lines report.hex lived.did) before (view report.sink) (view sink) first wrote) (failed L.Errors) (λ m k. k))
+        subst (λ b. Shown b (failed L.Errors) (told_open report.hex)) lived.end
+        (gave_up T.Unread lived is el many mid gave L.Errors fails (told_open report.hex) (open_written lived.did (view sink) wrote) (failed L.Errors) (λ m k. k))
     behind_failure lived is el many wrote mid gave L.Memory fails =
-        inr (inr (gave_up T.Unread lived is el many mid gave L.Memory fails (open_lines report.hex) WrittenFront (open_front lived.did wrote)
-        unended (λ m k. inr (L.Memory, refl, k))))
+        unfed lived (gave_up T.Unread lived is el many mid gave L.Memory fails (told_open report.hex) (open_written lived.did (view sink) wrote) unended (λ m k. inr (L.Memory, refl, k)))
     behind_failure lived is el many wrote mid gave L.Endless fails =
-        inr (inr (gave_up T.Unread lived is el many mid gave L.Endless fails (open_lines report.hex) WrittenFront (open_front lived.did wrote)
-        unended (λ m k. inr (L.Endless, refl, k))))
+        unfed lived (gave_up T.Unread lived is el many mid gave L.Endless fails (told_open report.hex) (open_written lived.did (view sink) wrote) unended (λ m k. inr (L.Endless, refl, k)))
     behind_failure lived is el many wrote mid gave L.OtherNode fails =
-        inr (inr (stayed T.Unread lived is el many mid gave (λ used k. (fails used k).0) (open_lines report.hex) WrittenFront (open_front lived.did wrote)))
+        unfed lived (stayed T.Unread lived is el many mid gave (λ used k. (fails used k).0) (told_open report.hex) (open_written lived.did (view sink) wrote))
 
     behind_cut : (lived : Lived T.Cut) → opened ≡ W.On (config_of lived.over).iv (config_of lived.over).mark → lines.lines.elements ≡ (config_of lived.over).elements → lines.lines.bearers ≡ bearers
         → Written (phases_lines report.hex lived.did) (view report.sink) (view sink) → Over V.Cut
     behind_cut lived is el many wrote =
-        subst (λ b. Shown b (open_lines report.hex) unasked Written) lived.end
-        (asked T.Cut lived is el many lived.gave (open_lines report.hex) Written
-        (written_more (opened_line 1 opened ∷ []) (phases_lines report.hex lived.did) before (view report.sink) (view sink) first wrote) unasked (λ m. refl))
+        subst (λ b. Shown b unasked (told_open report.hex)) lived.end
+        (asked T.Cut lived is el many lived.gave (told_open report.hex) (open_written lived.did (view sink) wrote) unasked (λ m. refl))
+
+    -- it was broken off in what the last phase did
+    at_last : (did : List PhaseDid) → FailsAtLast held pieces faults report did report' → sink ≡ report'.sink → BrokenAtLast report.hex opened did before (view sink)
+    at_last did h still = record {
+      told = h.told;
+      last = h.last;
+      is = h.is;
+      mid = view h.mid.sink;
+      whole = open_written h.told (view h.mid.sink) h.wrote.written;
+      front = subst (λ k. WrittenFront (did_lines report.hex h.last) (view h.mid.sink) (view k)) (sym still)
+          (subst (λ hex. WrittenFront (did_lines hex h.last) (view h.mid.sink) (view report'.sink)) h.wrote.hex h.failed.told.front);
+    }
 
     behind_untold : (lived : Lived T.Untold) → opened ≡ W.On (config_of lived.over).iv (config_of lived.over).mark → lines.lines.elements ≡ (config_of lived.over).elements → lines.lines.bearers ≡ bearers
-        → WrittenFront (phases_lines report.hex lived.did) (view report.sink) (view sink) → (why : WriteStop) → Over (stop_status why)
-    behind_untold lived is el many wrote stop.Fault =
-        inr (inr (asked T.Untold lived is el many lived.gave (open_lines report.hex) WrittenFront
-        (front_behind (opened_line 1 opened ∷ []) (phases_lines report.hex lived.did) before (view report.sink) (view sink) first wrote) unended (λ m. inl refl)))
-    behind_untold lived is el many wrote stop.Memory =
-        inr (inr (asked T.Untold lived is el many lived.gave (open_lines report.hex) WrittenFront
-        (front_behind (opened_line 1 opened ∷ []) (phases_lines report.hex lived.did) before (view report.sink) (view sink) first wrote) unended (λ m. inl refl)))
+        → BrokenAtLast report.hex opened lived.did before (view sink) → (why : WriteStop) → Over (stop_status why)
+    behind_untold lived is el many broken stop.Fault =
+        inr (inr (asked T.Untold lived is el many lived.gave (BrokenAtLast report.hex) broken unasked (λ m. refl)))
+    behind_untold lived is el many broken stop.Memory =
+        inr (inl (inr (asked T.Untold lived is el many lived.gave (BrokenAtLast report.hex) broken unasked (λ m. refl))))
 
     -- whatever its last step was
     pub over : (last : LastStep) (lived : Lived last) → opened ≡ W.On (config_of lived.over).iv (config_of lived.over).mark → lines.lines.elements ≡ (config_of lived.over).elements → lines.lines.bearers ≡ bearers
-        → WroteTo held pieces faults last (phases_lines report.hex lived.did) report report' → (status : Status)
+        → WroteTo held pieces faults last (phases_lines report.hex lived.did) report report'
+        → ((did : List PhaseDid) → FailedAtLast sinks report did report' → FailsAtLast held pieces faults report did report') → (status : Status)
         → (last ≡ T.Ended → IsEndTold opened status (view report'.sink) (faults report'.sink) (view sink) (faults sink))
         → ((last ≡ T.Ended → ⊥) → (status ≡ status_behind last lines'.lines.why report'.stopped) × (sink ≡ report'.sink)) → Over status
-    over T.Ended lived is el many wrote status told up = behind_end lived is el many wrote status (told refl)
-    over T.Unread lived is el many wrote status told up =
+    over T.Ended lived is el many wrote failed_at status told up = behind_end lived is el many wrote status (told refl)
+    over T.Unread lived is el many wrote failed_at status told up =
         let (same, still) = up (λ e. cc) in
         let (mid, gave, fails) = lived.gave in
         let said = Said.said_all clocked left source_faults took told_pieces errors_faults [] lines mid lived.phases unused gave in
         let (why, f) = subst (λ o. FailsBehind clocked left source_faults took told_pieces errors_faults o mid lines') (said.why ∙ unfailed_yet) fails in
         subst Over (sym (same ∙ ap (λ o. status_behind T.Unread o report'.stopped) f.kept))
         (behind_failure lived is el many (subst (λ k. Written (phases_lines report.hex lived.did) (view report.sink) (view k)) (sym still) wrote.written) mid gave why f.fails)
-    over T.Cut lived is el many wrote status told up =
+    over T.Cut lived is el many wrote failed_at status told up =
         let (same, still) = up (λ e. cc) in
         subst Over (sym same) (behind_cut lived is el many (subst (λ k. Written (phases_lines report.hex lived.did) (view report.sink) (view k)) (sym still) wrote.written))
-    over T.Untold lived is el many wrote status told up =
+    over T.Untold lived is el many wrote failed_at status told up =
         let (same, still) = up (λ e. cc) in
         subst Over (sym (same ∙ ap (λ o. status_behind T.Untold lines'.lines.why o) wrote.stopped))
-        (behind_untold lived is el many (subst (λ k. WrittenFront (phases_lines report.hex lived.did) (view report.sink) (view k)) (sym still) wrote.front) wrote.why)
+        (behind_untold lived is el many (at_last lived.did (failed_at lived.did lived.took) still) wrote.why)
 
     -- where memory ran out
     pub short : (fell : FellShort role (Said.line_steps clocked left source_faults took told_pieces errors_faults) sinks lines lines' report report' start) → opened ≡ W.On (config_of fell.over).iv (config_of fell.over).mark

@@ -7,8 +7,8 @@ use Rattle.mesh_node.specs.declared.told.LastStep.{LastStep}
 use Rattle.mesh_node.specs.declared.told.LastStep.TheVariants as T
 use Rattle.mesh_types.specs.declared.report.Opened.{Opened}
 use Rattle.mesh_types.specs.declared.report.ReportLine.{ReportLine}
-use Rattle.mesh_node.specs.Told.{IsClosedAt, PhaseDid}
-use Rattle.report_writer.specs.Writing.{SinkView, Written, WrittenFront, view_of}
+use Rattle.mesh_node.specs.Told.{IsClosedAt}
+use Rattle.report_writer.specs.Writing.{SinkView, view_of}
 use Rattle.store_definitions.specs.Config.{config_of}
 use Rattle.report_writer.specs.declared.lives.WriteStop.{WriteStop}
 use Rattle.report_writer.specs.declared.lives.WriteStop.TheVariants as stop
@@ -19,7 +19,7 @@ use Rattle.live_report.specs.Steps.{IsCauseOf, WroteTo}
 use Rattle.live_report.specs.declared.report.LiveReport.{LiveReport}
 use Rattle.live_node.specs.Ending.{IsEndTold, status_behind}
 use Rattle.live_node.specs.Ends.{EndsAs, EndsLost, EndsOver, IsClosedBy, IsErrorsCause, IsSinkCause, IsSourceCause}
-use Rattle.live_node.specs.Lived.{GoesOn, LivedBroken, LivedBy, LivedShort, Standing, StreamsAt, Writes, at_end, begun, ended_lines, failed, is_no_fault, open_lines, streams_of, unasked, unended}
+use Rattle.live_node.specs.Lived.{BrokenAtLast, GoesOn, LivedBroken, LivedBy, LivedShort, Standing, StreamsAt, Tells, at_end, begun, broken_at_end, failed, is_no_fault, streams_of, told_ended, told_open, unasked, unended}
 use Rattle.live_node.specs.Status.{stop_status}
 use Rattle.live_node.specs.declared.status.Status.{Status}
 use Rattle.live_node.specs.declared.status.Status.TheVariants as S
@@ -118,9 +118,9 @@ module _ (role : Role) (image : List ℕ → Type 0) (hex : Bool) (bearers : ℕ
   then_kept : (mid last : LinesAt) → NoFault (begun from) mid → NoFault mid last → streams_of last ≡ to → Kept
   then_kept mid last h k is = kept_at last is (k.source ∙ h.source) (k.sink ∙ h.sink)
 
-  module _ (Stood : Standing) (new : Chip) (closed : Bool) (shown : Opened → List PhaseDid → List ReportLine) (writes : Writes) where
+  module _ (Stood : Standing) (new : Chip) (closed : Bool) (tells : Tells) where
     abbrev By : GoesOn → Type 0
-    By goes = LivedBy Stood role image hex bearers clocked start new from to before after closed goes shown writes
+    By goes = LivedBy Stood role image hex bearers clocked start new from to before after closed goes tells
 
     base : (goes : GoesOn) (l : By goes) → NoFault (begun from) l.mid
     base goes l = said_faults bearers (config_of l.over).elements clocked l.phases (begun from) l.mid l.said
@@ -168,25 +168,28 @@ module _ (role : Role) (image : List ℕ → Type 0) (hex : Bool) (bearers : ℕ
 
   broken_kept : (Stood : Standing) (new : Chip) (closed : Bool) → LivedBroken Stood role image hex bearers clocked start new from to before after closed → Kept
   broken_kept Stood new closed h = elim h [
-    | inl e ↦ at_end_kept Stood new false (ended_lines hex) WrittenFront e.1
-    | inr l ↦ unended_kept Stood new closed (open_lines hex) WrittenFront l
+    | inl e ↦ at_end_kept Stood new false (broken_at_end hex) e.1
+    | inr l ↦ unasked_kept Stood new closed (BrokenAtLast hex) l
   ]
 
   abbrev Both : Status → Type 0
   Both status = IsSourceCause status from.source_faults to.source_faults × IsErrorsCause status from.sink_faults to.sink_faults
 
   over_causes : (Stood : Standing) (status : Status) (closed : Bool) (new : Chip) → EndsOver role image hex bearers clocked start from to before after Stood status closed new → Both status
-  over_causes Stood S.Done closed new h = let k = at_end_kept Stood new false (ended_lines hex) Written h in (k.source, k.sink)
-  over_causes Stood S.Cut closed new h = let k = unasked_kept Stood new true (open_lines hex) Written h in (k.source, k.sink)
-  over_causes Stood S.ReadFault closed new h = read_causes Stood new false (open_lines hex) Written h
-  over_causes Stood S.ErrorsFault closed new h = errors_causes Stood new false (open_lines hex) Written h
+  over_causes Stood S.Done closed new h = let k = at_end_kept Stood new false (told_ended hex) h in (k.source, k.sink)
+  over_causes Stood S.Cut closed new h = let k = unasked_kept Stood new true (told_open hex) h in (k.source, k.sink)
+  over_causes Stood S.ReadFault closed new h = read_causes Stood new false (told_open hex) h
+  over_causes Stood S.ErrorsFault closed new h = errors_causes Stood new false (told_open hex) h
   over_causes Stood S.WriteFault closed new h = elim h [
     | inl u ↦ let k = unread u.1.unread in (k.source, k.sink)
     | inr l ↦ let k = broken_kept Stood new closed l in (k.source, k.sink)
   ]
   over_causes Stood S.Memory closed new h = elim h [
     | inl u ↦ let k = unread u.1.unread in (k.source, k.sink)
-    | inr l ↦ let k = broken_kept Stood new closed l in (k.source, k.sink)
+    | inr more ↦ elim more [
+      | inl l ↦ let k = broken_kept Stood new closed l in (k.source, k.sink)
+      | inr l ↦ let k = unended_kept Stood new false (told_open hex) l.1 in (k.source, k.sink)
+    ]
   ]
   over_causes Stood S.FlashFault closed new h = let k = unread h.unread in (k.source, k.sink)
   over_causes Stood S.WasReset closed new h = let k = unread h.unread in (k.source, k.sink)

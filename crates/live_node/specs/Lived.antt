@@ -16,7 +16,7 @@ use Rattle.record_types.specs.declared.records.StoreRecord.{StoreRecord}
 use Rattle.event_definitions.specs.Handling.{AreHandled}
 use Rattle.event_definitions.specs.History.{Told}
 use Rattle.event_definitions.specs.Role.{Role}
-use Rattle.report_definitions.specs.Report.{opened_line}
+use Rattle.report_definitions.specs.Report.{end_lines, opened_line}
 use Rattle.run_definitions.specs.Order.{is_cut}
 use Rattle.seq_word.specs.Seen.{ClosedView}
 use Rattle.store_definitions.specs.Config.{config_of}
@@ -29,7 +29,7 @@ use Rattle.live_lines.specs.Moves.{LinesAt}
 use Rattle.live_lines.specs.Steps.{Ends, Fails, GivesPhase}
 use Rattle.live_lines.specs.declared.lines.LineStop.{LineStop}
 use Rattle.live_lines.specs.declared.lines.LineStop.TheVariants as L
-use Rattle.live_report.specs.Lines.{phases_lines, told_lines}
+use Rattle.live_report.specs.Lines.{did_lines, phases_lines, told_lines}
 use Rattle.report_writer.specs.Writing.{SinkView, Written, WrittenFront, view_of}
 use Rattle.live_node.specs.declared.status.Streams.{Streams}
 
@@ -96,9 +96,9 @@ abbrev pub unended : GoesOn
 unended bearers elements clocked old new =
     (new ≡ old) ⊎ ((why : LineStop) × (is_no_fault why ≡ true) × Fails bearers elements clocked why old new)
 
--- what was written of the lines of a life: all of them, or a front
-abbrev pub Writes : Type 1
-Writes = List ReportLine → SinkView → SinkView → Type 0
+-- what was written of a life that opened so and whose phases did this
+abbrev pub Tells : Type 1
+Tells = Opened → List PhaseDid → SinkView → SinkView → Type 0
 
 module _ (hex : Bool) where
   -- the lines of a life that ended, and of one that didn't
@@ -107,6 +107,28 @@ module _ (hex : Bool) where
 
   abbrev pub open_lines : Opened → List PhaseDid → List ReportLine
   open_lines opened did = opened_line 1 opened ∷ phases_lines hex did
+
+  -- all of them
+  abbrev pub told_ended : Tells
+  told_ended opened did before after = Written (ended_lines opened did) before after
+
+  -- all but the line of an end
+  abbrev pub told_open : Tells
+  told_open opened did before after = Written (open_lines opened did) before after
+
+  -- that, and of the line of the end a front
+  abbrev pub broken_at_end : Tells
+  broken_at_end opened did before after = (mid : SinkView) × told_open opened did before mid × WrittenFront (end_lines opened E.Ended) mid after
+
+  -- The report was broken off in what the last phase did, and no phase came behind it: what all before it did was written whole, and a front of
+  -- its own lines.
+  pub record BrokenAtLast (opened : Opened) (did : List PhaseDid) (before after : SinkView) : Type 0 where
+    pub told : List PhaseDid
+    pub last : PhaseDid
+    pub is : did ≡ told ++ last ∷ []
+    pub mid : SinkView
+    pub whole : told_open opened told before mid
+    pub front : WrittenFront (did_lines hex last) mid after
 
 -- which machines stand over records, by what they show of themselves
 abbrev pub Standing : Type 1
@@ -117,7 +139,7 @@ module _ (Stood : Standing) (role : Role) (image : List ℕ → Type 0) (hex : B
   -- A life was opened over what the flash recovered. Its phases are those that the lines of the source say, one after another, of events that a
   -- node with its elements may have. What was written are its lines: of all that its machine handled, to the last entry, also where the life is
   -- cut. Whatever an image of the flash recovers now, it is a life of these phases.
-  pub record LivedBy (closed : Bool) (goes : GoesOn) (lines : Opened → List PhaseDid → List ReportLine) (writes : Writes) : Type 0 where
+  pub record LivedBy (closed : Bool) (goes : GoesOn) (tells : Tells) : Type 0 where
     pub over : List StoreRecord
     pub recovered : IsRecovered start.now over
     pub phases : List (List (List Event))
@@ -134,7 +156,7 @@ module _ (Stood : Standing) (role : Role) (image : List ℕ → Type 0) (hex : B
     pub each : AreToldEach closed phases did
     pub all : IsAllTold Stood over did refills closed
     pub life : (end : End) → is_cut end ≡ closed → IsLifeTold role phases over (life_told over bearers refills did end) new drawn
-    pub wrote : writes (lines (W.On (config_of over).iv (config_of over).mark) did) before after
+    pub wrote : tells (W.On (config_of over).iv (config_of over).mark) did before after
     pub node : IsNodeFlash image new
     pub later : IsLater start new
     -- it was cut where the flash failed in it, and only where it failed since its power was cycled
@@ -145,23 +167,27 @@ module _ (Stood : Standing) (role : Role) (image : List ℕ → Type 0) (hex : B
 
   -- the source came to its end, and all lines of the life were written
   abbrev pub LivedOut : Type 0
-  LivedOut = LivedBy false at_end (ended_lines hex) Written
+  LivedOut = LivedBy false at_end (told_ended hex)
 
   -- the flash failed: what was written are the lines of the opening and of all phases, and none of an end
   abbrev pub WasCut : Type 0
-  WasCut = LivedBy true unasked (open_lines hex) Written
+  WasCut = LivedBy true unasked (told_open hex)
 
   -- the source failed, or the sink of wrong lines: the same
   abbrev pub LivedUnread : Type 0
-  LivedUnread = LivedBy false (failed L.Source) (open_lines hex) Written
+  LivedUnread = LivedBy false (failed L.Source) (told_open hex)
 
   abbrev pub LivedUntold : Type 0
-  LivedUntold = LivedBy false (failed L.Errors) (open_lines hex) Written
+  LivedUntold = LivedBy false (failed L.Errors) (told_open hex)
 
-  -- A front of the lines was written: with one of the end only where the source came to its end, so never of a life that was cut.
+  -- The report was broken off: in the line of the end, where the source came to its end, so never of a life that was cut; or in the lines of a
+  -- phase, and that was the last. Then the source wasn't asked for one more.
   abbrev pub LivedBroken : Bool → Type 0
-  LivedBroken closed =
-      ((closed ≡ false) × LivedBy false at_end (ended_lines hex) WrittenFront) ⊎ LivedBy closed unended (open_lines hex) WrittenFront
+  LivedBroken closed = ((closed ≡ false) × LivedBy false at_end (broken_at_end hex)) ⊎ LivedBy closed unasked (BrokenAtLast hex)
+
+  -- the source gave no phase, though no stream failed, or wasn't asked: what was written are all lines but one of an end
+  abbrev pub LivedUnfed : Type 0
+  LivedUnfed = LivedBy false unended (told_open hex)
 
 module _ (role : Role) (hex : Bool) (bearers : ℕ) (clocked : Bool) (start : Chip) (from to : StreamsAt) (before after : SinkView) where
   -- Memory ran out in a life: the lines of its opening and of the phases that were through were written, whose entries were handled in order

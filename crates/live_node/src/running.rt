@@ -301,8 +301,8 @@ fn run_machine<
 /// line `b0 tick N` would be. At the end of the source the life ends in order.
 ///
 /// The report is that of the life with number 1: its opening, for each phase a line for each entry and then one for each job that was done in it,
-/// and its end. A life that is given up has no line of an end. With `hex` the octets of network PDUs are shown. A line that is wrong is told on
-/// `errors`, and has no phase.
+/// and its end. A life that is given up has no line of an end; where its report is broken off in the lines of a phase, that is its last. With `hex`
+/// the octets of network PDUs are shown. A line that is wrong is told on `errors`, and has no phase.
 ///
 /// The flash is handed back, but for want of memory it may be lost. Where it is handed back a next life can be opened over it, or over whatever
 /// an image of it is now. Where the life was given up before its first phase, whatever the cause, the flash recovers what it did, and unless it

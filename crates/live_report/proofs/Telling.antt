@@ -1,5 +1,5 @@
 -- Lines of phases, one phase behind another.
-use Rattle.std.proofs.Common.{◌≡◌, ◌∙◌, ℕ, List, [], ◌∷◌, ◌++◌, Option, refl, sym, ap, subst, append-nil}
+use Rattle.std.proofs.Common.{◌≡◌, ◌∙◌, ℕ, Bool, List, [], ◌∷◌, ◌++◌, Option, refl, sym, ap, subst, append-nil}
 use Rattle.std.proofs.lemmas.Grind.{flat_map-append}
 use Rattle.mesh_node.specs.Told.{BySteps, FailedAtLast, HasTaken, PhaseDid, SinkSteps}
 use Rattle.mesh_node.specs.declared.told.LastStep.{LastStep}
@@ -7,13 +7,16 @@ use Rattle.mesh_node.specs.declared.told.LastStep.TheVariants as L
 use Rattle.mesh_types.specs.declared.report.ReportLine.{ReportLine}
 use Rattle.report_definitions.specs.Report.{end_lines, opened_line}
 use Rattle.report_writer.proofs.Written.{front_behind, front_of_more, front_whole, written_more, written_none}
-use Rattle.report_writer.specs.Writing.{SinkView, view_of}
+use Rattle.report_writer.specs.Writing.{SinkView, WrittenFront, view_of}
 use Rattle.report_writer.specs.declared.lives.WriteStop.{WriteStop}
 use Rattle.report_writer.specs.declared.lives.WriteStop.TheVariants as stop
-use Rattle.live_report.specs.Laws.{AllIsWritten, EndIsFront, OpeningIsFront, PhasesAloneAreFront, PhasesAreFront}
+use Rattle.live_report.specs.Laws.{AllIsWritten, EndBehindIsFront, EndIsFront, LastIsFront, OpeningIsFront, PhasesAloneAreFront, PhasesAreFront}
 use Rattle.live_report.specs.Lines.{did_lines, phases_lines}
-use Rattle.live_report.specs.Steps.{FailsAt, IsCauseOf, Takes, Wrote, WroteFront, WroteTo}
+use Rattle.live_report.specs.Steps.{FailsAt, FailsAtLast, IsCauseOf, Takes, Wrote, WroteFront, WroteTo}
 use Rattle.live_report.specs.declared.report.LiveReport.{LiveReport}
+
+lines_of_last : (hex : Bool) (did : List PhaseDid) (last : PhaseDid) → phases_lines hex (did ++ last ∷ []) ≡ phases_lines hex did ++ did_lines hex last
+lines_of_last hex did last = flat_map-append (did_lines hex) did (last ∷ []) ∙ ap (λ l. phases_lines hex did ++ l) (append-nil (did_lines hex last))
 
 module _ {K : Type 0} (held : K → Option (List ℕ)) (pieces : K → Option (List (List ℕ))) (faults : K → ℕ) where
   abbrev view : K → SinkView
@@ -57,20 +60,27 @@ module _ {K : Type 0} (held : K → Option (List ℕ)) (pieces : K → Option (L
   abbrev steps_of : SinkSteps (LiveReport K)
   steps_of = record { takes = Takes held pieces faults; fails = FailsAt held pieces faults }
 
-  front_taken : (old new : LiveReport K) (did : List PhaseDid) → FailedAtLast steps_of old did new → WroteFront held pieces faults (phases_lines old.hex did) old new
+  pub failed_at_last : (old new : LiveReport K) (did : List PhaseDid) → FailedAtLast steps_of old did new → FailsAtLast held pieces faults old did new
+  failed_at_last old new did h = record {
+    told = h.before;
+    last = h.last;
+    is = h.is;
+    mid = h.mid;
+    wrote = all_taken old h.mid h.before h.took;
+    failed = h.failed;
+  }
+
+  front_taken : (old new : LiveReport K) (did : List PhaseDid) → FailsAtLast held pieces faults old did new → WroteFront held pieces faults (phases_lines old.hex did) old new
   front_taken old new did h =
-      let took = all_taken old h.mid h.before h.took in
-      let last = subst (λ hex. WroteFront held pieces faults (did_lines hex h.last) h.mid new) took.hex h.failed.told in
-      let lines : phases_lines old.hex (h.before ++ h.last ∷ []) ≡ phases_lines old.hex h.before ++ did_lines old.hex h.last =
-      flat_map-append (did_lines old.hex) h.before (h.last ∷ []) ∙ ap (λ l. phases_lines old.hex h.before ++ l) (append-nil (did_lines old.hex h.last)) in
-      subst (λ ls. WroteFront held pieces faults ls old new) (sym (ap (phases_lines old.hex) h.is ∙ lines))
-      (front_more (phases_lines old.hex h.before) (did_lines old.hex h.last) old h.mid new took last)
+      let last = subst (λ hex. WroteFront held pieces faults (did_lines hex h.last) h.mid new) h.wrote.hex h.failed.told in
+      subst (λ ls. WroteFront held pieces faults ls old new) (sym (ap (phases_lines old.hex) h.is ∙ lines_of_last old.hex h.told h.last))
+      (front_more (phases_lines old.hex h.told) (did_lines old.hex h.last) old h.mid new h.wrote last)
 
   pub all_told : (last : LastStep) (old new : LiveReport K) (did : List PhaseDid) → HasTaken steps_of last old did new → WroteTo held pieces faults last (phases_lines old.hex did) old new
   all_told L.Ended old new did h = all_taken old new did h
   all_told L.Unread old new did h = all_taken old new did h
   all_told L.Cut old new did h = all_taken old new did h
-  all_told L.Untold old new did h = front_taken old new did h
+  all_told L.Untold old new did h = front_taken old new did (failed_at_last old new did h)
 
 -- A life.
 
@@ -85,8 +95,16 @@ pub phases_front : PhasesAreFront
 phases_front hex n opened did end a b c first phases =
     front_behind (opened_line n opened ∷ []) (phases_lines hex did ++ end_lines opened end) a b c first (front_of_more (phases_lines hex did) (end_lines opened end) b c phases)
 
+pub last_front : LastIsFront
+last_front hex n opened did last a b c before front =
+    subst (λ ls. WrittenFront (opened_line n opened ∷ ls) a c) (sym (lines_of_last hex did last))
+    (front_behind (opened_line n opened ∷ phases_lines hex did) (did_lines hex last) a b c before front)
+
 pub phases_alone_front : PhasesAloneAreFront
 phases_alone_front hex n opened did end a b c first phases = phases_front hex n opened did end a b c first (front_whole (phases_lines hex did) b c phases)
+
+pub end_behind_front : EndBehindIsFront
+end_behind_front hex n opened did end a b c before last = front_behind (opened_line n opened ∷ phases_lines hex did) (end_lines opened end) a b c before last
 
 pub end_front : EndIsFront
 end_front hex n opened did end a b c d first phases last =

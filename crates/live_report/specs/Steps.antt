@@ -1,5 +1,5 @@
 -- What a report did with the lines that it was to write.
-use Rattle.std.specs.Prelude.{◌≡◌, ℕ, List, Option, Some}
+use Rattle.std.specs.Prelude.{◌≡◌, ℕ, List, [], ◌∷◌, ◌++◌, Option, Some}
 use Rattle.mesh_base.specs.Outside.{Rose}
 use Rattle.mesh_node.specs.Told.{PhaseDid}
 use Rattle.mesh_node.specs.declared.told.LastStep.{LastStep}
@@ -8,7 +8,7 @@ use Rattle.mesh_types.specs.declared.report.ReportLine.{ReportLine}
 use Rattle.report_writer.specs.Writing.{Written, WrittenFront, view_of}
 use Rattle.report_writer.specs.declared.lives.WriteStop.{WriteStop}
 use Rattle.report_writer.specs.declared.lives.WriteStop.TheVariants as stop
-use Rattle.live_report.specs.Lines.{did_lines}
+use Rattle.live_report.specs.Lines.{did_lines, phases_lines}
 use Rattle.live_report.specs.declared.report.LiveReport.{LiveReport}
 
 module _ {K : Type 0} (held : K → Option (List ℕ)) (pieces : K → Option (List (List ℕ))) (faults : K → ℕ) where
@@ -40,6 +40,15 @@ module _ {K : Type 0} (held : K → Option (List ℕ)) (pieces : K → Option (L
   pub record FailsAt (old : LiveReport K) (did : PhaseDid) (new : LiveReport K) : Type 0 where
     pub told : WroteFront (did_lines old.hex did) old new
     pub nothing : new.stopped ≡ Some stop.Memory → new.sink ≡ old.sink
+
+  -- It failed at the last phase that it was told of: the lines of all before it were written, and no phase came behind it.
+  pub record FailsAtLast (old : LiveReport K) (did : List PhaseDid) (new : LiveReport K) : Type 0 where
+    pub told : List PhaseDid
+    pub last : PhaseDid
+    pub is : did ≡ told ++ last ∷ []
+    pub mid : LiveReport K
+    pub wrote : Wrote (phases_lines old.hex told) old mid
+    pub failed : FailsAt mid last new
 
   -- all of them, or a front where the life ended since its sink failed
   abbrev pub WroteTo : LastStep → List ReportLine → LiveReport K → LiveReport K → Type 0

@@ -28,13 +28,12 @@ returns-in-Ok-clause-ended g c before first =
     let lived = c.in-Ok.lived in
     let same = c.one_list_is_recovered.ensures.one_list (chip c.args.beginning.start).now lives.over s.over lives.recovered s.read in
     let life = c.tells.ensures.known c.args.beginning.flash s.over c.args.beginning.started.machine s.tie in
-    let laws = c.life_law.ensures in
     rw c.streams_of.ensures.value
     (over g.S.ClockedSource.clocked g.S.Source.left g.S.Source.faults g.E.Sink.held g.E.Sink.pieces g.E.Sink.faults g.K.Sink.held g.K.Sink.pieces g.K.Sink.faults
     (Stood g.M.Machine.view g.M.Machine.stands chip lived.flash) g.M.Machine.role g.M.Machine.image _ c.args.beginning.bearers (chip c.args.beginning.start) (chip lived.flash)
     lines c.live_on-lived.new.source c.args.report c.live_on-lived.new.sink c.end_status-status.new.report.sink lived.refills lived.drawn lived.closed
     (streams_at g.S.Source.left g.S.Source.faults g.E.Sink.held g.E.Sink.pieces g.E.Sink.faults (record { source = lines.lines.source; errors = lines.lines.errors; sink = c.args.report.sink }))
-    before c.args.opened (record { whole = laws.whole; end = laws.end }) first
+    before c.args.opened c.life_law.ensures.whole first
     (ap₂ (λ h n. record {
       left = g.S.Source.left lines.lines.source;
       held = h;
@@ -46,6 +45,7 @@ returns-in-Ok-clause-ended g c before first =
     lived.last lives (opens lives.over s.over c.args.opened c.args.beginning.started.state c.args.beginning.started.mark same c.requires.opened s.state s.mark)
     (begins.elements_are ∙ life.elements ∙ ap (λ o. (config_of o).elements) (sym same)) begins.bearers_are
     (c.told_law.ensures.told lived.last c.args.report c.live_on-lived.new.sink lives.did lives.took)
+    (c.told_law.ensures.last c.args.report c.live_on-lived.new.sink)
     c.end_status-status.result c.end_status-status.ensures.told c.end_status-status.ensures.given_up)
 
 pub returns-in-Ok-clause-sink : goal.returns-in-Ok-clause-sink
@@ -66,13 +66,12 @@ returns-in-Err-clause-ended g c before first =
     let fell = c.in-Err.ensures.short in
     let same = c.one_list_is_recovered.ensures.one_list (chip c.args.beginning.start).now fell.over s.over fell.recovered s.read in
     let life = c.tells.ensures.known c.args.beginning.flash s.over c.args.beginning.started.machine s.tie in
-    let laws = c.life_law.ensures in
     rw c.streams_of-in-Err.ensures.value
     (short g.S.ClockedSource.clocked g.S.Source.left g.S.Source.faults g.E.Sink.held g.E.Sink.pieces g.E.Sink.faults g.K.Sink.held g.K.Sink.pieces g.K.Sink.faults
     (λ _ _. ⊤) g.M.Machine.role g.M.Machine.image _ c.args.beginning.bearers (chip c.args.beginning.start) (chip c.args.beginning.start)
     lines c.live_on-lived.new.source c.args.report c.live_on-lived.new.sink c.live_on-lived.new.sink.sink 0 (record { next = 0; mark = 0; drawn = []; looks = []; advances = [] }) Rattle.std.proofs.Common.false
     (streams_at g.S.Source.left g.S.Source.faults g.E.Sink.held g.E.Sink.pieces g.E.Sink.faults (record { source = lines.lines.source; errors = lines.lines.errors; sink = c.args.report.sink }))
-    before c.args.opened (record { whole = laws.whole; end = laws.end }) first
+    before c.args.opened c.life_law.ensures.whole first
     (ap₂ (λ h n. record {
       left = g.S.Source.left lines.lines.source;
       held = h;
