@@ -3,7 +3,21 @@
  *
  * bindings/README.md says how to build with it, and what a caller promises. A pointer is to as many octets as the length behind it, and isn't
  * NULL where that is 0 either. No octet that a call writes is given to it a second time. A call that is refused leaves all that it was given as
- * it was, but where its comment says that it tells something, and for the text of meshnode_ccm_open, which is zeros where the MIC is wrong. */
+ * it was, but where its comment says that it tells something, and for the text of meshnode_ccm_open, which is zeros where the MIC is wrong.
+ * A node's calls and meshnode_audit take memory of malloc, no other call does; bindings/README.md says how much stack.
+ *
+ * What a call answers where it isn't MESHNODE_OK (bindings/README.md says what to do then, of a node):
+ *   beacon, ccm_seal, cmac, s1, k1, k2, k3, k4, virtual_address, acknowledgment_read     LENGTH
+ *   beacon_open, ccm_open, lower_read, net_open, access_open                             LENGTH, UNREAD
+ *   lower_write, acknowledgment_write, net_seal, access_seal                             LENGTH, RANGE
+ *   seq_auth                                                                             UNREAD
+ *   audit                                                                                LENGTH, NOT_REPORT, MEMORY
+ *   node_open       HELD; LENGTH, where the image hasn't 65,536 octets or `text` not 35; NO_NODE, WAS_RESET, MEMORY
+ *   node_line       EMPTY, NOTHING, WRONG, WAITING, OVER, MEMORY, LOST
+ *   node_write      EMPTY, NOTHING, LENGTH
+ *   node_report     EMPTY, WAITING, LENGTH
+ *   node_due        EMPTY, OVER
+ *   node_close      LENGTH, EMPTY */
 #ifndef MESHNODE_H
 #define MESHNODE_H
 
@@ -61,7 +75,8 @@ extern "C" {
 /* Something of the phase before isn't taken yet. */
 #define MESHNODE_WAITING 12u
 
-/* The node takes no line more: its flash failed, or it was lost. It is closed, and opened anew from the image that is stored. */
+/* The node takes no line more: as the code stands, memory ran out as a write was noted, in a line that answered `MESHNODE_OK` and whose writes and report
+ * are to be taken, or it was lost. It is closed, and opened anew from the image that is stored. */
 #define MESHNODE_OVER 13u
 
 /* Memory ran out within the phase: the node was lost, and nothing of the phase is left. To the image the phase never came. It is closed, and opened
@@ -73,7 +88,8 @@ extern "C" {
  * `bad B`, and an LF. Where the text is no such input it is `MESHNODE_NOT_REPORT`, and `line` tells the first line that isn't of the form. */
 uint32_t meshnode_audit(const uint8_t *text, meshnode_size text_length, uint8_t *verdict, meshnode_size verdict_length, meshnode_size *size, uint32_t *line);
 
-/* The 22 octets of the Secure Network beacon of a network key of 16 octets. Of the flags bit 0 is Key Refresh and bit 1 is IV Update. */
+/* The 22 octets of the Secure Network beacon of a network key of 16 octets. Of the flags bit 0 is Key Refresh and bit 1 is IV Update; the others go
+ * into it as they are. */
 uint32_t meshnode_beacon(const uint8_t *key, meshnode_size key_length, uint8_t flags, uint32_t iv, uint8_t *beacon, meshnode_size beacon_length);
 
 /* Authenticates a Secure Network beacon under a network key of 16 octets, and reads its flags, of which bit 0 is Key Refresh and bit 1 is IV Update,
@@ -168,7 +184,7 @@ uint32_t meshnode_acknowledgment_write(const struct meshnode_acknowledgment *sai
 uint32_t meshnode_acknowledgment_read(const uint8_t *params, meshnode_size params_length, struct meshnode_acknowledgment *said);
 
 /* SEQ of SeqAuth, for a segment that came with this SEQ: the greatest number up to it whose low 13 bits are SeqZero. Its IV Index is that of the
- * segment. `MESHNODE_UNREAD` where there is no such number. */
+ * segment. Both numbers may be any. `MESHNODE_UNREAD` where there is no such number. */
 uint32_t meshnode_seq_auth(uint32_t seq, uint16_t seq_zero, uint32_t *auth);
 
 /* The fields of a network PDU but for its transport PDU. */
@@ -192,7 +208,8 @@ struct meshnode_head {
 uint32_t meshnode_net_seal(const struct meshnode_credentials *by, const struct meshnode_head *head, const uint8_t *tpdu, meshnode_size tpdu_length, uint8_t *pdu, meshnode_size pdu_length, meshnode_size *size);
 
 /* Opens a network PDU, heard by a node whose IV Index is `current`: it may be under this one or the one before. The transport PDU is put into the
- * front of `tpdu`, whose length is 16, and `size` tells how many. `MESHNODE_UNREAD` where it is none under these credentials. */
+ * front of `tpdu`, whose length is 16, and `size` tells how many. `MESHNODE_UNREAD` where it is none under these credentials, as under those
+ * whose NID is 128 or more. */
 uint32_t meshnode_net_open(const struct meshnode_credentials *by, uint32_t current, const uint8_t *pdu, meshnode_size pdu_length, struct meshnode_head *head, uint8_t *tpdu, meshnode_size tpdu_length, meshnode_size *size);
 
 /* A node, or none: where all its octets are 0 it holds none. Only these calls write it, and a copy of it isn't used. */
@@ -247,8 +264,8 @@ struct meshnode_message {
     bool long_mic;
 };
 
-/* Seals an access payload: the octets of its upper transport PDU, as many as the payload has and 4 or 8 for its TransMIC, at most 384. The key
- * has 16 octets, and is the device key or an application key. The label of a virtual DST has 16 octets; else there are 0. Where a length and a
+/* Seals an access payload of 1 octet or more: the octets of its upper transport PDU, as many as the payload has and 4 or 8 for its TransMIC, at most
+ * 384. The key has 16 octets, and is the device key or an application key. The label of a virtual DST has 16 octets; else there are 0. Where a length and a
  * number are wrong it is `MESHNODE_LENGTH`. */
 uint32_t meshnode_access_seal(bool device, const uint8_t *key, meshnode_size key_length, const struct meshnode_message *message, const uint8_t *label, meshnode_size label_length, const uint8_t *payload, meshnode_size payload_length, uint8_t *upper, meshnode_size upper_length);
 

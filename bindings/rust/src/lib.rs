@@ -3,6 +3,9 @@
 //!
 //! What is proved ends at the calls of C: this crate is plain Rust, and its `unsafe` blocks pass each slice with its own length.
 
+#[cfg(not(target_pointer_width = "64"))]
+compile_error!("the library's sizes have 64 bits, and those of this crate are usize: it is for 64 bits");
+
 pub mod digits;
 mod node;
 mod raw;

@@ -123,7 +123,8 @@ impl Node {
     /// Hands each write that isn't taken yet to `put`, in their order: octets for an offset of the image, within it; an erase of a sector as 4,096
     /// octets ff at its beginning. `put` is to make them durable before it answers.
     ///
-    /// Where it can't, the node is over, and its error is handed on: what is stored is as after a loss of power.
+    /// Where it can't, the node is over, and its error is handed on: what is stored is as after a loss of power. Of a node that is over so it hands
+    /// `put` nothing and answers `Ok`; `report` and `line` then say `Over`.
     pub fn store<E>(&mut self, mut put: impl FnMut(u32, &[u8]) -> Result<(), E>) -> Result<(), E> {
         let (mut at, mut size, mut erased) = (0, 0, false);
         loop {

@@ -91,7 +91,7 @@ module _ {F : Type 0} (role : Role) (image : List ℕ → Type 0) (chip : F → 
 -- `waiting` is what waits of the writes that a flash noted.
 module _ {F : Type 0} (role : Role) (image : List ℕ → Type 0) (chip : F → Chip) (waiting : F → Option (List Put)) where
   -- A life did one phase more, of these events. The text is that of what it did. The writes, made in their order on what is there once all writes
-  -- of before were made, give what is read now. They are those that were noted, in that order, when they were taken from the life behind the phase.
+  -- of before were made, give what is read now. Some flash that reads the same could have noted them, in that order.
   pub record IsPhaseDone (events : List (List Event)) (old new : HeldView F) (writes : List Put) (text : List ℕ) : Type 0 where
     pub did : PhaseDid
     pub part : IsPartDone new.node.machine.closed events did

@@ -90,7 +90,7 @@ module _ {F : Type 0} (chip : F → Chip) (flash : F) (erased : IsErasedFlash (c
   short_text Same Did read o (inl same) = inl same.0
   short_text Same Did read o (inr h) = inr (from_text Did read o h)
 
-  -- no life was run; or the first ones were, or all
+  -- nothing changed; or first lives were run, or all
   pub short_generated : (Same : Type 0) (Did : F → Option F → Type 0) → (Same × (left ≡ Some flash)) ⊎ Did flash left → Same ⊎ FromErased chip Did
   short_generated Same Did (inl same) = inl same.0
   short_generated Same Did (inr h) = inr (record { given = flash; erased = erased; left = left; did = h })

@@ -51,8 +51,8 @@ module _ {F : Type 0} (chip : F → Chip) where
   IsBroken read before after (C.Generate count start) =
       OverErased (λ given left. RanFrom chip node_kind (format_by false) (script_of (generated count start)) SummarizesFront (chip given) before left after)
 
-  -- There was no memory for it: nothing was written, or the report of the first lives of a script. Of a script that is generated nothing is written,
-  -- and none of its lives was run, or its first lives were, or all.
+  -- There was no memory for it: nothing was written, or the report of the first lives of a script. Of a script that is generated nothing was written;
+  -- which of its lives were run isn't told, unless the sink changed in what its view doesn't show: then its first lives were, or all.
   abbrev pub IsShort : {K : Type 0} → (K → SinkView) → Option (List ℕ) → K → K → Command → Type 0
   IsShort view read before after (C.Run kind flags) = (after ≡ before)
       ⊎ IfSome read

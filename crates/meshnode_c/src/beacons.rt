@@ -12,7 +12,8 @@ use node_handle::status::{LENGTH, OK, UNREAD};
 /// Octets of a beacon.
 const BEACON: usize = 22;
 
-/// The 22 octets of the Secure Network beacon of a network key of 16 octets. Of the flags bit 0 is Key Refresh and bit 1 is IV Update.
+/// The 22 octets of the Secure Network beacon of a network key of 16 octets. Of the flags bit 0 is Key Refresh and bit 1 is IV Update; the others go
+/// into it as they are.
 #[unsafe(no_mangle)]
 pub extern "C" fn meshnode_beacon(key: &[u8], flags: u8, iv: u32, beacon: &mut [u8]) -> u32
     ensures when { result ≡ 0 ↔ (length key.now ≡ 16) × (length beacon.old ≡ 22) }

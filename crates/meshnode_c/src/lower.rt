@@ -397,7 +397,7 @@ pub extern "C" fn meshnode_acknowledgment_read(
 }
 
 /// SEQ of SeqAuth, for a segment that came with this SEQ: the greatest number up to it whose low 13 bits are SeqZero. Its IV Index is that of the
-/// segment. `MESHNODE_UNREAD` where there is no such number.
+/// segment. Both numbers may be any. `MESHNODE_UNREAD` where there is no such number.
 #[unsafe(no_mangle)]
 pub extern "C" fn meshnode_seq_auth(seq: u32, seq_zero: u16, auth: &mut u32) -> u32
     ensures ok { result ≡ 0 → IsSeqAuth seq seq_zero auth.new }

@@ -95,7 +95,8 @@ pub extern "C" fn meshnode_net_seal(
 }
 
 /// Opens a network PDU, heard by a node whose IV Index is `current`: it may be under this one or the one before. The transport PDU is put into the
-/// front of `tpdu`, whose length is 16, and `size` tells how many. `MESHNODE_UNREAD` where it is none under these credentials.
+/// front of `tpdu`, whose length is 16, and `size` tells how many. `MESHNODE_UNREAD` where it is none under these credentials, as under those
+/// whose NID is 128 or more.
 #[unsafe(no_mangle)]
 pub extern "C" fn meshnode_net_open(
     by: &MeshnodeCredentials,

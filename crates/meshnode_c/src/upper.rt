@@ -151,8 +151,8 @@ fn opened(
     open_kept(&key, &fields_of(message, label), upper)
 }
 
-/// Seals an access payload: the octets of its upper transport PDU, as many as the payload has and 4 or 8 for its TransMIC, at most 384. The key
-/// has 16 octets, and is the device key or an application key. The label of a virtual DST has 16 octets; else there are 0. Where a length and a
+/// Seals an access payload of 1 octet or more: the octets of its upper transport PDU, as many as the payload has and 4 or 8 for its TransMIC, at most
+/// 384. The key has 16 octets, and is the device key or an application key. The label of a virtual DST has 16 octets; else there are 0. Where a length and a
 /// number are wrong it is `MESHNODE_LENGTH`.
 #[unsafe(no_mangle)]
 pub extern "C" fn meshnode_access_seal(

@@ -48,7 +48,7 @@ pub struct Program<'a, R, H, S, E, K> {
 pub struct Answered<S, E, K> {
     /// That it was done, or why not.
     pub answer: Result<(), Failure>,
-    /// Where lines and keys come from. There is none where a thread reads it.
+    /// Where lines and keys come from. There is none where `--clock` asked for a thread that reads it.
     pub source: Option<S>,
     /// Where it is told what is wrong with a line.
     pub errors: E,

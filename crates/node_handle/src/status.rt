@@ -40,7 +40,8 @@ pub const WRONG: u32 = 11;
 /// Something of the phase before isn't taken yet.
 pub const WAITING: u32 = 12;
 
-/// The node takes no line more: its flash failed, or it was lost. It is closed, and opened anew from the image that is stored.
+/// The node takes no line more: as the code stands, memory ran out as a write was noted, in a line that answered `MESHNODE_OK` and whose writes and report
+/// are to be taken, or it was lost. It is closed, and opened anew from the image that is stored.
 pub const OVER: u32 = 13;
 
 /// Memory ran out within the phase: the node was lost, and nothing of the phase is left. To the image the phase never came. It is closed, and opened

@@ -33,7 +33,7 @@ fn opened(alloc: Global, image: &[u8; IMAGE]) -> Option<Calls> {
     }
 }
 
-/// Takes all writes, at most 100, and makes them on an image. Answers whether a node could be opened from each image on the way.
+/// Takes all writes, which are fewer than 100 here, and makes them on an image. Answers whether a node could be opened from each image on the way.
 fn stored(alloc: Global, calls: &mut Calls, image: &mut [u8; IMAGE]) -> bool {
     for _ in 0..100u32 {
         let Some(write) = calls.next_write() else {
