@@ -13,7 +13,7 @@ PATIENCE = 60.0
 
 
 class NodeGone(Exception):
-    """The process ended, or said nothing in time."""
+    """The process ended, said nothing in time, or couldn't be begun."""
 
 
 @dataclass(frozen=True)
@@ -32,7 +32,12 @@ def init(program: Path, file: Path, identity: Identity) -> None:
     """Makes the file of a new node."""
     words = [f'{identity.unicast:04x}', str(identity.elements), f'{identity.iv_index:08x}', f'{identity.flags:02x}', f'{identity.net_index:03x}']
     keys = f'{identity.net_key}\n{identity.dev_key}\n'
-    subprocess.run([program.resolve(), 'init', file, *words], input=keys, text=True, check=True, timeout=PATIENCE)
+    try:
+        subprocess.run([program.resolve(), 'init', file, *words], input=keys, text=True, check=True, timeout=PATIENCE)
+    except OSError as error:
+        raise NodeGone(f'{program}: {error.strerror}') from error
+    except subprocess.CalledProcessError as error:
+        raise NodeGone(f'{file.name}: it wasn\'t made: init ended with {error.returncode}') from error
 
 
 @dataclass
@@ -53,8 +58,11 @@ class LiveNode:
     def start(self) -> list[str]:
         """Opens a life; answers its first line. A Ctrl-C doesn't reach the process: who started it ends it."""
         self._rest = b''
-        self._process = subprocess.Popen([self.program.resolve(), 'run', self.file, '--hex'], stdin=subprocess.PIPE, stdout=subprocess.PIPE,
-                                         stderr=subprocess.STDOUT, start_new_session=True)
+        try:
+            self._process = subprocess.Popen([self.program.resolve(), 'run', self.file, '--hex'], stdin=subprocess.PIPE, stdout=subprocess.PIPE,
+                                             stderr=subprocess.STDOUT, start_new_session=True)
+        except OSError as error:
+            raise NodeGone(f'{self.program}: {error.strerror}') from error
         return self.ask()
 
     def hand(self, *lines: str) -> None:

@@ -14,7 +14,7 @@ from itertools import zip_longest
 from pathlib import Path
 from typing import TextIO
 
-from .process import LiveNode
+from .process import LiveNode, NodeGone
 from .reports import BEACON, MESSAGE, OnAir, on_air
 
 LARGEST = 64
@@ -191,5 +191,5 @@ class UnitBridge:
 def bridge(program: Path, file: Path, path: Path, log: TextIO) -> UnitBridge:
     """A bridge to the daemon's socket for the node in a file; its node is off yet."""
     if not os.access(program, os.X_OK):
-        raise FileNotFoundError(f'{program} is no program')
+        raise NodeGone(f'{program}: it is no program')
     return UnitBridge(LiveNode(program, file), UnitSocket(path), log)

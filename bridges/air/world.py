@@ -8,7 +8,7 @@ from pathlib import Path
 
 from .links import Arrival, Link
 from .outside import talk
-from .process import Identity, LiveNode, init
+from .process import Identity, LiveNode, NodeGone, init
 from .reports import OnAir, accepted, drawn_twice, heard_on_air, twice_accepted
 from .sleeper import Sleeper
 from .words import TICK_MS, Description, NodeWords
@@ -141,5 +141,8 @@ class World:
 
 
 def _verdict(program: Path, text: str) -> str:
-    ended = subprocess.run([program, 'audit'], input=text, capture_output=True, text=True, check=False)
+    try:
+        ended = subprocess.run([program, 'audit'], input=text, capture_output=True, text=True, check=False)
+    except OSError as error:
+        raise NodeGone(f'{program}: {error.strerror}') from error
     return (ended.stdout + ended.stderr).strip()

@@ -76,6 +76,18 @@ class Unit(unittest.TestCase):
         daemon.send(0x2a, b'\1\2')
         self.assertEqual(over.heard(), [OnAir(0x2b, b'\1\2'), OnAir(0x2a, b'\1\2')])
 
+    def test_what_cant_be_run_is_told(self) -> None:
+        """A program, or a node's file, that isn't there, of each command; no traceback."""
+        lamps = BRIDGES / 'examples' / 'lamps.pipe'
+        for words, status, told in (([BRIDGES / 'unit', self.folder / 'none', 'node', self.folder / 'unit'], 1, 'unit: '),
+                                    ([BRIDGES / 'unit', '/bin/true', 'node', self.folder / 'no' / 'unit'], 1, 'unit: '),
+                                    ([BRIDGES / 'unit', '/bin/false', 'node', self.folder / 'unit'], 1, 'unit: '),
+                                    ([BRIDGES / 'pipe', self.folder / 'none', lamps], 1, 'pipe: '),
+                                    ([BRIDGES / 'pipe', '/bin/false', lamps], 1, 'pipe: '),
+                                    ([BRIDGES / 'pipe', '/bin/true', self.folder / 'none'], 2, 'pipe: ')):
+            ended = subprocess.run([sys.executable, '-B', *words], input='', capture_output=True, text=True, check=False, timeout=60)
+            self.assertEqual((ended.returncode, ended.stderr[:6], len(ended.stderr.splitlines())), (status, told, 1), ended.stderr)
+
     @takes_programs
     def test_the_command_says_what_stands_on_its_input(self) -> None:
         init(MESHNODED, self.folder / 'node', Identity(0x1201, NET_KEY, '00' * 16, IV))

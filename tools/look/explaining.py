@@ -264,11 +264,58 @@ def _exit(words: list[str]) -> Iterator[str]:
     _numbers(words, said, len(said.split()) - 1)
     yield f"{' '.join(words)}, with exit status {number}"
     yield from _told(meaning)
+    if words[0] in meanings.DAEMON_EXITS:
+        _, of_daemon = meanings.DAEMON_EXITS[words[0]]
+        yield f'meshnoded ends so too: {" ".join(part for part in of_daemon if part)}'
+
+
+def _reason_to_do(first: str, reason: str) -> str:
+    """What to do about the reason behind `nofile`, `notmade` or `noclock`."""
+    known = {'nofile': meanings.NO_FILE, 'notmade': meanings.NOT_MADE}.get(first, {})
+    for said, do in known.items():
+        if re.fullmatch(re.sub(' [NB] ', ' [0-9]+ ', re.escape(said).replace('\\ ', ' ')), reason):
+            return do
+    return meanings.BY_THE_SYSTEM
+
+
+def _daemon_exit(words: list[str]) -> Iterator[str]:
+    """A name with which `meshnoded` ends, with the reason behind it."""
+    first, reason = words[0].rstrip(':;'), ' '.join(words[1:])
+    number, meaning = meanings.DAEMON_EXITS[first]
+    yield f"{' '.join(words)}, with which meshnoded ends: exit status {number}"
+    yield meaning.says
+    if words[0] == f'{first};':
+        if reason != 'cut' or first not in ('writefault', 'memory', 'readfault', 'errorsfault'):
+            raise Fault(NO_MEANING, f'what the program says behind {first}; is cut')
+        yield 'The file refused a write as well: the life was cut as by a loss of power.'
+    do = _reason_to_do(first, reason) if words[0] == f'{first}:' else meaning.do
+    if do:
+        yield f'What to do: {do}'
+
+
+def _wrong_line(words: list[str]) -> Iterator[str]:
+    """`line N: rule R: WORD` or `line N: not ended`, which a node that runs tells on standard error."""
+    yield f'Line {words[1][:-1]} of standard input wasn\'t taken, and the node goes on.'
+    if words[2:] == ['not', 'ended']:
+        yield 'It had no LF when the input ended.'
+        return
+    rule = int(words[3][:-1])
+    yield f'It breaks rule {rule}: {script.RULES[rule]}.'
+    yield f'Its first word, or what is printable of the first 40 octets of it, is {_shown(" ".join(words[4:]))}'
+    yield f'What to do: {meanings.RULES_TO_DO[rule]}'
+
+
+WRONG_LINE = re.compile('line [0-9]+: (?:not ended|rule [1345]: ?.*)')
+DAEMON_END = re.compile(f'({"|".join(meanings.DAEMON_EXITS)})[:;] .+')
 
 
 def explained(words: list[str], text: str | None = None) -> list[str]:
     """The lines that explain what the program said; `text` is what it was given."""
-    first = words[0]
+    first, said = words[0], ' '.join(words)
+    if WRONG_LINE.fullmatch(said):
+        return list(_wrong_line(words))
+    if DAEMON_END.fullmatch(said) or words == ['cut']:
+        return list(_daemon_exit(words))
     if first == 'script':
         return list(_refusal(words, text))
     if first == 'report':
@@ -277,6 +324,8 @@ def explained(words: list[str], text: str | None = None) -> list[str]:
         return list(_verdict(words, text))
     if first in meanings.EXITS:
         return list(_exit(words))
+    if words == [first] and first in meanings.DAEMON_EXITS:
+        return list(_daemon_exit(words))
     if first in meanings.REPORT_LINES and (first != 'life' or len(words) > 1):
         return list(_report_line(words))
     if first in report.ANSWERS:

@@ -1,6 +1,6 @@
 """What each word of a report, a verdict and an end of the program means, and what to do about it.
 
-The meanings are those of docs/FORMATS.md, "The report", "An audit" and "Exits".
+The meanings are those of docs/FORMATS.md, "The report", "An audit", "Exits" and "A node in a file".
 """
 from typing import NamedTuple
 
@@ -173,6 +173,49 @@ SAID = {'sound': 'sound N', 'reuse': 'reuse A B', 'twice': 'twice A B', 'bad': '
         **{word: word for word in ('usage', 'readfault', 'writefault', 'memory', 'toolong',
                                    'flashfault')}}
 """Verdicts and names of ends with the numbers behind them."""
+
+NEW_NODE = ('Make a new node, with another unicast address, another device key and the network\'s '
+            'present IV Index, and remove the old file, which has the keys.')
+
+DAEMON_EXITS = {
+    'usage': (2, Meaning('The words are no command.', 'meshnoded --help lists them.')),
+    'readfault': (4, Meaning('Standard input failed or is closed; with --clock it may be the clock.')),
+    'writefault': (5, Meaning('Standard output failed, is closed, or nobody reads it; a front of what is due '
+                              'was written.', 'Is the disk full, or the reader of the pipe gone?')),
+    'memory': (6, Meaning('Memory ran out.', 'Run it again: the file opens.')),
+    'flashfault': (9, Meaning('The file refused a write as the life was opened: no life was run.',
+                              'Look at the disk: is it full, or read-only?')),
+    'cut': (12, Meaning('The file refused a write in the life: it was cut as by a loss of power, and the file is '
+                        'one of the images that this leaves.', 'Look at the disk, then run it again.')),
+    'errorsfault': (13, Meaning('A wrong line couldn\'t be told on standard error, which failed or is closed.')),
+    'wasreset': (14, Meaning('There was a Node Reset: the node can\'t be run any more.', NEW_NODE)),
+    'keys': (15, Meaning('Standard input isn\'t two keys.', 'Give the network key and the device key, each 32 '
+                         'hexadecimal digits, with a space or a line break between them.')),
+    'nofile': (16, Meaning('The file isn\'t there, isn\'t a file with one name, is locked, has another size, or '
+                           'holds no node; or the system refused a call.')),
+    'notmade': (17, Meaning('The file is there, or wasn\'t made.')),
+    'noclock': (18, Meaning('--clock: the system gave no thread, or no clock; nothing was opened.'))}
+"""The names that meshnoded tells, with its exit status."""
+
+NO_FILE = {
+    'there is no such file': 'Name the file; `meshnoded init` makes one.',
+    'it is no file': 'Name the file itself, and no folder, link or device.',
+    'it has a second name': 'Remove the other name, a hard link.',
+    'another process has it': 'Its node runs, or a show or check of it: wait, or stop that.',
+    'it has N octets, and not 65536': f'Something else cut it or made it longer. {NEW_NODE}',
+    'no node was provisioned': f'Neither bank has a sound header. {NEW_NODE}',
+    'the header of bank B could come to count': f'This program didn\'t write it; a file of zeros says so. {NEW_NODE}',
+    'slot N is damaged': f'Octets were changed: look at the disk. {NEW_NODE}',
+    'the records aren\'t those of a node': f'Octets were changed: look at the disk. {NEW_NODE}'}
+"""What stands behind `nofile`, and what to do; N and B are numbers."""
+
+NOT_MADE = {
+    'there is such a file': 'It stays as it is: name another one.',
+    'there is a file of this name with .new behind it': 'Another init makes it, or was killed as it did: then remove '
+                                                        'it, since it has keys.'}
+"""What stands behind `notmade`, and what to do."""
+
+BY_THE_SYSTEM = 'The system refused a call; mend what it says.'
 
 REPORT_LINES = {
     'life': 'a life opened: known IV Index, n or p (IV Update in Progress), transmit IV Index, '

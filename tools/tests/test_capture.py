@@ -185,6 +185,17 @@ class Command(unittest.TestCase):
             self.assertEqual(done.returncode, status, done.stderr)
             self.assertIn(said, done.stderr)
 
+    def test_no_program_to_open_with(self) -> None:
+        """The command is printed, and the capture is there."""
+        with tempfile.TemporaryDirectory() as folder:
+            path = Path(folder) / 'out'
+            done = subprocess.run([REPOSITORY / 'tools' / 'capture', EXAMPLES / 'two_pdus.mesh', EXAMPLES / 'two_pdus.report', path,
+                                   '--open', f'{folder}/none'], capture_output=True, text=True, check=False)
+            self.assertEqual(done.returncode, 5, done.stderr)
+            self.assertIn('none: No such file', done.stderr)
+            self.assertIn(f'none -r {path} -o ', done.stdout)
+            self.assertTrue(path.exists())
+
 
 if __name__ == '__main__':
     unittest.main()

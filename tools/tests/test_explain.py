@@ -66,6 +66,10 @@ class Formats(unittest.TestCase):
                  if row[1].startswith('`')}
         self.assertEqual(exits, {meanings.SAID[word]: number
                                  for word, (number, _) in meanings.EXITS.items()})
+        of_daemon = {row[1].strip('`'): int(row[0]) for row in table('| Number | Told | Where |') if row[1].startswith('`')}
+        self.assertEqual(of_daemon, {word: number for word, (number, _) in meanings.DAEMON_EXITS.items()})
+        reasons = {said for row in table('| Behind `nofile` | Is | Do |') for said in re.findall('`([^`]+)`', row[0]) if said != 'os error'}
+        self.assertEqual(reasons, set(meanings.NO_FILE))
         verdicts = {row[0].strip('`') for row in table('| Verdict | Exactly where |')}
         self.assertEqual(verdicts, {meanings.SAID[word] for word in meanings.VERDICTS})
         rules = {int(row[0]) for row in table('| Rule | Broken where | For example |')}
@@ -104,8 +108,17 @@ class Said(unittest.TestCase):
         for line in {line for row in all_rows() for line in row.report.splitlines()}:
             self.assertTrue(explained(line.split()), line)
 
+    def test_of_a_node_that_runs(self) -> None:
+        """How `meshnoded` ends, with the reason behind it, and lines that it doesn't take."""
+        for said, due in (('nofile: it has 12 octets, and not 65536', 'made it longer'), ('nofile: slot 4 is damaged', 'look at the disk'),
+                          ('nofile: Permission denied (os error 13)', 'refused a call'), ('notmade: there is such a file', 'name another one'),
+                          ('noclock: os error 11', 'no thread, or no clock'), ('cut', 'exit status 12'), ('memory; cut', 'as by a loss of power'),
+                          ('memory', 'meshnoded ends so too'), ('wasreset', 'exit status 14'), ('line 3: rule 3: foo', 'breaks rule 3'),
+                          ('line 3: rule 1: ', '(an empty word)'), ('line 4: not ended', 'no LF')):
+            self.assertIn(due, ' '.join(explained(said.split(' '))), said)
+
     def test_unknown(self) -> None:
-        for said in ('x', 'replay 1', 'replay 12345678', 'script 5', 'script 5 8', 'usage 2', 'e 1',
+        for said in ('x', 'usage; cut', 'line 3: rule 2: a', 'nofile slot', 'replay 1', 'replay 12345678', 'script 5', 'script 5 8', 'usage 2', 'e 1',
                      'b9 tick', 'noterased', 'sound'):
             with self.assertRaises(Fault, msg=said) as told:
                 explained(said.split())
@@ -121,7 +134,8 @@ class Said(unittest.TestCase):
     def test_command(self) -> None:
         """What --help lists, and what is read from standard input."""
         done = subprocess.run([EXPLAIN, '--help'], capture_output=True, text=True, check=True)
-        for word in (*meanings.ANSWERS, *meanings.RESULTS, *meanings.SAID.values(), *script.EVENTS):
+        for word in (*meanings.ANSWERS, *meanings.RESULTS, *meanings.SAID.values(), *script.EVENTS, *meanings.DAEMON_EXITS,
+                     *meanings.NO_FILE, *meanings.NOT_MADE):
             self.assertIn(word, done.stdout)
         done = subprocess.run([EXPLAIN], input='replay 12345678 3129ab\n', capture_output=True,
                               text=True, check=True)
