@@ -295,10 +295,10 @@ def _daemon_exit(words: list[str]) -> Iterator[str]:
 
 def _wrong_line(words: list[str]) -> Iterator[str]:
     """`line N: rule R: WORD` or `line N: not ended`, which a node that runs tells on standard error."""
-    yield f'Line {words[1][:-1]} of standard input wasn\'t taken, and the node goes on.'
     if words[2:] == ['not', 'ended']:
-        yield 'It had no LF when the input ended.'
+        yield f'Line {words[1][:-1]} of standard input wasn\'t taken: it had no LF when the input ended, and with that the node ended too, in order.'
         return
+    yield f'Line {words[1][:-1]} of standard input wasn\'t taken, and the node goes on.'
     rule = int(words[3][:-1])
     yield f'It breaks rule {rule}: {script.RULES[rule]}.'
     yield f'Its first word, or what is printable of the first 40 octets of it, is {_shown(" ".join(words[4:]))}'
