@@ -20,6 +20,7 @@ use Rattle.config_definitions.specs.declared.messages.NetKeyValue.{NetKeyValue}
 use Rattle.config_definitions.specs.declared.messages.PublicationValue.{PublicationValue}
 use Rattle.config_definitions.specs.declared.messages.RelayValue.{RelayValue}
 use Rattle.model_states.specs.declared.publication.HeartbeatRow.{HeartbeatRow}
+use Rattle.node_limits.specs.declared.TheConstants.{APPLICATION_KEYS, BINDINGS, NETWORK_KEYS, PUBLICATIONS}
 use Rattle.record_types.specs.declared.records.StoreRecord.{StoreRecord}
 use Rattle.record_types.specs.declared.records.StoreRecord.TheVariants as R
 use Rattle.store_definitions.specs.Config.{Config}
@@ -91,11 +92,11 @@ module _ (O : Type 0) where
 
   -- What is so of each record that a message may store in a node of which the records say `c`.
   pub record Leaves (P : StoreRecord → Type 0) (c : Config) : Type 0 where
-    pub app_added : (k : AppKeyValue) → IsAppKey k → not (has_net c k.indexes.net) ≡ false → leb 8 (length c.apps) ≡ false
+    pub app_added : (k : AppKeyValue) → IsAppKey k → not (has_net c k.indexes.net) ≡ false → leb APPLICATION_KEYS (length c.apps) ≡ false
         → P (R.AppKey 1 k.indexes.net k.indexes.app k.key)
     pub app_updated : (k : AppKeyValue) → IsAppKey k → P (R.AppKey 2 k.indexes.net k.indexes.app k.key)
     pub app_deleted : (k : AppKeyIndexes) → AreIndexes k → P (R.AppKey 3 k.net k.app no_key)
-    pub net_added : (k : NetKeyValue) → IsNetKey k → leb 4 (length c.nets) ≡ false → P (R.NetKey 1 k.net k.key)
+    pub net_added : (k : NetKeyValue) → IsNetKey k → leb NETWORK_KEYS (length c.nets) ≡ false → P (R.NetKey 1 k.net k.key)
     pub net_updated : (k : NetKeyValue) → IsNetKey k → P (R.NetKey 2 k.net k.key)
     pub phase_two : (net : ℕ) → net ≤ 0xfff → eqb (phase_of c net) 0 ≡ false → eqb (phase_of c net) 2 ≡ false
         → P (R.NetKey 3 net no_key)
@@ -116,11 +117,11 @@ module _ (O : Type 0) where
         → P (R.Label 2 s.holder.element n s.label)
     pub label_overwritten : (s : LabelSubscription) → IsLabelled s → (n : ℕ) → IsOwnModel c s.holder n
         → is_full_of_others c s.holder.element n ≡ false → P (R.Label 4 s.holder.element n s.label)
-    pub bound : (b : AppBinding) → IsBinding b → (n : ℕ) → IsOwnModel c b.holder n → leb 32 (length c.binds) ≡ false
+    pub bound : (b : AppBinding) → IsBinding b → (n : ℕ) → IsOwnModel c b.holder n → leb BINDINGS (length c.binds) ≡ false
         → P (R.Bind 1 b.holder.element n b.app)
     pub unbound : (b : AppBinding) → IsBinding b → (n : ℕ) → IsOwnModel c b.holder n → P (R.Bind 2 b.holder.element n b.app)
     pub published : (v : PublicationValue) → IsPublication v → (n : ℕ) → IsOwnModel c v.holder n
-        → leb 8 (length (filter (λ r. not (is_model_row v.holder.element n r)) c.publications)) ≡ false
+        → leb PUBLICATIONS (length (filter (λ r. not (is_model_row v.holder.element n r)) c.publications)) ≡ false
         → P (R.Publish (row_asked v n))
     pub beacon : (on : Bool) → P (R.Feature 1 (switch_octet on))
     pub ttl : (ttl : ℕ) → is_default_ttl ttl ≡ true → P (R.Feature 2 ttl)

@@ -12,6 +12,7 @@ use Rattle.config_definitions.specs.declared.messages.ElementModel.{ElementModel
 use Rattle.layer_definitions.specs.KeyRefresh.{app_row, net_row}
 use Rattle.layer_definitions.specs.Labels.{is_virtual}
 use Rattle.mesh_base.specs.declared.address.Address.{Address}
+use Rattle.node_limits.specs.declared.TheConstants.{APPLICATION_KEYS, BINDINGS, NETWORK_KEYS, PUBLICATIONS}
 use Rattle.record_types.specs.declared.records.PublishRow.{PublishRow}
 use Rattle.record_types.specs.declared.records.StoreRecord.{StoreRecord}
 use Rattle.record_types.specs.declared.records.StoreRecord.TheVariants as R
@@ -22,12 +23,12 @@ pub record Done (P : StoreRecord → Type 0) (o : Outcome) : Type 0 where
 
 -- The outcomes, by what holds where a record is stored.
 module _ (P : StoreRecord → Type 0) (c : Config) where
-  pub app_added : (net app : ℕ) (key : List ℕ) → (not (has_net c net) ≡ false → leb 8 (length c.apps) ≡ false → P (R.AppKey 1 net app key)) → Done P (app_key_add c net app key)
+  pub app_added : (net app : ℕ) (key : List ℕ) → (not (has_net c net) ≡ false → leb APPLICATION_KEYS (length c.apps) ≡ false → P (R.AppKey 1 net app key)) → Done P (app_key_add c net app key)
   app_added net app key k =
       when _ (not (has_net c net))
       (λ e1. rw e1 (record { change = tt }))
       (λ e2. rw e2 (option_cases _ (app_row c.apps app)
-      (λ e7. rw e7 (when _ (leb 8 (length c.apps))
+      (λ e7. rw e7 (when _ (leb APPLICATION_KEYS (length c.apps))
       (λ e3. rw e3 (record { change = tt }))
       (λ e4. rw e4 (record { change = k e2 e4 }))))
       (λ x e8. rw e8 (when _ (eqb x.net net && bytes_eq x.key key)
@@ -58,10 +59,10 @@ module _ (P : StoreRecord → Type 0) (c : Config) where
       (λ e1. rw e1 (record { change = tt }))
       (λ e2. rw e2 (record { change = k }))))))
 
-  pub net_added : (net : ℕ) (key : List ℕ) → (leb 4 (length c.nets) ≡ false → P (R.NetKey 1 net key)) → Done P (net_key_add c net key)
+  pub net_added : (net : ℕ) (key : List ℕ) → (leb NETWORK_KEYS (length c.nets) ≡ false → P (R.NetKey 1 net key)) → Done P (net_key_add c net key)
   net_added net key k =
       option_cases _ (net_row c.nets net)
-      (λ e5. rw e5 (when _ (leb 4 (length c.nets))
+      (λ e5. rw e5 (when _ (leb NETWORK_KEYS (length c.nets))
       (λ e1. rw e1 (record { change = tt }))
       (λ e2. rw e2 (record { change = k e2 }))))
       (λ x e6. rw e6 (when _ (bytes_eq x.key key)
@@ -156,13 +157,13 @@ module _ (P : StoreRecord → Type 0) (c : Config) where
       (λ e1. rw e1 (record { change = tt }))
       (λ e2. rw e2 (record { change = k e2 }))))
 
-  pub app_bound : (element : Address) (app model : ℕ) → (leb 32 (length c.binds) ≡ false → P (R.Bind 1 element model app)) → Done P (app_bind c element app model)
+  pub app_bound : (element : Address) (app model : ℕ) → (leb BINDINGS (length c.binds) ≡ false → P (R.Bind 1 element model app)) → Done P (app_bind c element app model)
   app_bound element app model k =
       when _ (not (has_app c app))
       (λ e5. rw e5 (record { change = tt }))
       (λ e6. rw e6 (when _ (list_any (is_bind element model app) c.binds)
       (λ e3. rw e3 (record { change = tt }))
-      (λ e4. rw e4 (when _ (leb 32 (length c.binds))
+      (λ e4. rw e4 (when _ (leb BINDINGS (length c.binds))
       (λ e1. rw e1 (record { change = tt }))
       (λ e2. rw e2 (record { change = k e2 }))))))
 
@@ -174,7 +175,7 @@ module _ (P : StoreRecord → Type 0) (c : Config) where
       (λ e1. rw e1 (record { change = k }))
       (λ e2. rw e2 (record { change = tt }))))
 
-  pub row_is_set : (row : PublishRow) → (leb 8 (length (filter (λ r. not (is_model_row row.element row.model r)) c.publications)) ≡ false → P (R.Publish row)) → Done P (row_set c row)
+  pub row_is_set : (row : PublishRow) → (leb PUBLICATIONS (length (filter (λ r. not (is_model_row row.element row.model r)) c.publications)) ≡ false → P (R.Publish row)) → Done P (row_set c row)
   row_is_set row k =
       when _ (is_virtual row.address)
       (λ e9. rw e9 (record { change = tt }))
@@ -182,7 +183,7 @@ module _ (P : StoreRecord → Type 0) (c : Config) where
       (λ e7. rw e7 (record { change = tt }))
       (λ e8. rw e8 (when _ (not (eqb row.address.0 0) && not (list_any (is_bind row.element row.model row.app) c.binds))
       (λ e5. rw e5 (record { change = tt }))
-      (λ e6. rw e6 (when _ (leb 8 (length (filter (λ r. not (is_model_row row.element row.model r)) c.publications)))
+      (λ e6. rw e6 (when _ (leb PUBLICATIONS (length (filter (λ r. not (is_model_row row.element row.model r)) c.publications)))
       (λ e1. rw e1 (record { change = tt }))
       (λ e2. rw e2 (when _ (list_any (is_same_row row) c.publications)
       (λ e3. rw e3 (record { change = tt }))

@@ -16,6 +16,7 @@ use Rattle.model_states.specs.Publication.{no_heartbeat}
 use Rattle.node_layers.specs.Configuration.{config_act, is_for_server}
 use Rattle.node_layers.specs.Models.{elements_of, level_records, level_server, level_state, model_records, onoff_records, onoff_server, onoff_state, takes}
 use Rattle.node_layers.specs.ConfiguredLayers.{changes_of}
+use Rattle.node_limits.specs.declared.TheConstants.{APPLICATION_KEYS, BINDINGS, ELEMENTS, GROUP_SUBSCRIPTIONS, LABEL_SUBSCRIPTIONS, NETWORK_KEYS}
 use Rattle.node_records.proofs.Rising.{keyed_of}
 use Rattle.event_definitions.specs.Answers.{config_before}
 use Rattle.event_definitions.specs.Fit.{AreStorable}
@@ -161,9 +162,9 @@ pub changes_storable : (past : Past) (m : AccessMessage) → Sound (config_befor
 changes_storable past m s o =
     let c : Config = config_before past in
     act_storable (past.records ++ R.Replay m.name None ∷ []) (model_records past m) c (Octets m.payload) (config_act c [] no_heartbeat m) (replay_same past.records m.name) s o (act_acted c [] no_heartbeat m)
-    (every_flat (λ e. e < 4) IsValue (λ element. onoff_records past c element m ++ level_records past c element m)
+    (every_flat (λ e. e < ELEMENTS) IsValue (λ element. onoff_records past c element m ++ level_records past c element m)
     (λ element l. element_each IsValue past c element m (λ value h. (l, inl (refl, h))) (λ value h. (l, inr (refl, h)))) (elements_of c)
-    (every_place 0 c.elements 4 (omega (arith, s.whole.few))))
+    (every_place 0 c.elements ELEMENTS (omega (arith, s.whole.few))))
 
 -- A node is sound where its records may each follow those before it.
 
@@ -182,9 +183,9 @@ unfolding changed
 limits_changed records (R.NetKey op index key) f h =
     let c : Config = config_of records in
     record {
-      nets = not_above _ 4 f.within;
-      apps = shorter_pick (eqb op 4) _ _ 8 (rw length-map h.apps) (shorter_pick (eqb op 5) _ c.apps 8 (le_after _ (length c.apps) 8 (filter_shorter _ c.apps) h.apps) h.apps);
-      binds = shorter_pick (eqb op 5) _ c.binds 32 (le_after _ (length c.binds) 32 (filter_shorter _ c.binds) h.binds) h.binds;
+      nets = not_above _ NETWORK_KEYS f.within;
+      apps = shorter_pick (eqb op 4) _ _ APPLICATION_KEYS (rw length-map h.apps) (shorter_pick (eqb op 5) _ c.apps APPLICATION_KEYS (le_after _ (length c.apps) APPLICATION_KEYS (filter_shorter _ c.apps) h.apps) h.apps);
+      binds = shorter_pick (eqb op 5) _ c.binds BINDINGS (le_after _ (length c.binds) BINDINGS (filter_shorter _ c.binds) h.binds) h.binds;
       subs = h.subs;
       labels = h.labels;
     }
@@ -192,20 +193,20 @@ limits_changed records (R.AppKey op net index key) f h =
     let c : Config = config_of records in
     record {
       nets = h.nets;
-      apps = not_above _ 8 f.within;
-      binds = shorter_pick (eqb op 3) _ c.binds 32 (le_after _ (length c.binds) 32 (filter_shorter _ c.binds) h.binds) h.binds;
+      apps = not_above _ APPLICATION_KEYS f.within;
+      binds = shorter_pick (eqb op 3) _ c.binds BINDINGS (le_after _ (length c.binds) BINDINGS (filter_shorter _ c.binds) h.binds) h.binds;
       subs = h.subs;
       labels = h.labels;
     }
-limits_changed records (R.Bind op element model app) f h = record { nets = h.nets; apps = h.apps; binds = not_above _ 32 f.within; subs = h.subs; labels = h.labels }
+limits_changed records (R.Bind op element model app) f h = record { nets = h.nets; apps = h.apps; binds = not_above _ BINDINGS f.within; subs = h.subs; labels = h.labels }
 limits_changed records (R.Subscribe op element model address) f h =
     let c : Config = config_of records in
     record {
       nets = h.nets;
       apps = h.apps;
       binds = h.binds;
-      subs = not_above _ 32 f.within;
-      labels = shorter_pick (eqb op 3 || eqb op 4) _ c.labels 32 (le_after _ (length c.labels) 32 (filter_shorter _ c.labels) h.labels) h.labels;
+      subs = not_above _ GROUP_SUBSCRIPTIONS f.within;
+      labels = shorter_pick (eqb op 3 || eqb op 4) _ c.labels LABEL_SUBSCRIPTIONS (le_after _ (length c.labels) LABEL_SUBSCRIPTIONS (filter_shorter _ c.labels) h.labels) h.labels;
     }
 limits_changed records (R.Label op element model label) f h =
     let c : Config = config_of records in
@@ -213,8 +214,8 @@ limits_changed records (R.Label op element model label) f h =
       nets = h.nets;
       apps = h.apps;
       binds = h.binds;
-      subs = shorter_pick (eqb op 4) _ c.subs 32 (le_after _ (length c.subs) 32 (filter_shorter _ c.subs) h.subs) h.subs;
-      labels = not_above _ 32 f.within;
+      subs = shorter_pick (eqb op 4) _ c.subs GROUP_SUBSCRIPTIONS (le_after _ (length c.subs) GROUP_SUBSCRIPTIONS (filter_shorter _ c.subs) h.subs) h.subs;
+      labels = not_above _ LABEL_SUBSCRIPTIONS f.within;
     }
 limits_changed records _ f h = record { nets = h.nets; apps = h.apps; binds = h.binds; subs = h.subs; labels = h.labels }
 

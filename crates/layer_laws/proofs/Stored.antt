@@ -13,6 +13,7 @@ use Rattle.layer_definitions.specs.Order.{put_by}
 use Rattle.mesh_base.specs.declared.address.Address.{Address}
 use Rattle.mesh_base.specs.declared.keys.AppKeyRow.{AppKeyRow}
 use Rattle.mesh_base.specs.declared.keys.NetKeyRow.{NetKeyRow}
+use Rattle.node_limits.specs.declared.TheConstants.{APPLICATION_KEYS, BINDINGS, GROUP_SUBSCRIPTIONS, LABEL_SUBSCRIPTIONS, NETWORK_KEYS, PUBLICATIONS, SUBSCRIPTIONS}
 use Rattle.node_records.proofs.Rising.{Rises, RisesFrom}
 use Rattle.record_types.specs.declared.records.PublishRow.{PublishRow}
 use Rattle.record_types.specs.declared.records.StoreRecord.{StoreRecord}
@@ -29,20 +30,20 @@ pub record Sound (c : Config) : Type 0 where
   pub whole : IsWhole c
   pub nets_rise : Rises net_index c.nets
   pub publications_rise : Rises publication_index c.publications
-  pub nets : length c.nets ≤ 4
-  pub apps : length c.apps ≤ 8
-  pub binds : length c.binds ≤ 32
-  pub subs : length c.subs ≤ 32
-  pub labels : length c.labels ≤ 32
+  pub nets : length c.nets ≤ NETWORK_KEYS
+  pub apps : length c.apps ≤ APPLICATION_KEYS
+  pub binds : length c.binds ≤ BINDINGS
+  pub subs : length c.subs ≤ GROUP_SUBSCRIPTIONS
+  pub labels : length c.labels ≤ LABEL_SUBSCRIPTIONS
 
 -- the limits of a record that is a change
 abbrev pub IsWithin : Config → StoreRecord → Type 0
-IsWithin c (R.NetKey op index key) = length (nets_after op index key c.nets) ≤ 4
-IsWithin c (R.AppKey op net index key) = length (apps_after op net index key c.apps) ≤ 8
-IsWithin c (R.Bind op element model app) = length (binds_after op element model app c.binds) ≤ 32
-IsWithin c (R.Subscribe op element model address) = length (subs_after op element model address c.subs) ≤ 32
-IsWithin c (R.Label op element model label) = length (labels_after op element model label c.labels) ≤ 32
-IsWithin c (R.Publish row) = length (put_by publication_index row c.publications) ≤ 8
+IsWithin c (R.NetKey op index key) = length (nets_after op index key c.nets) ≤ NETWORK_KEYS
+IsWithin c (R.AppKey op net index key) = length (apps_after op net index key c.apps) ≤ APPLICATION_KEYS
+IsWithin c (R.Bind op element model app) = length (binds_after op element model app c.binds) ≤ BINDINGS
+IsWithin c (R.Subscribe op element model address) = length (subs_after op element model address c.subs) ≤ GROUP_SUBSCRIPTIONS
+IsWithin c (R.Label op element model label) = length (labels_after op element model label c.labels) ≤ LABEL_SUBSCRIPTIONS
+IsWithin c (R.Publish row) = length (put_by publication_index row c.publications) ≤ PUBLICATIONS
 IsWithin c _ = ⊤
 
 pub record Fits (c : Config) (item : StoreRecord) : Type 0 where
@@ -132,12 +133,12 @@ put_among_others row n (r ∷ rest) h =
 
 -- Network keys.
 module _ (c : Config) (O : Type 0) where
-  pub net_add_leaf : (index : ℕ) (key : List ℕ) → index ≤ 0xfff → (O → IsKey key) → leb 4 (length c.nets) ≡ false → Leaf c O (R.NetKey 1 index key)
+  pub net_add_leaf : (index : ℕ) (key : List ℕ) → index ≤ 0xfff → (O → IsKey key) → leb NETWORK_KEYS (length c.nets) ≡ false → Leaf c O (R.NetKey 1 index key)
   net_add_leaf index key small is full = record {
     change = tt;
     fits = λ s o. record {
       range = (omega arith, omega arith, small, is o);
-      within = omega (arith, put_longer net_index (record { index = index; phase = 0; key = key; next = None }) c.nets, (let room : length c.nets < 4 = grind (arith, nat_tests, full) in room));
+      within = omega (arith, put_longer net_index (record { index = index; phase = 0; key = key; next = None }) c.nets, (let room : length c.nets < NETWORK_KEYS = grind (arith, nat_tests, full) in room));
       keeps = (λ e. absurd (omega (arith, e)), λ e. absurd (omega (arith, e)));
     };
   }
@@ -200,12 +201,12 @@ module _ (c : Config) (O : Type 0) where
   -- Application keys.
 
   pub app_add_leaf : (net index : ℕ) (key : List ℕ) → (O → net ≤ 0xfff) → (O → index ≤ 0xfff) → (O → IsKey key)
-      → not (has_net c net) ≡ false → leb 8 (length c.apps) ≡ false → Leaf c O (R.AppKey 1 net index key)
+      → not (has_net c net) ≡ false → leb APPLICATION_KEYS (length c.apps) ≡ false → Leaf c O (R.AppKey 1 net index key)
   app_add_leaf net index key net_small index_small is held full = record {
     change = tt;
     fits = λ s o. record {
       range = (omega arith, omega arith, net_small o, index_small o, is o);
-      within = omega (arith, put_longer app_index (record { net = net; index = index; key = key; next = None }) c.apps, (let room : length c.apps < 8 = grind (arith, nat_tests, full) in room));
+      within = omega (arith, put_longer app_index (record { net = net; index = index; key = key; next = None }) c.apps, (let room : length c.apps < APPLICATION_KEYS = grind (arith, nat_tests, full) in room));
       keeps = λ e. not_not (has_net c net) held;
     };
   }
@@ -236,12 +237,12 @@ module _ (c : Config) (O : Type 0) where
 
   -- Bindings and subscriptions.
 
-  pub bind_leaf : (element : Address) (model app : ℕ) → (O → element.0 < 2 ^ 16) → model < 2 ^ 16 → app ≤ 0xfff → leb 32 (length c.binds) ≡ false → Leaf c O (R.Bind 1 element model app)
+  pub bind_leaf : (element : Address) (model app : ℕ) → (O → element.0 < 2 ^ 16) → model < 2 ^ 16 → app ≤ 0xfff → leb BINDINGS (length c.binds) ≡ false → Leaf c O (R.Bind 1 element model app)
   bind_leaf element model app element_small model_small app_small full = record {
     change = tt;
     fits = λ s o. record {
       range = (omega arith, omega arith, element_small o, model_small, app_small);
-      within = omega (arith, push_longer (list_any (is_bind element model app) c.binds) (element, model, app) c.binds, (let room : length c.binds < 32 = grind (arith, nat_tests, full) in room));
+      within = omega (arith, push_longer (list_any (is_bind element model app) c.binds) (element, model, app) c.binds, (let room : length c.binds < BINDINGS = grind (arith, nat_tests, full) in room));
       keeps = tt;
     };
   }
@@ -256,7 +257,7 @@ module _ (c : Config) (O : Type 0) where
     };
   }
 
-  room_for_one : (a b : ℕ) → leb 32 (a + b) ≡ false → (a < 32) × (b < 32)
+  room_for_one : (a b : ℕ) → leb SUBSCRIPTIONS (a + b) ≡ false → (a < SUBSCRIPTIONS) × (b < SUBSCRIPTIONS)
   room_for_one a b e = (grind (arith, nat_tests, e), grind (arith, nat_tests, e))
 
   pub subscribe_leaf : (element : Address) (model : ℕ) (group : Address) → (O → element.0 < 2 ^ 16) → model < 2 ^ 16 → (O → group.0 < 2 ^ 16)
@@ -341,12 +342,12 @@ module _ (c : Config) (O : Type 0) where
   pub reset_leaf : Leaf c O R.Reset
   reset_leaf = record { change = tt; fits = λ s o. record { range = tt; within = tt; keeps = tt } }
 
-  pub publish_leaf : (row : PublishRow) → (O → IsInRange (R.Publish row)) → leb 8 (length (filter (λ r. not (is_model_row row.element row.model r)) c.publications)) ≡ false → Leaf c O (R.Publish row)
+  pub publish_leaf : (row : PublishRow) → (O → IsInRange (R.Publish row)) → leb PUBLICATIONS (length (filter (λ r. not (is_model_row row.element row.model r)) c.publications)) ≡ false → Leaf c O (R.Publish row)
   publish_leaf row is full = record {
     change = tt;
     fits = λ s o. record {
       range = is o;
-      within = omega (arith, put_among_others row 0 c.publications s.publications_rise, (let room : length (filter (λ r. not (is_model_row row.element row.model r)) c.publications) < 8 = grind (arith, nat_tests, full) in room));
+      within = omega (arith, put_among_others row 0 c.publications s.publications_rise, (let room : length (filter (λ r. not (is_model_row row.element row.model r)) c.publications) < PUBLICATIONS = grind (arith, nat_tests, full) in room));
       keeps = tt;
     };
   }

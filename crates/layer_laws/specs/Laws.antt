@@ -2,6 +2,7 @@
 use Rattle.std.specs.Prelude.{◌<◌, ◌≤◌, ◌^◌, [], ◌∷◌, ◌++◌, length, None, All}
 use Rattle.node_layers.specs.BuiltLayers.{built_layers}
 use Rattle.node_layers.specs.NodeLayers.{node_layers}
+use Rattle.node_limits.specs.declared.TheConstants.{APPLICATION_KEYS, BINDINGS, GROUP_SUBSCRIPTIONS, LABEL_SUBSCRIPTIONS, NETWORK_KEYS}
 use Rattle.record_types.specs.declared.records.StoreRecord.TheVariants as R
 use Rattle.event_definitions.specs.Answers.{config_before}
 use Rattle.event_definitions.specs.Fit.{AreFit, AreStorable}
@@ -25,11 +26,11 @@ NodeIsFit = AreFit node_layers
 
 -- The tables of a node are within the sizes of its store.
 pub record IsWithinLimits (c : Config) : Type 0 where
-  pub nets : length c.nets ≤ 4
-  pub apps : length c.apps ≤ 8
-  pub binds : length c.binds ≤ 32
-  pub subs : length c.subs ≤ 32
-  pub labels : length c.labels ≤ 32
+  pub nets : length c.nets ≤ NETWORK_KEYS
+  pub apps : length c.apps ≤ APPLICATION_KEYS
+  pub binds : length c.binds ≤ BINDINGS
+  pub subs : length c.subs ≤ GROUP_SUBSCRIPTIONS
+  pub labels : length c.labels ≤ LABEL_SUBSCRIPTIONS
 
 -- Of a node that is whole, with such tables, what a message stores is fit, however its records came about: so it is in code whose tables have
 -- these sizes.

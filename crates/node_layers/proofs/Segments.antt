@@ -12,6 +12,7 @@ use Rattle.layer_states.specs.declared.reassembly.PartHeard.{PartHeard}
 use Rattle.layer_states.specs.declared.reassembly.Taken.TheVariants as T
 use Rattle.mesh_base.specs.declared.pair.Name.{Name}
 use Rattle.mesh_types.specs.declared.answers.Answer.TheVariants as A
+use Rattle.node_limits.specs.declared.TheConstants.{MESSAGES_IN_PROGRESS}
 use Rattle.node_layers.specs.BuiltLayers.{built_layers}
 use Rattle.node_layers.specs.ConfiguredLayers.{configured_layers}
 use Rattle.node_layers.specs.NodeLayers.{node_layers}
@@ -54,21 +55,21 @@ module _ (rows : List Assembly) (now : ℕ) (h : PartHeard) where
   pieces_are : pieces ≡ with_piece (message_for rows now h).pieces h.part
   pieces_are = ap (λ ps. with_piece ps h.part) (pieces_at rows (place_of h.name rows) (begun now h))
 
-  no_room_is : (not (list_any (is_name h.name) (names_of rows)) && leb 8 (length (names_of rows))) ≡ has_no_room h.name rows
+  no_room_is : (not (list_any (is_name h.name) (names_of rows)) && leb MESSAGES_IN_PROGRESS (length (names_of rows))) ≡ has_no_room h.name rows
   no_room_is = rw (held_by_name, length-map) refl
 
   pub answer_is :
-      cond (not (list_any (is_name h.name) (names_of rows)) && leb 8 (length (names_of rows))) (Some (A.NoRoom (take 8 (names_of rows))))
+      cond (not (list_any (is_name h.name) (names_of rows)) && leb MESSAGES_IN_PROGRESS (length (names_of rows))) (Some (A.NoRoom (take MESSAGES_IN_PROGRESS (names_of rows))))
       (cond (is_at_odds (message_for rows now h) h) (Some A.Conflict)
       (cond (ltb 0 (missing_of pieces)) (Some (A.Waiting (missing_of pieces))) None))
       ≡ taken_answer (taken rows now h)
   answer_is =
       rw (no_room_is, pieces_are)
-      (by_tests (has_no_room h.name rows) (is_at_odds (message_for rows now h) h) (take 8 (names_of rows)) (with_piece (message_for rows now h).pieces h.part))
+      (by_tests (has_no_room h.name rows) (is_at_odds (message_for rows now h) h) (take MESSAGES_IN_PROGRESS (names_of rows)) (with_piece (message_for rows now h).pieces h.part))
 
   pub octets_are : (octets : List ℕ) → taken rows now h ≡ T.Whole octets → whole_of pieces ≡ octets
   octets_are octets e =
-      rw pieces_are (whole_by (has_no_room h.name rows) (is_at_odds (message_for rows now h) h) (take 8 (names_of rows)) (with_piece (message_for rows now h).pieces h.part) octets e)
+      rw pieces_are (whole_by (has_no_room h.name rows) (is_at_odds (message_for rows now h) h) (take MESSAGES_IN_PROGRESS (names_of rows)) (with_piece (message_for rows now h).pieces h.part) octets e)
     where
       outcome_whole : (b : Bool) (missing : ℕ) (all octets : List ℕ) → cond b (T.Waiting missing) (T.Whole all) ≡ T.Whole octets → all ≡ octets
       outcome_whole true missing all octets e = cc

@@ -6,7 +6,7 @@ use Rattle.std.proofs.lemmas.Bool.{eq-eqb, eqb-true}
 use Rattle.std.proofs.lemmas.Bool.Decides.{nat_tests}
 use Rattle.std.proofs.lemmas.List.{length-map}
 use Rattle.std.proofs.lemmas.List.Sums.{length-filter}
-use Rattle.node_limits.specs.declared.TheConstants.{NETWORK_KEYS, APPLICATION_KEYS}
+use Rattle.node_limits.specs.declared.TheConstants.{NETWORK_KEYS, APPLICATION_KEYS, BINDINGS, GROUP_SUBSCRIPTIONS, LABEL_SUBSCRIPTIONS}
 use Rattle.layer_definitions.specs.KeyRefresh.{net_index, app_index}
 use Rattle.layer_definitions.specs.Order.{put_by}
 use Rattle.mesh_base.specs.declared.address.Address.{Address}
@@ -68,10 +68,10 @@ pushed_length : {A : Type 0} (there : Bool) (rows : List A) (x : A) → length (
 pushed_length true rows x = refl
 pushed_length false rows x = length-append rows (x ∷ [])
 
-pub binds_pass : (op : ℕ) (element : Address) (model app : ℕ) (rows : List (Address × ℕ × ℕ)) → length rows ≤ 32
-    → IsTrue (op == 1 && passes_pushed (is_bind element model app) rows) ↔ (32 < length (binds_after op element model app rows))
+pub binds_pass : (op : ℕ) (element : Address) (model app : ℕ) (rows : List (Address × ℕ × ℕ)) → length rows ≤ BINDINGS
+    → IsTrue (op == 1 && passes_pushed BINDINGS (is_bind element model app) rows) ↔ (BINDINGS < length (binds_after op element model app rows))
 binds_pass op element model app rows few =
-    passes_rows (op == 1) (not (list_any (is_bind element model app) rows)) rows _ _ 32 few
+    passes_rows (op == 1) (not (list_any (is_bind element model app) rows)) rows _ _ BINDINGS few
     (pushed_length (list_any (is_bind element model app) rows) rows (element, model, app))
     (len_if_most (op == 2) _ _ (length rows) (filter_few _ rows) (omega arith))
 
@@ -80,15 +80,15 @@ or_false true = refl
 or_false false = refl
 
 -- lists of which all rows of a model may go
-module _ {A : Type 0} (here own : A → Bool) (x : A) (rows : List A) (few : length rows ≤ 32) where
+module _ {A : Type 0} (here own : A → Bool) (x : A) (rows : List A) (max : ℕ) (few : length rows ≤ max) where
   abbrev Passes : ℕ → List A → Type 0
-  Passes op grown = IsTrue (passes_list here own op rows) ↔ (32 < length grown)
+  Passes op grown = IsTrue (passes_list max here own op rows) ↔ (max < length grown)
 
   list_add : Passes 1 (if list_any here rows then rows else rows ++ x ∷ [])
   list_add =
       let there = list_any here rows in
-      let both = passes true (not there) (length rows) 32 (length (if there then rows else rows ++ x ∷ [])) (length rows) few (pushed_length there rows x) (omega arith) in
-      subst (λ (b : Bool). IsTrue b ↔ (32 < length (if there then rows else rows ++ x ∷ []))) (sym (or_false (length rows == 32 && not there))) both
+      let both = passes true (not there) (length rows) max (length (if there then rows else rows ++ x ∷ [])) (length rows) few (pushed_length there rows x) (omega arith) in
+      subst (λ (b : Bool). IsTrue b ↔ (max < length (if there then rows else rows ++ x ∷ []))) (sym (or_false (length rows == max && not there))) both
 
   list_overwrite : Passes 4 (filter (λ row. not (own row)) rows ++ x ∷ [])
   list_overwrite =
@@ -96,54 +96,54 @@ module _ {A : Type 0} (here own : A → Bool) (x : A) (rows : List A) (few : len
       let most : length rest ≤ length rows = filter_few (λ row. not (own row)) rows in
       let count : length rest ≡ count_by (λ row. not (own row)) rows = length-filter (λ row. not (own row)) rows in
       let long : length (rest ++ x ∷ []) ≡ length rest + 1 = length-append rest (x ∷ []) in (
-        (λ h. let e : count_by (λ row. not (own row)) rows ≡ 32 = eqb-true (count_by (λ row. not (own row)) rows) 32 h in omega (arith, e, count, long)),
-        (λ h. eq-eqb (count_by (λ row. not (own row)) rows) 32 (omega (arith, h, count, long, most, few))),
+        (λ h. let e : count_by (λ row. not (own row)) rows ≡ max = eqb-true (count_by (λ row. not (own row)) rows) max h in omega (arith, e, count, long)),
+        (λ h. eq-eqb (count_by (λ row. not (own row)) rows) max (omega (arith, h, count, long, most, few))),
       )
 
-  no_pass : (a b : Bool) (m : ℕ) → a ≡ false → b ≡ false → m ≤ 32 → IsTrue ((a && passes_pushed here rows) || (b && count_by (λ row. not (own row)) rows == 32)) ↔ (32 < m)
+  no_pass : (a b : Bool) (m : ℕ) → a ≡ false → b ≡ false → m ≤ max → IsTrue ((a && passes_pushed max here rows) || (b && count_by (λ row. not (own row)) rows == max)) ↔ (max < m)
   no_pass true b m h k le = absurd (true≢false h)
   no_pass false true m h k le = absurd (true≢false k)
   no_pass false false m h k le = (λ t. absurd (true≢false (sym t)), λ t. absurd (omega arith))
 
   -- `after` is the list after each op
-  by_four : (after : ℕ → List A) → Passes 4 (after 4) → ((op : ℕ) → (op == 1) ≡ false → (op == 4) ≡ false → length (after op) ≤ 32)
+  by_four : (after : ℕ → List A) → Passes 4 (after 4) → ((op : ℕ) → (op == 1) ≡ false → (op == 4) ≡ false → length (after op) ≤ max)
       → (op : ℕ) (b : Bool) → (op == 4) ≡ b → (op == 1) ≡ false → Passes op (after op)
   by_four after four rest op true e a = subst (λ (o : ℕ). Passes o (after o)) (sym (eqb-true op 4 e)) four
   by_four after four rest op false e a = no_pass (op == 1) (op == 4) (length (after op)) a e (rest op a e)
 
-  by_one : (after : ℕ → List A) → Passes 1 (after 1) → Passes 4 (after 4) → ((op : ℕ) → (op == 1) ≡ false → (op == 4) ≡ false → length (after op) ≤ 32)
+  by_one : (after : ℕ → List A) → Passes 1 (after 1) → Passes 4 (after 4) → ((op : ℕ) → (op == 1) ≡ false → (op == 4) ≡ false → length (after op) ≤ max)
       → (op : ℕ) (b : Bool) → (op == 1) ≡ b → Passes op (after op)
   by_one after one four rest op true e = subst (λ (o : ℕ). Passes o (after o)) (sym (eqb-true op 1 e)) one
   by_one after one four rest op false e = by_four after four rest op (op == 4) refl e
 
   rest_of : (b1 b2 b3 b4 : Bool) (grown other none last : List A) → b1 ≡ false → b4 ≡ false → length other ≤ length rows → length none ≤ length rows
-      → length (if b1 then grown else (if b2 then other else (if b3 then none else (if b4 then last else rows)))) ≤ 32
+      → length (if b1 then grown else (if b2 then other else (if b3 then none else (if b4 then last else rows)))) ≤ max
   rest_of true b2 b3 b4 grown other none last h k p q = absurd (true≢false h)
   rest_of false true b3 b4 grown other none last h k p q = omega arith
   rest_of false false true b4 grown other none last h k p q = omega arith
   rest_of false false false true grown other none last h k p q = absurd (true≢false k)
   rest_of false false false false grown other none last h k p q = few
 
-pub subs_pass : (op : ℕ) (element : Address) (model : ℕ) (address : Address) (rows : List (Address × ℕ × Address)) → length rows ≤ 32
-    → IsTrue (passes_list (is_sub element model address) (λ s. s.0.0 == element.0 && s.1 == model) op rows) ↔ (32 < length (subs_after op element model address rows))
+pub subs_pass : (op : ℕ) (element : Address) (model : ℕ) (address : Address) (rows : List (Address × ℕ × Address)) → length rows ≤ GROUP_SUBSCRIPTIONS
+    → IsTrue (passes_list GROUP_SUBSCRIPTIONS (is_sub element model address) (λ s. s.0.0 == element.0 && s.1 == model) op rows) ↔ (GROUP_SUBSCRIPTIONS < length (subs_after op element model address rows))
 subs_pass op element model address rows few =
     let own : Address × ℕ × Address → Bool = λ s. s.0.0 == element.0 && s.1 == model in
     let x : Address × ℕ × Address = (element, model, address) in
-    by_one (is_sub element model address) own x rows few (λ o. subs_after o element model address rows)
-    (list_add (is_sub element model address) own x rows few)
-    (list_overwrite (is_sub element model address) own x rows few)
-    (λ o a b. rest_of (is_sub element model address) own x rows few (o == 1) (o == 2) (o == 3) (o == 4) _ _ _ _ a b (filter_few _ rows) (filter_few _ rows))
+    by_one (is_sub element model address) own x rows GROUP_SUBSCRIPTIONS few (λ o. subs_after o element model address rows)
+    (list_add (is_sub element model address) own x rows GROUP_SUBSCRIPTIONS few)
+    (list_overwrite (is_sub element model address) own x rows GROUP_SUBSCRIPTIONS few)
+    (λ o a b. rest_of (is_sub element model address) own x rows GROUP_SUBSCRIPTIONS few (o == 1) (o == 2) (o == 3) (o == 4) _ _ _ _ a b (filter_few _ rows) (filter_few _ rows))
     op (op == 1) refl
 
-pub labels_pass : (op : ℕ) (element : Address) (model : ℕ) (label : List ℕ) (rows : List (Address × ℕ × List ℕ)) → length rows ≤ 32
-    → IsTrue (passes_list (is_label element model label) (λ l. l.0.0 == element.0 && l.1 == model) op rows) ↔ (32 < length (labels_after op element model label rows))
+pub labels_pass : (op : ℕ) (element : Address) (model : ℕ) (label : List ℕ) (rows : List (Address × ℕ × List ℕ)) → length rows ≤ LABEL_SUBSCRIPTIONS
+    → IsTrue (passes_list LABEL_SUBSCRIPTIONS (is_label element model label) (λ l. l.0.0 == element.0 && l.1 == model) op rows) ↔ (LABEL_SUBSCRIPTIONS < length (labels_after op element model label rows))
 labels_pass op element model label rows few =
     let own : Address × ℕ × List ℕ → Bool = λ l. l.0.0 == element.0 && l.1 == model in
     let x : Address × ℕ × List ℕ = (element, model, label) in
-    by_one (is_label element model label) own x rows few (λ o. labels_after o element model label rows)
-    (list_add (is_label element model label) own x rows few)
-    (list_overwrite (is_label element model label) own x rows few)
-    (λ o a b. rest_of (is_label element model label) own x rows few (o == 1) (o == 2) false (o == 4) _ _ rows _ a b (filter_few _ rows) (omega arith))
+    by_one (is_label element model label) own x rows LABEL_SUBSCRIPTIONS few (λ o. labels_after o element model label rows)
+    (list_add (is_label element model label) own x rows LABEL_SUBSCRIPTIONS few)
+    (list_overwrite (is_label element model label) own x rows LABEL_SUBSCRIPTIONS few)
+    (λ o a b. rest_of (is_label element model label) own x rows LABEL_SUBSCRIPTIONS few (o == 1) (o == 2) false (o == 4) _ _ rows _ a b (filter_few _ rows) (omega arith))
     op (op == 1) refl
 
 -- The rows stand by number: those below the number are passed over.

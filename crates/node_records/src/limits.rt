@@ -107,9 +107,9 @@ fn check_nets(rows: &[NetKeyRow], op: u8, index: u16) -> Result<(), Limit>
     limit_where(passes_nets(rows, op, index), rows.len())
 }
 
-/// Whether an AppKey record would add a ninth row.
+/// Whether an AppKey record would add a row that has no place.
 fn passes_apps(rows: &[AppKeyRow], op: u8, index: u16) -> bool
-    ensures { result ≡ (op == 1 && table.passes_keyed app_index 8 index rows.now) }
+    ensures { result ≡ (op == 1 && table.passes_keyed app_index APPLICATION_KEYS index rows.now) }
 {
     op == 1 && rows.len() == APPLICATION_KEYS && adds(rows, u32::from(index))
 }
@@ -123,7 +123,7 @@ fn check_apps(rows: &[AppKeyRow], op: u8, index: u16) -> Result<(), Limit>
     limit_where(passes_apps(rows, op, index), rows.len())
 }
 
-/// Whether a Publish record would add a ninth row.
+/// Whether a Publish record would add a row that has no place.
 fn passes_publications(rows: &[PublishRow], row: &PublishRow) -> bool
     ensures { result ≡ table.passes_keyed publication_index PUBLICATIONS (publication_index row.now) rows.now }
 {
@@ -139,7 +139,7 @@ fn check_publications(rows: &[PublishRow], row: &PublishRow) -> Result<(), Limit
     limit_where(passes_publications(rows, row), rows.len())
 }
 
-/// Whether a Bind record would add a 33rd row.
+/// Whether a Bind record would add a row that has no place.
 fn passes_binds(
     rows: &[(Address, u16, u16)],
     op: u8,
@@ -147,7 +147,7 @@ fn passes_binds(
     model: u16,
     app: u16,
 ) -> bool
-    ensures { result ≡ (op == 1 && table.passes_pushed (is_bind element model app) rows.now) }
+    ensures { result ≡ (op == 1 && table.passes_pushed BINDINGS (is_bind element model app) rows.now) }
 {
     op == 1 && rows.len() == BINDINGS && !has_bind(rows, element, model, app)
 }
@@ -176,7 +176,7 @@ fn count_other_subs(rows: &[(Address, u16, Address)], element: Address, model: u
         .count()
 }
 
-/// Whether a Subscribe record would add a 33rd row. One that takes the place of all of its model adds to those of the others.
+/// Whether a Subscribe record would add a row that has no place. One that takes the place of all of its model adds to those of the others.
 fn passes_subs(
     rows: &[(Address, u16, Address)],
     op: u8,
@@ -185,7 +185,8 @@ fn passes_subs(
     address: Address,
 ) -> bool
     ensures { result
-        ≡ table.passes_list (is_sub element model address) (λ s. s.0.0 == element.0 && s.1 == model) op rows.now }
+        ≡ table.passes_list GROUP_SUBSCRIPTIONS (is_sub element model address) (λ s. s.0.0 == element.0 && s.1 == model) op
+        rows.now }
 {
     (op == 1 && rows.len() == GROUP_SUBSCRIPTIONS && !has_sub(rows, element, model, address))
         || (op == 4 && count_other_subs(rows, element, model) == GROUP_SUBSCRIPTIONS)
@@ -215,7 +216,7 @@ fn count_other_labels(rows: &[(Address, u16, [u8; 16])], element: Address, model
         .count()
 }
 
-/// Whether a Label record would add a 33rd row. One that takes the place of all of its model adds to those of the others.
+/// Whether a Label record would add a row that has no place. One that takes the place of all of its model adds to those of the others.
 fn passes_labels(
     rows: &[(Address, u16, [u8; 16])],
     op: u8,
@@ -224,7 +225,8 @@ fn passes_labels(
     label: &[u8; 16],
 ) -> bool
     ensures { result
-        ≡ table.passes_list (is_label element model label.now) (λ l. l.0.0 == element.0 && l.1 == model) op rows.now }
+        ≡ table.passes_list LABEL_SUBSCRIPTIONS (is_label element model label.now)
+        (λ l. l.0.0 == element.0 && l.1 == model) op rows.now }
 {
     (op == 1 && rows.len() == LABEL_SUBSCRIPTIONS && !has_label(rows, element, model, label))
         || (op == 4 && count_other_labels(rows, element, model) == LABEL_SUBSCRIPTIONS)

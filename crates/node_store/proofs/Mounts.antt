@@ -4,7 +4,7 @@ use Rattle.std.specs.Prelude.{IfErr, IsErrAnd, IsTrue, Result, Ok, Err, OnOk, On
 use Rattle.flash_model.specs.Chip.{Chip, IsFresh, Keeps, LeavesOnly, Stays}
 use Rattle.flash_model.proofs.Leaves.{IsOnlyNow, leaves_join, leaves_stays, leaves_weaker}
 use Rattle.flash_model.proofs.Runs.{stays_more}
-use Rattle.slot_definitions.specs.Slots.{Held, gated, recovered, slots_to, text_at}
+use Rattle.slot_definitions.specs.Slots.{HasFormat, Held, gated, recovered, slots_to, text_at}
 use Rattle.mesh_base.specs.declared.slot.Slot.{Slot}
 use Rattle.record_types.specs.declared.records.StoreRecord.{StoreRecord}
 use Rattle.node_records.specs.declared.persist.Persist.{Persist}
@@ -20,7 +20,7 @@ use Rattle.node_store.specs.declared.mounting.StoreFault.{StoreFault}
 use Rattle.node_store.specs.declared.mounting.StoreFault.TheVariants as F
 use Rattle.node_store.specs.Causes.{IsFoundAs, IsReadCause, IsReset, IsSlotCause, IsStoreCause}
 use Rattle.node_store.specs.Faults.{store_fault_of}
-use Rattle.node_store.specs.Mounted.{AreSaid, HasFormat, IsDamaged, IsMounted, IsRead, IsRefused, IsTaken}
+use Rattle.node_store.specs.Mounted.{AreSaid, IsDamaged, IsMounted, IsRead, IsRefused, IsTaken}
 use Rattle.node_store.specs.Tie.{HasMark, Holds, IsExactly, IsHeld, IsStoreOf}
 use Rattle.node_store.proofs.Found.{found_once, said_damaged, said_gap, said_more, said_read, stands}
 use Rattle.node_store.proofs.Holding.{alike_sym, holds_alike, holds_mark, holds_recovered, journal_stays, store_alike}

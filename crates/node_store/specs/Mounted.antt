@@ -1,6 +1,6 @@
 -- What the slots of a flash are read as, up to the first that is damaged.
-use Rattle.std.specs.Prelude.{◌≡◌, ℕ, ◌+◌, ◌*◌, ◌≤◌, List, [], ◌∷◌, ◌++◌, All, map, option_map, Some, false}
-use Rattle.slot_definitions.specs.Slots.{Held, recovered, text_at, gated, slots_to}
+use Rattle.std.specs.Prelude.{◌≡◌, ℕ, ◌+◌, ◌*◌, ◌≤◌, List, [], ◌∷◌, ◌++◌, All, map, Some, false}
+use Rattle.slot_definitions.specs.Slots.{HasFormat, text_at, gated, slots_to}
 use Rattle.mesh_base.specs.declared.slot.Slot.{Slot}
 use Rattle.record_types.specs.declared.records.StoreRecord.{StoreRecord}
 use Rattle.node_records.specs.declared.persist.Persist.{Persist}
@@ -45,10 +45,6 @@ pub record IsMounted (content : List ℕ) (p : Persist) : Type 0 where
   pub read : IsRead content records
   pub meaning : IsMeaningOf records p
   pub stands : (config_of records).reset ≡ false
-
--- the bank that counts has this format
-abbrev pub HasFormat : ℕ → List ℕ → Type 0
-HasFormat format content = option_map (λ (h : Held). h.format) (recovered content) ≡ Some format
 
 -- what provisioning in format 01 leaves: it is mounted as these records
 pub record IsOldNode (records : List StoreRecord) (content : List ℕ) : Type 0 where

@@ -4,12 +4,13 @@ ghost use Rattle.flash_model.specs.Arming.{Begins, BeginsAtMost};
 ghost use Rattle.flash_model.specs.Chip.{IsFresh, Keeps, LeavesOnly, Stays};
 ghost use Rattle.record_types.specs.declared.records.StoreRecord.{StoreRecord};
 ghost use Rattle.node_records.specs.Meaning.{DoesNotFall, IsSaid};
+ghost use Rattle.slot_definitions.specs.Slots.{HasFormat};
 ghost use Rattle.slot_journal.specs.Headers.{IsTidy};
 ghost use Rattle.store_definitions.specs.Config.{config_of};
 ghost use Rattle.node_store.specs.declared.mounting.StoreFault.{StoreFault};
 ghost use Rattle.node_store.specs.Calls.{compaction};
 ghost use Rattle.node_store.specs.Causes.{IsFoundAs, IsNotFlash, IsReadCause, IsSlotCause, IsStoreCause};
-ghost use Rattle.node_store.specs.Mounted.{AreSaid, HasFormat, IsMounted, IsRefused, IsTaken};
+ghost use Rattle.node_store.specs.Mounted.{AreSaid, IsMounted, IsRefused, IsTaken};
 ghost use Rattle.node_store.specs.Tie.{HasMark, Holds, IsExactly, IsHeld, IsStoreOf};
 
 use crate::room::compact;

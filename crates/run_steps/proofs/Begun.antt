@@ -3,13 +3,13 @@ use Rattle.std.proofs.Common.{◌≡◌, ◌∙◌, ℕ, List, Option, Some, ap,
 use Rattle.std.specs.Prelude.{All, IsTrue, OnOk, Result, Ok, Err}
 use Rattle.flash_model.specs.Chip.{Chip, IsFresh}
 use Rattle.node_store.proofs.Provisions.{provisioned_whole}
-use Rattle.node_store.specs.Mounted.{HasFormat, IsOldNode, IsRead}
+use Rattle.node_store.specs.Mounted.{IsOldNode, IsRead}
 use Rattle.node_store.specs.Provisioning.{IsProvision, provisioning}
 use Rattle.node_store.specs.Tie.{IsExactly}
 use Rattle.node_store.specs.View.{StoreView}
 use Rattle.node_store.specs.declared.provision.Provision.{Provision}
 use Rattle.record_types.specs.declared.records.StoreRecord.{StoreRecord}
-use Rattle.slot_definitions.specs.Slots.{Held, held_by}
+use Rattle.slot_definitions.specs.Slots.{HasFormat, Held, held_by}
 use Rattle.slot_journal.specs.Headers.{IsTidy}
 use Rattle.slot_journal.specs.Tie.{IsMounted}
 use Rattle.slot_journal.specs.View.{JournalView}

@@ -2,9 +2,9 @@
 use Rattle.std.specs.Prelude.{◌≡◌, ℕ, ◌+◌, ◌<◌, Bool, true, false, IsTrue, List, None}
 use Rattle.flash_model.specs.Chip.{Chip, Remembers}
 use Rattle.machine_contract.specs.Opening.{EachRecovered, IsNodeFlash}
-use Rattle.node_store.specs.Mounted.{HasFormat}
 use Rattle.node_store.specs.Tie.{IsMade, IsNode}
 use Rattle.record_types.specs.declared.records.StoreRecord.{StoreRecord}
+use Rattle.slot_definitions.specs.Slots.{HasFormat}
 use Rattle.slot_journal.specs.Format.{IsErased}
 
 -- a life can be opened from each image, which recovers exactly these records

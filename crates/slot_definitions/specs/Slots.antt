@@ -1,6 +1,6 @@
 -- The octets of the node's flash: slots, the headers of the two banks, and the slots that an image recovers. An image is the 65,536
 -- octets of the chip as they are read; erased octets are ff. (The layout is this project's own.)
-use Rattle.std.specs.Prelude.{ℕ, zero, suc, ◌+◌, ◌*◌, ◌-◌, ◌%◌, List, [], ◌∷◌, ◌++◌, slice_index, slice_range, replicate, ◌&&◌, ◌||◌, ◌==◌, nat_lt, Bool, if◌then◌else◌, Option, Some, None, option_map, option_to_list}
+use Rattle.std.specs.Prelude.{◌≡◌, ℕ, zero, suc, ◌+◌, ◌*◌, ◌-◌, ◌%◌, List, [], ◌∷◌, ◌++◌, slice_index, slice_range, replicate, ◌&&◌, ◌||◌, ◌==◌, nat_lt, Bool, if◌then◌else◌, Option, Some, None, option_map, option_to_list}
 use Rattle.std.specs.Int.{to_be_bytes, w32}
 use Rattle.mesh_base.specs.declared.slot.Slot.{Slot}
 
@@ -94,3 +94,7 @@ held_by content bank = record { format = format_of (text_at content (1024 * bank
 -- What an image recovers: what the bank that counts holds, and nothing where no header is sound.
 abbrev pub recovered : List ℕ → Option Held
 recovered content = option_map (held_by content) (counting content)
+
+-- the bank that counts has this format
+abbrev pub HasFormat : ℕ → List ℕ → Type 0
+HasFormat format content = option_map (λ (h : Held). h.format) (recovered content) ≡ Some format
