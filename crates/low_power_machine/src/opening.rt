@@ -17,14 +17,16 @@ use crate::memory::Memory;
 use crate::state::LowPowerState;
 use entry_log::EntryLog;
 use flash_model::Flash;
-use machine_contract::{Answered, EarlyReads, Hand, History, Machine, StartFault, Started, Stop};
+use machine_contract::{
+    Answered, EarlyReads, Hand, History, Machine, ReadBefore, StartFault, Started, Stop,
+};
 use machine_standing::mount_node;
 use mesh_base::octets::Octets;
 use mesh_types::events::Event;
 use mesh_types::history::Entry;
 use node_store::Store;
 use seq_reserve::Reserve;
-use seq_word::{Keeper, Numbers};
+use seq_word::{Dry, Keeper, Numbers};
 use std::alloc::{AllocError, Global};
 
 // Opens a life over a store that was mounted. It stands apart, so that no caller has a place for what it boxes.
@@ -107,9 +109,11 @@ impl Machine for LowPowerMachine {
     ghost stands = { Stands };
 
     // Nothing is read before an event is handled.
-    ghost fits = { λ _ _. ⊤ };
+    ghost fits = { λ _ _ _. ⊤ };
 
     type Reader = ();
+
+    type Reading = ();
 
     fn start<F: Flash>(alloc: Global, flash: &mut F) -> Result<Started<Self>, StartFault> {
         let store = mount_node(flash)?;
@@ -121,11 +125,13 @@ impl Machine for LowPowerMachine {
 
     fn new_reader() {}
 
+    fn new_reading() {}
+
     fn reader(&self, _reader: &mut ()) {}
 
-    fn unread(_reader: &mut ()) {}
+    fn unread(_reading: &mut ()) {}
 
-    fn early(_reader: &mut (), _bytes: &Octets<40>) {}
+    fn early(_reader: &mut (), _reading: &mut (), _bytes: &Octets<40>) {}
 
     fn handle<F: Flash>(
         &mut self,
@@ -134,13 +140,13 @@ impl Machine for LowPowerMachine {
         bearer: u8,
         number: u32,
         event: &Event,
-        _reader: &(),
+        _early: &ReadBefore<'_, (), ()>,
     ) -> Result<Answered, Stop> {
         self.state.handle_event(n, flash, bearer, number, event)
     }
 
-    fn refill<F: Flash>(&mut self, n: &Numbers, flash: &mut F, seen: u64) -> Result<u64, Stop> {
-        self.state.refill_numbers(n, flash, seen)
+    fn refill<F: Flash>(&mut self, n: &Numbers, flash: &mut F, dry: Dry) -> Result<u64, Stop> {
+        self.state.refill_numbers(n, flash, dry)
     }
 
     fn take_entries<F: Flash>(&mut self) -> Vec<Entry> {

@@ -25,7 +25,7 @@ use mesh_types::events::Event;
 use mesh_types::history::Entry;
 use mesh_types::told::ToldEvent;
 use seq_reserve::Reserve;
-use seq_word::Numbers;
+use seq_word::{Dry, Numbers};
 use std::marker::Model;
 use store_definitions::node::node_law;
 
@@ -123,15 +123,17 @@ impl LowPowerState {
         &mut self,
         n: &Numbers,
         flash: &mut F,
-        seen: u64,
+        dry: Dry,
     ) -> Result<u64, Stop>
         requires made { (shown self.old).which ≡ n.now.which }
-        requires seq { seq_of seen < 2 ^ 24 }
+        requires reached { dry.which ≡ n.now.which }
+        requires seq { seq_of dry.mark < 2 ^ 24 }
 
-        ensures filled { seen ≡ (shown self.old).mark
+        ensures filled { dry.mark ≡ (shown self.old).mark
             → OnOk result
-            (shown self.new ≡ record (shown self.old) { fills = (shown self.old).fills + 1; mark = seen + 256 }) }
-        ensures nothing { seen ≢ (shown self.old).mark → (shown self.old).closed ≡ false
+            (shown self.new
+            ≡ record (shown self.old) { fills = (shown self.old).fills + 1; mark = dry.mark + 256 }) }
+        ensures nothing { dry.mark ≢ (shown self.old).mark → (shown self.old).closed ≡ false
             → (result ≡ Ok (shown self.old).mark) × (shown self.new ≡ shown self.old) × (flash.new ≡ flash.old) }
         ensures value { IfOk result (λ mark. mark ≡ (shown self.new).mark) }
         ensures ok { OnOk result
@@ -150,13 +152,14 @@ impl LowPowerState {
         if self.closed {
             return Err(Stop::Closed);
         }
+        let seen = dry.mark();
         let mark = self.reserve.store.persist().mark;
         if seen != mark {
             return Ok(mark);
         }
         // It does nothing when it runs: the proof uses what it says.
         node_law();
-        match self.reserve.refill(n, flash, seen) {
+        match self.reserve.refill(n, flash, dry) {
             Ok(mark) => {
                 self.fills += 1;
                 Ok(mark)

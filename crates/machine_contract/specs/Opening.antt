@@ -1,10 +1,10 @@
 -- A flash from which a life can be opened.
-use Rattle.std.specs.Prelude.{◌≡◌, ℕ, List, ◌++◌, All, IsTrue, Some, option_map}
+use Rattle.std.specs.Prelude.{◌≡◌, ℕ, List, ◌++◌, All, IsTrue}
 use Rattle.flash_model.specs.Arming.{BeginsAtMost}
 use Rattle.flash_model.specs.Chip.{Chip, Stays}
 use Rattle.node_limits.specs.declared.TheConstants.{COMPACTION_CALLS}
 use Rattle.record_types.specs.declared.records.StoreRecord.{StoreRecord}
-use Rattle.slot_definitions.specs.Slots.{Held, recovered}
+use Rattle.slot_definitions.specs.Slots.{HasFormat}
 use Rattle.store_definitions.specs.Alike.{IsAlike}
 use Rattle.store_definitions.specs.Ranges.{IsInRange}
 use Rattle.store_definitions.specs.Recovered.{IsRecovered}
@@ -23,10 +23,6 @@ pub record IsNodeFlash (IsNodeImage : List ℕ → Type 0) (chip : Chip) : Type 
 pub record IsLeft (before more next : List StoreRecord) : Type 0 where
   pub ranges : All IsInRange (before ++ more)
   pub alike : IsAlike next (before ++ more)
-
--- the bank that counts has this format
-abbrev pub HasFormat : ℕ → List ℕ → Type 0
-HasFormat format content = option_map (λ (h : Held). h.format) (recovered content) ≡ Some format
 
 -- Nothing was written: the content stays, and of a steady flash no program or erase call was counted.
 pub record IsUnwritten (old new : Chip) : Type 0 where

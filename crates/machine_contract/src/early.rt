@@ -9,3 +9,12 @@ pub struct EarlyReads {
     /// How many were handled as they were read before.
     pub before: u64,
 }
+
+/// What was read before an event is handled, and by what.
+#[derive(Drop)]
+pub struct ReadBefore<'a, R, G> {
+    /// By what it was read.
+    pub reader: &'a R,
+    /// What was read, if anything was.
+    pub reading: &'a G,
+}

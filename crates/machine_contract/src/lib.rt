@@ -3,7 +3,7 @@
 //! - `machine`: the trait, with the contract of each call
 //! - `opening`: what a machine opens with, and why it doesn't
 //! - `answers`: what a call answers, why it stops, and what a failed call had in hand
-//! - `early`: how often what was read before is used
+//! - `early`: what was read before an event is handled, and how often that is used
 //! - `history`: what a machine leaves when a life is over
 //!
 //! What contracts see of a machine stands in `specs/`: `View` what it shows, `Ranges` the ranges of events and jobs, `Standing` what holds
@@ -17,7 +17,7 @@ mod machine;
 mod opening;
 
 pub use answers::{Answered, Hand, Stop};
-pub use early::EarlyReads;
+pub use early::{EarlyReads, ReadBefore};
 pub use history::History;
 pub use machine::Machine;
 pub use opening::{StartFault, Started};

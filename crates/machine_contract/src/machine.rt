@@ -20,14 +20,14 @@ ghost use Rattle.machine_contract.specs.Started.{IsStarted};
 ghost use Rattle.machine_contract.specs.View.{MachineView, entry_for, with_entry};
 
 use crate::answers::{Answered, Hand, Stop};
-use crate::early::EarlyReads;
+use crate::early::{EarlyReads, ReadBefore};
 use crate::history::History;
 use crate::opening::{StartFault, Started};
 use flash_model::Flash;
 use mesh_base::octets::Octets;
 use mesh_types::events::Event;
 use mesh_types::history::Entry;
-use seq_word::{Keeper, Numbers};
+use seq_word::{Dry, Keeper, Numbers};
 use std::alloc::Global;
 
 /// What handles the events of a node, one after another, over its flash. The flash stays with the caller and is passed to each call: it is
@@ -36,12 +36,14 @@ use std::alloc::Global;
 /// `stands` ties a machine to its flash and to the records that its life opened over. `start` gives it, each call keeps it whatever the
 /// call answers, and `tells` says what it means in terms of what the machine shows, its `view`.
 ///
-/// A network PDU can be read before the machine handles it, without the machine: by a reader, which was renewed from the machine earlier and keeps
-/// what it read. `handle` is then lent the reader, and its clauses are the same whatever was read: so no clause says that anything is read before.
+/// A network PDU can be read before the machine handles it, without the machine: by a reader, which was renewed from the machine earlier, into a
+/// reading. `handle` is then lent both, and its clauses are the same whatever was read: so no clause says that anything is read before.
 pub trait Machine: Send + Drop {
-    /// By what a machine reads octets heard as a network PDU, apart from the machine, and what was read last before an event is handled, if
-    /// anything was.
+    /// By what a machine reads octets heard as a network PDU, apart from the machine.
     type Reader: Send + Drop;
+
+    /// What was read before an event is handled, if anything was: small beside a reader, so that one reader can have many.
+    type Reading: Send + Drop;
 
     // What kind of node it is.
     ghost role: { Role };
@@ -60,14 +62,14 @@ pub trait Machine: Send + Drop {
 
     ghost stands: { Chip → List StoreRecord → Self → Type 0 };
 
-    // The reader may be lent to `handle` with this event: it has read nothing, or the octets of this event.
-    ghost fits: { Self.Reader → AnEvent → Type 0 };
+    // A reader and a reading may be lent to `handle` with this event: nothing was read, or the octets of this event, by the reader as it is.
+    ghost fits: { Self.Reader → Self.Reading → AnEvent → Type 0 };
 
     /// Opens a life over what the flash recovers. The flash went through a power cycle, since when its count of faults didn't fall, and each
     /// image of it recovers a node or a reset.
     ///
-    /// The counter opens at the mark that the records say. It writes only where it migrates a flash of format 01 (`writes`), and a node that was
-    /// reset isn't migrated (`reset`).
+    /// The counter opens at the mark that the records say. Nothing is written but where a flash of format 01 is migrated: the content of another
+    /// one stays, and a steady one counts no program or erase call (`writes`). A node that was reset isn't migrated (`reset`).
     fn start<F: Flash>(alloc: Global, flash: &mut F) -> Result<Started<Self>, StartFault>
         requires fresh { IsFresh (F.chip flash.old) }
         requires node { IsNodeFlash image (F.chip flash.old) }
@@ -78,26 +80,31 @@ pub trait Machine: Send + Drop {
         ensures reset { IfErr result (λ e. e ≡ StartFault.WasReset → IsUnwritten (F.chip flash.old) (F.chip flash.new)) }
         ensures frame { Keeps (F.chip flash.old) (F.chip flash.new) };
 
-    /// A reader that was renewed from no machine yet. It has read nothing, and takes no memory.
-    fn new_reader() -> Self::Reader
-        ensures fits { (event : AnEvent) → fits result event };
+    /// A reader that was renewed from no machine yet. It takes no memory.
+    fn new_reader() -> Self::Reader;
 
-    /// Renews a reader: from now on it reads as the machine does in this moment. It still goes with each event that it went with. It takes no
-    /// memory.
-    fn reader(&self, reader: &mut Self::Reader)
-        ensures fits { (event : AnEvent) → fits reader.old event → fits reader.new event };
+    /// A reading that has read nothing. It takes no memory.
+    fn new_reading() -> Self::Reading
+        ensures fits { (reader : Self.Reader) (event : AnEvent) → fits reader result event };
 
-    /// Has a reader forget what it read. It goes with each event then.
-    fn unread(reader: &mut Self::Reader)
-        ensures fits { (event : AnEvent) → fits reader.new event };
+    /// Renews a reader: from now on it reads as the machine does in this moment. That what was read by it before goes with an event is said no
+    /// more. It takes no memory.
+    fn reader(&self, reader: &mut Self::Reader);
 
-    /// Reads octets that were heard as a network PDU, as the machine did when the reader was renewed last, and keeps what they read as. The reader
-    /// goes with the event of these octets then.
-    fn early(reader: &mut Self::Reader, bytes: &Octets<40>)
-        ensures fits { fits reader.new (E.Net bytes.now) };
+    /// Has a reading forget what was read. It goes with each event then, whatever the reader.
+    fn unread(reading: &mut Self::Reading)
+        ensures fits { (reader : Self.Reader) (event : AnEvent) → fits reader reading.new event };
 
-    /// Handles an event of a bearer, which is the one with this number among its events, from 1 on. What the reader has read is used where the
-    /// machine would read the same now; else it reads again.
+    /// Reads octets that were heard as a network PDU, as the machine did when the reader was renewed last, and has the reading keep what they read
+    /// as. Reader and reading go with the event of these octets then (`fits`), and what else was read by the reader goes with what it went with
+    /// (`kept`).
+    fn early(reader: &mut Self::Reader, reading: &mut Self::Reading, bytes: &Octets<40>)
+        ensures fits { fits reader.new reading.new (E.Net bytes.now) }
+        ensures kept { (other : Self.Reading) (event : AnEvent) → fits reader.old other event
+            → fits reader.new other event };
+
+    /// Handles an event of a bearer, which is the one with this number among its events, from 1 on. What was read before is used where the machine
+    /// would read the same now; else it reads again.
     fn handle<F: Flash>(
         &mut self,
         n: &Numbers,
@@ -105,11 +112,11 @@ pub trait Machine: Send + Drop {
         bearer: u8,
         number: u32,
         event: &Event,
-        reader: &Self::Reader,
+        early: &ReadBefore<'_, Self::Reader, Self::Reading>,
     ) -> Result<Answered, Stop>
         requires made { (view self.old).which ≡ n.now.which }
         requires event { IsEvent (view self.old).elements event.now }
-        requires early { fits reader.now event.now }
+        requires early { fits early.now.reader.now early.now.reading.now event.now }
 
         ensures ok { IfOk result
             (λ r. view self.new
@@ -130,16 +137,21 @@ pub trait Machine: Send + Drop {
             → stands (F.chip flash.new) over self.new }
         ensures frame { Keeps (F.chip flash.old) (F.chip flash.new) };
 
-    /// Stores a refill, and publishes its mark, 256 higher, where `seen` is the mark published last (`filled`); else a refill came between,
-    /// and nothing changes (`nothing`). Returns the mark that is published then. It takes no memory.
-    fn refill<F: Flash>(&mut self, n: &Numbers, flash: &mut F, seen: u64) -> Result<u64, Stop>
+    /// Stores a refill, and publishes its mark, 256 higher, where the mark that a draw reached is the one published last (`filled`); else a
+    /// refill came between, and nothing changes (`nothing`). Returns the mark that is published then. It takes no memory.
+    ///
+    /// It takes what the draw answered, since a mark is published with that alone: so there is no refill without a draw that found the counter
+    /// at the mark, and the mark is at most 256 above the counter when the words are closed (`near` of `close` in `seq_word`).
+    fn refill<F: Flash>(&mut self, n: &Numbers, flash: &mut F, dry: Dry) -> Result<u64, Stop>
         requires made { (view self.old).which ≡ n.now.which }
-        requires seq { seq_of seen < 2 ^ 24 }
+        requires reached { dry.which ≡ n.now.which }
+        requires seq { seq_of dry.mark < 2 ^ 24 }
 
-        ensures filled { seen ≡ (view self.old).mark
+        ensures filled { dry.mark ≡ (view self.old).mark
             → OnOk result
-            (view self.new ≡ record (view self.old) { fills = (view self.old).fills + 1; mark = seen + 256 }) }
-        ensures nothing { seen ≢ (view self.old).mark → (view self.old).closed ≡ false
+            (view self.new
+            ≡ record (view self.old) { fills = (view self.old).fills + 1; mark = dry.mark + 256 }) }
+        ensures nothing { dry.mark ≢ (view self.old).mark → (view self.old).closed ≡ false
             → (result ≡ Ok (view self.old).mark) × (view self.new ≡ view self.old) × (flash.new ≡ flash.old) }
         ensures value { IfOk result (λ mark. mark ≡ (view self.new).mark) }
         ensures ok { OnOk result

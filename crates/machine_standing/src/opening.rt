@@ -4,11 +4,12 @@
 ghost use Rattle.std.specs.Prelude.{◌≡◌, IfErr, IfOk, IsTrue, OnOk};
 ghost use Rattle.flash_model.specs.Arming.{Begins};
 ghost use Rattle.flash_model.specs.Chip.{IsFresh, Keeps};
-ghost use Rattle.machine_contract.specs.Opening.{HasFormat, IsNodeFlash, IsUnwritten, MigratesOnly};
+ghost use Rattle.machine_contract.specs.Opening.{IsNodeFlash, IsUnwritten, MigratesOnly};
 ghost use Rattle.machine_contract.specs.Refused.{IsStartCause, IsUntouched};
 ghost use Rattle.machine_standing.specs.Opening.{IsNodeMounted, start_fault_of};
 ghost use Rattle.node_store.specs.Calls.{compaction};
 ghost use Rattle.node_store.specs.Tie.{IsNode};
+ghost use Rattle.slot_definitions.specs.Slots.{HasFormat};
 
 use flash_model::Flash;
 use machine_contract::StartFault;
@@ -27,8 +28,9 @@ fn start_fault(fault: StoreFault) -> StartFault
 
 /// Mounts the store of a flash each image of which recovers a node or a reset: the store of a node that can be run. It takes no memory. The
 /// error is that the flash failed in this call, or that a Node Reset is stored. Whatever it answers, each image recovers what was read, or
-/// records that say the same (`untouched`). It writes only where it migrates a bank of format 01 (`writes`): then a steady flash counts the calls of
-/// a compaction to the records that say the same (`calls`). There is none where a Node Reset is stored (`reset`).
+/// records that say the same (`untouched`). Nothing is written but where a bank of format 01 is migrated: the content of another flash stays, and a
+/// steady one counts no program or erase call (`writes`). A steady flash that is migrated counts the calls of a compaction to the records that say
+/// the same (`calls`). Where a Node Reset is stored none is migrated (`reset`).
 pub fn mount_node<F: Flash>(flash: &mut F) -> Result<Store, StartFault>
     requires fresh { IsFresh (F.chip flash.old) }
     requires node { IsNodeFlash IsNode (F.chip flash.old) }

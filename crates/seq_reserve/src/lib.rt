@@ -23,7 +23,7 @@
 //!    (`published`). Whoever puts other records into `store` keeps it, if they say no mark.
 //! 2. The keeper is that of the words that `start` gave with it (`made`).
 //! 3. The counter begins at the stored mark (`opened`), and between any two steps of threads it is at most the mark (`in_order` of `Stands` in
-//!    `seq_word`; `order` of `close`).
+//!    `seq_word`; `order` of `close`), and the mark at most 256 above it, but while both move to a new IV Index (`mark_is_near`; `near` of `close`).
 //! 4. After each call every image of the flash recovers the published mark or a higher one (`IsDurable`: `durable`), and at no moment of it a
 //!    lower one than the stored mark of before (`cut.mark` of `refill`).
 //! 5. A refill leaves the IV state, and its mark is 256 higher (`fill_of`: `filled`, `puts.kept` of `refill`). A mark is a word under the transmit IV Index
@@ -41,8 +41,8 @@
 //! 1. **Reserved**: from the published mark on, and below the mark of a Numbers record that is being put. `refill` and `move_iv` begin that; a
 //!    cut leaves the mark of before, or this one (`cut.any_moment` of `refill`, `IsPut`).
 //! 2. **Durable**: each image of the flash recovers a mark above it. The same calls, when their record is put (`durable`, `IsDurable`).
-//! 3. **Published**: below the keeper's mark, and not below the counter. The same calls, and only then, by `publish` of `seq_word` (`filled`,
-//!    `advanced`; `value` of `publish`).
+//! 3. **Published**: below the keeper's mark, and not below the counter. The same calls, and only then: `refill` by `publish` of `seq_word`,
+//!    `move_iv` by `advance` (`filled`, `advanced`; `value` of `publish`, `mark` of `advance`).
 //! 4. **Drawn**: it was the counter, below the mark that was published, and stands once in the list of one seat. A bearer by its seat, with
 //!    `draw` of `seq_word` and without the lock (`found`, `drawn`, `above` of `draw`; `drawn_once`, a law there).
 //! 5. **Sealed**: a line has it, and shows the octets of its PDU. The same bearer, by `drawn_line` of `job_sealing` (`drawn`, `shows`). In a
@@ -50,7 +50,9 @@
 //! 6. **Passed over**: below the counter and not drawn, since the counter went on to a new IV Index. `move_iv`, by `advance` of `seq_word`
 //!    (`advanced`; `noted` of `advance`, `all` of `close`).
 //! 7. **Lost**: below the mark that the next life opens at, and not sealed. A power cut: the counter then begins there (`opened`), and what is
-//!    drawn from then on is at or above it (`since` of `close`). So what was drawn before the cut isn't drawn again either.
+//!    drawn from then on is at or above it (`since` of `close`). So what was drawn before the cut isn't drawn again either. Those below the
+//!    published mark that hadn't been drawn are at most 256, of words that are closed (`near` of `close`); where the cut fell in a Numbers
+//!    record, those that it reserves may be lost too (1).
 //!
 //! SEQ 2^24 is no number: a mark may have it, and from a counter that stands there nothing is drawn (`unspent` of `draw`).
 #![tactic(auto)]
@@ -61,5 +63,4 @@ mod records;
 mod reserve;
 
 pub use keep_fault::KeepFault;
-pub use records::BLOCK;
 pub use reserve::Reserve;

@@ -14,10 +14,7 @@ ghost use Rattle.store_definitions.specs.Ranges.{IsInRange, IsMark};
 use mesh_base::iv_state::IvState;
 use node_records::Persist;
 use record_types::records::StoreRecord;
-use seq_word::word::WORDS_PER_IV;
-
-/// How many numbers a refill reserves.
-pub const BLOCK: u64 = 256;
+use seq_word::word::{BLOCK, WORDS_PER_IV};
 
 /// The record of a refill: the IV state as it is, and the mark a block higher.
 pub(crate) fn fill_record(p: &Persist) -> StoreRecord

@@ -11,7 +11,7 @@ ghost use Rattle.node_store.specs.Writing.{CostsCalls, CutLeaves, FailsAtFlash, 
 ghost use Rattle.record_types.specs.declared.records.StoreRecord.{StoreRecord};
 ghost use Rattle.seq_reserve.specs.Reserving.{first_word, IsDurable, IsPublished, moving, refilling};
 ghost use Rattle.seq_word.specs.Seen.{fresh};
-ghost use Rattle.seq_word.specs.Word.{seq_of, IsWord};
+ghost use Rattle.seq_word.specs.Word.{seq_of};
 ghost use Rattle.store_definitions.specs.Numbers.{fill_of, moved};
 ghost use Rattle.store_world.specs.Standing.{GoesBy, IsWorldOf};
 
@@ -21,7 +21,7 @@ use crate::records::{fill_record, move_record, raises};
 use flash_model::Flash;
 use mesh_base::iv_state::IvState;
 use node_store::Store;
-use seq_word::{Drawer, Keeper, Numbers};
+use seq_word::{Drawer, Dry, Keeper, Numbers};
 use std::alloc::{AllocError, Global};
 
 /// The store of a node, and the seat that moves the mark of its numbers. The flash stays with the caller, and so do the words that the
@@ -47,26 +47,29 @@ impl Reserve {
         ensures published { IfOk result (λ t. IsPublished t.0.store t.0.keeper) }
     {
         let mark = store.persist().mark;
-        let (numbers, keeper, drawer) = Numbers::start(alloc, mark, mark)?;
+        let (numbers, keeper, drawer) = Numbers::start(alloc, mark)?;
         Ok((Reserve { store, keeper }, numbers, drawer))
     }
 
-    /// Reserves 256 numbers more where `seen` is the keeper's mark: a mark that much higher becomes durable under the stored IV state, and is
-    /// published only then (`filled`, `durable`). Where `seen` is another mark a refill came between, and nothing changes (`nothing`). It
-    /// answers the keeper's mark (`value`).
+    /// Reserves 256 numbers more where the mark that a draw reached is the keeper's: a mark that much higher becomes durable under the stored
+    /// IV state, and is published only then (`filled`, `durable`). Where it is another mark a refill came between, and nothing changes
+    /// (`nothing`). It answers the keeper's mark (`value`).
+    ///
+    /// It takes what the draw answered: so none is stored without one, and the mark is at most 256 above the counter (`near` of `close`).
     ///
     /// # Errors
     ///
     /// After each the keeper's mark and what the store says are as before (`refused`), so that draws go on below that mark.
     ///
-    /// - `Closed` where an earlier write failed and `seen` is the keeper's mark: nothing changes (`closed`). Mount the flash again.
+    /// - `Closed` where an earlier write failed and that mark is the keeper's: nothing changes (`closed`). Mount the flash again.
     /// - `Flash` where the flash failed in this call: the store is closed from then on (`fails.cause`). The flash may hold the higher mark, or not.
     ///
     /// # Asks
     ///
     /// - `made`: `n` was made with this reserve, by `start`; each call keeps it so (`made`).
     /// - `published`: the keeper's mark is the stored one. `start` gives it, and each call keeps it (`published`).
-    /// - `unspent`: SEQ of `seen` is below 2^24; else its IV Index has no number left. A mark that a draw told may have that SEQ where it was
+    /// - `reached`: `dry` is of a draw at `n`.
+    /// - `unspent`: SEQ of its mark is below 2^24; else the IV Index has no number left. A mark that a draw told may have that SEQ where it was
     ///   seen before the counter moved on: don't refill then, but draw again, as `draw` of `node_bearer` does.
     ///
     /// The clauses on content are of a store of this flash (`IsStoreOf`; `puts.kept`).
@@ -74,44 +77,46 @@ impl Reserve {
         &mut self,
         n: &Numbers,
         flash: &mut F,
-        seen: u64,
+        dry: Dry,
     ) -> Result<u64, KeepFault>
         requires made { self.old.keeper.which ≡ n.now.which }
+        requires reached { dry.which ≡ n.now.which }
         requires published { IsPublished self.old.store self.old.keeper }
-        requires unspent { seq_of seen < 2 ^ 24 }
+        requires unspent { seq_of dry.mark < 2 ^ 24 }
 
         ensures value { IfOk result (λ mark. mark ≡ self.new.keeper.mark) }
-        ensures nothing { seen ≢ self.old.keeper.mark
+        ensures nothing { dry.mark ≢ self.old.keeper.mark
             → OnlyAnswers result (Ok self.old.keeper.mark) self.old self.new flash.old flash.new }
-        ensures closed { seen ≡ self.old.keeper.mark → self.old.store.journal.closed ≡ true
+        ensures closed { dry.mark ≡ self.old.keeper.mark → self.old.store.journal.closed ≡ true
             → OnlyAnswers result (Err KeepFault.Closed) self.old self.new flash.old flash.new }
-        ensures fails { seen ≡ self.old.keeper.mark → self.old.store.journal.closed ≡ false
+        ensures fails { dry.mark ≡ self.old.keeper.mark → self.old.store.journal.closed ≡ false
             → FailsAtFlash result KeepFault.Flash (F.chip flash.old) (F.chip flash.new) self.new.store }
         ensures refused { OnErr result
             ((self.new.keeper ≡ self.old.keeper) × (self.new.store.persist ≡ self.old.store.persist)) }
-        ensures filled { seen ≡ self.old.keeper.mark
-            → OnOk result (self.new.keeper ≡ record self.old.keeper { mark = seen + 256 }) }
-        ensures puts { seen ≡ self.old.keeper.mark
+        ensures filled { dry.mark ≡ self.old.keeper.mark
+            → OnOk result (self.new.keeper ≡ record self.old.keeper { mark = dry.mark + 256 }) }
+        ensures puts { dry.mark ≡ self.old.keeper.mark
             → OnOk result
             (Puts (fill_of (config_in self.old.store.persist) ∷ []) (F.chip flash.old) (F.chip flash.new) self.old.store
             self.new.store) }
-        ensures used { seen ≡ self.old.keeper.mark
+        ensures used { dry.mark ≡ self.old.keeper.mark
             → OnOk result (self.new.store.journal.used ≡ used_with_room self.old.store + 1) }
         ensures steps { (w : World) → IsWorldOf w self.old.store.persist self.old.keeper.mark
-            → seen ≡ self.old.keeper.mark
+            → dry.mark ≡ self.old.keeper.mark
             → OnOk result (GoesBy (refilling self.old.store.persist) w self.new.store.persist self.new.keeper.mark) }
         ensures cut { CutLeaves (λ records. IsPut records (fill_of (config_in self.old.store.persist)))
             (F.chip flash.old) (F.chip flash.new) self.old.store }
         ensures durable { (records : List StoreRecord) → IsStoreOf (F.chip flash.old) self.old.store records
             → IsDurable (F.chip flash.new) self.new.keeper.mark }
         // over a steady flash: the calls of one record put
-        ensures costs { seen ≡ self.old.keeper.mark → IsTrue (F.chip flash.old).steady
+        ensures costs { dry.mark ≡ self.old.keeper.mark → IsTrue (F.chip flash.old).steady
             → CostsCalls (calls_of self.old.store) result (F.chip flash.old) (F.chip flash.new) }
         ensures leaves { LeavesFlash result (F.chip flash.old) (F.chip flash.new) }
         // for the next call
         ensures published { IsPublished self.new.store self.new.keeper }
         ensures made { self.new.keeper.which ≡ self.old.keeper.which }
     {
+        let seen = dry.mark();
         let mark = self.store.persist().mark;
         if seen != mark {
             return Ok(mark);
@@ -119,7 +124,7 @@ impl Reserve {
         let item = fill_record(self.store.persist());
         put_numbers(&mut self.store, flash, &item)?;
         let mark = self.store.persist().mark;
-        n.publish(&mut self.keeper, mark);
+        n.publish(&mut self.keeper, dry);
         Ok(mark)
     }
 
@@ -186,27 +191,23 @@ impl Reserve {
         let rises = raises(self.store.persist(), to);
         let item = move_record(self.store.persist(), to);
         put_numbers(&mut self.store, flash, &item)?;
-        let mark = self.store.persist().mark;
-        go_on(n, &mut self.keeper, rises, mark, to.transmit());
+        go_on(n, &mut self.keeper, rises, to.transmit());
         Ok(())
     }
 }
 
-/// Where the transmit IV Index rises to `iv`, publishes the mark under it, and then moves the counter there.
-fn go_on(n: &Numbers, keeper: &mut Keeper, rises: bool, mark: u64, iv: u32)
+/// Where the transmit IV Index rises to `iv`, publishes the first word under it as the mark, and then moves the counter there.
+fn go_on(n: &Numbers, keeper: &mut Keeper, rises: bool, iv: u32)
     requires made { keeper.old.which ≡ n.now.which }
-    requires word { IsWord mark }
-    requires up { keeper.old.mark ≤ mark }
-    requires marked { rises ≡ true → iv * 2 ^ 25 ≤ mark }
+    requires up { rises ≡ true → keeper.old.mark ≤ iv * 2 ^ 25 }
 
     ensures stays { rises ≡ false → keeper.new ≡ keeper.old }
-    ensures published { rises ≡ true → keeper.new.mark ≡ mark }
+    ensures published { rises ≡ true → keeper.new.mark ≡ iv * 2 ^ 25 }
     ensures advanced { rises ≡ true
         → (found : ℕ) × (keeper.new.advances ≡ keeper.old.advances ++ (found, iv * 2 ^ 25) ∷ []) }
     ensures frame { keeper.new.which ≡ keeper.old.which }
 {
     if rises {
-        n.publish(keeper, mark);
         n.advance(keeper, iv);
     }
 }

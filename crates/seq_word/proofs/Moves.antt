@@ -1,8 +1,10 @@
 -- Each step keeps the running rule.
 use Rattle.std.proofs.Common.{◌≡◌, ◌≢◌, ◌⊎◌, ℕ, zero, suc, ◌+◌, ◌-◌, ◌%◌, ◌<◌, ◌≤◌, Bool, true, false, true≢false, List, [], ◌∷◌, ◌++◌, set, refl, sym, ap, ◌∙◌, subst, ⊎_elim, inl, inr, arith}
 use Rattle.std.specs.Prelude.{◌==◌, ◌||◌, ◌&&◌, nat_le, nat_lt, ◌^◌, cond, max, slice_index, All, sum_by}
+use Rattle.std.specs.List.{Contains}
+use Rattle.std.proofs.lemmas.List.{append-nil}
 use Rattle.std.proofs.lemmas.List.Sums.{sum_by-append, sum_by_push}
-use Rattle.std.proofs.lemmas.List.Elements.{All-append, All-push, All-nil, All-tail, All-weaker}
+use Rattle.std.proofs.lemmas.List.Elements.{All-append, All-push, All-nil, All-tail, All-weaker, All-contains}
 use mathlib.Core.Option.{some, none, some-ne-none, some-injective}
 use native.Mathlib.Decide.{dec_le, ℕ_discrete}
 use prog.Atomic.{either}
@@ -13,7 +15,7 @@ use Rattle.seq_word.specs.declared.looks.Look.{Look}
 use Rattle.seq_word.specs.declared.looks.Look.TheVariants as saw
 use Rattle.seq_word.specs.declared.rule.View.{View}
 use Rattle.seq_word.specs.Word.{IsWord, seq_of}
-use Rattle.seq_word.specs.Rule.{times, once_below, passed_over, gone, drawn_here, IsReached, HasReached, IsEndOf, IsOver, IsPast, IsWithin, Fits, Stands, Ruled, nobody, first_keeper, without_parts, first_drawer, part_of, keeping, split_off, both, seeing, drawing, publishing, advancing, IsLastSeen, SeesMark, SeesNext, Draws, Publishes, Advances, DrawnOnce}
+use Rattle.seq_word.specs.Rule.{times, once_below, passed_over, gone, drawn_here, IsReached, HasReached, IsEndOf, IsOver, IsPast, IsWithin, Fits, Stands, Ruled, nobody, first_keeper, without_parts, first_drawer, part_of, keeping, split_off, witness_of, both, seeing, drawing, publishing, lifting, advancing, IsLastSeen, OnlyKnows, SeesMark, SeesNext, Draws, Publishes, Lifts, Advances, DrawnOnce}
 use Rattle.seq_word.proofs.Sums.{sum_by_at, share_of_one, share_of_two, share_alone, part_of-one, part_of-none, once_below-le, once_below_more, once_below-max, same-one, times_contains}
 
 -- the last two of a list
@@ -36,6 +38,7 @@ fits_later o n m k n' m' k' by v h up up' keeper = record {
   known = All-weaker (IsWithin n m) (IsWithin n' m') (within_later n m n' m' up up') v.known h.known;
   advances = λ i d l. omega (arith, h.advances i d l);
   keeps = λ is. let was = h.keeps is in let now = keeper was.0 in (now.0, was.1 ∙ now.1);
+  near = λ is still. let now = keeper (h.keeps is).0 in omega (arith, h.near is still, now.1);
   plain = h.plain;
   idle = h.idle;
 }
@@ -121,6 +124,7 @@ fits_seeing o n m k by v look within fits = record {
   known = fits.known;
   advances = fits.advances;
   keeps = fits.keeps;
+  near = fits.near;
   plain = fits.plain;
   idle = fits.idle;
 }
@@ -184,6 +188,7 @@ drawn_now o n m k views id v h at is below unspent =
       known = later.known;
       advances = later.advances;
       keeps = later.keeps;
+      near = later.near;
       plain = later.plain;
       idle = λ off. absurd (true≢false (sym is ∙ off));
     })
@@ -211,41 +216,52 @@ draws {S} o slots id me earlier old mark is last below unspent =
     same : (n : ℕ) → n ≤ n
     same n = omega arith
 
--- the keeper publishes a higher mark
-pub publishes : {S : Type 0} (o slots id : ℕ) (me : Me S View) (mark : ℕ) → me.0.keeps ≡ true → me.0.mark ≤ mark → IsWord mark
-    → Allows (Ruled o) slots id me 1 (λ _. mark) (λ _. Publishes (step slots 1 mark 0 none) me mark)
-publishes {S} o slots id me mark is up word =
-    goes_mark o slots id me (λ _. mark) (λ _. Publishes (step slots 1 mark 0 none) me mark)
-    (λ n m k views h at.
-    let v = me.0 in
+-- the keeper's mark goes up, and it is still or moves then; where it is still the mark is near the counter
+marks : (o n m k : ℕ) (views : List View) (id : ℕ) (v : View) (mark : ℕ) (moving : Bool) → Stands o n m k views → get_elem? views id ≡ some v → v.keeps ≡ true → v.mark ≤ mark → IsWord mark
+    → (moving ≡ false → mark ≤ n + 256) → Stands o n mark k (set views id (record v { mark = mark; lifted = moving }))
+marks o n m k views id v mark moving h at is up word near =
     let fits = h.each id v at in
     let keeper = fits.keeps is in
-    let rises : m ≤ mark = omega (arith, keeper.1) in (
-      publishing v mark,
-      moves o n m k n mark k views id v (publishing v mark) h at h.counter_word word (omega arith) rises (omega (arith, h.in_order)) (λ j apart e. absurd (apart (e ∙ sym keeper.0))) (λ x. refl) refl refl
-          (grows v mark)
-          (reached_later o views (set views id (publishing v mark)) n (more_drawn views id v (publishing v mark) at (grows v mark)) h.reached)
-          (looks_later o views (set views id (publishing v mark)) (more_drawn views id v (publishing v mark) at (grows v mark)) v.looks (h.found id v at))
-          (record {
-            since = fits.since;
-            drawn = fits.drawn;
-            raised = fits.raised;
-            noted = fits.noted;
-            looks = All-weaker (IsWithin n m) (IsWithin n mark) (within_later n m n mark (omega arith) rises) v.looks fits.looks;
-            known = All-weaker (IsWithin n m) (IsWithin n mark) (within_later n m n mark (omega arith) rises) v.known fits.known;
-            advances = fits.advances;
-            keeps = λ _. (keeper.0, refl);
-            plain = fits.plain;
-            idle = fits.idle;
-          }),
-      refl,
-    ))
-  where
-    grows : (v : View) (mark : ℕ) (x : ℕ) → times x v.drawn ≤ times x (publishing v mark).drawn
-    grows v mark x = omega arith
+    let rises : m ≤ mark = omega (arith, keeper.1) in
+    let w : View = record v { mark = mark; lifted = moving } in
+    let grows : (x : ℕ) → times x v.drawn ≤ times x w.drawn = λ x. omega arith in
+    let more = more_drawn views id v w at grows in
+    moves o n m k n mark k views id v w h at h.counter_word word (omega arith) rises (omega (arith, h.in_order)) (λ j apart e. absurd (apart (e ∙ sym keeper.0))) (λ x. refl) refl refl
+    grows
+    (reached_later o views (set views id w) n more h.reached)
+    (looks_later o views (set views id w) more v.looks (h.found id v at))
+    (record {
+      since = fits.since;
+      drawn = fits.drawn;
+      raised = fits.raised;
+      noted = fits.noted;
+      looks = All-weaker (IsWithin n m) (IsWithin n mark) (within_later n m n mark (omega arith) rises) v.looks fits.looks;
+      known = All-weaker (IsWithin n m) (IsWithin n mark) (within_later n m n mark (omega arith) rises) v.known fits.known;
+      advances = fits.advances;
+      keeps = λ _. (keeper.0, refl);
+      near = λ _ still. near still;
+      plain = fits.plain;
+      idle = fits.idle;
+    })
 
--- the keeper moves the counter up, within its mark
-pub advances : {S : Type 0} (o slots id : ℕ) (me : Me S View) (to : ℕ) → me.0.keeps ≡ true → to ≤ me.0.mark → IsWord to → seq_of to ≡ 0
+-- the keeper publishes a higher mark, which is near a word that a look found in the counter
+pub publishes : {S : Type 0} (o slots id : ℕ) (me : Me S View) (mark seen : ℕ) → me.0.keeps ≡ true → me.0.mark ≤ mark → IsWord mark → Contains me.0.known (saw.Counter seen) → mark ≤ seen + 256
+    → Allows (Ruled o) slots id me 1 (λ _. mark) (λ _. Publishes (step slots 1 mark 0 none) me mark)
+publishes {S} o slots id me mark seen is up word knows near =
+    goes_mark o slots id me (λ _. mark) (λ _. Publishes (step slots 1 mark 0 none) me mark)
+    (λ n m k views h at.
+    let counted : seen ≤ n = All-contains (IsWithin n m) me.0.known (saw.Counter seen) (h.each id me.0 at).known knows in
+    (publishing me.0 mark, marks o n m k views id me.0 mark me.0.lifted h at is up word (λ _. omega (arith, counted)), refl))
+
+-- the keeper's mark goes to where the counter is to go to
+pub lifts : {S : Type 0} (o slots id : ℕ) (me : Me S View) (mark : ℕ) → me.0.keeps ≡ true → me.0.mark ≤ mark → IsWord mark
+    → Allows (Ruled o) slots id me 1 (λ _. mark) (λ _. Lifts (step slots 1 mark 0 none) me mark)
+lifts {S} o slots id me mark is up word =
+    goes_mark o slots id me (λ _. mark) (λ _. Lifts (step slots 1 mark 0 none) me mark)
+    (λ n m k views h at. (lifting me.0 mark, marks o n m k views id me.0 mark true h at is up word (λ e. absurd (true≢false e)), refl))
+
+-- the keeper moves the counter up, to its mark
+pub advances : {S : Type 0} (o slots id : ℕ) (me : Me S View) (to : ℕ) → me.0.keeps ≡ true → me.0.mark ≡ to → IsWord to → seq_of to ≡ 0
     → Allows (Ruled o) slots id me 0 (λ n. max n to) (Advances (step slots 0 to 0 none) me)
 advances {S} o slots id me to is within word first =
     goes_counter o slots id me (λ n. max n to) (Advances (step slots 0 to 0 none) me)
@@ -276,6 +292,7 @@ advances {S} o slots id me to is within word first =
             known = later.known;
             advances = All-push (λ a. a.1 ≤ n') v.advances (n, to) later.advances (omega arith);
             keeps = later.keeps;
+            near = λ _ _. omega (arith, keeper.1);
             plain = λ not. absurd (true≢false (sym is ∙ not));
             idle = later.idle;
           }),
@@ -305,22 +322,23 @@ fits_nobody o n m k by = record {
   known = All-nil (IsWithin n m);
   advances = All-nil (λ a. a.1 ≤ n);
   keeps = λ e. absurd (off e);
+  near = λ e. absurd (off e);
   plain = λ _. refl;
   idle = λ _. refl;
 }
 
 -- the words at the start, with the keeper's seat
-pub begins : {S : Type 0} (next mark : ℕ) → IsWord next → IsWord mark → next ≤ mark → Ruled next (opening {S = S} (next ∷ mark ∷ []) [] (first_keeper mark))
-begins {S} next mark nw mw order = record {
-  next = next;
-  mark = mark;
+pub begins : {S : Type 0} (first : ℕ) → IsWord first → Ruled first (opening {S = S} (first ∷ first ∷ []) [] (first_keeper first))
+begins {S} first word = record {
+  next = first;
+  mark = first;
   keeper = 0;
   words = refl;
-  stands = record { counter_word = nw; mark_word = mw; in_order = order; opening = omega arith; once = λ x. omega arith; each = first_only; reached = λ _. inl refl; found = none_seen; parts = omega arith; lost = none_draws };
+  stands = record { counter_word = word; mark_word = word; in_order = omega arith; opening = omega arith; once = λ x. omega arith; each = first_only; reached = λ _. inl refl; found = none_seen; parts = omega arith; lost = none_draws };
 }
   where
-    keeper_fits : Fits next next mark 0 0 (first_keeper mark)
-    keeper_fits = let none = fits_nobody next next mark 0 0 in record {
+    keeper_fits : Fits first first first 0 0 (first_keeper first)
+    keeper_fits = let none = fits_nobody first first first 0 0 in record {
       since = none.since;
       drawn = none.drawn;
       raised = none.raised;
@@ -329,20 +347,21 @@ begins {S} next mark nw mw order = record {
       known = none.known;
       advances = none.advances;
       keeps = λ _. (refl, refl);
+      near = λ _ _. omega arith;
       plain = λ _. refl;
       idle = λ _. refl;
     }
 
-    first_only : (by : ℕ) (v : View) → get_elem? (first_keeper mark ∷ []) by ≡ some v → Fits next next mark 0 by v
-    first_only zero v e = subst (Fits next next mark 0 0) (some-injective _ _ e) keeper_fits
+    first_only : (by : ℕ) (v : View) → get_elem? (first_keeper first ∷ []) by ≡ some v → Fits first first first 0 by v
+    first_only zero v e = subst (Fits first first first 0 0) (some-injective _ _ e) keeper_fits
     first_only (suc by) v e = absurd (some-ne-none v (sym e))
 
-    none_seen : (by : ℕ) (v : View) → get_elem? (first_keeper mark ∷ []) by ≡ some v → All (HasReached next (first_keeper mark ∷ [])) v.looks
-    none_seen zero v e = subst (λ (u : View). All (HasReached next (first_keeper mark ∷ [])) u.looks) (some-injective _ _ e) (All-nil (HasReached next (first_keeper mark ∷ [])))
+    none_seen : (by : ℕ) (v : View) → get_elem? (first_keeper first ∷ []) by ≡ some v → All (HasReached first (first_keeper first ∷ [])) v.looks
+    none_seen zero v e = subst (λ (u : View). All (HasReached first (first_keeper first ∷ [])) u.looks) (some-injective _ _ e) (All-nil (HasReached first (first_keeper first ∷ [])))
     none_seen (suc by) v e = absurd (some-ne-none v (sym e))
 
-    none_draws : (by : ℕ) (v : View) → get_elem? (first_keeper mark ∷ []) by ≡ some v → v.draws ≡ true → v.parts ≡ 0 → sum_by parts_of (first_keeper mark ∷ []) < 1024
-    none_draws zero v e is empty = let first : first_keeper mark ≡ v = some-injective _ _ e in absurd (off (ap (λ u. u.draws) first ∙ is))
+    none_draws : (by : ℕ) (v : View) → get_elem? (first_keeper first ∷ []) by ≡ some v → v.draws ≡ true → v.parts ≡ 0 → sum_by parts_of (first_keeper first ∷ []) < 1024
+    none_draws zero v e is empty = let only : first_keeper first ≡ v = some-injective _ _ e in absurd (off (ap (λ u. u.draws) only ∙ is))
     none_draws (suc by) v e is empty = absurd (some-ne-none v (sym e))
 
 -- a seat is cut in two
@@ -409,8 +428,27 @@ fits_drawer o n m k by parts noted known below within =
       known = within;
       advances = none.advances;
       keeps = none.keeps;
+      near = none.near;
       plain = λ _. refl;
       idle = λ _. refl;
+    }
+
+-- a seat that knows looks alone
+fits_witness : (o n m k by : ℕ) (known : List Look) → All (IsWithin n m) known → Fits o n m k by (record nobody { known = known })
+fits_witness o n m k by known within =
+    let none = fits_nobody o n m k by in
+    record {
+      since = none.since;
+      drawn = none.drawn;
+      raised = none.raised;
+      noted = none.noted;
+      looks = none.looks;
+      known = within;
+      advances = none.advances;
+      keeps = none.keeps;
+      near = none.near;
+      plain = none.plain;
+      idle = none.idle;
     }
 
 -- a view with other parts
@@ -424,6 +462,7 @@ fits_parts o n m k by parts v fits = record {
   known = fits.known;
   advances = fits.advances;
   keeps = fits.keeps;
+  near = fits.near;
   plain = fits.plain;
   idle = fits.idle;
 }
@@ -464,6 +503,28 @@ splits {S} o id v is s h at =
           (λ _ empty. let none_left : part_of v.parts ≡ 0 = empty in ⊎_elim lost (λ more. absurd (omega (arith, none_left, part_of-one v.parts more))) (few_or_more v.parts (dec_le v.parts 1)));
     }
 
+-- a seat that knows looks alone is split off a drawer's
+pub witnesses : {S : Type 0} (o id : ℕ) (v : View) → v.draws ≡ true → Splits {S = S} (Ruled o) id v v (witness_of v)
+witnesses {S} o id v is s h at =
+    let st = h.stands in
+    let fits = st.each id v at in
+    record {
+      next = h.next;
+      mark = h.mark;
+      keeper = h.keeper;
+      words = h.words;
+      stands = cuts o h.next h.mark h.keeper s.views id v v (witness_of v) st at
+          (λ x. omega arith)
+          fits
+          (λ by. fits_witness o h.next h.mark h.keeper by (v.known ++ v.looks) (All-append (IsWithin h.next h.mark) v.known v.looks fits.known fits.looks))
+          refl
+          refl
+          refl
+          (omega arith)
+          (λ _ empty. omega (arith, st.lost id v at is empty))
+          (λ draws _. absurd (off draws));
+    }
+
 -- the first drawer's seat is split off the keeper's
 pub opens : {S : Type 0} (o id : ℕ) (v : View) → v.draws ≡ false → 0 < v.parts → Splits {S = S} (Ruled o) id v (without_parts v) (first_drawer v)
 opens {S} o id v not some_part s h at =
@@ -488,9 +549,9 @@ opens {S} o id v not some_part s h at =
 
 -- a seat takes in another, as `both`
 glues : (o n m k k' : ℕ) (views : List View) (id other : ℕ) (v w : View) → Stands o n m k views → get_elem? views id ≡ some v → other ≢ id → get_elem? (set views id (both v w)) other ≡ some w
-    → ((both v w).keeps ≡ true → (id ≡ k') × ((both v w).mark ≡ m)) → ((j : ℕ) → j ≢ id → j ≢ other → j ≡ k → j ≡ k')
+    → ((both v w).keeps ≡ true → (id ≡ k') × ((both v w).mark ≡ m)) → ((both v w).keeps ≡ true → (both v w).lifted ≡ false → m ≤ n + 256) → ((j : ℕ) → j ≢ id → j ≢ other → j ≡ k → j ≡ k')
     → Stands o n m k' (set (set views id (both v w)) other nobody)
-glues o n m k k' views id other v w h at apart there mine others =
+glues o n m k k' views id other v w h at apart there mine near others =
     let fits = h.each id v at in
     let theirs = ⊎_elim (λ (t : (other ≡ id) × (both v w ≡ w)). absurd (apart t.0)) (λ (t : (other ≢ id) × (get_elem? views other ≡ some w)). h.each other w t.1) (at_set views id other (both v w) w there) in
     let joined : Fits o n m k' id (both v w) = record {
@@ -502,6 +563,7 @@ glues o n m k k' views id other v w h at apart there mine others =
       known = All-append (IsWithin n m) v.known w.known fits.known theirs.known;
       advances = All-append (λ a. a.1 ≤ n) v.advances w.advances fits.advances theirs.advances;
       keeps = mine;
+      near = near;
       plain = λ not. let each = neither v.keeps w.keeps not in no_more v.advances w.advances (fits.plain each.0) (theirs.plain each.1);
       idle = λ not. let each = neither v.draws w.draws not in no_more v.drawn w.drawn (fits.idle each.0) (theirs.idle each.1);
     } in
@@ -570,19 +632,24 @@ joins_as o n m k views id other v w true is h at apart there =
       id,
       glues o n m k id views id other v w h at apart there
           (λ _. (refl, subst (λ b. cond b w.mark v.mark ≡ m) (sym is) keeper.1))
+          (λ _ still. theirs.near is (subst (λ b. cond b w.lifted v.lifted ≡ false) is still))
           (λ j _ not_other e. absurd (not_other (e ∙ sym keeper.0))),
     )
 joins_as o n m k views id other v w false is h at apart there =
     let fits = h.each id v at in (
       k,
       glues o n m k k views id other v w h at apart there
-          (λ e. let kept = fits.keeps (subst (λ b. (v.keeps || b) ≡ true → v.keeps ≡ true) (sym is) (or_false v.keeps) e) in (kept.0, subst (λ b. cond b w.mark v.mark ≡ m) (sym is) kept.1))
+          (λ e. let kept = fits.keeps (keeps_alone e) in (kept.0, subst (λ b. cond b w.mark v.mark ≡ m) (sym is) kept.1))
+          (λ e still. fits.near (keeps_alone e) (subst (λ b. cond b w.lifted v.lifted ≡ false) is still))
           (λ j _ _ e. e),
     )
   where
     or_false : (b : Bool) → (b || false) ≡ true → b ≡ true
     or_false true e = refl
     or_false false e = e
+
+    keeps_alone : (v.keeps || w.keeps) ≡ true → v.keeps ≡ true
+    keeps_alone = subst (λ b. (v.keeps || b) ≡ true → v.keeps ≡ true) (sym is) (or_false v.keeps)
 
 pub joins : {S : Type 0} (o id : ℕ) (v : View) (other : ℕ) (w : View) → Joins {S = S} (Ruled o) id v other w (both v w) nobody
 joins {S} o id v other w s h at apart there =
@@ -603,6 +670,26 @@ others_idle o n m k views id v h at keeper whole x by u apart bt =
     not_true : (b : Bool) → (b ≡ true → ⊥) → b ≡ false
     not_true true h = absurd (h refl)
     not_true false h = refl
+
+-- a seat that takes in one that knows looks alone: it knows these too
+pub both_knows : (v w : View) → OnlyKnows w → ◌≡◌ {A = View} (both v w) (record v { known = v.known ++ w.known })
+both_knows v w only = ap (both v) only ∙ alone (omega arith) where
+  or_false : (b : Bool) → (b || false) ≡ b
+  or_false true = refl
+  or_false false = refl
+
+  alone : v.parts + 0 ≡ v.parts → ◌≡◌ {A = View} (both v (record nobody { known = w.known })) (record v { known = v.known ++ w.known })
+  alone same = λ i. record v {
+    keeps = or_false v.keeps i;
+    draws = or_false v.draws i;
+    parts = same i;
+    advances = append-nil v.advances i;
+    drawn = append-nil v.drawn i;
+    raised = append-nil v.raised i;
+    noted = append-nil v.noted i;
+    looks = append-nil v.looks i;
+    known = v.known ++ w.known;
+  }
 
 pub both_keeps : (v w : View) → w.keeps ≡ true → (both v w).keeps ≡ true
 both_keeps v w is = ap (λ b. v.keeps || b) is ∙ any v.keeps

@@ -73,6 +73,8 @@ pub record Fits (opened next mark keeper by : ℕ) (v : View) : Type 0 where
   pub advances : All (λ a. a.1 ≤ next) v.advances
   -- only the keeper's seat keeps a mark, and that is the mark
   pub keeps : v.keeps ≡ true → (by ≡ keeper) × (v.mark ≡ mark)
+  -- the mark is at most a block above the counter, but while the keeper moves both to a new IV Index
+  pub near : v.keeps ≡ true → v.lifted ≡ false → mark ≤ next + 256
   -- no other seat has advanced the counter, and only a drawer's has drawn
   pub plain : v.keeps ≡ false → v.advances ≡ []
   pub idle : v.draws ≡ false → v.drawn ≡ []
@@ -108,6 +110,7 @@ nobody =
     record {
       keeps = false;
       mark = 0;
+      lifted = false;
       advances = [];
       draws = false;
       parts = 0;
@@ -148,11 +151,16 @@ split_off v =
       known = v.known ++ v.looks;
     }
 
+-- what a seat knows that is split off to show what was seen: the looks at the other seat, or known there. It never draws
+abbrev pub witness_of : View → View
+witness_of v = record nobody { known = v.known ++ v.looks }
+
 -- two seats as one, which keeps the mark where one of them did
 abbrev pub both : View → View → View
 both v w = record {
   keeps = v.keeps || w.keeps;
   mark = if w.keeps then w.mark else v.mark;
+  lifted = if w.keeps then w.lifted else v.lifted;
   advances = v.advances ++ w.advances;
   draws = v.draws || w.draws;
   parts = v.parts + w.parts;
@@ -173,8 +181,13 @@ drawing v word after = record v { drawn = v.drawn ++ word ∷ []; raised = v.rai
 abbrev pub publishing : View → ℕ → View
 publishing v mark = record v { mark = mark }
 
+-- the mark is where the counter is to go to
+abbrev pub lifting : View → ℕ → View
+lifting v mark = record v { mark = mark; lifted = true }
+
+-- and the counter is there
 abbrev pub advancing : View → ℕ → ℕ → View
-advancing v from to = record v { advances = v.advances ++ (from, to) ∷ [] }
+advancing v from to = record v { advances = v.advances ++ (from, to) ∷ []; lifted = false }
 
 -- The seat's last look was at the counter, where it found this word, and the one before at a mark above that
 pub record IsLastSeen (word : ℕ) (v : View) : Type 0 where
@@ -212,13 +225,18 @@ module _ {S : Type 0} where
   abbrev pub Publishes : Step S → Me S View → ℕ → Me S View → Type 0
   Publishes st v found w = w ≡ (publishing v.0 st.first, v.1)
 
-  -- a fetch_max on the counter: the word found is noted, with the one that the counter was moved to
+  -- a store on the mark, of the word that the counter is to go to: it is the keeper's mark, and the keeper moves
+  abbrev pub Lifts : Step S → Me S View → ℕ → Me S View → Type 0
+  Lifts st v found w = w ≡ (lifting v.0 st.first, v.1)
+
+  -- a fetch_max on the counter, to the mark: the word found is noted, with the one that the counter was moved to
   abbrev pub Advances : Step S → Me S View → ℕ → Me S View → Type 0
   Advances st v found w = w ≡ (advancing v.0 found st.first, v.1)
 
--- a seat that keeps the mark, has no parts, and has drawn and seen nothing; each of its advances went to SEQ 0
+-- a seat that keeps the mark, isn't moving, has no parts, and has drawn and seen nothing; each of its advances went to SEQ 0
 pub record OnlyKeeps (v : View) : Type 0 where
   pub keeps : v.keeps ≡ true
+  pub still : v.lifted ≡ false
   pub firsts : All (λ a. seq_of a.1 ≡ 0) v.advances
   pub parts : v.parts ≡ 0
   pub drawn : v.drawn ≡ []
@@ -232,6 +250,10 @@ pub record OnlyDraws (v : View) : Type 0 where
   pub draws : v.draws ≡ true
   pub advances : v.advances ≡ []
 
+-- a seat that knows looks and nothing else
+abbrev pub OnlyKnows : View → Type 0
+OnlyKnows v = v ≡ record nobody { known = v.known }
+
 -- no two places of the drawn lists, of one seat or of two, hold one word
 abbrev pub DrawnOnce : List View → Type 0
 DrawnOnce views =
@@ -244,3 +266,9 @@ MarkIsKept s =
     (by by' : ℕ) (v w : View) → get_elem? s.views by ≡ some v → get_elem? s.views by' ≡ some w → v.keeps ≡ true
     → w.keeps ≡ true
     → (by ≡ by') × (slice_index s.words 1 ≡ v.mark)
+
+-- the second word is at most 256 above the first, but while the keeper's seat moves both
+abbrev pub MarkIsNear : {S : Type 0} → State S View → Type 0
+MarkIsNear s =
+    (by : ℕ) (v : View) → get_elem? s.views by ≡ some v → v.keeps ≡ true → v.lifted ≡ false
+    → slice_index s.words 1 ≤ slice_index s.words 0 + 256

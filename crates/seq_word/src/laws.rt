@@ -4,7 +4,7 @@
 ghost use Rattle.std.specs.Prelude.{◌≢◌, ℕ, ◌≤◌, AllPairs, List};
 ghost use Rattle.atomic_table.specs.Table.{State};
 ghost use Rattle.seq_word.specs.declared.rule.View.{View};
-ghost use Rattle.seq_word.specs.Rule.{times, Ruled, DrawnOnce, MarkIsKept};
+ghost use Rattle.seq_word.specs.Rule.{times, Ruled, DrawnOnce, MarkIsKept, MarkIsNear};
 
 /// Whatever the words and the seats are between two atomic steps, no two places of the drawn lists, of one seat or of two, hold
 /// one word.
@@ -16,6 +16,12 @@ pub fn drawn_once()
 /// and no other seat is the keeper's.
 pub fn mark_is_kept()
     ensures { (opened : ℕ) (s : State ℕ View) → Ruled opened s → MarkIsKept s }
+{}
+
+/// Whatever the words and the seats are between two atomic steps, the second word is at most 256 above the first, but between the two steps
+/// by which the keeper's seat moves both to a new IV Index.
+pub fn mark_is_near()
+    ensures { (opened : ℕ) (s : State ℕ View) → Ruled opened s → MarkIsNear s }
 {}
 
 /// Where each word stands in a list at most once, by counting, the words at any two of its places differ. Counting doesn't see

@@ -14,9 +14,10 @@ use crate::dry::Dry;
 use crate::keeper::Keeper;
 use crate::miss::{DrawStop, Miss};
 use crate::rule::{
-    Advances, COUNTER, Draws, MARK, Opening, Opens, Publishes, Seats, SeesMark, SeesNext, Words,
+    Advances, COUNTER, Draws, Lifts, MARK, Opening, Opens, Publishes, Seats, SeesMark, SeesNext,
+    Witnesses, Words,
 };
-use crate::word::{SPENT_SEQ, WORDS_PER_IV, pair_of};
+use crate::word::{BLOCK, SPENT_SEQ, WORDS_PER_IV, pair_of};
 use atomic_table::Table;
 use mesh_base::pair::Pair;
 use std::alloc::{AllocError, Global};
@@ -27,8 +28,9 @@ use std::sync::Wait;
 /// The counter, whose word is the next to be drawn, and the mark, a word that no draw reaches. Threads share them by `&`, and
 /// each steps with a seat of its own. Words are those of `crate::word`.
 ///
-/// Between any two atomic steps the counter is at most the mark, and the mark is the keeper's. Each word from the opening on and
-/// below the counter was drawn once, at one seat, or was passed over once, by an advance.
+/// Between any two atomic steps the counter is at most the mark, and the mark is the keeper's. The mark is at most 256 above the counter, but
+/// between the two steps of an advance. Each word from the opening on and below the counter was drawn once, at one seat, or was passed over
+/// once, by an advance.
 #[derive(Drop)]
 pub struct Numbers {
     table: Words,
@@ -40,7 +42,7 @@ impl Model for Numbers {
 
     ghost Value = { NumbersView };
 
-    ghost view = { λ n. record { which = n.table.shared.table_id; opened = n.table.shared.key.next } };
+    ghost view = { λ n. record { which = n.table.shared.table_id; opened = n.table.shared.key.first } };
 
     ghost invariant = { λ n. (n.table.shared.table_id.words ≡ 2) × (n.table.shared.table_id.slots ≡ 0) };
 }
@@ -52,22 +54,16 @@ struct Found {
 }
 
 impl Numbers {
-    /// Opens the counter at `next` under the mark `mark`, both words, with the keeper's seat and a first seat that draws. An error
-    /// says that memory ran out.
-    pub fn start(
-        alloc: Global,
-        next: u64,
-        mark: u64,
-    ) -> Result<(Numbers, Keeper, Drawer), AllocError>
-        requires next_word { IsWord next }
-        requires mark_word { IsWord mark }
-        requires order { next ≤ mark }
+    /// Opens the counter and the mark at `first`, a word, with the keeper's seat and a first seat that draws. So the first draw finds the
+    /// counter at the mark. An error says that memory ran out.
+    pub fn start(alloc: Global, first: u64) -> Result<(Numbers, Keeper, Drawer), AllocError>
+        requires word { IsWord first }
 
-        ensures opened { IfOk result (λ t. t.0.opened ≡ next) }
-        ensures keeper { IfOk result (λ t. t.1 ≡ record { which = t.0.which; mark = mark; advances = [] }) }
+        ensures opened { IfOk result (λ t. t.0.opened ≡ first) }
+        ensures keeper { IfOk result (λ t. t.1 ≡ record { which = t.0.which; mark = first; advances = [] }) }
         ensures drawer { IfOk result (λ t. t.2 ≡ fresh t.0.which [] 1024) }
     {
-        let (table, mut seat) = Table::of_words(alloc, &[next, mark], &Opening { next, mark })?;
+        let (table, mut seat) = Table::of_words(alloc, &[first, first], &Opening { first })?;
         let drawer = Drawer {
             seat: table.shared.split_seat::<Opens>(&mut seat),
         };
@@ -114,7 +110,7 @@ impl Numbers {
             return Err(Miss::Spent { iv: pair.iv });
         }
         if next >= mark {
-            let seat = Snapshot::of(&d.seat);
+            let seat = self.table.shared.split_seat::<Witnesses>(&mut d.seat);
             return Err(Miss::Dry(Dry { next, mark, seat }));
         }
         let words = &self.table.shared;
@@ -157,28 +153,37 @@ impl Numbers {
         unreachable!()
     }
 
-    /// Moves the mark up to `mark`, a word. Publish a mark that is in flash already, since numbers below it are drawn from now on.
-    pub fn publish(&self, k: &mut Keeper, mark: u64)
+    /// Moves the mark up by 256, where a draw found the counter at it: so the mark is at most 256 above the counter. Publish a mark that is in
+    /// flash already, since numbers below it are drawn from now on.
+    ///
+    /// It asks that the words were those of the draw (`reached`), that no refill came between (`at`), and that the new mark is a word (`word`).
+    pub fn publish(&self, k: &mut Keeper, dry: Dry)
         requires made { k.old.which ≡ self.now.which }
-        requires word { IsWord mark }
-        requires up { k.old.mark ≤ mark }
+        requires reached { dry.which ≡ self.now.which }
+        requires at { dry.mark ≡ k.old.mark }
+        requires word { IsWord (dry.mark + 256) }
 
-        ensures value { k.new ≡ record k.old { mark = mark } }
+        ensures value { k.new ≡ record k.old { mark = k.old.mark + 256 } }
     {
+        let Dry { mark, seat, .. } = dry;
         let words = &self.table.shared;
-        words.store::<Publishes>(&mut k.seat, MARK, mark);
+        words.join_seat::<Seats>(&mut k.seat, seat);
+        words.store::<Publishes>(&mut k.seat, MARK, mark + BLOCK);
     }
 
-    /// Moves the counter up to SEQ 0 of the IV Index `iv`, unless it is there or above. What it passes over is never drawn.
+    /// Moves the mark up to SEQ 0 of the IV Index `iv`, and then the counter, unless it is there or above. What it passes over is never drawn.
+    /// Between the two steps the mark may be far above the counter. As with `publish` the mark is to be in flash already.
     pub fn advance(&self, k: &mut Keeper, iv: u32)
         requires made { k.old.which ≡ self.now.which }
-        requires marked { iv * 2 ^ 25 ≤ k.old.mark }
+        requires up { k.old.mark ≤ iv * 2 ^ 25 }
 
+        ensures mark { k.new.mark ≡ iv * 2 ^ 25 }
         ensures noted { (found : ℕ) × (k.new.advances ≡ k.old.advances ++ (found, iv * 2 ^ 25) ∷ []) }
-        ensures frame { (k.new.which ≡ k.old.which) × (k.new.mark ≡ k.old.mark) }
+        ensures frame { k.new.which ≡ k.old.which }
     {
         let to = u64::from(iv) * WORDS_PER_IV;
         let words = &self.table.shared;
+        words.store::<Lifts>(&mut k.seat, MARK, to);
         words.fetch_max::<Advances>(&mut k.seat, COUNTER, to);
     }
 
@@ -224,6 +229,8 @@ impl Numbers {
         ensures words { IsWord result.next × IsWord result.mark }
         ensures order { (self.opened ≤ result.next) × (result.next ≤ result.mark) }
         ensures mark { result.mark ≡ k.mark }
+        // So at most 256 of the numbers below the mark neither were drawn nor passed over.
+        ensures near { result.mark ≤ result.next + 256 }
         ensures advanced { All (λ a. a.1 ≤ result.next) k.advances }
         ensures firsts { All (λ a. seq_of a.1 ≡ 0) k.advances }
 

@@ -1,16 +1,18 @@
 //! The rule of the two words, as `atomic_table` takes it. The definitions stand in `specs/Rule.antt`.
 //!
-//! There are seven kinds of atomic step. Each changes the view of the seat that takes it, and a join that of the other seat too.
+//! There are nine kinds of atomic step. Each changes the view of the seat that takes it, and a join that of the other seat too.
 //!
 //! | Step | Seat | What its view notes |
 //! |---|---|---|
 //! | a load of the mark | a drawer | the mark, among its looks |
 //! | a load of the counter | a drawer | the word, among its looks |
 //! | a compare-exchange on the counter, only from the word last seen there to the next | a drawer | won: the word as drawn, and what it left in the counter; lost: the word found, among its looks |
-//! | a store on the mark | the keeper | the mark as its own |
-//! | a fetch_max on the counter | the keeper | the word found, and the one moved to |
+//! | a store on the mark, at most a block above a word that was seen in the counter | the keeper | the mark as its own |
+//! | a store on the mark, of the word to move to | the keeper | the mark as its own, and that it moves |
+//! | a fetch_max on the counter, to the mark | the keeper | the word found, and the one moved to; it doesn't move any more |
 //! | a split | a drawer | it has one part less; the new seat has that, notes all that was drawn here, or noted, and knows the looks here, or known. At the start the keeper's seat hands all its parts to the first drawer |
-//! | a join | a drawer | all that the other seat knows, and its parts; at the end also the keeper's mark. The other seat is left knowing nothing |
+//! | a split of a witness | a drawer | nothing; the new seat knows the looks here, or known, and can't draw |
+//! | a join | a drawer, or the keeper | all that the other seat knows, and its parts; at the end also the keeper's mark. The other seat is left knowing nothing |
 #![tactic(auto)]
 
 use crate::looks::Look;
@@ -30,6 +32,8 @@ pub struct View {
     pub keeps: bool,
     /// The keeper's mark.
     pub mark: u64,
+    /// Whether the keeper is moving: its mark is where the counter is to go to, and the counter may be far below still.
+    pub lifted: bool,
     /// The keeper's advances: the word that each found in the counter, and the one that it moved the counter to.
     pub advances: LinkedList<(u64, u64)>,
     /// Whether this is the seat of a drawer.
@@ -48,13 +52,11 @@ pub struct View {
     pub known: LinkedList<Look>,
 }
 
-/// What the words are when the table is made.
+/// What both words are when the table is made.
 #[derive(Drop)]
 pub struct Opening {
-    /// The counter.
-    pub next: u64,
-    /// The mark.
-    pub mark: u64,
+    /// The counter, and the mark.
+    pub first: u64,
 }
 
 /// The table of the two words. It has no slots.
@@ -66,9 +68,9 @@ pub struct Law;
 impl TableRule<u8, View, Opening> for Law {
     ghost use Rattle.seq_word.specs.Rule.{Ruled, first_keeper};
 
-    ghost holds = { λ key. Ruled key.next };
+    ghost holds = { λ key. Ruled key.first };
 
-    ghost first = { λ key. first_keeper key.mark };
+    ghost first = { λ key. first_keeper key.first };
 }
 
 /// A load of the mark.
@@ -98,13 +100,22 @@ impl Play<u8, View> for Draws {
     ghost then = { rule.Draws };
 }
 
-/// A store on the mark.
+/// A store on the mark, a block higher.
 pub struct Publishes;
 
 impl Play<u8, View> for Publishes {
     ghost use Rattle.seq_word.specs.Rule as rule;
 
     ghost then = { rule.Publishes };
+}
+
+/// A store on the mark, of where the counter is to go to.
+pub struct Lifts;
+
+impl Play<u8, View> for Lifts {
+    ghost use Rattle.seq_word.specs.Rule as rule;
+
+    ghost then = { rule.Lifts };
 }
 
 /// A fetch_max on the counter.
@@ -127,7 +138,18 @@ impl Split<View> for Opens {
     ghost right = { first_drawer };
 }
 
-/// How drawers' seats are cut in two and put together.
+/// How a seat that shows what was seen is cut off a drawer's.
+pub struct Witnesses;
+
+impl Split<View> for Witnesses {
+    ghost use Rattle.seq_word.specs.Rule.{witness_of};
+
+    ghost left = { λ v. v };
+
+    ghost right = { witness_of };
+}
+
+/// How drawers' seats are cut in two, and how seats are put together.
 pub struct Seats;
 
 impl Split<View> for Seats {

@@ -14,6 +14,9 @@ pub const WORDS_PER_IV: u64 = 0x200_0000;
 /// The SEQ at which an IV Index has no number left.
 pub const SPENT_SEQ: u32 = 0x100_0000;
 
+/// How many numbers a refill reserves: the mark goes up by so many.
+pub const BLOCK: u64 = 256;
+
 /// The IV Index and the SEQ of a word.
 pub fn pair_of(word: u64) -> Pair
     requires { IsWord word }

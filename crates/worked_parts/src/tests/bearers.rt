@@ -3,7 +3,7 @@
 ghost use Rattle.std.specs.Prelude.{◌≡◌, ◌+◌, ◌<◌, All, false};
 ghost use Rattle.turn_lock.specs.Views.{IsPassOf};
 
-use seq_word::{Drawer, Numbers};
+use seq_word::{Drawer, Miss, Numbers};
 use std::alloc::Global;
 use std::sync::Wait;
 use std::thread;
@@ -50,12 +50,12 @@ fn write<R: Wait>(rt: &R, lock: &Turn<Log>, pass: &mut Pass<Log>, seq: u32)
     lock.leave(pass, log);
 }
 
-/// Draws a number and writes it, a hundred times.
+/// Draws a number and writes it, 32 times.
 fn work<R: Wait>(rt: &R, numbers: &Numbers, lock: &Turn<Log>, bearer: &mut Bearer)
     requires seat { bearer.old.seat.which ≡ numbers.now.which }
     requires pass { IsPassOf lock.now bearer.old.pass × (bearer.old.pass.inside ≡ false) }
 {
-    for _ in 0..100 {
+    for _ in 0..32 {
         if let Ok(pair) = numbers.draw(rt, &mut bearer.seat) {
             write(rt, lock, &mut bearer.pass, pair.seq);
         }
@@ -142,14 +142,21 @@ fn written<R: Threads + Wait + Sync>(
     log.seqs.len()
 }
 
-/// How many numbers were drawn, by the counter, and how many were written, where eight bearers work in so many threads.
+/// How many numbers were drawn, by the counter, and how many were written, where eight bearers work in so many threads: as many as one refill
+/// reserves.
 fn drawn<R: Threads + Wait + Sync>(rt: &R, alloc: Global, threads: usize) -> [u64; 2]
     requires { 0 < threads }
 {
-    let Ok((numbers, mut keeper, mut seat)) = Numbers::start(alloc, FIRST, FIRST) else {
+    let Ok((numbers, mut keeper, mut seat)) = Numbers::start(alloc, FIRST) else {
         return [0; 2];
     };
-    numbers.publish(&mut keeper, FIRST + 1000);
+    let Err(Miss::Dry(dry)) = numbers.try_draw(&mut seat) else {
+        return [0; 2];
+    };
+    if dry.mark() != FIRST {
+        return [0; 2];
+    }
+    numbers.publish(&mut keeper, dry);
     let count = written(rt, alloc, &numbers, &mut seat, threads);
     let closed = numbers.close(keeper, seat);
     [closed.next() - FIRST, count as u64]
@@ -157,6 +164,6 @@ fn drawn<R: Threads + Wait + Sync>(rt: &R, alloc: Global, threads: usize) -> [u6
 
 #[test]
 fn threads_draw_and_take_turns(rt: HostRuntime) {
-    assert!(rt; drawn(&rt, rt.alloc(), 2) == [800; 2]);
-    assert!(rt; drawn(&rt, rt.alloc(), 8) == [800; 2]);
+    assert!(rt; drawn(&rt, rt.alloc(), 2) == [256; 2]);
+    assert!(rt; drawn(&rt, rt.alloc(), 8) == [256; 2]);
 }

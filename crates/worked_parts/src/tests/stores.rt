@@ -10,6 +10,7 @@ use mesh_base::slot::Slot;
 use node_store::{ImageFault, Provision, Store, StoreFault, read_image};
 use rpl_journal::accept;
 use seq_reserve::Reserve;
+use seq_word::Miss;
 use slot_journal::Journal;
 use std::alloc::Global;
 
@@ -67,10 +68,16 @@ fn accepted<F: Flash>(flash: &mut F) -> Option<Store> {
     Some(store)
 }
 
-/// Numbers are reserved, and the first one is drawn.
+/// Numbers are reserved where a draw finds none, and the first one is drawn.
 fn reserved<F: Flash>(alloc: Global, flash: &mut F, store: Store) -> Option<Pair> {
     let (mut reserve, numbers, mut drawer) = Reserve::start(alloc, store).ok()?;
-    reserve.refill(&numbers, flash, FIRST_NUMBER).ok()?;
+    let Err(Miss::Dry(dry)) = numbers.try_draw(&mut drawer) else {
+        return None;
+    };
+    if dry.mark() != FIRST_NUMBER {
+        return None;
+    }
+    reserve.refill(&numbers, flash, dry).ok()?;
     numbers.try_draw(&mut drawer).ok()
 }
 

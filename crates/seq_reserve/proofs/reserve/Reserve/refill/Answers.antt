@@ -1,4 +1,5 @@
 use Rattle.std.proofs.Common.{◌≡◌, ◌+◌, [], ◌∷◌, ap, ◌∙◌, sym, subst, arith, ℕ}
+use Rattle.std.proofs.lemmas.Bool.Decides.{nat_tests}
 use Rattle.node_records.specs.declared.persist.Persist.{Persist}
 use Rattle.node_records.specs.Tables.{config_in}
 use Rattle.node_store.specs.Tie.{IsPut}
@@ -38,29 +39,44 @@ pub returns-in_err-put_numbers-clause-durable : goal.returns-in_err-put_numbers-
 returns-in_err-put_numbers-clause-durable g c records tie =
     subst (λ n. IsDurable (g.F.Flash.chip c.put_numbers.new.flash) n) (sym c.requires.published) (c.in_err-put_numbers.ensures.safe records tie)
 
+pub publish-requires-clause-at : goal.publish-requires-clause-at
+publish-requires-clause-at g c =
+    let same : c.mark-seen.result ≡ c.persist.result.now.mark = grind (arith, nat_tests, c.if-seen-mark.false) in
+    sym c.mark-seen.ensures.value ∙ same ∙ ap (λ (x : Persist). x.mark) c.persist.ensures.value ∙ sym c.requires.published
+
 pub publish-requires-clause-word : goal.publish-requires-clause-word
 publish-requires-clause-word g c =
-    subst (λ (p : Persist). IsWord p.mark) (sym c.persist-3.ensures.value) (mark_word c.put_numbers.new.store.persist c.persist-3.ensures.numbers)
-
-pub publish-requires-clause-up : goal.publish-requires-clause-up
-publish-requires-clause-up g c =
     let p = c.args.self.now.store.persist in
     let item = c.fill_record-item.result in
     let is : item ≡ fill_of (config_in p) = c.fill_record-item.ensures.value ∙ ap (λ (x : Persist). fill_of (config_in x)) c.persist-2.ensures.value in
     let up : c.put_numbers.new.store.persist.mark ≡ p.mark + 256 = mark_filled p c.put_numbers.new.store.persist item is c.in_ok-put_numbers.ensures.puts.change in
-    omega (arith, c.requires.published, ap (λ (x : Persist). x.mark) c.persist-3.ensures.value, up)
+    let same : c.mark-seen.result ≡ c.persist.result.now.mark = grind (arith, nat_tests, c.if-seen-mark.false) in
+    let at : c.args.dry.mark ≡ p.mark = sym c.mark-seen.ensures.value ∙ same ∙ ap (λ (x : Persist). x.mark) c.persist.ensures.value in
+    let word : IsWord c.put_numbers.new.store.persist.mark = mark_word c.put_numbers.new.store.persist c.persist-3.ensures.numbers in
+    subst IsWord (up ∙ ap (λ n. n + 256) (sym at)) word
+
+pub returns-clause-value : goal.returns-clause-value
+returns-clause-value g c =
+    let p = c.args.self.now.store.persist in
+    let item = c.fill_record-item.result in
+    let is : item ≡ fill_of (config_in p) = c.fill_record-item.ensures.value ∙ ap (λ (x : Persist). fill_of (config_in x)) c.persist-2.ensures.value in
+    let up : c.put_numbers.new.store.persist.mark ≡ p.mark + 256 = mark_filled p c.put_numbers.new.store.persist item is c.in_ok-put_numbers.ensures.puts.change in
+    let kept : c.publish.new.k.mark ≡ p.mark + 256 = ap (λ (k : KeeperView). k.mark) c.publish.ensures.value ∙ ap (λ n. n + 256) c.requires.published in
+    ap (λ (x : Persist). x.mark) c.persist-3.ensures.value ∙ up ∙ sym kept
+
+pub returns-clause-published : goal.returns-clause-published
+returns-clause-published g c =
+    let p = c.args.self.now.store.persist in
+    let item = c.fill_record-item.result in
+    let is : item ≡ fill_of (config_in p) = c.fill_record-item.ensures.value ∙ ap (λ (x : Persist). fill_of (config_in x)) c.persist-2.ensures.value in
+    let up : c.put_numbers.new.store.persist.mark ≡ p.mark + 256 = mark_filled p c.put_numbers.new.store.persist item is c.in_ok-put_numbers.ensures.puts.change in
+    ap (λ (k : KeeperView). k.mark) c.publish.ensures.value ∙ ap (λ n. n + 256) c.requires.published ∙ sym up
 
 pub returns-clause-filled : goal.returns-clause-filled
 returns-clause-filled g c seen =
-    let p = c.args.self.now.store.persist in
     let k = c.args.self.now.keeper in
-    let item = c.fill_record-item.result in
-    let is : item ≡ fill_of (config_in p) = c.fill_record-item.ensures.value ∙ ap (λ (x : Persist). fill_of (config_in x)) c.persist-2.ensures.value in
-    let up : c.put_numbers.new.store.persist.mark ≡ p.mark + 256 = mark_filled p c.put_numbers.new.store.persist item is c.in_ok-put_numbers.ensures.puts.change in
-    let mark : c.persist-3.result.now.mark ≡ c.args.seen + 256 =
-    ap (λ (x : Persist). x.mark) c.persist-3.ensures.value ∙ up ∙ ap (λ n. n + 256) (sym (seen ∙ c.requires.published)) in
-    let with_mark : ℕ → KeeperView = λ n. record { which = k.which; mark = n; advances = k.advances } in
-    c.publish.ensures.value ∙ ap with_mark mark
+    let with_mark : ℕ → KeeperView = λ n. record { which = k.which; mark = n + 256; advances = k.advances } in
+    c.publish.ensures.value ∙ ap with_mark (sym seen)
 
 pub returns-clause-puts : goal.returns-clause-puts
 returns-clause-puts g c seen =
@@ -76,9 +92,10 @@ returns-clause-steps g c w world seen =
     let q = c.put_numbers.new.store.persist in
     let item = c.fill_record-item.result in
     let is : item ≡ fill_of (config_in p) = c.fill_record-item.ensures.value ∙ ap (λ (x : Persist). fill_of (config_in x)) c.persist-2.ensures.value in
+    let up : q.mark ≡ p.mark + 256 = mark_filled p q item is c.in_ok-put_numbers.ensures.puts.change in
     refill_goes w p q c.args.self.now.keeper.mark c.publish.new.k.mark item c.requires.published c.in_ok-put_numbers.ensures.puts.change
     (c.in_ok-put_numbers.ensures.steps w c.args.self.now.keeper.mark world) is
-    (ap (λ (k : KeeperView). k.mark) c.publish.ensures.value ∙ ap (λ (x : Persist). x.mark) c.persist-3.ensures.value)
+    (ap (λ (k : KeeperView). k.mark) c.publish.ensures.value ∙ ap (λ n. n + 256) c.requires.published ∙ sym up)
 
 pub returns-clause-cut : goal.returns-clause-cut
 returns-clause-cut g c =
@@ -90,5 +107,4 @@ returns-clause-cut g c =
 
 pub returns-clause-durable : goal.returns-clause-durable
 returns-clause-durable g c records tie =
-    subst (λ n. IsDurable (g.F.Flash.chip c.put_numbers.new.flash) n)
-    (sym (ap (λ (k : KeeperView). k.mark) c.publish.ensures.value ∙ ap (λ (x : Persist). x.mark) c.persist-3.ensures.value)) (c.in_ok-put_numbers.ensures.durable records tie)
+    subst (λ n. IsDurable (g.F.Flash.chip c.put_numbers.new.flash) n) (sym (returns-clause-published g c)) (c.in_ok-put_numbers.ensures.durable records tie)

@@ -3,7 +3,7 @@ use Rattle.seq_word.proofs.Moves.{begins, opens}
 use Rattle.seq_word.proofs.numbers.Numbers.start.Goals as goal
 
 pub of_words-requires : goal.of_words-requires
-of_words-requires c = begins c.args.next c.args.mark c.requires.next_word c.requires.mark_word c.requires.order
+of_words-requires c = begins c.args.first c.requires.word
 
 pub split_seat-requires : goal.split_seat-requires
 split_seat-requires c =
