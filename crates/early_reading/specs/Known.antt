@@ -11,6 +11,6 @@ abbrev pub IsKnown : KeyView → List ℕ → Known → Type 0
 IsKnown v octets K.Nothing = ⊤
 IsKnown v octets (K.Read reading) = IsReadBy v octets reading.now
 
--- what was read before, lent by a reader
+-- what was read before, lent by a reader and a reading
 abbrev pub early_of : Early → EarlyReading
 early_of e = record { view = e.view.now; octets = e.octets.now; reading = e.reading.now }

@@ -22,11 +22,16 @@ pub record EarlyReading : Type 0 where
   pub octets : List ℕ
   pub reading : Option NetReading
 
--- a reader: the view that it took last, if it took one, and what it read last, if it has it still
-pub record ReaderView : Type 0 where
-  pub view : Option KeyView
-  pub last : Option EarlyReading
+-- octets that were read before, and as what
+pub record ReadOctets : Type 0 where
+  pub octets : List ℕ
+  pub reading : Option NetReading
 
--- What a reader has read it read by the view that it has, and it reads as the octets do.
-abbrev pub IsLast : Option KeyView → EarlyReading → Type 0
-IsLast view e = (view ≡ Some e.view) × IsReadBy e.view e.octets e.reading
+-- what a reading of a reader with this view has: nothing, where the reader took no view, or where nothing was read
+abbrev pub read_before : Option KeyView → Option ReadOctets → Option EarlyReading
+read_before (Some view) (Some r) = Some (record { view = view; octets = r.octets; reading = r.reading })
+read_before _ _ = None
+
+-- It reads as its octets do by its view.
+abbrev pub IsRead : EarlyReading → Type 0
+IsRead e = IsReadBy e.view e.octets e.reading

@@ -13,7 +13,8 @@ use mesh_base::octets::Octets;
 use mesh_reading::Keys;
 use network_layer::NetReading;
 
-/// Octets that were read before, by which view, and as what, lent by the reader that read them. It holds keys, so it isn't printed.
+/// Octets that were read before, by which view, and as what, lent by the reader that has the view and by the reading. It holds keys, so it isn't
+/// printed.
 #[derive(Drop)]
 pub struct Early<'a> {
     /// By which view they were read.

@@ -4,6 +4,7 @@
 //!
 //! - `view`: what the reading of octets depends on
 //! - `reader`: reads octets by a view, and keeps the key schedules
+//! - `reading`: octets that were read, and what they read as
 //! - `early`: octets that were read before, and what is known of octets by it
 //!
 //! A caller to begin with: `renew_reader` and `handle_early` in `crates/mesh_machine/src/machine.rt`.
@@ -11,8 +12,10 @@
 
 mod early;
 mod reader;
+mod reading;
 mod view;
 
 pub use early::{Early, Known, read_unless};
 pub use reader::Reader;
+pub use reading::Reading;
 pub use view::KeyView;

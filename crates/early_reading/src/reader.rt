@@ -1,12 +1,13 @@
-//! Reads octets by a view, and keeps the key schedules and what it read last.
+//! Reads octets by a view, and keeps the key schedules.
 #![tactic(auto)]
 
 ghost use Rattle.std.specs.Prelude.{◌≡◌, ◌≤◌, ◌++◌, ℕ, length, true, Some, None, IfSome};
 ghost use Rattle.std.specs.Option.{option_map};
 ghost use Rattle.early_reading.specs.Known.{early_of};
-ghost use Rattle.early_reading.specs.Views.{EarlyReading, IsLast, IsReadBy, view_of};
+ghost use Rattle.early_reading.specs.Views.{EarlyReading, IsRead, IsReadBy, read_before, view_of};
 
 use crate::early::Early;
+use crate::reading::Reading;
 use crate::view::KeyView;
 use arrayvec::ArrayVec;
 use kept_keys::HeardSchedules;
@@ -18,36 +19,28 @@ use network_layer::{NetReading, read_kept_behind};
 use node_limits::{FRIENDSHIPS, HEARD_NETWORK_KEYS};
 use std::marker::Model;
 
-/// Reads octets by the view that it took last, and keeps what it read last by it until it takes another view, reads again, or is to forget it. The
-/// key schedules of a view are made at its first reading, and not when it is taken. A clause sees it as the view, if one was taken, and what was
-/// read last, if that is kept. It holds keys, so it isn't printed.
+/// Reads octets by the view that it took last. The key schedules of a view are made at its first reading, and not when it is taken. What was read
+/// stands in a [`Reading`] for each of the octets, which takes a thirtieth of the memory. A clause sees a reader as its view, if it took one. It
+/// holds keys, so it isn't printed.
 #[derive(Drop)]
 pub struct Reader {
     view: KeyView,
     nets: ArrayVec<HeardSchedules, HEARD_NETWORK_KEYS>,
     friends: ArrayVec<HeardSchedules, FRIENDSHIPS>,
-    octets: Octets<40>,
-    reading: Option<NetReading>,
-    // Whether a view was taken, whether the schedules are those of the view, and whether the octets were read by it.
+    // Whether a view was taken, and whether the schedules are those of the view.
     is_taken: bool,
     is_made: bool,
-    is_read: bool,
 }
 
 impl Model for Reader {
     ghost use Rattle.std.specs.Prelude.{◌≡◌, Option, Some, None, true, cond};
-    ghost use Rattle.early_reading.specs.Views.{EarlyReading, IsReadBy, ReaderView};
+    ghost use Rattle.early_reading.specs.declared.view.KeyView.{KeyView};
 
-    ghost Value = { ReaderView };
+    ghost Value = { Option KeyView };
 
-    ghost view = { λ r. record {
-      view = cond r.is_taken (Some r.view) None;
-      last = cond r.is_read (Some (record { view = r.view; octets = r.octets; reading = r.reading })) None;
-    } };
+    ghost view = { λ r. cond r.is_taken (Some r.view) None };
 
-    ghost invariant = { λ r.
-        (r.is_made ≡ true → (r.nets.items ≡ r.view.nets) × (r.friends.items ≡ r.view.friends))
-        × (r.is_read ≡ true → (r.is_taken ≡ true) × IsReadBy r.view r.octets r.reading) };
+    ghost invariant = { λ r. r.is_made ≡ true → (r.nets.items ≡ r.view.nets) × (r.friends.items ≡ r.view.friends) };
 }
 
 // Keys with their schedules.
@@ -114,7 +107,7 @@ fn take_view(view: &mut KeyView, nets: &NetKeys, friends: &[Heard], current: u32
 impl Reader {
     /// One that took no view yet.
     pub fn new() -> Reader
-        ensures value { result ≡ record { view = None; last = None } }
+        ensures value { result ≡ None }
     {
         Reader {
             view: KeyView {
@@ -124,72 +117,55 @@ impl Reader {
             },
             nets: ArrayVec::new(),
             friends: ArrayVec::new(),
-            octets: Octets::new(),
-            reading: None,
             is_taken: false,
             is_made: false,
-            is_read: false,
         }
     }
 
     /// Takes the view of a node that has these network keys and these credentials of friendships, at most `FRIENDSHIPS`, where `current` is the known
-    /// IV Index. Of a view that it has already nothing is made, and what was read last stays; by any other view nothing was read yet.
+    /// IV Index. Of a view that it has already nothing is made. What was read before isn't the reading by another view: [`read`](Reader::read) lends
+    /// it all the same, beside the new one, so have it forget, or read again.
     pub fn renew(&mut self, nets: &NetKeys, friends: &[Heard], current: u32)
         requires few { length friends.now ≤ FRIENDSHIPS }
-        ensures view { self.new.view ≡ Some (view_of nets.now friends.now current) }
-        ensures same { self.old.view ≡ self.new.view → self.new ≡ self.old }
-        ensures other { (self.old.view ≡ self.new.view → ⊥) → self.new.last ≡ None }
+        ensures view { self.new ≡ Some (view_of nets.now friends.now current) }
     {
         if !self.view.is_of(nets, friends, current) {
             take_view(&mut self.view, nets, friends, current);
             self.is_made = false;
-            self.is_read = false;
         }
         self.is_taken = true;
     }
 
     /// Reads octets by the view that it took last; nothing before it took one. The first reading by a view makes the key schedules.
-    pub fn early(&mut self, octets: &Octets<40>)
-        ensures view { option_map (λ (e : EarlyReading). e.view) self.new.last ≡ self.old.view }
-        ensures octets { IfSome self.new.last (λ e. e.octets ≡ octets.now) }
-        ensures same { self.new.view ≡ self.old.view }
+    pub fn early(&mut self, reading: &mut Reading, octets: &Octets<40>)
+        ensures view { option_map (λ (e : EarlyReading). e.view) (read_before self.new reading.new) ≡ self.old }
+        ensures octets { IfSome (read_before self.new reading.new) (λ e. e.octets ≡ octets.now) }
+        ensures read { IfSome (read_before self.new reading.new) IsRead }
+        ensures same { self.new ≡ self.old }
     {
         if !self.is_taken {
-            return;
+            return reading.forget();
         }
         if !self.is_made {
             make_schedules(&self.view, &mut self.nets, &mut self.friends);
             self.is_made = true;
         }
-        self.reading = read_by(
+        let read = read_by(
             self.nets.as_slice(),
             self.friends.as_slice(),
             self.view.current,
             octets.as_slice(),
         );
-        self.octets = octets.copied();
-        self.is_read = true;
+        reading.keep(octets, read);
     }
 
-    /// Forgets what was read last.
-    pub fn forget(&mut self)
-        ensures value { self.new ≡ record { view = self.old.view; last = None } }
+    /// What a reading of this reader has, if anything was read, beside the view of now.
+    pub fn read<'a>(&'a self, reading: &'a Reading) -> Option<Early<'a>>
+        ensures value { option_map early_of result ≡ read_before self.now reading.now }
     {
-        self.is_read = false;
-    }
-
-    /// What was read last, if it is kept: what the octets read as by the view of now.
-    pub fn last(&self) -> Option<Early<'_>>
-        ensures value { option_map early_of result ≡ self.now.last }
-        ensures read { IfSome self.now.last (IsLast self.now.view) }
-    {
-        if !self.is_read {
+        if !self.is_taken {
             return None;
         }
-        Some(Early {
-            view: &self.view,
-            octets: &self.octets,
-            reading: &self.reading,
-        })
+        reading.with(&self.view)
     }
 }

@@ -1,7 +1,7 @@
 //! What a node keeps in memory in a life.
 #![tactic(auto)]
 
-ghost use Rattle.std.specs.Prelude.{◌≡◌, ◌↔◌, ◌≤◌, ◌^◌, List, [], None, Some, IfOk, IsTrue};
+ghost use Rattle.std.specs.Prelude.{◌≡◌, ◌↔◌, ◌≤◌, ◌^◌, List, [], Some, IfOk, IsTrue};
 ghost use Rattle.event_plans.specs.Memory.{AreNodeTablesOf, IsFitFor, StaysUntil, view_in, waited};
 ghost use Rattle.mesh_reading.specs.Held.{AreHeldKeys, held_in};
 ghost use Rattle.mesh_types.specs.declared.answers.Answer.TheVariants as A;
@@ -112,12 +112,9 @@ impl NodeTables {
         )
     }
 
-    /// Has a reader take the view by which octets are read now, under a store of this value. What it read last stays where it has this view
-    /// already.
+    /// Has a reader take the view by which octets are read now, under a store of this value.
     pub fn renew_reader(&self, p: &Persist, reader: &mut Reader)
-        ensures view { reader.new.view ≡ Some (view_in self.now p.now) }
-        ensures same { reader.old.view ≡ reader.new.view → reader.new ≡ reader.old }
-        ensures other { (reader.old.view ≡ reader.new.view → ⊥) → reader.new.last ≡ None }
+        ensures view { reader.new ≡ Some (view_in self.now p.now) }
     {
         reader.renew(
             self.hearing.keys().nets(),

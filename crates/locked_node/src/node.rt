@@ -19,7 +19,7 @@ use crate::known::Known;
 use crate::marks::{Mark, Origin};
 use crate::raised::Raised;
 use flash_model::{Bench, Flash};
-use machine_contract::{Answered, Machine, Stop};
+use machine_contract::{Answered, Machine, ReadBefore, Stop};
 use mesh_types::events::Event;
 use mesh_types::history::Entry;
 use seq_word::{Dry, Numbers};
@@ -101,14 +101,13 @@ impl<M: Machine, F: Flash + Send + Drop> Node<M, F> {
         })
     }
 
-    /// Renews a reader, which reads octets without the node as the machine does in this moment. It still goes with each event that it went with.
-    pub fn reader(&self, reader: &mut M::Reader)
-        ensures fits { (event : Event) → M.fits reader.old event → M.fits reader.new event }
-    {
+    /// Renews a reader, which reads octets without the node as the machine does in this moment. That what was read by it before goes with an
+    /// event is said no more.
+    pub fn reader(&self, reader: &mut M::Reader) {
         self.held.machine.reader(reader);
     }
 
-    /// Handles an event of a bearer, of which its reader may have read before. Where the flash failed, now or before, the bearer's mark is put.
+    /// Handles an event of a bearer, which may have been read before. Where the flash failed, now or before, the bearer's mark is put.
     ///
     /// An event is refused for want of memory too where 2^32 - 1 bearers have stopped.
     pub fn handle(
@@ -117,11 +116,11 @@ impl<M: Machine, F: Flash + Send + Drop> Node<M, F> {
         bearer: u8,
         number: u32,
         event: &Event,
-        reader: &M::Reader,
+        early: &ReadBefore<'_, M::Reader, M::Reading>,
     ) -> Result<Answered, Stop>
         requires made { self.old.machine.which ≡ n.now.which }
         requires event { IsEvent self.old.machine.elements event.now }
-        requires early { M.fits reader.now event.now }
+        requires early { M.fits early.now.reader.now early.now.reading.now event.now }
         ensures origin { origin_of F.chip self.new ≡ origin_of F.chip self.old }
         ensures front { IsPrefix (node_marks self.old) (node_marks self.new) }
         ensures ok { IfOk result
@@ -141,7 +140,7 @@ impl<M: Machine, F: Flash + Send + Drop> Node<M, F> {
         let held = &mut *self.held;
         match held
             .machine
-            .handle(n, &mut held.flash, bearer, number, event, reader)
+            .handle(n, &mut held.flash, bearer, number, event, early)
         {
             Ok(answered) => Ok(answered),
             Err(Stop::Memory) => Err(Stop::Memory),
@@ -160,7 +159,8 @@ impl<M: Machine, F: Flash + Send + Drop> Node<M, F> {
     /// nothing changes (`nothing`). It answers the mark that is published then, another one. Where the flash failed, the bearer's mark is put.
     ///
     /// It takes what the draw answered: so for each time that a bearer reached the mark, one refill is stored at most, and none without a look
-    /// at it. It is asked for only where an entry has a job that draws (`asked`): so a life stores none before that, as `known` tells.
+    /// at it; and the mark is at most 256 above the counter when the words are closed (`near` of `close` in `seq_word`). It is asked for only where
+    /// an entry has a job that draws (`asked`): so a life stores none before that, as `known` tells.
     ///
     /// It is refused for want of memory only where 2^32 - 1 bearers have stopped.
     pub fn refill(&mut self, n: &Numbers, dry: Dry) -> Result<Raised, Stop>
@@ -190,7 +190,7 @@ impl<M: Machine, F: Flash + Send + Drop> Node<M, F> {
         }
         let seen = dry.mark();
         let held = &mut *self.held;
-        match held.machine.refill(n, &mut held.flash, seen) {
+        match held.machine.refill(n, &mut held.flash, dry) {
             Ok(mark) => Ok(Raised { seen, mark }),
             Err(Stop::Memory) => Err(Stop::Memory),
             Err(Stop::Closed) => {

@@ -2,5 +2,4 @@ pub mod Idle
 pub mod Same
 pub mod Within
 pub mod Handled
-pub mod Renewed
 pub mod Crossing

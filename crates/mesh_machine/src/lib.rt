@@ -27,5 +27,5 @@ mod parts;
 mod state;
 mod waiting;
 
-pub use early_reading::{KeyView, Reader};
+pub use early_reading::{KeyView, Reader, Reading};
 pub use machine::MeshMachine;

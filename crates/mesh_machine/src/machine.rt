@@ -1,8 +1,9 @@
 //! The machine.
 #![tactic(auto)]
 
-ghost use Rattle.std.specs.Prelude.{◌≡◌, ◌+◌, ℕ, List, All, length, true, false, Err, None, Some, IfErr, IfOk, IfSome, IsTrue, OnOk, ◌↔◌};
+ghost use Rattle.std.specs.Prelude.{◌≡◌, ◌+◌, ℕ, List, All, length, true, false, Err, Some, IfErr, IfOk, IfSome, IsTrue, OnOk, ◌↔◌};
 ghost use Rattle.early_reading.specs.Known.{IsKnown};
+ghost use Rattle.early_reading.specs.Views.{IsRead, read_before};
 ghost use Rattle.flash_model.specs.Chip.{Keeps};
 ghost use Rattle.event_world.specs.Stepping.{HasStepped};
 ghost use Rattle.machine_contract.specs.Ranges.{IsEvent, IsJob, IsQuiet};
@@ -17,9 +18,9 @@ ghost use Rattle.run_definitions.specs.Order.{is_outside};
 ghost use Rattle.store_world.specs.Standing.{IsWorldOf};
 
 use crate::state::MeshState;
-use early_reading::{KeyView, Known, Reader};
+use early_reading::{KeyView, Known, Reader, Reading};
 use flash_model::Flash;
-use machine_contract::{Answered, EarlyReads, Hand, Stop};
+use machine_contract::{Answered, EarlyReads, Hand, ReadBefore, Stop};
 use mesh_base::octets::Octets;
 use mesh_types::events::Event;
 use seq_word::Numbers;
@@ -43,11 +44,9 @@ impl MeshMachine {
         parts.tables.key_view(parts.reserve.store.persist())
     }
 
-    /// Has a reader take that view. What it read last stays where it has this view already. `reader` of `Machine` is this call.
+    /// Has a reader take that view. `reader` of `Machine` is this call.
     pub fn renew_reader(&self, reader: &mut Reader)
-        ensures view { reader.new.view ≡ Some (view_now self.now) }
-        ensures same { reader.old.view ≡ reader.new.view → reader.new ≡ reader.old }
-        ensures other { (reader.old.view ≡ reader.new.view → ⊥) → reader.new.last ≡ None }
+        ensures view { reader.new ≡ Some (view_now self.now) }
     {
         let parts = &self.state.parts;
         parts
@@ -63,14 +62,16 @@ impl MeshMachine {
         parts.tables.is_view(parts.reserve.store.persist(), view)
     }
 
-    /// What is known of octets that a reader has read, if it has read any: their reading, where it was by the view of now. It is counted.
-    pub(crate) fn take_early<'a>(&mut self, reader: &'a Reader) -> Known<'a>
-        ensures known { (octets : List ℕ) → IfSome reader.now.last (λ e. e.octets ≡ octets)
+    /// What is known of octets that were read before, if any were: their reading, where it was by the view of now. It is counted.
+    pub(crate) fn take_early<'a>(&mut self, early: &ReadBefore<'a, Reader, Reading>) -> Known<'a>
+        ensures known { (octets : List ℕ)
+            → IfSome (read_before early.now.reader.now early.now.reading.now) (λ e. (e.octets ≡ octets) × IsRead e)
             → IsKnown (view_now self.old) octets result }
-        ensures reads { IsCounted (view_now self.old) reader.now.last self.old.reads self.new.reads }
+        ensures reads { IsCounted (view_now self.old) (read_before early.now.reader.now early.now.reading.now)
+            self.old.reads self.new.reads }
         ensures state { self.new.state.value ≡ self.old.state.value }
     {
-        let Some(early) = reader.last() else {
+        let Some(early) = early.reader.read(early.reading) else {
             return Known::Nothing;
         };
         if self.is_view(early.view) {
@@ -82,10 +83,11 @@ impl MeshMachine {
         }
     }
 
-    /// Handles an event of a bearer, which is the one with this number among its events, from 1 on, and of which the reader may have read before:
+    /// Handles an event of a bearer, which is the one with this number among its events, from 1 on, and of which octets may have been read before:
     /// `handle` of `Machine` is this call. What was read is used where it was by the view of now, and else octets are read again; both are
-    /// counted. The records of an event and what it accepts are steps of the world (`mesh_world`) from any world of the store before it to one
-    /// of the store after it.
+    /// counted. It asks that what was read, if anything was, are the octets of the event, and that they read so by the reader's view (`early`).
+    /// The records of an event and what it accepts are steps of the world (`mesh_world`) from any world of the store before it to one of the
+    /// store after it.
     pub fn handle_event<F: Flash>(
         &mut self,
         n: &Numbers,
@@ -93,11 +95,12 @@ impl MeshMachine {
         bearer: u8,
         number: u32,
         event: &Event,
-        reader: &Reader,
+        early: &ReadBefore<'_, Reader, Reading>,
     ) -> Result<Answered, Stop>
         requires made { (shown self.old).which ≡ n.now.which }
         requires event { IsEvent (shown self.old).elements event.now }
-        requires early { IfSome reader.now.last (λ e. event.now ≡ E.Net e.octets) }
+        requires early { IfSome (read_before early.now.reader.now early.now.reading.now)
+            (λ e. (event.now ≡ E.Net e.octets) × IsRead e) }
 
         ensures ok { IfOk result
             (λ r. shown self.new
@@ -113,18 +116,20 @@ impl MeshMachine {
         ensures refused { IfErr result
             (IsRefused F.chip (Hand.OfEvent event.now) (shown self.old) (shown self.new) flash.old flash.new) }
         ensures closed { (shown self.old).closed ≡ true → result ≡ Err Stop.Closed }
-        ensures reads { IsCounted (view_now self.old) reader.now.last self.old.reads self.new.reads }
+        ensures reads { IsCounted (view_now self.old) (read_before early.now.reader.now early.now.reading.now)
+            self.old.reads self.new.reads }
         ensures kept { (over : List StoreRecord) → Stands (F.chip flash.old) over self.old
             → Stands (F.chip flash.new) over self.new }
         ensures frame { Keeps (F.chip flash.old) (F.chip flash.new) }
     {
-        let known = self.take_early(reader);
+        let known = self.take_early(early);
         self.state
             .handle_event(n, flash, bearer, number, event, known)
     }
 
-    /// Handles the network PDU of these octets, which the reader has read before, as `handle` of `Machine` handles the event of these octets. The
-    /// reading is used where it was by the view of now, and else they are read again; both are counted.
+    /// Handles the network PDU of these octets, which was read before, as `handle` of `Machine` handles the event of these octets. The
+    /// reading is used where it was by the view of now, and else they are read again; both are counted. It asks that what was read are these
+    /// octets, and that they read so by the reader's view (`early`).
     pub fn handle_early<F: Flash>(
         &mut self,
         n: &Numbers,
@@ -132,11 +137,12 @@ impl MeshMachine {
         bearer: u8,
         number: u32,
         octets: &Octets<40>,
-        reader: &Reader,
+        early: &ReadBefore<'_, Reader, Reading>,
     ) -> Result<Answered, Stop>
         requires made { (shown self.old).which ≡ n.now.which }
         requires event { IsEvent (shown self.old).elements (E.Net octets.now) }
-        requires early { IfSome reader.now.last (λ e. e.octets ≡ octets.now) }
+        requires early { IfSome (read_before early.now.reader.now early.now.reading.now)
+            (λ e. (e.octets ≡ octets.now) × IsRead e) }
 
         ensures ok { IfOk result
             (λ r. shown self.new
@@ -151,11 +157,12 @@ impl MeshMachine {
         ensures closed { (shown self.old).closed ≡ true → result ≡ Err Stop.Closed }
         ensures kept { (over : List StoreRecord) → Stands (F.chip flash.old) over self.old
             → Stands (F.chip flash.new) over self.new }
-        ensures reads { IsCounted (view_now self.old) reader.now.last self.old.reads self.new.reads }
+        ensures reads { IsCounted (view_now self.old) (read_before early.now.reader.now early.now.reading.now)
+            self.old.reads self.new.reads }
         ensures frame { Keeps (F.chip flash.old) (F.chip flash.new) }
     {
         let event = Event::Net(octets.copied());
-        self.handle_event(n, flash, bearer, number, &event, reader)
+        self.handle_event(n, flash, bearer, number, &event, early)
     }
 
     /// The number of network PDUs that were read before they were handled and then read again, since the view of before wasn't the one of then.

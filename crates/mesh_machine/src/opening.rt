@@ -2,9 +2,10 @@
 #![tactic(auto)]
 
 ghost use Rattle.std.specs.Prelude.{◌≡◌, ◌≤◌, drop, false, List, [], IfErr, IfOk, IfSome, IsTrue};
+ghost use Rattle.early_reading.specs.Views.{IsRead, read_before};
 ghost use Rattle.flash_model.specs.Arming.{Begins};
 ghost use Rattle.flash_model.specs.Chip.{IsFresh, Keeps};
-ghost use Rattle.machine_contract.specs.Opening.{HasFormat, IsNodeFlash, IsUnwritten, MigratesOnly};
+ghost use Rattle.machine_contract.specs.Opening.{IsNodeFlash, IsUnwritten, MigratesOnly};
 ghost use Rattle.machine_contract.specs.Refused.{IsStartCause};
 ghost use Rattle.machine_contract.specs.Started.{IsStarted};
 ghost use Rattle.event_plans.specs.Memory.{AreNodeTablesOf};
@@ -21,15 +22,18 @@ ghost use Rattle.node_store.specs.Tie.{IsNode};
 ghost use Rattle.record_types.specs.declared.records.StoreRecord.{StoreRecord};
 ghost use Rattle.seq_reserve.specs.Reserving.{IsPublished};
 ghost use Rattle.seq_word.specs.Seen.{fresh};
+ghost use Rattle.slot_definitions.specs.Slots.{HasFormat};
 
 use crate::machine::MeshMachine;
 use crate::parts::Parts;
 use crate::state::MeshState;
-use early_reading::Reader;
+use early_reading::{Reader, Reading};
 use entry_log::EntryLog;
 use event_plans::NodeTables;
 use flash_model::Flash;
-use machine_contract::{Answered, EarlyReads, Hand, History, Machine, StartFault, Started, Stop};
+use machine_contract::{
+    Answered, EarlyReads, Hand, History, Machine, ReadBefore, StartFault, Started, Stop,
+};
 use machine_standing::mount_node;
 use mesh_base::octets::Octets;
 use mesh_reading::held_keys_law;
@@ -37,7 +41,7 @@ use mesh_types::events::Event;
 use mesh_types::history::Entry;
 use node_store::Store;
 use seq_reserve::Reserve;
-use seq_word::{Keeper, Numbers};
+use seq_word::{Dry, Keeper, Numbers};
 use std::alloc::{AllocError, Global};
 
 // Opens a life over a store that was mounted, with memory for so many entries. It stands apart, so that no caller has a place for what it boxes.
@@ -158,10 +162,12 @@ impl Machine for MeshMachine {
 
     ghost stands = { Stands };
 
-    // What the reader has read it read of the octets of the event.
-    ghost fits = { λ reader event. IfSome reader.last (λ e. event ≡ E.Net e.octets) };
+    // What was read is the octets of the event, and they read so by the view of the reader.
+    ghost fits = { λ reader reading event. IfSome (read_before reader reading) (λ e. (event ≡ E.Net e.octets) × IsRead e) };
 
     type Reader = Reader;
+
+    type Reading = Reading;
 
     fn start<F: Flash>(alloc: Global, flash: &mut F) -> Result<Started<Self>, StartFault> {
         MeshMachine::start_with_room(alloc, flash, 0)
@@ -171,16 +177,20 @@ impl Machine for MeshMachine {
         Reader::new()
     }
 
+    fn new_reading() -> Reading {
+        Reading::new()
+    }
+
     fn reader(&self, reader: &mut Reader) {
         self.renew_reader(reader);
     }
 
-    fn unread(reader: &mut Reader) {
-        reader.forget();
+    fn unread(reading: &mut Reading) {
+        reading.forget();
     }
 
-    fn early(reader: &mut Reader, bytes: &Octets<40>) {
-        reader.early(bytes);
+    fn early(reader: &mut Reader, reading: &mut Reading, bytes: &Octets<40>) {
+        reader.early(reading, bytes);
     }
 
     fn handle<F: Flash>(
@@ -190,13 +200,13 @@ impl Machine for MeshMachine {
         bearer: u8,
         number: u32,
         event: &Event,
-        reader: &Reader,
+        early: &ReadBefore<'_, Reader, Reading>,
     ) -> Result<Answered, Stop> {
-        self.handle_event(n, flash, bearer, number, event, reader)
+        self.handle_event(n, flash, bearer, number, event, early)
     }
 
-    fn refill<F: Flash>(&mut self, n: &Numbers, flash: &mut F, seen: u64) -> Result<u64, Stop> {
-        self.state.refill_numbers(n, flash, seen)
+    fn refill<F: Flash>(&mut self, n: &Numbers, flash: &mut F, dry: Dry) -> Result<u64, Stop> {
+        self.state.refill_numbers(n, flash, dry)
     }
 
     fn take_entries<F: Flash>(&mut self) -> Vec<Entry> {

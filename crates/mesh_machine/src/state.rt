@@ -28,7 +28,7 @@ use mesh_types::events::Event;
 use mesh_types::history::Entry;
 use mesh_types::told::ToldEvent;
 use node_models::node_models_law;
-use seq_word::Numbers;
+use seq_word::{Dry, Numbers};
 use std::marker::Model;
 
 /// What the machine of a node is between two calls, apart from its counts of early reading. The flash stays with the caller, and is passed to
@@ -135,22 +135,24 @@ impl MeshState {
         self.parts.history.take()
     }
 
-    /// Stores a refill, and publishes its mark, 256 higher, where `seen` is the mark published last (`filled`); else nothing changes
-    /// (`nothing`). Returns the mark that is published then (`value`). It is never refused for want of memory (`memory`): of the refills behind
+    /// Stores a refill, and publishes its mark, 256 higher, where the mark that a draw reached is the one published last (`filled`); else nothing
+    /// changes (`nothing`). Returns the mark that is published then (`value`). It is never refused for want of memory (`memory`): of the refills behind
     /// one entry only their number is kept, and that is at most 65,536, since they lie under one IV Index.
     pub(crate) fn refill_numbers<F: Flash>(
         &mut self,
         n: &Numbers,
         flash: &mut F,
-        seen: u64,
+        dry: Dry,
     ) -> Result<u64, Stop>
         requires made { (shown self.old).which ≡ n.now.which }
-        requires seq { seq_of seen < 2 ^ 24 }
+        requires reached { dry.which ≡ n.now.which }
+        requires seq { seq_of dry.mark < 2 ^ 24 }
 
-        ensures filled { seen ≡ (shown self.old).mark
+        ensures filled { dry.mark ≡ (shown self.old).mark
             → OnOk result
-            (shown self.new ≡ record (shown self.old) { fills = (shown self.old).fills + 1; mark = seen + 256 }) }
-        ensures nothing { seen ≢ (shown self.old).mark → (shown self.old).closed ≡ false
+            (shown self.new
+            ≡ record (shown self.old) { fills = (shown self.old).fills + 1; mark = dry.mark + 256 }) }
+        ensures nothing { dry.mark ≢ (shown self.old).mark → (shown self.old).closed ≡ false
             → (result ≡ Ok (shown self.old).mark) × (shown self.new ≡ shown self.old) × (flash.new ≡ flash.old) }
         ensures value { IfOk result (λ mark. mark ≡ (shown self.new).mark) }
         ensures ok { OnOk result
@@ -169,6 +171,7 @@ impl MeshState {
         if self.closed {
             return Err(Stop::Closed);
         }
+        let seen = dry.mark();
         let mark = self.parts.reserve.store.persist().mark;
         if seen != mark {
             return Ok(mark);
@@ -176,7 +179,7 @@ impl MeshState {
         // They do nothing when they run: the proof uses what they say.
         ties_law();
         node_models_law();
-        match self.parts.reserve.refill(n, flash, seen) {
+        match self.parts.reserve.refill(n, flash, dry) {
             Ok(mark) => {
                 self.fills += 1;
                 Ok(mark)

@@ -9,13 +9,15 @@ ghost use Rattle.node_layers.specs.NodeLayers.{node_layers};
 ghost use Rattle.node_store.specs.Tie.{IsNode};
 
 use flash_model::Flash;
-use machine_contract::{Answered, EarlyReads, History, Machine, StartFault, Started, Stop};
+use machine_contract::{
+    Answered, EarlyReads, History, Machine, ReadBefore, StartFault, Started, Stop,
+};
 use mesh_base::octets::Octets;
 use mesh_machine::MeshMachine;
 use mesh_types::events::Event;
 use mesh_types::history::Entry;
 use node_limits::BEARER_LINES;
-use seq_word::{Keeper, Numbers};
+use seq_word::{Dry, Keeper, Numbers};
 use std::alloc::Global;
 
 /// A machine that has memory for the entries of all lines that a life may have, before it handles an event. So the threads of the bearers take
@@ -43,6 +45,8 @@ impl Machine for ScriptMachine {
 
     type Reader = <MeshMachine as Machine>::Reader;
 
+    type Reading = <MeshMachine as Machine>::Reading;
+
     fn start<F: Flash>(alloc: Global, flash: &mut F) -> Result<Started<Self>, StartFault> {
         let Started {
             machine,
@@ -64,16 +68,20 @@ impl Machine for ScriptMachine {
         MeshMachine::new_reader()
     }
 
+    fn new_reading() -> Self::Reading {
+        MeshMachine::new_reading()
+    }
+
     fn reader(&self, reader: &mut Self::Reader) {
         self.machine.reader(reader);
     }
 
-    fn unread(reader: &mut Self::Reader) {
-        MeshMachine::unread(reader);
+    fn unread(reading: &mut Self::Reading) {
+        MeshMachine::unread(reading);
     }
 
-    fn early(reader: &mut Self::Reader, bytes: &Octets<40>) {
-        MeshMachine::early(reader, bytes);
+    fn early(reader: &mut Self::Reader, reading: &mut Self::Reading, bytes: &Octets<40>) {
+        MeshMachine::early(reader, reading, bytes);
     }
 
     fn handle<F: Flash>(
@@ -83,13 +91,13 @@ impl Machine for ScriptMachine {
         bearer: u8,
         number: u32,
         event: &Event,
-        reader: &Self::Reader,
+        early: &ReadBefore<'_, Self::Reader, Self::Reading>,
     ) -> Result<Answered, Stop> {
-        self.machine.handle(n, flash, bearer, number, event, reader)
+        self.machine.handle(n, flash, bearer, number, event, early)
     }
 
-    fn refill<F: Flash>(&mut self, n: &Numbers, flash: &mut F, seen: u64) -> Result<u64, Stop> {
-        self.machine.refill(n, flash, seen)
+    fn refill<F: Flash>(&mut self, n: &Numbers, flash: &mut F, dry: Dry) -> Result<u64, Stop> {
+        self.machine.refill(n, flash, dry)
     }
 
     fn take_entries<F: Flash>(&mut self) -> Vec<Entry> {

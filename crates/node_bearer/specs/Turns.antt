@@ -7,10 +7,10 @@ use Rattle.locked_node.specs.Node.{NodeView, node_marks}
 use Rattle.node_bearer.specs.Did.{BearerOf}
 use Rattle.node_bearer.specs.declared.bearer.Acted.{Acted}
 
--- the reader of each event's place goes with it
-abbrev pub AreRead : {R : Type 0} → (R → Event → Type 0) → List R → List Event → Type 0
-AreRead fits readers events =
-    (i : ℕ) (r : _) (e : Event) → i < length events → fits (slice_index_or readers i r) (slice_index_or events i e)
+-- the reader and the reading of each event's place go with it
+abbrev pub AreRead : {R G : Type 0} → (R → G → Event → Type 0) → R → List G → List Event → Type 0
+AreRead fits reader readings events =
+    (i : ℕ) (r : _) (e : Event) → i < length events → fits reader (slice_index_or readings i r) (slice_index_or events i e)
 
 -- the bearer with the node in hand, as it is if it hands it back: what was added there is its own
 abbrev pub after_turn : {F : Type 0} → BearerOf F → NodeView F → BearerOf F

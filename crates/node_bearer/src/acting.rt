@@ -18,27 +18,38 @@ use crate::sharing::Sharing;
 use crate::workplace::Workplace;
 use flash_model::Flash;
 use locked_node::{Node, Raised};
-use machine_contract::{Answered, Machine, Stop};
+use machine_contract::{Answered, Machine, ReadBefore, Stop};
 use mesh_types::events::Event;
 use seq_word::Dry;
 
-/// Has a bearer's reader read an event before the bearer's turn: a network PDU, where it reads early, and else nothing.
-fn read<M: Machine, S: Sharing>(sharing: &S, reader: &mut M::Reader, event: &Event)
-    ensures fits { M.fits reader.new event.now }
+/// Has a bearer's reader read an event before the bearer's turn: a network PDU, where it reads early, and else nothing. What else it read stays.
+fn read<M: Machine, S: Sharing>(
+    sharing: &S,
+    reader: &mut M::Reader,
+    reading: &mut M::Reading,
+    event: &Event,
+)
+    ensures fits { M.fits reader.new reading.new event.now }
+    ensures kept { (other : M.Reading) (e : AnEvent) → M.fits reader.old other e → M.fits reader.new other e }
 {
     match event {
-        Event::Net(octets) if sharing.reads_early() => M::early(reader, octets),
-        _ => M::unread(reader),
+        Event::Net(octets) if sharing.reads_early() => M::early(reader, reading, octets),
+        _ => M::unread(reading),
     }
 }
 
-/// Has each of these events read before the bearer's turn, by the reader of its place.
-pub fn read_each<M: Machine, S: Sharing>(sharing: &S, readers: &mut [M::Reader], events: &[Event])
-    requires few { length events.now ≤ length readers.old }
-    ensures fits { AreRead M.fits readers.new events.now }
+/// Has each of these events read before the bearer's turn, by its reader and into the reading of the event's place.
+pub fn read_each<M: Machine, S: Sharing>(
+    sharing: &S,
+    reader: &mut M::Reader,
+    readings: &mut [M::Reading],
+    events: &[Event],
+)
+    requires few { length events.now ≤ length readings.old }
+    ensures fits { AreRead M.fits reader.new readings.new events.now }
 {
     for i in 0..events.len() {
-        read::<M, S>(sharing, &mut readers[i], &events[i]);
+        read::<M, S>(sharing, reader, &mut readings[i], &events[i]);
     }
 }
 
@@ -53,28 +64,17 @@ fn renew<M: Machine, F: Flash + Send + Drop, S: Sharing>(
     }
 }
 
-// Renews each of a bearer's readers, where it reads early.
-fn renew_each<M: Machine, F: Flash + Send + Drop, S: Sharing>(
-    sharing: &S,
-    node: &Node<M, F>,
-    readers: &mut [M::Reader],
-) {
-    for reader in readers.iter_mut() {
-        renew::<M, F, S>(sharing, node, reader);
-    }
-}
-
-/// Has an event handled by the node in hand, of which a reader may have read before.
+/// Has an event handled by the node in hand, which may have been read before.
 fn handle_one<M: Machine, F: Flash + Send + Drop, S: Sharing>(
     place: &Workplace<'_, Node<M, F>, S>,
     node: &mut Node<M, F>,
     b: &mut Bearer<Node<M, F>>,
     event: &Event,
-    reader: &M::Reader,
+    early: &ReadBefore<'_, M::Reader, M::Reading>,
 ) -> Result<Answered, Stop>
     requires made { node.old.machine.which ≡ place.now.numbers.now.which }
     requires event { IsEvent node.old.machine.elements event.now }
-    requires early { M.fits reader.now event.now }
+    requires early { M.fits early.now.reader.now early.now.reading.now event.now }
     requires seen { IsPrefix b.old.pass.seen (node_marks node.old) }
     ensures origin { origin_of F.chip node.new ≡ origin_of F.chip node.old }
     ensures front { IsPrefix (node_marks node.old) (node_marks node.new) }
@@ -93,7 +93,7 @@ fn handle_one<M: Machine, F: Flash + Send + Drop, S: Sharing>(
     if b.number == u32::MAX {
         return Err(Stop::Memory);
     }
-    let answered = node.handle(place.numbers, place.bearer, b.number + 1, event, reader)?;
+    let answered = node.handle(place.numbers, place.bearer, b.number + 1, event, early)?;
     b.number += 1;
     Ok(answered)
 }
@@ -106,20 +106,21 @@ fn ends_turn(answered: &Answered, at: usize, count: usize) -> bool
     at + 1 == count || !answered.jobs.as_slice().is_empty()
 }
 
-/// Has events handled by the node in hand, one after another, and none behind one that leaves jobs. Each may have been read before, by the reader
-/// of its place.
+/// Has events handled by the node in hand, one after another, and none behind one that leaves jobs. Each may have been read before, by the
+/// bearer's reader, as the reading of its place tells.
 fn handle_all<M: Machine, F: Flash + Send + Drop, S: Sharing>(
     place: &Workplace<'_, Node<M, F>, S>,
     node: &mut Node<M, F>,
     b: &mut Bearer<Node<M, F>>,
     events: &[Event],
-    readers: &[M::Reader],
+    reader: &M::Reader,
+    readings: &[M::Reading],
 ) -> Result<Acted, Stop>
     requires made { node.old.machine.which ≡ place.now.numbers.now.which }
     requires events { AreEvents node.old.machine.elements events.now }
     requires some { 1 ≤ length events.now }
-    requires few { length events.now ≤ length readers.now }
-    requires early { AreRead M.fits readers.now events.now }
+    requires few { length events.now ≤ length readings.now }
+    requires early { AreRead M.fits reader.now readings.now events.now }
     requires seen { IsPrefix b.old.pass.seen (node_marks node.old) }
     ensures origin { origin_of F.chip node.new ≡ origin_of F.chip node.old }
     ensures front { IsPrefix (node_marks node.old) (node_marks node.new) }
@@ -138,7 +139,11 @@ fn handle_all<M: Machine, F: Flash + Send + Drop, S: Sharing>(
         → IfErr result (λ e. OnStop e (Broke place.now.bearer first tasks (after_turn b.new node.new))) }
 {
     for i in 0..events.len() {
-        let answered = handle_one(place, node, b, &events[i], &readers[i])?;
+        let early = ReadBefore {
+            reader,
+            reading: &readings[i],
+        };
+        let answered = handle_one(place, node, b, &events[i], &early)?;
         if ends_turn(&answered, i, events.len()) {
             return Ok(Acted { last: i, answered });
         }
@@ -146,17 +151,18 @@ fn handle_all<M: Machine, F: Flash + Send + Drop, S: Sharing>(
     unreachable!()
 }
 
-/// Takes a turn at the lock, in which an event is handled, of which the bearer's reader may have read before. The reader is renewed under the
+/// Takes a turn at the lock, in which an event is handled, which may have been read before, by the bearer's reader. The reader is renewed under the
 /// same lock.
 pub fn act<M: Machine, F: Flash + Send + Drop, S: Sharing>(
     place: &Workplace<'_, Node<M, F>, S>,
     b: &mut Bearer<Node<M, F>>,
     event: &Event,
     reader: &mut M::Reader,
+    reading: &M::Reading,
 ) -> Result<Answered, Stop>
     requires rider { IsRider S.parts place.now.numbers.now place.now.turn.now b.old }
     requires event { IsEvent place.now.turn.now.first.machine.elements event.now }
-    requires early { M.fits reader.old event.now }
+    requires early { M.fits reader.old reading.now event.now }
     ensures rider { IsRider S.parts place.now.numbers.now place.now.turn.now b.new }
     ensures on { GoesOn b.old b.new }
     ensures frame { (b.new.lines ≡ b.old.lines) × (b.new.drawer ≡ b.old.drawer) }
@@ -172,7 +178,11 @@ pub fn act<M: Machine, F: Flash + Send + Drop, S: Sharing>(
         → IfErr result (λ e. OnStop e (Broke place.now.bearer first tasks b.new)) }
 {
     let mut node = place.sharing.enter(place.turn, &mut b.pass);
-    let result = handle_one(place, &mut node, b, event, &*reader);
+    let early = ReadBefore {
+        reader: &*reader,
+        reading,
+    };
+    let result = handle_one(place, &mut node, b, event, &early);
     renew(place.sharing, &node, reader);
     node.known();
     place.turn.leave(&mut b.pass, node);
@@ -180,18 +190,19 @@ pub fn act<M: Machine, F: Flash + Send + Drop, S: Sharing>(
 }
 
 /// Takes a turn at the lock, in which the first of these events is handled, and each next one where the one before left no jobs. Each may have
-/// been read before, by the reader of its place. All these readers are renewed under the same lock.
+/// been read before, by the bearer's reader, as the reading of its place tells. The reader is renewed under the same lock.
 pub fn act_on<M: Machine, F: Flash + Send + Drop, S: Sharing>(
     place: &Workplace<'_, Node<M, F>, S>,
     b: &mut Bearer<Node<M, F>>,
     events: &[Event],
-    readers: &mut [M::Reader],
+    reader: &mut M::Reader,
+    readings: &[M::Reading],
 ) -> Result<Acted, Stop>
     requires rider { IsRider S.parts place.now.numbers.now place.now.turn.now b.old }
     requires events { AreEvents place.now.turn.now.first.machine.elements events.now }
     requires some { 1 ≤ length events.now }
-    requires few { length events.now ≤ length readers.old }
-    requires early { AreRead M.fits readers.old events.now }
+    requires few { length events.now ≤ length readings.now }
+    requires early { AreRead M.fits reader.old readings.now events.now }
     ensures rider { IsRider S.parts place.now.numbers.now place.now.turn.now b.new }
     ensures on { GoesOn b.old b.new }
     ensures frame { (b.new.lines ≡ b.old.lines) × (b.new.drawer ≡ b.old.drawer) }
@@ -208,8 +219,8 @@ pub fn act_on<M: Machine, F: Flash + Send + Drop, S: Sharing>(
         → IfErr result (λ e. OnStop e (Broke place.now.bearer first tasks b.new)) }
 {
     let mut node = place.sharing.enter(place.turn, &mut b.pass);
-    let result = handle_all(place, &mut node, b, events, &*readers);
-    renew_each(place.sharing, &node, readers);
+    let result = handle_all(place, &mut node, b, events, &*reader, readings);
+    renew(place.sharing, &node, reader);
     node.known();
     place.turn.leave(&mut b.pass, node);
     result

@@ -182,6 +182,7 @@ fn do_next<M: Machine, F: Flash + Send + Drop, S: Sharing>(
     b: &mut Bearer<Node<M, F>>,
     event: &Event,
     reader: &mut M::Reader,
+    reading: &mut M::Reading,
 ) -> Result<(), Stop>
     requires rider { IsRider S.parts place.now.numbers.now place.now.turn.now b.old }
     requires event { IsEvent place.now.turn.now.first.machine.elements event.now }
@@ -195,8 +196,8 @@ fn do_next<M: Machine, F: Flash + Send + Drop, S: Sharing>(
         → DidBy place.now.bearer first tasks (follow event.now ∷ rest) b.old
         → IfErr result (λ e. OnStop e (Broke place.now.bearer first tasks b.new)) }
 {
-    M::unread(reader);
-    let answered = act(place, b, event, reader)?;
+    M::unread(reading);
+    let answered = act(place, b, event, reader, &*reading)?;
     do_quiet_jobs(place, b, answered.at, event, answered.jobs.as_slice())
 }
 
@@ -206,6 +207,7 @@ fn do_following<M: Machine, F: Flash + Send + Drop, S: Sharing>(
     b: &mut Bearer<Node<M, F>>,
     next: Option<Event>,
     reader: &mut M::Reader,
+    reading: &mut M::Reading,
 ) -> Result<(), Stop>
     requires rider { IsRider S.parts place.now.numbers.now place.now.turn.now b.old }
     requires event { IfSome next (IsEvent place.now.turn.now.first.machine.elements) }
@@ -221,7 +223,7 @@ fn do_following<M: Machine, F: Flash + Send + Drop, S: Sharing>(
 {
     match next {
         None => Ok(()),
-        Some(event) => do_next(place, b, &event, reader),
+        Some(event) => do_next(place, b, &event, reader, reading),
     }
 }
 
@@ -233,6 +235,7 @@ pub fn do_jobs<M: Machine, F: Flash + Send + Drop, S: Sharing>(
     event: &Event,
     jobs: &[Job],
     reader: &mut M::Reader,
+    reading: &mut M::Reading,
 ) -> Result<(), Stop>
     requires rider { IsRider S.parts place.now.numbers.now place.now.turn.now b.old }
     requires entry { HasEntry b.old.pass.seen at event.now jobs.now }
@@ -249,7 +252,7 @@ pub fn do_jobs<M: Machine, F: Flash + Send + Drop, S: Sharing>(
 {
     for j in 0..jobs.len() {
         let next = do_job(place, b, at, j as u8, event, &jobs[j])?;
-        do_following(place, b, next, reader)?;
+        do_following(place, b, next, reader, reading)?;
     }
     Ok(())
 }

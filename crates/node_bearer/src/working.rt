@@ -29,18 +29,19 @@ struct Stride {
 }
 
 /// Has events from outside handled in one turn, as far as none leaves jobs, and does all that follows. Each is read before the lock is taken, by
-/// the reader of its place. All these readers are renewed.
+/// the bearer's reader and into the reading of its place. The reader is renewed.
 fn do_events<M: Machine, F: Flash + Send + Drop, G: Gate, S: Sharing>(
     place: &Workplace<'_, Node<M, F>, S>,
     gate: &G,
     b: &mut Bearer<Node<M, F>>,
     events: &[Event],
-    readers: &mut [M::Reader],
+    reader: &mut M::Reader,
+    readings: &mut [M::Reading],
 ) -> Result<Stride, Stop>
     requires rider { IsRider S.parts place.now.numbers.now place.now.turn.now b.old }
     requires events { AreEvents place.now.turn.now.first.machine.elements events.now }
     requires some { 1 ≤ length events.now }
-    requires few { length events.now ≤ length readers.old }
+    requires few { length events.now ≤ length readings.old }
     ensures rider { IsRider S.parts place.now.numbers.now place.now.turn.now b.new }
     ensures on { GoesOn b.old b.new }
     ensures some { IfOk result (λ r. 1 ≤ r.events) }
@@ -55,13 +56,21 @@ fn do_events<M: Machine, F: Flash + Send + Drop, G: Gate, S: Sharing>(
 {
     let number = b.number.saturating_add(1);
     gate.before(place.bearer, number);
-    read_each::<M, S>(place.sharing, readers, events);
-    let acted = act_on(place, b, events, readers)?;
+    read_each::<M, S>(place.sharing, reader, readings, events);
+    let acted = act_on(place, b, events, reader, &*readings)?;
     gate.between(place.bearer, number);
     let last = acted.last;
     let event = &events[last];
     let jobs = acted.answered.jobs.as_slice();
-    let done = do_jobs(place, b, acted.answered.at, event, jobs, &mut readers[0]);
+    let done = do_jobs(
+        place,
+        b,
+        acted.answered.at,
+        event,
+        jobs,
+        reader,
+        &mut readings[0],
+    );
     gate.after(place.bearer, number);
     done?;
     Ok(Stride {
@@ -72,12 +81,12 @@ fn do_events<M: Machine, F: Flash + Send + Drop, G: Gate, S: Sharing>(
 }
 
 // How many events a bearer takes to the lock at most.
-fn most_at_once<G: Gate>(gate: &G, readers: usize) -> usize
-    requires some { 1 ≤ readers }
+fn most_at_once<G: Gate>(gate: &G, readings: usize) -> usize
+    requires some { 1 ≤ readings }
     ensures some { 1 ≤ result }
-    ensures few { result ≤ readers }
+    ensures few { result ≤ readings }
 {
-    if gate.is_told() { 1 } else { readers }
+    if gate.is_told() { 1 } else { readings }
 }
 
 // How many events a bearer takes to the lock after a turn: so many, where none left jobs, else one.
@@ -110,17 +119,18 @@ fn make_way<S: Sharing>(sharing: &S, at: u32, stride: &Stride) {
 /// first refusal.
 ///
 /// As long as events leave no jobs, it takes more and more of them to the lock at once, and has them handled in one turn: at most as many as
-/// there are readers, and one where the gate is told. Each is read before by a reader of its own, which was renewed in the turn before.
+/// there are readings, and one where the gate is told. All are read before by the bearer's reader, which was renewed in the turn before.
 pub fn work<M: Machine, F: Flash + Send + Drop, G: Gate, S: Sharing>(
     place: &Workplace<'_, Node<M, F>, S>,
     gate: &G,
     b: &mut Bearer<Node<M, F>>,
     events: &[Event],
-    readers: &mut [M::Reader],
+    reader: &mut M::Reader,
+    readings: &mut [M::Reading],
 ) -> Result<(), Stop>
     requires rider { IsRider S.parts place.now.numbers.now place.now.turn.now b.old }
     requires events { AreEvents place.now.turn.now.first.machine.elements events.now }
-    requires readers { 1 ≤ length readers.old }
+    requires readings { 1 ≤ length readings.old }
     ensures rider { IsRider S.parts place.now.numbers.now place.now.turn.now b.new }
     ensures on { GoesOn b.old b.new }
     ensures did { (first : ℕ) (tasks : List Task)
@@ -130,7 +140,7 @@ pub fn work<M: Machine, F: Flash + Send + Drop, G: Gate, S: Sharing>(
         → DidBy place.now.bearer first tasks (map handle events.now) b.old
         → IfErr result (λ e. OnStop e (Broke place.now.bearer first tasks b.new)) }
 {
-    let most = most_at_once(gate, readers.len());
+    let most = most_at_once(gate, readings.len());
     let mut ahead = 1;
     let mut done = 0;
     let mut at = 0;
@@ -138,7 +148,7 @@ pub fn work<M: Machine, F: Flash + Send + Drop, G: Gate, S: Sharing>(
         let count = ahead.min(events.len() - done);
         let next = next_ahead(ahead, most);
         let batch = &events[done..done + count];
-        let stride = do_events(place, gate, b, batch, &mut readers[..next])?;
+        let stride = do_events(place, gate, b, batch, reader, &mut readings[..next])?;
         make_way(place.sharing, at, &stride);
         at = stride.at;
         done += stride.events;

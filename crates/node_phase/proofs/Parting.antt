@@ -1,5 +1,5 @@
 -- From what the bearers did to the part of a phase.
-use Rattle.std.proofs.Common.{◌≡◌, ◌≢◌, ◌∙◌, ℕ, zero, suc, ◌+◌, ◌<◌, ◌≤◌, Bool, true, false, List, [], ◌∷◌, length, map, Option, Some, None, refl, sym, ap, subst, arith}
+use Rattle.std.proofs.Common.{◌≡◌, ◌≢◌, ◌∙◌, ℕ, zero, suc, ◌+◌, ◌<◌, ◌≤◌, get_or, Bool, true, false, List, [], ◌∷◌, length, map, Option, Some, None, refl, sym, ap, subst, arith}
 use Rattle.std.specs.Prelude.{nat_lt, slice_index_or}
 use Rattle.std.specs.Option.{option_map_or}
 use Rattle.std.proofs.lemmas.Bool.Decides.{nat_tests}
@@ -216,3 +216,9 @@ module _ {F : Type 0} (old new : NodeView F) (d e : DrawerView) (events : List (
 
   pub parts_of_phase : (k : ℕ) → DoesPart events part dones k × NumbersPart counts part dones k
   parts_of_phase k = by_place w.bearers refl k (nat_lt k (length w.bearers)) refl
+
+-- a list of one item is that item
+pub lone : {A : Type 0} (xs : List A) (d : A) → length xs ≡ 1 → get_or xs 0 d ∷ [] ≡ xs
+lone [] d one = absurd (omega (arith, one))
+lone (x ∷ []) d one = refl
+lone (x ∷ y ∷ xs) d one = absurd (omega (arith, one))

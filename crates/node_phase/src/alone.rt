@@ -43,7 +43,7 @@ pub fn run_alone<M: Machine, F: Flash + Send + Drop, G: Gate>(
     node.known();
     let lines = Vec::with_capacity(host.alloc, events.len())?;
     let seals = kept.take(host.alloc)?;
-    let readers = kept.take_readers(host.alloc, 1)?;
+    let ahead = kept.take_ahead(host.alloc, 1)?;
     let (turn, pass) = Turn::start(host.alloc, node)?;
     let bearer = Bearer {
         drawer: host.numbers.split(drawer),
@@ -53,7 +53,7 @@ pub fn run_alone<M: Machine, F: Flash + Send + Drop, G: Gate>(
         kept: seals,
         stop: None,
     };
-    let mut seated = Seated { bearer, readers };
+    let mut seated = Seated { bearer, ahead };
     let place = Workplace {
         sharing: host.rt,
         numbers: host.numbers,
@@ -61,7 +61,7 @@ pub fn run_alone<M: Machine, F: Flash + Send + Drop, G: Gate>(
         bearer: 0,
     };
     work_phase(&place, host.gate, &mut seated, events);
-    let (bearer, readers) = seated.into_parts();
+    let (bearer, ahead) = seated.into_parts();
     let Bearer {
         drawer: seat,
         mut pass,
@@ -72,7 +72,7 @@ pub fn run_alone<M: Machine, F: Flash + Send + Drop, G: Gate>(
     } = bearer;
     host.numbers.join(drawer, seat);
     kept.put(seals);
-    kept.put_readers(readers);
+    kept.put_ahead(ahead);
     let node = turn.enter_alone(&mut pass);
     turn.close(pass);
     let done = Done {

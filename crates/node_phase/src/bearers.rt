@@ -9,7 +9,7 @@ ghost use Rattle.locked_node.specs.declared.marks.Mark.{Mark};
 ghost use Rattle.node_bearer.specs.Did.{AreEvents, IsRider};
 ghost use Rattle.node_phase.specs.Worked.{IsFresh, Worked, done_of, drawn_by, looks_by, own_of, parts_by};
 
-use crate::kept::{KeptByBearers, add_readers};
+use crate::kept::{KeptByBearers, ReadAhead, add_readings};
 use flash_model::Flash;
 use locked_node::{Mark, Node};
 use machine_contract::{Machine, Stop};
@@ -34,7 +34,7 @@ pub struct Done {
 }
 
 /// How many events a bearer that runs beside others takes to the lock at most.
-const AT_ONCE: usize = 16;
+const AT_ONCE: usize = 32;
 
 /// What the bearers of a phase share, and where memory comes from.
 #[derive(Drop)]
@@ -47,12 +47,12 @@ pub struct Shared<'a, T: Logged> {
     pub turn: &'a Turn<T>,
 }
 
-/// A bearer with what it reads octets by before its turn: a reader at least. What is handled is the same whatever these are, so a clause sees the
+/// A bearer with what it reads octets by before its turn, a reading at least. What is handled is the same whatever these are, so a clause sees the
 /// bearer alone.
 #[derive(Drop)]
 pub struct Seated<M: Machine, F: Flash + Send + Drop> {
     pub(crate) bearer: Bearer<Node<M, F>>,
-    pub(crate) readers: Vec<M::Reader>,
+    pub(crate) ahead: ReadAhead<M>,
 }
 
 impl<M: Machine, F: Flash + Send + Drop> Model for Seated<M, F> {
@@ -63,16 +63,16 @@ impl<M: Machine, F: Flash + Send + Drop> Model for Seated<M, F> {
 
     ghost view = { λ s. s.bearer };
 
-    ghost invariant = { λ s. 1 ≤ length s.readers.items };
+    ghost invariant = { λ s. 1 ≤ length s.ahead.readings.items };
 }
 
 impl<M: Machine, F: Flash + Send + Drop> Seated<M, F> {
     /// The bearer, and what it reads by.
-    pub(crate) fn into_parts(self) -> (Bearer<Node<M, F>>, Vec<M::Reader>)
+    pub(crate) fn into_parts(self) -> (Bearer<Node<M, F>>, ReadAhead<M>)
         ensures bearer { result.0 ≡ self }
     {
-        let Seated { bearer, readers } = self;
-        (bearer, readers)
+        let Seated { bearer, ahead } = self;
+        (bearer, ahead)
     }
 }
 
@@ -84,8 +84,8 @@ fn events_of(plan: &[Vec<Event>], k: usize) -> usize {
     }
 }
 
-// How many readers a bearer has for so many events: at least one.
-fn readers_for(events: usize) -> usize
+// How many readings a bearer has for so many events: at least one.
+fn readings_for(events: usize) -> usize
     ensures { 1 ≤ result }
 {
     events.min(AT_ONCE).max(1)
@@ -122,7 +122,7 @@ pub fn split_all<M: Machine, F: Flash + Send + Drop>(
         let events = events_of(plan, bearers.len());
         let lines = Vec::with_capacity(shared.alloc, events)?;
         let seals = kept.take(shared.alloc)?;
-        let readers = kept.take_readers(shared.alloc, readers_for(events))?;
+        let ahead = kept.take_ahead(shared.alloc, readings_for(events))?;
         let seat = shared.numbers.split(drawer);
         let own = shared.turn.split(pass);
         let bearer = Bearer {
@@ -133,7 +133,7 @@ pub fn split_all<M: Machine, F: Flash + Send + Drop>(
             kept: seals,
             stop: None,
         };
-        bearers.push(Seated { bearer, readers })?;
+        bearers.push(Seated { bearer, ahead })?;
     }
     Ok(bearers)
 }
@@ -151,9 +151,10 @@ pub fn work_phase<M: Machine, F: Flash + Send + Drop, G: Gate, S: Sharing>(
     ensures rider { IsRider S.parts place.now.numbers.now place.now.turn.now b.new }
     ensures worked { Worked place.now.bearer events.now b.old b.new }
 {
-    add_readers::<M>(&mut b.readers);
-    let readers = b.readers.as_mut_slice();
-    b.bearer.stop = work(place, gate, &mut b.bearer, events, readers).err();
+    add_readings::<M>(&mut b.ahead.readings);
+    let reader = &mut *b.ahead.reader;
+    let readings = b.ahead.readings.as_mut_slice();
+    b.bearer.stop = work(place, gate, &mut b.bearer, events, reader, readings).err();
 }
 
 /// Takes all bearers in: what they drew and saw goes to the drawer, their entries to the pass, and what they keep is kept.
@@ -186,7 +187,7 @@ pub fn join_all<M: Machine, F: Flash + Send + Drop>(
     merge_law::<Mark>();
     let mut dones = Vec::with_capacity(shared.alloc, bearers.len())?;
     for bearer in bearers {
-        let (bearer, readers) = bearer.into_parts();
+        let (bearer, ahead) = bearer.into_parts();
         let Bearer {
             drawer: seat,
             pass: own,
@@ -198,7 +199,7 @@ pub fn join_all<M: Machine, F: Flash + Send + Drop>(
         shared.numbers.join(drawer, seat);
         shared.turn.join(pass, own);
         kept.put(seals);
-        kept.put_readers(readers);
+        kept.put_ahead(ahead);
         dones.push(Done {
             lines,
             number,

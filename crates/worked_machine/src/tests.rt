@@ -5,16 +5,17 @@
 mod hearing;
 
 ghost use Rattle.std.specs.Prelude.{◌≡◌, ◌≤◌, IfSome, IsTrue};
+ghost use Rattle.early_reading.specs.Views.{IsRead, read_before};
 ghost use Rattle.flash_model.specs.Chip.{IsFresh};
 ghost use Rattle.machine_contract.specs.Opening.{IsNodeFlash};
 ghost use Rattle.mesh_machine.specs.Machine.{shown};
 ghost use Rattle.node_store.specs.Tie.{IsNode};
 
 use flash_model::{Bench, Flash, MemFlash};
-use machine_contract::{EarlyReads, Machine, Started};
+use machine_contract::{EarlyReads, Machine, ReadBefore, Started};
 use mesh_base::address::Address;
 use mesh_base::octets::Octets;
-use mesh_machine::{MeshMachine, Reader};
+use mesh_machine::{MeshMachine, Reader, Reading};
 use mesh_types::events::Event;
 use node_store::Provision;
 use run_steps::provision;
@@ -87,13 +88,14 @@ fn is_handled_early(
     flash: &mut MemFlash,
     number: u32,
     octets: &Octets<40>,
-    reader: &Reader,
+    early: &ReadBefore<'_, Reader, Reading>,
 ) -> bool
     requires made { (shown machine.old).which ≡ n.now.which }
-    requires early { IfSome reader.now.last (λ e. e.octets ≡ octets.now) }
+    requires early { IfSome (read_before early.now.reader.now early.now.reading.now)
+        (λ e. (e.octets ≡ octets.now) × IsRead e) }
     ensures made { IsTrue result → (shown machine.new).which ≡ n.now.which }
 {
-    match machine.handle_early(n, flash, 0, number, octets, reader) {
+    match machine.handle_early(n, flash, 0, number, octets, early) {
         Ok(_) => true,
         Err(_) => false,
     }
@@ -112,7 +114,12 @@ fn is_handled(
 {
     let event = Event::Net(octets);
     let reader = Reader::new();
-    match machine.handle(n, flash, 0, number, &event, &reader) {
+    let reading = Reading::new();
+    let early = ReadBefore {
+        reader: &reader,
+        reading: &reading,
+    };
+    match machine.handle(n, flash, 0, number, &event, &early) {
         Ok(_) => true,
         Err(_) => false,
     }
@@ -123,7 +130,7 @@ fn pdu(octets: &[u8]) -> Octets<40> {
     Octets::of(octets).unwrap_or_default()
 }
 
-/// What a machine counts: a PDU is read and handled; then another one is read, the network key is updated, and the PDU is handled.
+/// What a machine counts: two PDUs are read by one reader; the first is handled, then the network key is updated, and the second is handled.
 fn counted(alloc: Global) -> Option<EarlyReads> {
     let mut flash = node_flash(alloc)?;
     let started = match MeshMachine::start(alloc, &mut flash) {
@@ -136,17 +143,36 @@ fn counted(alloc: Global) -> Option<EarlyReads> {
         ..
     } = started;
     let mut reader = Reader::new();
+    let mut first = Reading::new();
+    let mut second = Reading::new();
     let heard = pdu(&HEARD);
-    machine.renew_reader(&mut reader);
-    reader.early(&heard);
-    if !is_handled_early(&mut machine, &numbers, &mut flash, 1, &heard, &reader) {
-        return None;
-    }
     let behind = pdu(&HEARD_BEHIND);
-    reader.early(&behind);
-    let is_all = is_handled(&mut machine, &numbers, &mut flash, 2, pdu(&UPDATE_0))
+    machine.renew_reader(&mut reader);
+    reader.early(&mut first, &heard);
+    reader.early(&mut second, &behind);
+    let is_all = is_handled_early(
+        &mut machine,
+        &numbers,
+        &mut flash,
+        1,
+        &heard,
+        &ReadBefore {
+            reader: &reader,
+            reading: &first,
+        },
+    ) && is_handled(&mut machine, &numbers, &mut flash, 2, pdu(&UPDATE_0))
         && is_handled(&mut machine, &numbers, &mut flash, 3, pdu(&UPDATE_1))
-        && is_handled_early(&mut machine, &numbers, &mut flash, 4, &behind, &reader);
+        && is_handled_early(
+            &mut machine,
+            &numbers,
+            &mut flash,
+            4,
+            &behind,
+            &ReadBefore {
+                reader: &reader,
+                reading: &second,
+            },
+        );
     if is_all {
         Some(machine.early_reads())
     } else {
