@@ -7,6 +7,7 @@ use Rattle.event_definitions.specs.Role.{Role}
 use Rattle.machine_contract.specs.View.{MachineView}
 use Rattle.record_types.specs.declared.records.StoreRecord.{StoreRecord}
 use Rattle.seq_word.specs.Seen.{ClosedView}
+use Rattle.store_definitions.specs.Config.{config_of}
 use Rattle.mesh_node.specs.Lived.{IsLifeTold, LivedOn, life_told}
 use Rattle.mesh_node.specs.Told.{BySteps, HasGiven, HasTaken, IsClosedAt, PhaseDid}
 use Rattle.mesh_node.specs.declared.told.LastStep.{LastStep}
@@ -36,10 +37,10 @@ took_all old new [] h = ap dids h ∙ sym (append-nil (dids old))
 took_all old new (d ∷ did) h =
     took_all h.0 new did h.2 ∙ ap (λ l. l ++ did) h.1 ∙ append_assoc (dids old) (d ∷ []) did
 
-module _ (Stood : List StoreRecord → MachineView → Type 0) (role : Role) (image : List ℕ → Type 0) (from to : HeardPdus) (began now : KeptLogs) (start new : Chip) (refills : ℕ) (words : ClosedView) (closed : Bool) (last : LastStep)
-    (lived : LivedOn Stood role image heard_steps kept_steps from to began now 1 start new refills words closed last) (empty : dids began ≡ []) (ended : last ≡ L.Ended) where
-  gave : HasGiven heard_steps L.Ended from lived.phases to
-  gave = subst (λ e. HasGiven heard_steps e from lived.phases to) ended lived.gave
+module _ {A : Type 0} (Stood : List StoreRecord → MachineView → Type 0) (role : Role) (image : List ℕ → Type 0) (from to : HeardPdus) (began now : KeptLogs) (start new : Chip) (opened left : A) (refills : ℕ) (words : ClosedView) (closed : Bool) (last : LastStep)
+    (lived : LivedOn Stood role image heard_steps kept_steps from to began now 1 start new opened left refills words closed last) (empty : dids began ≡ []) (ended : last ≡ L.Ended) where
+  gave : HasGiven heard_steps 1 (config_of lived.over).elements L.Ended from lived.phases to
+  gave = subst (λ e. HasGiven heard_steps 1 (config_of lived.over).elements e from lived.phases to) ended lived.gave
 
   took : HasTaken kept_steps L.Ended began lived.did now
   took = subst (λ e. HasTaken kept_steps e began lived.did now) ended lived.took

@@ -22,7 +22,7 @@ abbrev pub heard_steps : SourceSteps HeardPdus
 heard_steps = record {
   gives = λ old events new. (pdu : List ℕ) × (old.left.items ≡ pdu ∷ new.left.items) × (events ≡ heard pdu);
   ends = λ old new. old.left.items ≡ [];
-  fails = λ old new. ⊤;
+  fails = λ bearers elements old new. ⊤;
 }
 
 abbrev pub dids : KeptLogs → List PhaseDid

@@ -10,6 +10,10 @@ use Rattle.live_lines.specs.declared.lines.LineStop.{LineStop}
 use Rattle.live_lines.specs.declared.lines.LineStop.TheVariants as L
 use Rattle.live_lines.specs.declared.line_phases.LinePhases.{LinePhases}
 
+-- they are of a node with other bearers or elements
+abbrev pub IsOfOther : {S E : Type 0} → ℕ → ℕ → LinePhases S E → Type 0
+IsOfOther bearers elements old = (bearers ≡ old.lines.bearers) × (elements ≡ old.lines.elements) → ⊥
+
 -- it is of the same node, and didn't fail
 abbrev pub IsLive : {S E : Type 0} → LinePhases S E → LinePhases S E → Type 0
 IsLive old new = (old.lines.why ≡ None) × IsSameNode old.lines new.lines
@@ -31,34 +35,37 @@ module _ {S E : Type 0} (clocked : Bool) (left : S → Option (List ℕ)) (sourc
       (lines_behind left source_faults took pieces sink_faults used old.lines)
       (lines_at left source_faults took pieces sink_faults new.lines)
 
-  -- It failed, or it was asked for a phase of another node, and did nothing.
-  abbrev pub FailsFrom : LineStop → List ℕ → LinePhases S E → LinePhases S E → Type 0
-  FailsFrom L.OtherNode used old new =
-      (lines_behind left source_faults took pieces sink_faults used new.lines
-      ≡ lines_behind left source_faults took pieces sink_faults used old.lines)
-      × (new.front ≡ old.front)
-  FailsFrom why used old new =
-      Fails old.lines.bearers old.lines.elements clocked why
-      (lines_behind left source_faults took pieces sink_faults used old.lines)
-      (lines_at left source_faults took pieces sink_faults new.lines)
+  -- where it was asked for a phase of such a node
+  module _ (bearers elements : ℕ) where
+    -- It failed, or it was asked for a phase of another node, and did nothing.
+    abbrev pub FailsFrom : LineStop → List ℕ → LinePhases S E → LinePhases S E → Type 0
+    FailsFrom L.OtherNode used old new =
+        IsOfOther bearers elements old
+        × (lines_behind left source_faults took pieces sink_faults used new.lines
+        ≡ lines_behind left source_faults took pieces sink_faults used old.lines)
+        × (new.front ≡ old.front)
+    FailsFrom why used old new =
+        Fails old.lines.bearers old.lines.elements clocked why
+        (lines_behind left source_faults took pieces sink_faults used old.lines)
+        (lines_at left source_faults took pieces sink_faults new.lines)
 
-  abbrev pub FailsAs : LineStop → LinePhases S E → LinePhases S E → Type 0
-  FailsAs why old new = (used : List ℕ) → IsFrontOf old.front used → FailsFrom why used old new
+    abbrev pub FailsAs : LineStop → LinePhases S E → LinePhases S E → Type 0
+    FailsAs why old new = (used : List ℕ) → IsFrontOf old.front used → FailsFrom why used old new
 
-  -- why it failed is kept
-  pub record FailsFor (why : LineStop) (old new : LinePhases S E) : Type 0 where
-    pub kept : new.lines.why ≡ Some why
-    pub node : (new.lines.bearers ≡ old.lines.bearers) × (new.lines.elements ≡ old.lines.elements)
-    pub fails : FailsAs why old new
+    -- why it failed is kept
+    pub record FailsFor (why : LineStop) (old new : LinePhases S E) : Type 0 where
+      pub kept : new.lines.why ≡ Some why
+      pub node : (new.lines.bearers ≡ old.lines.bearers) × (new.lines.elements ≡ old.lines.elements)
+      pub fails : FailsAs why old new
 
-  -- where it had failed before, it does nothing
-  abbrev pub FailsBehind : Option LineStop → LinePhases S E → LinePhases S E → Type 0
-  FailsBehind None old new = (why : LineStop) × FailsFor why old new
-  FailsBehind (Some why) old new = new ≡ old
+    -- where it had failed before, it does nothing
+    abbrev pub FailsBehind : Option LineStop → LinePhases S E → LinePhases S E → Type 0
+    FailsBehind None old new = (why : LineStop) × FailsFor why old new
+    FailsBehind (Some why) old new = new ≡ old
 
   abbrev pub line_steps : SourceSteps (LinePhases S E)
   line_steps = record {
     gives = λ old lists new. IsLive old new × Gives old lists new;
     ends = λ old new. IsLive old new × ComesToEnd old new;
-    fails = λ old new. FailsBehind old.lines.why old new;
+    fails = λ bearers elements old new. FailsBehind bearers elements old.lines.why old new;
   }

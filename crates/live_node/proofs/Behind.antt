@@ -1,5 +1,5 @@
 -- What a life leaves behind its last step.
-use Rattle.std.proofs.Common.{◌≡◌, ◌∙◌, ℕ, Bool, List, [], ◌∷◌, ◌++◌, Option, None, false, inl, inr, refl, sym, ap, subst}
+use Rattle.std.proofs.Common.{◌≡◌, ◌∙◌, ℕ, Bool, List, [], ◌∷◌, ◌++◌, Option, None, Some, false, inl, inr, refl, sym, ap, subst}
 use Rattle.flash_model.specs.Chip.{Chip}
 use Rattle.event_definitions.specs.Role.{Role}
 use Rattle.mesh_types.specs.declared.report.End.TheVariants as Z
@@ -7,6 +7,7 @@ use Rattle.mesh_types.specs.declared.report.Opened.{Opened}
 use Rattle.mesh_types.specs.declared.report.Opened.TheVariants as W
 use Rattle.report_definitions.specs.Report.{end_lines, opened_line}
 use Rattle.seq_word.specs.Seen.{ClosedView}
+use Rattle.machine_contract.specs.Opening.{MigratesOnly}
 use Rattle.machine_contract.specs.View.{MachineView}
 use Rattle.record_types.specs.declared.records.StoreRecord.{StoreRecord}
 use Rattle.store_definitions.specs.Config.{config_of}
@@ -31,15 +32,15 @@ use Rattle.live_report.specs.Steps.{FailsAtLast, WroteTo}
 use Rattle.live_report.specs.declared.report.LiveReport.{LiveReport}
 use Rattle.live_node.specs.Ending.{IsEndTold, status_behind}
 use Rattle.live_node.specs.Ends.{EndsOver}
-use Rattle.live_node.specs.Lived.{BrokenAtLast, GoesOn, LivedBy, LivedShort, StreamsAt, Tells, at_end, begun, broken_at_end, by_line, failed, open_lines, streams_of, told_ended, told_open, unasked, unended}
+use Rattle.live_node.specs.Lived.{BrokenAtLast, GoesOn, LacksLast, LivedBy, LivedShort, StreamsAt, Tells, at_end, begun, broken_at_end, by_line, failed, open_lines, streams_of, told_ended, told_open, unasked, unended}
 use Rattle.live_node.specs.Status.{line_status, stop_status}
 use Rattle.live_node.specs.declared.status.Status.{Status}
 use Rattle.live_node.specs.declared.status.Status.TheVariants as V
 use Rattle.live_node.proofs.Said as Said
 
-module _ {S E K : Type 0} (clocked : Bool) (left : S → Option (List ℕ)) (source_faults : S → ℕ) (took : E → Option (List ℕ)) (told_pieces : E → Option (List (List ℕ))) (errors_faults : E → ℕ)
+module _ {S E K F : Type 0} (clocked : Bool) (left : S → Option (List ℕ)) (source_faults : S → ℕ) (took : E → Option (List ℕ)) (told_pieces : E → Option (List (List ℕ))) (errors_faults : E → ℕ)
     (held : K → Option (List ℕ)) (pieces : K → Option (List (List ℕ))) (faults : K → ℕ)
-    (Stood : List StoreRecord → MachineView → Type 0) (role : Role) (image : List ℕ → Type 0) (sinks : SinkSteps (LiveReport K)) (bearers : ℕ) (start new : Chip)
+    (Stood : List StoreRecord → MachineView → Type 0) (role : Role) (image : List ℕ → Type 0) (sinks : SinkSteps (LiveReport K)) (bearers : ℕ) (start new : Chip) (ready left_over : F)
     (lines lines' : LinePhases S E) (report report' : LiveReport K) (sink : K) (refills : ℕ) (drawn : ClosedView) (closed : Bool) where
   abbrev at : LinePhases S E → LinesAt
   at l = Said.at clocked left source_faults took told_pieces errors_faults l
@@ -51,9 +52,9 @@ module _ {S E K : Type 0} (clocked : Bool) (left : S → Option (List ℕ)) (sou
   view k = view_of held pieces k
 
   abbrev Lived : LastStep → Type 0
-  Lived last = LivedOn Stood role image (Said.line_steps clocked left source_faults took told_pieces errors_faults) sinks lines lines' report report' bearers start new refills drawn closed last
+  Lived last = LivedOn Stood role image (Said.line_steps clocked left source_faults took told_pieces errors_faults) sinks lines lines' report report' bearers start new ready left_over refills drawn closed last
 
-  module _ (from : StreamsAt) (before : SinkView) (opened : Opened) (whole : AllIsWritten) (first : Written (opened_line 1 opened ∷ []) before (view report.sink)) (begins : at lines ≡ begun from) (unfailed_yet : lines.lines.why ≡ None) (unused : IsFrontOf lines.front []) where
+  module _ (from : StreamsAt) (before : SinkView) (opened : Opened) (whole : AllIsWritten) (first : Written (opened_line 1 opened ∷ []) before (view report.sink)) (begins : at lines ≡ begun from) (unfailed_yet : lines.lines.why ≡ None) (unused : IsFrontOf lines.front []) (only : left_over ≡ ready → MigratesOnly start new) where
     abbrev to : StreamsAt
     to = streams_of (at lines')
 
@@ -95,6 +96,7 @@ module _ {S E K : Type 0} (clocked : Bool) (left : S → Option (List ℕ)) (sou
         cause = lived.cause;
         no_fault = lived.no_fault;
         moved = lived.moved;
+        writes = λ none. only (lived.idle none);
       }
 
       abbrev Gave : LinePhases S E → Type 0
@@ -125,15 +127,6 @@ module _ {S E K : Type 0} (clocked : Bool) (left : S → Option (List ℕ)) (sou
           build goes tells here (at lines') refl said.said
           (is_so here (subst (λ e. Fails lines.lines.bearers e clocked why here (at lines')) said.elements
           (subst (λ b. Fails b mid.lines.elements clocked why here (at lines')) said.bearers (fails said.used said.is)))) wrote
-
-      -- it gave none, and nothing moved
-      stayed : (mid : LinePhases S E) → Gave mid
-          → ((used : List ℕ) → IsFrontOf mid.front used → behind used lines' ≡ behind used mid) → (tells : Tells) → tells opened lived.did before (view sink)
-          → LivedBy Stood role image report.hex bearers clocked start new from to before (view sink) closed unended tells
-      stayed mid gave same tells wrote =
-          let said = Said.said_all clocked left source_faults took told_pieces errors_faults [] lines mid lived.phases unused gave in
-          let here = behind said.used mid in
-          build unended tells here here (ap streams_of (sym (same said.used said.is))) said.said (inl refl) wrote
 
       -- it wasn't asked any more
       asked : Gave lines'
@@ -172,7 +165,14 @@ module _ {S E K : Type 0} (clocked : Bool) (left : S → Option (List ℕ)) (sou
         (ended T.Ended lived is el many mid gave ends.1 (told_ended report.hex)
         (whole report.hex 1 opened lived.did Z.Ended before (view report.sink) (view report'.sink) (view sink) first wrote.written h.0))
     behind_end lived is el many wrote V.WriteFault h = inr (inl (lived.end, end_broken lived is el many wrote.written h.0))
-    behind_end lived is el many wrote V.Memory h = inr (inl (inl (lived.end, end_broken lived is el many wrote.written h.0)))
+    behind_end lived is el many wrote V.Memory h =
+        let (mid, gave, ends) = lived.gave in
+        inr (inl (inl (
+          lived.end,
+          subst (λ b. Shown b at_end (told_open report.hex)) lived.end
+              (ended T.Ended lived is el many mid gave ends.1 (told_open report.hex)
+              (open_written lived.did (view sink) (subst (Written (phases_lines report.hex lived.did) (view report.sink)) (sym h.0) wrote.written))),
+        )))
     behind_end lived is el many wrote V.ReadFault h = absurd h
     behind_end lived is el many wrote V.FlashFault h = absurd h
     behind_end lived is el many wrote V.Cut h = absurd h
@@ -186,7 +186,7 @@ module _ {S E K : Type 0} (clocked : Bool) (left : S → Option (List ℕ)) (sou
     behind_failure : (lived : Lived T.Unread) → opened ≡ W.On (config_of lived.over).iv (config_of lived.over).mark → lines.lines.elements ≡ (config_of lived.over).elements → lines.lines.bearers ≡ bearers
         → Written (phases_lines report.hex lived.did) (view report.sink) (view sink)
         → (mid : LinePhases S E) → BySteps (Said.line_steps clocked left source_faults took told_pieces errors_faults).gives lines lived.phases mid
-        → (why : LineStop) → FailsAs clocked left source_faults took told_pieces errors_faults why mid lines' → Over (line_status why)
+        → (why : LineStop) → FailsAs clocked left source_faults took told_pieces errors_faults bearers (config_of lived.over).elements why mid lines' → Over (line_status why)
     behind_failure lived is el many wrote mid gave L.Source fails =
         subst (λ b. Shown b (failed L.Source) (told_open report.hex)) lived.end
         (gave_up T.Unread lived is el many mid gave L.Source fails (told_open report.hex) (open_written lived.did (view sink) wrote) (failed L.Source) (λ m k. k))
@@ -194,11 +194,12 @@ module _ {S E K : Type 0} (clocked : Bool) (left : S → Option (List ℕ)) (sou
         subst (λ b. Shown b (failed L.Errors) (told_open report.hex)) lived.end
         (gave_up T.Unread lived is el many mid gave L.Errors fails (told_open report.hex) (open_written lived.did (view sink) wrote) (failed L.Errors) (λ m k. k))
     behind_failure lived is el many wrote mid gave L.Memory fails =
-        unfed lived (gave_up T.Unread lived is el many mid gave L.Memory fails (told_open report.hex) (open_written lived.did (view sink) wrote) unended (λ m k. inr (L.Memory, refl, k)))
+        unfed lived (gave_up T.Unread lived is el many mid gave L.Memory fails (told_open report.hex) (open_written lived.did (view sink) wrote) unended (λ m k. (L.Memory, refl, k)))
     behind_failure lived is el many wrote mid gave L.Endless fails =
-        unfed lived (gave_up T.Unread lived is el many mid gave L.Endless fails (told_open report.hex) (open_written lived.did (view sink) wrote) unended (λ m k. inr (L.Endless, refl, k)))
+        unfed lived (gave_up T.Unread lived is el many mid gave L.Endless fails (told_open report.hex) (open_written lived.did (view sink) wrote) unended (λ m k. (L.Endless, refl, k)))
     behind_failure lived is el many wrote mid gave L.OtherNode fails =
-        unfed lived (stayed T.Unread lived is el many mid gave (λ used k. (fails used k).0) (told_open report.hex) (open_written lived.did (view sink) wrote))
+        let said = Said.said_all clocked left source_faults took told_pieces errors_faults [] lines mid lived.phases unused gave in
+        absurd ((fails said.used said.is).0 (sym (said.bearers ∙ many), sym (said.elements ∙ el)))
 
     behind_cut : (lived : Lived T.Cut) → opened ≡ W.On (config_of lived.over).iv (config_of lived.over).mark → lines.lines.elements ≡ (config_of lived.over).elements → lines.lines.bearers ≡ bearers
         → Written (phases_lines report.hex lived.did) (view report.sink) (view sink) → Over V.Cut
@@ -218,12 +219,21 @@ module _ {S E K : Type 0} (clocked : Bool) (left : S → Option (List ℕ)) (sou
           (subst (λ hex. WrittenFront (did_lines hex h.last) (view h.mid.sink) (view report'.sink)) h.wrote.hex h.failed.told.front);
     }
 
+    -- for want of memory nothing of that was written
+    lacks_last : (did : List PhaseDid) → FailsAtLast held pieces faults report did report' → sink ≡ report'.sink → report'.stopped ≡ Some stop.Memory → LacksLast report.hex opened did before (view sink)
+    lacks_last did h still stopped = record {
+      told = h.told;
+      last = h.last;
+      is = h.is;
+      whole = subst (λ k. Written (open_lines report.hex opened h.told) before (view k)) (sym (still ∙ h.failed.nothing stopped)) (open_written h.told (view h.mid.sink) h.wrote.written);
+    }
+
     behind_untold : (lived : Lived T.Untold) → opened ≡ W.On (config_of lived.over).iv (config_of lived.over).mark → lines.lines.elements ≡ (config_of lived.over).elements → lines.lines.bearers ≡ bearers
-        → BrokenAtLast report.hex opened lived.did before (view sink) → (why : WriteStop) → Over (stop_status why)
-    behind_untold lived is el many broken stop.Fault =
-        inr (inr (asked T.Untold lived is el many lived.gave (BrokenAtLast report.hex) broken unasked (λ m. refl)))
-    behind_untold lived is el many broken stop.Memory =
-        inr (inl (inr (asked T.Untold lived is el many lived.gave (BrokenAtLast report.hex) broken unasked (λ m. refl))))
+        → FailsAtLast held pieces faults report lived.did report' → sink ≡ report'.sink → (why : WriteStop) → report'.stopped ≡ Some why → Over (stop_status why)
+    behind_untold lived is el many failed still stop.Fault stopped =
+        inr (inr (asked T.Untold lived is el many lived.gave (BrokenAtLast report.hex) (at_last lived.did failed still) unasked (λ m. refl)))
+    behind_untold lived is el many failed still stop.Memory stopped =
+        inr (inl (inr (asked T.Untold lived is el many lived.gave (LacksLast report.hex) (lacks_last lived.did failed still stopped) unasked (λ m. refl))))
 
     -- whatever its last step was
     pub over : (last : LastStep) (lived : Lived last) → opened ≡ W.On (config_of lived.over).iv (config_of lived.over).mark → lines.lines.elements ≡ (config_of lived.over).elements → lines.lines.bearers ≡ bearers
@@ -236,7 +246,7 @@ module _ {S E K : Type 0} (clocked : Bool) (left : S → Option (List ℕ)) (sou
         let (same, still) = up (λ e. cc) in
         let (mid, gave, fails) = lived.gave in
         let said = Said.said_all clocked left source_faults took told_pieces errors_faults [] lines mid lived.phases unused gave in
-        let (why, f) = subst (λ o. FailsBehind clocked left source_faults took told_pieces errors_faults o mid lines') (said.why ∙ unfailed_yet) fails in
+        let (why, f) = subst (λ o. FailsBehind clocked left source_faults took told_pieces errors_faults bearers (config_of lived.over).elements o mid lines') (said.why ∙ unfailed_yet) fails in
         subst Over (sym (same ∙ ap (λ o. status_behind T.Unread o report'.stopped) f.kept))
         (behind_failure lived is el many (subst (λ k. Written (phases_lines report.hex lived.did) (view report.sink) (view k)) (sym still) wrote.written) mid gave why f.fails)
     over T.Cut lived is el many wrote failed_at status told up =
@@ -245,7 +255,7 @@ module _ {S E K : Type 0} (clocked : Bool) (left : S → Option (List ℕ)) (sou
     over T.Untold lived is el many wrote failed_at status told up =
         let (same, still) = up (λ e. cc) in
         subst Over (sym (same ∙ ap (λ o. status_behind T.Untold lines'.lines.why o) wrote.stopped))
-        (behind_untold lived is el many (at_last lived.did (failed_at lived.did lived.took) still) wrote.why)
+        (behind_untold lived is el many (failed_at lived.did lived.took) still wrote.why wrote.stopped)
 
     -- where memory ran out
     pub short : (fell : FellShort role (Said.line_steps clocked left source_faults took told_pieces errors_faults) sinks lines lines' report report' start) → opened ≡ W.On (config_of fell.over).iv (config_of fell.over).mark

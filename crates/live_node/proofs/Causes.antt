@@ -19,7 +19,7 @@ use Rattle.live_report.specs.Steps.{IsCauseOf, WroteTo}
 use Rattle.live_report.specs.declared.report.LiveReport.{LiveReport}
 use Rattle.live_node.specs.Ending.{IsEndTold, status_behind}
 use Rattle.live_node.specs.Ends.{EndsAs, EndsLost, EndsOver, IsClosedBy, IsErrorsCause, IsSinkCause, IsSourceCause}
-use Rattle.live_node.specs.Lived.{BrokenAtLast, GoesOn, LivedBroken, LivedBy, LivedShort, Standing, StreamsAt, Tells, at_end, begun, broken_at_end, failed, is_no_fault, streams_of, told_ended, told_open, unasked, unended}
+use Rattle.live_node.specs.Lived.{BrokenAtLast, GoesOn, LacksLast, LivedBroken, LivedBy, LivedLacking, LivedShort, Standing, StreamsAt, Tells, at_end, begun, broken_at_end, failed, is_no_fault, streams_of, told_ended, told_open, unasked, unended}
 use Rattle.live_node.specs.Status.{stop_status}
 use Rattle.live_node.specs.declared.status.Status.{Status}
 use Rattle.live_node.specs.declared.status.Status.TheVariants as S
@@ -133,10 +133,9 @@ module _ (role : Role) (image : List ℕ → Type 0) (hex : Bool) (bearers : ℕ
         then_kept l.mid l.last (base unasked l) (record { source = ap (λ (a : LinesAt). a.source_faults) l.goes_on; sink = ap (λ (a : LinesAt). a.sink_faults) l.goes_on }) l.streams
 
     unended_kept : By unended → Kept
-    unended_kept l = elim l.goes_on [
-      | inl same ↦ then_kept l.mid l.last (base unended l) (record { source = ap (λ (a : LinesAt). a.source_faults) same; sink = ap (λ (a : LinesAt). a.sink_faults) same }) l.streams
-      | inr fails ↦ then_kept l.mid l.last (base unended l) (no_fault fails.0 fails.1 l.mid l.last (fails_faults bearers (config_of l.over).elements clocked fails.0 l.mid l.last fails.2)) l.streams
-    ]
+    unended_kept l =
+        let fails = l.goes_on in
+        then_kept l.mid l.last (base unended l) (no_fault fails.0 fails.1 l.mid l.last (fails_faults bearers (config_of l.over).elements clocked fails.0 l.mid l.last fails.2)) l.streams
       where
         no_fault : (why : LineStop) → is_no_fault why ≡ true → (a b : LinesAt) → FaultsBy why a b → NoFault a b
         no_fault L.Source e a b h = absurd cc
@@ -172,6 +171,12 @@ module _ (role : Role) (image : List ℕ → Type 0) (hex : Bool) (bearers : ℕ
     | inr l ↦ unasked_kept Stood new closed (BrokenAtLast hex) l
   ]
 
+  lacking_kept : (Stood : Standing) (new : Chip) (closed : Bool) → LivedLacking Stood role image hex bearers clocked start new from to before after closed → Kept
+  lacking_kept Stood new closed h = elim h [
+    | inl e ↦ at_end_kept Stood new false (told_open hex) e.1
+    | inr l ↦ unasked_kept Stood new closed (LacksLast hex) l
+  ]
+
   abbrev Both : Status → Type 0
   Both status = IsSourceCause status from.source_faults to.source_faults × IsErrorsCause status from.sink_faults to.sink_faults
 
@@ -187,7 +192,7 @@ module _ (role : Role) (image : List ℕ → Type 0) (hex : Bool) (bearers : ℕ
   over_causes Stood S.Memory closed new h = elim h [
     | inl u ↦ let k = unread u.1.unread in (k.source, k.sink)
     | inr more ↦ elim more [
-      | inl l ↦ let k = broken_kept Stood new closed l in (k.source, k.sink)
+      | inl l ↦ let k = lacking_kept Stood new closed l in (k.source, k.sink)
       | inr l ↦ let k = unended_kept Stood new false (told_open hex) l.1 in (k.source, k.sink)
     ]
   ]

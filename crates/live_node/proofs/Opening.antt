@@ -1,11 +1,11 @@
 -- What a life leaves that is given up before its first phase.
-use Rattle.std.proofs.Common.{◌≡◌, ◌∙◌, ℕ, Bool, false, if◌then◌else◌, List, [], ◌∷◌, map, inl, refl, sym, ap, ap₂, subst}
+use Rattle.std.proofs.Common.{◌≡◌, ◌∙◌, ℕ, Bool, true, false, if◌then◌else◌, List, [], ◌∷◌, Option, map, inl, inr, refl, sym, ap, ap₂, subst}
 use Rattle.event_definitions.specs.Handling.{records_left}
 use Rattle.event_definitions.specs.History.{Told}
 use Rattle.event_definitions.specs.Role.{Role}
-use Rattle.flash_model.specs.Chip.{Chip}
-use Rattle.machine_contract.specs.Opening.{IsLeft}
-use Rattle.machine_contract.specs.Refused.{IsUntouched}
+use Rattle.flash_model.specs.Chip.{Chip, Keeps}
+use Rattle.machine_contract.specs.Opening.{IsLeft, IsUnwritten, MigratesOnly}
+use Rattle.machine_contract.specs.Refused.{IsUntouched, WasReset}
 use Rattle.machine_contract.specs.Standing.{IsLeftBy, IsLifeSoFar, past_now}
 use Rattle.machine_contract.specs.Started.{IsStarted}
 use Rattle.machine_contract.specs.View.{MachineView}
@@ -16,12 +16,16 @@ use Rattle.report_definitions.specs.Report.{opened_line}
 use Rattle.store_definitions.specs.Config.{config_of}
 use Rattle.store_definitions.specs.Numbers.{filled}
 use Rattle.store_definitions.specs.Recovered.{IsRecovered}
-use Rattle.report_writer.specs.Writing.{SinkView, WrittenFront}
+use Rattle.report_writer.specs.Writing.{SinkView, WrittenFront, view_of}
 use Rattle.report_writer.specs.declared.lives.WriteStop.{WriteStop}
 use Rattle.report_writer.specs.declared.lives.WriteStop.TheVariants as stop
+use Rattle.live_node.specs.Ending.{IsResetTold}
 use Rattle.live_node.specs.Ends.{EndsOver}
-use Rattle.live_node.specs.Lived.{OpeningFront, Standing, StreamsAt, Unopened}
+use Rattle.live_node.specs.Lived.{OpeningFront, Standing, StreamsAt, Unopened, streams_at}
 use Rattle.live_node.specs.Status.{stop_status}
+use Rattle.live_node.specs.declared.status.Status.{Status}
+use Rattle.live_node.specs.declared.status.Status.TheVariants as S
+use Rattle.live_node.specs.declared.status.Streams.{Streams}
 
 none_told : (told : List Told) → map (λ t. t.entry) told ≡ [] → told ≡ []
 none_told [] e = refl
@@ -51,8 +55,47 @@ opening_front start before after over state mark read runs s m front = record {
       (ap₂ W.On s m ∙ sym (ap (λ (b : Bool). if b then W.WasReset else W.On (config_of over).iv (config_of over).mark) runs)) front;
 }
 
+-- where the records that are read say no Node Reset there was none
+pub never_reset : {A : Type 0} (start : Chip) → ((image : List ℕ) (rs ss : List StoreRecord) → IsRecovered image rs → IsRecovered image ss → rs ≡ ss) → (over : List StoreRecord) → IsRecovered start.now over
+    → (config_of over).reset ≡ false → WasReset start → A
+never_reset start one over read runs was =
+    let clash : true ≡ false = sym was.reset ∙ ap (λ rs. (config_of rs).reset) (one start.now was.over over was.read read) ∙ runs in
+    absurd cc
+
 -- whyever the report was broken off
 pub unopened_over : (role : Role) (image : List ℕ → Type 0) (hex : Bool) (bearers : ℕ) (clocked : Bool) (start new : Chip) (from to : StreamsAt) (before after : SinkView) (Stood : Standing)
-    → Unopened image start new from to before after → (why : WriteStop) → EndsOver role image hex bearers clocked start from to before after Stood (stop_status why) false new
-unopened_over role image hex bearers clocked start new from to before after Stood u stop.Fault = inl (refl, u)
-unopened_over role image hex bearers clocked start new from to before after Stood u stop.Memory = inl (refl, u)
+    → Unopened image start new from to before after → (why : WriteStop) → (why ≡ stop.Memory → after ≡ before) → EndsOver role image hex bearers clocked start from to before after Stood (stop_status why) false new
+unopened_over role image hex bearers clocked start new from to before after Stood u stop.Fault still = inl (refl, u)
+unopened_over role image hex bearers clocked start new from to before after Stood u stop.Memory still = inl (refl, u, still refl)
+
+-- streams that have the same source, and the same sink for lines that are wrong
+pub same_streams : {A E K : Type 0} (left : A → Option (List ℕ)) (source_faults : A → ℕ) (held : E → Option (List ℕ)) (pieces : E → Option (List (List ℕ))) (sink_faults : E → ℕ) (old new : Streams A E K)
+    → new.source ≡ old.source → new.errors ≡ old.errors → streams_at left source_faults held pieces sink_faults new ≡ streams_at left source_faults held pieces sink_faults old
+same_streams {A = A} {E = E} left source_faults held pieces sink_faults old new source errors =
+    let at : A → E → StreamsAt = λ s e. record { left = left s; told = view_of held pieces e; source_faults = source_faults s; sink_faults = sink_faults e } in
+    ap₂ at source errors
+
+-- a front of the line that tells of a Node Reset
+reset_front : (start : Chip) (before after : SinkView) → WasReset start → WrittenFront (opened_line 1 W.WasReset ∷ []) before after → OpeningFront start before after
+reset_front start before after was front = record {
+  over = was.over;
+  recovered = was.read;
+  front = subst (λ o. WrittenFront (opened_line 1 o ∷ []) before after)
+      (sym (ap (λ (b : Bool). if b then W.WasReset else W.On (config_of was.over).iv (config_of was.over).mark) was.reset)) front;
+}
+
+-- where there was a Node Reset, whatever became of the line that tells of it
+pub reset_over : (role : Role) (image : List ℕ → Type 0) (hex : Bool) (bearers : ℕ) (clocked : Bool) (start new : Chip) (from to : StreamsAt) (before after : SinkView) (Stood : Standing)
+    → WasReset start → Keeps start new → new.faults ≡ start.faults → IsUntouched image start new → IsUnwritten start new → MigratesOnly start new → to ≡ from
+    → (status : Status) (was is : ℕ) → IsResetTold status before was after is → EndsOver role image hex bearers clocked start from to before after Stood status false new
+reset_over role image hex bearers clocked start new from to before after Stood reset kept no_fault untouched unwritten writes unread S.WasReset was is told =
+    record { reset = reset; wrote = told.0; unread = unread; no_fault = no_fault; untouched = untouched; unwritten = unwritten }
+reset_over role image hex bearers clocked start new from to before after Stood reset kept no_fault untouched unwritten writes unread S.WriteFault was is told =
+    inl (refl, record { wrote = inr (reset_front start before after reset told.0); unread = unread; kept = kept; no_fault = no_fault; untouched = inr untouched; writes = writes; reset = λ was. unwritten })
+reset_over role image hex bearers clocked start new from to before after Stood reset kept no_fault untouched unwritten writes unread S.Memory was is told =
+    inl (refl, record { wrote = inl told.0; unread = unread; kept = kept; no_fault = no_fault; untouched = inr untouched; writes = writes; reset = λ was. unwritten }, told.0)
+reset_over role image hex bearers clocked start new from to before after Stood reset kept no_fault untouched unwritten writes unread S.Done was is told = absurd told
+reset_over role image hex bearers clocked start new from to before after Stood reset kept no_fault untouched unwritten writes unread S.ReadFault was is told = absurd told
+reset_over role image hex bearers clocked start new from to before after Stood reset kept no_fault untouched unwritten writes unread S.FlashFault was is told = absurd told
+reset_over role image hex bearers clocked start new from to before after Stood reset kept no_fault untouched unwritten writes unread S.Cut was is told = absurd told
+reset_over role image hex bearers clocked start new from to before after Stood reset kept no_fault untouched unwritten writes unread S.ErrorsFault was is told = absurd told

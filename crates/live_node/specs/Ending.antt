@@ -14,11 +14,11 @@ use Rattle.live_node.specs.Status.{line_status, stop_status}
 use Rattle.live_node.specs.declared.status.Status.{Status}
 use Rattle.live_node.specs.declared.status.Status.TheVariants as S
 
--- the last line was written, or a front of it; these are the faults of the sink before and after
+-- the last line was written, or a front of it, and for want of memory nothing; these are the faults of the sink before and after
 abbrev pub IsEndTold : Opened → Status → SinkView → ℕ → SinkView → ℕ → Type 0
 IsEndTold opened S.Done old before new after = Written (end_lines opened E.Ended) old new × (after ≡ before)
 IsEndTold opened S.WriteFault old before new after = WrittenFront (end_lines opened E.Ended) old new × Rose before after
-IsEndTold opened S.Memory old before new after = WrittenFront (end_lines opened E.Ended) old new × (after ≡ before)
+IsEndTold opened S.Memory old before new after = (new ≡ old) × (after ≡ before)
 IsEndTold opened _ old before new after = ⊥
 
 -- why a life was given up

@@ -4,7 +4,7 @@ use Rattle.flash_model.specs.Chip.{Chip}
 use Rattle.event_definitions.specs.Role.{Role}
 use Rattle.mesh_base.specs.Outside.{Rose}
 use Rattle.report_writer.specs.Writing.{SinkView}
-use Rattle.live_node.specs.Lived.{FailsAtOpening, LivedBroken, LivedOut, LivedShort, LivedUnfed, LivedUnread, LivedUntold, Standing, StreamsAt, ToldReset, Unopened, WasCut}
+use Rattle.live_node.specs.Lived.{FailsAtOpening, LivedBroken, LivedLacking, LivedOut, LivedShort, LivedUnfed, LivedUnread, LivedUntold, Standing, StreamsAt, ToldReset, Unopened, WasCut}
 use Rattle.live_node.specs.declared.status.Status.{Status}
 use Rattle.live_node.specs.declared.status.Status.TheVariants as S
 
@@ -19,8 +19,8 @@ module _ (role : Role) (image : List ℕ → Type 0) (hex : Bool) (bearers : ℕ
       ((closed ≡ false) × Unopened image start new from to before after)
       ⊎ LivedBroken Stood role image hex bearers clocked start new from to before after closed
   EndsOver Stood S.Memory closed new =
-      ((closed ≡ false) × Unopened image start new from to before after)
-      ⊎ (LivedBroken Stood role image hex bearers clocked start new from to before after closed
+      ((closed ≡ false) × Unopened image start new from to before after × (after ≡ before))
+      ⊎ (LivedLacking Stood role image hex bearers clocked start new from to before after closed
       ⊎ ((closed ≡ false) × LivedUnfed Stood role image hex bearers clocked start new from to before after))
   EndsOver Stood S.FlashFault closed new = FailsAtOpening image start new from to before after
   EndsOver Stood S.WasReset closed new = ToldReset image start new from to before after
@@ -51,8 +51,8 @@ module _ (role : Role) (image : List ℕ → Type 0) (hex : Bool) (bearers : ℕ
         ⊎ LivedBroken (Stood f) role image hex bearers clocked start (chip f) from to before after closed)
     pub memory : status ≡ S.Memory
         → IfSome flash
-        (λ f. ((closed ≡ false) × Unopened image start (chip f) from to before after)
-        ⊎ (LivedBroken (Stood f) role image hex bearers clocked start (chip f) from to before after closed
+        (λ f. ((closed ≡ false) × Unopened image start (chip f) from to before after × (after ≡ before))
+        ⊎ (LivedLacking (Stood f) role image hex bearers clocked start (chip f) from to before after closed
         ⊎ ((closed ≡ false) × LivedUnfed (Stood f) role image hex bearers clocked start (chip f) from to before after)))
     -- the flash is lost for want of memory alone
     pub lost : flash ≡ None → (status ≡ S.Memory) × LivedShort role hex bearers clocked start from to before after

@@ -8,7 +8,7 @@ use Rattle.mesh_types.specs.declared.report.Opened.{Opened}
 use Rattle.mesh_types.specs.declared.report.Opened.TheVariants as W
 use Rattle.mesh_types.specs.declared.report.ReportLine.{ReportLine}
 use Rattle.machine_contract.specs.Moved.{HasMoved}
-use Rattle.machine_contract.specs.Opening.{IsNodeFlash}
+use Rattle.machine_contract.specs.Opening.{IsNodeFlash, IsUnwritten, MigratesOnly}
 use Rattle.machine_contract.specs.Refused.{IsUntouched, WasReset}
 use Rattle.machine_contract.specs.Standing.{IsSameFlash}
 use Rattle.machine_contract.specs.View.{MachineView}
@@ -91,10 +91,9 @@ is_no_fault L.Source = false
 is_no_fault L.Errors = false
 is_no_fault _ = true
 
--- it wasn't asked, or gave no phase though no stream failed
+-- it gave no phase though no stream failed: memory ran out, or it made all moves that a call may make
 abbrev pub unended : GoesOn
-unended bearers elements clocked old new =
-    (new ≡ old) ⊎ ((why : LineStop) × (is_no_fault why ≡ true) × Fails bearers elements clocked why old new)
+unended bearers elements clocked old new = (why : LineStop) × (is_no_fault why ≡ true) × Fails bearers elements clocked why old new
 
 -- what was written of a life that opened so and whose phases did this
 abbrev pub Tells : Type 1
@@ -130,6 +129,13 @@ module _ (hex : Bool) where
     pub whole : told_open opened told before mid
     pub front : WrittenFront (did_lines hex last) mid after
 
+  -- The same, for want of memory: nothing of what the last phase did was written.
+  pub record LacksLast (opened : Opened) (did : List PhaseDid) (before after : SinkView) : Type 0 where
+    pub told : List PhaseDid
+    pub last : PhaseDid
+    pub is : did ≡ told ++ last ∷ []
+    pub whole : told_open opened told before after
+
 -- which machines stand over records, by what they show of themselves
 abbrev pub Standing : Type 1
 Standing = List StoreRecord → MachineView → Type 0
@@ -164,6 +170,8 @@ module _ (Stood : Standing) (role : Role) (image : List ℕ → Type 0) (hex : B
     pub no_fault : closed ≡ false → new.faults ≡ start.faults
     -- where it wasn't cut, the counter was moved with each record that raised the transmit IV Index, and at no other time
     pub moved : closed ≡ false → HasMoved role over (entries_told did) refills drawn.advances
+    -- without a phase nothing was written but what a migration of format 01 writes
+    pub writes : phases ≡ [] → MigratesOnly start new
 
   -- the source came to its end, and all lines of the life were written
   abbrev pub LivedOut : Type 0
@@ -185,7 +193,12 @@ module _ (Stood : Standing) (role : Role) (image : List ℕ → Type 0) (hex : B
   abbrev pub LivedBroken : Bool → Type 0
   LivedBroken closed = ((closed ≡ false) × LivedBy false at_end (broken_at_end hex)) ⊎ LivedBy closed unasked (BrokenAtLast hex)
 
-  -- the source gave no phase, though no stream failed, or wasn't asked: what was written are all lines but one of an end
+  -- Memory ran out where lines were to be written: where the source came to its end all were but that of the end; else all but those of the last
+  -- phase, and then the source wasn't asked for one more. Of the lines that are left nothing was written.
+  abbrev pub LivedLacking : Bool → Type 0
+  LivedLacking closed = ((closed ≡ false) × LivedBy false at_end (told_open hex)) ⊎ LivedBy closed unasked (LacksLast hex)
+
+  -- the source gave no phase, though no stream failed: what was written are all lines but one of an end
   abbrev pub LivedUnfed : Type 0
   LivedUnfed = LivedBy false unended (told_open hex)
 
@@ -220,25 +233,32 @@ pub record OpeningFront (start : Chip) (before after : SinkView) : Type 0 where
   pub front : WrittenFront (opened_line 1 (opened_over over) ∷ []) before after
 
 -- The life was given up before its first phase: no line was read, and nothing was written but a front of the line of its opening. The flash
--- didn't fail, and is as it was, or recovers what it did.
+-- didn't fail, and is as it was, or recovers what it did; nothing was written to it but what a migration of format 01 writes, and where there was a
+-- Node Reset nothing at all.
 pub record Unopened (image : List ℕ → Type 0) (start new : Chip) (from to : StreamsAt) (before after : SinkView) : Type 0 where
   pub wrote : (after ≡ before) ⊎ OpeningFront start before after
   pub unread : to ≡ from
   pub kept : Keeps start new
   pub no_fault : new.faults ≡ start.faults
   pub untouched : IsSameFlash start new ⊎ IsUntouched image start new
+  pub writes : MigratesOnly start new
+  pub reset : WasReset start → IsUnwritten start new
 
--- There was a Node Reset: the line of that was written, and nothing else was done. The flash didn't fail, and recovers what it did.
+-- There was a Node Reset: the line of that was written, and nothing else was done. The flash didn't fail, nothing was written to it, and it recovers
+-- what it did.
 pub record ToldReset (image : List ℕ → Type 0) (start new : Chip) (from to : StreamsAt) (before after : SinkView) : Type 0 where
   pub reset : WasReset start
   pub wrote : Written (opened_line 1 W.WasReset ∷ []) before after
   pub unread : to ≡ from
   pub no_fault : new.faults ≡ start.faults
   pub untouched : IsUntouched image start new
+  pub unwritten : IsUnwritten start new
 
--- The flash failed as the life was opened: no line was read and none written, and the flash recovers what it did.
+-- The flash failed as the life was opened: no line was read and none written, and the flash recovers what it did. Nothing was written to it but what
+-- a migration of format 01 writes.
 pub record FailsAtOpening (image : List ℕ → Type 0) (start new : Chip) (from to : StreamsAt) (before after : SinkView) : Type 0 where
   pub failed : start.faults < new.faults
   pub unread : to ≡ from
   pub unwritten : after ≡ before
   pub untouched : IsUntouched image start new
+  pub writes : MigratesOnly start new

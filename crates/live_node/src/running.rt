@@ -4,7 +4,7 @@
 ghost use Rattle.std.specs.Prelude.{◌≡◌, ◌≤◌, [], ◌∷◌, None, Some, false};
 ghost use Rattle.event_definitions.specs.Role.{node_role};
 ghost use Rattle.flash_model.specs.Chip.{IsFresh, Keeps};
-ghost use Rattle.machine_contract.specs.Opening.{IsNodeFlash};
+ghost use Rattle.machine_contract.specs.Opening.{IsNodeFlash, MigratesOnly};
 ghost use Rattle.machine_contract.specs.Started.{IsStarted};
 ghost use Rattle.mesh_machine.specs.Machine.{Stands, shown};
 ghost use Rattle.mesh_node.specs.Given.{Stood};
@@ -131,6 +131,7 @@ fn go_on<
 ) -> Ended<F, S, E, K>
     requires started { IsStarted M.view M.stands (F.chip beginning.start) (F.chip beginning.flash) beginning.started }
     requires kept { Keeps (F.chip beginning.start) (F.chip beginning.flash) }
+    requires writes { MigratesOnly (F.chip beginning.start) (F.chip beginning.flash) }
     requires few { beginning.bearers ≤ BEARERS }
     requires opened { opened ≡ W.On beginning.started.state beginning.started.mark }
     requires lines { IsBegun lines beginning.bearers (M.view beginning.started.machine).elements }
@@ -191,6 +192,7 @@ fn run_started<
 ) -> Ended<F, S, E, K>
     requires started { IsStarted M.view M.stands (F.chip beginning.start) (F.chip beginning.flash) beginning.started }
     requires kept { Keeps (F.chip beginning.start) (F.chip beginning.flash) }
+    requires writes { MigratesOnly (F.chip beginning.start) (F.chip beginning.flash) }
     requires few { beginning.bearers ≤ BEARERS }
     ensures ended { EndsAs M.role M.image hex beginning.bearers S.clocked (F.chip beginning.start)
         (streams_at S.left S.faults E.held E.pieces E.faults streams)
@@ -200,8 +202,9 @@ fn run_started<
     ensures sink { IsSinkCause result.status (K.faults streams.sink) (K.faults result.streams.sink) }
     ensures closed { IsClosedBy result.status result.closed }
 {
-    // It does nothing when it runs: the proof uses what it says.
+    // They do nothing when they run: the proof uses what they say.
     M::tells::<F>();
+    one_list_is_recovered();
     let Ok(held) = Held::new(host.alloc) else {
         return unopened(Status::Memory, beginning.flash, streams);
     };

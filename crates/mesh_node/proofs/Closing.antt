@@ -6,7 +6,7 @@ use Rattle.flash_model.specs.Arming.{IsExplained, IsReached}
 use Rattle.flash_model.proofs.Runs.{past_more}
 use Rattle.flash_model.specs.Chip.{Arm, Chip, Keeps, KeepsCount, Setting}
 use Rattle.machine_contract.specs.Moved.{HasMoved}
-use Rattle.machine_contract.specs.Opening.{EachRecovered, HasFormat, MigratesOnly}
+use Rattle.machine_contract.specs.Opening.{EachRecovered, IsUnwritten, MigratesOnly}
 use Rattle.machine_contract.specs.Refused.{IsUntouched}
 use Rattle.mesh_types.specs.declared.history.Sent.{Sent}
 use Rattle.mesh_types.specs.declared.report.End.{End}
@@ -19,6 +19,7 @@ use Rattle.run_definitions.specs.RunOf.{LifeOf, Opens, cut_at_start, is_on, was_
 use Rattle.seq_word.specs.Rule.{IsEndOf, IsWithin, times}
 use Rattle.seq_word.specs.Seen.{ClosedView, DrawerView}
 use Rattle.node_limits.specs.declared.TheConstants.{COMPACTION_CALLS}
+use Rattle.slot_definitions.specs.Slots.{HasFormat}
 use Rattle.store_definitions.specs.Config.{config_of}
 use Rattle.store_definitions.specs.Recovered.{IsRecovered}
 use Rattle.locked_node.specs.Asked.{AreAsked}
@@ -176,6 +177,7 @@ module _ {M F : Type 0} (view : M → MachineView) (stands : Chip → List Store
         arm = r.arm;
         calls = r.calls;
         opening = λ steady cut. absurd (true≢false (sym r.on ∙ ap is_on cut));
+        reset = λ steady was. absurd (true≢false (sym r.on ∙ ap is_on was));
         drawn = r.drawn;
         moved = r.moved;
         armed = λ steady other. given_one items new.setting.arm single r.arm (r.armed (subst IsTrue (sym (r.later.steady ∙ count.steady)) steady));
@@ -186,8 +188,8 @@ module _ {M F : Type 0} (view : M → MachineView) (stands : Chip → List Store
 
   -- a life that wasn't run
   pub lives_idle : Keeps start new → (IsTrue old.steady → log.opened ≢ W.WasReset → IsGiven plan new.setting.arm) → (u : IsUntouched image start new) → is_on log.opened ≡ false → log.drawn ≡ None → log.history.entries.items ≡ [] → log.history.refills ≡ 0 → log.sends.items ≡ []
-      → Opens (config_of u.over) log.opened log.end → (is_cut log.end ≡ true → start.faults < new.faults) → (is_cut log.end ≡ false → new.faults ≡ start.faults) → IfSome (cut_calls log.end) (λ n. n ≡ new.changes) → OpensWithin old.steady start.now log → IsUnread log → Lives view stands chip role image plan old log left
-  lives_idle keeps armed u off none entries refills sends opening failed stays calls within early =
+      → Opens (config_of u.over) log.opened log.end → (is_cut log.end ≡ true → start.faults < new.faults) → (is_cut log.end ≡ false → new.faults ≡ start.faults) → IfSome (cut_calls log.end) (λ n. n ≡ new.changes) → OpensWithin old.steady start.now log → (IsTrue old.steady → log.opened ≡ W.WasReset → new.changes ≡ 0) → IsUnread log → Lives view stands chip role image plan old log left
+  lives_idle keeps armed u off none entries refills sends opening failed stays calls within reset early =
       record {
         over = u.over;
         image = start.now;
@@ -206,6 +208,7 @@ module _ {M F : Type 0} (view : M → MachineView) (stands : Chip → List Store
         arm = subst (IsOfPlan plan) (sym (ap (λ (s : Setting). s.arm) keeps.setting)) order;
         calls = calls;
         opening = within;
+        reset = reset;
         drawn = subst (TellsDrawn (life_of log)) (sym none) off;
         moved = λ runs. subst (λ o. IfSome o (λ (words : ClosedView). HasMoved role u.over log.history.entries.items log.history.refills words.advances)) (sym none) tt;
         armed = armed;
@@ -225,13 +228,14 @@ module _ {M F : Type 0} (view : M → MachineView) (stands : Chip → List Store
       lives_idle keeps (λ steady other. given_one items new.setting.arm single order' (later steady now)) u (ap is_on opened) none entries refills sends
       (subst (λ o. Opens (config_of u.over) o log.end) (sym opened) (subst (λ e. Opens (config_of u.over) W.CutAtStart e) (sym end) cut_at_start))
       (λ cut. failed) (λ off. absurd (true≢false (sym (ap is_cut end) ∙ off))) (subst (λ e. IfSome (cut_calls e) (λ n. n ≡ new.changes)) (sym end) refl)
-      (λ steady cut. opens_within start new log.end uncalled only (subst IsTrue (sym count.steady) steady) (explained (subst IsTrue (sym (keeps.steady ∙ count.steady)) steady) now) end) early
+      (λ steady cut. opens_within start new log.end uncalled only (subst IsTrue (sym count.steady) steady) (explained (subst IsTrue (sym (keeps.steady ∙ count.steady)) steady) now) end)
+      (λ steady was. absurd (reset_or_cut (sym was ∙ opened))) early
 
   -- there was a Node Reset
-  pub lives_reset : Keeps start new → new.faults ≡ start.faults → (u : IsUntouched image start new) → (config_of u.over).reset ≡ true → log.opened ≡ W.WasReset → log.end ≡ Ends.Ended
+  pub lives_reset : Keeps start new → start.changes ≡ 0 → IsUnwritten start new → new.faults ≡ start.faults → (u : IsUntouched image start new) → (config_of u.over).reset ≡ true → log.opened ≡ W.WasReset → log.end ≡ Ends.Ended
       → log.drawn ≡ None → log.history.entries.items ≡ [] → log.history.refills ≡ 0 → log.sends.items ≡ [] → IsUnread log → Lives view stands chip role image plan old log left
-  lives_reset keeps same u reset opened end none entries refills sends early =
+  lives_reset keeps uncalled unwritten same u reset opened end none entries refills sends early =
       lives_idle keeps (λ steady other. absurd (other opened)) u (ap is_on opened) none entries refills sends
       (subst (λ o. Opens (config_of u.over) o log.end) (sym opened) (subst (λ e. Opens (config_of u.over) W.WasReset e) (sym end) (was_reset reset)))
       (λ cut. absurd (true≢false (sym cut ∙ ap is_cut end))) (λ off. same) (subst (λ e. IfSome (cut_calls e) (λ n. n ≡ new.changes)) (sym end) tt)
-      (λ steady cut. absurd (reset_or_cut (sym opened ∙ cut))) early
+      (λ steady cut. absurd (reset_or_cut (sym opened ∙ cut))) (λ steady was. unwritten.no_calls (subst IsTrue (sym count.steady) steady) ∙ uncalled) early

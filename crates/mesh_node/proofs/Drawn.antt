@@ -58,5 +58,6 @@ tells_words l d closed on h pairs asked =
       all = λ x. omega (arith, h.all x, ap (times x) h.drawn);
       firsts = h.firsts;
       reached = h.reached;
+      near = h.near;
       asked = asked;
     }

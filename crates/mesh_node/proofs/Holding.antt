@@ -100,7 +100,7 @@ module _ {F : Type 0} (role : Role) (image : List ℕ → Type 0) (chip : F → 
     }
 
     -- its owner has no phase more
-    pub held_went : (b : Bool) → life.node.machine.closed ≡ b → WentOn given_phases told_phases [] phases [] did 1 life.node life.drawer (last_held b) life.node.machine.closed
+    pub held_went : (b : Bool) → life.node.machine.closed ≡ b → WentOn given_phases told_phases [] phases [] did 1 life.node life.drawer life.node.flash (last_held b) life.node.machine.closed
     held_went true on = record {
       phases = phases;
       did = did;
@@ -112,6 +112,7 @@ module _ {F : Type 0} (role : Role) (image : List ℕ → Type 0) (chip : F → 
       each = h.each;
       many = h.many;
       end = on;
+      idle = λ none. refl;
     }
     held_went false off = record {
       phases = phases;
@@ -124,6 +125,7 @@ module _ {F : Type 0} (role : Role) (image : List ℕ → Type 0) (chip : F → 
       each = h.each;
       many = h.many;
       end = off;
+      idle = λ none. refl;
     }
 
     -- its writes were handed out

@@ -31,7 +31,7 @@ use Rattle.mesh_node.proofs.Stepping.{going_more, over_by, same_arm, same_node, 
 use Rattle.mesh_node.proofs.Telling.{closed_by, drop_front, going_taken, over_taken, phase_short, taken_of, told_more}
 
 -- a phase, the seats before and behind it, and what was taken of the node
-pub record IsPhase {F M Reader : Type 0} (role : Role) (image : List ℕ → Type 0) (chip : F → Chip) (old new left : NodeView F) (e : DrawerView) (events : List (List Event)) (before now : Seats M Reader) (dones : List Done) (log : PhaseLog) (closed : Bool) : Type 0 where
+pub record IsPhase {F M Reader Reading : Type 0} (role : Role) (image : List ℕ → Type 0) (chip : F → Chip) (old new left : NodeView F) (e : DrawerView) (events : List (List Event)) (before now : Seats M Reader Reading) (dones : List Done) (log : PhaseLog) (closed : Bool) : Type 0 where
   pub between : IsBetween before old
   pub long : length events ≡ length before.counts.items
   pub origin : origin_of chip new ≡ origin_of chip old
@@ -50,7 +50,7 @@ pub record IsPhase {F M Reader : Type 0} (role : Role) (image : List ℕ → Typ
   pub numbers : now.numbers ≡ before.numbers
   pub which : e.which ≡ before.drawer.which
 
-module _ {F M Reader : Type 0} {role : Role} {image : List ℕ → Type 0} {chip : F → Chip} {old new left : NodeView F} {e : DrawerView} {events : List (List Event)} {before now : Seats M Reader} {dones : List Done} {log : PhaseLog} {closed : Bool}
+module _ {F M Reader Reading : Type 0} {role : Role} {image : List ℕ → Type 0} {chip : F → Chip} {old new left : NodeView F} {e : DrawerView} {events : List (List Event)} {before now : Seats M Reader Reading} {dones : List Done} {log : PhaseLog} {closed : Bool}
     (p : IsPhase role image chip old new left e events before now dones log closed) where
   done_many : length dones ≡ length before.counts.items
   done_many = ap length p.was.left ∙ length-map p.was.bearers done_of ∙ p.was.long ∙ sym (length-map p.was.before (λ b. b.number)) ∙ ap length p.was.numbers

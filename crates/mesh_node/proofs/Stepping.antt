@@ -88,5 +88,5 @@ going_with phases node flash d sends counts h =
 pub told_with : {F : Type 0} (entries : List Entry) (node : NodeView F) (flash : F) → AreTold entries node → AreTold entries (record node { flash = flash })
 told_with entries node flash h = record { entries_are = h.entries_are; taken = h.taken }
 
-pub between_with : {F M Reader : Type 0} (seats : Seats M Reader) (node : NodeView F) (flash : F) → IsBetween seats node → IsBetween seats (record node { flash = flash })
+pub between_with : {F M Reader Reading : Type 0} (seats : Seats M Reader Reading) (node : NodeView F) (flash : F) → IsBetween seats node → IsBetween seats (record node { flash = flash })
 between_with seats node flash h = record { made = h.made; draws = h.draws; parts = h.parts; few = h.few; live = h.live; taken = h.taken; count = h.count }

@@ -95,6 +95,11 @@ both_short (x ∷ xs) (y ∷ ys) h few =
 pub phase_short : (es : List Entry) (sends lines : List (List Sent)) (drawns : List (List ℕ)) (looks : List Look) → length es < 2 ^ 32 → AreShownBy es (both_of sends lines) drawns looks → length lines ≤ length sends → All (All IsShort) lines
 phase_short es sends lines drawns looks few h long = both_short sends lines (sends_short es (both_of sends lines) drawns looks few h) long
 
+-- behind a phase more there is one
+not_none : {A : Type 0} (xs : List A) (x : A) → xs ++ x ∷ [] ≡ [] → ⊥
+not_none [] x none = absurd cc
+not_none (y ∷ xs) x none = absurd cc
+
 -- each phase by itself, and one more
 parts_more : (did : List PhaseDid) (d : PhaseDid) (tail : List Part) → map part_told did ++ part_told d ∷ tail ≡ map part_told (did ++ d ∷ []) ++ tail
 parts_more did d tail = sym (append_assoc (map part_told did) (part_told d ∷ []) tail) ∙ ap (λ l. l ++ tail) (sym (map-append part_told did (d ∷ [])))
@@ -124,13 +129,13 @@ each_last closed phases events did d same h part true on = record {
 }
 each_last closed phases events did d same h part false off = each_whole false (phases ++ events ∷ []) (did ++ d ∷ []) (count_more phases events did d same) (each_more phases events did d h (part.all off))
 
-module _ {F S T : Type 0} (source : SourceSteps S) (sink : SinkSteps T) (from to : S) (began now : T) (bearers : ℕ) (node : NodeView F) (d : DrawerView) (counts : List ℕ) (long : length counts ≡ bearers) where
+module _ {F S T : Type 0} (source : SourceSteps S) (sink : SinkSteps T) (from to : S) (began now : T) (bearers : ℕ) (node : NodeView F) (d : DrawerView) (opened : F) (counts : List ℕ) (long : length counts ≡ bearers) where
   -- where the source gave no phase more
-  module _ (h : IsUnderWay source sink from to began now bearers node d counts) (usable : node.machine.closed ≡ false) (after : S) where
+  module _ (h : IsUnderWay source sink from to began now bearers node d opened counts) (usable : node.machine.closed ≡ false) (after : S) where
     over_here : IsOver h.phases node d (sends_told bearers h.did)
     over_here = over_whole h.phases node d (sends_told bearers h.did) counts h.going
 
-    pub went_ended : source.ends to after → WentOn source sink from after began now bearers node d L.Ended node.machine.closed
+    pub went_ended : source.ends to after → WentOn source sink from after began now bearers node d opened L.Ended node.machine.closed
     went_ended end = record {
       phases = h.phases;
       did = h.did;
@@ -142,9 +147,10 @@ module _ {F S T : Type 0} (source : SourceSteps S) (sink : SinkSteps T) (from to
       each = each_whole node.machine.closed h.phases h.did h.count h.each;
       many = h.going.many ∙ long;
       end = usable;
+      idle = h.idle;
     }
 
-    pub went_unread : source.fails to after → WentOn source sink from after began now bearers node d L.Unread node.machine.closed
+    pub went_unread : source.fails bearers node.machine.elements to after → WentOn source sink from after began now bearers node d opened L.Unread node.machine.closed
     went_unread end = record {
       phases = h.phases;
       did = h.did;
@@ -156,16 +162,17 @@ module _ {F S T : Type 0} (source : SourceSteps S) (sink : SinkSteps T) (from to
       each = each_whole node.machine.closed h.phases h.did h.count h.each;
       many = h.going.many ∙ long;
       end = usable;
+      idle = h.idle;
     }
 
-    pub went_none : (last : LastStep) → GivesNone source last to after → WentOn source sink from after began now bearers node d last node.machine.closed
+    pub went_none : (last : LastStep) → GivesNone source bearers node.machine.elements last to after → WentOn source sink from after began now bearers node d opened last node.machine.closed
     went_none L.Ended end = went_ended end
     went_none L.Unread end = went_unread end
     went_none L.Cut end = absurd end
     went_none L.Untold end = absurd end
 
   -- behind one phase more
-  module _ (h : IsUnderWay source sink from to began now bearers node d counts) (events : List (List Event)) (did : PhaseDid) (next : NodeView F) (e : DrawerView) (later : List ℕ) (closed : Bool) (after : S) (then : T)
+  module _ (h : IsUnderWay source sink from to began now bearers node d opened counts) (events : List (List Event)) (did : PhaseDid) (next : NodeView F) (e : DrawerView) (later : List ℕ) (closed : Bool) (after : S) (then : T)
       (gave : source.gives to events after) (first : did.first ≡ length node.machine.entries) (size : length did.sends ≡ length counts) (part : IsPartDone closed events did) (told : AreTold (entries_told h.did ++ did.entries) next)
       (going : closed ≡ false → IsGoing (h.phases ++ events ∷ []) next e (both_of (sends_told bearers h.did) did.sends) later)
       (over : closed ≡ true → IsOver (h.phases ++ events ∷ []) next e (both_of (sends_told bearers h.did) did.sends)) (is : closed ≡ next.machine.closed) where
@@ -181,7 +188,7 @@ module _ {F S T : Type 0} (source : SourceSteps S) (sink : SinkSteps T) (from to
     many_all : length (sends_told bearers (h.did ++ did ∷ [])) ≡ bearers
     many_all = ap length (sym sends_are) ∙ length_both (sends_told bearers h.did) did.sends (h.going.many ∙ sym size) ∙ h.going.many ∙ long
 
-    pub goes_more : closed ≡ false → sink.takes now did then → IsUnderWay source sink from after began then bearers next e later
+    pub goes_more : closed ≡ false → sink.takes now did then → IsUnderWay source sink from after began then bearers next e opened later
     goes_more off took = record {
       phases = h.phases ++ events ∷ [];
       did = h.did ++ did ∷ [];
@@ -192,6 +199,7 @@ module _ {F S T : Type 0} (source : SourceSteps S) (sink : SinkSteps T) (from to
       placed = placed_all;
       count = count_more h.phases events h.did did h.count;
       each = each_more h.phases events h.did did h.each (part.all off);
+      idle = λ none. absurd (not_none h.phases events none);
     }
 
     each_now : AreToldEach next.machine.closed (h.phases ++ events ∷ []) (h.did ++ did ∷ [])
@@ -201,7 +209,7 @@ module _ {F S T : Type 0} (source : SourceSteps S) (sink : SinkSteps T) (from to
     over_all true on = subst (IsOver (h.phases ++ events ∷ []) next e) sends_are (over on)
     over_all false off = subst (IsOver (h.phases ++ events ∷ []) next e) sends_are (over_whole (h.phases ++ events ∷ []) next e (both_of (sends_told bearers h.did) did.sends) later (going off))
 
-    pub went_cut : closed ≡ true → sink.takes now did then → WentOn source sink from after began then bearers next e L.Cut next.machine.closed
+    pub went_cut : closed ≡ true → sink.takes now did then → WentOn source sink from after began then bearers next e opened L.Cut next.machine.closed
     went_cut on took = record {
       phases = h.phases ++ events ∷ [];
       did = h.did ++ did ∷ [];
@@ -213,9 +221,10 @@ module _ {F S T : Type 0} (source : SourceSteps S) (sink : SinkSteps T) (from to
       each = each_now;
       many = many_all;
       end = sym is ∙ on;
+      idle = λ none. absurd (not_none h.phases events none);
     }
 
-    pub went_untold : sink.fails now did then → WentOn source sink from after began then bearers next e L.Untold next.machine.closed
+    pub went_untold : sink.fails now did then → WentOn source sink from after began then bearers next e opened L.Untold next.machine.closed
     went_untold failed = record {
       phases = h.phases ++ events ∷ [];
       did = h.did ++ did ∷ [];
@@ -227,9 +236,10 @@ module _ {F S T : Type 0} (source : SourceSteps S) (sink : SinkSteps T) (from to
       each = each_now;
       many = many_all;
       end = tt;
+      idle = λ none. absurd (not_none h.phases events none);
     }
 
-    pub went_last : (last : LastStep) → IsLastTold sink last closed now did then → WentOn source sink from after began then bearers next e last next.machine.closed
+    pub went_last : (last : LastStep) → IsLastTold sink last closed now did then → WentOn source sink from after began then bearers next e opened last next.machine.closed
     went_last L.Ended bad = absurd bad
     went_last L.Unread bad = absurd bad
     went_last L.Cut took = went_cut took.0 took.1
@@ -242,7 +252,7 @@ on_err (Err e) p = p
 
 -- before the first phase
 pub first_goes : {F S T : Type 0} (source : SourceSteps S) (sink : SinkSteps T) (from : S) (began : T) (bearers : ℕ) (node : NodeView F) (d : DrawerView) (counts : List ℕ)
-    → node.machine.entries ≡ [] → node.machine.taken ≡ length node.machine.entries → node.stops ≡ 0 → d.drawn ≡ [] → counts ≡ replicate bearers 0 → IsUnderWay source sink from from began began bearers node d counts
+    → node.machine.entries ≡ [] → node.machine.taken ≡ length node.machine.entries → node.stops ≡ 0 → d.drawn ≡ [] → counts ≡ replicate bearers 0 → IsUnderWay source sink from from began began bearers node d node.flash counts
 first_goes source sink from began bearers node d counts none taken live drawn zeros = record {
   phases = [];
   did = [];
@@ -253,11 +263,12 @@ first_goes source sink from began bearers node d counts none taken live drawn ze
   placed = tt;
   count = refl;
   each = record { before = λ is_cut rest tail more. more };
+  idle = λ none. refl;
 }
 
 -- Memory ran out, before a phase came, or in one.
-module _ {F S T : Type 0} {role : Role} {image : List ℕ → Type 0} {chip : F → Chip} (source : SourceSteps S) (sink : SinkSteps T) (from to : S) (began now : T) (bearers : ℕ) (node : NodeView F) (d : DrawerView) (counts : List ℕ)
-    (known : IsNode role image chip node) (start : F) (is_start : node.start ≡ start) (h : IsUnderWay source sink from to began now bearers node d counts) where
+module _ {F S T : Type 0} {role : Role} {image : List ℕ → Type 0} {chip : F → Chip} (source : SourceSteps S) (sink : SinkSteps T) (from to : S) (began now : T) (bearers : ℕ) (node : NodeView F) (d : DrawerView) (opened : F) (counts : List ℕ)
+    (known : IsNode role image chip node) (start : F) (is_start : node.start ≡ start) (h : IsUnderWay source sink from to began now bearers node d opened counts) where
   recovers : IsRecovered (chip start).now known.over
   recovers = subst (λ (s : F). IsRecovered (chip s).now known.over) is_start known.read
 

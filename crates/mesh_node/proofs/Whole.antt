@@ -20,7 +20,7 @@ use Rattle.mesh_node.specs.Given.{Stood}
 use Rattle.life_laws.specs.Pairs.{PairsSo}
 use Rattle.mesh_node.specs.Going.{IsOver}
 use Rattle.mesh_node.specs.Lived.{IsLifeTold, LivedOn, WentOn, life_told}
-use Rattle.mesh_node.specs.Told.{SinkSteps, SourceSteps, sends_told}
+use Rattle.mesh_node.specs.Told.{HasGiven, SinkSteps, SourceSteps, sends_told}
 use Rattle.mesh_node.specs.declared.told.LastStep.{LastStep}
 use Rattle.mesh_node.specs.Left.{Closes, HasLeft}
 use Rattle.mesh_node.proofs.Drawn.{tells_words}
@@ -29,7 +29,7 @@ use Rattle.mesh_node.proofs.Printing.{sends_short}
 use Rattle.mesh_node.proofs.Telling.{phases_are}
 
 module _ {M F S T : Type 0} (view : M → MachineView) (stands : Chip → List StoreRecord → M → Type 0) (role : Role) (image : List ℕ → Type 0) (chip : F → Chip) (source : SourceSteps S) (sink : SinkSteps T) (from to : S) (began now : T) (bearers : ℕ) (few : bearers ≤ 8)
-    (start : F) (node : NodeView F) (d : DrawerView) (last : LastStep) (went : WentOn source sink from to began now bearers node d last node.machine.closed)
+    (start : F) (node : NodeView F) (d : DrawerView) (opened : F) (last : LastStep) (went : WentOn source sink from to began now bearers node d opened last node.machine.closed)
     (one : (rs ss : List StoreRecord) → IsRecovered (chip start).now rs → IsRecovered (chip start).now ss → rs ≡ ss)
     (begun : List StoreRecord) (read : IsRecovered (chip start).now begun) (runs : (config_of begun).reset ≡ false)
     (h : IsNode role image chip node) (is_start : node.start ≡ start) (closed : ClosedView) (first : ℕ) (order : closed.next ≤ closed.mark) (marks : closed.mark ≡ node.machine.mark) (firsts : first ≡ (config_of begun).mark)
@@ -67,15 +67,16 @@ module _ {M F S T : Type 0} (view : M → MachineView) (stands : Chip → List S
   held_over : held.over ≡ h.over
   held_over = one held.over h.over (subst (λ s. IsRecovered (chip s).now held.over) is_start held.read) (subst (λ o. IsRecovered (chip start).now o) begun_is read)
 
-  pub lived : LivedOn (Stood view stands chip node.flash) role image source sink from to began now bearers (chip start) (chip node.flash) node.machine.fills closed node.machine.closed last
+  pub lived : LivedOn (Stood view stands chip node.flash) role image source sink from to began now bearers (chip start) (chip node.flash) opened node.flash node.machine.fills closed node.machine.closed last
   lived = record {
     phases = went.phases;
     did = went.did;
-    gave = went.gave;
+    gave = subst (λ n. HasGiven source bearers n last from went.phases to) h.life.elements went.gave;
     took = went.took;
     placed = went.placed;
     each = went.each;
     end = went.end;
+    idle = went.idle;
     over = h.over;
     recovered = subst (λ o. IsRecovered (chip start).now o) begun_is read;
     life = one_life;
@@ -96,12 +97,12 @@ module _ {M F S T : Type 0} (view : M → MachineView) (stands : Chip → List S
 
 -- the same, by what is left of it
 pub lived_left : {M F S T : Type 0} (view : M → MachineView) (stands : Chip → List StoreRecord → M → Type 0) (role : Role) (image : List ℕ → Type 0) (chip : F → Chip) (source : SourceSteps S) (sink : SinkSteps T) (from to : S) (began now : T) (bearers : ℕ) → bearers ≤ 8
-    → (node : NodeView F) (d : DrawerView) (first : ℕ) (last : LastStep) (flash : F) (refills : ℕ) (drawn : ClosedView) (closed : Bool) → HasLeft view stands role image chip node first d flash refills drawn closed
-    → WentOn source sink from to began now bearers node d last node.machine.closed → (over : List StoreRecord) → IsRecovered (chip node.start).now over → (config_of over).reset ≡ false → first ≡ (config_of over).mark
-    → LivedOn (Stood view stands chip flash) role image source sink from to began now bearers (chip node.start) (chip flash) refills drawn closed last
-lived_left view stands role image chip source sink from to began now bearers few node d first last flash refills drawn closed h went over read runs firsts =
-    let whole = lived view stands role image chip source sink from to began now bearers few node.start node d last went h.one over read runs h.known refl drawn first h.order h.mark firsts
+    → (node : NodeView F) (d : DrawerView) (first : ℕ) (opened : F) (last : LastStep) (flash : F) (refills : ℕ) (drawn : ClosedView) (closed : Bool) → HasLeft view stands role image chip node first d flash refills drawn closed
+    → WentOn source sink from to began now bearers node d opened last node.machine.closed → (over : List StoreRecord) → IsRecovered (chip node.start).now over → (config_of over).reset ≡ false → first ≡ (config_of over).mark
+    → LivedOn (Stood view stands chip flash) role image source sink from to began now bearers (chip node.start) (chip flash) opened flash refills drawn closed last
+lived_left view stands role image chip source sink from to began now bearers few node d first opened last flash refills drawn closed h went over read runs firsts =
+    let whole = lived view stands role image chip source sink from to began now bearers few node.start node d opened last went h.one over read runs h.known refl drawn first h.order h.mark firsts
     h.closes.since h.below h.once h.seen h.closes h.stood h.moved in
-    subst (λ f. LivedOn (Stood view stands chip f) role image source sink from to began now bearers (chip node.start) (chip f) refills drawn closed last) (sym h.flash_is)
-    (subst (λ n. LivedOn (Stood view stands chip node.flash) role image source sink from to began now bearers (chip node.start) (chip node.flash) n drawn closed last) (sym h.refills_are)
-    (subst (λ b. LivedOn (Stood view stands chip node.flash) role image source sink from to began now bearers (chip node.start) (chip node.flash) node.machine.fills drawn b last) (sym h.closed_is) whole))
+    subst (λ f. LivedOn (Stood view stands chip f) role image source sink from to began now bearers (chip node.start) (chip f) opened f refills drawn closed last) (sym h.flash_is)
+    (subst (λ n. LivedOn (Stood view stands chip node.flash) role image source sink from to began now bearers (chip node.start) (chip node.flash) opened node.flash n drawn closed last) (sym h.refills_are)
+    (subst (λ b. LivedOn (Stood view stands chip node.flash) role image source sink from to began now bearers (chip node.start) (chip node.flash) opened node.flash node.machine.fills drawn b last) (sym h.closed_is) whole))

@@ -48,6 +48,8 @@ pub record TellsWords (life : Life) (closed : ClosedView) : Type 0 where
       ≡ once_below x closed.next
   pub firsts : All (λ a. seq_of a.1 ≡ 0) closed.advances
   pub reached : All (λ a. a.1 ≤ closed.next) closed.advances
+  -- At the end at most 256 words that were published are left, which the next life loses.
+  pub near : closed.mark ≤ closed.next + 256
   -- No refill was stored before there was a job that draws: so a life that had none stored none.
   pub asked : AreAsked life.entries life.refills
 

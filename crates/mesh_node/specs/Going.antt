@@ -42,7 +42,7 @@ pub record AreTold {F : Type 0} (entries : List Entry) (node : NodeView F) : Typ
   pub taken : node.machine.taken ≡ length node.machine.entries
 
 -- A node and the seats of its bearers between two phases of a life that isn't over, where all entries were taken.
-pub record IsBetween {F M Reader : Type 0} (seats : Seats M Reader) (node : NodeView F) : Type 0 where
+pub record IsBetween {F M Reader Reading : Type 0} (seats : Seats M Reader Reading) (node : NodeView F) : Type 0 where
   pub made : node.machine.which ≡ seats.numbers.which
   pub draws : seats.drawer.which ≡ seats.numbers.which
   -- all seats that were split off were taken in again
@@ -53,7 +53,7 @@ pub record IsBetween {F M Reader : Type 0} (seats : Seats M Reader) (node : Node
   pub count : seats.entries ≡ length node.machine.entries
 
 -- What is told behind a phase: the entries that weren't taken, and what its bearers left. The seats go on from there.
-pub record IsLogged {F M Reader : Type 0} (node : NodeView F) (before now : Seats M Reader) (dones : List Done)
+pub record IsLogged {F M Reader Reading : Type 0} (node : NodeView F) (before now : Seats M Reader Reading) (dones : List Done)
     (log : PhaseLog) : Type 0 where
   pub first : log.first ≡ before.entries
   pub entries : log.entries.items ≡ drop node.machine.taken node.machine.entries

@@ -20,7 +20,7 @@ abbrev pub given_phases : SourceSteps (List (List (List Event)))
 given_phases = record {
   gives = λ old events new. new ≡ old ++ events ∷ [];
   ends = λ old new. new ≡ old;
-  fails = λ old new. ⊥;
+  fails = λ bearers elements old new. ⊥;
 }
 
 -- Its sink is the list of what its owner was told of each.

@@ -27,8 +27,9 @@ use Rattle.life_laws.specs.Phases.{PhasesDone}
 use Rattle.mesh_node.specs.Told.{ArePlaced, AreToldEach, BySteps, HasGiven, HasTaken, IsClosedAt, PhaseDid, SinkSteps, SourceSteps, entries_told, part_told, sends_told}
 
 module _ {F S T : Type 0} (source : SourceSteps S) (sink : SinkSteps T) (from to : S) (began now : T) (bearers : ℕ) (node : NodeView F) (d : DrawerView) where
-  -- a life as far as it is: its phases came from the source, and the sink took what each did
-  pub record IsUnderWay (counts : List ℕ) : Type 0 where
+  -- A life as far as it is: its phases came from the source, and the sink took what each did. Before its first phase nothing is asked of the
+  -- flash that it was opened with.
+  pub record IsUnderWay (opened : F) (counts : List ℕ) : Type 0 where
     pub phases : List (List (List Event))
     pub did : List PhaseDid
     pub gave : BySteps source.gives from phases to
@@ -38,12 +39,13 @@ module _ {F S T : Type 0} (source : SourceSteps S) (sink : SinkSteps T) (from to
     pub placed : ArePlaced 0 did
     pub count : length did ≡ length phases
     pub each : PhasesDone phases (map part_told did)
+    pub idle : phases ≡ [] → node.flash ≡ opened
 
   -- all that became of it, up to its last step
-  pub record WentOn (last : LastStep) (closed : Bool) : Type 0 where
+  pub record WentOn (opened : F) (last : LastStep) (closed : Bool) : Type 0 where
     pub phases : List (List (List Event))
     pub did : List PhaseDid
-    pub gave : HasGiven source last from phases to
+    pub gave : HasGiven source bearers node.machine.elements last from phases to
     pub took : HasTaken sink last began did now
     pub over : IsOver phases node d (sends_told bearers did)
     pub told : AreTold (entries_told did) node
@@ -51,6 +53,7 @@ module _ {F S T : Type 0} (source : SourceSteps S) (sink : SinkSteps T) (from to
     pub each : AreToldEach closed phases did
     pub many : length (sends_told bearers did) ≡ bearers
     pub end : IsClosedAt last closed
+    pub idle : phases ≡ [] → node.flash ≡ opened
 
 -- the life in which these phases did this
 abbrev pub life_told : List StoreRecord → ℕ → ℕ → List PhaseDid → End → Life
@@ -80,16 +83,19 @@ pub record IsAllTold (Stood : List StoreRecord → MachineView → Type 0) (over
 module _ {S T : Type 0} (Stood : List StoreRecord → MachineView → Type 0) (role : Role) (image : List ℕ → Type 0) (source : SourceSteps S) (sink : SinkSteps T) (from to : S) (began now : T) (bearers : ℕ) where
   -- The life that opened over what the flash recovered at its beginning. It is cut where the flash failed in it, and only
   -- where it failed since its power was cycled.
-  pub record LivedOn (start new : Chip) (refills : ℕ) (drawn : ClosedView) (closed : Bool) (last : LastStep) : Type 0 where
+  pub record LivedOn {F : Type 0} (start new : Chip) (opened left : F) (refills : ℕ) (drawn : ClosedView) (closed : Bool) (last : LastStep) : Type 0 where
     pub phases : List (List (List Event))
     pub did : List PhaseDid
-    pub gave : HasGiven source last from phases to
+    pub over : List StoreRecord
+    pub recovered : IsRecovered start.now over
+    -- what it asked the source for were phases of its bearers, of a node with its elements
+    pub gave : HasGiven source bearers (config_of over).elements last from phases to
     pub took : HasTaken sink last began did now
     pub placed : ArePlaced 0 did
     pub each : AreToldEach closed phases did
     pub end : IsClosedAt last closed
-    pub over : List StoreRecord
-    pub recovered : IsRecovered start.now over
+    -- without a phase the flash that it was opened with is left, of which nothing was asked (of a held life: the one that it had as it was closed)
+    pub idle : phases ≡ [] → left ≡ opened
     pub life : (end : End) → is_cut end ≡ closed
         → IsLifeTold role phases over (life_told over bearers refills did end) new drawn
     pub node : IsNodeFlash image new

@@ -2,7 +2,7 @@
 use Rattle.std.specs.Prelude.{◌≡◌, ℕ, ◌+◌, ◌^◌, ◌<◌, ◌≤◌, ◌≢◌, length, true, false, IsTrue, List, Option, None, IfSome}
 use Rattle.flash_model.specs.Chip.{Chip, Remembers}
 use Rattle.machine_contract.specs.Moved.{HasMoved}
-use Rattle.machine_contract.specs.Opening.{EachRecovered, HasFormat, IsNodeFlash}
+use Rattle.machine_contract.specs.Opening.{EachRecovered, IsNodeFlash}
 use Rattle.mesh_types.specs.declared.history.Sent.{Sent}
 use Rattle.mesh_types.specs.declared.report.End.{End}
 use Rattle.mesh_types.specs.declared.report.End.TheVariants as F
@@ -12,6 +12,7 @@ use Rattle.record_types.specs.declared.records.StoreRecord.{StoreRecord}
 use Rattle.event_definitions.specs.Role.{Role}
 use Rattle.run_definitions.specs.Order.{Step, is_cut}
 use Rattle.run_definitions.specs.RunOf.{LifeOf, is_on}
+use Rattle.slot_definitions.specs.Slots.{HasFormat}
 use Rattle.store_definitions.specs.Config.{config_of}
 use Rattle.store_definitions.specs.Recovered.{IsRecovered}
 use Rattle.std.specs.Prelude.{All, Some}
@@ -69,6 +70,8 @@ pub record Lives {M F : Type 0} (view : M → MachineView) (stands : Chip → Li
   -- over a flash that fails by an order alone, one can be cut as it opens only where it migrates format 01, and within the calls of that
   pub opening : IsTrue old.steady → log.opened ≡ W.CutAtStart
       → HasFormat 1 image × IfSome (cut_calls log.end) (λ calls. calls ≤ COMPACTION_CALLS)
+  -- and where there was a Node Reset no program or erase call was made
+  pub reset : IsTrue old.steady → log.opened ≡ W.WasReset → (chip new).changes ≡ 0
   -- where it wasn't cut, the counter was moved with each record that raised the transmit IV Index, and at no other time
   pub moved : is_cut log.end ≡ false
       → IfSome log.drawn (λ words. HasMoved role over log.history.entries.items log.history.refills words.advances)

@@ -58,11 +58,12 @@ more_sends sends (d ∷ did) = more_sends (both_of sends d.sends) did
 abbrev pub sends_told : ℕ → List PhaseDid → List (List Sent)
 sends_told bearers did = more_sends (replicate bearers []) did
 
--- How a source of phases comes from the one state to the other: by giving a phase; by saying that there is none more; by failing.
+-- How a source of phases comes from the one state to the other: by giving a phase; by saying that there is none more; by failing, where it was
+-- asked for a phase of so many bearers of a node with so many elements.
 pub record SourceSteps (S : Type 0) : Type 1 where
   pub gives : S → List (List Event) → S → Type 0
   pub ends : S → S → Type 0
-  pub fails : S → S → Type 0
+  pub fails : ℕ → ℕ → S → S → Type 0
 
 -- How a sink comes from the one state to the other: by taking what a phase did; by failing at it.
 pub record SinkSteps (S : Type 0) : Type 1 where
@@ -75,19 +76,20 @@ module _ {S : Type 0} where
   BySteps step old [] new = new ≡ old
   BySteps step old (x ∷ xs) new = (mid : S) × step old x mid × BySteps step mid xs new
 
-  -- The source gave these phases, and where the life asked for one more, it had none, or failed.
-  abbrev pub HasGiven : SourceSteps S → LastStep → S → List (List (List Event)) → S → Type 0
-  HasGiven steps L.Ended old phases new = (mid : S) × BySteps steps.gives old phases mid × steps.ends mid new
-  HasGiven steps L.Unread old phases new = (mid : S) × BySteps steps.gives old phases mid × steps.fails mid new
-  HasGiven steps L.Cut old phases new = BySteps steps.gives old phases new
-  HasGiven steps L.Untold old phases new = BySteps steps.gives old phases new
+  -- The source gave these phases, and where the life asked for one more, of so many bearers of a node with so many elements, it had none, or
+  -- failed.
+  abbrev pub HasGiven : SourceSteps S → ℕ → ℕ → LastStep → S → List (List (List Event)) → S → Type 0
+  HasGiven steps bearers elements L.Ended old phases new = (mid : S) × BySteps steps.gives old phases mid × steps.ends mid new
+  HasGiven steps bearers elements L.Unread old phases new = (mid : S) × BySteps steps.gives old phases mid × steps.fails bearers elements mid new
+  HasGiven steps bearers elements L.Cut old phases new = BySteps steps.gives old phases new
+  HasGiven steps bearers elements L.Untold old phases new = BySteps steps.gives old phases new
 
-  -- it gave none, for this cause
-  abbrev pub GivesNone : SourceSteps S → LastStep → S → S → Type 0
-  GivesNone steps L.Ended old new = steps.ends old new
-  GivesNone steps L.Unread old new = steps.fails old new
-  GivesNone steps L.Cut old new = ⊥
-  GivesNone steps L.Untold old new = ⊥
+  -- asked for such a phase it gave none, for this cause
+  abbrev pub GivesNone : SourceSteps S → ℕ → ℕ → LastStep → S → S → Type 0
+  GivesNone steps bearers elements L.Ended old new = steps.ends old new
+  GivesNone steps bearers elements L.Unread old new = steps.fails bearers elements old new
+  GivesNone steps bearers elements L.Cut old new = ⊥
+  GivesNone steps bearers elements L.Untold old new = ⊥
 
   -- the sink was told of the last phase, after which the life is over for this cause
   abbrev pub IsLastTold : SinkSteps S → LastStep → Bool → S → PhaseDid → S → Type 0

@@ -125,8 +125,8 @@ fn go_on<
     ensures short { OnErr result
         (FellShort M.role S.steps T.steps source.old source.new sink.old sink.new (F.chip life.node.start)) }
     ensures went { IfOk result
-        (λ r. WentOn S.steps T.steps source.old source.new sink.old sink.new life.bearers r.node r.seats.drawer r.last
-        r.node.machine.closed) }
+        (λ r. WentOn S.steps T.steps source.old source.new sink.old sink.new life.bearers r.node r.seats.drawer life.node.flash
+        r.last r.node.machine.closed) }
 {
     let Going {
         mut node,
@@ -174,7 +174,7 @@ pub fn live_on<
     requires few { beginning.bearers ≤ BEARERS }
     ensures lived { IfOk result
         (λ r. LivedOn (Stood M.view M.stands F.chip r.flash) M.role M.image S.steps T.steps source.old source.new sink.old sink.new beginning.bearers
-        (F.chip beginning.start) (F.chip r.flash) r.refills r.drawn r.closed r.last) }
+        (F.chip beginning.start) (F.chip r.flash) beginning.flash r.flash r.refills r.drawn r.closed r.last) }
     ensures short { OnErr result
         (FellShort M.role S.steps T.steps source.old source.new sink.old sink.new (F.chip beginning.start)) }
 {

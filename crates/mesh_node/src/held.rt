@@ -7,7 +7,7 @@ ghost use Rattle.file_flash.specs.Noted.{IsInside, put_of, written};
 ghost use Rattle.flash_model.specs.Chip.{IsFresh, Keeps};
 ghost use Rattle.mesh_types.specs.declared.events.Event.{Event};
 ghost use Rattle.machine_contract.specs.declared.opening.StartFault.TheVariants as faults;
-ghost use Rattle.machine_contract.specs.Opening.{IsNodeFlash, MigratesOnly};
+ghost use Rattle.machine_contract.specs.Opening.{IsNodeFlash, IsUnwritten, MigratesOnly};
 ghost use Rattle.machine_contract.specs.Refused.{IsStartCause};
 ghost use Rattle.machine_contract.specs.Started.{IsStarted};
 ghost use Rattle.locked_node.specs.Stands.{IsDueNode, IsIdleNode};
@@ -119,7 +119,8 @@ impl<M: Machine, F: Flash + Send + Drop> HeldLife<M, F> {
     }
 
     /// A life over a flash from which one can be opened: it is started, and begins. That changes what a flash holds only where it
-    /// migrates one of format 01, and calls a steady one only then (`opened`, `unopened`).
+    /// migrates one of format 01, and a steady one counts a program or erase call only then (`opened`, `unopened`); a node that was reset isn't
+    /// migrated (`reset`).
     ///
     /// # Errors
     ///
@@ -137,6 +138,8 @@ impl<M: Machine, F: Flash + Send + Drop> HeldLife<M, F> {
         ensures cause { IfErr result
             (λ e. IfSome e.flash (λ f. IsStartCause M.image (F.chip flash) (F.chip f) e.fault)) }
         ensures unopened { IfErr result (λ e. IfSome e.flash (λ f. MigratesOnly (F.chip flash) (F.chip f))) }
+        ensures reset { IfErr result
+            (λ e. e.fault ≡ faults.WasReset → IfSome e.flash (λ f. IsUnwritten (F.chip flash) (F.chip f))) }
         ensures kept { IfErr result (λ e. IfSome e.flash (λ f. Keeps (F.chip flash) (F.chip f))) }
         ensures lost { IfErr result (λ e. e.flash ≡ None → e.fault ≡ faults.Memory) }
     {
@@ -247,7 +250,8 @@ impl<M: Machine, F: Flash + Send + Drop> HeldLife<M, F> {
         ensures lived { (phases : List (List (List Event))) (did : List PhaseDid)
             → HasLived M.role M.image F.chip self phases did
             → LivedOn (Stood M.view M.stands F.chip result.flash) M.role M.image given_phases told_phases [] phases [] did 1
-            (F.chip self.node.start) (F.chip result.flash) result.refills result.drawn result.closed result.last }
+            (F.chip self.node.start) (F.chip result.flash) self.node.flash result.flash result.refills result.drawn
+            result.closed result.last }
     {
         let HeldLife { going } = self;
         let Going {

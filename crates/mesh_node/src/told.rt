@@ -98,7 +98,7 @@ pub trait PhaseSource {
         ensures events { IfOk result
             (λ r. IfSome r (λ lists. All (λ v. AreEvents elements v.items) lists.items)) }
         ensures ends { IfOk result (λ r. r ≡ None → steps.ends self.old self.new) }
-        ensures fails { OnErr result (steps.fails self.old self.new) };
+        ensures fails { OnErr result (steps.fails bearers elements self.old self.new) };
 }
 
 /// Who is told of each phase of a life: at once when it is over, and so only once all of it is stored.
@@ -123,7 +123,7 @@ pub fn ask<S: PhaseSource>(
     ensures gives { IfOk result (λ lists. S.steps.gives source.old (map (λ v. v.items) lists.items) source.new) }
     ensures long { IfOk result (λ lists. length lists.items ≡ bearers) }
     ensures events { IfOk result (λ lists. All (λ v. AreEvents elements v.items) lists.items) }
-    ensures none { IfErr result (λ last. GivesNone S.steps last source.old source.new) }
+    ensures none { IfErr result (λ last. GivesNone S.steps bearers elements last source.old source.new) }
 {
     match source.next(bearers, elements, due) {
         Ok(Some(lists)) => Ok(lists),

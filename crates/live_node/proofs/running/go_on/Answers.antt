@@ -3,6 +3,7 @@ use Rattle.std.specs.Prelude.{⊤}
 use Rattle.std.proofs.lemmas.List.Elements.{All-nil}
 use Rattle.mesh_types.specs.declared.report.Opened.{Opened}
 use Rattle.mesh_types.specs.declared.report.Opened.TheVariants as W
+use Rattle.machine_contract.specs.Opening.{MigratesOnly}
 use Rattle.mesh_node.specs.Given.{Stood}
 use Rattle.record_types.specs.declared.records.StoreRecord.{StoreRecord}
 use Rattle.report_writer.specs.Writing.{view_of}
@@ -30,7 +31,7 @@ returns-in-Ok-clause-ended g c before first =
     let life = c.tells.ensures.known c.args.beginning.flash s.over c.args.beginning.started.machine s.tie in
     rw c.streams_of.ensures.value
     (over g.S.ClockedSource.clocked g.S.Source.left g.S.Source.faults g.E.Sink.held g.E.Sink.pieces g.E.Sink.faults g.K.Sink.held g.K.Sink.pieces g.K.Sink.faults
-    (Stood g.M.Machine.view g.M.Machine.stands chip lived.flash) g.M.Machine.role g.M.Machine.image _ c.args.beginning.bearers (chip c.args.beginning.start) (chip lived.flash)
+    (Stood g.M.Machine.view g.M.Machine.stands chip lived.flash) g.M.Machine.role g.M.Machine.image _ c.args.beginning.bearers (chip c.args.beginning.start) (chip lived.flash) c.args.beginning.flash lived.flash
     lines c.live_on-lived.new.source c.args.report c.live_on-lived.new.sink c.end_status-status.new.report.sink lived.refills lived.drawn lived.closed
     (streams_at g.S.Source.left g.S.Source.faults g.E.Sink.held g.E.Sink.pieces g.E.Sink.faults (record { source = lines.lines.source; errors = lines.lines.errors; sink = c.args.report.sink }))
     before c.args.opened c.life_law.ensures.whole first
@@ -42,6 +43,7 @@ returns-in-Ok-clause-ended g c before first =
       source_faults = g.S.Source.faults lines.lines.source;
       sink_faults = g.E.Sink.faults lines.lines.errors;
     }) begins.held begins.number) begins.why (All-nil (λ b. b ≡ 10 → ⊥), begins.front)
+    (λ same. subst (λ f. MigratesOnly (chip c.args.beginning.start) (chip f)) (sym same) c.requires.writes)
     lived.last lives (opens lives.over s.over c.args.opened c.args.beginning.started.state c.args.beginning.started.mark same c.requires.opened s.state s.mark)
     (begins.elements_are ∙ life.elements ∙ ap (λ o. (config_of o).elements) (sym same)) begins.bearers_are
     (c.told_law.ensures.told lived.last c.args.report c.live_on-lived.new.sink lives.did lives.took)
@@ -68,7 +70,7 @@ returns-in-Err-clause-ended g c before first =
     let life = c.tells.ensures.known c.args.beginning.flash s.over c.args.beginning.started.machine s.tie in
     rw c.streams_of-in-Err.ensures.value
     (short g.S.ClockedSource.clocked g.S.Source.left g.S.Source.faults g.E.Sink.held g.E.Sink.pieces g.E.Sink.faults g.K.Sink.held g.K.Sink.pieces g.K.Sink.faults
-    (λ _ _. ⊤) g.M.Machine.role g.M.Machine.image _ c.args.beginning.bearers (chip c.args.beginning.start) (chip c.args.beginning.start)
+    (λ _ _. ⊤) g.M.Machine.role g.M.Machine.image _ c.args.beginning.bearers (chip c.args.beginning.start) (chip c.args.beginning.flash) c.args.beginning.flash c.args.beginning.flash
     lines c.live_on-lived.new.source c.args.report c.live_on-lived.new.sink c.live_on-lived.new.sink.sink 0 (record { next = 0; mark = 0; drawn = []; looks = []; advances = [] }) Rattle.std.proofs.Common.false
     (streams_at g.S.Source.left g.S.Source.faults g.E.Sink.held g.E.Sink.pieces g.E.Sink.faults (record { source = lines.lines.source; errors = lines.lines.errors; sink = c.args.report.sink }))
     before c.args.opened c.life_law.ensures.whole first
@@ -79,7 +81,7 @@ returns-in-Err-clause-ended g c before first =
       told = view_of g.E.Sink.held g.E.Sink.pieces lines.lines.errors;
       source_faults = g.S.Source.faults lines.lines.source;
       sink_faults = g.E.Sink.faults lines.lines.errors;
-    }) begins.held begins.number) begins.why (All-nil (λ b. b ≡ 10 → ⊥), begins.front)
+    }) begins.held begins.number) begins.why (All-nil (λ b. b ≡ 10 → ⊥), begins.front) (λ same. c.requires.writes)
     fell (opens fell.over s.over c.args.opened c.args.beginning.started.state c.args.beginning.started.mark same c.requires.opened s.state s.mark)
     (begins.elements_are ∙ life.elements ∙ ap (λ o. (config_of o).elements) (sym same)) begins.bearers_are
     (c.told_law.ensures.taken c.args.report c.live_on-lived.new.sink fell.did fell.took).written)

@@ -1,8 +1,8 @@
-use Rattle.std.proofs.Common.{inl, inr, refl}
+use Rattle.std.proofs.Common.{Err, ap, inl, inr, refl}
 use Rattle.mesh_node.specs.Given.{Stood}
 use Rattle.report_writer.specs.Writing.{view_of}
 use Rattle.live_node.specs.Lived.{streams_at}
-use Rattle.live_node.proofs.Opening.{opening_front, started_untouched, unopened_over}
+use Rattle.live_node.proofs.Opening.{never_reset, opening_front, started_untouched, unopened_over}
 use Rattle.live_node.proofs.running.run_started.Goals as goal
 
 pub returns-in-Err-clause-ended : goal.returns-in-Err-clause-ended
@@ -22,7 +22,9 @@ returns-in-Err-clause-ended g c =
       kept = c.requires.kept;
       no_fault = s.no_fault;
       untouched = inr (started_untouched g.M.Machine.view g.M.Machine.stands g.M.Machine.role g.M.Machine.image (chip b.start) (chip b.flash) b.started s life);
-    }) c.in-Err.stop)
+      writes = c.requires.writes;
+      reset = never_reset (chip b.start) c.one_list_is_recovered.ensures.one_list s.over s.read s.runs;
+    }) c.in-Err.stop (λ why. ap (view_of g.K.Sink.held g.K.Sink.pieces) (c.in-Err.ensures.memory (ap Err why))))
 
 pub returns-in_default-clause-ended : goal.returns-in_default-clause-ended
 returns-in_default-clause-ended g c =
@@ -39,5 +41,8 @@ returns-in_default-clause-ended g c =
         kept = c.requires.kept;
         no_fault = s.no_fault;
         untouched = inr (started_untouched g.M.Machine.view g.M.Machine.stands g.M.Machine.role g.M.Machine.image (chip b.start) (chip b.flash) b.started s life);
+        writes = c.requires.writes;
+        reset = never_reset (chip b.start) c.one_list_is_recovered.ensures.one_list s.over s.read s.runs;
       },
+      refl,
     ))

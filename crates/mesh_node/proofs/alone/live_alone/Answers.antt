@@ -22,9 +22,10 @@ returns-clause-lived g c =
     let gone = c.in_ok-gone.gone in
     let left = c.end_life.result in
     let start = c.in_ok-gone.ensures.frame.start ∙ begun.start in
-    let went = subst (λ n. WentOn S T c.args.source.now c.go_on_alone.new.source c.args.sink.now c.go_on_alone.new.sink n gone.node gone.seats.drawer gone.last gone.node.machine.closed) begun.bearers c.in_ok-gone.ensures.went in
+    let went = subst (λ f. WentOn S T c.args.source.now c.go_on_alone.new.source c.args.sink.now c.go_on_alone.new.sink c.args.beginning.bearers gone.node gone.seats.drawer f gone.last gone.node.machine.closed) begun.flash
+    (subst (λ n. WentOn S T c.args.source.now c.go_on_alone.new.source c.args.sink.now c.go_on_alone.new.sink n gone.node gone.seats.drawer c.in_ok-life.life.node.flash gone.last gone.node.machine.closed) begun.bearers c.in_ok-gone.ensures.went) in
     let one : 1 ≤ BEARERS = omega arith in
     let few = subst (λ n. n ≤ BEARERS) (sym c.requires.alone) one in
-    let lived = lived_left g.M.Machine.view g.M.Machine.stands g.M.Machine.role g.M.Machine.image chip S T c.args.source.now c.go_on_alone.new.source c.args.sink.now c.go_on_alone.new.sink c.args.beginning.bearers few gone.node gone.seats.drawer gone.seats.numbers.opened gone.last left.flash left.refills left.drawn left.closed c.end_life.ensures.left went s.over
+    let lived = lived_left g.M.Machine.view g.M.Machine.stands g.M.Machine.role g.M.Machine.image chip S T c.args.source.now c.go_on_alone.new.source c.args.sink.now c.go_on_alone.new.sink c.args.beginning.bearers few gone.node gone.seats.drawer gone.seats.numbers.opened c.args.beginning.flash gone.last left.flash left.refills left.drawn left.closed c.end_life.ensures.left went s.over
     (subst (λ f. IsRecovered (chip f).now s.over) (sym start) s.read) s.runs (ap (λ n. n.opened) (c.in_ok-gone.ensures.numbers ∙ begun.numbers) ∙ s.opened) in
-    subst (λ f. LivedOn (Stood g.M.Machine.view g.M.Machine.stands chip left.flash) g.M.Machine.role g.M.Machine.image S T c.args.source.now c.go_on_alone.new.source c.args.sink.now c.go_on_alone.new.sink c.args.beginning.bearers (chip f) (chip left.flash) left.refills left.drawn left.closed left.last) start (subst (λ l. LivedOn (Stood g.M.Machine.view g.M.Machine.stands chip left.flash) g.M.Machine.role g.M.Machine.image S T c.args.source.now c.go_on_alone.new.source c.args.sink.now c.go_on_alone.new.sink c.args.beginning.bearers (chip gone.node.start) (chip left.flash) left.refills left.drawn left.closed l) (sym c.end_life.ensures.last) lived)
+    subst (λ f. LivedOn (Stood g.M.Machine.view g.M.Machine.stands chip left.flash) g.M.Machine.role g.M.Machine.image S T c.args.source.now c.go_on_alone.new.source c.args.sink.now c.go_on_alone.new.sink c.args.beginning.bearers (chip f) (chip left.flash) c.args.beginning.flash left.flash left.refills left.drawn left.closed left.last) start (subst (λ l. LivedOn (Stood g.M.Machine.view g.M.Machine.stands chip left.flash) g.M.Machine.role g.M.Machine.image S T c.args.source.now c.go_on_alone.new.source c.args.sink.now c.go_on_alone.new.sink c.args.beginning.bearers (chip gone.node.start) (chip left.flash) c.args.beginning.flash left.flash left.refills left.drawn left.closed l) (sym c.end_life.ensures.last) lived)

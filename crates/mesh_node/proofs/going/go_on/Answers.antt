@@ -3,7 +3,7 @@ use Rattle.std.proofs.lemmas.List.{length-map, length-replicate}
 use Rattle.mesh_types.specs.declared.events.Event.{Event}
 use Rattle.life_laws.specs.Phases.{both_of}
 use Rattle.mesh_node.specs.Going.{IsGoing, IsOver}
-use Rattle.mesh_node.specs.Told.{IsPartDone, did_of, entries_told, sends_told}
+use Rattle.mesh_node.specs.Told.{GivesNone, IsPartDone, did_of, entries_told, sends_told}
 use Rattle.mesh_node.proofs.Following.{same_more}
 use Rattle.mesh_node.proofs.Telling.{first_goes, goes_more, on_err, short_before, short_in, went_last, went_none}
 use Rattle.mesh_node.proofs.going.go_on.Goals as goal
@@ -26,20 +26,22 @@ loop-phase-init g c =
 pub returns-in-Err-clause-went : goal.returns-in-Err-clause-went
 returns-in-Err-clause-went g c =
     let l = c.loop-phase in
-    went_none g.S.PhaseSource.steps g.T.PhaseSink.steps c.args.source.now l.source c.args.sink.now l.sink c.args.life.bearers l.node l.seats.drawer l.seats.counts.items l.invariant.counts l.invariant.under l.invariant.usable c.ask.new.source c.in-Err.last c.in-Err.ensures.none
+    let S = g.S.PhaseSource.steps in
+    went_none S g.T.PhaseSink.steps c.args.source.now l.source c.args.sink.now l.sink c.args.life.bearers l.node l.seats.drawer c.args.life.node.flash l.seats.counts.items l.invariant.counts l.invariant.under l.invariant.usable c.ask.new.source c.in-Err.last
+    (subst (λ n. GivesNone S c.args.life.bearers n c.in-Err.last l.source c.ask.new.source) (sym (l.invariant.same.elements ∙ c.requires.elements)) c.in-Err.ensures.none)
 
 pub returns-in_err-done-clause-short : goal.returns-in_err-done-clause-short
 returns-in_err-done-clause-short g c =
     let l = c.loop-phase in
     let inv = l.invariant in
     let events = map (λ v. v.items) c.in-Ok.lists.items in
-    on_err c.from_residual.result (short_in {chip = g.F.Flash.chip} g.S.PhaseSource.steps g.T.PhaseSink.steps c.args.source.now l.source c.args.sink.now l.sink c.args.life.bearers l.node l.seats.drawer l.seats.counts.items inv.known c.args.life.node.start inv.same.start inv.under events c.ask.new.source c.in-Ok.ensures.gives)
+    on_err c.from_residual.result (short_in {chip = g.F.Flash.chip} g.S.PhaseSource.steps g.T.PhaseSink.steps c.args.source.now l.source c.args.sink.now l.sink c.args.life.bearers l.node l.seats.drawer c.args.life.node.flash l.seats.counts.items inv.known c.args.life.node.start inv.same.start inv.under events c.ask.new.source c.in-Ok.ensures.gives)
 
 pub returns-clause-short : goal.returns-clause-short
 returns-clause-short g c =
     let l = c.loop-phase in
     let inv = l.invariant in
-    short_before {chip = g.F.Flash.chip} g.S.PhaseSource.steps g.T.PhaseSink.steps c.args.source.now l.source c.args.sink.now l.sink c.args.life.bearers l.node l.seats.drawer l.seats.counts.items inv.known c.args.life.node.start inv.same.start inv.under
+    short_before {chip = g.F.Flash.chip} g.S.PhaseSource.steps g.T.PhaseSink.steps c.args.source.now l.source c.args.sink.now l.sink c.args.life.bearers l.node l.seats.drawer c.args.life.node.flash l.seats.counts.items inv.known c.args.life.node.start inv.same.start inv.under
 
 pub tell_phase-requires : goal.tell_phase-requires
 tell_phase-requires g c =
@@ -66,7 +68,7 @@ returns-in-Some-clause-went g c =
     let over : done.closed ≡ true → IsOver (h.phases ++ events ∷ []) done.node drawer (both_of sends lines) = subst (λ (ls : List (Vec Event Global)). done.closed ≡ true → IsOver (h.phases ++ map (λ v. v.items) ls ∷ []) done.node drawer (both_of sends lines)) c.as_slice.ensures.value (said.over h.phases [] sends h.going) in
     let told = said.told (entries_told h.did) h.told in
     let size = length-map done.log.sends.items (λ v. v.items) ∙ said.bearers in
-    went_last S T c.args.source.now l.source c.args.sink.now l.sink bearers l.node l.seats.drawer l.seats.counts.items inv.counts h events (did_of done.log) done.node c.one_phase.new.seats.drawer c.one_phase.new.seats.counts.items done.closed c.ask.new.source c.tell_phase.new.sink
+    went_last S T c.args.source.now l.source c.args.sink.now l.sink bearers l.node l.seats.drawer c.args.life.node.flash l.seats.counts.items inv.counts h events (did_of done.log) done.node c.one_phase.new.seats.drawer c.one_phase.new.seats.counts.items done.closed c.ask.new.source c.tell_phase.new.sink
     c.in-Ok.ensures.gives (said.place ∙ inv.between.count) size part told going over said.closed c.in-Some.last c.in-Some.ensures.some
 
 pub loop-phase-preserved : goal.loop-phase-preserved
@@ -98,6 +100,6 @@ loop-phase-preserved g c =
       counts = said.many ∙ inv.counts;
       usable = sym said.closed ∙ takes.0;
       known = said.known;
-      under = goes_more S T c.args.source.now l.source c.args.sink.now l.sink bearers l.node l.seats.drawer l.seats.counts.items inv.counts h events (did_of done.log) done.node c.one_phase.new.seats.drawer c.one_phase.new.seats.counts.items done.closed c.ask.new.source c.tell_phase.new.sink
+      under = goes_more S T c.args.source.now l.source c.args.sink.now l.sink bearers l.node l.seats.drawer c.args.life.node.flash l.seats.counts.items inv.counts h events (did_of done.log) done.node c.one_phase.new.seats.drawer c.one_phase.new.seats.counts.items done.closed c.ask.new.source c.tell_phase.new.sink
           c.in-Ok.ensures.gives (said.place ∙ inv.between.count) size part told going over said.closed takes.0 takes.1;
     }

@@ -15,5 +15,5 @@ invariant-loop-phase g l = record {
   counts : length l.seats.counts.items ≡ l.fn.life.bearers;
   usable : l.node.machine.closed ≡ false;
   known : IsNode g.M.Machine.role g.M.Machine.image g.F.Flash.chip l.node;
-  under : IsUnderWay g.S.PhaseSource.steps g.T.PhaseSink.steps l.initial.source l.source l.initial.sink l.sink l.fn.life.bearers l.node l.seats.drawer l.seats.counts.items;
+  under : IsUnderWay g.S.PhaseSource.steps g.T.PhaseSink.steps l.initial.source l.source l.initial.sink l.sink l.fn.life.bearers l.node l.seats.drawer l.fn.life.node.flash l.seats.counts.items;
 }

@@ -114,5 +114,5 @@ returns-in-Err-WasReset g c =
     let reset = subst (λ o. (config_of o).reset ≡ true) (c.one_list_is_recovered.ensures.one_list start.now cause.0.over cause.1.over cause.0.read cause.1.read) cause.0.reset in
     record {
       life = lives_reset g.M.Machine.view g.M.Machine.stands chip g.M.Machine.role g.M.Machine.image items c.requires.plan.arm old start c.start.new.flash c.idle_log-in-Err-WasReset.result
-          p.is p.began p.order p.armed p.count p.cycles c.start.ensures.frame cause.2 cause.1 reset log.opened log.end log.drawn log.entries log.refills log.sends log.early;
+          p.is p.began p.order p.armed p.count p.cycles c.start.ensures.frame p.uncalled (c.in-Err-WasReset.ensures.reset c.in-Err-WasReset.field-0-is) cause.2 cause.1 reset log.opened log.end log.drawn log.entries log.refills log.sends log.early;
     }
