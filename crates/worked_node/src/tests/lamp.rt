@@ -33,9 +33,9 @@ fn opened(alloc: Global, image: &[u8; IMAGE]) -> Option<Calls> {
     }
 }
 
-/// Takes all writes, which are fewer than 100 here, and makes them on an image. Answers whether a node could be opened from each image on the way.
+/// Takes all writes, however many there are, and makes them on an image. Answers whether a node could be opened from each image on the way.
 fn stored(alloc: Global, calls: &mut Calls, image: &mut [u8; IMAGE]) -> bool {
-    for _ in 0..100u32 {
+    for _ in 0..u32::MAX {
         let Some(write) = calls.next_write() else {
             return true;
         };
