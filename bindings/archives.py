@@ -1,4 +1,4 @@
-"""Static libraries for C, over the libraries that `rt ci` left in out/: `rt lib` would build those once more."""
+"""Static libraries for C, over the libraries that `rt ci` left in out/, which `rt lib` would build once more."""
 import subprocess
 import sys
 from pathlib import Path

@@ -1,6 +1,6 @@
 """Where the programs are, and the folders of the bridges; tests that need a program are skipped where it isn't built.
 
-MESHNODED and MESHNODE name other builds than those that `rt run` leaves.
+MESHNODED and MESHNODE name other builds than those that `rt ci` leaves.
 """
 import os
 import sys

@@ -14,8 +14,9 @@ from .targets import LIBRARY, PROGRAMS, Target
 WRITTEN = Path(__file__).resolve().with_name('stack.bounds')
 # What the library for C has names of.
 EXPORTED = re.compile(r'main|meshnode_\w+')
-# The rows of a built file, and whose stack each is of: of the library the calls of a node have one of their own.
-ROWS = {LIBRARY: {LIBRARY: re.compile(r'meshnode_(?!node_)\w+'), 'meshnode_node': re.compile(r'meshnode_node_\w+')}}
+# The rows of a built file, and whose stack each is of: of the library the calls of a node have one of their own, and another one to open it.
+OF_LIBRARY = {LIBRARY: r'meshnode_(?!node_)\w+', 'meshnode_node_open': r'meshnode_node_open', 'meshnode_node': r'meshnode_node_(?!open$)\w+'}
+ROWS = {LIBRARY: {row: re.compile(names) for row, names in OF_LIBRARY.items()}}
 # Where a linker is told that the functions of others are, and ours behind them.
 OTHERS, TEXT = 0x1000, 0x100000
 # What runs before and behind `main`, what is of C beside the program, and what stands between functions.

@@ -269,10 +269,13 @@ def _exit(words: list[str]) -> Iterator[str]:
         yield f'meshnoded ends so too: {" ".join(part for part in of_daemon if part)}'
 
 
+# The names of which the reason behind them says what to do, with the reasons that are the program's own.
+OF_A_REASON = {'nofile': meanings.NO_FILE, 'notmade': meanings.NOT_MADE, 'noclock': {}}
+
+
 def _reason_to_do(first: str, reason: str) -> str:
-    """What to do about the reason behind `nofile`, `notmade` or `noclock`."""
-    known = {'nofile': meanings.NO_FILE, 'notmade': meanings.NOT_MADE}.get(first, {})
-    for said, do in known.items():
+    """What to do about the reason behind such a name."""
+    for said, do in OF_A_REASON[first].items():
         if re.fullmatch(re.sub(' [NB] ', ' [0-9]+ ', re.escape(said).replace('\\ ', ' ')), reason):
             return do
     return meanings.BY_THE_SYSTEM
@@ -288,7 +291,7 @@ def _daemon_exit(words: list[str]) -> Iterator[str]:
         if reason != 'cut' or first not in ('writefault', 'memory', 'readfault', 'errorsfault'):
             raise Fault(NO_MEANING, f'what the program says behind {first}; is cut')
         yield 'The file refused a write as well: the life was cut as by a loss of power.'
-    do = _reason_to_do(first, reason) if words[0] == f'{first}:' else meaning.do
+    do = _reason_to_do(first, reason) if words[0] == f'{first}:' and first in OF_A_REASON else meaning.do
     if do:
         yield f'What to do: {do}'
 

@@ -152,8 +152,7 @@ VERDICTS = {
         'FRIENDCOUNTER) and the new one of a Key Refresh, 16 at most.')}
 
 EXITS = {
-    'usage': (2, Meaning('The words are no command.', 'meshnode run, meshnode run --hex, '
-                         'meshnode run --old, meshnode audit.')),
+    'usage': (2, Meaning('The words are no command.', 'meshnode run, lpn, audit or gen: explain --help has their words.')),
     'script': (3, Meaning('The text is no script: nothing was run.')),
     'readfault': (4, Meaning('Standard input failed.',
                              'Give a file or a pipe: meshnode run < FILE')),

@@ -114,6 +114,8 @@ class Said(unittest.TestCase):
                           ('nofile: Permission denied (os error 13)', 'refused a call'), ('notmade: there is such a file', 'name another one'),
                           ('noclock: os error 11', 'no thread, or no clock'), ('cut', 'exit status 12'), ('memory; cut', 'as by a loss of power'),
                           ('memory', 'meshnoded ends so too'), ('wasreset', 'exit status 14'), ('line 3: rule 3: foo', 'breaks rule 3'),
+                          ('keys: standard input isn\'t two words of 32 hexadecimal digits', 'do: Give the network key and the device key'),
+                          ('usage: see meshnoded --help', 'do: meshnoded --help lists them'),
                           ('line 3: rule 1: ', '(an empty word)'), ('line 4: not ended', 'no LF')):
             self.assertIn(due, ' '.join(explained(said.split(' '))), said)
 
@@ -135,7 +137,7 @@ class Said(unittest.TestCase):
         """What --help lists, and what is read from standard input."""
         done = subprocess.run([EXPLAIN, '--help'], capture_output=True, text=True, check=True)
         for word in (*meanings.ANSWERS, *meanings.RESULTS, *meanings.SAID.values(), *script.EVENTS, *meanings.DAEMON_EXITS,
-                     *meanings.NO_FILE, *meanings.NOT_MADE):
+                     *meanings.NO_FILE, *meanings.NOT_MADE, *re.findall(r'`(meshnoded? [a-z]+)', FORMATS)):
             self.assertIn(word, done.stdout)
         done = subprocess.run([EXPLAIN], input='replay 12345678 3129ab\n', capture_output=True,
                               text=True, check=True)

@@ -14,7 +14,7 @@ FILES = {
     'crates/low/src/lib.rt': '', 'crates/ffi/src/lib.rt': '', 'crates/lamp/src/main.rt': '', 'crates/worked_lamp/src/main.rt': '',
     'README.md': 'The toolchain prints `kit-1 logic 0123abcd`.\n', 'LICENSE': 'free\n', 'SECURITY.md': 'tell\n',
     'CHANGELOG.md': '# Changes\n\n## 2.3.4, today\n\n## 2.3.3\n', 'docs/FORMATS.md': 'octets\n', 'docs/api/low.md': 'calls\n',
-    'examples/lamp.mesh': 'life\n', 'bindings/c/lamp.h': 'int lamp(void);\n', '.gitignore': 'out/\n',
+    'examples/lamp.mesh': 'life\n', 'bindings/c/lamp.h': 'int lamp(void);\n', 'living/check': '#!', '.gitignore': 'out/\n',
 }
 BUILT = {'crates/lamp/out/lamp': '\x7fELF', 'crates/worked_lamp/out/worked_lamp': 'no', 'crates/ffi/out/libffi.a': '!<arch>'}
 
@@ -52,7 +52,7 @@ class Releases(unittest.TestCase):
         self.assertEqual(self.release(), (DONE, ''))
         self.assertEqual(self.places(), {
             'bin/lamp', 'lib/libffi.a', 'include/lamp.h', 'README.md', 'LICENSE', 'CHANGELOG.md', 'SECURITY.md', 'docs/FORMATS.md',
-            'docs/api/low.md', 'examples/lamp.mesh', 'VERSION', 'SHA256SUMS'})
+            'docs/api/low.md', 'examples/lamp.mesh', 'bindings/c/lamp.h', 'living/check', 'VERSION', 'SHA256SUMS'})
         self.assertEqual((self.folder / 'bin' / 'lamp').stat().st_mode & 0o777, 0o755)
         self.assertEqual((self.folder / 'VERSION').read_text(),
                          f'version 2.3.4\ncommit {self.git("rev-parse", "HEAD")}\ntoolchain kit-1 logic 0123abcd\n')
