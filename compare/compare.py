@@ -63,7 +63,7 @@ def reached(report: str) -> Counter[str]:
 
 def main() -> None:
     parser = argparse.ArgumentParser(description=__doc__.split('\n')[0])
-    parser.add_argument('program', help='the program, as rt run leaves it')
+    parser.add_argument('program', help='the program, as tools/build meshnode leaves it, or another build')
     parser.add_argument('--scripts', type=int, default=20, help='how many scripts')
     parser.add_argument('--seed', type=int, default=1, help='the seed of the first one')
     parser.add_argument('--kind', choices=sorted(KINDS), help='of this kind alone')

@@ -214,7 +214,7 @@ class Pair:
 
 def main() -> None:
     parser = argparse.ArgumentParser(description=__doc__, formatter_class=argparse.RawDescriptionHelpFormatter)
-    parser.add_argument('program', help='the program, as rt run leaves it, or oracle')
+    parser.add_argument('program', help='the program, as tools/build meshnode leaves it, or oracle')
     parser.add_argument('--pairs', type=int, default=10, help='how many pairs (10)')
     parser.add_argument('--seed', type=int, default=1, help='the seed of the first one (1)')
     asked = parser.parse_args()

@@ -52,8 +52,9 @@
 //! each of them        Ok only where the chip said at the end that all went well; else a fault more, and FlashFailed
 //! ```
 //!
-//! None is shipped, and none is proved but [`MemFlash`] and the one of `flaw_flash`. A store asks for a [`Flash`] alone, a life of a plan (`life` of
-//! `mesh_node`) for a [`Bench`], and one that goes on (`live_on`, `live_alone`, `HeldLife`) for a [`Flash`] that is `Send` and `Drop`.
+//! None to a chip is shipped. Proved are [`MemFlash`], the one of `flaw_flash`, and `FileFlash` of `file_flash`, over any place that does what it
+//! answers. A store asks for a [`Flash`] alone, a life of a plan (`life` of `mesh_node`) for a [`Bench`], and one that goes on (`live_on`,
+//! `live_alone`, `HeldLife`) for a [`Flash`] that is `Send` and `Drop`.
 #![tactic(auto)]
 
 mod armed;
