@@ -1,7 +1,7 @@
 //! One record is put.
 #![tactic(auto)]
 
-ghost use Rattle.std.specs.Prelude.{◌≡◌, ◌+◌, List, [], ◌∷◌, ◌++◌, false, IsTrue, OnOk};
+ghost use Rattle.std.specs.Prelude.{◌≡◌, ◌+◌, List, [], ◌∷◌, ◌++◌, false, OnOk};
 ghost use Rattle.event_records.specs.Putting.{IsMove};
 ghost use Rattle.event_storing.specs.Storing.{advance_to, moved_to, state_said};
 ghost use Rattle.node_records.specs.Full.{IsFull};
@@ -12,6 +12,7 @@ ghost use Rattle.node_store.specs.Writing.{CostsCalls, CutLeaves, FailsAtFlash, 
 ghost use Rattle.record_types.specs.declared.records.StoreRecord.{StoreRecord};
 ghost use Rattle.seq_reserve.specs.Reserving.{IsDurable, IsPublished};
 ghost use Rattle.store_definitions.specs.Ranges.{IsInRange};
+ghost use Rattle.store_definitions.specs.Wear.{CostsAndUses, CostsAtMost};
 
 use flash_model::Flash;
 use mesh_base::iv_state::IvState;
@@ -60,9 +61,12 @@ fn put_other<F: Flash>(
     ensures cut { CutLeaves (λ records. IsPut records item.now) (F.chip flash.old) (F.chip flash.new) reserve.old.store }
     ensures durable { (records : List StoreRecord) → IsStoreOf (F.chip flash.old) reserve.old.store records
         → IsDurable (F.chip flash.new) reserve.new.keeper.mark }
-    // over a steady flash
-    ensures costs { IsTrue (F.chip flash.old).steady
-        → CostsCalls (calls_of reserve.old.store) result (F.chip flash.old) (F.chip flash.new) }
+    ensures costs { CostsCalls (calls_of reserve.old.store) result (F.chip flash.old) (F.chip flash.new) }
+    ensures wear { OnOk result
+        (CostsAndUses reserve.old.store.journal.used 1 (F.chip flash.old).changes (F.chip flash.new).changes
+        reserve.new.store.journal.used) }
+    ensures most_wear { CostsAtMost reserve.old.store.journal.used 1 (F.chip flash.old).changes
+        (F.chip flash.new).changes }
     ensures leaves { LeavesFlash result (F.chip flash.old) (F.chip flash.new) }
     // for the next call
     ensures published { IsPublished reserve.new.store reserve.new.keeper }
@@ -96,9 +100,12 @@ pub(crate) fn store_one<F: Flash>(
     ensures cut { CutLeaves (λ records. IsPut records item.now) (F.chip flash.old) (F.chip flash.new) reserve.old.store }
     ensures durable { (records : List StoreRecord) → IsStoreOf (F.chip flash.old) reserve.old.store records
         → IsDurable (F.chip flash.new) reserve.new.keeper.mark }
-    // over a steady flash
-    ensures costs { IsTrue (F.chip flash.old).steady
-        → CostsCalls (calls_of reserve.old.store) result (F.chip flash.old) (F.chip flash.new) }
+    ensures costs { CostsCalls (calls_of reserve.old.store) result (F.chip flash.old) (F.chip flash.new) }
+    ensures wear { OnOk result
+        (CostsAndUses reserve.old.store.journal.used 1 (F.chip flash.old).changes (F.chip flash.new).changes
+        reserve.new.store.journal.used) }
+    ensures most_wear { CostsAtMost reserve.old.store.journal.used 1 (F.chip flash.old).changes
+        (F.chip flash.new).changes }
     ensures leaves { LeavesFlash result (F.chip flash.old) (F.chip flash.new) }
     // for the next call
     ensures published { IsPublished reserve.new.store reserve.new.keeper }

@@ -1,7 +1,7 @@
 //! The records of an event are put, one after another.
 #![tactic(auto)]
 
-ghost use Rattle.std.specs.Prelude.{◌≡◌, ◌≢◌, ℕ, ◌+◌, ◌*◌, ◌≤◌, List, [], ◌++◌, length, true, false, Ok, Err, IsTrue, OnOk};
+ghost use Rattle.std.specs.Prelude.{◌≡◌, ◌≢◌, ℕ, ◌+◌, ◌*◌, ◌≤◌, List, [], ◌++◌, length, true, false, Ok, Err, OnOk};
 ghost use Rattle.event_records.specs.Putting.{AreMoves, ArePuttable};
 ghost use Rattle.event_storing.specs.Storing.{advances_of, moved_to};
 ghost use Rattle.node_records.specs.Tables.{config_in};
@@ -9,6 +9,7 @@ ghost use Rattle.node_store.specs.Tie.{IsFront, IsStoreOf};
 ghost use Rattle.node_store.specs.Writing.{CostsCalls, CutLeaves, FailsAtFlash, LeavesFlash, OnlyAnswers, Puts};
 ghost use Rattle.record_types.specs.declared.records.StoreRecord.{StoreRecord};
 ghost use Rattle.seq_reserve.specs.Reserving.{IsDurable, IsPublished};
+ghost use Rattle.store_definitions.specs.Wear.{CostsAndUses, CostsAtMost};
 
 use crate::one::store_one;
 use event_records::Records;
@@ -40,9 +41,14 @@ fn store_each<F: Flash>(
         reserve.old.store }
     ensures durable { (records : List StoreRecord) → IsStoreOf (F.chip flash.old) reserve.old.store records
         → IsDurable (F.chip flash.new) reserve.new.keeper.mark }
-    // over a steady flash: two program calls for each record where there is room for all
-    ensures costs { IsTrue (F.chip flash.old).steady → reserve.old.store.journal.used + length items.now ≤ 1023
+    // two program calls for each record where there is room for all, and else those of compactions besides
+    ensures costs { reserve.old.store.journal.used + length items.now ≤ 1023
         → CostsCalls (2 * length items.now) result (F.chip flash.old) (F.chip flash.new) }
+    ensures wear { OnOk result
+        (CostsAndUses reserve.old.store.journal.used (length items.now) (F.chip flash.old).changes (F.chip flash.new).changes
+        reserve.new.store.journal.used) }
+    ensures most_wear { CostsAtMost reserve.old.store.journal.used (length items.now) (F.chip flash.old).changes
+        (F.chip flash.new).changes }
     ensures leaves { LeavesFlash result (F.chip flash.old) (F.chip flash.new) }
     // for the next call
     ensures published { IsPublished reserve.new.store reserve.new.keeper }
@@ -91,9 +97,15 @@ pub fn store_records<F: Flash>(
         → (image : List ℕ) → (F.chip flash.new).images image → IsFront before records.now image }
     ensures durable { (before : List StoreRecord) → IsStoreOf (F.chip flash.old) reserve.old.store before
         → IsDurable (F.chip flash.new) reserve.new.keeper.mark }
-    // over a steady flash: two program calls for each record where there is room for all
-    ensures costs { IsTrue (F.chip flash.old).steady → reserve.old.store.journal.used + length records.now ≤ 1023
+    // two program calls for each record where there is room for all, and else those of compactions besides
+    ensures costs { reserve.old.store.journal.used + length records.now ≤ 1023
         → CostsCalls (2 * length records.now) result (F.chip flash.old) (F.chip flash.new) }
+    ensures wear { reserve.old.store.journal.closed ≡ false
+        → OnOk result
+        (CostsAndUses reserve.old.store.journal.used (length records.now) (F.chip flash.old).changes (F.chip flash.new).changes
+        reserve.new.store.journal.used) }
+    ensures most_wear { CostsAtMost reserve.old.store.journal.used (length records.now) (F.chip flash.old).changes
+        (F.chip flash.new).changes }
     ensures leaves { LeavesFlash result (F.chip flash.old) (F.chip flash.new) }
     // for the next call
     ensures published { IsPublished reserve.new.store reserve.new.keeper }

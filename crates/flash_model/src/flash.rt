@@ -4,8 +4,8 @@
 // Tearing: power that fails within such a call leaves each bit of the range as it was or as it was to be. What it left is
 // stable: it reads the same until the next program or erase.
 // Durability: what a call that returned Ok wrote is there in every image from then on.
-// Counting: a flash counts its faults, and since the last power cycle its read calls; a steady one its program and erase calls
-// besides. An Ok leaves the count of faults, so no fault is swallowed.
+// Counting: a flash counts its faults, and since the last power cycle its read calls, and its program and erase calls. An Ok leaves
+// the count of faults, so no fault is swallowed.
 // So a caller that writes a record with its gate still ff, and clears the gate in a call of its own, finds the record whole
 // or its gate not 00, wherever power failed.
 //
@@ -13,7 +13,7 @@
 ghost use Rattle.std.specs.Prelude.{◌≡◌, ℕ, ◌+◌, ◌*◌, ◌%◌, ◌<◌, ◌≤◌, List, length, min, false, slice_range, IsTrue, IsOk, OnOk, OnErr, None, Some};
 ghost use Rattle.flash_model.specs.Octets.{IsContent, programmed, erased};
 ghost use Rattle.flash_model.specs.Chip.{Chip, Elapses, IsCut, IsDone, IsFresh, Keeps, KeepsCount, Stays};
-ghost use Rattle.flash_model.specs.Arming.{IsExplained, ObeysArm, ObeysCut};
+ghost use Rattle.flash_model.specs.Arming.{Begins, IsExplained, ObeysArm, ObeysCut};
 
 use thiserror::Error;
 
@@ -38,7 +38,8 @@ pub trait Flash {
     // What contracts know of the chip.
     ghost chip: { Self → Chip };
 
-    /// Reads `buf.len()` octets from offset `at` on. It changes nothing (`stays`), and is counted (`reads`).
+    /// Reads `buf.len()` octets from offset `at` on. It changes nothing (`stays`), and is counted (`reads`) as no other call
+    /// (`uncalled`).
     ///
     /// # Errors
     ///
@@ -51,6 +52,7 @@ pub trait Flash {
 
         // of every flash, honest or not
         ensures reads { (chip self.new).reads ≡ min ((chip self.old).reads + 1) 4294967295 }
+        ensures uncalled { (chip self.new).changes ≡ (chip self.old).changes }
         ensures no_fault { OnOk result ((chip self.new).faults ≡ (chip self.old).faults) }
         ensures cause { OnErr result ((chip self.old).faults < (chip self.new).faults) }
         ensures sure { IsTrue (chip self.old).sure → IsOk result }
@@ -76,6 +78,7 @@ pub trait Flash {
 
         // of every flash, honest or not
         ensures reads { (chip self.new).reads ≡ (chip self.old).reads }
+        ensures begins { Begins 1 (chip self.old) (chip self.new) }
         ensures no_fault { OnOk result ((chip self.new).faults ≡ (chip self.old).faults) }
         ensures cause { OnErr result ((chip self.old).faults < (chip self.new).faults) }
         ensures sure { IsTrue (chip self.old).sure → IsOk result }
@@ -98,6 +101,7 @@ pub trait Flash {
 
         // of every flash, honest or not
         ensures reads { (chip self.new).reads ≡ (chip self.old).reads }
+        ensures begins { Begins 1 (chip self.old) (chip self.new) }
         ensures no_fault { OnOk result ((chip self.new).faults ≡ (chip self.old).faults) }
         ensures cause { OnErr result ((chip self.old).faults < (chip self.new).faults) }
         ensures sure { IsTrue (chip self.old).sure → IsOk result }
@@ -164,8 +168,8 @@ pub trait Bench: Flash + Send + Drop {
         ensures sure { IsTrue (Self.chip self.old).steady → IsTrue (Self.chip self.new).sure }
         ensures frame { KeepsCount (Self.chip self.old) (Self.chip self.new) };
 
-    /// How many program and erase calls were begun since the last power cycle, of a steady flash (`by_arm` of [`Flash`]). Once it is ffffffff
-    /// it grows no more.
+    /// How many program and erase calls were begun since the last power cycle (`begins`, `uncalled` of [`Flash`]). Once it is ffffffff it grows
+    /// no more.
     fn changes(&self) -> u32
         ensures { result ≡ (Self.chip self.now).changes };
 

@@ -39,16 +39,17 @@
 //!    leaves the count (`no_fault`), and it never falls (`frame`; `Keeps`). It has no top, so a word that stops at one isn't it: [`MemFlash`]
 //!    has it in what contracts alone see (`past`).
 //! 7. The past stays: what a cut at an earlier moment might have left, it might still have left, whatever a call does (`frame`; `Remembers`).
-//! 8. Read calls are counted, and no other call counts as one, up to ffffffff (`reads`).
-//! 9. A flash that is `sure` never fails, and one that is `steady` counts its program and erase calls and fails only as an arm says (`sure`,
-//!    `by_arm`). An adapter to a chip says that it is neither, and owes nothing for it but a count that stays below 2^32 (`counted`).
+//! 8. Read calls are counted, and program and erase calls, whatever they answer; no call counts as another, and each count stops at ffffffff
+//!    (`reads`, `uncalled`, `begins`, `counted`).
+//! 9. A flash that is `sure` never fails, and one that is `steady` fails only as an arm says (`sure`, `by_arm`). An adapter to a chip says that
+//!    it is neither, and owes nothing for it.
 //!
 //! In words, on a chip whose pages are smaller than a sector, and of which 65,536 octets from `base` on are nobody else's:
 //!
 //! ```text
 //! read(at, buf)       count the read; have the chip send buf.len() octets from base + at on
-//! program(at, bytes)  page by page: enable writing, program, wait until the chip says that it is done
-//! erase(sector)       enable writing, erase the 4,096 octets from base + 4096 * sector on, wait
+//! program(at, bytes)  count the call; page by page: enable writing, program, wait until the chip says that it is done
+//! erase(sector)       count the call; enable writing, erase the 4,096 octets from base + 4096 * sector on, wait
 //! each of them        Ok only where the chip said at the end that all went well; else a fault more, and FlashFailed
 //! ```
 //!

@@ -17,11 +17,9 @@ pub fn rewrite<F: Flash>(flash: &mut F, sector: u32, bytes: &[u8]) -> Result<(),
     ensures any_moment { IsTrue (F.chip flash.old).honest
         → LeavesOnly (F.chip flash.old) (F.chip flash.new) (IsRewrite sector bytes.now (F.chip flash.old).images) }
 
-    // over a steady flash: two program and erase calls, and at most two where it fails
-    ensures calls { IsTrue (F.chip flash.old).steady → OnOk result (Begins 2 (F.chip flash.old) (F.chip flash.new)) }
-    ensures most_calls { IsTrue (F.chip flash.old).steady → BeginsAtMost 2 (F.chip flash.old) (F.chip flash.new) }
-
-    // of every flash, honest or not
+    // of every flash, honest or not: two program and erase calls, and at most two where it fails
+    ensures calls { OnOk result (Begins 2 (F.chip flash.old) (F.chip flash.new)) }
+    ensures most_calls { BeginsAtMost 2 (F.chip flash.old) (F.chip flash.new) }
     ensures reads { (F.chip flash.new).reads ≡ (F.chip flash.old).reads }
     ensures no_fault { OnOk result ((F.chip flash.new).faults ≡ (F.chip flash.old).faults) }
     ensures cause { OnErr result ((F.chip flash.old).faults < (F.chip flash.new).faults) }

@@ -44,7 +44,7 @@ pub fn show<F: Flash>(alloc: Global, flash: &mut F) -> Result<LineText, ShowFaul
     ensures value { IsTrue (F.chip flash.old).honest → IfOk result (Shows (F.chip flash.old).now) }
     ensures cause { IfErr result (IsShowCause (F.chip flash.old) (F.chip flash.new)) }
     ensures stays { IsTrue (F.chip flash.old).honest → Stays (F.chip flash.old) (F.chip flash.new) }
-    ensures calls { IsTrue (F.chip flash.old).steady → (F.chip flash.new).changes ≡ (F.chip flash.old).changes }
+    ensures calls { (F.chip flash.new).changes ≡ (F.chip flash.old).changes }
     ensures no_fault { OnOk result ((F.chip flash.new).faults ≡ (F.chip flash.old).faults) }
     ensures frame { Keeps (F.chip flash.old) (F.chip flash.new) }
 {

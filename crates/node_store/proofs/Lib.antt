@@ -9,3 +9,4 @@ pub mod Provisions
 pub mod Puts
 pub mod Rooms
 pub mod Takes
+pub mod Wears

@@ -8,8 +8,8 @@ ghost use Rattle.slot_definitions.specs.Slots.{HasFormat};
 ghost use Rattle.slot_journal.specs.Headers.{IsTidy};
 ghost use Rattle.store_definitions.specs.Config.{config_of};
 ghost use Rattle.node_store.specs.declared.mounting.StoreFault.{StoreFault};
-ghost use Rattle.node_store.specs.Calls.{compaction};
-ghost use Rattle.node_store.specs.Causes.{IsFoundAs, IsNotFlash, IsReadCause, IsSlotCause, IsStoreCause};
+ghost use Rattle.node_store.specs.Calls.{IsOpenedWith, compaction};
+ghost use Rattle.node_store.specs.Causes.{IsFoundAs, IsNotFlash, IsReadCause, IsReset, IsSlotCause, IsStoreCause};
 ghost use Rattle.node_store.specs.Mounted.{AreSaid, IsMounted, IsRefused, IsTaken};
 ghost use Rattle.node_store.specs.Tie.{HasMark, Holds, IsExactly, IsHeld, IsStoreOf};
 
@@ -17,7 +17,7 @@ use crate::room::compact;
 use crate::store::Store;
 use flash_model::{Flash, FlashFailed};
 use mesh_base::slot::Slot;
-use node_limits::COMPACTION_CALLS;
+use node_limits::{COMPACTION_CALLS, SNAPSHOT_RECORDS};
 use node_records::Persist;
 use record_texts::decode;
 use record_types::records::StoreRecord;
@@ -72,7 +72,8 @@ impl From<NoMount> for StoreFault {
 
 impl Store {
     /// Finds the store of a node on its flash: it reads the headers and each slot of the bank. A bank of format 01 is migrated: the records
-    /// that say the same are written into the other bank, in format 02 (`kept`, `any_moment`). Else it writes nothing (`stays`).
+    /// that say the same are written into the other bank, in format 02 (`kept`, `any_moment`). Else it writes nothing (`stays`), nor where a
+    /// Reset record is among them, also where the flash fails (`reset`).
     ///
     /// # Errors
     ///
@@ -98,6 +99,9 @@ impl Store {
             → IfErr result (λ e. IsNotFlash e → Stays (F.chip flash.old) (F.chip flash.new)) }
         ensures stays { IsTrue (F.chip flash.old).honest → ¬ HasFormat 1 (F.chip flash.old).now
             → Stays (F.chip flash.old) (F.chip flash.new) }
+        ensures reset { IsTrue (F.chip flash.old).honest → IsReset (F.chip flash.old).now
+            → Stays (F.chip flash.old) (F.chip flash.new)
+            × ((F.chip flash.new).changes ≡ (F.chip flash.old).changes) }
 
         // Of a flash that holds records.
         ensures kept { IsFresh (F.chip flash.old) → IsTidy (F.chip flash.old).now → (records : List StoreRecord)
@@ -108,13 +112,16 @@ impl Store {
             → Holds (F.chip flash.old).now records
             → LeavesOnly (F.chip flash.old) (F.chip flash.new) (HasMark (config_of records).mark) }
 
-        // over a steady flash: the program and erase calls of a compaction where the bank has format 01, and else none
-        ensures calls { IsTrue (F.chip flash.old).steady → IsTrue (F.chip flash.old).honest
+        // the program and erase calls of a compaction where the bank has format 01, and else none
+        ensures calls { IsTrue (F.chip flash.old).honest
             → HasFormat 1 (F.chip flash.old).now
             → IfOk result (λ s. Begins (compaction s.persist) (F.chip flash.old) (F.chip flash.new)) }
-        ensures most_calls { IsTrue (F.chip flash.old).steady → BeginsAtMost COMPACTION_CALLS (F.chip flash.old) (F.chip flash.new) }
-        ensures no_calls { IsTrue (F.chip flash.old).steady → IsTrue (F.chip flash.old).honest
+        ensures most_calls { BeginsAtMost COMPACTION_CALLS (F.chip flash.old) (F.chip flash.new) }
+        ensures no_calls { IsTrue (F.chip flash.old).honest
             → ¬ HasFormat 1 (F.chip flash.old).now → (F.chip flash.new).changes ≡ (F.chip flash.old).changes }
+        ensures wear { IsTrue (F.chip flash.old).honest
+            → IfOk result
+            (λ s. IsOpenedWith (F.chip flash.old).now (F.chip flash.old).changes (F.chip flash.new).changes s.journal.used) }
 
         // of every flash, honest or not
         ensures usable { IfOk result (λ s. s.journal.closed ≡ false) }
@@ -123,7 +130,7 @@ impl Store {
         ensures refused { IfErr result
             (λ e. IsNotFlash e
             → ((F.chip flash.new).faults ≡ (F.chip flash.old).faults)
-            × (IsTrue (F.chip flash.old).steady → (F.chip flash.new).changes ≡ (F.chip flash.old).changes)) }
+            × ((F.chip flash.new).changes ≡ (F.chip flash.old).changes)) }
         ensures sure { IsTrue (F.chip flash.old).sure → IfErr result IsNotFlash }
         ensures frame { Keeps (F.chip flash.old) (F.chip flash.new) }
     {
@@ -146,6 +153,7 @@ fn migrated<F: Flash>(
     requires said { IsSaid persist.now }
     requires usable { journal.closed ≡ false }
     ensures format { IfOk result (λ j. j.version ≡ 2) }
+    ensures room { journal.version ≡ 1 → IfOk result (λ j. j.used ≤ SNAPSHOT_RECORDS) }
     ensures usable { IfOk result (λ j. j.closed ≡ false) }
     ensures kept { (found : List StoreRecord)
         → IsExactly (F.chip flash.old) (record { journal = journal; persist = persist.now }) found
@@ -154,9 +162,10 @@ fn migrated<F: Flash>(
         → IsExactly (F.chip flash.old) (record { journal = journal; persist = persist.now }) found
         → LeavesOnly (F.chip flash.old) (F.chip flash.new) (IsHeld found) }
     ensures unchanged { ¬ journal.version ≡ 1 → flash.new ≡ flash.old }
-    ensures calls { IsTrue (F.chip flash.old).steady → journal.version ≡ 1
+    ensures used { ¬ journal.version ≡ 1 → IfOk result (λ j. j.used ≡ journal.used) }
+    ensures calls { journal.version ≡ 1
         → OnOk result (Begins (compaction persist.now) (F.chip flash.old) (F.chip flash.new)) }
-    ensures most_calls { IsTrue (F.chip flash.old).steady → BeginsAtMost COMPACTION_CALLS (F.chip flash.old) (F.chip flash.new) }
+    ensures most_calls { BeginsAtMost COMPACTION_CALLS (F.chip flash.old) (F.chip flash.new) }
     ensures no_fault { OnOk result ((F.chip flash.new).faults ≡ (F.chip flash.old).faults) }
     ensures cause { OnErr result ((F.chip flash.old).faults < (F.chip flash.new).faults) }
     ensures sure { IsTrue (F.chip flash.old).sure → IsOk result }
@@ -180,7 +189,7 @@ pub(crate) fn read_records<F: Flash>(
         → IfOk result (AreSaid (F.chip flash.old).now journal.now.bank journal.now.version journal.now.used) }
     ensures said { IfOk result IsSaid }
     ensures stays { IsTrue (F.chip flash.old).honest → Stays (F.chip flash.old) (F.chip flash.new) }
-    ensures calls { IsTrue (F.chip flash.old).steady → (F.chip flash.new).changes ≡ (F.chip flash.old).changes }
+    ensures calls { (F.chip flash.new).changes ≡ (F.chip flash.old).changes }
     ensures no_fault { OnOk result ((F.chip flash.new).faults ≡ (F.chip flash.old).faults) }
     ensures refused { IfErr result (λ e. IsNotFlash e → (F.chip flash.new).faults ≡ (F.chip flash.old).faults) }
     ensures sure { IsTrue (F.chip flash.old).sure → IfErr result IsNotFlash }
@@ -209,7 +218,7 @@ fn read_slot<F: Flash>(
         → OnOk result (AreSaid (F.chip flash.old).now journal.now.bank journal.now.version n persist.new) }
     ensures said { IsSaid persist.old → IsSaid persist.new }
     ensures stays { IsTrue (F.chip flash.old).honest → Stays (F.chip flash.old) (F.chip flash.new) }
-    ensures calls { IsTrue (F.chip flash.old).steady → (F.chip flash.new).changes ≡ (F.chip flash.old).changes }
+    ensures calls { (F.chip flash.new).changes ≡ (F.chip flash.old).changes }
     ensures no_fault { OnOk result ((F.chip flash.new).faults ≡ (F.chip flash.old).faults) }
     ensures refused { IfErr result (λ e. IsNotFlash e → (F.chip flash.new).faults ≡ (F.chip flash.old).faults) }
     ensures sure { IsTrue (F.chip flash.old).sure → IfErr result IsNotFlash }

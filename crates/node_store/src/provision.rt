@@ -68,6 +68,8 @@ impl Store {
         ensures erased { IsTrue (F.chip flash.old).honest → OnOk result (IsErased (F.chip flash.old).now) }
         ensures unchanged { IsTrue (F.chip flash.old).honest → ¬ IsErased (F.chip flash.old).now
             → Stays (F.chip flash.old) (F.chip flash.new) }
+        ensures no_calls { IsTrue (F.chip flash.old).honest → ¬ IsErased (F.chip flash.old).now
+            → (F.chip flash.new).changes ≡ (F.chip flash.old).changes }
         ensures value { IfOk result
             (λ s. (s.journal ≡ record { bank = 0; used = 3; closed = false; generation = 1; version = 2 })
             × IsMeaningOf (provisioned (provisioning p.now)) s.persist) }
@@ -81,8 +83,8 @@ impl Store {
         ensures any_moment { IsFresh (F.chip flash.old) → IsErased (F.chip flash.old).now
             → LeavesOnly (F.chip flash.old) (F.chip flash.new) (IsMade (provisioned (provisioning p.now))) }
 
-        // over a steady flash: two program calls for each record and two for the header
-        ensures costs { IsTrue (F.chip flash.old).steady → CostsCalls 8 result (F.chip flash.old) (F.chip flash.new) }
+        // two program calls for each record and two for the header
+        ensures costs { CostsCalls 8 result (F.chip flash.old) (F.chip flash.new) }
 
         // of every flash, honest or not
         ensures no_fault { OnOk result ((F.chip flash.new).faults ≡ (F.chip flash.old).faults) }
@@ -107,6 +109,8 @@ impl Store {
         ensures erased { IsTrue (F.chip flash.old).honest → OnOk result (IsErased (F.chip flash.old).now) }
         ensures unchanged { IsTrue (F.chip flash.old).honest → ¬ IsErased (F.chip flash.old).now
             → Stays (F.chip flash.old) (F.chip flash.new) }
+        ensures no_calls { IsTrue (F.chip flash.old).honest → ¬ IsErased (F.chip flash.old).now
+            → (F.chip flash.new).changes ≡ (F.chip flash.old).changes }
         ensures kept { IsFresh (F.chip flash.old) → OnOk result (IsFresh (F.chip flash.new)) }
         ensures durable { IsFresh (F.chip flash.old)
             → OnOk result
@@ -114,8 +118,8 @@ impl Store {
         ensures any_moment { IsFresh (F.chip flash.old) → IsErased (F.chip flash.old).now
             → LeavesOnly (F.chip flash.old) (F.chip flash.new) (IsMade (provisioned (provisioning p.now))) }
 
-        // over a steady flash: as many calls as `provision` makes
-        ensures costs { IsTrue (F.chip flash.old).steady → CostsCalls 8 result (F.chip flash.old) (F.chip flash.new) }
+        // as many calls as `provision` makes
+        ensures costs { CostsCalls 8 result (F.chip flash.old) (F.chip flash.new) }
 
         // of every flash, honest or not
         ensures no_fault { OnOk result ((F.chip flash.new).faults ≡ (F.chip flash.old).faults) }

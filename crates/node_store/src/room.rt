@@ -42,8 +42,7 @@ pub fn compact<F: Flash>(
     ensures any_moment { (found : List StoreRecord)
         → IsExactly (F.chip flash.old) (record { journal = journal.old; persist = persist.now }) found
         → LeavesOnly (F.chip flash.old) (F.chip flash.new) (IsHeld found) }
-    ensures costs { IsTrue (F.chip flash.old).steady
-        → CostsCalls (compaction persist.now) result (F.chip flash.old) (F.chip flash.new) }
+    ensures costs { CostsCalls (compaction persist.now) result (F.chip flash.old) (F.chip flash.new) }
     ensures leaves { LeavesFlash result (F.chip flash.old) (F.chip flash.new) }
 {
     let mut names = Names::new();
@@ -70,8 +69,7 @@ impl Store {
             → OnOk result (IsStoreOf (F.chip flash.new) self.new records) }
         ensures any_moment { (records : List StoreRecord) → IsStoreOf (F.chip flash.old) self.old records
             → LeavesOnly (F.chip flash.old) (F.chip flash.new) (IsHeld records) }
-        ensures costs { IsTrue (F.chip flash.old).steady
-            → CostsCalls (room_of self.old) result (F.chip flash.old) (F.chip flash.new) }
+        ensures costs { CostsCalls (room_of self.old) result (F.chip flash.old) (F.chip flash.new) }
         ensures bounded { room_of self.old ≤ COMPACTION_CALLS }
         ensures leaves { LeavesFlash result (F.chip flash.old) (F.chip flash.new) }
     {
@@ -100,7 +98,7 @@ impl Store {
         ensures sure { IsTrue (F.chip flash.old).sure → IsOk result }
         ensures any_moment { (records : List StoreRecord) → IsStoreOf (F.chip flash.old) self.old records
             → LeavesOnly (F.chip flash.old) (F.chip flash.new) (IsPut records item.now) }
-        ensures costs { IsTrue (F.chip flash.old).steady → CostsCalls 2 result (F.chip flash.old) (F.chip flash.new) }
+        ensures costs { CostsCalls 2 result (F.chip flash.old) (F.chip flash.new) }
         ensures leaves { LeavesFlash result (F.chip flash.old) (F.chip flash.new) }
     {
         let slot = encode(item);

@@ -1,9 +1,10 @@
 // Several records are put, one after another.
-ghost use Rattle.std.specs.Prelude.{◌≡◌, ◌+◌, ◌*◌, ◌≤◌, length, true, false, Err, IsTrue, OnOk};
+ghost use Rattle.std.specs.Prelude.{◌≡◌, ◌+◌, ◌*◌, ◌≤◌, length, true, false, Err, OnOk};
 ghost use Rattle.flash_model.specs.Arming.{BeginsAtMost};
 ghost use Rattle.node_store.specs.Several.{MayPut};
 ghost use Rattle.node_store.specs.Tie.{IsFront};
 ghost use Rattle.node_store.specs.Writing.{CostsCalls, CutLeaves, FailsAtFlash, LeavesFlash, OnlyAnswers, Puts};
+ghost use Rattle.store_definitions.specs.Wear.{CostsAndUses, CostsAtMost};
 
 use crate::store::{PutFault, Store};
 use flash_model::Flash;
@@ -28,11 +29,15 @@ impl Store {
             → FailsAtFlash result PutFault.Flash (F.chip flash.old) (F.chip flash.new) self.new }
         ensures puts { OnOk result (Puts items.now (F.chip flash.old) (F.chip flash.new) self.old self.new) }
         ensures cut { CutLeaves (λ records. IsFront records items.now) (F.chip flash.old) (F.chip flash.new) self.old }
-        // over a steady flash: two program calls for each record where there is room for all, and never more than a compaction takes for each
-        ensures costs { IsTrue (F.chip flash.old).steady → self.old.journal.used + length items.now ≤ 1023
+        // two program calls for each record where there is room for all, and never more than a compaction takes for each
+        ensures costs { self.old.journal.used + length items.now ≤ 1023
             → CostsCalls (2 * length items.now) result (F.chip flash.old) (F.chip flash.new) }
-        ensures bounded { IsTrue (F.chip flash.old).steady
-            → BeginsAtMost (PUT_CALLS * length items.now) (F.chip flash.old) (F.chip flash.new) }
+        ensures bounded { BeginsAtMost (PUT_CALLS * length items.now) (F.chip flash.old) (F.chip flash.new) }
+        ensures wear { OnOk result
+            (CostsAndUses self.old.journal.used (length items.now) (F.chip flash.old).changes (F.chip flash.new).changes
+            self.new.journal.used) }
+        ensures most_wear { CostsAtMost self.old.journal.used (length items.now) (F.chip flash.old).changes
+            (F.chip flash.new).changes }
         ensures leaves { LeavesFlash result (F.chip flash.old) (F.chip flash.new) }
     {
         if self.is_closed() {

@@ -1,11 +1,12 @@
 // The store: the journal that keeps its records, and what they say.
-ghost use Rattle.std.specs.Prelude.{◌≡◌, ◌+◌, ◌≤◌, List, [], ◌∷◌, true, false, Err, IsTrue, OnOk, OnErr};
+ghost use Rattle.std.specs.Prelude.{◌≡◌, ◌+◌, ◌≤◌, List, [], ◌∷◌, true, false, Err, OnOk, OnErr};
 ghost use Rattle.flash_model.specs.Arming.{BeginsAtMost};
 ghost use Rattle.flash_model.specs.Chip.{LeavesOnly};
 ghost use Rattle.record_types.specs.declared.records.StoreRecord.{StoreRecord};
 ghost use Rattle.node_records.specs.Meaning.{IsSaid};
 ghost use Rattle.node_records.specs.Full.{IsFull, held_for};
 ghost use Rattle.store_definitions.specs.Ranges.{IsInRange};
+ghost use Rattle.store_definitions.specs.Wear.{CostsAndUses, CostsAtMost};
 ghost use Rattle.node_store.specs.Calls.{calls_of, used_with_room};
 ghost use Rattle.node_store.specs.Numbers.{HasNumbers};
 ghost use Rattle.node_store.specs.Tie.{HasMark, IsNoNumbers, IsNotBelow, IsPut, IsStoreOf};
@@ -145,10 +146,12 @@ impl Store {
         ensures cut { CutLeaves (λ records. IsPut records item.now) (F.chip flash.old) (F.chip flash.new) self.old }
         ensures same_mark { (records : List StoreRecord) → IsStoreOf (F.chip flash.old) self.old records
             → IsNoNumbers item.now → LeavesOnly (F.chip flash.old) (F.chip flash.new) (HasMark self.old.persist.mark) }
-        // over a steady flash: two program calls, behind those of a compaction where all slots are used
-        ensures costs { IsTrue (F.chip flash.old).steady
-            → CostsCalls (calls_of self.old) result (F.chip flash.old) (F.chip flash.new) }
-        ensures bounded { IsTrue (F.chip flash.old).steady → BeginsAtMost PUT_CALLS (F.chip flash.old) (F.chip flash.new) }
+        // two program calls, behind those of a compaction where all slots are used
+        ensures costs { CostsCalls (calls_of self.old) result (F.chip flash.old) (F.chip flash.new) }
+        ensures bounded { BeginsAtMost PUT_CALLS (F.chip flash.old) (F.chip flash.new) }
+        ensures wear { OnOk result
+            (CostsAndUses self.old.journal.used 1 (F.chip flash.old).changes (F.chip flash.new).changes self.new.journal.used) }
+        ensures most_wear { CostsAtMost self.old.journal.used 1 (F.chip flash.old).changes (F.chip flash.new).changes }
         ensures leaves { LeavesFlash result (F.chip flash.old) (F.chip flash.new) }
     {
         if self.journal.is_closed() {

@@ -1,7 +1,7 @@
 //! A message is accepted: its record is put.
 #![tactic(auto)]
 
-ghost use Rattle.std.specs.Prelude.{◌≡◌, ℕ, ◌+◌, ◌^◌, ◌<◌, List, [], ◌∷◌, true, false, Err, Some, IsTrue, IfSome, OnOk, OnErr};
+ghost use Rattle.std.specs.Prelude.{◌≡◌, ℕ, ◌+◌, ◌^◌, ◌<◌, List, [], ◌∷◌, true, false, Err, Some, IfSome, OnOk, OnErr};
 ghost use Rattle.flash_model.specs.Chip.{LeavesOnly};
 ghost use Rattle.mesh_world.specs.World.{World};
 ghost use Rattle.mesh_world.specs.World.WorldStep.{Accept};
@@ -15,6 +15,7 @@ ghost use Rattle.rpl_journal.specs.Accepting.{accepting, IsNoNewer, IsReadUnder}
 ghost use Rattle.store_definitions.specs.Entries.{others_held};
 ghost use Rattle.store_definitions.specs.Following.{HasNoPlace};
 ghost use Rattle.store_definitions.specs.Ranges.{IsInRange};
+ghost use Rattle.store_definitions.specs.Wear.{CostsAndUses, CostsAtMost};
 ghost use Rattle.store_world.specs.Standing.{entry_with, GoesBy, IsAboveKept, IsWorldOf};
 
 use crate::checking::{Old, check};
@@ -152,9 +153,12 @@ pub fn accept<F: Flash>(store: &mut Store, flash: &mut F, name: &Name) -> Result
         store.old }
     ensures same_mark { (records : List StoreRecord) → IsStoreOf (F.chip flash.old) store.old records
         → LeavesOnly (F.chip flash.old) (F.chip flash.new) (HasMark store.old.persist.mark) }
-    // over a steady flash: the calls of one record put
-    ensures costs { IsTrue (F.chip flash.old).steady
-        → CostsCalls (calls_of store.old) result (F.chip flash.old) (F.chip flash.new) }
+    // the calls of one record put
+    ensures costs { CostsCalls (calls_of store.old) result (F.chip flash.old) (F.chip flash.new) }
+    ensures wear { OnOk result
+        (CostsAndUses store.old.journal.used 1 (F.chip flash.old).changes (F.chip flash.new).changes
+        store.new.journal.used) }
+    ensures most_wear { CostsAtMost store.old.journal.used 1 (F.chip flash.old).changes (F.chip flash.new).changes }
     ensures leaves { LeavesFlash result (F.chip flash.old) (F.chip flash.new) }
 {
     if store.is_closed() {

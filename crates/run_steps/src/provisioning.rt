@@ -23,13 +23,15 @@ fn provision_now<F: Flash>(flash: &mut F, p: &Provision) -> Result<(), FormatFau
     ensures erased { IsTrue (F.chip flash.old).honest → OnOk result (IsErased (F.chip flash.old).now) }
     ensures unchanged { IsTrue (F.chip flash.old).honest → ¬ IsErased (F.chip flash.old).now
         → Stays (F.chip flash.old) (F.chip flash.new) }
+    ensures no_calls { IsTrue (F.chip flash.old).honest → ¬ IsErased (F.chip flash.old).now
+        → (F.chip flash.new).changes ≡ (F.chip flash.old).changes }
     ensures provisioned { IsFresh (F.chip flash.old)
         → OnOk result (IsProvisioned (F.chip flash.new) (provisioned (provisioning p.now))) }
     ensures format { IsFresh (F.chip flash.old) → OnOk result (IsInFormat 2 (F.chip flash.new)) }
     ensures any_moment { IsFresh (F.chip flash.old) → IsErased (F.chip flash.old).now
         → LeavesOnly (F.chip flash.old) (F.chip flash.new) (IsMade (provisioned (provisioning p.now))) }
-    // over a steady flash: two program calls for each record and two for the header, and never more
-    ensures costs { IsTrue (F.chip flash.old).steady → CostsCalls 8 result (F.chip flash.old) (F.chip flash.new) }
+    // two program calls for each record and two for the header, and never more
+    ensures costs { CostsCalls 8 result (F.chip flash.old) (F.chip flash.new) }
     ensures no_fault { OnOk result ((F.chip flash.new).faults ≡ (F.chip flash.old).faults) }
     ensures sure { IsTrue (F.chip flash.old).sure → IfErr result IsNotErased }
     ensures frame { Keeps (F.chip flash.old) (F.chip flash.new) }
@@ -49,13 +51,15 @@ pub fn provision<F: Flash>(flash: &mut F, old: bool, p: &Provision) -> Result<()
     ensures erased { IsTrue (F.chip flash.old).honest → OnOk result (IsErased (F.chip flash.old).now) }
     ensures unchanged { IsTrue (F.chip flash.old).honest → ¬ IsErased (F.chip flash.old).now
         → Stays (F.chip flash.old) (F.chip flash.new) }
+    ensures no_calls { IsTrue (F.chip flash.old).honest → ¬ IsErased (F.chip flash.old).now
+        → (F.chip flash.new).changes ≡ (F.chip flash.old).changes }
     ensures provisioned { IsFresh (F.chip flash.old)
         → OnOk result (IsProvisioned (F.chip flash.new) (provisioned (provisioning p.now))) }
     ensures format { IsFresh (F.chip flash.old) → OnOk result (IsInFormat (format_by old) (F.chip flash.new)) }
     ensures any_moment { IsFresh (F.chip flash.old) → IsErased (F.chip flash.old).now
         → LeavesOnly (F.chip flash.old) (F.chip flash.new) (IsMade (provisioned (provisioning p.now))) }
-    // over a steady flash: as many calls in either format
-    ensures costs { IsTrue (F.chip flash.old).steady → CostsCalls 8 result (F.chip flash.old) (F.chip flash.new) }
+    // as many calls in either format
+    ensures costs { CostsCalls 8 result (F.chip flash.old) (F.chip flash.new) }
     ensures no_fault { OnOk result ((F.chip flash.new).faults ≡ (F.chip flash.old).faults) }
     ensures sure { IsTrue (F.chip flash.old).sure → IfErr result IsNotErased }
     ensures frame { Keeps (F.chip flash.old) (F.chip flash.new) }

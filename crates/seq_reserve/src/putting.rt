@@ -1,7 +1,7 @@
 //! A Numbers record is put.
 #![tactic(auto)]
 
-ghost use Rattle.std.specs.Prelude.{◌≡◌, ℕ, ◌+◌, List, [], ◌∷◌, true, false, Err, IsTrue, OnOk, OnErr};
+ghost use Rattle.std.specs.Prelude.{◌≡◌, ℕ, ◌+◌, List, [], ◌∷◌, true, false, Err, OnOk, OnErr};
 ghost use Rattle.mesh_world.specs.World.{World};
 ghost use Rattle.mesh_world.specs.World.WorldStep.{Reserve};
 ghost use Rattle.node_records.specs.Meaning.{IsSaid};
@@ -12,6 +12,7 @@ ghost use Rattle.record_types.specs.declared.records.StoreRecord.{StoreRecord};
 ghost use Rattle.record_types.specs.declared.records.StoreRecord.TheVariants as R;
 ghost use Rattle.seq_reserve.specs.Reserving.{IsDurable, IsNumbers, numbers_step};
 ghost use Rattle.store_definitions.specs.Ranges.{IsInRange};
+ghost use Rattle.store_definitions.specs.Wear.{CostsAndUses, CostsAtMost};
 ghost use Rattle.store_world.specs.Standing.{GoesBy, IsWorldOf};
 
 use crate::keep_fault::KeepFault;
@@ -44,8 +45,11 @@ pub(crate) fn put_numbers<F: Flash>(
         → IsDurable (F.chip flash.new) store.old.persist.mark }
     ensures durable { (records : List StoreRecord) → IsStoreOf (F.chip flash.old) store.old records
         → OnOk result (IsDurable (F.chip flash.new) store.new.persist.mark) }
-    ensures costs { IsTrue (F.chip flash.old).steady
-        → CostsCalls (calls_of store.old) result (F.chip flash.old) (F.chip flash.new) }
+    ensures costs { CostsCalls (calls_of store.old) result (F.chip flash.old) (F.chip flash.new) }
+    ensures wear { OnOk result
+        (CostsAndUses store.old.journal.used 1 (F.chip flash.old).changes (F.chip flash.new).changes
+        store.new.journal.used) }
+    ensures most_wear { CostsAtMost store.old.journal.used 1 (F.chip flash.old).changes (F.chip flash.new).changes }
     ensures leaves { LeavesFlash result (F.chip flash.old) (F.chip flash.new) }
 {
     store.put(flash, item)?;

@@ -1,7 +1,7 @@
 //! The store and the seat that moves the mark.
 #![tactic(auto)]
 
-ghost use Rattle.std.specs.Prelude.{◌≡◌, ◌≢◌, ℕ, ◌+◌, ◌*◌, ◌^◌, ◌<◌, ◌≤◌, List, [], ◌∷◌, ◌++◌, true, false, Ok, Err, IsTrue, IfOk, OnOk, OnErr};
+ghost use Rattle.std.specs.Prelude.{◌≡◌, ◌≢◌, ℕ, ◌+◌, ◌*◌, ◌^◌, ◌<◌, ◌≤◌, List, [], ◌∷◌, ◌++◌, true, false, Ok, Err, IfOk, OnOk, OnErr};
 ghost use Rattle.mesh_base.specs.IvState.{HasTransmit, transmit_of};
 ghost use Rattle.mesh_world.specs.World.{World};
 ghost use Rattle.node_records.specs.Tables.{config_in};
@@ -13,6 +13,7 @@ ghost use Rattle.seq_reserve.specs.Reserving.{first_word, IsDurable, IsPublished
 ghost use Rattle.seq_word.specs.Seen.{fresh};
 ghost use Rattle.seq_word.specs.Word.{seq_of};
 ghost use Rattle.store_definitions.specs.Numbers.{fill_of, moved};
+ghost use Rattle.store_definitions.specs.Wear.{CostsAndUses, CostsAtMost};
 ghost use Rattle.store_world.specs.Standing.{GoesBy, IsWorldOf};
 
 use crate::keep_fault::KeepFault;
@@ -108,9 +109,15 @@ impl Reserve {
             (F.chip flash.old) (F.chip flash.new) self.old.store }
         ensures durable { (records : List StoreRecord) → IsStoreOf (F.chip flash.old) self.old.store records
             → IsDurable (F.chip flash.new) self.new.keeper.mark }
-        // over a steady flash: the calls of one record put
-        ensures costs { dry.mark ≡ self.old.keeper.mark → IsTrue (F.chip flash.old).steady
+        // the calls of one record put
+        ensures costs { dry.mark ≡ self.old.keeper.mark
             → CostsCalls (calls_of self.old.store) result (F.chip flash.old) (F.chip flash.new) }
+        ensures wear { dry.mark ≡ self.old.keeper.mark
+            → OnOk result
+            (CostsAndUses self.old.store.journal.used 1 (F.chip flash.old).changes (F.chip flash.new).changes
+            self.new.store.journal.used) }
+        ensures most_wear { CostsAtMost self.old.store.journal.used 1 (F.chip flash.old).changes
+            (F.chip flash.new).changes }
         ensures leaves { LeavesFlash result (F.chip flash.old) (F.chip flash.new) }
         // for the next call
         ensures published { IsPublished self.new.store self.new.keeper }
@@ -180,9 +187,13 @@ impl Reserve {
             (F.chip flash.old) (F.chip flash.new) self.old.store }
         ensures durable { (records : List StoreRecord) → IsStoreOf (F.chip flash.old) self.old.store records
             → IsDurable (F.chip flash.new) self.new.keeper.mark }
-        // over a steady flash: the calls of one record put
-        ensures costs { IsTrue (F.chip flash.old).steady
-            → CostsCalls (calls_of self.old.store) result (F.chip flash.old) (F.chip flash.new) }
+        // the calls of one record put
+        ensures costs { CostsCalls (calls_of self.old.store) result (F.chip flash.old) (F.chip flash.new) }
+        ensures wear { OnOk result
+            (CostsAndUses self.old.store.journal.used 1 (F.chip flash.old).changes (F.chip flash.new).changes
+            self.new.store.journal.used) }
+        ensures most_wear { CostsAtMost self.old.store.journal.used 1 (F.chip flash.old).changes
+            (F.chip flash.new).changes }
         ensures leaves { LeavesFlash result (F.chip flash.old) (F.chip flash.new) }
         // for the next call
         ensures published { IsPublished self.new.store self.new.keeper }

@@ -87,11 +87,9 @@ impl Journal {
             → LeavesOnly (F.chip flash.old) (F.chip flash.new)
             (IsCompacted (recovered (F.chip flash.old).now) (S.slots items.now)) }
 
-        // over a steady flash: 8 erase calls, two program calls for each item and two for the header, and at most these where it fails
-        ensures calls { IsTrue (F.chip flash.old).steady
-            → OnOk result (Begins (10 + 2 * length (S.slots items.now)) (F.chip flash.old) (F.chip flash.new)) }
-        ensures most_calls { IsTrue (F.chip flash.old).steady
-            → BeginsAtMost (10 + 2 * length (S.slots items.now)) (F.chip flash.old) (F.chip flash.new) }
+        // 8 erase calls, two program calls for each item and two for the header, and at most these where it fails
+        ensures calls { OnOk result (Begins (10 + 2 * length (S.slots items.now)) (F.chip flash.old) (F.chip flash.new)) }
+        ensures most_calls { BeginsAtMost (10 + 2 * length (S.slots items.now)) (F.chip flash.old) (F.chip flash.new) }
 
         // of every flash, honest or not
         ensures reads { (F.chip flash.new).reads ≡ (F.chip flash.old).reads }
@@ -126,8 +124,8 @@ fn erase_bank<F: Flash>(flash: &mut F, bank: u32) -> Result<(), FlashFailed>
         → OnOk result (IsErasedTo bank 8 (F.chip flash.old).now (F.chip flash.new)) }
     ensures any_moment { IsFresh (F.chip flash.old) → IsContent (F.chip flash.old).now
         → LeavesOnly (F.chip flash.old) (F.chip flash.new) (IsErasing bank (F.chip flash.old).now) }
-    ensures calls { IsTrue (F.chip flash.old).steady → OnOk result (Begins 8 (F.chip flash.old) (F.chip flash.new)) }
-    ensures most_calls { IsTrue (F.chip flash.old).steady → BeginsAtMost 8 (F.chip flash.old) (F.chip flash.new) }
+    ensures calls { OnOk result (Begins 8 (F.chip flash.old) (F.chip flash.new)) }
+    ensures most_calls { BeginsAtMost 8 (F.chip flash.old) (F.chip flash.new) }
     ensures reads { (F.chip flash.new).reads ≡ (F.chip flash.old).reads }
     ensures no_fault { OnOk result ((F.chip flash.new).faults ≡ (F.chip flash.old).faults) }
     ensures cause { OnErr result ((F.chip flash.old).faults < (F.chip flash.new).faults) }

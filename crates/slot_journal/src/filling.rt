@@ -22,10 +22,8 @@ pub fn fill_bank<F: Flash, S: Items>(
         → OnOk result (IsBankFilled bank (S.slots items.now) (length (S.slots items.now)) base (F.chip flash.new)) }
     ensures any_moment { (base : List ℕ) → IsBankFilled bank (S.slots items.now) 0 base (F.chip flash.old)
         → LeavesOnly (F.chip flash.old) (F.chip flash.new) (IsBankBare bank base) }
-    ensures calls { IsTrue (F.chip flash.old).steady
-        → OnOk result (Begins (2 * length (S.slots items.now)) (F.chip flash.old) (F.chip flash.new)) }
-    ensures most_calls { IsTrue (F.chip flash.old).steady
-        → BeginsAtMost (2 * length (S.slots items.now)) (F.chip flash.old) (F.chip flash.new) }
+    ensures calls { OnOk result (Begins (2 * length (S.slots items.now)) (F.chip flash.old) (F.chip flash.new)) }
+    ensures most_calls { BeginsAtMost (2 * length (S.slots items.now)) (F.chip flash.old) (F.chip flash.new) }
     ensures reads { (F.chip flash.new).reads ≡ (F.chip flash.old).reads }
     ensures no_fault { OnOk result ((F.chip flash.new).faults ≡ (F.chip flash.old).faults) }
     ensures cause { OnErr result ((F.chip flash.old).faults < (F.chip flash.new).faults) }

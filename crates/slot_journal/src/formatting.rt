@@ -51,6 +51,8 @@ impl Journal {
         ensures erased { IsTrue (F.chip flash.old).honest → OnOk result (IsErased (F.chip flash.old).now) }
         ensures unchanged { IsTrue (F.chip flash.old).honest → ¬ IsErased (F.chip flash.old).now
             → Stays (F.chip flash.old) (F.chip flash.new) }
+        ensures no_calls { IsTrue (F.chip flash.old).honest → ¬ IsErased (F.chip flash.old).now
+            → (F.chip flash.new).changes ≡ (F.chip flash.old).changes }
         ensures value { IfOk result
             (λ j. j ≡ record { bank = 0; used = length items.now; closed = false; generation = 1; version = format }) }
         ensures kept { IsFresh (F.chip flash.old) → IfOk result (IsJournalOf (F.chip flash.new)) }
@@ -59,11 +61,9 @@ impl Journal {
         ensures any_moment { IsFresh (F.chip flash.old) → IsErased (F.chip flash.old).now
             → LeavesOnly (F.chip flash.old) (F.chip flash.new) (IsFormatted format items.now) }
 
-        // over a steady flash: two program calls for each item and two for the header, and at most these where it fails
-        ensures calls { IsTrue (F.chip flash.old).steady
-            → OnOk result (Begins (2 * length items.now + 2) (F.chip flash.old) (F.chip flash.new)) }
-        ensures most_calls { IsTrue (F.chip flash.old).steady
-            → BeginsAtMost (2 * length items.now + 2) (F.chip flash.old) (F.chip flash.new) }
+        // two program calls for each item and two for the header, and at most these where it fails
+        ensures calls { OnOk result (Begins (2 * length items.now + 2) (F.chip flash.old) (F.chip flash.new)) }
+        ensures most_calls { BeginsAtMost (2 * length items.now + 2) (F.chip flash.old) (F.chip flash.new) }
 
         // of every flash, honest or not
         ensures no_fault { OnOk result ((F.chip flash.new).faults ≡ (F.chip flash.old).faults) }
@@ -89,7 +89,7 @@ impl Journal {
 fn first_written<F: Flash>(flash: &mut F) -> Result<Option<u32>, FlashFailed>
     ensures value { IsTrue (F.chip flash.old).honest → IfOk result (IsScanned (F.chip flash.old).now) }
     ensures stays { IsTrue (F.chip flash.old).honest → Stays (F.chip flash.old) (F.chip flash.new) }
-    ensures calls { IsTrue (F.chip flash.old).steady → (F.chip flash.new).changes ≡ (F.chip flash.old).changes }
+    ensures calls { (F.chip flash.new).changes ≡ (F.chip flash.old).changes }
     ensures no_fault { OnOk result ((F.chip flash.new).faults ≡ (F.chip flash.old).faults) }
     ensures cause { OnErr result ((F.chip flash.old).faults < (F.chip flash.new).faults) }
     ensures sure { IsTrue (F.chip flash.old).sure → IsOk result }

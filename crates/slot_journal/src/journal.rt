@@ -96,8 +96,8 @@ impl Journal {
         ensures value { IfOk result (λ slot. slot ≡ gated (text_at (F.chip flash.old).now (1024 * self.now.bank + n))) }
         ensures stays { IsTrue (F.chip flash.old).honest → Stays (F.chip flash.old) (F.chip flash.new) }
 
-        // over a steady flash: it makes no program or erase call
-        ensures calls { IsTrue (F.chip flash.old).steady → (F.chip flash.new).changes ≡ (F.chip flash.old).changes }
+        // it makes no program or erase call
+        ensures calls { (F.chip flash.new).changes ≡ (F.chip flash.old).changes }
 
         // of every flash, honest or not
         ensures no_fault { OnOk result ((F.chip flash.new).faults ≡ (F.chip flash.old).faults) }
@@ -142,10 +142,9 @@ impl Journal {
             → LeavesOnly (F.chip flash.old) (F.chip flash.new)
             (IsAppended (recovered (F.chip flash.old).now) item.now) }
 
-        // over a steady flash: two program calls, and at most two where it fails
-        ensures calls { IsTrue (F.chip flash.old).steady
-            → OnOk result (Begins 2 (F.chip flash.old) (F.chip flash.new)) }
-        ensures most_calls { IsTrue (F.chip flash.old).steady → BeginsAtMost 2 (F.chip flash.old) (F.chip flash.new) }
+        // two program calls, and at most two where it fails
+        ensures calls { OnOk result (Begins 2 (F.chip flash.old) (F.chip flash.new)) }
+        ensures most_calls { BeginsAtMost 2 (F.chip flash.old) (F.chip flash.new) }
 
         // of every flash, honest or not
         ensures reads { (F.chip flash.new).reads ≡ (F.chip flash.old).reads }

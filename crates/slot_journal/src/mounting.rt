@@ -48,8 +48,8 @@ impl Journal {
             → IfOk result (IsJournalOf (F.chip flash.new)) }
         ensures stays { IsTrue (F.chip flash.old).honest → Stays (F.chip flash.old) (F.chip flash.new) }
 
-        // over a steady flash: it makes no program or erase call
-        ensures calls { IsTrue (F.chip flash.old).steady → (F.chip flash.new).changes ≡ (F.chip flash.old).changes }
+        // it makes no program or erase call
+        ensures calls { (F.chip flash.new).changes ≡ (F.chip flash.old).changes }
 
         // of every flash, honest or not
         ensures no_fault { OnOk result ((F.chip flash.new).faults ≡ (F.chip flash.old).faults) }
@@ -79,7 +79,7 @@ fn count_used<F: Flash>(flash: &mut F, bank: u32) -> Result<u32, FlashFailed>
     ensures few { IfOk result (λ used. used ≤ 1023) }
     ensures value { IsTrue (F.chip flash.old).honest → IfOk result (IsUsed (F.chip flash.old).now bank) }
     ensures stays { IsTrue (F.chip flash.old).honest → Stays (F.chip flash.old) (F.chip flash.new) }
-    ensures calls { IsTrue (F.chip flash.old).steady → (F.chip flash.new).changes ≡ (F.chip flash.old).changes }
+    ensures calls { (F.chip flash.new).changes ≡ (F.chip flash.old).changes }
     ensures no_fault { OnOk result ((F.chip flash.new).faults ≡ (F.chip flash.old).faults) }
     ensures cause { OnErr result ((F.chip flash.old).faults < (F.chip flash.new).faults) }
     ensures sure { IsTrue (F.chip flash.old).sure → IsOk result }

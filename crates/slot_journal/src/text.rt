@@ -21,8 +21,8 @@ pub fn write_slot<F: Flash>(flash: &mut F, n: u32, slot: &Slot) -> Result<(), Fl
         → OnOk result (IsWritten n (text_of slot.now) (F.chip flash.old).now (F.chip flash.new).now) }
     ensures any_moment { IsFresh (F.chip flash.old) → text_at (F.chip flash.old).now n ≡ blank_text
         → LeavesOnly (F.chip flash.old) (F.chip flash.new) (IsSlotWrite n (text_of slot.now) (F.chip flash.old).now) }
-    ensures calls { IsTrue (F.chip flash.old).steady → OnOk result (Begins 2 (F.chip flash.old) (F.chip flash.new)) }
-    ensures most_calls { IsTrue (F.chip flash.old).steady → BeginsAtMost 2 (F.chip flash.old) (F.chip flash.new) }
+    ensures calls { OnOk result (Begins 2 (F.chip flash.old) (F.chip flash.new)) }
+    ensures most_calls { BeginsAtMost 2 (F.chip flash.old) (F.chip flash.new) }
     ensures reads { (F.chip flash.new).reads ≡ (F.chip flash.old).reads }
     ensures no_fault { OnOk result ((F.chip flash.new).faults ≡ (F.chip flash.old).faults) }
     ensures cause { OnErr result ((F.chip flash.old).faults < (F.chip flash.new).faults) }
@@ -47,8 +47,8 @@ fn write_front<F: Flash>(
     ensures any_moment { IsFresh (F.chip flash.old) → text_at (F.chip flash.old).now n ≡ blank_text
         → LeavesOnly (F.chip flash.old) (F.chip flash.new)
         (IsSlotWrite n (front.now ++ 0 ∷ []) (F.chip flash.old).now) }
-    ensures calls { IsTrue (F.chip flash.old).steady → OnOk result (Begins 2 (F.chip flash.old) (F.chip flash.new)) }
-    ensures most_calls { IsTrue (F.chip flash.old).steady → BeginsAtMost 2 (F.chip flash.old) (F.chip flash.new) }
+    ensures calls { OnOk result (Begins 2 (F.chip flash.old) (F.chip flash.new)) }
+    ensures most_calls { BeginsAtMost 2 (F.chip flash.old) (F.chip flash.new) }
     ensures reads { (F.chip flash.new).reads ≡ (F.chip flash.old).reads }
     ensures no_fault { OnOk result ((F.chip flash.new).faults ≡ (F.chip flash.old).faults) }
     ensures cause { OnErr result ((F.chip flash.old).faults < (F.chip flash.new).faults) }
@@ -64,7 +64,7 @@ pub fn read_slot<F: Flash>(flash: &mut F, n: u32) -> Result<[u8; SLOT_OCTETS], F
     requires { n < 2048 }
     ensures value { IfOk result (λ text. text ≡ text_at (F.chip flash.old).now n) }
     ensures stays { IsTrue (F.chip flash.old).honest → Stays (F.chip flash.old) (F.chip flash.new) }
-    ensures calls { IsTrue (F.chip flash.old).steady → (F.chip flash.new).changes ≡ (F.chip flash.old).changes }
+    ensures calls { (F.chip flash.new).changes ≡ (F.chip flash.old).changes }
     ensures no_fault { OnOk result ((F.chip flash.new).faults ≡ (F.chip flash.old).faults) }
     ensures cause { OnErr result ((F.chip flash.old).faults < (F.chip flash.new).faults) }
     ensures sure { IsTrue (F.chip flash.old).sure → IsOk result }

@@ -43,8 +43,8 @@ pub fn check_tidy<F: Flash>(flash: &mut F) -> Result<(), Untidy>
     ensures cause { IfErr result (IsUntidyCause (F.chip flash.old) (F.chip flash.new)) }
     ensures stays { IsTrue (F.chip flash.old).honest → Stays (F.chip flash.old) (F.chip flash.new) }
 
-    // over a steady flash: it makes no program or erase call
-    ensures calls { IsTrue (F.chip flash.old).steady → (F.chip flash.new).changes ≡ (F.chip flash.old).changes }
+    // it makes no program or erase call
+    ensures calls { (F.chip flash.new).changes ≡ (F.chip flash.old).changes }
 
     // of every flash, honest or not
     ensures no_fault { OnOk result ((F.chip flash.new).faults ≡ (F.chip flash.old).faults) }

@@ -1,3 +1,4 @@
 pub mod Texts
 mod Whole
 pub mod Pushes
+pub mod Wear

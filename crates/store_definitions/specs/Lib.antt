@@ -7,3 +7,4 @@ pub mod Provisioning
 pub mod Alike
 pub mod Following
 pub mod Node
+pub mod Wear

@@ -10,6 +10,7 @@
 //! - `Alike`: when two lists say the same
 //! - `Following`: which record may come after others
 //! - `Node`: what the records of a node that can be run say, and which records keep it
+//! - `Wear`: how many calls of the flash records cost
 //!
 //! The laws about them are the contracts of functions that do nothing: `recovery` and `node`.
 #![tactic(auto)]

@@ -1,4 +1,4 @@
-use Rattle.std.proofs.Common.{◌∙◌, ◌++◌, length, take, refl, sym, subst, arith, true≢false}
+use Rattle.std.proofs.Common.{◌≡◌, ℕ, ◌+◌, ◌<◌, ◌∙◌, ◌++◌, length, take, refl, sym, subst, arith, true≢false}
 use Rattle.std.proofs.lemmas.List.{append-nil}
 use Rattle.event_storing.specs.Storing.{moved_to}
 use Rattle.flash_model.proofs.Runs.{begins_none, keeps_more, keeps_none}
@@ -8,6 +8,8 @@ use Rattle.node_store.proofs.Puts.{puts_of}
 use Rattle.node_store.proofs.Fronts.{all_calls, all_most, calls_at_most, calls_more, config_all, config_more, front_more, fronts_more, fronts_none, marks_more, tie_all, value_all, value_more, value_none}
 use Rattle.seq_reserve.specs.Reserving.{IsDurable}
 use Rattle.seq_reserve.proofs.Keeping.{durable_of}
+use Rattle.store_definitions.specs.Wear.{CostsAndUses}
+use Rattle.store_definitions.proofs.Wear.{at_most_more, at_most_of, at_most_of_more, paid_more, paid_none}
 use Rattle.event_storing.proofs.Loops.{next_may, next_moves, rest_moves, words_all, words_more}
 use Rattle.event_storing.proofs.several.store_each.Goals as goal
 
@@ -29,7 +31,8 @@ loop-item-init g c =
       advanced = sym (append-nil (moved_to reserve.keeper));
       fronts = λ records tie. fronts_none chip reserve.store records c.args.items.now tie (laws.only_now flash);
       durable = λ records tie. subst (λ n. IsDurable chip n) (sym c.requires.published) (durable_of chip reserve.store records tie);
-      calls = λ steady room. (begins_none chip (laws.counted flash), omega arith);
+      calls = λ room. (begins_none chip (laws.counted flash), omega arith);
+      wear = paid_none reserve.store.journal.used chip.changes;
       reads = refl;
       faults = refl;
     }
@@ -64,7 +67,8 @@ loop-item-preserved g c =
           let all = records ++ take i items in
           fronts_more items i _ less start first records mid store fronts new after may.1 put.puts.value (put.puts.kept all fronts.tie) (put.cut.any_moment all fronts.tie) (put.cut.mark all fronts.tie);
       durable = λ records tie. put.durable (records ++ take i items) (before.fronts records tie).tie;
-      calls = λ steady room. calls_more (length items) i start mid new first store less room (before.calls steady room) after (put.costs (before.keeps.steady ∙ steady)).calls put.used;
+      calls = λ room. calls_more (length items) i start mid new first store less room (before.calls room) after put.costs.calls put.used;
+      wear = paid_more first.journal.used i 1 start.changes mid.changes new.changes store.journal.used after.journal.used before.wear put.wear;
       reads = put.leaves.reads ∙ before.reads;
       faults = put.leaves.no_fault ∙ before.faults;
     }
@@ -123,13 +127,25 @@ returns-in_err-store_one-clause-durable g c records tie =
     c.in_err-store_one.ensures.durable (records ++ take c.loop-item.item-index c.args.items.now) (c.loop-item.invariant.fronts records tie).tie
 
 pub returns-in_err-store_one-clause-costs : goal.returns-in_err-store_one-clause-costs
-returns-in_err-store_one-clause-costs g c steady room =
+returns-in_err-store_one-clause-costs g c room =
     let before = c.loop-item.invariant in
     record {
       calls = on_ok_none c.from_residual.result c.in_err-store_one.field-0.0 c.from_residual.ensures.1 _;
       most_calls = calls_at_most (length c.args.items.now) c.loop-item.item-index (g.F.Flash.chip c.args.flash.now) (g.F.Flash.chip c.loop-item.flash) (g.F.Flash.chip c.store_one.new.flash)
-          c.args.reserve.now.store c.loop-item.reserve.store c.loop-item-test.true room (before.calls steady room) (c.in_err-store_one.ensures.costs (before.keeps.steady ∙ steady)).most_calls;
+          c.args.reserve.now.store c.loop-item.reserve.store c.loop-item-test.true room (before.calls room) c.in_err-store_one.ensures.costs.most_calls;
     }
+
+pub returns-in_err-store_one-clause-most_wear : goal.returns-in_err-store_one-clause-most_wear
+returns-in_err-store_one-clause-most_wear g c =
+    let i = c.loop-item.item-index in
+    let n : ℕ = length c.args.items.now in
+    let less : i < n = c.loop-item-test.true in
+    let used = c.args.reserve.now.store.journal.used in
+    let start = g.F.Flash.chip c.args.flash.now in
+    let mid = g.F.Flash.chip c.loop-item.flash in
+    let new = g.F.Flash.chip c.store_one.new.flash in
+    at_most_of_more used (i + 1) n start.changes new.changes (omega (arith, less))
+    (at_most_more used i 1 start.changes mid.changes new.changes c.loop-item.reserve.store.journal.used c.loop-item.invariant.wear c.in_err-store_one.ensures.most_wear)
 
 pub returns-in_err-store_one-clause-leaves : goal.returns-in_err-store_one-clause-leaves
 returns-in_err-store_one-clause-leaves g c =
@@ -169,16 +185,31 @@ pub returns-clause-durable : goal.returns-clause-durable
 returns-clause-durable g c records tie = c.loop-item.invariant.durable records tie
 
 pub returns-clause-costs : goal.returns-clause-costs
-returns-clause-costs g c steady room =
+returns-clause-costs g c room =
     let n = length c.args.items.now in
     let i = c.loop-item.item-index in
     let start = g.F.Flash.chip c.args.flash.now in
     let new = g.F.Flash.chip c.loop-item.flash in
-    let calls = (c.loop-item.invariant.calls steady room).0 in
+    let calls = (c.loop-item.invariant.calls room).0 in
     record {
       calls = all_calls n i start new (omega (arith, c.loop-item-test.false, c.loop-item.auto.item-index-end)) calls;
       most_calls = all_most n i start new (omega (arith, c.loop-item-test.false, c.loop-item.auto.item-index-end)) calls;
     }
+
+pub returns-clause-wear : goal.returns-clause-wear
+returns-clause-wear g c =
+    let n : ℕ = length c.args.items.now in
+    let i = c.loop-item.item-index in
+    let all : i ≡ n = omega (arith, c.loop-item-test.false, c.loop-item.auto.item-index-end) in
+    let start = g.F.Flash.chip c.args.flash.now in
+    let new = g.F.Flash.chip c.loop-item.flash in
+    subst (λ (k : ℕ). CostsAndUses c.args.reserve.now.store.journal.used k start.changes new.changes c.loop-item.reserve.store.journal.used) all c.loop-item.invariant.wear
+
+pub returns-clause-most_wear : goal.returns-clause-most_wear
+returns-clause-most_wear g c =
+    let start = g.F.Flash.chip c.args.flash.now in
+    let new = g.F.Flash.chip c.loop-item.flash in
+    at_most_of c.args.reserve.now.store.journal.used (length c.args.items.now) start.changes new.changes c.loop-item.reserve.store.journal.used (returns-clause-wear g c)
 
 pub returns-clause-leaves : goal.returns-clause-leaves
 returns-clause-leaves g c = record { reads = c.loop-item.invariant.reads; no_fault = c.loop-item.invariant.faults; frame = c.loop-item.invariant.keeps }

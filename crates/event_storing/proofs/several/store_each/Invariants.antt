@@ -1,5 +1,5 @@
 use Rattle.std.proofs.Common.{◌≡◌, ◌+◌, ◌*◌, ◌≤◌, List, ◌++◌, false}
-use Rattle.std.specs.Prelude.{length, take, drop, fold, IsTrue}
+use Rattle.std.specs.Prelude.{length, take, drop, fold}
 use Rattle.event_records.specs.Putting.{AreMoves, ArePuttable}
 use Rattle.event_storing.specs.Storing.{advances_of, moved_to}
 use Rattle.flash_model.specs.Arming.{Begins}
@@ -11,6 +11,7 @@ use Rattle.node_store.specs.Tie.{IsStoreOf}
 use Rattle.node_store.proofs.Fronts.{Fronts}
 use Rattle.seq_reserve.specs.Reserving.{IsDurable, IsPublished}
 use Rattle.store_definitions.specs.Config.{changed}
+use Rattle.store_definitions.specs.Wear.{CostsAndUses}
 use Rattle.event_storing.proofs.several.store_each.Given as goal
 
 abbrev pub invariant-loop-item : goal.invariant-loop-item
@@ -26,7 +27,8 @@ invariant-loop-item g l = record {
   advanced : moved_to l.reserve.keeper ≡ moved_to l.initial.reserve.keeper ++ advances_of (config_in l.initial.reserve.store.persist) (take l.item-index l.items);
   fronts : (records : List StoreRecord) → IsStoreOf (g.F.Flash.chip l.initial.flash) l.initial.reserve.store records → Fronts (g.F.Flash.chip l.initial.flash) l.initial.reserve.store records l.items l.item-index (g.F.Flash.chip l.flash) l.reserve.store;
   durable : (records : List StoreRecord) → IsStoreOf (g.F.Flash.chip l.initial.flash) l.initial.reserve.store records → IsDurable (g.F.Flash.chip l.flash) l.reserve.keeper.mark;
-  calls : IsTrue (g.F.Flash.chip l.initial.flash).steady → l.initial.reserve.store.journal.used + length l.items ≤ 1023 → Begins (2 * l.item-index) (g.F.Flash.chip l.initial.flash) (g.F.Flash.chip l.flash) × (l.reserve.store.journal.used ≡ l.initial.reserve.store.journal.used + l.item-index);
+  calls : l.initial.reserve.store.journal.used + length l.items ≤ 1023 → Begins (2 * l.item-index) (g.F.Flash.chip l.initial.flash) (g.F.Flash.chip l.flash) × (l.reserve.store.journal.used ≡ l.initial.reserve.store.journal.used + l.item-index);
+  wear : CostsAndUses l.initial.reserve.store.journal.used l.item-index (g.F.Flash.chip l.initial.flash).changes (g.F.Flash.chip l.flash).changes l.reserve.store.journal.used;
   reads : (g.F.Flash.chip l.flash).reads ≡ (g.F.Flash.chip l.initial.flash).reads;
   faults : (g.F.Flash.chip l.flash).faults ≡ (g.F.Flash.chip l.initial.flash).faults;
 }

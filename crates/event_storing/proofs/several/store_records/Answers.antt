@@ -1,5 +1,5 @@
 use Rattle.std.proofs.Common.{◌≡◌, ◌+◌, ◌*◌, ◌≤◌, List, [], sym, subst}
-use Rattle.std.specs.Prelude.{length, IsTrue, OnOk}
+use Rattle.std.specs.Prelude.{length, OnOk}
 use Rattle.node_store.specs.Tie.{IsFront}
 use Rattle.node_store.specs.Writing.{CostsCalls, CutLeaves, Puts}
 use Rattle.node_store.proofs.Fronts.{fronts_none}
@@ -7,6 +7,8 @@ use Rattle.node_store.proofs.Puts.{puts_none}
 use Rattle.record_types.specs.declared.records.StoreRecord.{StoreRecord}
 use Rattle.seq_reserve.specs.Reserving.{IsDurable}
 use Rattle.seq_reserve.proofs.Keeping.{durable_of}
+use Rattle.store_definitions.specs.Wear.{CostsAndUses, CostsAtMost}
+use Rattle.store_definitions.proofs.Wear.{at_most_none, paid_none}
 use Rattle.event_storing.proofs.Loops.{images_by}
 use Rattle.event_storing.proofs.several.store_records.Goals as goal
 
@@ -40,6 +42,25 @@ returns-then-is_empty-clause-durable g c records tie =
     let chip = g.F.Flash.chip c.args.flash.now in
     subst (λ n. IsDurable chip n) (sym c.requires.published) (durable_of chip c.args.reserve.now.store records tie)
 
+pub returns-then-is_empty-clause-wear : goal.returns-then-is_empty-clause-wear
+returns-then-is_empty-clause-wear g c usable =
+    let chip = g.F.Flash.chip c.args.flash.now in
+    let used = c.args.reserve.now.store.journal.used in
+    let is : c.args.records.now ≡ [] = c.is_empty.ensures.0 c.if-is_empty.true in
+    subst (λ (items : List StoreRecord). CostsAndUses used (length items) chip.changes chip.changes used) (sym is) (paid_none used chip.changes)
+
+pub returns-then-is_empty-clause-most_wear : goal.returns-then-is_empty-clause-most_wear
+returns-then-is_empty-clause-most_wear g c =
+    let chip = g.F.Flash.chip c.args.flash.now in
+    at_most_none c.args.reserve.now.store.journal.used (length c.args.records.now) chip.changes
+
+-- the store is closed
+
+pub returns-then-is_closed-clause-most_wear : goal.returns-then-is_closed-clause-most_wear
+returns-then-is_closed-clause-most_wear g c =
+    let chip = g.F.Flash.chip c.args.flash.now in
+    at_most_none c.args.reserve.now.store.journal.used (length c.args.records.now) chip.changes
+
 -- each of them
 
 pub returns-clause-puts : goal.returns-clause-puts
@@ -65,5 +86,20 @@ returns-clause-costs g c =
     let old = g.F.Flash.chip c.args.flash.now in
     let new = g.F.Flash.chip c.store_each.new.flash in
     let used = c.args.reserve.now.store.journal.used in
-    subst (λ (items : List StoreRecord). IsTrue old.steady → used + length items ≤ 1023 → CostsCalls (2 * length items) c.store_each.result old new)
+    subst (λ (items : List StoreRecord). used + length items ≤ 1023 → CostsCalls (2 * length items) c.store_each.result old new)
     c.as_slice.ensures.value c.store_each.ensures.costs
+
+pub returns-clause-wear : goal.returns-clause-wear
+returns-clause-wear g c usable =
+    let old = g.F.Flash.chip c.args.flash.now in
+    let new = g.F.Flash.chip c.store_each.new.flash in
+    let used = c.args.reserve.now.store.journal.used in
+    subst (λ (items : List StoreRecord). OnOk c.store_each.result (CostsAndUses used (length items) old.changes new.changes c.store_each.new.reserve.store.journal.used))
+    c.as_slice.ensures.value c.store_each.ensures.wear
+
+pub returns-clause-most_wear : goal.returns-clause-most_wear
+returns-clause-most_wear g c =
+    let old = g.F.Flash.chip c.args.flash.now in
+    let new = g.F.Flash.chip c.store_each.new.flash in
+    let used = c.args.reserve.now.store.journal.used in
+    subst (λ (items : List StoreRecord). CostsAtMost used (length items) old.changes new.changes) c.as_slice.ensures.value c.store_each.ensures.most_wear

@@ -10,6 +10,6 @@ invariant-loop-k g l = record {
   stays : IsTrue (g.F.Flash.chip l.initial.flash).honest → Stays (g.F.Flash.chip l.initial.flash) (g.F.Flash.chip l.flash);
   read : IsTrue (g.F.Flash.chip l.initial.flash).honest → AreSaid (g.F.Flash.chip l.initial.flash).now l.journal.bank l.journal.version l.k l.persist;
   said : IsSaid l.persist;
-  calls : IsTrue (g.F.Flash.chip l.initial.flash).steady → (g.F.Flash.chip l.flash).changes ≡ (g.F.Flash.chip l.initial.flash).changes;
+  calls : (g.F.Flash.chip l.flash).changes ≡ (g.F.Flash.chip l.initial.flash).changes;
   faults : (g.F.Flash.chip l.flash).faults ≡ (g.F.Flash.chip l.initial.flash).faults;
 }

@@ -12,7 +12,7 @@ loop-k-init g c =
       keeps = keeps_none chip;
       erased = λ fresh whole. erased_none c.args.bank chip fresh whole;
       leaves = λ fresh whole. none_erased c.args.bank chip (laws.only_now flash) fresh whole;
-      calls = λ steady. begins_none chip (laws.counted flash);
+      calls = begins_none chip (laws.counted flash);
       reads = refl;
       faults = refl;
     }
@@ -33,7 +33,7 @@ loop-k-preserved g c =
       leaves = λ fresh whole.
           let so = before.erased fresh whole in
           erase_leaves c.args.bank c.loop-k.k start.now mid c.requires c.loop-k-test.true whole so start new (before.leaves fresh whole) (did.any_moment so.fresh.honest);
-      calls = λ steady. begins_more c.loop-k.k 1 (c.loop-k.k + 1) start mid new refl (before.calls steady) (did.by_arm (before.keeps.steady ∙ steady)).counted;
+      calls = begins_more c.loop-k.k 1 (c.loop-k.k + 1) start mid new refl before.calls did.begins;
       reads = did.reads ∙ before.reads;
       faults = did.no_fault ∙ before.faults;
     }

@@ -1,5 +1,4 @@
 use Rattle.std.proofs.Common.{◌≡◌}
-use Rattle.std.specs.Prelude.{IsTrue}
 use Rattle.flash_model.specs.Octets.{IsContent}
 use Rattle.flash_model.specs.Arming.{Begins}
 use Rattle.flash_model.specs.Chip.{IsFresh, Keeps, LeavesOnly}
@@ -11,7 +10,7 @@ invariant-loop-k g l = record {
   keeps : Keeps (g.F.Flash.chip l.initial.flash) (g.F.Flash.chip l.flash);
   erased : IsFresh (g.F.Flash.chip l.initial.flash) → IsContent (g.F.Flash.chip l.initial.flash).now → IsErasedTo l.bank l.k (g.F.Flash.chip l.initial.flash).now (g.F.Flash.chip l.flash);
   leaves : IsFresh (g.F.Flash.chip l.initial.flash) → IsContent (g.F.Flash.chip l.initial.flash).now → LeavesOnly (g.F.Flash.chip l.initial.flash) (g.F.Flash.chip l.flash) (IsErasing l.bank (g.F.Flash.chip l.initial.flash).now);
-  calls : IsTrue (g.F.Flash.chip l.initial.flash).steady → Begins l.k (g.F.Flash.chip l.initial.flash) (g.F.Flash.chip l.flash);
+  calls : Begins l.k (g.F.Flash.chip l.initial.flash) (g.F.Flash.chip l.flash);
   reads : (g.F.Flash.chip l.flash).reads ≡ (g.F.Flash.chip l.initial.flash).reads;
   faults : (g.F.Flash.chip l.flash).faults ≡ (g.F.Flash.chip l.initial.flash).faults;
 }

@@ -19,7 +19,7 @@ loop-slot-init g c =
       keeps = keeps_none chip;
       filled = λ base so. so;
       leaves = λ base so. none_leaves c.args.bank (g.S.Items.slots c.args.items.now) base chip (laws.only_now flash) so;
-      calls = λ steady. begins_none chip (laws.counted flash);
+      calls = begins_none chip (laws.counted flash);
       reads = refl;
       faults = refl;
     }
@@ -52,7 +52,7 @@ loop-slot-preserved g c =
       leaves = λ base empty.
           let so = before.filled base empty in
           item_leaves bank items k base mid c.requires.low few so start new (text_of item) (before.leaves base empty) (wrote.any_moment so.fresh (next_item bank items k base mid c.requires.low few so));
-      calls = λ steady. begins_more (2 * k) 2 (2 * (k + 1)) start mid new (omega arith) (before.calls steady) (wrote.calls (before.keeps.steady ∙ steady));
+      calls = begins_more (2 * k) 2 (2 * (k + 1)) start mid new (omega arith) before.calls wrote.calls;
       reads = wrote.reads ∙ before.reads;
       faults = wrote.no_fault ∙ before.faults;
     }
@@ -71,10 +71,10 @@ returns-in_err-write_slot-clause-any_moment g c base empty =
     (before.leaves base empty) (c.in_err-write_slot.ensures.any_moment so.fresh (next_item c.args.bank items k base mid c.requires.low few so))
 
 pub returns-in_err-write_slot-clause-most_calls : goal.returns-in_err-write_slot-clause-most_calls
-returns-in_err-write_slot-clause-most_calls g c steady =
+returns-in_err-write_slot-clause-most_calls g c =
     let before = c.loop-slot.invariant in
     let less : c.loop-slot.count < length (g.S.Items.slots c.args.items.now) = slice_get_within (g.S.Items.slots c.args.items.now) c.loop-slot.count c.in-Some.slot (sym c.in-Some.ensures.value) in
-    omega (arith, less, before.calls steady, c.in_err-write_slot.ensures.most_calls (before.keeps.steady ∙ steady))
+    omega (arith, less, before.calls, c.in_err-write_slot.ensures.most_calls)
 
 pub returns-clause-count : goal.returns-clause-count
 returns-clause-count g c =
@@ -88,7 +88,7 @@ returns-clause-filled g c base empty =
     subst (λ (n : ℕ). IsBankFilled c.args.bank (g.S.Items.slots c.args.items.now) n base (g.F.Flash.chip c.loop-slot.flash)) all (c.loop-slot.invariant.filled base empty)
 
 pub returns-clause-calls : goal.returns-clause-calls
-returns-clause-calls g c steady =
+returns-clause-calls g c =
     let past : length (g.S.Items.slots c.args.items.now) ≤ c.loop-slot.count = past_all (g.S.Items.slots c.args.items.now) c.loop-slot.count (sym c.slot.ensures.value ∙ c.in_default.is) in
     let all : c.loop-slot.count ≡ length (g.S.Items.slots c.args.items.now) = omega (arith, past, c.loop-slot.invariant.within) in
-    rw (sym all) (c.loop-slot.invariant.calls steady)
+    rw (sym all) c.loop-slot.invariant.calls

@@ -1,5 +1,4 @@
 use Rattle.std.proofs.Common.{◌≡◌, ◌≤◌, ◌-◌, ℕ, ◌*◌, List, length}
-use Rattle.std.specs.Prelude.{IsTrue}
 use Rattle.flash_model.specs.Arming.{Begins}
 use Rattle.flash_model.specs.Chip.{Keeps, LeavesOnly}
 use Rattle.slot_journal.specs.Banks.{IsBankBare, IsBankFilled}
@@ -11,7 +10,7 @@ invariant-loop-slot g l = record {
   keeps : Keeps (g.F.Flash.chip l.initial.flash) (g.F.Flash.chip l.flash);
   filled : (base : List ℕ) → IsBankFilled l.bank (g.S.Items.slots l.items) 0 base (g.F.Flash.chip l.initial.flash) → IsBankFilled l.bank (g.S.Items.slots l.items) l.count base (g.F.Flash.chip l.flash);
   leaves : (base : List ℕ) → IsBankFilled l.bank (g.S.Items.slots l.items) 0 base (g.F.Flash.chip l.initial.flash) → LeavesOnly (g.F.Flash.chip l.initial.flash) (g.F.Flash.chip l.flash) (IsBankBare l.bank base);
-  calls : IsTrue (g.F.Flash.chip l.initial.flash).steady → Begins (2 * l.count) (g.F.Flash.chip l.initial.flash) (g.F.Flash.chip l.flash);
+  calls : Begins (2 * l.count) (g.F.Flash.chip l.initial.flash) (g.F.Flash.chip l.flash);
   reads : (g.F.Flash.chip l.flash).reads ≡ (g.F.Flash.chip l.initial.flash).reads;
   faults : (g.F.Flash.chip l.flash).faults ≡ (g.F.Flash.chip l.initial.flash).faults;
 }

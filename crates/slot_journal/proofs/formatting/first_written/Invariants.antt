@@ -7,7 +7,7 @@ abbrev pub invariant-loop-n : goal.invariant-loop-n
 invariant-loop-n g l = record {
   keeps : Keeps (g.F.Flash.chip l.initial.flash) (g.F.Flash.chip l.flash);
   stays : IsTrue (g.F.Flash.chip l.initial.flash).honest → Stays (g.F.Flash.chip l.initial.flash) (g.F.Flash.chip l.flash);
-  calls : IsTrue (g.F.Flash.chip l.initial.flash).steady → (g.F.Flash.chip l.flash).changes ≡ (g.F.Flash.chip l.initial.flash).changes;
+  calls : (g.F.Flash.chip l.flash).changes ≡ (g.F.Flash.chip l.initial.flash).changes;
   faults : (g.F.Flash.chip l.flash).faults ≡ (g.F.Flash.chip l.initial.flash).faults;
   erased : IsTrue (g.F.Flash.chip l.initial.flash).honest → (o : ℕ) → o < 32 * l.n → slice_index (g.F.Flash.chip l.initial.flash).now o ≡ 255;
 }

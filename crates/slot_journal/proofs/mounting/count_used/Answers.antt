@@ -10,7 +10,7 @@ pub loop-n-init : goal.loop-n-init
 loop-n-init g c = record {
   keeps = keeps_none _;
   stays = λ honest. stays_none _;
-  calls = λ steady. refl;
+  calls = refl;
   faults = refl;
   few = omega arith;
   below = λ honest. below_none _ c.args.bank;
@@ -23,7 +23,7 @@ loop-n-preserved g c =
     record {
       keeps = keeps_more _ _ _ before.keeps read.frame;
       stays = λ honest. stays_more _ _ _ (before.stays honest) (read.stays (before.keeps.honest ∙ honest));
-      calls = λ steady. read.calls (before.keeps.steady ∙ steady) ∙ before.calls steady;
+      calls = read.calls ∙ before.calls;
       faults = read.no_fault ∙ before.faults;
       few = elim c.if-not-is_blank.branch [ then-not-is_blank w ↦ omega arith | else-not-is_blank w ↦ let few = before.few in omega arith ];
       below = λ honest.

@@ -1,9 +1,10 @@
-use Rattle.std.proofs.Common.{◌∙◌, List, arith}
+use Rattle.std.proofs.Common.{ℕ, ◌+◌, ◌∙◌, List, ap, arith}
 use Rattle.flash_model.specs.Chip.{LeavesOnly}
 use Rattle.record_types.specs.declared.records.StoreRecord.{StoreRecord}
 use Rattle.node_store.specs.Tie.{IsPut, IsStoreOf}
 use Rattle.node_store.proofs.Holding.{held_unchanged}
 use Rattle.node_store.proofs.Puts.{put_cut, put_moment, put_same_mark, room_moment, room_puts}
+use Rattle.node_store.proofs.Wears.{none_put, put_at_most, put_costs}
 use Rattle.node_store.proofs.store.Store.put.Goals as goal
 
 pub returns-in_err-check-clause-cut : goal.returns-in_err-check-clause-cut
@@ -99,23 +100,56 @@ returns-clause-puts g c =
     (λ records tie. room.kept records tie) c.in_ok-add.ensures.puts
 
 pub returns-in_err-make_room-clause-bounded : goal.returns-in_err-make_room-clause-bounded
-returns-in_err-make_room-clause-bounded g c steady =
-    let most = (c.in_err-make_room.ensures.costs steady).most_calls in
+returns-in_err-make_room-clause-bounded g c =
+    let most = c.in_err-make_room.ensures.costs.most_calls in
     let few = c.in_err-make_room.ensures.bounded in
     omega (arith, most, few)
 
 pub returns-in_err-add-clause-bounded : goal.returns-in_err-add-clause-bounded
-returns-in_err-add-clause-bounded g c steady =
+returns-in_err-add-clause-bounded g c =
     let room = c.in_ok-make_room.ensures in
-    let first = (room.costs steady).most_calls in
+    let first = room.costs.most_calls in
     let few = room.bounded in
-    let second = (c.in_err-add.ensures.costs (room.leaves.frame.steady ∙ steady)).most_calls in
+    let second = c.in_err-add.ensures.costs.most_calls in
     omega (arith, first, few, second)
 
 pub returns-clause-bounded : goal.returns-clause-bounded
-returns-clause-bounded g c steady =
+returns-clause-bounded g c =
     let room = c.in_ok-make_room.ensures in
-    let first = (room.costs steady).most_calls in
+    let first = room.costs.most_calls in
     let few = room.bounded in
-    let second = (c.in_ok-add.ensures.costs (room.leaves.frame.steady ∙ steady)).most_calls in
+    let second = c.in_ok-add.ensures.costs.most_calls in
     omega (arith, first, few, second)
+
+pub returns-then-is_closed-clause-most_wear : goal.returns-then-is_closed-clause-most_wear
+returns-then-is_closed-clause-most_wear g c = none_put c.args.self.now.journal.used (g.F.Flash.chip c.args.flash.now).changes
+
+pub returns-in_err-check-clause-most_wear : goal.returns-in_err-check-clause-most_wear
+returns-in_err-check-clause-most_wear g c = none_put c.args.self.now.journal.used (g.F.Flash.chip c.args.flash.now).changes
+
+pub returns-in_err-make_room-clause-most_wear : goal.returns-in_err-make_room-clause-most_wear
+returns-in_err-make_room-clause-most_wear g c =
+    let room = c.in_err-make_room.ensures in
+    let first = room.costs.most_calls in
+    put_at_most c.args.self.now _ _ room.bounded (omega (arith, first))
+
+pub returns-in_err-add-clause-most_wear : goal.returns-in_err-add-clause-most_wear
+returns-in_err-add-clause-most_wear g c =
+    let room = c.in_ok-make_room.ensures in
+    let first = room.costs.most_calls in
+    let second = c.in_err-add.ensures.costs.most_calls in
+    put_at_most c.args.self.now _ _ room.bounded (omega (arith, first, second))
+
+pub returns-clause-most_wear : goal.returns-clause-most_wear
+returns-clause-most_wear g c =
+    let room = c.in_ok-make_room.ensures in
+    let first = room.costs.most_calls in
+    let second = c.in_ok-add.ensures.costs.most_calls in
+    put_at_most c.args.self.now _ _ room.bounded (omega (arith, first, second))
+
+pub returns-clause-wear : goal.returns-clause-wear
+returns-clause-wear g c =
+    let room = c.in_ok-make_room.ensures in
+    let first = room.costs.most_calls in
+    let second = c.in_ok-add.ensures.costs.most_calls in
+    put_costs c.args.self.now _ _ room.bounded _ (omega (arith, first, second)) (c.in_ok-add.ensures.used ∙ ap (λ (n : ℕ). n + 1) room.used)

@@ -1,10 +1,12 @@
-use Rattle.std.proofs.Common.{◌≡◌, ℕ, ◌+◌, ◌*◌, ◌<◌, ◌++◌, length, take, refl, sym, ◌∙◌, arith, true≢false}
+use Rattle.std.proofs.Common.{◌≡◌, ℕ, ◌+◌, ◌*◌, ◌<◌, ◌++◌, length, take, refl, sym, subst, ◌∙◌, arith, true≢false}
 use Rattle.node_limits.specs.declared.TheConstants.{PUT_CALLS}
 use Rattle.flash_model.proofs.Runs.{at_most_more, begins_none, keeps_more, keeps_none}
 use Rattle.node_records.specs.Tables.{config_in}
 use Rattle.node_store.proofs.Mounts.{err_of, on_err_all, on_ok_none}
 use Rattle.node_store.proofs.Puts.{puts_of}
 use Rattle.node_store.proofs.Fronts.{all_calls, all_most, calls_at_most, calls_more, config_all, config_more, front_more, fronts_more, fronts_none, marks_more, next_may, tie_all, value_all, value_more, value_none}
+use Rattle.store_definitions.specs.Wear.{CostsAndUses}
+use Rattle.store_definitions.proofs.Wear.{at_most_more as worn_more, at_most_none, at_most_of, at_most_of_more, paid_more, paid_none}
 use Rattle.node_store.proofs.store.Store.put_all.Goals as goal
 
 pub loop-item-init : goal.loop-item-init
@@ -19,8 +21,9 @@ loop-item-init g c =
       config = refl;
       value = λ records meaning. value_none records c.args.items.now c.args.self.now.persist meaning;
       fronts = λ records tie. fronts_none chip c.args.self.now records c.args.items.now tie (laws.only_now flash);
-      calls = λ steady room. (begins_none chip (laws.counted flash), omega arith);
-      spent = λ steady. omega arith;
+      calls = λ room. (begins_none chip (laws.counted flash), omega arith);
+      spent = omega arith;
+      wear = paid_none c.args.self.now.journal.used chip.changes;
       reads = refl;
       faults = refl;
     }
@@ -49,8 +52,9 @@ loop-item-preserved g c =
           let fronts = before.fronts records tie in
           let all = records ++ take i items in
           fronts_more items i _ less start first records mid store fronts new after may.1 put.puts.value (put.puts.kept all fronts.tie) (put.cut.any_moment all fronts.tie) (put.cut.mark all fronts.tie);
-      calls = λ steady room. calls_more (length items) i start mid new first store less room (before.calls steady room) after (put.costs (before.keeps.steady ∙ steady)).calls put.used;
-      spent = λ steady. at_most_more (PUT_CALLS * i) PUT_CALLS (PUT_CALLS * (i + 1)) start mid new (omega arith) (before.spent steady) (put.bounded (before.keeps.steady ∙ steady));
+      calls = λ room. calls_more (length items) i start mid new first store less room (before.calls room) after put.costs.calls put.used;
+      spent = at_most_more (PUT_CALLS * i) PUT_CALLS (PUT_CALLS * (i + 1)) start mid new (omega arith) before.spent put.bounded;
+      wear = paid_more first.journal.used i 1 start.changes mid.changes new.changes store.journal.used after.journal.used before.wear put.wear;
       reads = put.leaves.reads ∙ before.reads;
       faults = put.leaves.no_fault ∙ before.faults;
     }
@@ -92,30 +96,41 @@ returns-in_err-put-clause-cut g c =
     }
 
 pub returns-in_err-put-clause-costs : goal.returns-in_err-put-clause-costs
-returns-in_err-put-clause-costs g c steady room =
+returns-in_err-put-clause-costs g c room =
     let before = c.loop-item.invariant in
     record {
       calls = on_ok_none c.from_residual.result c.in_err-put.field-0.0 c.from_residual.ensures.1 _;
       most_calls = calls_at_most (length c.args.items.now) c.loop-item.item-index (g.F.Flash.chip c.args.flash.now) (g.F.Flash.chip c.loop-item.flash) (g.F.Flash.chip c.put.new.flash) c.args.self.now c.loop-item.self
-          c.loop-item-test.true room (before.calls steady room) (c.in_err-put.ensures.costs (before.keeps.steady ∙ steady)).most_calls;
+          c.loop-item-test.true room (before.calls room) c.in_err-put.ensures.costs.most_calls;
     }
 
 pub returns-in_err-put-clause-bounded : goal.returns-in_err-put-clause-bounded
-returns-in_err-put-clause-bounded g c steady =
+returns-in_err-put-clause-bounded g c =
     let before = c.loop-item.invariant in
     let i = c.loop-item.item-index in
     let n : ℕ = length c.args.items.now in
     let less : i < n = c.loop-item-test.true in
-    at_most_more (PUT_CALLS * i) PUT_CALLS (PUT_CALLS * n) (g.F.Flash.chip c.args.flash.now) (g.F.Flash.chip c.loop-item.flash) (g.F.Flash.chip c.put.new.flash) (omega (arith, less)) (before.spent steady)
-    (c.in_err-put.ensures.bounded (before.keeps.steady ∙ steady))
+    at_most_more (PUT_CALLS * i) PUT_CALLS (PUT_CALLS * n) (g.F.Flash.chip c.args.flash.now) (g.F.Flash.chip c.loop-item.flash) (g.F.Flash.chip c.put.new.flash) (omega (arith, less)) before.spent c.in_err-put.ensures.bounded
 
 pub returns-clause-bounded : goal.returns-clause-bounded
-returns-clause-bounded g c steady =
+returns-clause-bounded g c =
     let i = c.loop-item.item-index in
     let n : ℕ = length c.args.items.now in
     let all : i ≡ n = omega (arith, c.loop-item-test.false, c.loop-item.auto.item-index-end) in
-    let spent = c.loop-item.invariant.spent steady in
+    let spent = c.loop-item.invariant.spent in
     omega (arith, all, spent)
+
+pub returns-in_err-put-clause-most_wear : goal.returns-in_err-put-clause-most_wear
+returns-in_err-put-clause-most_wear g c =
+    let i = c.loop-item.item-index in
+    let n : ℕ = length c.args.items.now in
+    let less : i < n = c.loop-item-test.true in
+    let used = c.args.self.now.journal.used in
+    let start = g.F.Flash.chip c.args.flash.now in
+    let mid = g.F.Flash.chip c.loop-item.flash in
+    let new = g.F.Flash.chip c.put.new.flash in
+    at_most_of_more used (i + 1) n start.changes new.changes (omega (arith, less))
+    (worn_more used i 1 start.changes mid.changes new.changes c.loop-item.self.journal.used c.loop-item.invariant.wear c.in_err-put.ensures.most_wear)
 
 pub returns-in_err-put-clause-leaves : goal.returns-in_err-put-clause-leaves
 returns-in_err-put-clause-leaves g c =
@@ -147,16 +162,36 @@ returns-clause-cut g c = record {
 }
 
 pub returns-clause-costs : goal.returns-clause-costs
-returns-clause-costs g c steady room =
+returns-clause-costs g c room =
     let n = length c.args.items.now in
     let i = c.loop-item.item-index in
     let start = g.F.Flash.chip c.args.flash.now in
     let new = g.F.Flash.chip c.loop-item.flash in
-    let calls = (c.loop-item.invariant.calls steady room).0 in
+    let calls = (c.loop-item.invariant.calls room).0 in
     record {
       calls = all_calls n i start new (omega (arith, c.loop-item-test.false, c.loop-item.auto.item-index-end)) calls;
       most_calls = all_most n i start new (omega (arith, c.loop-item-test.false, c.loop-item.auto.item-index-end)) calls;
     }
+
+pub returns-clause-wear : goal.returns-clause-wear
+returns-clause-wear g c =
+    let n : ℕ = length c.args.items.now in
+    let i = c.loop-item.item-index in
+    let all : i ≡ n = omega (arith, c.loop-item-test.false, c.loop-item.auto.item-index-end) in
+    let start = g.F.Flash.chip c.args.flash.now in
+    let new = g.F.Flash.chip c.loop-item.flash in
+    subst (λ (k : ℕ). CostsAndUses c.args.self.now.journal.used k start.changes new.changes c.loop-item.self.journal.used) all c.loop-item.invariant.wear
+
+pub returns-clause-most_wear : goal.returns-clause-most_wear
+returns-clause-most_wear g c =
+    let start = g.F.Flash.chip c.args.flash.now in
+    let new = g.F.Flash.chip c.loop-item.flash in
+    at_most_of c.args.self.now.journal.used (length c.args.items.now) start.changes new.changes c.loop-item.self.journal.used (returns-clause-wear g c)
+
+pub returns-then-is_closed-clause-most_wear : goal.returns-then-is_closed-clause-most_wear
+returns-then-is_closed-clause-most_wear g c =
+    let chip = g.F.Flash.chip c.args.flash.now in
+    at_most_none c.args.self.now.journal.used (length c.args.items.now) chip.changes
 
 pub returns-clause-leaves : goal.returns-clause-leaves
 returns-clause-leaves g c = record { reads = c.loop-item.invariant.reads; no_fault = c.loop-item.invariant.faults; frame = c.loop-item.invariant.keeps }
