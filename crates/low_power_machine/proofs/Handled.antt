@@ -17,6 +17,7 @@ use Rattle.low_power_role.specs.Laws.{StateGoesOn}
 use Rattle.low_power_role.specs.Role.{low_power_role}
 use Rattle.low_power_role.specs.State.{state_of}
 use Rattle.machine_contract.specs.Moved.{rises, went_to}
+use Rattle.machine_contract.specs.Opening.{FlashFound}
 use Rattle.machine_contract.specs.Refused.{Closes}
 use Rattle.machine_contract.specs.Standing.{past_now}
 use Rattle.machine_contract.specs.declared.answers.Hand.{Hand}
@@ -34,6 +35,7 @@ use Rattle.record_types.specs.declared.records.StoreRecord.{StoreRecord}
 use Rattle.seq_reserve.specs.Reserving.{IsDurable, IsPublished}
 use Rattle.seq_reserve.specs.declared.reserve.Reserve.{Reserve}
 use Rattle.store_definitions.specs.Config.{Config}
+use Rattle.store_definitions.specs.Wear.{CostsAndUses, CostsAtMost}
 
 -- what a call says of a plan over the store's value in hand
 pub plans_by : (m : LowPowerNode) (event : Event) (plan : Plan) (memory : Memory) (p : Persist) → p ≡ m.reserve.store.persist
@@ -68,6 +70,7 @@ pub record IsMade (m : LowPowerNode) (event : Event) (plan : Plan) (memory : Mem
   pub made : r.keeper.which ≡ m.reserve.keeper.which
   pub moved : went_to r.keeper.advances ≡ went_to m.reserve.keeper.advances ++ rises (config_in m.reserve.store.persist) (records_by plan.answer)
   pub fit : IsFitFor memory m.reserve.store.persist
+  pub wear : CostsAndUses m.reserve.store.journal.used (length (records_by plan.answer)) before.changes after.changes r.store.journal.used
 
 module _ (m : LowPowerNode) (event : Event) (plan : Plan) (memory : Memory) (r : Reserve) (log : LogView) (entry : Entry) (before after : Chip)
     (h : IsMade m event plan memory r log entry before after) where
@@ -83,13 +86,13 @@ module _ (m : LowPowerNode) (event : Event) (plan : Plan) (memory : Memory) (r :
       (fit_said memory m.reserve.store.persist r.store.persist said h.fit) h.puts.usable (ready.elements ∙ ap (λ (c : Config). c.elements) (sym said)))
 
   -- the tie to the flash
-  pub stands_made : KeptLaw → StateGoesOn → (over : List StoreRecord) → Stands before over m → m.closed ≡ false → length m.entries + 1 < 2 ^ 32 → Keeps before after
-      → Stands after over after_it
-  stands_made law goes over s runs few keeps =
+  pub stands_made : KeptLaw → StateGoesOn → (first : FlashFound) (over : List StoreRecord) → Stands first before over m → m.closed ≡ false → length m.entries + 1 < 2 ^ 32 → Keeps before after
+      → Stands first after over after_it
+  stands_made law goes first over s runs few keeps =
       let records : List StoreRecord = (past_now low_power_role over s.life.told m.fills).records in
-      subst (λ (v : LowPowerNode). Stands after over v) (as_entered m r memory log entry h.entries h.taken)
-      (event_stands law goes m event plan memory h.plans h.may before after over s runs r entry h.is_entry h.fills few
-      (h.puts.kept records (s.usable runs).store) (h.puts.value records (s.usable runs).before.node.meaning) h.published h.moved keeps)
+      subst (λ (v : LowPowerNode). Stands first after over v) (as_entered m r memory log entry h.entries h.taken)
+      (event_stands law goes m event plan memory h.plans h.may first before after over s runs r entry h.is_entry h.fills few
+      (h.puts.kept records (s.usable runs).store) (h.puts.value records (s.usable runs).before.node.meaning) h.published h.moved keeps h.wear)
 
 -- The flash failed while the record of its plan was stored.
 module _ (law : KeptLaw) (goes : StateGoesOn) (m : LowPowerNode) (event : Event) (plan : Plan) (memory : Memory) (r : Reserve) (log : LogView) (before after : Chip)
@@ -98,19 +101,20 @@ module _ (law : KeptLaw) (goes : StateGoesOn) (m : LowPowerNode) (event : Event)
   abbrev closed_by_it : LowPowerNode
   closed_by_it = machine_of r memory log m.fills true (H.OfEvent event) m.elements
 
-  pub stands_closed : (over : List StoreRecord) (s : Stands before over m) → m.closed ≡ false → Keeps before after
+  pub stands_closed : (first : FlashFound) (over : List StoreRecord) (s : Stands first before over m) → m.closed ≡ false → Keeps before after
       → ((records : List StoreRecord) → IsStoreOf before m.reserve.store records → (image : List ℕ) → after.images image → IsFront records (records_by plan.answer) image)
       → ((records : List StoreRecord) → IsStoreOf before m.reserve.store records → IsDurable after r.keeper.mark)
-      → Stands after over closed_by_it
-  stands_closed over s runs keeps fronts durable =
+      → CostsAtMost m.reserve.store.journal.used (length (records_by plan.answer)) before.changes after.changes
+      → Stands first after over closed_by_it
+  stands_closed first over s runs keeps fronts durable wear =
       let records : List StoreRecord = (past_now low_power_role over s.life.told m.fills).records in
       let cut : IsCutIn after records (records_by plan.answer) r.keeper.mark = record {
         honest = keeps.honest ∙ s.life.node.honest;
         fronts = fronts records (s.usable runs).store;
         durable = durable records (s.usable runs).store;
       } in
-      subst (λ (v : LowPowerNode). Stands after over v) (as_stopped m r memory log (H.OfEvent event) entries taken)
-      (event_stops law goes m event plan memory plans may before after over s runs r cut rose keeps)
+      subst (λ (v : LowPowerNode). Stands first after over v) (as_stopped m r memory log (H.OfEvent event) entries taken)
+      (event_stops law goes m event plan memory plans may first before after over s runs r cut rose keeps wear)
 
   pub closes : m.closed ≡ false → r.keeper.which ≡ m.reserve.keeper.which → Closes (H.OfEvent event) (shown m) (shown closed_by_it) before after
   closes runs which = record {

@@ -16,6 +16,7 @@ use Rattle.low_power_role.specs.Laws.{StateGoesOn}
 use Rattle.low_power_role.specs.Role.{jobs_of, jobs_under, low_power_role, stores}
 use Rattle.low_power_role.specs.State.{event_calls, life_state, state_of}
 use Rattle.machine_contract.specs.Moved.{rises, went_to}
+use Rattle.machine_contract.specs.Opening.{FlashFound}
 use Rattle.machine_contract.specs.Standing.{past_now}
 use Rattle.machine_contract.specs.declared.answers.Hand.TheVariants as H
 use Rattle.machine_standing.proofs.Fronts.{IsSameNode, all_ranges, all_whole, kept_node_of}
@@ -35,6 +36,7 @@ use Rattle.run_definitions.specs.Order.{is_outside}
 use Rattle.seq_reserve.specs.Reserving.{IsPublished}
 use Rattle.seq_reserve.specs.declared.reserve.Reserve.{Reserve}
 use Rattle.store_definitions.specs.Config.{Config, config_of}
+use Rattle.store_definitions.specs.Wear.{CostsAndUses, CostsAtMost}
 
 -- an event that follows a line stores nothing
 stores_inside : (past : Past) (event : Event) (insight : Insight) → is_outside event ≡ false → low_power_role.stores past event insight (low_power_role.answer past event insight) ≡ []
@@ -116,38 +118,39 @@ module _ (law : KeptLaw) (goes : StateGoesOn) (m : LowPowerNode) (event : Event)
     jobs_are c = ap (λ l. flat_map (jobs_under c) l) planned.job
 
   -- where its record was stored
-  pub event_stands : (old new : Chip) (over : List StoreRecord) (s : Stands old over m) → m.closed ≡ false → (r : Reserve) (entry : Entry)
+  pub event_stands : (first : FlashFound) (old new : Chip) (over : List StoreRecord) (s : Stands first old over m) → m.closed ≡ false → (r : Reserve) (entry : Entry)
       → IsEntryOf event plan r.store.persist entry → entry.fills ≡ m.fills → length m.entries + 1 < 2 ^ 32
       → IsStoreOf new r.store ((past_now low_power_role over s.life.told m.fills).records ++ records_by plan.answer)
       → IsMeaningOf ((past_now low_power_role over s.life.told m.fills).records ++ records_by plan.answer) r.store.persist
       → IsPublished r.store r.keeper
-      → went_to r.keeper.advances ≡ went_to m.reserve.keeper.advances ++ rises (config_in m.reserve.store.persist) (records_by plan.answer) → Keeps old new
-      → Stands new over (entered_by m r memory entry)
-  event_stands old new over s runs r entry e fills few store meaning published moved keeps =
+      → went_to r.keeper.advances ≡ went_to m.reserve.keeper.advances ++ rises (config_in m.reserve.store.persist) (records_by plan.answer)
+      → Keeps old new → CostsAndUses m.reserve.store.journal.used (length (records_by plan.answer)) old.changes new.changes r.store.journal.used
+      → Stands first new over (entered_by m r memory entry)
+  event_stands first old new over s runs r entry e fills few store meaning published moved keeps wear =
       let past : Past = past_now low_power_role over s.life.told m.fills in
       let h : IsBefore past m = (s.usable runs).before in
       let x : IsPlanned past event plan memory.lpn = planned past h in
-      entered_stands low_power_role IsBefore (low_power_kind law) old new over m s runs r memory entry x.insight (records_by plan.answer) fills
+      entered_stands low_power_role IsBefore (low_power_kind law) first old new over m s runs r memory entry x.insight (records_by plan.answer) fills
       (entry_handles low_power_role past event x.insight plan.answer (records_by plan.answer) (config_in r.store.persist) entry x.sees x.answer x.records meaning.config e.is_of e.has
       (e.jobs ∙ jobs_are past h (config_in r.store.persist)))
       (x.records ∙ ap (λ y. low_power_role.stores past y x.insight plan.answer) (sym e.is_of) ∙ ap (λ a. low_power_role.stores past entry.event x.insight a) (sym e.has))
       (before_more past h r entry e meaning) few store published
       (moved ∙ ap (λ (c : Config). went_to m.reserve.keeper.advances ++ rises c (records_by plan.answer)) h.node.meaning.config)
-      (omega (arith, s.began, keeps.later, ap (λ (y : Setting). y.faults) keeps.setting))
+      (omega (arith, s.began, keeps.later, ap (λ (y : Setting). y.faults) keeps.setting)) wear
 
   -- where the flash failed
-  pub event_stops : (old new : Chip) (over : List StoreRecord) (s : Stands old over m) → m.closed ≡ false → (r : Reserve)
+  pub event_stops : (first : FlashFound) (old new : Chip) (over : List StoreRecord) (s : Stands first old over m) → m.closed ≡ false → (r : Reserve)
       → IsCutIn new (past_now low_power_role over s.life.told m.fills).records (records_by plan.answer) r.keeper.mark
-      → old.faults < new.faults → Keeps old new
-      → Stands new over (stopped_by m r memory (H.OfEvent event))
-  event_stops old new over s runs r cut rose keeps =
+      → old.faults < new.faults → Keeps old new → CostsAtMost m.reserve.store.journal.used (length (records_by plan.answer)) old.changes new.changes
+      → Stands first new over (stopped_by m r memory (H.OfEvent event))
+  event_stops first old new over s runs r cut rose keeps wear =
       let past : Past = past_now low_power_role over s.life.told m.fills in
       let h : IsBefore past m = (s.usable runs).before in
       let x : IsPlanned past event plan memory.lpn = planned past h in
-      stopped_stands low_power_role IsBefore (low_power_kind law) old new over m s runs r memory event x.insight (records_by plan.answer) x.sees
+      stopped_stands low_power_role IsBefore (low_power_kind law) first old new over m s runs r memory event x.insight (records_by plan.answer) x.sees
       (x.records ∙ ap (λ a. low_power_role.stores past event x.insight a) x.answer)
       (kept past h) cut
-      (omega (arith, s.began, rose, ap (λ (y : Setting). y.faults) keeps.setting))
+      (omega (arith, s.began, rose, ap (λ (y : Setting). y.faults) keeps.setting)) wear
 
   -- the invariant
   pub event_ready : (ready : IsReadyBy IsBefore IsFitFor m) (r : Reserve) (entry : Entry) → IsEntryOf event plan r.store.persist entry

@@ -3,11 +3,12 @@ use Rattle.std.specs.Prelude.{List}
 use Rattle.flash_model.specs.Chip.{Chip}
 use Rattle.low_power_machine.specs.Views as views
 use Rattle.low_power_machine.specs.declared.machine.LowPowerMachine.{LowPowerMachine}
+use Rattle.machine_contract.specs.Opening.{FlashFound}
 use Rattle.machine_contract.specs.View.{MachineView}
 use Rattle.record_types.specs.declared.records.StoreRecord.{StoreRecord}
 
 abbrev pub shown : LowPowerMachine → MachineView
 shown m = views.shown m.state.value
 
-abbrev pub Stands : Chip → List StoreRecord → LowPowerMachine → Type 0
-Stands chip over m = views.Stands chip over m.state.value
+abbrev pub Stands : FlashFound → Chip → List StoreRecord → LowPowerMachine → Type 0
+Stands first chip over m = views.Stands first chip over m.state.value

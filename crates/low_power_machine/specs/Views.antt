@@ -6,6 +6,7 @@ use Rattle.low_power_machine.specs.Memory.{IsFitFor}
 use Rattle.low_power_machine.specs.declared.memory.Memory.{Memory}
 use Rattle.low_power_role.specs.Role.{low_power_role}
 use Rattle.low_power_role.specs.State.{state_of}
+use Rattle.machine_contract.specs.Opening.{FlashFound}
 use Rattle.machine_contract.specs.View.{MachineView}
 use Rattle.machine_standing.specs.Ties.{IsNodeStore, IsReadyBy, StandsBy}
 use Rattle.machine_standing.specs.Views.{LifeMachine, shown_of}
@@ -28,5 +29,5 @@ abbrev pub IsSound : LowPowerNode → Type 0
 IsSound m = m.closed ≡ false → IsReadyBy IsBefore IsFitFor m
 
 -- A machine stands over a flash and the records that its life opened over.
-abbrev pub Stands : Chip → List StoreRecord → LowPowerNode → Type 0
-Stands chip over m = StandsBy low_power_role IsBefore chip over m
+abbrev pub Stands : FlashFound → Chip → List StoreRecord → LowPowerNode → Type 0
+Stands first chip over m = StandsBy low_power_role IsBefore first chip over m

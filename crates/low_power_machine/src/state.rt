@@ -4,6 +4,7 @@
 ghost use Rattle.std.specs.Prelude.{◌≡◌, ◌≢◌, ◌+◌, ◌<◌, ◌^◌, List, All, drop, length, true, false, Ok, Err, IfOk, OnOk, IfErr};
 ghost use Rattle.flash_model.specs.Chip.{Keeps};
 ghost use Rattle.low_power_machine.specs.Views.{Stands, shown};
+ghost use Rattle.machine_contract.specs.Opening.{FlashFound};
 ghost use Rattle.machine_contract.specs.Ranges.{IsJob, IsQuiet};
 ghost use Rattle.machine_contract.specs.Refused.{IsRefused};
 ghost use Rattle.machine_contract.specs.View.{entry_for, with_entry};
@@ -75,8 +76,8 @@ impl LowPowerState {
         ensures refused { IfErr result
             (IsRefused F.chip (Hand.OfEvent event.now) (shown self.old) (shown self.new) flash.old flash.new) }
         ensures closed { (shown self.old).closed ≡ true → result ≡ Err Stop.Closed }
-        ensures kept { (over : List StoreRecord) → Stands (F.chip flash.old) over self.old
-            → Stands (F.chip flash.new) over self.new }
+        ensures kept { (first : FlashFound) (over : List StoreRecord) → Stands first (F.chip flash.old) over self.old
+            → Stands first (F.chip flash.new) over self.new }
         ensures frame { Keeps (F.chip flash.old) (F.chip flash.new) }
     {
         if self.closed {
@@ -113,7 +114,8 @@ impl LowPowerState {
     pub(crate) fn take<F: Flash>(&mut self) -> Vec<Entry>
         ensures entries { result.items ≡ drop (shown self.old).taken (shown self.old).entries }
         ensures shown { shown self.new ≡ record (shown self.old) { taken = length (shown self.old).entries } }
-        ensures kept { (f : F) (over : List StoreRecord) → Stands (F.chip f) over self.old → Stands (F.chip f) over self.new }
+        ensures kept { (first : FlashFound) (f : F) (over : List StoreRecord) → Stands first (F.chip f) over self.old
+            → Stands first (F.chip f) over self.new }
     {
         self.history.take()
     }
@@ -145,8 +147,8 @@ impl LowPowerState {
         ensures memory { result ≢ Err Stop.Memory }
         ensures refused { IfErr result
             (IsRefused F.chip Hand.OfRefill (shown self.old) (shown self.new) flash.old flash.new) }
-        ensures kept { (over : List StoreRecord) → Stands (F.chip flash.old) over self.old
-            → Stands (F.chip flash.new) over self.new }
+        ensures kept { (first : FlashFound) (over : List StoreRecord) → Stands first (F.chip flash.old) over self.old
+            → Stands first (F.chip flash.new) over self.new }
         ensures frame { Keeps (F.chip flash.old) (F.chip flash.new) }
     {
         if self.closed {

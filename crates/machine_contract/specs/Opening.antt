@@ -19,17 +19,25 @@ pub record IsNodeFlash (IsNodeImage : List ℕ → Type 0) (chip : Chip) : Type 
   pub honest : IsTrue chip.honest
   pub each : (image : List ℕ) → chip.images image → IsNodeImage image
 
+-- What a life finds of a flash: what is read, and how many program and erase calls were begun so far.
+pub record FlashFound : Type 0 where
+  pub now : List ℕ
+  pub changes : ℕ
+
+abbrev pub found_of : Chip → FlashFound
+found_of chip = record { now = chip.now; changes = chip.changes }
+
 -- these records say what those of before and the ones behind them say, and all of these are in range
 pub record IsLeft (before more next : List StoreRecord) : Type 0 where
   pub ranges : All IsInRange (before ++ more)
   pub alike : IsAlike next (before ++ more)
 
--- Nothing was written: the content stays, and of a steady flash no program or erase call was counted.
+-- Nothing was written: the content stays, and no program or erase call was made.
 pub record IsUnwritten (old new : Chip) : Type 0 where
   pub stays : Stays old new
-  pub no_calls : IsTrue old.steady → new.changes ≡ old.changes
+  pub no_calls : new.changes ≡ old.changes
 
--- Opening a life writes nothing to a flash that isn't of format 01. One that is may be migrated: a steady one then counts the calls of that at most.
+-- Opening a life writes nothing to a flash that isn't of format 01. One that is may be migrated, with the calls of that at most.
 pub record MigratesOnly (old new : Chip) : Type 0 where
   pub unwritten : ¬ HasFormat 1 old.now → IsUnwritten old new
-  pub most_calls : IsTrue old.steady → BeginsAtMost COMPACTION_CALLS old new
+  pub most_calls : BeginsAtMost COMPACTION_CALLS old new

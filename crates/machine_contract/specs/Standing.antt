@@ -1,5 +1,5 @@
 -- What holds of a machine between two calls, of its flash, and of the records that its life opened over.
-use Rattle.std.specs.Prelude.{◌≡◌, ◌⊎◌, ℕ, ◌<◌, ◌≤◌, ◌^◌, true, false, List, [], ◌∷◌, length, map, take}
+use Rattle.std.specs.Prelude.{◌≡◌, ◌⊎◌, ℕ, ◌+◌, ◌<◌, ◌≤◌, ◌^◌, true, false, List, [], ◌∷◌, length, map, take}
 use Rattle.flash_model.specs.Chip.{Chip}
 use Rattle.mesh_types.specs.declared.events.Event.{Event}
 use Rattle.record_types.specs.declared.records.StoreRecord.{StoreRecord}
@@ -9,9 +9,10 @@ use Rattle.run_definitions.specs.Order.{is_outside}
 use Rattle.event_definitions.specs.Role.{Role}
 use Rattle.store_definitions.specs.Config.{config_of}
 use Rattle.store_definitions.specs.Numbers.{fill_of, filled}
+use Rattle.store_definitions.specs.Wear.{CostsAtMost, IsTakenUp}
 use Rattle.machine_contract.specs.declared.answers.Hand.{Hand}
 use Rattle.machine_contract.specs.declared.answers.Hand.TheVariants as H
-use Rattle.machine_contract.specs.Opening.{EachRecovered, IsLeft, IsNodeFlash}
+use Rattle.machine_contract.specs.Opening.{EachRecovered, FlashFound, IsLeft, IsNodeFlash}
 use Rattle.machine_contract.specs.View.{MachineView}
 
 -- what stands after these entries and so many refills, in a life that opened over some records
@@ -34,10 +35,28 @@ IsLeftBy role past (H.OfEvent event) next = IsLeft past.records [] next ⊎ IsFr
 IsLeftBy role past H.OfRefill next =
     IsLeft past.records [] next ⊎ IsLeft past.records (fill_of (config_of past.records) ∷ []) next
 
+-- how many records a call has in hand that fails
+abbrev pub AreInHand : Role → Past → Hand → ℕ → Type 0
+AreInHand role past H.Nothing n = n ≡ 0
+AreInHand role past (H.OfEvent event) n =
+    (insight : Insight) × role.sees past event insight
+    × (n ≡ length (role.stores past event insight (role.answer past event insight)))
+AreInHand role past H.OfRefill n = n ≡ 1
+
+-- The records behind those that the life opened over, so many that a failed call had in hand, and a migration pay for all program and erase calls
+-- since the life found the flash.
+pub record ArePaidFor (first : FlashFound) (chip : Chip) (over now : List StoreRecord) (in_hand : ℕ) : Type 0 where
+  pub stored : ℕ
+  pub behind : length now ≡ length over + stored
+  pub used : ℕ
+  pub taken_up : IsTakenUp first.now used
+  pub costs : CostsAtMost used (stored + in_hand) first.changes chip.changes
+
 -- The entries so far were handled in order, from the records that the life opened over; an image recovers what they left, with the mark
--- that is published at most; and the machine is closed only where the flash failed.
-pub record IsLifeSoFar (role : Role) (IsNodeImage : List ℕ → Type 0) (chip : Chip) (over : List StoreRecord)
-    (m : MachineView) : Type 0 where
+-- that is published at most; the machine is closed only where the flash failed; and since the life found the flash it made at most the program and
+-- erase calls that the records cost which were stored or in hand, and a migration.
+pub record IsLifeSoFar (role : Role) (IsNodeImage : List ℕ → Type 0) (first : FlashFound) (chip : Chip)
+    (over : List StoreRecord) (m : MachineView) : Type 0 where
   pub told : List Told
   pub entries : map (λ t. t.entry) told ≡ m.entries
   pub handled : AreHandled role over [] told
@@ -48,6 +67,9 @@ pub record IsLifeSoFar (role : Role) (IsNodeImage : List ℕ → Type 0) (chip :
       (λ next. IsLeftBy role (past_now role over told m.fills) m.hand next × (m.mark ≤ (config_of next).mark))
   pub idle : m.closed ≡ false → m.hand ≡ H.Nothing
   pub failed : m.closed ≡ true → chip.setting.faults < chip.faults
+  pub in_hand : ℕ
+  pub hand : AreInHand role (past_now role over told m.fills) m.hand in_hand
+  pub paid : ArePaidFor first chip over (past_now role over told m.fills).records in_hand
 
 -- the flash is as it was, but that it may have been given an arm
 pub record IsSameFlash (old new : Chip) : Type 0 where
@@ -56,3 +78,4 @@ pub record IsSameFlash (old new : Chip) : Type 0 where
   pub now : new.now ≡ old.now
   pub faults : new.faults ≡ old.faults
   pub began : new.setting.faults ≡ old.setting.faults
+  pub changes : new.changes ≡ old.changes

@@ -12,9 +12,9 @@ ghost use Rattle.run_definitions.specs.Order.{is_outside};
 ghost use Rattle.seq_word.specs.Word.{seq_of};
 ghost use Rattle.machine_contract.specs.Idle.{IsDueIn, IsIdleFor, IsQuietTick};
 ghost use Rattle.machine_contract.specs.Moved.{HasMoved};
-ghost use Rattle.machine_contract.specs.Opening.{IsNodeFlash, IsUnwritten, MigratesOnly};
+ghost use Rattle.machine_contract.specs.Opening.{FlashFound, IsNodeFlash, IsUnwritten, MigratesOnly};
 ghost use Rattle.machine_contract.specs.Ranges.{IsEvent, IsJob, IsQuiet};
-ghost use Rattle.machine_contract.specs.Refused.{IsRefused, IsStartCause};
+ghost use Rattle.machine_contract.specs.Refused.{IsRefused, IsStartCause, WasReset};
 ghost use Rattle.machine_contract.specs.Standing.{IsLifeSoFar, IsSameFlash};
 ghost use Rattle.machine_contract.specs.Started.{IsStarted};
 ghost use Rattle.machine_contract.specs.View.{MachineView, entry_for, with_entry};
@@ -33,8 +33,8 @@ use std::alloc::Global;
 /// What handles the events of a node, one after another, over its flash. The flash stays with the caller and is passed to each call: it is
 /// to be the one that the machine was started from, and nothing else is to change it.
 ///
-/// `stands` ties a machine to its flash and to the records that its life opened over. `start` gives it, each call keeps it whatever the
-/// call answers, and `tells` says what it means in terms of what the machine shows, its `view`.
+/// `stands` ties a machine to its flash, as it was when the life found it and as it is, and to the records that its life opened over. `start`
+/// gives it, each call keeps it whatever the call answers, and `tells` says what it means in terms of what the machine shows, its `view`.
 ///
 /// A network PDU can be read before the machine handles it, without the machine: by a reader, which was renewed from the machine earlier, into a
 /// reading. `handle` is then lent both, and its clauses are the same whatever was read: so no clause says that anything is read before.
@@ -60,7 +60,7 @@ pub trait Machine: Send + Drop {
     // Of each advance of its keeper, the word that it found in the counter and the one that it moved the counter to.
     ghost advances: { Self → List (ℕ × ℕ) };
 
-    ghost stands: { Chip → List StoreRecord → Self → Type 0 };
+    ghost stands: { FlashFound → Chip → List StoreRecord → Self → Type 0 };
 
     // A reader and a reading may be lent to `handle` with this event: nothing was read, or the octets of this event, by the reader as it is.
     ghost fits: { Self.Reader → Self.Reading → AnEvent → Type 0 };
@@ -69,7 +69,7 @@ pub trait Machine: Send + Drop {
     /// image of it recovers a node or a reset.
     ///
     /// The counter opens at the mark that the records say. Nothing is written but where a flash of format 01 is migrated: the content of another
-    /// one stays, and a steady one counts no program or erase call (`writes`). A node that was reset isn't migrated (`reset`).
+    /// one stays, and it counts no program or erase call (`writes`). A node that was reset isn't migrated, also where the flash fails (`reset`).
     fn start<F: Flash>(alloc: Global, flash: &mut F) -> Result<Started<Self>, StartFault>
         requires fresh { IsFresh (F.chip flash.old) }
         requires node { IsNodeFlash image (F.chip flash.old) }
@@ -77,7 +77,7 @@ pub trait Machine: Send + Drop {
         ensures ok { IfOk result (IsStarted view stands (F.chip flash.old) (F.chip flash.new)) }
         ensures cause { IfErr result (IsStartCause image (F.chip flash.old) (F.chip flash.new)) }
         ensures writes { MigratesOnly (F.chip flash.old) (F.chip flash.new) }
-        ensures reset { IfErr result (λ e. e ≡ StartFault.WasReset → IsUnwritten (F.chip flash.old) (F.chip flash.new)) }
+        ensures reset { WasReset (F.chip flash.old) → IsUnwritten (F.chip flash.old) (F.chip flash.new) }
         ensures frame { Keeps (F.chip flash.old) (F.chip flash.new) };
 
     /// A reader that was renewed from no machine yet. It takes no memory.
@@ -133,8 +133,8 @@ pub trait Machine: Send + Drop {
             (IsRefused F.chip (Hand.OfEvent event.now) (view self.old) (view self.new) flash.old flash.new) }
         ensures closed { (view self.old).closed ≡ true → result ≡ Err Stop.Closed }
 
-        ensures kept { (over : List StoreRecord) → stands (F.chip flash.old) over self.old
-            → stands (F.chip flash.new) over self.new }
+        ensures kept { (first : FlashFound) (over : List StoreRecord) → stands first (F.chip flash.old) over self.old
+            → stands first (F.chip flash.new) over self.new }
         ensures frame { Keeps (F.chip flash.old) (F.chip flash.new) };
 
     /// Stores a refill, and publishes its mark, 256 higher, where the mark that a draw reached is the one published last (`filled`); else a
@@ -164,8 +164,8 @@ pub trait Machine: Send + Drop {
         ensures closed { (view self.old).closed ≡ true → result ≡ Err Stop.Closed }
         ensures memory { result ≢ Err Stop.Memory }
 
-        ensures kept { (over : List StoreRecord) → stands (F.chip flash.old) over self.old
-            → stands (F.chip flash.new) over self.new }
+        ensures kept { (first : FlashFound) (over : List StoreRecord) → stands first (F.chip flash.old) over self.old
+            → stands first (F.chip flash.new) over self.new }
         ensures frame { Keeps (F.chip flash.old) (F.chip flash.new) };
 
     /// The entries since this was called last, or since the life began, in their order. The history keeps them, but the machine doesn't: it
@@ -174,7 +174,8 @@ pub trait Machine: Send + Drop {
     fn take_entries<F: Flash>(&mut self) -> Vec<Entry>
         ensures entries { result.items ≡ drop (view self.old).taken (view self.old).entries }
         ensures view { view self.new ≡ record (view self.old) { taken = length (view self.old).entries } }
-        ensures kept { (f : F) (over : List StoreRecord) → stands (F.chip f) over self.old → stands (F.chip f) over self.new };
+        ensures kept { (first : FlashFound) (f : F) (over : List StoreRecord) → stands first (F.chip f) over self.old
+            → stands first (F.chip f) over self.new };
 
     /// Whether an earlier call failed at the flash.
     fn is_closed(&self) -> bool
@@ -184,10 +185,10 @@ pub trait Machine: Send + Drop {
     /// has nothing else to do can sleep so long: it misses nothing that the machine calls due, and doesn't wake earlier than it has to (`least`).
     /// Of a closed machine nothing is due any more. `F` is the type of the flash that it stands over, which isn't called.
     fn due<F: Flash>(&self) -> u32
-        ensures idle { (view self.now).closed ≡ false → (f : F) (over : List StoreRecord)
-            → stands (F.chip f) over self.now → IsIdleFor role over (view self.now) result }
-        ensures least { (view self.now).closed ≡ false → (f : F) (over : List StoreRecord)
-            → stands (F.chip f) over self.now → IsDueIn role quiet over (view self.now) result }
+        ensures idle { (view self.now).closed ≡ false → (first : FlashFound) (f : F) (over : List StoreRecord)
+            → stands first (F.chip f) over self.now → IsIdleFor role over (view self.now) result }
+        ensures least { (view self.now).closed ≡ false → (first : FlashFound) (f : F) (over : List StoreRecord)
+            → stands first (F.chip f) over self.now → IsDueIn role quiet over (view self.now) result }
         ensures closed { (view self.now).closed ≡ true → result ≡ 2 ^ 32 - 1 };
 
     /// The number of entries so far, those that were taken among them.
@@ -210,15 +211,15 @@ pub trait Machine: Send + Drop {
 
     /// What a machine that stands tells of its life, and what a quiet tick event is at least. It does nothing.
     fn tells<F: Flash>()
-        ensures known { (f : F) (over : List StoreRecord) (m : Self) → stands (F.chip f) over m
-            → IsLifeSoFar role image (F.chip f) over (view m) }
+        ensures known { (first : FlashFound) (f : F) (over : List StoreRecord) (m : Self) → stands first (F.chip f) over m
+            → IsLifeSoFar role image first (F.chip f) over (view m) }
         // A machine that isn't closed has moved the counter with each rise of the transmit IV Index, and at no other time.
-        ensures moved { (f : F) (over : List StoreRecord) (m : Self) → stands (F.chip f) over m → (view m).closed ≡ false
-            → HasMoved role over (view m).entries (view m).fills (advances m) }
+        ensures moved { (first : FlashFound) (f : F) (over : List StoreRecord) (m : Self) → stands first (F.chip f) over m
+            → (view m).closed ≡ false → HasMoved role over (view m).entries (view m).fills (advances m) }
         ensures quiet { (past : Past) (ticks : ℕ) → quiet past ticks → IsQuietTick role past ticks };
 
     /// A machine stands over the same flash, also where that was given an arm. It does nothing.
     fn stays<F: Flash>()
-        ensures kept { (f g : F) (over : List StoreRecord) (m : Self) → IsSameFlash (F.chip f) (F.chip g)
-            → stands (F.chip f) over m → stands (F.chip g) over m };
+        ensures kept { (first : FlashFound) (f g : F) (over : List StoreRecord) (m : Self) → IsSameFlash (F.chip f) (F.chip g)
+            → stands first (F.chip f) over m → stands first (F.chip g) over m };
 }

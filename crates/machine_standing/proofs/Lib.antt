@@ -3,6 +3,7 @@ pub mod Lives
 pub mod Fronts
 pub mod Images
 pub mod Moved
+pub mod Worn
 pub mod Standings
 pub mod Refills
 pub mod Opened

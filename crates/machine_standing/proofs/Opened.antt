@@ -1,10 +1,9 @@
 -- What a life opens with, what a refused opening leaves, and what an arm leaves.
-use Rattle.std.proofs.Common.{◌≡◌, ℕ, ◌≤◌, Bool, true, false, List, [], append-nil, refl, ap, sym, subst, ◌∙◌, arith, true≢false}
+use Rattle.std.proofs.Common.{◌≡◌, ℕ, ◌+◌, ◌≤◌, Bool, true, false, List, [], append-nil, refl, ap, sym, subst, ◌∙◌, arith, true≢false}
 use Rattle.std.specs.Prelude.{IsTrue}
 use Rattle.flash_model.specs.Chip.{Chip, Stays}
-use Rattle.machine_contract.specs.declared.opening.StartFault.TheVariants as S
 use Rattle.machine_contract.specs.Moved.{IsMoved}
-use Rattle.machine_contract.specs.Opening.{IsUnwritten}
+use Rattle.machine_contract.specs.Opening.{FlashFound, IsUnwritten}
 use Rattle.machine_contract.specs.Refused.{IsStartCause, IsUntouched, WasReset}
 use Rattle.machine_contract.specs.Standing.{IsSameFlash}
 use Rattle.machine_standing.proofs.Images.{held_left, store_left, store_mark, store_node}
@@ -14,8 +13,8 @@ use Rattle.machine_standing.specs.Opening.{start_fault_of}
 use Rattle.machine_standing.specs.Ties.{IsNodeStore, IsReadyBy, StandsBy, opened_by}
 use Rattle.machine_standing.specs.Views.{LifeMachine}
 use Rattle.node_records.specs.declared.persist.Persist.{Persist}
-use Rattle.node_store.proofs.Holding.{held_node}
-use Rattle.node_store.specs.Causes.{IsFoundAs, IsNotFlash, IsStoreCause}
+use Rattle.node_store.proofs.Holding.{held_node, holds_exactly, holds_recovered}
+use Rattle.node_store.specs.Causes.{IsFoundAs, IsNotFlash, IsReset, IsStoreCause}
 use Rattle.node_store.specs.declared.mounting.StoreFault.{StoreFault}
 use Rattle.node_store.specs.declared.mounting.StoreFault.TheVariants as F
 use Rattle.node_store.specs.Mounted.{IsRead}
@@ -30,12 +29,15 @@ use Rattle.slot_journal.specs.Headers.{IsTidy}
 use Rattle.slot_journal.specs.Tie.{IsMounted as IsJournalMounted}
 use Rattle.store_definitions.specs.Config.{Config, config_of}
 use Rattle.store_definitions.specs.Ranges.{IsInRange}
+use Rattle.store_definitions.proofs.Wear.{at_most_of}
+use Rattle.store_definitions.specs.Wear.{CostsAndUses, CostsAtMost, IsTakenUp}
 
-pub opened_stands : {Memory : Type 0} (role : Role) (Before : Past → LifeMachine Memory → Type 0) (chip : Chip) (over : List StoreRecord) (r : Reserve) (t : Memory) (elements : ℕ)
+pub opened_stands : {Memory : Type 0} (role : Role) (Before : Past → LifeMachine Memory → Type 0) (first : FlashFound) (chip : Chip) (over : List StoreRecord) (r : Reserve) (t : Memory) (elements : ℕ)
     → IsStoreOf chip r.store over → IsNodeStore over r.store.persist → Before (record { told = []; records = over }) (opened_by r t elements)
     → IsPublished r.store r.keeper → r.keeper.advances ≡ [] → elements ≡ r.store.persist.elements → chip.setting.faults ≤ chip.faults
-    → StandsBy role Before chip over (opened_by r t elements)
-opened_stands role Before chip over r t elements store node before published none is began = record {
+    → (used : ℕ) → IsTakenUp first.now used → CostsAndUses used 0 first.changes chip.changes r.store.journal.used
+    → StandsBy role Before first chip over (opened_by r t elements)
+opened_stands role Before first chip over r t elements store node before published none is began used taken_up wear = record {
   life = record {
     told = [];
     entries = refl;
@@ -46,10 +48,20 @@ opened_stands role Before chip over r t elements store node before published non
     left = λ image next held found. (store_left chip r.store over store node.ranges image next held found, store_mark chip r.store over r.keeper.mark store published image next held found);
     idle = λ e. refl;
     failed = λ e. absurd (true≢false (sym e));
+    in_hand = 0;
+    hand = refl;
+    paid = record {
+      stored = 0;
+      behind = omega arith;
+      used = used;
+      taken_up = taken_up;
+      costs = at_most_of used 0 first.changes chip.changes r.store.journal.used wear;
+    };
   };
   usable = λ e. record { store = store; before = before };
   moved = λ e. subst (λ (a : List (ℕ × ℕ)). IsMoved over over a) (sym none) (moved_none over);
   began = began;
+  wear = λ e. wear;
 }
 
 pub opened_ready : {Memory : Type 0} (Before : Past → LifeMachine Memory → Type 0) (Fits : Memory → Persist → Type 0) (over : List StoreRecord) (r : Reserve) (t : Memory) (elements : ℕ)
@@ -94,9 +106,9 @@ store_same old new store records same tie = record {
   alike = tie.alike;
 }
 
-pub stands_same : {Memory : Type 0} (role : Role) (Before : Past → LifeMachine Memory → Type 0) (old new : Chip) (over : List StoreRecord) (m : LifeMachine Memory) → IsSameFlash old new
-    → StandsBy role Before old over m → StandsBy role Before new over m
-stands_same role Before old new over m same s = record {
+pub stands_same : {Memory : Type 0} (role : Role) (Before : Past → LifeMachine Memory → Type 0) (first : FlashFound) (old new : Chip) (over : List StoreRecord) (m : LifeMachine Memory) → IsSameFlash old new
+    → StandsBy role Before first old over m → StandsBy role Before first new over m
+stands_same role Before first old new over m same s = record {
   life = record {
     told = s.life.told;
     entries = s.life.entries;
@@ -107,10 +119,20 @@ stands_same role Before old new over m same s = record {
     left = λ image next is found. s.life.left image next (same.stays image is) found;
     idle = s.life.idle;
     failed = λ e. omega (arith, s.life.failed e, same.faults, same.began);
+    in_hand = s.life.in_hand;
+    hand = s.life.hand;
+    paid = record {
+      stored = s.life.paid.stored;
+      behind = s.life.paid.behind;
+      used = s.life.paid.used;
+      taken_up = s.life.paid.taken_up;
+      costs = subst (λ n. CostsAtMost s.life.paid.used (s.life.paid.stored + s.life.in_hand) first.changes n) (sym same.changes) s.life.paid.costs;
+    };
   };
   usable = λ e. record { store = store_same old new m.reserve.store _ same (s.usable e).store; before = (s.usable e).before };
   moved = s.moved;
   began = omega (arith, s.began, same.faults, same.began);
+  wear = λ e. subst (λ n. CostsAndUses s.life.paid.used s.life.paid.stored first.changes n m.reserve.store.journal.used) (sym same.changes) (s.wear e);
 }
 
 -- The causes of a store that isn't mounted.
@@ -135,15 +157,10 @@ start_cause old new node F.NoNode law honest cause same sound = (was_reset old n
 start_cause old new node (F.Damaged n) law honest cause same sound = (was_reset old node (F.Damaged n) law (cause honest), same, sound tt)
 start_cause old new node F.WasReset law honest cause same sound = (was_reset old node F.WasReset law (cause honest), same, sound tt)
 
--- A store that is refused though the flash didn't fail leaves nothing written.
-
-flash_or_reset : S.Flash ≡ S.WasReset → ⊥
-flash_or_reset e = cc
-
-pub unwritten_reset : (old new : Chip) (fault : StoreFault) → IsTrue old.honest → (IsTrue old.honest → IsNotFlash fault → Stays old new)
-    → (IsNotFlash fault → (new.faults ≡ old.faults) × (IsTrue old.steady → new.changes ≡ old.changes)) → start_fault_of fault ≡ S.WasReset
+-- Where the records that are read say a Node Reset, nothing is written.
+pub unwritten_reset : (old new : Chip) (node : IsNode old.now) → IsTrue old.honest → (IsTrue old.honest → IsReset old.now → Stays old new × (new.changes ≡ old.changes)) → WasReset old
     → IsUnwritten old new
-unwritten_reset old new F.Flash honest stays none is = absurd (flash_or_reset is)
-unwritten_reset old new F.NoNode honest stays none is = record { stays = stays honest tt; no_calls = (none tt).1 }
-unwritten_reset old new (F.Damaged n) honest stays none is = record { stays = stays honest tt; no_calls = (none tt).1 }
-unwritten_reset old new F.WasReset honest stays none is = record { stays = stays honest tt; no_calls = (none tt).1 }
+unwritten_reset old new node honest mounted was =
+    let alike = holds_recovered old.now node.records was.over (holds_exactly old.now node.records node.read) was.read in
+    let both = mounted honest (record { records = node.records; read = node.read; reset = ap (λ (c : Config). c.reset) alike.config ∙ was.reset }) in
+    record { stays = both.0; no_calls = both.1 }

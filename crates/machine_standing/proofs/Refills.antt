@@ -2,6 +2,7 @@
 use Rattle.std.proofs.Common.{◌≡◌, ℕ, ◌+◌, ◌*◌, ◌≤◌, ◌<◌, ◌^◌, ⊎_elim, false, List, [], ◌∷◌, ◌++◌, append-nil, ap, sym, subst, ◌∙◌, arith}
 use Rattle.std.specs.Prelude.{All, IsTrue}
 use Rattle.flash_model.specs.Chip.{Chip, Keeps, Setting}
+use Rattle.machine_contract.specs.Opening.{FlashFound}
 use Rattle.machine_contract.specs.Standing.{past_now}
 use Rattle.machine_contract.specs.declared.answers.Hand.TheVariants as H
 use Rattle.machine_standing.proofs.Fronts.{IsSameNode, kept_node_of}
@@ -24,6 +25,7 @@ use Rattle.seq_word.specs.Word.{seq_of}
 use Rattle.store_definitions.specs.Config.{Config, config_of}
 use Rattle.store_definitions.specs.Numbers.{fill_of}
 use Rattle.store_definitions.specs.Ranges.{IsInRange}
+use Rattle.store_definitions.specs.Wear.{CostsAndUses, CostsAtMost}
 
 pub fill_kept : (records : List StoreRecord) → All IsInRange records → seq_of (config_of records).mark < 2 ^ 24 → AreKept (config_of records) (fill_of (config_of records) ∷ [])
 fill_kept records ranges seq =
@@ -69,26 +71,28 @@ module _ {Memory : Type 0} (role : Role) (Before : Past → LifeMachine Memory �
       subst (λ d. IsSameNode (config_in m.reserve.store.persist) d) (sym meaning.config)
       (subst (λ d. IsSameNode d (config_of (past.records ++ fill_of c ∷ []))) (sym (kind.said past m h).meaning.config) same)
 
-  pub refill_stands : (old new : Chip) (over : List StoreRecord) (s : StandsBy role Before old over m) → m.closed ≡ false → (r : Reserve)
+  pub refill_stands : (first : FlashFound) (old new : Chip) (over : List StoreRecord) (s : StandsBy role Before first old over m) → m.closed ≡ false → (r : Reserve)
       → IsPublished m.reserve.store m.reserve.keeper → seq_of m.reserve.keeper.mark < 2 ^ 24
       → IsStoreOf new r.store (with_fill (past_now role over s.life.told m.fills)).records
       → IsMeaningOf (with_fill (past_now role over s.life.told m.fills)).records r.store.persist
       → IsPublished r.store r.keeper → r.keeper.advances ≡ m.reserve.keeper.advances → Keeps old new
-      → StandsBy role Before new over (refilled_by m r)
-  refill_stands old new over s runs r before seq store meaning published same keeps =
+      → CostsAndUses m.reserve.store.journal.used 1 old.changes new.changes r.store.journal.used
+      → StandsBy role Before first new over (refilled_by m r)
+  refill_stands first old new over s runs r before seq store meaning published same keeps wear =
       let past : Past = past_now role over s.life.told m.fills in
-      refilled_stands role Before kind old new over m s runs r (refill_kept past (s.usable runs).before before seq) store published meaning same
-      (omega (arith, s.began, keeps.later, ap (λ (x : Setting). x.faults) keeps.setting))
+      refilled_stands role Before kind first old new over m s runs r (refill_kept past (s.usable runs).before before seq) store published meaning same
+      (omega (arith, s.began, keeps.later, ap (λ (x : Setting). x.faults) keeps.setting)) wear
 
-  pub refill_stops : (old new : Chip) (over : List StoreRecord) (s : StandsBy role Before old over m) → m.closed ≡ false → (r : Reserve)
+  pub refill_stops : (first : FlashFound) (old new : Chip) (over : List StoreRecord) (s : StandsBy role Before first old over m) → m.closed ≡ false → (r : Reserve)
       → IsPublished m.reserve.store m.reserve.keeper → seq_of m.reserve.keeper.mark < 2 ^ 24
       → IsCutIn new (past_now role over s.life.told m.fills).records (fill_of (config_of (past_now role over s.life.told m.fills).records) ∷ []) r.keeper.mark
       → old.faults < new.faults → Keeps old new
-      → StandsBy role Before new over (stopped_by m r m.tables H.OfRefill)
-  refill_stops old new over s runs r before seq cut rose keeps =
+      → CostsAtMost m.reserve.store.journal.used 1 old.changes new.changes
+      → StandsBy role Before first new over (stopped_by m r m.tables H.OfRefill)
+  refill_stops first old new over s runs r before seq cut rose keeps wear =
       let past : Past = past_now role over s.life.told m.fills in
-      unfilled_stands role Before kind old new over m s runs r (refill_kept past (s.usable runs).before before seq) cut
-      (omega (arith, s.began, rose, ap (λ (x : Setting). x.faults) keeps.setting))
+      unfilled_stands role Before kind first old new over m s runs r (refill_kept past (s.usable runs).before before seq) cut
+      (omega (arith, s.began, rose, ap (λ (x : Setting). x.faults) keeps.setting)) wear
 
   pub refill_ready : (Fits : Memory → Persist → Type 0) (ready : IsReadyBy Before Fits m) (r : Reserve) → seq_of m.reserve.keeper.mark < 2 ^ 24
       → IsMeaningOf (with_fill ready.past).records r.store.persist → IsPublished r.store r.keeper → r.store.journal.closed ≡ false

@@ -8,11 +8,12 @@ use Rattle.event_definitions.specs.Role.{Role}
 use Rattle.flash_model.specs.Chip.{Chip}
 use Rattle.machine_contract.specs.declared.answers.Hand.TheVariants as H
 use Rattle.machine_contract.specs.Moved.{IsMoved, rises, went_to}
-use Rattle.machine_contract.specs.Opening.{IsLeft}
-use Rattle.machine_contract.specs.Standing.{IsFrontLeft, IsLeftBy, past_now}
+use Rattle.machine_contract.specs.Opening.{FlashFound, IsLeft}
+use Rattle.machine_contract.specs.Standing.{AreInHand, IsFrontLeft, IsLeftBy, past_now}
 use Rattle.machine_standing.proofs.Images.{front_left, front_node, store_left, store_mark, store_node}
 use Rattle.machine_standing.proofs.Lives.{filled_more}
 use Rattle.machine_standing.proofs.Moved.{moved_fill, moved_more}
+use Rattle.machine_standing.proofs.Worn.{none_in_hand, stored_more}
 use Rattle.machine_standing.specs.Kept.{AreKept}
 use Rattle.machine_standing.specs.Ties.{IsCutIn, IsKind, IsNodeStore, IsOverBy, StandsBy, entered_by, refilled_by, stopped_by, with_fill}
 use Rattle.machine_standing.specs.Views.{LifeMachine}
@@ -26,6 +27,8 @@ use Rattle.run_definitions.specs.Order.{is_outside}
 use Rattle.seq_reserve.specs.declared.reserve.Reserve.{Reserve}
 use Rattle.store_definitions.specs.Config.{Config, config_of}
 use Rattle.store_definitions.specs.Numbers.{fill_of, filled}
+use Rattle.store_definitions.proofs.Wear.{at_most_more, paid_more}
+use Rattle.store_definitions.specs.Wear.{CostsAndUses, CostsAtMost}
 
 -- an entry, with what its octets were read as
 abbrev pub told_by : Past → Entry → Insight → Told
@@ -65,7 +68,7 @@ entered_left role over told n t e =
     ∙ ap (λ l. l ++ role.stores (record { told = told; records = l }) t.entry.event t.insight t.entry.answer) e
 
 module _ {Memory : Type 0} (role : Role) (Before : Past → LifeMachine Memory → Type 0) (kind : IsKind role Before)
-    (old new : Chip) (over : List StoreRecord) (m : LifeMachine Memory) (s : StandsBy role Before old over m) (runs : m.closed ≡ false) where
+    (first : FlashFound) (old new : Chip) (over : List StoreRecord) (m : LifeMachine Memory) (s : StandsBy role Before first old over m) (runs : m.closed ≡ false) where
   abbrev past : Past
   past = past_now role over s.life.told m.fills
 
@@ -79,13 +82,16 @@ module _ {Memory : Type 0} (role : Role) (Before : Past → LifeMachine Memory �
       → Before (past_with past entry insight records) (entered_by m r tables entry) → length m.entries + 1 < 2 ^ 32
       → IsStoreOf new r.store (past.records ++ records) → r.keeper.mark ≡ r.store.persist.mark
       → went_to r.keeper.advances ≡ went_to m.reserve.keeper.advances ++ rises (config_of past.records) records → new.setting.faults ≤ new.faults
-      → StandsBy role Before new over (entered_by m r tables entry)
-  entered_stands r tables entry insight records fills handles is before few store mark moved began =
+      → CostsAndUses m.reserve.store.journal.used (length records) old.changes new.changes r.store.journal.used
+      → StandsBy role Before first new over (entered_by m r tables entry)
+  entered_stands r tables entry insight records fills handles is before few store mark moved began wear =
       let t : Told = told_by past entry insight in
       let all : List StoreRecord = past.records ++ records in
       let left_is : records_left role over [] (past.told ++ t ∷ []) ≡ all =
       entered_left role over past.told m.fills t refl ∙ ap (λ l. past.records ++ l) (sym is) in
       let now : IsNodeStore all r.store.persist = kind.said (past_with past entry insight records) (entered_by m r tables entry) before in
+      let worn : CostsAndUses s.life.paid.used (s.life.paid.stored + length records) first.changes new.changes r.store.journal.used =
+      paid_more s.life.paid.used s.life.paid.stored (length records) first.changes old.changes new.changes m.reserve.store.journal.used r.store.journal.used (s.wear runs) wear in
       record {
         life = record {
           told = past.told ++ t ∷ [];
@@ -101,10 +107,20 @@ module _ {Memory : Type 0} (role : Role) (Before : Past → LifeMachine Memory �
           );
           idle = s.life.idle;
           failed = λ closed. absurd (true≢false (sym closed ∙ runs));
+          in_hand = 0;
+          hand = subst (λ h. AreInHand role (past_now role over (past.told ++ t ∷ []) 0) h 0) (sym (s.life.idle runs)) refl;
+          paid = record {
+            stored = s.life.paid.stored + length records;
+            behind = ap length left_is ∙ stored_more over past.records records s.life.paid.stored s.life.paid.behind;
+            used = s.life.paid.used;
+            taken_up = s.life.paid.taken_up;
+            costs = none_in_hand s.life.paid.used (s.life.paid.stored + length records) first.changes new.changes r.store.journal.used worn;
+          };
         };
         usable = λ e. subst (λ l. IsOverBy Before new (record { told = past.told ++ t ∷ []; records = l }) (entered_by m r tables entry)) (sym left_is) (record { store = store; before = before });
         moved = λ e. subst (λ l. IsMoved over l r.keeper.advances) (sym left_is) (moved_more over past.records records m.reserve.keeper.advances r.keeper.advances (s.moved runs) moved);
         began = began;
+        wear = λ e. worn;
       }
 
   -- A machine that a failed event closed.
@@ -112,8 +128,9 @@ module _ {Memory : Type 0} (role : Role) (Before : Past → LifeMachine Memory �
       → role.sees past event insight
       → records ≡ role.stores past event insight (role.answer past event insight) → AreKept (config_of past.records) records
       → IsCutIn new past.records records r.keeper.mark → new.setting.faults < new.faults
-      → StandsBy role Before new over (stopped_by m r tables (H.OfEvent event))
-  stopped_stands r tables event insight records sees is kept cut rose = record {
+      → CostsAtMost m.reserve.store.journal.used (length records) old.changes new.changes
+      → StandsBy role Before first new over (stopped_by m r tables (H.OfEvent event))
+  stopped_stands r tables event insight records sees is kept cut rose wear = record {
     life = record {
       told = past.told;
       entries = s.life.entries;
@@ -129,10 +146,20 @@ module _ {Memory : Type 0} (role : Role) (Before : Past → LifeMachine Memory �
       );
       idle = λ e. absurd (true≢false e);
       failed = λ e. rose;
+      in_hand = length records;
+      hand = (insight, sees, ap length is);
+      paid = record {
+        stored = s.life.paid.stored;
+        behind = s.life.paid.behind;
+        used = s.life.paid.used;
+        taken_up = s.life.paid.taken_up;
+        costs = at_most_more s.life.paid.used s.life.paid.stored (length records) first.changes old.changes new.changes m.reserve.store.journal.used (s.wear runs) wear;
+      };
     };
     usable = λ e. absurd (true≢false e);
     moved = λ e. absurd (true≢false e);
     began = omega (arith, rose);
+    wear = λ e. absurd (true≢false e);
   }
     where
       by_place : (b : Bool) → is_outside event ≡ b → (n : ℕ) (next : List StoreRecord)
@@ -145,8 +172,9 @@ module _ {Memory : Type 0} (role : Role) (Before : Past → LifeMachine Memory �
   -- A machine that a failed refill closed.
   pub unfilled_stands : (r : Reserve) → AreKept (config_of past.records) (fill_of (config_of past.records) ∷ [])
       → IsCutIn new past.records (fill_of (config_of past.records) ∷ []) r.keeper.mark → new.setting.faults < new.faults
-      → StandsBy role Before new over (stopped_by m r m.tables H.OfRefill)
-  unfilled_stands r kept cut rose = record {
+      → CostsAtMost m.reserve.store.journal.used 1 old.changes new.changes
+      → StandsBy role Before first new over (stopped_by m r m.tables H.OfRefill)
+  unfilled_stands r kept cut rose wear = record {
     life = record {
       told = past.told;
       entries = s.life.entries;
@@ -160,10 +188,20 @@ module _ {Memory : Type 0} (role : Role) (Before : Past → LifeMachine Memory �
       );
       idle = λ e. absurd (true≢false e);
       failed = λ e. rose;
+      in_hand = 1;
+      hand = refl;
+      paid = record {
+        stored = s.life.paid.stored;
+        behind = s.life.paid.behind;
+        used = s.life.paid.used;
+        taken_up = s.life.paid.taken_up;
+        costs = at_most_more s.life.paid.used s.life.paid.stored 1 first.changes old.changes new.changes m.reserve.store.journal.used (s.wear runs) wear;
+      };
     };
     usable = λ e. absurd (true≢false e);
     moved = λ e. absurd (true≢false e);
     began = omega (arith, rose);
+    wear = λ e. absurd (true≢false e);
   }
     where
       by_count : (n : ℕ) (next : List StoreRecord) → IsLeft past.records (take n (fill_of (config_of past.records) ∷ [])) next
@@ -177,14 +215,17 @@ module _ {Memory : Type 0} (role : Role) (Before : Past → LifeMachine Memory �
       → IsStoreOf new r.store (past.records ++ fill_of (config_of past.records) ∷ []) → r.keeper.mark ≡ r.store.persist.mark
       → IsMeaningOf (past.records ++ fill_of (config_of past.records) ∷ []) r.store.persist
       → r.keeper.advances ≡ m.reserve.keeper.advances → new.setting.faults ≤ new.faults
-      → StandsBy role Before new over (refilled_by m r)
-  refilled_stands r kept store mark meaning same began =
+      → CostsAndUses m.reserve.store.journal.used 1 old.changes new.changes r.store.journal.used
+      → StandsBy role Before first new over (refilled_by m r)
+  refilled_stands r kept store mark meaning same began wear =
       let item : List StoreRecord = fill_of (config_of past.records) ∷ [] in
       let all : List StoreRecord = past.records ++ item in
       let left_is : filled (m.fills + 1) (records_left role over [] past.told) ≡ all =
       ap (λ n. filled n (records_left role over [] past.told)) (add-one m.fills) ∙ filled_more m.fills (records_left role over [] past.told) in
       let before : Before (with_fill past) (refilled_by m r) = kind.refilled past m r kept meaning (s.usable runs).before in
       let now : IsNodeStore all r.store.persist = kind.said (with_fill past) (refilled_by m r) before in
+      let worn : CostsAndUses s.life.paid.used (s.life.paid.stored + 1) first.changes new.changes r.store.journal.used =
+      paid_more s.life.paid.used s.life.paid.stored 1 first.changes old.changes new.changes m.reserve.store.journal.used r.store.journal.used (s.wear runs) wear in
       record {
         life = record {
           told = past.told;
@@ -200,9 +241,19 @@ module _ {Memory : Type 0} (role : Role) (Before : Past → LifeMachine Memory �
           );
           idle = s.life.idle;
           failed = λ closed. absurd (true≢false (sym closed ∙ runs));
+          in_hand = 0;
+          hand = subst (λ h. AreInHand role (past_now role over past.told (m.fills + 1)) h 0) (sym (s.life.idle runs)) refl;
+          paid = record {
+            stored = s.life.paid.stored + 1;
+            behind = ap length left_is ∙ stored_more over past.records item s.life.paid.stored s.life.paid.behind;
+            used = s.life.paid.used;
+            taken_up = s.life.paid.taken_up;
+            costs = none_in_hand s.life.paid.used (s.life.paid.stored + 1) first.changes new.changes r.store.journal.used worn;
+          };
         };
         usable = λ e. subst (λ l. IsOverBy Before new (record { told = past.told; records = l }) (refilled_by m r)) (sym left_is) (record { store = store; before = before });
         moved = λ e. subst (λ l. IsMoved over l r.keeper.advances) (sym left_is)
             (subst (λ (a : List (ℕ × ℕ)). IsMoved over all a) (sym same) (moved_fill over past.records m.reserve.keeper.advances (s.moved runs)));
         began = began;
+        wear = λ e. worn;
       }

@@ -7,6 +7,7 @@ use Rattle.flash_model.specs.Chip.{Chip}
 use Rattle.machine_contract.specs.declared.answers.Hand.{Hand}
 use Rattle.machine_contract.specs.declared.answers.Hand.TheVariants as H
 use Rattle.machine_contract.specs.Moved.{IsMoved}
+use Rattle.machine_contract.specs.Opening.{FlashFound}
 use Rattle.machine_contract.specs.Standing.{IsLifeSoFar, past_now}
 use Rattle.machine_standing.specs.Kept.{AreKept, KeptLaw}
 use Rattle.machine_standing.specs.Views.{LifeMachine, shown_of}
@@ -24,6 +25,7 @@ use Rattle.store_definitions.specs.Config.{config_of}
 use Rattle.store_definitions.specs.Node.{IsWhole}
 use Rattle.store_definitions.specs.Numbers.{fill_of}
 use Rattle.store_definitions.specs.Ranges.{IsInRange}
+use Rattle.store_definitions.specs.Wear.{CostsAndUses}
 
 -- a store whose value says the records of a node that can be run
 pub record IsNodeStore (over : List StoreRecord) (p : Persist) : Type 0 where
@@ -49,13 +51,15 @@ pub record IsOverBy {Memory : Type 0} (Before : Past → LifeMachine Memory → 
   pub store : IsStoreOf chip m.reserve.store past.records
   pub before : Before past m
 
--- A machine stands over a flash and the records that its life opened over.
-pub record StandsBy {Memory : Type 0} (role : Role) (Before : Past → LifeMachine Memory → Type 0) (chip : Chip)
+-- A machine stands over a flash, as its life found it and as it is, and over the records that the life opened over.
+pub record StandsBy {Memory : Type 0} (role : Role) (Before : Past → LifeMachine Memory → Type 0) (first : FlashFound) (chip : Chip)
     (over : List StoreRecord) (m : LifeMachine Memory) : Type 0 where
-  pub life : IsLifeSoFar role IsNode chip over (shown_of m)
+  pub life : IsLifeSoFar role IsNode first chip over (shown_of m)
   pub usable : m.closed ≡ false → IsOverBy Before chip (past_now role over life.told m.fills) m
   pub moved : m.closed ≡ false → IsMoved over (past_now role over life.told m.fills).records m.reserve.keeper.advances
   pub began : chip.setting.faults ≤ chip.faults
+  pub wear : m.closed ≡ false
+      → CostsAndUses life.paid.used life.paid.stored first.changes chip.changes m.reserve.store.journal.used
 
 -- The machine after an event: with this entry, and no refill behind it.
 abbrev pub entered_by : {Memory : Type 0} → LifeMachine Memory → Reserve → Memory → Entry → LifeMachine Memory

@@ -1,13 +1,13 @@
 //! The store of a node is mounted.
 #![tactic(auto)]
 
-ghost use Rattle.std.specs.Prelude.{◌≡◌, IfErr, IfOk, IsTrue, OnOk};
+ghost use Rattle.std.specs.Prelude.{◌≡◌, IfErr, IfOk, OnOk};
 ghost use Rattle.flash_model.specs.Arming.{Begins};
 ghost use Rattle.flash_model.specs.Chip.{IsFresh, Keeps};
 ghost use Rattle.machine_contract.specs.Opening.{IsNodeFlash, IsUnwritten, MigratesOnly};
-ghost use Rattle.machine_contract.specs.Refused.{IsStartCause, IsUntouched};
+ghost use Rattle.machine_contract.specs.Refused.{IsStartCause, IsUntouched, WasReset};
 ghost use Rattle.machine_standing.specs.Opening.{IsNodeMounted, start_fault_of};
-ghost use Rattle.node_store.specs.Calls.{compaction};
+ghost use Rattle.node_store.specs.Calls.{IsOpenedWith, compaction};
 ghost use Rattle.node_store.specs.Tie.{IsNode};
 ghost use Rattle.slot_definitions.specs.Slots.{HasFormat};
 
@@ -28,9 +28,10 @@ fn start_fault(fault: StoreFault) -> StartFault
 
 /// Mounts the store of a flash each image of which recovers a node or a reset: the store of a node that can be run. It takes no memory. The
 /// error is that the flash failed in this call, or that a Node Reset is stored. Whatever it answers, each image recovers what was read, or
-/// records that say the same (`untouched`). Nothing is written but where a bank of format 01 is migrated: the content of another flash stays, and a
-/// steady one counts no program or erase call (`writes`). A steady flash that is migrated counts the calls of a compaction to the records that say
-/// the same (`calls`). Where a Node Reset is stored none is migrated (`reset`).
+/// records that say the same (`untouched`). Nothing is written but where a bank of format 01 is migrated: the content of another flash stays, and it
+/// counts no program or erase call (`writes`). A flash that is migrated counts the calls of a compaction to the records that say the same
+/// (`calls`). How many slots were taken up, and how many are used then, says `wear`. Where a Node Reset is stored none is migrated, also where the
+/// flash fails (`reset`).
 pub fn mount_node<F: Flash>(flash: &mut F) -> Result<Store, StartFault>
     requires fresh { IsFresh (F.chip flash.old) }
     requires node { IsNodeFlash IsNode (F.chip flash.old) }
@@ -38,9 +39,11 @@ pub fn mount_node<F: Flash>(flash: &mut F) -> Result<Store, StartFault>
     ensures cause { IfErr result (IsStartCause IsNode (F.chip flash.old) (F.chip flash.new)) }
     ensures untouched { IsUntouched IsNode (F.chip flash.old) (F.chip flash.new) }
     ensures writes { MigratesOnly (F.chip flash.old) (F.chip flash.new) }
-    ensures reset { IfErr result (λ e. e ≡ StartFault.WasReset → IsUnwritten (F.chip flash.old) (F.chip flash.new)) }
-    ensures calls { IsTrue (F.chip flash.old).steady → HasFormat 1 (F.chip flash.old).now
+    ensures reset { WasReset (F.chip flash.old) → IsUnwritten (F.chip flash.old) (F.chip flash.new) }
+    ensures calls { HasFormat 1 (F.chip flash.old).now
         → IfOk result (λ s. Begins (compaction s.persist) (F.chip flash.old) (F.chip flash.new)) }
+    ensures wear { IfOk result
+        (λ s. IsOpenedWith (F.chip flash.old).now (F.chip flash.old).changes (F.chip flash.new).changes s.journal.used) }
     ensures no_fault { OnOk result ((F.chip flash.new).faults ≡ (F.chip flash.old).faults) }
     ensures frame { Keeps (F.chip flash.old) (F.chip flash.new) }
 {

@@ -13,6 +13,7 @@ use Rattle.event_records.specs.Putting.{ArePuttable}
 use Rattle.flash_model.specs.Chip.{Chip, Keeps, Setting}
 use Rattle.layer_laws.specs.Laws.{IsWithinLimits}
 use Rattle.machine_contract.specs.Moved.{rises, went_to}
+use Rattle.machine_contract.specs.Opening.{FlashFound}
 use Rattle.machine_contract.specs.Ranges.{IsEvent, IsJob, IsQuiet}
 use Rattle.machine_contract.specs.Standing.{past_now}
 use Rattle.machine_contract.specs.declared.answers.Hand.TheVariants as H
@@ -59,6 +60,7 @@ use Rattle.store_definitions.proofs.Pushes.{config_push}
 use Rattle.store_definitions.specs.Config.{Config, changed, config_of}
 use Rattle.store_definitions.specs.Node.{IsWhole}
 use Rattle.store_definitions.specs.Ranges.{IsInRange}
+use Rattle.store_definitions.specs.Wear.{CostsAndUses, CostsAtMost}
 
 -- The records of a plan keep the node whole, and say no identity.
 pub plan_kept : AreKeeping → (past : Past) (m : NodeMachine) (event : Event) (plan : Plan) (t : NodeTablesView) → IsBefore past m → IsPlanned past event plan t
@@ -160,7 +162,7 @@ act_held past _ basis a c b leaves = tt
 
 module _ (laws : AreKeeping) (m : NodeMachine) (event : Event) (plan : Plan) (planned_tables : NodeTablesView) where
   -- where all records were stored
-  pub event_stands : (old new : Chip) (over : List StoreRecord) (s : Stands old over m) → m.closed ≡ false
+  pub event_stands : (first : FlashFound) (old new : Chip) (over : List StoreRecord) (s : Stands first old over m) → m.closed ≡ false
       → (r : Reserve) (tables : NodeTablesView) (entry : Entry)
       → IsPlanned (past_now (node_role node_layers) over s.life.told m.fills) event plan planned_tables
       → ArePuttable m.reserve.store.persist plan.records → IsBounded m.reserve.store.persist (insight_in plan.basis)
@@ -173,37 +175,39 @@ module _ (laws : AreKeeping) (m : NodeMachine) (event : Event) (plan : Plan) (pl
       → went_to r.keeper.advances
       ≡ went_to m.reserve.keeper.advances ++ rises (config_of (past_now (node_role node_layers) over s.life.told m.fills).records) plan.records
       → Keeps old new
-      → Stands new over (entered m r tables entry)
-  event_stands old new over s runs r tables entry planned may bounded renewed e fills few store meaning published moved keeps =
+      → CostsAndUses m.reserve.store.journal.used (length plan.records) old.changes new.changes r.store.journal.used
+      → Stands first new over (entered m r tables entry)
+  event_stands first old new over s runs r tables entry planned may bounded renewed e fills few store meaning published moved keeps wear =
       let past : Past = past_now (node_role node_layers) over s.life.told m.fills in
       let h : IsBefore past m = (s.usable runs).before in
       let kept : AreKept (config_of past.records) plan.records = plan_kept laws past m event plan planned_tables h planned may bounded in
       let handles = plan_handles past event plan planned_tables r.store.persist entry planned e meaning in
       let is = plan_stores past event plan planned_tables r.store.persist entry planned e in
-      entered_stands (node_role node_layers) IsBefore (node_kind laws) old new over m s runs r tables entry (insight_in plan.basis) plan.records fills
+      entered_stands (node_role node_layers) IsBefore (node_kind laws) first old new over m s runs r tables entry (insight_in plan.basis) plan.records fills
       handles is
       (before_more laws.whole past m r tables entry (insight_in plan.basis) plan.records h kept meaning
       (renewed _ (planned.tables (told_by past entry (insight_in plan.basis)) (past.records ++ plan.records) e.is_of refl e.has refl (kept_node_of past.records plan.records kept).elements))
       handles.sees is)
       few store published moved
-      (omega (arith, s.began, keeps.later, ap (λ (x : Setting). x.faults) keeps.setting))
+      (omega (arith, s.began, keeps.later, ap (λ (x : Setting). x.faults) keeps.setting)) wear
 
   -- where the flash failed
-  pub event_stops : (old new : Chip) (over : List StoreRecord) (s : Stands old over m) → m.closed ≡ false
+  pub event_stops : (first : FlashFound) (old new : Chip) (over : List StoreRecord) (s : Stands first old over m) → m.closed ≡ false
       → (r : Reserve) (tables : NodeTablesView)
       → IsPlanned (past_now (node_role node_layers) over s.life.told m.fills) event plan planned_tables
       → ArePuttable m.reserve.store.persist plan.records → IsBounded m.reserve.store.persist (insight_in plan.basis)
       → IsCutIn new (past_now (node_role node_layers) over s.life.told m.fills).records plan.records r.keeper.mark
       → old.faults < new.faults → Keeps old new
-      → Stands new over (stopped m r tables (H.OfEvent event))
-  event_stops old new over s runs r tables planned may bounded cut rose keeps =
+      → CostsAtMost m.reserve.store.journal.used (length plan.records) old.changes new.changes
+      → Stands first new over (stopped m r tables (H.OfEvent event))
+  event_stops first old new over s runs r tables planned may bounded cut rose keeps wear =
       let past : Past = past_now (node_role node_layers) over s.life.told m.fills in
       let h : IsBefore past m = (s.usable runs).before in
       let kept : AreKept (config_of past.records) plan.records = plan_kept laws past m event plan planned_tables h planned may bounded in
-      stopped_stands (node_role node_layers) IsBefore (node_kind laws) old new over m s runs r tables event (insight_in plan.basis) plan.records planned.sees
+      stopped_stands (node_role node_layers) IsBefore (node_kind laws) first old new over m s runs r tables event (insight_in plan.basis) plan.records planned.sees
       (planned.records ∙ ap (λ a. stores node_layers past event (insight_in plan.basis) a) planned.answer)
       kept cut
-      (omega (arith, s.began, rose, ap (λ (x : Setting). x.faults) keeps.setting))
+      (omega (arith, s.began, rose, ap (λ (x : Setting). x.faults) keeps.setting)) wear
 
   -- the invariant
   pub event_ready : (ready : IsReady m) (r : Reserve) (tables : NodeTablesView) (entry : Entry)

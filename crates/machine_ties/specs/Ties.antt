@@ -5,6 +5,7 @@ use Rattle.event_definitions.specs.Role.{node_role}
 use Rattle.event_plans.specs.Memory.{IsFitFor, NodeTablesView}
 use Rattle.event_plans.specs.Plans.{IsStanding}
 use Rattle.flash_model.specs.Chip.{Chip}
+use Rattle.machine_contract.specs.Opening.{FlashFound}
 use Rattle.machine_contract.specs.declared.answers.Hand.{Hand}
 use Rattle.machine_standing.specs.Ties.{IsOverBy, IsReadyBy, StandsBy, entered_by, opened_by, refilled_by, stopped_by}
 use Rattle.machine_ties.specs.Views.{NodeMachine}
@@ -34,8 +35,8 @@ abbrev pub IsOver : Chip → Past → NodeMachine → Type 0
 IsOver chip past m = IsOverBy IsBefore chip past m
 
 -- A machine stands over a flash and the records that its life opened over.
-abbrev pub Stands : Chip → List StoreRecord → NodeMachine → Type 0
-Stands chip over m = StandsBy (node_role node_layers) IsBefore chip over m
+abbrev pub Stands : FlashFound → Chip → List StoreRecord → NodeMachine → Type 0
+Stands first chip over m = StandsBy (node_role node_layers) IsBefore first chip over m
 
 -- The machine after an event: with this entry, and no refill behind it.
 abbrev pub entered : NodeMachine → Reserve → NodeTablesView → Entry → NodeMachine

@@ -13,6 +13,7 @@ use Rattle.flash_model.specs.Chip.{Chip, Keeps}
 use Rattle.layer_laws.specs.Laws.{IsWithinLimits}
 use Rattle.machine_contract.specs.Moved.{rises, went_to}
 use Rattle.mesh_base.specs.declared.beacon.Beacon.{Beacon}
+use Rattle.machine_contract.specs.Opening.{FlashFound}
 use Rattle.machine_contract.specs.Ranges.{IsEvent, IsJob, IsQuiet}
 use Rattle.machine_contract.specs.Refused.{Closes}
 use Rattle.machine_contract.specs.View.{entry_for, with_entry}
@@ -55,6 +56,8 @@ use Rattle.seq_reserve.specs.Reserving.{IsPublished}
 use Rattle.seq_reserve.specs.declared.reserve.Reserve.{Reserve}
 use Rattle.store_definitions.specs.Config.{Config, changed, config_of, no_config}
 use Rattle.store_definitions.specs.Node.{IsWhole}
+use Rattle.store_definitions.proofs.Wear.{paid_none}
+use Rattle.store_definitions.specs.Wear.{CostsAndUses}
 
 -- The plan of an event.
 
@@ -150,6 +153,7 @@ done_by old stored log event place before after a plan tables asked st same e is
     keys = st.keys;
     tables = st.tables;
     models = st.models;
+    wear = st.wear;
   };
   answer = answer;
   jobs = λ past standing planned unicast leaves. made ∙ subst (λ (q : Persist). jobs ≡ jobs_of node_layers past (config_in q) event (insight_in plan.basis) plan.answer) now
@@ -177,6 +181,8 @@ nothing_stored old new event turn fit same chip = record {
   keys = subst (λ (r : Reserve). IsFit new.tables.hearing r.store.persist) (sym same) fit;
   tables = λ past h. h;
   models = refl;
+  wear = subst (λ (r : Reserve). CostsAndUses old.reserve.store.journal.used 0 chip.changes chip.changes r.store.journal.used) (sym same)
+      (paid_none old.reserve.store.journal.used chip.changes);
 }
 
 pub acted_done : (old new : Parts) (event : Event) (turn : IsTurnOf old event) (place : Place) (a : Answered) → IsActed old new event place a → (chip : Chip)
@@ -267,9 +273,9 @@ module _ (laws : AreKeeping) (old new : Parts) (event : Event) (place : Place) (
       ∙ ap (λ x. record (shown now_after) { entries = old.history.entries ++ entry ∷ []; taken = old.history.taken; which = x }) d.stored.made
 
   -- the tie to the flash
-  pub stands_done : (over : List StoreRecord) → Stands before over machine → closed ≡ false → Keeps before after
-      → Stands after over now_after
-  stands_done over s runs keeps =
+  pub stands_done : (first : FlashFound) (over : List StoreRecord) → Stands first before over machine → closed ≡ false → Keeps before after
+      → Stands first after over now_after
+  stands_done first over s runs keeps =
       let past : Past = past_now (node_role node_layers) over s.life.told place.fills in
       let h : IsOver before past machine = s.usable runs in
       let planned : IsPlanned past event d.plan d.tables = d.asked.planned past h.before.standing in
@@ -281,10 +287,10 @@ module _ (laws : AreKeeping) (old new : Parts) (event : Event) (place : Place) (
         has = d.answer;
         jobs = d.jobs past h.before.standing planned node.unicast (plan_leaves past event d.plan d.tables q planned meaning);
       } in
-      subst (λ (v : NodeMachine). Stands after over v) as_now
-      (event_stands laws machine event d.plan d.tables before after over s runs new.reserve new.tables entry planned d.asked.may d.asked.bounded
+      subst (λ (v : NodeMachine). Stands first after over v) as_now
+      (event_stands laws machine event d.plan d.tables first before after over s runs new.reserve new.tables entry planned d.asked.may d.asked.bounded
       d.stored.tables is_entry refl d.few (d.stored.kept past.records h.store) meaning d.stored.published
-      (d.stored.moved ∙ ap (λ (x : Config). went_to old.reserve.keeper.advances ++ rises x d.plan.records) h.before.standing.meaning.config) keeps)
+      (d.stored.moved ∙ ap (λ (x : Config). went_to old.reserve.keeper.advances ++ rises x d.plan.records) h.before.standing.meaning.config) keeps d.stored.wear)
 
 -- An event at which the flash failed.
 
@@ -297,9 +303,9 @@ module _ (laws : AreKeeping) (old new : Parts) (event : Event) (before after : C
   stopped_now = ap (λ (l : List Entry). record (stopped cut_machine new.reserve new.tables (H.OfEvent event)) { entries = l }) (sym d.entries)
       ∙ ap (λ n. record (stopped cut_machine new.reserve new.tables (H.OfEvent event)) { entries = new.history.entries; taken = n }) (sym d.taken)
 
-  pub stands_stopped : (over : List StoreRecord) → Stands before over cut_machine → closed ≡ false → Keeps before after
-      → Stands after over (machine_of new fills true (H.OfEvent event) elements)
-  stands_stopped over s runs keeps =
+  pub stands_stopped : (first : FlashFound) (over : List StoreRecord) → Stands first before over cut_machine → closed ≡ false → Keeps before after
+      → Stands first after over (machine_of new fills true (H.OfEvent event) elements)
+  stands_stopped first over s runs keeps =
       let past : Past = past_now (node_role node_layers) over s.life.told fills in
       let h : IsOver before past cut_machine = s.usable runs in
       let planned : IsPlanned past event d.plan d.tables = d.asked.planned past h.before.standing in
@@ -308,8 +314,8 @@ module _ (laws : AreKeeping) (old new : Parts) (event : Event) (before after : C
         fronts = d.halted.fronts past.records h.store;
         durable = d.halted.durable past.records h.store;
       } in
-      subst (λ (v : NodeMachine). Stands after over v) stopped_now
-      (event_stops laws cut_machine event d.plan d.tables before after over s runs new.reserve new.tables planned d.asked.may d.asked.bounded cut d.halted.rose keeps)
+      subst (λ (v : NodeMachine). Stands first after over v) stopped_now
+      (event_stops laws cut_machine event d.plan d.tables first before after over s runs new.reserve new.tables planned d.asked.may d.asked.bounded cut d.halted.rose keeps d.halted.wear)
 
   -- what is shown
   pub closes_stopped : closed ≡ false → Closes (H.OfEvent event) (shown cut_machine) (shown (machine_of new fills true (H.OfEvent event) elements)) before after

@@ -33,6 +33,7 @@ use Rattle.event_definitions.specs.Answers.{config_before}
 use Rattle.event_definitions.specs.History.{OfNothing, Past}
 use Rattle.event_definitions.specs.Jobs.{jobs_of}
 use Rattle.seq_reserve.specs.Reserving.{IsDurable, IsPublished}
+use Rattle.store_definitions.specs.Wear.{CostsAndUses, CostsAtMost}
 
 -- a machine of these parts
 abbrev pub machine_of : Parts → ℕ → Bool → Hand → ℕ → NodeMachine
@@ -90,6 +91,9 @@ pub record AreStored (items : List StoreRecord) (old new : Parts) (before after 
   pub keys : IsFit new.tables.hearing new.reserve.store.persist
   pub tables : (past : Past) → AreNodeTablesOf old.tables past → AreNodeTablesOf new.tables past
   pub models : new.tables.models ≡ old.tables.models
+  -- program and erase calls were made at most as many as they cost
+  pub wear : CostsAndUses old.reserve.store.journal.used (length items) before.changes after.changes
+      new.reserve.store.journal.used
 
 -- The flash failed while records were stored: each image has a front of them behind those of before.
 pub record AreHalted (items : List StoreRecord) (old new : Parts) (before after : Chip) : Type 0 where
@@ -99,6 +103,7 @@ pub record AreHalted (items : List StoreRecord) (old new : Parts) (before after 
   pub durable : (records : List StoreRecord) → IsStoreOf before old.reserve.store records
       → IsDurable after new.reserve.keeper.mark
   pub made : new.reserve.keeper.which ≡ old.reserve.keeper.which
+  pub wear : CostsAtMost old.reserve.store.journal.used (length items) before.changes after.changes
 
 -- the parts with the tables that a plan leaves
 abbrev pub planned_parts : Parts → NodeTablesView → Parts

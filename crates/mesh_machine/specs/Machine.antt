@@ -1,6 +1,7 @@
 -- The machine of a node: what it shows, and how it stands over its flash and over the records that its life opened over.
 use Rattle.std.specs.Prelude.{List}
 use Rattle.flash_model.specs.Chip.{Chip}
+use Rattle.machine_contract.specs.Opening.{FlashFound}
 use Rattle.machine_contract.specs.View.{MachineView}
 use Rattle.machine_ties.specs.Ties as ties
 use Rattle.machine_ties.specs.Views as views
@@ -12,8 +13,8 @@ use Rattle.record_types.specs.declared.records.StoreRecord.{StoreRecord}
 abbrev pub shown : MeshMachine → MachineView
 shown m = views.shown m.state.value
 
-abbrev pub Stands : Chip → List StoreRecord → MeshMachine → Type 0
-Stands chip over m = ties.Stands chip over m.state.value
+abbrev pub Stands : FlashFound → Chip → List StoreRecord → MeshMachine → Type 0
+Stands first chip over m = ties.Stands first chip over m.state.value
 
 -- what is stored
 abbrev pub persist_of : MeshMachine → Persist

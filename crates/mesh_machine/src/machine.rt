@@ -6,6 +6,7 @@ ghost use Rattle.early_reading.specs.Known.{IsKnown};
 ghost use Rattle.early_reading.specs.Views.{IsRead, read_before};
 ghost use Rattle.flash_model.specs.Chip.{Keeps};
 ghost use Rattle.event_world.specs.Stepping.{HasStepped};
+ghost use Rattle.machine_contract.specs.Opening.{FlashFound};
 ghost use Rattle.machine_contract.specs.Ranges.{IsEvent, IsJob, IsQuiet};
 ghost use Rattle.machine_contract.specs.Refused.{IsRefused};
 ghost use Rattle.machine_contract.specs.View.{entry_for, with_entry};
@@ -118,8 +119,8 @@ impl MeshMachine {
         ensures closed { (shown self.old).closed ≡ true → result ≡ Err Stop.Closed }
         ensures reads { IsCounted (view_now self.old) (read_before early.now.reader.now early.now.reading.now)
             self.old.reads self.new.reads }
-        ensures kept { (over : List StoreRecord) → Stands (F.chip flash.old) over self.old
-            → Stands (F.chip flash.new) over self.new }
+        ensures kept { (first : FlashFound) (over : List StoreRecord) → Stands first (F.chip flash.old) over self.old
+            → Stands first (F.chip flash.new) over self.new }
         ensures frame { Keeps (F.chip flash.old) (F.chip flash.new) }
     {
         let known = self.take_early(early);
@@ -155,8 +156,8 @@ impl MeshMachine {
         ensures refused { IfErr result
             (IsRefused F.chip (Hand.OfEvent (E.Net octets.now)) (shown self.old) (shown self.new) flash.old flash.new) }
         ensures closed { (shown self.old).closed ≡ true → result ≡ Err Stop.Closed }
-        ensures kept { (over : List StoreRecord) → Stands (F.chip flash.old) over self.old
-            → Stands (F.chip flash.new) over self.new }
+        ensures kept { (first : FlashFound) (over : List StoreRecord) → Stands first (F.chip flash.old) over self.old
+            → Stands first (F.chip flash.new) over self.new }
         ensures reads { IsCounted (view_now self.old) (read_before early.now.reader.now early.now.reading.now)
             self.old.reads self.new.reads }
         ensures frame { Keeps (F.chip flash.old) (F.chip flash.new) }

@@ -1,12 +1,12 @@
 //! A life is opened, and the machine as the layers above see it.
 #![tactic(auto)]
 
-ghost use Rattle.std.specs.Prelude.{◌≡◌, ◌≤◌, drop, false, List, [], IfErr, IfOk, IfSome, IsTrue};
+ghost use Rattle.std.specs.Prelude.{◌≡◌, ◌≤◌, drop, false, List, [], IfErr, IfOk, IfSome};
 ghost use Rattle.early_reading.specs.Views.{IsRead, read_before};
 ghost use Rattle.flash_model.specs.Arming.{Begins};
 ghost use Rattle.flash_model.specs.Chip.{IsFresh, Keeps};
 ghost use Rattle.machine_contract.specs.Opening.{IsNodeFlash, IsUnwritten, MigratesOnly};
-ghost use Rattle.machine_contract.specs.Refused.{IsStartCause};
+ghost use Rattle.machine_contract.specs.Refused.{IsStartCause, WasReset};
 ghost use Rattle.machine_contract.specs.Started.{IsStarted};
 ghost use Rattle.event_plans.specs.Memory.{AreNodeTablesOf};
 ghost use Rattle.machine_standing.specs.Ties.{IsNodeStore};
@@ -124,7 +124,7 @@ fn ended(state: Box<MeshState>) -> (History, Keeper)
 
 impl MeshMachine {
     /// `start` of `Machine`, which takes memory for so many entries besides: so as many events take none for their entries. Where it migrates a
-    /// flash of format 01, a steady one counts the calls of a compaction to the records that say the same (`calls`).
+    /// flash of format 01, it counts the calls of a compaction to the records that say the same (`calls`).
     pub fn start_with_room<F: Flash>(
         alloc: Global,
         flash: &mut F,
@@ -136,8 +136,8 @@ impl MeshMachine {
         ensures ok { IfOk result (IsStarted shown Stands (F.chip flash.old) (F.chip flash.new)) }
         ensures cause { IfErr result (IsStartCause IsNode (F.chip flash.old) (F.chip flash.new)) }
         ensures writes { MigratesOnly (F.chip flash.old) (F.chip flash.new) }
-        ensures reset { IfErr result (λ e. e ≡ StartFault.WasReset → IsUnwritten (F.chip flash.old) (F.chip flash.new)) }
-        ensures calls { IsTrue (F.chip flash.old).steady → HasFormat 1 (F.chip flash.old).now
+        ensures reset { WasReset (F.chip flash.old) → IsUnwritten (F.chip flash.old) (F.chip flash.new) }
+        ensures calls { HasFormat 1 (F.chip flash.old).now
             → IfOk result (λ s. Begins (compaction (persist_of s.machine)) (F.chip flash.old) (F.chip flash.new)) }
         ensures frame { Keeps (F.chip flash.old) (F.chip flash.new) }
     {

@@ -57,20 +57,30 @@ returns-in-Ok-clause-ok g c =
 
 pub returns-in-Ok-clause-writes : goal.returns-in-Ok-clause-writes
 returns-in-Ok-clause-writes g c = record {
-  unwritten = λ other. record { stays = c.mount.ensures.stays c.requires.fresh.honest other; no_calls = λ steady. c.mount.ensures.no_calls steady c.requires.fresh.honest other };
+  unwritten = λ other. record { stays = c.mount.ensures.stays c.requires.fresh.honest other; no_calls = c.mount.ensures.no_calls c.requires.fresh.honest other };
   most_calls = c.mount.ensures.most_calls;
 }
 
 pub returns-in-Err-clause-writes : goal.returns-in-Err-clause-writes
 returns-in-Err-clause-writes g c = record {
-  unwritten = λ other. record { stays = c.mount.ensures.stays c.requires.fresh.honest other; no_calls = λ steady. c.mount.ensures.no_calls steady c.requires.fresh.honest other };
+  unwritten = λ other. record { stays = c.mount.ensures.stays c.requires.fresh.honest other; no_calls = c.mount.ensures.no_calls c.requires.fresh.honest other };
   most_calls = c.mount.ensures.most_calls;
 }
 
 pub returns-in-Err-clause-reset : goal.returns-in-Err-clause-reset
-returns-in-Err-clause-reset g c = λ e.
-    unwritten_reset (g.F.Flash.chip c.args.flash.now) (g.F.Flash.chip c.mount.new.flash) c.in-Err.fault c.requires.fresh.honest c.in-Err.ensures.unchanged c.in-Err.ensures.refused
-    (sym c.start_fault.ensures ∙ e)
+returns-in-Err-clause-reset g c was =
+    let old = g.F.Flash.chip c.args.flash.now in
+    let node : IsNode old.now = c.requires.node.each old.now (g.met.F.Flash.reads_image c.args.flash.now c.requires.fresh.honest) in
+    unwritten_reset old (g.F.Flash.chip c.mount.new.flash) node c.requires.fresh.honest c.mount.ensures.reset was
+
+pub returns-in-Ok-clause-reset : goal.returns-in-Ok-clause-reset
+returns-in-Ok-clause-reset g c was =
+    let old = g.F.Flash.chip c.args.flash.now in
+    let node : IsNode old.now = c.requires.node.each old.now (g.met.F.Flash.reads_image c.args.flash.now c.requires.fresh.honest) in
+    unwritten_reset old (g.F.Flash.chip c.mount.new.flash) node c.requires.fresh.honest c.mount.ensures.reset was
 
 pub returns-in-Ok-clause-calls : goal.returns-in-Ok-clause-calls
-returns-in-Ok-clause-calls g c = λ steady old. c.in-Ok.ensures.calls steady c.requires.fresh.honest old
+returns-in-Ok-clause-calls g c old = c.in-Ok.ensures.calls c.requires.fresh.honest old
+
+pub returns-in-Ok-clause-wear : goal.returns-in-Ok-clause-wear
+returns-in-Ok-clause-wear g c = c.in-Ok.ensures.wear c.requires.fresh.honest

@@ -27,4 +27,5 @@ returns-clause-stored g c =
       keys = subst (λ (q : Persist). IsFit c.renew.new.tables.hearing q) c.persist.ensures.value c.renew.ensures.fit;
       tables = c.renew.ensures.tables;
       models = c.renew.ensures.unchanged;
+      wear = c.in_ok-store_records.ensures.wear c.requires.usable;
     }

@@ -6,13 +6,13 @@ use Rattle.low_power_machine.proofs.opening.LowPowerMachineMachine.due.Goals as 
 
 pub returns : goal.returns
 returns g c = record {
-  idle = λ live f over s. record {
+  idle = λ live first f over s. record {
     told = s.life.told;
     entries = s.life.entries;
     handled = s.life.handled;
     quiet = λ ticks l. quiet_tick (past_now low_power_role over s.life.told c.args.self.now.state.value.fills) ticks;
   };
-  least = λ live f over s. record {
+  least = λ live first f over s. record {
     told = s.life.told;
     entries = s.life.entries;
     handled = s.life.handled;

@@ -3,5 +3,5 @@ use Rattle.low_power_machine.specs.Views.{LowPowerNode, Stands}
 use Rattle.low_power_machine.proofs.opening.LowPowerMachineMachine.refill.Goals as goal
 
 pub returns-clause-kept : goal.returns-clause-kept
-returns-clause-kept g c over s =
-    c.refill_numbers.ensures.kept over (subst (λ (m : LowPowerNode). Stands (g.F.Flash.chip c.args.flash.now) over m) (sym c.deref_mut.ensures.value) s)
+returns-clause-kept g c first over s =
+    c.refill_numbers.ensures.kept first over (subst (λ (m : LowPowerNode). Stands first (g.F.Flash.chip c.args.flash.now) over m) (sym c.deref_mut.ensures.value) s)

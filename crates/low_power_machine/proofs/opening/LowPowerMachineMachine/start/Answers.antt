@@ -1,5 +1,6 @@
 use Rattle.std.proofs.Common.{ap, sym, subst, ◌∙◌, arith}
 use Rattle.flash_model.specs.Chip.{Setting}
+use Rattle.machine_contract.specs.Opening.{found_of}
 use Rattle.machine_standing.proofs.Opened.{opened_stands}
 use Rattle.machine_standing.specs.Opening.{IsNodeMounted}
 use Rattle.machine_standing.specs.Ties.{IsNodeStore, opened_by}
@@ -7,6 +8,7 @@ use Rattle.low_power_definitions.specs.State.{no_friend}
 use Rattle.low_power_machine.proofs.Kind.{opened_before}
 use Rattle.low_power_machine.specs.Views.{IsBefore, LowPowerNode, Stands}
 use Rattle.low_power_role.specs.Role.{low_power_role}
+use Rattle.node_store.specs.Calls.{IsOpenedWith}
 use Rattle.node_store.specs.Tie.{IsStoreOf}
 use Rattle.node_store.specs.View.{StoreView}
 use Rattle.store_definitions.specs.Config.{Config}
@@ -26,18 +28,21 @@ returns-in-Ok-clause-ok g c =
     let r = started.machine.state.value.reserve in
     let t = started.machine.state.value.tables in
     let said : IsNodeStore node.over r.store.persist = subst (λ (s : StoreView). IsNodeStore node.over s.persist) (sym says.store) node.node in
-    let base : Stands new node.over (opened_by r t store.persist.elements) =
-    opened_stands low_power_role IsBefore new node.over r t store.persist.elements (subst (λ (s : StoreView). IsStoreOf new s node.over) (sym says.store) node.kept) said
+    let worn : IsOpenedWith old.now old.changes new.changes r.store.journal.used =
+    subst (λ (s : StoreView). IsOpenedWith old.now old.changes new.changes s.journal.used) (sym says.store) c.in_ok-store.ensures.wear in
+    let base : Stands (found_of old) new node.over (opened_by r t store.persist.elements) =
+    opened_stands low_power_role IsBefore (found_of old) new node.over r t store.persist.elements (subst (λ (s : StoreView). IsStoreOf new s node.over) (sym says.store) node.kept) said
     (opened_before node.over r t store.persist.elements said
     (says.lpn ∙ ap (λ (s : StoreView). no_friend s.persist.unicast s.persist.elements) (sym says.store))) says.published says.advances (ap (λ (s : StoreView). s.persist.elements) (sym says.store))
-    (omega (arith, c.requires.began, c.mount_node.ensures.frame.later, ap (λ (x : Setting). x.faults) c.mount_node.ensures.frame.setting)) in
+    (omega (arith, c.requires.began, c.mount_node.ensures.frame.later, ap (λ (x : Setting). x.faults) c.mount_node.ensures.frame.setting))
+    worn.used worn.taken_up worn.costs in
     record {
       over = node.over;
       read = node.read;
       runs = node.runs;
       state = says.state ∙ ap (λ (x : Config). x.iv) node.node.meaning.config;
       mark = says.mark ∙ ap (λ (x : Config). x.mark) node.node.meaning.config;
-      tie = subst (λ (v : LowPowerNode). Stands new node.over v) (sym says.machine) base;
+      tie = subst (λ (v : LowPowerNode). Stands (found_of old) new node.over v) (sym says.machine) base;
       no_fault = c.in_ok-store.ensures.no_fault;
       entries = ap (λ (v : LowPowerNode). v.entries) says.machine;
       taken = ap (λ (v : LowPowerNode). v.taken) says.machine;

@@ -2,7 +2,7 @@ use Rattle.low_power_machine.proofs.opening.LowPowerMachineMachine.tells.Goals a
 
 pub returns : goal.returns
 returns g c = record {
-  known = λ f over m s. s.life;
-  moved = λ f over m s runs. record { told = s.life.told; are = s.life.entries; handled = s.life.handled; moved = s.moved runs };
+  known = λ first f over m s. s.life;
+  moved = λ first f over m s runs. record { told = s.life.told; are = s.life.entries; handled = s.life.handled; moved = s.moved runs };
   quiet = λ past ticks q. q;
 }

@@ -34,6 +34,7 @@ use Rattle.node_store.specs.Tie.{IsFront}
 use Rattle.node_store.specs.Writing.{Puts}
 use Rattle.record_types.specs.declared.records.StoreRecord.{StoreRecord}
 use Rattle.seq_reserve.specs.declared.reserve.Reserve.{Reserve}
+use Rattle.store_definitions.specs.Wear.{CostsAndUses, CostsAtMost}
 use Rattle.low_power_machine.proofs.state.LowPowerState.handle_event.Goals as goal
 
 pub heard_records-records-requires : goal.heard_records-records-requires
@@ -112,6 +113,7 @@ invariant_of-self-2 g c e =
       moved = c.in-Ok.ensures.advanced ∙ ap (λ l. went_to i.reserve.keeper.advances ++ l) (advances_are (config_in i.reserve.store.persist) c.heard_records-records.result)
           ∙ ap (λ (l : List StoreRecord). went_to i.reserve.keeper.advances ++ rises (config_in i.reserve.store.persist) l) records;
       fit = subst (λ (p : Persist). IsFitFor memory p) c.persist.ensures.value c.plan-plan.ensures.fit;
+      wear = subst (λ (l : List StoreRecord). CostsAndUses i.reserve.store.journal.used (length l) old.changes new.changes r.store.journal.used) records (c.in-Ok.ensures.wear ready.usable);
     } in
     ready_made m event plan memory r log entry old new made c.node_law.ensures.kept c.low_power_state_law.ensures.goes_on ready
 
@@ -138,7 +140,7 @@ returns-clause-jobs g c =
     subst (λ (l : List Job). All (IsJob event) l) (sym c.enter-answered.ensures.jobs) (c.jobs_of-jobs.ensures.jobs event)
 
 pub returns-clause-kept : goal.returns-clause-kept
-returns-clause-kept g c over stands =
+returns-clause-kept g c first over stands =
     let i = c.self.inside in
     let m : LowPowerNode = machine_of i.reserve i.memory i.history i.fills i.closed i.hand i.elements in
     let event : Event = c.args.event.now in
@@ -177,10 +179,11 @@ returns-clause-kept g c over stands =
       moved = c.in-Ok.ensures.advanced ∙ ap (λ l. went_to i.reserve.keeper.advances ++ l) (advances_are (config_in i.reserve.store.persist) c.heard_records-records.result)
           ∙ ap (λ (l : List StoreRecord). went_to i.reserve.keeper.advances ++ rises (config_in i.reserve.store.persist) l) records;
       fit = subst (λ (p : Persist). IsFitFor memory p) c.persist.ensures.value c.plan-plan.ensures.fit;
+      wear = subst (λ (l : List StoreRecord). CostsAndUses i.reserve.store.journal.used (length l) old.changes new.changes r.store.journal.used) records (c.in-Ok.ensures.wear ready.usable);
     } in
     let few : length i.history.entries < 2 ^ 32 - 1 = subst (λ (l : List Entry). length l < 2 ^ 32 - 1) c.room.ensures.entries c.in_ok-draft.ensures.few in
-    stands_made m event plan memory r log entry old new made c.node_law.ensures.kept c.low_power_state_law.ensures.goes_on over
-    (subst (λ (v : LowPowerNode). Stands old over v) (sym c.self.view_is) stands) c.if-self.false (omega (arith, few)) c.store_records.ensures.leaves.frame
+    stands_made m event plan memory r log entry old new made c.node_law.ensures.kept c.low_power_state_law.ensures.goes_on first over
+    (subst (λ (v : LowPowerNode). Stands first old over v) (sym c.self.view_is) stands) c.if-self.false (omega (arith, few)) c.store_records.ensures.leaves.frame
 
 pub returns-in-Err-clause-refused : goal.returns-in-Err-clause-refused
 returns-in-Err-clause-refused g c =
@@ -209,7 +212,7 @@ returns-in-Err-clause-refused g c =
     (closes c.node_law.ensures.kept c.low_power_state_law.ensures.goes_on m event plan memory r log old new plans may c.room.ensures.entries c.room.ensures.taken rose c.if-self.false c.store_records.ensures.made))
 
 pub returns-in-Err-clause-kept : goal.returns-in-Err-clause-kept
-returns-in-Err-clause-kept g c over stands =
+returns-in-Err-clause-kept g c first over stands =
     let i = c.self.inside in
     let m : LowPowerNode = machine_of i.reserve i.memory i.history i.fills i.closed i.hand i.elements in
     let event : Event = c.args.event.now in
@@ -230,7 +233,8 @@ returns-in-Err-clause-kept g c over stands =
     (λ q is. subst (λ (l : List StoreRecord). ArePuttable q l) (sym c.new.ensures.value) tt)) in
     let rose : old.faults < new.faults = (c.in-Err.ensures.fails ready.usable).cause.rose in
     let log : LogView = c.room.new.history in
-    subst (λ (e : Event). Stands new over (machine_of r memory log i.fills true (H.OfEvent e) i.elements)) (sym c.of.ensures.value)
-    (stands_closed c.node_law.ensures.kept c.low_power_state_law.ensures.goes_on m event plan memory r log old new plans may c.room.ensures.entries c.room.ensures.taken rose over
-    (subst (λ (v : LowPowerNode). Stands old over v) (sym c.self.view_is) stands) c.if-self.false c.store_records.ensures.leaves.frame
-    (λ before held image is. subst (λ (l : List StoreRecord). IsFront before l image) records (c.store_records.ensures.fronts before held image is)) c.store_records.ensures.durable)
+    subst (λ (e : Event). Stands first new over (machine_of r memory log i.fills true (H.OfEvent e) i.elements)) (sym c.of.ensures.value)
+    (stands_closed c.node_law.ensures.kept c.low_power_state_law.ensures.goes_on m event plan memory r log old new plans may c.room.ensures.entries c.room.ensures.taken rose first over
+    (subst (λ (v : LowPowerNode). Stands first old over v) (sym c.self.view_is) stands) c.if-self.false c.store_records.ensures.leaves.frame
+    (λ before held image is. subst (λ (l : List StoreRecord). IsFront before l image) records (c.store_records.ensures.fronts before held image is)) c.store_records.ensures.durable
+    (subst (λ (l : List StoreRecord). CostsAtMost i.reserve.store.journal.used (length l) old.changes new.changes) records c.store_records.ensures.most_wear))

@@ -43,7 +43,7 @@ invariant_of-self g c e =
     (ap (λ (k : KeeperView). k.mark) (c.in-Ok.ensures.filled seen) ∙ ap (λ n. n + 256) seen)
 
 pub returns-in-Ok-clause-kept : goal.returns-in-Ok-clause-kept
-returns-in-Ok-clause-kept g c over stands =
+returns-in-Ok-clause-kept g c first over stands =
     let i = c.self.inside in
     let m : LowPowerNode = machine_of i.reserve i.memory i.history i.fills i.closed i.hand i.elements in
     let ready : IsReadyBy IsBefore IsFitFor m = c.self.invariant c.if-self.false in
@@ -53,16 +53,16 @@ returns-in-Ok-clause-kept g c over stands =
     let seq : seq_of i.reserve.keeper.mark < 2 ^ 24 = subst (λ n. seq_of n < 2 ^ 24) seen c.requires.seq in
     let old = g.F.Flash.chip c.args.flash.now in
     let new = g.F.Flash.chip c.refill.new.flash in
-    let s : Stands old over m = subst (λ (v : LowPowerNode). Stands old over v) (sym c.self.view_is) stands in
+    let s : Stands first old over m = subst (λ (v : LowPowerNode). Stands first old over v) (sym c.self.view_is) stands in
     let past : Past = past_now low_power_role over s.life.told i.fills in
     let h : IsOverBy IsBefore old past m = s.usable c.if-self.false in
     let puts = c.in-Ok.ensures.puts seen in
     let said = h.before.node.meaning in
     let kept : IsStoreOf new c.refill.new.self.store (past.records ++ fill_of (config_of past.records) ∷ []) =
     subst (λ (item : StoreRecord). IsStoreOf new c.refill.new.self.store (past.records ++ item ∷ [])) (fill_said past.records i.reserve.store.persist (fill_of (config_in i.reserve.store.persist)) refl said) (puts.kept past.records h.store) in
-    refill_stands low_power_role IsBefore (low_power_kind c.node_law.ensures.kept) m old new over s c.if-self.false c.refill.new.self ready.published seq kept
+    refill_stands low_power_role IsBefore (low_power_kind c.node_law.ensures.kept) m first old new over s c.if-self.false c.refill.new.self ready.published seq kept
     (fill_meaning past.records i.reserve.store.persist c.refill.new.self.store.persist said puts.value) c.refill.ensures.published
-    (ap (λ (k : KeeperView). k.advances) (c.in-Ok.ensures.filled seen)) c.refill.ensures.leaves.frame
+    (ap (λ (k : KeeperView). k.advances) (c.in-Ok.ensures.filled seen)) c.refill.ensures.leaves.frame (c.in-Ok.ensures.wear seen)
 
 pub returns-in-Err-clause-refused : goal.returns-in-Err-clause-refused
 returns-in-Err-clause-refused g c =
@@ -83,7 +83,7 @@ returns-in-Err-clause-refused g c =
     subst (λ (v : LowPowerNode). Closes H.OfRefill (shown v) (shown (stopped_by m r m.tables H.OfRefill)) old new) c.self.view_is closes
 
 pub returns-in-Err-clause-kept : goal.returns-in-Err-clause-kept
-returns-in-Err-clause-kept g c over stands =
+returns-in-Err-clause-kept g c first over stands =
     let i = c.self.inside in
     let m : LowPowerNode = machine_of i.reserve i.memory i.history i.fills i.closed i.hand i.elements in
     let ready : IsReadyBy IsBefore IsFitFor m = c.self.invariant c.if-self.false in
@@ -93,7 +93,7 @@ returns-in-Err-clause-kept g c over stands =
     let seq : seq_of i.reserve.keeper.mark < 2 ^ 24 = subst (λ n. seq_of n < 2 ^ 24) seen c.requires.seq in
     let old = g.F.Flash.chip c.args.flash.now in
     let new = g.F.Flash.chip c.refill.new.flash in
-    let s : Stands old over m = subst (λ (v : LowPowerNode). Stands old over v) (sym c.self.view_is) stands in
+    let s : Stands first old over m = subst (λ (v : LowPowerNode). Stands first old over v) (sym c.self.view_is) stands in
     let past : Past = past_now low_power_role over s.life.told i.fills in
     let h : IsOverBy IsBefore old past m = s.usable c.if-self.false in
     let leaves = c.refill.ensures.cut.any_moment past.records h.store in
@@ -101,4 +101,4 @@ returns-in-Err-clause-kept g c over stands =
     subst (λ (item : StoreRecord). IsCutIn new past.records (item ∷ []) c.refill.new.self.keeper.mark) (fill_said past.records i.reserve.store.persist (fill_of (config_in i.reserve.store.persist)) refl h.before.node.meaning)
     (put_cut new past.records (fill_of (config_in i.reserve.store.persist)) c.refill.new.self.keeper.mark (c.refill.ensures.leaves.frame.honest ∙ s.life.node.honest)
     (λ image is. leaves.each image (g.met.F.Flash.counts_now c.refill.new.flash _ image leaves.later is)) (c.refill.ensures.durable past.records h.store)) in
-    refill_stops low_power_role IsBefore (low_power_kind c.node_law.ensures.kept) m old new over s c.if-self.false c.refill.new.self ready.published seq cut (c.in-Err.ensures.fails seen ready.usable).cause.rose c.refill.ensures.leaves.frame
+    refill_stops low_power_role IsBefore (low_power_kind c.node_law.ensures.kept) m first old new over s c.if-self.false c.refill.new.self ready.published seq cut (c.in-Err.ensures.fails seen ready.usable).cause.rose c.refill.ensures.leaves.frame c.refill.ensures.most_wear

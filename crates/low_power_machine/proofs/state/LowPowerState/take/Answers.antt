@@ -8,9 +8,9 @@ use Rattle.mesh_types.specs.declared.history.Entry.{Entry}
 use Rattle.low_power_machine.proofs.state.LowPowerState.take.Goals as goal
 
 pub returns-clause-kept : goal.returns-clause-kept
-returns-clause-kept g c f over s =
+returns-clause-kept g c first f over s =
     let i = c.self.inside in
     let m : LowPowerNode = machine_of i.reserve i.memory i.history i.fills i.closed i.hand i.elements in
     let n = c.take.new.self.taken in
-    subst (λ (l : List Entry). Stands (g.F.Flash.chip f) over (record m { entries = l; taken = n })) (sym c.take.ensures.entries)
-    (stands_taken low_power_role IsBefore before_taken (g.F.Flash.chip f) over m n (subst (λ (v : LowPowerNode). Stands (g.F.Flash.chip f) over v) (sym c.self.view_is) s))
+    subst (λ (l : List Entry). Stands first (g.F.Flash.chip f) over (record m { entries = l; taken = n })) (sym c.take.ensures.entries)
+    (stands_taken low_power_role IsBefore before_taken first (g.F.Flash.chip f) over m n (subst (λ (v : LowPowerNode). Stands first (g.F.Flash.chip f) over v) (sym c.self.view_is) s))

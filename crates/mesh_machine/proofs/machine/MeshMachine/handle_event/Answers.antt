@@ -7,9 +7,9 @@ use Rattle.std.specs.Prelude.{IfOk}
 use Rattle.store_world.specs.Standing.{IsWorldOf}
 
 pub returns-clause-kept : goal.returns-clause-kept
-returns-clause-kept g c = λ over s.
-    c.handle_event.ensures.kept over
-    (subst (λ (m : NodeMachine). Stands (g.F.Flash.chip c.args.flash.now) over m) (sym (c.deref_mut.ensures.value ∙ c.take_early-known.ensures.state)) s)
+returns-clause-kept g c = λ first over s.
+    c.handle_event.ensures.kept first over
+    (subst (λ (m : NodeMachine). Stands first (g.F.Flash.chip c.args.flash.now) over m) (sym (c.deref_mut.ensures.value ∙ c.take_early-known.ensures.state)) s)
 
 pub returns-clause-steps : goal.returns-clause-steps
 returns-clause-steps g c = λ w.

@@ -11,7 +11,7 @@ pub returns : goal.returns
 returns g c =
     let boxed : c.deref.result.now ≡ c.args.self.now.state.value = c.deref.ensures in
     record {
-      idle = λ live f over s.
+      idle = λ live first f over s.
           let past = past_now (node_role node_layers) over s.life.told c.args.self.now.state.value.fills in
           record {
             told = s.life.told;
@@ -20,7 +20,7 @@ returns g c =
             quiet = λ ticks l. quiet_tick past ticks
                 (c.ticks_left.ensures.quiet past (ap (λ (m : NodeMachine). m.closed) boxed ∙ live) (subst (λ (m : NodeMachine). IsBefore past m) (sym boxed) (s.usable live).before) ticks l);
           };
-      least = λ live f over s.
+      least = λ live first f over s.
           let past = past_now (node_role node_layers) over s.life.told c.args.self.now.state.value.fills in
           record {
             told = s.life.told;

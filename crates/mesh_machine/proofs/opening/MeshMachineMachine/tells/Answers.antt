@@ -3,7 +3,7 @@ use Rattle.mesh_machine.proofs.opening.MeshMachineMachine.tells.Goals as goal
 
 pub returns : goal.returns
 returns g c = record {
-  known = λ f over m s. s.life;
-  moved = λ f over m s runs. record { told = s.life.told; are = s.life.entries; handled = s.life.handled; moved = s.moved runs };
+  known = λ first f over m s. s.life;
+  moved = λ first f over m s runs. record { told = s.life.told; are = s.life.entries; handled = s.life.handled; moved = s.moved runs };
   quiet = λ past ticks q. quiet_tick past ticks q;
 }

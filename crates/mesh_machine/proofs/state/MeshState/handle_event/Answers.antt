@@ -152,7 +152,7 @@ returns-in-Ok-clause-steps g c w world =
     subst (λ (v : NodeMachine). HasStepped w v.reserve.store.persist q event a.answer) c.self.view_is stepped
 
 pub returns-in-Ok-clause-kept : goal.returns-in-Ok-clause-kept
-returns-in-Ok-clause-kept g c over stands =
+returns-in-Ok-clause-kept g c first over stands =
     let i = c.self.inside in
     let m : NodeMachine = machine_of i.parts i.fills i.closed i.hand i.elements in
     let parts : Parts = record i.parts { history = c.room.new.history } in
@@ -164,11 +164,11 @@ returns-in-Ok-clause-kept g c over stands =
     let event : Event = c.args.event.now in
     let a = c.in-Ok.answered in
     let d = c.in-Ok.ensures.done in
-    stands_done c.ties_law.ensures.laws parts c.handle.new.parts event place old new a d i.closed i.hand i.elements over
-    (subst (λ (v : NodeMachine). Stands old over v) (sym (same ∙ c.self.view_is)) stands) c.if-self.false c.handle.ensures.frame
+    stands_done c.ties_law.ensures.laws parts c.handle.new.parts event place old new a d i.closed i.hand i.elements first over
+    (subst (λ (v : NodeMachine). Stands first old over v) (sym (same ∙ c.self.view_is)) stands) c.if-self.false c.handle.ensures.frame
 
 pub returns-in-Flash-clause-kept : goal.returns-in-Flash-clause-kept
-returns-in-Flash-clause-kept g c over stands =
+returns-in-Flash-clause-kept g c first over stands =
     let i = c.self.inside in
     let m : NodeMachine = machine_of i.parts i.fills i.closed i.hand i.elements in
     let parts : Parts = record i.parts { history = c.room.new.history } in
@@ -177,9 +177,9 @@ returns-in-Flash-clause-kept g c over stands =
     let old = g.F.Flash.chip c.args.flash.now in
     let new = g.F.Flash.chip c.handle.new.flash in
     let d = of_flash g.F.Flash.chip c.args.event.now parts c.handle.new.parts c.args.flash.now c.handle.new.flash c.in-Err.stop c.in-Err.ensures.stopped c.in-Flash.is in
-    subst (λ (e : Event). Stands new over (machine_of c.handle.new.parts i.fills true (H.OfEvent e) i.elements)) (sym c.of.ensures.value)
-    (stands_stopped c.ties_law.ensures.laws parts c.handle.new.parts c.args.event.now old new d i.fills i.closed i.hand i.elements over
-    (subst (λ (v : NodeMachine). Stands old over v) (sym (same ∙ c.self.view_is)) stands) c.if-self.false c.handle.ensures.frame)
+    subst (λ (e : Event). Stands first new over (machine_of c.handle.new.parts i.fills true (H.OfEvent e) i.elements)) (sym c.of.ensures.value)
+    (stands_stopped c.ties_law.ensures.laws parts c.handle.new.parts c.args.event.now old new d i.fills i.closed i.hand i.elements first over
+    (subst (λ (v : NodeMachine). Stands first old over v) (sym (same ∙ c.self.view_is)) stands) c.if-self.false c.handle.ensures.frame)
 
 pub returns-in-Flash-clause-refused : goal.returns-in-Flash-clause-refused
 returns-in-Flash-clause-refused g c =
@@ -209,7 +209,7 @@ returns-in-Memory-clause-refused g c =
     (ap (λ (v : NodeMachine). shown v) back, flash)
 
 pub returns-in-Memory-clause-kept : goal.returns-in-Memory-clause-kept
-returns-in-Memory-clause-kept g c over stands =
+returns-in-Memory-clause-kept g c first over stands =
     let i = c.self.inside in
     let m : NodeMachine = machine_of i.parts i.fills i.closed i.hand i.elements in
     let parts : Parts = record i.parts { history = c.room.new.history } in
@@ -218,8 +218,8 @@ returns-in-Memory-clause-kept g c over stands =
     let (before, flash) = of_memory g.F.Flash.chip c.args.event.now parts c.handle.new.parts c.args.flash.now c.handle.new.flash c.in-Err.stop c.in-Err.ensures.stopped c.in-Memory.is in
     let back : machine_of c.handle.new.parts i.fills i.closed i.hand i.elements ≡ c.args.self.now =
     same_parts parts c.handle.new.parts i.fills i.closed i.hand i.elements before ∙ same ∙ c.self.view_is in
-    subst (λ (v : NodeMachine). Stands (g.F.Flash.chip c.handle.new.flash) over v) (sym back)
-    (subst (λ (f : g.row.F.Denot). Stands (g.F.Flash.chip f) over c.args.self.now) (sym flash) stands)
+    subst (λ (v : NodeMachine). Stands first (g.F.Flash.chip c.handle.new.flash) over v) (sym back)
+    (subst (λ (f : g.row.F.Denot). Stands first (g.F.Flash.chip f) over c.args.self.now) (sym flash) stands)
 
 pub invariant_of-self-in-Memory : goal.invariant_of-self-in-Memory
 invariant_of-self-in-Memory g c =

@@ -53,7 +53,7 @@ invariant_of-self g c e =
     (ap (λ (k : KeeperView). k.mark) (c.in-Ok.ensures.filled seen) ∙ ap (λ n. n + 256) seen)
 
 pub returns-in-Ok-clause-kept : goal.returns-in-Ok-clause-kept
-returns-in-Ok-clause-kept g c over stands =
+returns-in-Ok-clause-kept g c first over stands =
     let i = c.self.inside in
     let m : NodeMachine = machine_of i.parts i.fills i.closed i.hand i.elements in
     let ready : IsReady m = c.self.invariant c.if-self.false in
@@ -63,16 +63,16 @@ returns-in-Ok-clause-kept g c over stands =
     let seq : seq_of i.parts.reserve.keeper.mark < 2 ^ 24 = subst (λ n. seq_of n < 2 ^ 24) seen c.requires.seq in
     let old = g.F.Flash.chip c.args.flash.now in
     let new = g.F.Flash.chip c.refill.new.flash in
-    let s : Stands old over m = subst (λ (v : NodeMachine). Stands old over v) (sym c.self.view_is) stands in
+    let s : Stands first old over m = subst (λ (v : NodeMachine). Stands first old over v) (sym c.self.view_is) stands in
     let past : Past = past_now (node_role node_layers) over s.life.told i.fills in
     let h : IsOver old past m = s.usable c.if-self.false in
     let puts = c.in-Ok.ensures.puts seen in
     let said = h.before.standing.meaning in
     let kept : IsStoreOf new c.refill.new.self.store (past.records ++ fill_of (config_of past.records) ∷ []) =
     subst (λ (item : StoreRecord). IsStoreOf new c.refill.new.self.store (past.records ++ item ∷ [])) (fill_said past.records i.parts.reserve.store.persist (fill_of (config_in i.parts.reserve.store.persist)) refl said) (puts.kept past.records h.store) in
-    refill_stands (node_role node_layers) IsBefore (node_kind c.ties_law.ensures.laws) m old new over s c.if-self.false c.refill.new.self ready.published seq kept
+    refill_stands (node_role node_layers) IsBefore (node_kind c.ties_law.ensures.laws) m first old new over s c.if-self.false c.refill.new.self ready.published seq kept
     (fill_meaning past.records i.parts.reserve.store.persist c.refill.new.self.store.persist said puts.value) c.refill.ensures.published
-    (ap (λ (k : KeeperView). k.advances) (c.in-Ok.ensures.filled seen)) c.refill.ensures.leaves.frame
+    (ap (λ (k : KeeperView). k.advances) (c.in-Ok.ensures.filled seen)) c.refill.ensures.leaves.frame (c.in-Ok.ensures.wear seen)
 
 pub returns-in-Err-clause-refused : goal.returns-in-Err-clause-refused
 returns-in-Err-clause-refused g c =
@@ -93,7 +93,7 @@ returns-in-Err-clause-refused g c =
     subst (λ (v : NodeMachine). Closes H.OfRefill (shown v) (shown (stopped m r m.tables H.OfRefill)) old new) c.self.view_is closes
 
 pub returns-in-Err-clause-kept : goal.returns-in-Err-clause-kept
-returns-in-Err-clause-kept g c over stands =
+returns-in-Err-clause-kept g c first over stands =
     let i = c.self.inside in
     let m : NodeMachine = machine_of i.parts i.fills i.closed i.hand i.elements in
     let ready : IsReady m = c.self.invariant c.if-self.false in
@@ -103,7 +103,7 @@ returns-in-Err-clause-kept g c over stands =
     let seq : seq_of i.parts.reserve.keeper.mark < 2 ^ 24 = subst (λ n. seq_of n < 2 ^ 24) seen c.requires.seq in
     let old = g.F.Flash.chip c.args.flash.now in
     let new = g.F.Flash.chip c.refill.new.flash in
-    let s : Stands old over m = subst (λ (v : NodeMachine). Stands old over v) (sym c.self.view_is) stands in
+    let s : Stands first old over m = subst (λ (v : NodeMachine). Stands first old over v) (sym c.self.view_is) stands in
     let past : Past = past_now (node_role node_layers) over s.life.told i.fills in
     let h : IsOver old past m = s.usable c.if-self.false in
     let leaves = c.refill.ensures.cut.any_moment past.records h.store in
@@ -111,4 +111,4 @@ returns-in-Err-clause-kept g c over stands =
     subst (λ (item : StoreRecord). IsCutIn new past.records (item ∷ []) c.refill.new.self.keeper.mark) (fill_said past.records i.parts.reserve.store.persist (fill_of (config_in i.parts.reserve.store.persist)) refl h.before.standing.meaning)
     (put_cut new past.records (fill_of (config_in i.parts.reserve.store.persist)) c.refill.new.self.keeper.mark (c.refill.ensures.leaves.frame.honest ∙ s.life.node.honest)
     (λ image is. leaves.each image (g.met.F.Flash.counts_now c.refill.new.flash _ image leaves.later is)) (c.refill.ensures.durable past.records h.store)) in
-    refill_stops (node_role node_layers) IsBefore (node_kind c.ties_law.ensures.laws) m old new over s c.if-self.false c.refill.new.self ready.published seq cut (c.in-Err.ensures.fails seen ready.usable).cause.rose c.refill.ensures.leaves.frame
+    refill_stops (node_role node_layers) IsBefore (node_kind c.ties_law.ensures.laws) m first old new over s c.if-self.false c.refill.new.self ready.published seq cut (c.in-Err.ensures.fails seen ready.usable).cause.rose c.refill.ensures.leaves.frame c.refill.ensures.most_wear

@@ -10,9 +10,9 @@ use Rattle.node_layers.specs.NodeLayers.{node_layers}
 use Rattle.mesh_machine.proofs.state.MeshState.take.Goals as goal
 
 pub returns-clause-kept : goal.returns-clause-kept
-returns-clause-kept g c f over s =
+returns-clause-kept g c first f over s =
     let i = c.self.inside in
     let m : NodeMachine = machine_of i.parts i.fills i.closed i.hand i.elements in
     let n = c.take.new.self.taken in
-    subst (λ (l : List Entry). Stands (g.F.Flash.chip f) over (record m { entries = l; taken = n })) (sym c.take.ensures.entries)
-    (stands_taken (node_role node_layers) IsBefore before_taken (g.F.Flash.chip f) over m n (subst (λ (v : NodeMachine). Stands (g.F.Flash.chip f) over v) (sym c.self.view_is) s))
+    subst (λ (l : List Entry). Stands first (g.F.Flash.chip f) over (record m { entries = l; taken = n })) (sym c.take.ensures.entries)
+    (stands_taken (node_role node_layers) IsBefore before_taken first (g.F.Flash.chip f) over m n (subst (λ (v : NodeMachine). Stands first (g.F.Flash.chip f) over v) (sym c.self.view_is) s))
