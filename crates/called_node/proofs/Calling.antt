@@ -51,9 +51,9 @@ module _ {F : Type 0} (role : Role) (image : List ℕ → Type 0) (chip : F → 
     pub story_more : HasStory role image chip old → HasStory role image chip new
     story_more story = ∥∥₁_map story more
 
-    pub phase_done : (waiting : F → Option (List Put)) (text : List ℕ) → Some puts ≡ waiting mid.node.flash → text ≡ text_of did
+    pub phase_done : (waiting : F → Option (List Put)) (text : List ℕ) → Some puts ≡ waiting mid.node.flash → waiting new.node.flash ≡ Some [] → text ≡ text_of did
         → IsPhaseDone role image chip waiting events old new puts text
-    phase_done waiting text noted is = record {
+    phase_done waiting text noted none is = record {
       did = did;
       part = subst (λ (c : _). IsPartDone c events did) (sym (ap (λ (h : HeldView F). h.node.machine.closed) b.frame)) b.part;
       lived = λ phases told h. b.stays (phases ++ events ∷ []) (told ++ did ∷ []) (b.held phases told h);
@@ -64,4 +64,5 @@ module _ {F : Type 0} (role : Role) (image : List ℕ → Type 0) (chip : F → 
       frame = b.frame;
       handed = b.handed;
       noted = noted;
+      none = none;
     }

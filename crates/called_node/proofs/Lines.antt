@@ -98,14 +98,16 @@ module _ {F : Type 0} (role : Role) (image : List ℕ → Type 0) (chip : F → 
       → now ≡ record { life = Some begun; writes = writes; erases = erases; report = [] } → life.node.machine.closed ≡ false → HasLived role image chip life [] []
       → ((phases : List (List (List Event))) (did : List PhaseDid) → HasLived role image chip life phases did → HasLived role image chip begun phases did)
       → IsHandedOut (chip life.node.flash) (chip begun.node.flash) → begun ≡ record life { node = record life.node { flash = begun.node.flash } }
-      → Some writes ≡ waiting life.node.flash → written writes (chip life.node.flash).setting.saved ≡ (chip life.node.flash).now → IsBegun role image chip waiting life now
-  begun_is life begun writes erases now is usable begins held handed frame noted makes = record {
+      → Some writes ≡ waiting life.node.flash → waiting begun.node.flash ≡ Some []
+      → written writes (chip life.node.flash).setting.saved ≡ (chip life.node.flash).now → IsBegun role image chip waiting life now
+  begun_is life begun writes erases now is usable begins held handed frame noted none makes = record {
     begun = begun;
     is = ap (λ (n : CalledView F). n.life) is;
     lived = held [] [] begins;
     usable = ap (λ (h : HeldView F). h.node.machine.closed) frame ∙ usable;
     start = ap (λ (h : HeldView F). h.node.start) frame;
     noted = ap (λ (n : CalledView F). Some n.writes) is ∙ noted;
+    none = none;
     writes_are = ap (λ (n : CalledView F). written n.writes (chip life.node.flash).setting.saved) is ∙ makes ∙ sym handed.now;
     saved = ap (λ s. s.saved) handed.setting ∙ sym handed.now;
     no_report = ap (λ (n : CalledView F). n.report) is;

@@ -91,7 +91,7 @@ module _ {F : Type 0} (role : Role) (image : List ℕ → Type 0) (chip : F → 
 -- `waiting` is what waits of the writes that a flash noted.
 module _ {F : Type 0} (role : Role) (image : List ℕ → Type 0) (chip : F → Chip) (waiting : F → Option (List Put)) where
   -- A life did one phase more, of these events. The text is that of what it did. The writes, made in their order on what is there once all writes
-  -- of before were made, give what is read now. Some flash that reads the same could have noted them, in that order.
+  -- of before were made, give what is read now. Some flash that reads the same could have noted them, in that order. None waits any more.
   pub record IsPhaseDone (events : List (List Event)) (old new : HeldView F) (writes : List Put) (text : List ℕ) : Type 0 where
     pub did : PhaseDid
     pub part : IsPartDone new.node.machine.closed events did
@@ -104,6 +104,7 @@ module _ {F : Type 0} (role : Role) (image : List ℕ → Type 0) (chip : F → 
     pub frame : new ≡ record taken_from { node = record taken_from.node { flash = new.node.flash } }
     pub handed : IsHandedOut (chip taken_from.node.flash) (chip new.node.flash)
     pub noted : Some writes ≡ waiting taken_from.node.flash
+    pub none : waiting new.node.flash ≡ Some []
 
   -- A line of what happens was taken: it was one phase. Nothing had been left of the phases before it.
   pub record IsLineDone (text : List ℕ) (old new : CalledView F) : Type 0 where
@@ -118,7 +119,7 @@ module _ {F : Type 0} (role : Role) (image : List ℕ → Type 0) (chip : F → 
     pub no_report : old.report ≡ []
 
   -- A node as calls was made of this life, which is at its beginning. The writes, made on what is there, give what is read now. They are those that
-  -- the flash of this life had noted, in that order.
+  -- the flash of this life had noted, in that order. None waits any more.
   pub record IsBegun (life : HeldView F) (now : CalledView F) : Type 0 where
     pub begun : HeldView F
     pub is : now.life ≡ Some begun
@@ -126,6 +127,7 @@ module _ {F : Type 0} (role : Role) (image : List ℕ → Type 0) (chip : F → 
     pub usable : begun.node.machine.closed ≡ false
     pub start : begun.node.start ≡ life.node.start
     pub noted : Some now.writes ≡ waiting life.node.flash
+    pub none : waiting begun.node.flash ≡ Some []
     pub writes_are : written now.writes (chip life.node.flash).setting.saved ≡ (chip begun.node.flash).now
     pub saved : (chip begun.node.flash).setting.saved ≡ (chip begun.node.flash).now
     pub no_report : now.report ≡ []

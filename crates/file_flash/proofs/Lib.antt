@@ -1,3 +1,4 @@
+pub mod Few
 pub mod Filling
 pub mod Putting
 pub mod Resting

@@ -111,10 +111,10 @@ written_more : (puts : List Put) (at : ℕ) (bytes old : List ℕ) → written (
 written_more [] at bytes old = refl
 written_more (p ∷ puts) at bytes old = written_more puts at bytes (put_at p.at p.octets old)
 
-some_is : {A : Type 0} (a b : A) → ◌≡◌ {A = Option A} (Some a) (Some b) → a ≡ b
+pub some_is : {A : Type 0} (a b : A) → ◌≡◌ {A = Option A} (Some a) (Some b) → a ≡ b
 some_is a b is = cc
 
-none_some : {A : Type 0} (a : A) → ◌≡◌ {A = Option A} None (Some a) → ⊥
+pub none_some : {A : Type 0} (a : A) → ◌≡◌ {A = Option A} None (Some a) → ⊥
 none_some a is = cc
 
 -- one write more

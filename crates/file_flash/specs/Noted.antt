@@ -1,5 +1,5 @@
 -- Writes that a place only notes, for its caller to make.
-use Rattle.std.specs.Prelude.{◌≡◌, ℕ, ◌+◌, ◌*◌, ◌≤◌, List, [], ◌∷◌, ◌++◌, length, replicate, Option, Some, None}
+use Rattle.std.specs.Prelude.{◌≡◌, ℕ, ◌+◌, ◌*◌, ◌<◌, ◌≤◌, List, [], ◌∷◌, ◌++◌, length, replicate, Option, Some, None}
 use Rattle.file_flash.specs.declared.noted.Write.{Write}
 use Rattle.file_flash.specs.declared.noted.Write.TheVariants as W
 use Rattle.file_flash.specs.Backing.{put_at}
@@ -36,3 +36,7 @@ IsInside write = (put_of write).at + size_of write ≤ 65536
 -- Where a place notes writes, those that wait make what was saved what is read.
 abbrev pub AreNoted : Option (List Put) → List ℕ → List ℕ → Type 0
 AreNoted waiting saved now = (puts : List Put) → waiting ≡ Some puts → written puts saved ≡ now
+
+-- Where a place notes writes, at most so many wait as program and erase calls were counted, as long as that count isn't ffffffff.
+abbrev pub AreFew : Option (List Put) → ℕ → Type 0
+AreFew waiting changes = (puts : List Put) → waiting ≡ Some puts → changes < 4294967295 → length puts ≤ changes

@@ -3,14 +3,14 @@
 // A program or erase call is done on the goal first, in memory: that is what the place is to hold. Then the place takes the range. Where it does,
 // the mirror is done so too, and is what the place holds. Where it refuses, the mirror stays and fails from then on, and the place holds each
 // bit of the mirror's or of the goal's.
-ghost use Rattle.std.specs.Prelude.{◌≡◌, ◌+◌, ◌≤◌, ℕ, All, List, [], length, map, replicate, true, false, IfOk, IsOk, IsTrue, None, Some, slice_range};
+ghost use Rattle.std.specs.Prelude.{◌≡◌, ◌+◌, ◌<◌, ◌≤◌, ℕ, All, List, [], length, map, replicate, true, false, IfOk, IsOk, IsTrue, None, Some, slice_range};
 ghost use Rattle.std.proofs.Common.{inl};
 ghost use Rattle.std.proofs.Math.Nat.{le_refl};
 ghost use Rattle.flash_model.specs.Chip.{IsFresh, Keeps, Stays};
 ghost use Rattle.file_flash.specs.Backing.{WasPut, WasTorn};
 ghost use Rattle.file_flash.specs.Backed.{IsMirrored, IsTied, backed_chip};
 ghost use Rattle.file_flash.specs.Handed.{IsHandedOut};
-ghost use Rattle.file_flash.specs.Noted.{AreNoted, IsInside, Put, and_put, put_of, written};
+ghost use Rattle.file_flash.specs.Noted.{AreFew, AreNoted, IsInside, Put, and_put, put_of, written};
 ghost use Rattle.file_flash.specs.Laws.{content_law, counts_now_law, only_now_law};
 
 use crate::backing::Backing;
@@ -37,6 +37,7 @@ pub struct FileFlash<F: Bench, B: Backing> {
     ghost mirrored: { IsMirrored (F.chip mirror) (F.chip goal) failed },
     ghost tied: { IsTied failed (F.chip mirror) (F.chip goal) (B.held backing) },
     ghost noted: { AreNoted (B.waiting backing) saved.octets (F.chip mirror).now },
+    ghost few: { AreFew (B.waiting backing) (F.chip mirror).changes },
 }
 
 /// A flash whose writes are made by its caller.
@@ -90,8 +91,9 @@ impl<F: Bench, B: Backing> FileFlash<F, B> {
 
 impl<F: Bench> FileFlash<F, NotedPlace> {
     /// The writes since this was called last, or since the flash was made, in their order: made one after another on what was read then, they give
-    /// what is read now (`writes`), each within the 65,536 octets (`inside`). Nothing else changes than what is saved, and it takes no memory. A
-    /// flash that failed hands out its writes too: none of the call in which it failed.
+    /// what is read now (`writes`), each within the 65,536 octets (`inside`). They are at most so many as program and erase calls were counted
+    /// since the flash was made (`few`). None waits any more then (`none`). Nothing else changes than what is saved, and it takes no memory. A flash
+    /// that failed hands out its writes too: none of the call in which it failed.
     ///
     /// Whoever takes them makes them durable, in their order, before anything leaves that this flash was written for.
     pub fn take_writes(&mut self) -> Vec<Write>
@@ -99,6 +101,9 @@ impl<F: Bench> FileFlash<F, NotedPlace> {
             ≡ (⟦<FileFlash<F, NotedPlace> as Flash>⟧.chip self.old).now }
         ensures inside { All IsInside result.items }
         ensures noted { Some (map put_of result.items) ≡ ⟦<NotedPlace as Backing>⟧.waiting self.old.backing }
+        ensures none { ⟦<NotedPlace as Backing>⟧.waiting self.new.backing ≡ Some [] }
+        ensures few { (⟦<FileFlash<F, NotedPlace> as Flash>⟧.chip self.old).changes < 4294967295
+            → length result.items ≤ (⟦<FileFlash<F, NotedPlace> as Flash>⟧.chip self.old).changes }
         ensures frame { IsHandedOut (⟦<FileFlash<F, NotedPlace> as Flash>⟧.chip self.old)
             (⟦<FileFlash<F, NotedPlace> as Flash>⟧.chip self.new) }
     {
@@ -106,6 +111,13 @@ impl<F: Bench> FileFlash<F, NotedPlace> {
         self.backing.take()
     }
 }
+
+/// The law of the writes that a place notes for the caller of its flash: at most so many wait as program and erase calls were counted since the flash
+/// was made (`few`), so none where none was. It does nothing.
+pub fn waiting_law<F: Bench, B: Backing>()
+    ensures few { (f : FileFlash F B ⟦<F as Flash>⟧ ⟦<B as Backing>⟧) → AreFew (B.waiting f.backing)
+        (⟦<FileFlash<F, B> as Flash>⟧.chip f).changes }
+{}
 
 /// Programs an image into an erased flash that doesn't fail, and cycles its power, so that none of it is counted.
 fn fill<F: Bench>(flash: &mut F, image: &[u8])

@@ -44,5 +44,5 @@ mod noted;
 mod saved;
 
 pub use backing::{Backing, MemBacking, Refused, StdBacking};
-pub use flash::{FileFlash, NotedFlash};
+pub use flash::{FileFlash, NotedFlash, waiting_law};
 pub use noted::{NotedPlace, Write};

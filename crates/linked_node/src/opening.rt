@@ -1,16 +1,18 @@
 //! A node over an image.
 #![tactic(auto)]
 
-ghost use Rattle.std.specs.Prelude.{◌≡◌, [], length, false, IfErr, IfOk, OnOk};
+ghost use Rattle.std.specs.Prelude.{◌≡◌, List, [], length, false, Some, IfErr, IfOk, OnOk};
 ghost use Rattle.event_definitions.specs.Role.{node_role};
+ghost use Rattle.file_flash.specs.Noted.{Put};
 ghost use Rattle.mesh_node.specs.Held.{HasLived};
 ghost use Rattle.node_layers.specs.NodeLayers.{node_layers};
 ghost use Rattle.node_store.specs.Tie.{IsNode};
 ghost use Rattle.linked_node.specs.Causes.{IsOpenCause};
+ghost use Rattle.linked_node.specs.Migration.{AreOfMigration};
 
 use crate::faults::OpenFault;
-use file_flash::{FileFlash, NotedFlash, NotedPlace};
-use flash_model::{FLASH_OCTETS, Flash};
+use file_flash::{Backing, FileFlash, NotedFlash, NotedPlace, waiting_law};
+use flash_model::{FLASH_OCTETS, Flash, MemFlash};
 use machine_contract::StartFault;
 use mesh_machine::MeshMachine;
 use mesh_node::HeldLife;
@@ -21,7 +23,8 @@ use std::alloc::{AllocError, Global};
 pub type LinkedNode = HeldLife<MeshMachine, NotedFlash>;
 
 /// Opens a node over an image of 65,536 octets that holds one: whatever the image holds, a life is opened over it, or there is a refusal. The writes of
-/// the node are those on this image (`saved`).
+/// the node are those on this image (`saved`). None waits, but over an image of format 01: then those of a migration (`writes`). Program and erase
+/// calls are counted from this image on (`uncalled`).
 ///
 /// # Errors
 ///
@@ -30,7 +33,10 @@ pub fn open_image(alloc: Global, image: &[u8]) -> Result<LinkedNode, OpenFault>
     ensures size { OnOk result (length image.now ≡ FLASH_OCTETS) }
     ensures node { OnOk result (IsNode image.now) }
     ensures start { IfOk result (λ r. (⟦<NotedFlash as Flash>⟧.chip r.node.start).now ≡ image.now) }
+    ensures uncalled { IfOk result (λ r. (⟦<NotedFlash as Flash>⟧.chip r.node.start).changes ≡ 0) }
     ensures saved { IfOk result (λ r. (⟦<NotedFlash as Flash>⟧.chip r.node.flash).setting.saved ≡ image.now) }
+    ensures writes { IfOk result
+        (λ r. (puts : List Put) → ⟦<NotedPlace as Backing>⟧.waiting r.node.flash.backing ≡ Some puts → AreOfMigration image.now puts) }
     ensures usable { IfOk result (λ r. r.node.machine.closed ≡ false) }
     ensures held { IfOk result (λ r. HasLived (node_role node_layers) IsNode ⟦<NotedFlash as Flash>⟧.chip r [] []) }
     ensures cause { IfErr result (IsOpenCause image.now) }
@@ -48,6 +54,8 @@ pub fn open_image(alloc: Global, image: &[u8]) -> Result<LinkedNode, OpenFault>
         Ok(_) => {}
         Err(fault) => return Err(OpenFault::Image(fault)),
     }
+    // It does nothing when it runs: the proof uses what it says.
+    waiting_law::<MemFlash, NotedPlace>();
     match LinkedNode::open(alloc, flash) {
         Ok(node) => Ok(node),
         Err(unopened) => match unopened.fault {

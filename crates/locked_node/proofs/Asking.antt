@@ -9,6 +9,7 @@ use Rattle.mesh_types.specs.declared.jobs.Job.{Job}
 use Rattle.record_types.specs.declared.records.StoreRecord.{StoreRecord}
 use Rattle.run_definitions.specs.Lines.{is_drawing}
 use Rattle.machine_contract.specs.declared.answers.Hand.{Hand}
+use Rattle.machine_contract.specs.Opening.{FlashFound, found_of}
 use Rattle.machine_contract.specs.View.{MachineView}
 use Rattle.locked_node.specs.declared.marks.Mark.TheVariants as M
 use Rattle.locked_node.specs.Asked.{AreAsked, DrawsNone, WasAsked}
@@ -43,15 +44,15 @@ asked_more es stops hand none w m n h =
     asked_behind es w.at w.entry here (draws_here w.entry.jobs w.place w.job w.has w.draws) m n h
 
 -- What holds of a node whose machine was called, and answered Ok.
-pub holds_on : {M F : Type 0} (stands : Chip → List StoreRecord → M → Type 0) (view : M → MachineView) (chip : F → Chip) (old new : M) (start flash after : F) (stops : ℕ)
+pub holds_on : {M F : Type 0} (stands : FlashFound → Chip → List StoreRecord → M → Type 0) (view : M → MachineView) (chip : F → Chip) (old new : M) (start flash after : F) (stops : ℕ)
     → Holds stands view chip old start flash stops → (view old).closed ≡ false → (view new).closed ≡ (view old).closed
     → Keeps (chip flash) (chip after) → (chip after).faults ≡ (chip flash).faults
-    → ((over : List StoreRecord) → stands (chip flash) over old → stands (chip after) over new) → AreAsked (view new).entries (view new).fills
+    → ((first : FlashFound) (over : List StoreRecord) → stands first (chip flash) over old → stands first (chip after) over new) → AreAsked (view new).entries (view new).fills
     → Holds stands view chip new start after stops
 holds_on stands view chip old new start flash after stops h off same keeps faults kept asked = record {
   over = h.over;
   read = h.read;
-  tie = kept h.over h.tie;
+  tie = kept (found_of (chip start)) h.over h.tie;
   few = h.few;
   live = λ _. h.live off;
   stopped = λ on. absurd (true≢false (sym on ∙ same ∙ off));

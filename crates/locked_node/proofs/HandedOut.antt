@@ -3,24 +3,25 @@ use Rattle.std.proofs.Common.{◌≡◌, ◌∙◌, ◌≤◌, ℕ, List, ap, su
 use Rattle.file_flash.specs.Handed.{IsHandedOut}
 use Rattle.flash_model.proofs.Runs.{past_more}
 use Rattle.flash_model.specs.Chip.{Chip, Setting}
+use Rattle.machine_contract.specs.Opening.{FlashFound, found_of}
 use Rattle.machine_contract.specs.Standing.{IsSameFlash}
 use Rattle.machine_contract.specs.View.{MachineView}
 use Rattle.record_types.specs.declared.records.StoreRecord.{StoreRecord}
 use Rattle.locked_node.specs.Stands.{Holds}
 
-module _ {M F : Type 0} (stands : Chip → List StoreRecord → M → Type 0) (view : M → MachineView) (chip : F → Chip) (machine : M) (start old new : F) (stops : ℕ) (handed : IsHandedOut (chip old) (chip new)) where
+module _ {M F : Type 0} (stands : FlashFound → Chip → List StoreRecord → M → Type 0) (view : M → MachineView) (chip : F → Chip) (machine : M) (start old new : F) (stops : ℕ) (handed : IsHandedOut (chip old) (chip new)) where
   began : (chip new).setting.faults ≡ (chip old).setting.faults
   began = ap (λ (s : Setting). s.faults) handed.setting
 
   same : IsSameFlash (chip old) (chip new)
-  same = record { honest = handed.honest; stays = handed.images; now = handed.now; faults = handed.faults; began = began }
+  same = record { honest = handed.honest; stays = handed.images; now = handed.now; faults = handed.faults; began = began; changes = handed.changes }
 
-  pub holds_handed : ((over : List StoreRecord) → IsSameFlash (chip old) (chip new) → stands (chip old) over machine → stands (chip new) over machine)
+  pub holds_handed : ((first : FlashFound) (over : List StoreRecord) → IsSameFlash (chip old) (chip new) → stands first (chip old) over machine → stands first (chip new) over machine)
       → Holds stands view chip machine start old stops → Holds stands view chip machine start new stops
   holds_handed stays h = record {
     over = h.over;
     read = h.read;
-    tie = stays h.over same h.tie;
+    tie = stays (found_of (chip start)) h.over same h.tie;
     few = h.few;
     live = h.live;
     stopped = h.stopped;
@@ -36,6 +37,6 @@ module _ {M F : Type 0} (stands : Chip → List StoreRecord → M → Type 0) (v
   }
 
 -- it holds of what was borrowed
-pub holds_at : {H M F : Type 0} {stands : Chip → List StoreRecord → M → Type 0} {view : M → MachineView} {chip : F → Chip} {a b : H} → a ≡ b → (machine : H → M) (start flash : H → F) (stops : H → ℕ)
+pub holds_at : {H M F : Type 0} {stands : FlashFound → Chip → List StoreRecord → M → Type 0} {view : M → MachineView} {chip : F → Chip} {a b : H} → a ≡ b → (machine : H → M) (start flash : H → F) (stops : H → ℕ)
     → Holds stands view chip (machine b) (start b) (flash b) (stops b) → Holds stands view chip (machine a) (start a) (flash a) (stops a)
 holds_at {stands = stands} {view = view} {chip = chip} same machine start flash stops h = subst (λ x. Holds stands view chip (machine x) (start x) (flash x) (stops x)) (sym same) h

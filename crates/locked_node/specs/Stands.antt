@@ -2,6 +2,7 @@
 use Rattle.std.specs.Prelude.{◌≡◌, ℕ, ◌<◌, ◌≤◌, ◌^◌, true, false, List}
 use Rattle.flash_model.specs.Chip.{Chip, Remembers}
 use Rattle.machine_contract.specs.Idle.{IsDueIn, IsIdleFor}
+use Rattle.machine_contract.specs.Opening.{FlashFound, found_of}
 use Rattle.machine_contract.specs.Standing.{IsLifeSoFar}
 use Rattle.machine_contract.specs.View.{MachineView}
 use Rattle.record_types.specs.declared.records.StoreRecord.{StoreRecord}
@@ -20,13 +21,13 @@ pub record IsLater (start now : Chip) : Type 0 where
   pub cycles : now.setting.cycles ≡ start.setting.cycles
   pub past : Remembers start now
 
--- The machine stands over this flash and the records that the life found, and bearers have stopped exactly if it is closed. Else the flash didn't
--- fail since. No refill was stored before there was a job that draws.
-pub record Holds {M F : Type 0} (stands : Chip → List StoreRecord → M → Type 0) (view : M → MachineView)
+-- The machine stands over this flash, as the life found it and as it is, and over the records that the life found; and bearers have stopped
+-- exactly if it is closed. Else the flash didn't fail since. No refill was stored before there was a job that draws.
+pub record Holds {M F : Type 0} (stands : FlashFound → Chip → List StoreRecord → M → Type 0) (view : M → MachineView)
     (chip : F → Chip) (machine : M) (start flash : F) (stops : ℕ) : Type 0 where
   pub over : List StoreRecord
   pub read : IsRecovered (chip start).now over
-  pub tie : stands (chip flash) over machine
+  pub tie : stands (found_of (chip start)) (chip flash) over machine
   pub few : stops < 2 ^ 32
   pub live : (view machine).closed ≡ false → stops ≡ 0
   pub stopped : (view machine).closed ≡ true → 0 < stops
@@ -39,7 +40,7 @@ pub record IsNode {F : Type 0} (role : Role) (image : List ℕ → Type 0) (chip
     (n : NodeView F) : Type 0 where
   pub over : List StoreRecord
   pub read : IsRecovered (chip n.start).now over
-  pub life : IsLifeSoFar role image (chip n.flash) over n.machine
+  pub life : IsLifeSoFar role image (found_of (chip n.start)) (chip n.flash) over n.machine
   pub few : n.stops < 2 ^ 32
   pub live : n.machine.closed ≡ false → n.stops ≡ 0
   pub stopped : n.machine.closed ≡ true → 0 < n.stops
@@ -48,14 +49,14 @@ pub record IsNode {F : Type 0} (role : Role) (image : List ℕ → Type 0) (chip
   -- no refill was stored before there was a job that draws
   pub asked : AreAsked n.machine.entries n.machine.fills
 
--- A machine that shows this stands over the flash and the records that the life found.
-pub record HasMachine {M F : Type 0} (stands : Chip → List StoreRecord → M → Type 0) (view : M → MachineView)
+-- A machine that shows this stands over the flash, as the life found it and as it is, and over the records that the life found.
+pub record HasMachine {M F : Type 0} (stands : FlashFound → Chip → List StoreRecord → M → Type 0) (view : M → MachineView)
     (chip : F → Chip) (n : NodeView F) : Type 0 where
   pub over : List StoreRecord
   pub read : IsRecovered (chip n.start).now over
   pub machine : M
   pub shows : view machine ≡ n.machine
-  pub tie : stands (chip n.flash) over machine
+  pub tie : stands (found_of (chip n.start)) (chip n.flash) over machine
 
 -- Over records that the life found, a tick event of fewer than so many is quiet.
 pub record IsIdleNode {F : Type 0} (role : Role) (chip : F → Chip) (n : NodeView F) (due : ℕ) : Type 0 where

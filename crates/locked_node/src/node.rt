@@ -8,6 +8,7 @@ ghost use Rattle.run_definitions.specs.Order.{is_outside};
 ghost use Rattle.seq_word.specs.Word.{seq_of};
 ghost use Rattle.store_definitions.specs.Recovered.{IsRecovered};
 ghost use Rattle.turn_lock.specs.Entries.{IsPrefix};
+ghost use Rattle.machine_contract.specs.Opening.{found_of};
 ghost use Rattle.machine_contract.specs.Ranges.{IsEvent, IsJob, IsQuiet};
 ghost use Rattle.machine_contract.specs.View.{entry_for};
 ghost use Rattle.locked_node.specs.declared.marks.Mark.TheVariants as Marks;
@@ -82,7 +83,7 @@ impl<M: Machine, F: Flash + Send + Drop> Node<M, F> {
     /// A machine with its flash, which the life found as `start` says. For want of memory both are dropped.
     pub fn new(alloc: Global, machine: M, flash: F, start: Known<F>) -> Result<Self, AllocError>
         requires stands { (over : List StoreRecord) × IsRecovered (F.chip start).now over
-            × M.stands (F.chip flash) over machine }
+            × M.stands (found_of (F.chip start)) (F.chip flash) over machine }
         requires usable { (M.view machine).closed ≡ false }
         requires later { IsLater (F.chip start) (F.chip flash) }
         requires no_fault { (F.chip flash).faults ≡ (F.chip start).faults }
@@ -237,7 +238,7 @@ impl<M: Machine, F: Flash + Send + Drop> Node<M, F> {
         ensures machine { M.view result.0 ≡ self.machine }
         ensures flash { result.1 ≡ self.flash }
         ensures stands { (over : List StoreRecord) × IsRecovered (F.chip self.start).now over
-            × M.stands (F.chip result.1) over result.0 }
+            × M.stands (found_of (F.chip self.start)) (F.chip result.1) over result.0 }
     {
         let Node { held } = self;
         let Held {

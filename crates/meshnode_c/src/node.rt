@@ -19,8 +19,8 @@ use node_handle::Meshnode;
 use std::alloc::Global;
 
 /// Opens a node over an image of 65,536 octets: what it holds is checked. The first line of its life, `life 1` and so on with its LF, is put into the
-/// front of `text`, which has at least 35 octets, and `size` tells how many it has. The image is only read. Writes may be left by the opening: they
-/// are made durable before the line leaves.
+/// front of `text`, which has at least 35 octets, and `size` tells how many it has. The image is only read. Writes are left by the opening of an
+/// image of format 01 alone: they are made durable before the line leaves.
 #[unsafe(no_mangle)]
 pub extern "C" fn meshnode_node_open(
     alloc: Global,

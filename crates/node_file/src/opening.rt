@@ -92,7 +92,7 @@ fn read_octets(alloc: Global, file: &File) -> Result<Vec<u8>, OpenFault>
 }
 
 /// Opens the file of a node, for this process alone. The flash that is handed out is one from which a life can be opened, whatever the file holds:
-/// fresh, with a node, or one that was reset (`fresh`, `node`, `began`).
+/// fresh, with a node, or one that was reset (`fresh`, `node`, `began`). No program or erase call was counted of it yet (`uncalled`).
 ///
 /// # Errors
 ///
@@ -106,6 +106,7 @@ pub fn open_node<R: Files<File = File>>(
     ensures node { IfOk result (λ f. IsNode (⟦<NodeFlash as Flash>⟧.chip f).now) }
     ensures began { IfOk result
         (λ f. (⟦<NodeFlash as Flash>⟧.chip f).setting.faults ≡ (⟦<NodeFlash as Flash>⟧.chip f).faults) }
+    ensures uncalled { IfOk result (λ f. (⟦<NodeFlash as Flash>⟧.chip f).changes ≡ 0) }
 {
     let told = file_told(files, path)?;
     let file = locked_file(files, path)?;

@@ -15,6 +15,7 @@ use Rattle.store_definitions.specs.Recovered.{IsRecovered}
 use Rattle.called_node.specs.Called.{CalledView, IsBegun, IsCause, IsLineDone, IsTaken, IsUsable}
 use Rattle.called_node.specs.declared.called.Called.{Called}
 use Rattle.called_node.specs.declared.called.Called.TheVariants as C
+use Rattle.linked_node.specs.Migration.{AreOfMigration}
 use Rattle.linked_node.specs.declared.faults.OpenFault.{OpenFault}
 use Rattle.linked_node.specs.declared.faults.OpenFault.TheVariants as O
 use Rattle.node_store.specs.declared.images.ImageFault.TheVariants as I
@@ -59,13 +60,14 @@ module _ {F : Type 0} (chip : F → Chip) (waiting : F → Option (List Put)) wh
   IsPhase = IsLineDone (node_role node_layers) IsNode chip waiting
 
   -- A node was opened over an image: a life begins over the records that the image recovers, which the line tells. The writes of opening are those
-  -- on the image.
+  -- on the image: none, but over an image of format 01.
   pub record IsOpened (image line : List ℕ) (now : CalledView F) : Type 0 where
     pub first : IsFirstLine image line
     pub life : HeldView F
     pub start : (chip life.node.start).now ≡ image
     pub saved : (chip life.node.flash).setting.saved ≡ image
     pub begun : IsBegun (node_role node_layers) IsNode chip waiting life now
+    pub writes : AreOfMigration image now.writes
 
 -- Why a line came to this, as a status and a rule.
 pub record IsAnswered {F : Type 0} (text : List ℕ) (now : CalledView F) (rule_before status rule : ℕ) : Type 0 where

@@ -26,8 +26,8 @@ const MOST_LINE: usize = 35;
 
 impl Meshnode {
     /// Opens a node over an image of 65,536 octets: what it holds is checked. The first line of its life, `life 1` and so on with its LF, is put into
-    /// the front of `text`, which has at least 35 octets, and `size` tells how many it has. The image is only read. Writes may be left by the opening:
-    /// they are made durable before the line leaves.
+    /// the front of `text`, which has at least 35 octets, and `size` tells how many it has. The image is only read. Writes are left by the opening of an
+    /// image of format 01 alone: they are made durable before the line leaves.
     pub fn open(&mut self, alloc: Global, image: &[u8], text: &mut [u8], size: &mut usize) -> u32
         ensures ok { result ≡ 0
             → IsSomeAnd self.new.value

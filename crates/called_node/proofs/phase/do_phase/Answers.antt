@@ -36,4 +36,4 @@ returns-clause-done g c =
       frame = out.ensures.frame;
       stays = out.ensures.held;
     } in
-    phase_done _ _ _ behind _ c.in_ok-report.report.items out.ensures.noted c.in_ok-report.ensures.value
+    phase_done _ _ _ behind _ c.in_ok-report.report.items out.ensures.noted out.ensures.none c.in_ok-report.ensures.value

@@ -4,6 +4,7 @@ use Rattle.std.proofs.Common.{◌∙◌, subst, sym}
 use Rattle.std.specs.Prelude.{IsTrue}
 use Rattle.mesh_machine.proofs.Crossing.{machine_send}
 use Rattle.node_store.specs.Tie.{IsNode}
+use Rattle.linked_node.proofs.Migration.{of_migration}
 use Rattle.linked_node.proofs.Opened.{reset_is}
 use Rattle.linked_node.proofs.opening.open_image.Goals as goal
 
@@ -27,3 +28,11 @@ returns-in-WasReset-clause-cause c =
     let said = c.in-Err-open.ensures in
     reset_is _ _ _ c.args.image.now ((read.stays made.fresh.honest).now ∙ made.now) c.in-Err-open.unopened.flash c.in-Err-open.unopened.fault said.cause said.lost
     c.in-WasReset.is
+
+-- what was counted since the flash was made is what opening called it for
+pub returns-in-Ok-open-clause-writes : goal.returns-in-Ok-open-clause-writes
+returns-in-Ok-open-clause-writes c =
+    let read = c.in-Ok-read_image.ensures in
+    let made = c.in-Ok.ensures in
+    of_migration c.args.image.now _ _ _ ((read.stays made.fresh.honest).now ∙ made.now) (read.calls ∙ made.changes) c.in-Ok-open.ensures.opened
+    (c.waiting_law.ensures.few c.in-Ok-open.node.node.flash)

@@ -14,5 +14,5 @@ returns g c =
     let out = c.take_writes-writes in
     record {
       begun = begun_is g.M.Machine.role g.M.Machine.image _ _ c.args.life out.new.self (map put_of out.result.items) (map is_erase out.result.items) _ c.begun.ensures.value c.requires.usable c.requires.begins
-          out.ensures.held out.ensures.flash out.ensures.frame out.ensures.noted out.ensures.writes;
+          out.ensures.held out.ensures.flash out.ensures.frame out.ensures.noted out.ensures.none out.ensures.writes;
     }

@@ -1,6 +1,7 @@
-use Rattle.std.proofs.Common.{rules, ◌∙◌, ◌*◌, sym, subst, ap}
+use Rattle.std.proofs.Common.{rules, ◌∙◌, ℕ, ◌+◌, ◌*◌, min, sym, subst, ap}
 use Rattle.std.specs.Prelude.{IsTrue}
 use Rattle.flash_model.specs.Octets.{erased}
+use Rattle.file_flash.proofs.Few.{few_called, few_put}
 use Rattle.file_flash.proofs.Resting.{done, now_stays, refused}
 use Rattle.file_flash.proofs.Tying.{noted_put, noted_same, on_ok, put_blanked, tied_put, tied_torn}
 use Rattle.file_flash.proofs.flash.FileFlashFlash.erase.Goals as goal
@@ -37,6 +38,7 @@ invariant_of-self-in-Ok g c =
     record {
       mirrored = search rules;
       noted = noted_put (4096 * c.args.sector) _ f.saved.octets m0.now (chip c.erase-in-Ok.new.self).now _ _ c.in-Ok.ensures.noted f.noted (put_blanked (4096 * c.args.sector) 4096 m0.now ∙ sym now);
+      few = few_put (4096 * c.args.sector) _ _ _ m0.changes _ c.in-Ok.ensures.noted c.erase-in-Ok.ensures.begins f.few;
       tied = tied_put (4096 * c.args.sector) _ (erased c.args.sector) f.failed m0 (chip f.goal) (chip c.erase-in-Ok.new.self) (chip c.erase-2.new.self) _ _ c.if-self.false f.tied
           c.in-Ok.ensures.ok (put_blanked (4096 * c.args.sector) 4096 m0.now) now;
     }
@@ -57,4 +59,5 @@ invariant_of-self-in-Err g c =
       tied = tied_torn (4096 * c.args.sector) _ change f.failed m0 (chip f.goal) m2 (chip c.erase-2.new.self) _ _ c.if-self.false f.tied
           c.in-Err.ensures.err (put_blanked (4096 * c.args.sector) 4096 m0.now) same goal;
       noted = noted_same f.saved.octets m0.now m2.now _ _ c.in-Err.ensures.unnoted f.noted same;
+      few = few_called _ _ m0.changes m2.changes c.in-Err.ensures.unnoted (c.erase-in-Err.ensures.begins ∙ ap (λ (n : ℕ). min (n + 1) 4294967295) c.arm.ensures.changes) f.few;
     }

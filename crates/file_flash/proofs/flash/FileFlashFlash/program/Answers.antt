@@ -1,9 +1,10 @@
-use Rattle.std.proofs.Common.{rules, ◌≡◌, ◌∙◌, ◌+◌, length, sym, subst, ap, true≢false}
+use Rattle.std.proofs.Common.{rules, ◌≡◌, ◌∙◌, ℕ, ◌+◌, length, min, sym, subst, ap, true≢false}
 use Rattle.flash_model.specs.Chip.{Setting}
 use Rattle.std.specs.Prelude.{IsTrue, slice_range}
 use Rattle.flash_model.specs.Octets.{programmed}
 use Rattle.file_flash.specs.Backing.{WasPut, WasTorn}
 use Rattle.file_flash.specs.Noted.{and_put}
+use Rattle.file_flash.proofs.Few.{few_called, few_put}
 use Rattle.file_flash.proofs.Resting.{now_stays, refused}
 use Rattle.file_flash.proofs.Tying.{noted_put, noted_same, on_ok, put_range, tied_put, tied_torn}
 use Rattle.file_flash.proofs.flash.FileFlashFlash.program.Goals as goal
@@ -39,6 +40,7 @@ invariant_of-self-then-branch g c =
       };
       tied = tied_put at _ (programmed at bytes) f.failed m0 (chip f.goal) (chip c.program-then-branch.new.self) (chip c.put_range.new.goal) _ _ c.if-self.false f.tied put (put_range at bytes m0.now) now;
       noted = noted_put at (slice_range (programmed at bytes m0.now) at (at + length bytes)) f.saved.octets m0.now (chip c.program-then-branch.new.self).now _ _ more f.noted (put_range at bytes m0.now ∙ sym now);
+      few = few_put at (slice_range (programmed at bytes m0.now) at (at + length bytes)) _ _ m0.changes _ more c.program-then-branch.ensures.begins f.few;
     }
 
 pub invariant_of-self-else-branch : goal.invariant_of-self-else-branch
@@ -64,6 +66,8 @@ invariant_of-self-else-branch g c =
       mirrored = search rules;
       tied = tied_torn at _ change f.failed m0 (chip f.goal) m2 (chip c.put_range.new.goal) _ _ c.if-self.false f.tied torn (put_range at bytes m0.now) same goal2;
       noted = noted_same f.saved.octets m0.now m2.now _ _ (c.in_ok-put_range.ensures.unnoted c.if-branch.false) f.noted same;
+      few = few_called _ _ m0.changes m2.changes (c.in_ok-put_range.ensures.unnoted c.if-branch.false)
+          (c.program-else-branch.ensures.begins ∙ ap (λ (n : ℕ). min (n + 1) 4294967295) c.arm.ensures.changes) f.few;
     }
 
 pub returns-else-branch-clause-any_moment : goal.returns-else-branch-clause-any_moment

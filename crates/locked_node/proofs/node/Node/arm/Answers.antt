@@ -1,5 +1,6 @@
 use Rattle.std.proofs.Common.{◌≤◌, ap, subst, sym, ◌∙◌}
 use Rattle.flash_model.proofs.Runs.{past_more}
+use Rattle.machine_contract.specs.Opening.{found_of}
 use Rattle.locked_node.specs.Stands.{Holds}
 use Rattle.locked_node.proofs.node.Node.arm.Goals as goal
 
@@ -7,19 +8,21 @@ pub invariant_of-self : goal.invariant_of-self
 invariant_of-self g c =
     let held = c.deref_mut.result.now in
     let h = subst (λ x. Holds g.M.Machine.stands g.M.Machine.view g.F.Flash.chip x.machine x.start x.flash x.stops) (sym c.deref_mut.ensures.value) c.self.invariant in
-    let life = c.tells.ensures.known held.flash h.over held.machine h.tie in
+    let first = found_of (g.F.Flash.chip held.start) in
+    let life = c.tells.ensures.known first held.flash h.over held.machine h.tie in
     let kept = c.arm.ensures.frame in
     let stays = c.arm.ensures.stays life.node.honest in
     let began = ap (λ s. s.faults) c.arm.ensures.setting in
     record {
       over = h.over;
       read = h.read;
-      tie = c.stays.ensures.kept held.flash c.arm.new.self h.over held.machine (record {
+      tie = c.stays.ensures.kept first held.flash c.arm.new.self h.over held.machine (record {
         honest = kept.honest;
         stays = stays.images;
         now = stays.now;
         faults = kept.faults;
         began = began;
+        changes = c.arm.ensures.changes;
       }) h.tie;
       few = h.few;
       live = h.live;
