@@ -89,6 +89,7 @@ module _ {S E K F : Type 0} (clocked : Bool) (left : S → Option (List ℕ)) (s
         placed = lived.placed;
         each = lived.each;
         all = lived.all;
+        paid = lived.paid;
         life = lived.life;
         wrote = subst (λ o. tells o lived.did before (view sink)) is wrote;
         node = lived.node;

@@ -4,7 +4,7 @@ use Rattle.event_definitions.specs.Handling.{records_left}
 use Rattle.event_definitions.specs.History.{Told}
 use Rattle.event_definitions.specs.Role.{Role}
 use Rattle.flash_model.specs.Chip.{Chip, Keeps}
-use Rattle.machine_contract.specs.Opening.{IsLeft, IsUnwritten, MigratesOnly}
+use Rattle.machine_contract.specs.Opening.{FlashFound, IsLeft, IsUnwritten, MigratesOnly, found_of}
 use Rattle.machine_contract.specs.Refused.{IsUntouched, WasReset}
 use Rattle.machine_contract.specs.Standing.{IsLeftBy, IsLifeSoFar, past_now}
 use Rattle.machine_contract.specs.Started.{IsStarted}
@@ -32,8 +32,8 @@ none_told [] e = refl
 none_told (t ∷ ts) e = absurd cc
 
 -- a machine that was started and has no entry left the records that it opened over
-pub started_untouched : {M : Type 0} (view : M → MachineView) (stands : Chip → List StoreRecord → M → Type 0) (role : Role) (image : List ℕ → Type 0) (start new : Chip) (s : Started M)
-    (h : IsStarted view stands start new s) → IsLifeSoFar role image new h.over (view s.machine) → IsUntouched image start new
+pub started_untouched : {M : Type 0} (view : M → MachineView) (stands : FlashFound → Chip → List StoreRecord → M → Type 0) (role : Role) (image : List ℕ → Type 0) (start new : Chip) (s : Started M)
+    (h : IsStarted view stands start new s) → IsLifeSoFar role image (found_of start) new h.over (view s.machine) → IsUntouched image start new
 started_untouched view stands role image start new s h life = record {
   over = h.over;
   read = h.read;

@@ -8,9 +8,9 @@ use Rattle.mesh_types.specs.declared.report.Opened.{Opened}
 use Rattle.mesh_types.specs.declared.report.Opened.TheVariants as W
 use Rattle.mesh_types.specs.declared.report.ReportLine.{ReportLine}
 use Rattle.machine_contract.specs.Moved.{HasMoved}
-use Rattle.machine_contract.specs.Opening.{IsNodeFlash, IsUnwritten, MigratesOnly}
+use Rattle.machine_contract.specs.Opening.{IsNodeFlash, IsUnwritten, MigratesOnly, found_of}
 use Rattle.machine_contract.specs.Refused.{IsUntouched, WasReset}
-use Rattle.machine_contract.specs.Standing.{IsSameFlash}
+use Rattle.machine_contract.specs.Standing.{IsLifeSoFar, IsSameFlash}
 use Rattle.machine_contract.specs.View.{MachineView}
 use Rattle.record_types.specs.declared.records.StoreRecord.{StoreRecord}
 use Rattle.event_definitions.specs.Handling.{AreHandled}
@@ -161,6 +161,8 @@ module _ (Stood : Standing) (role : Role) (image : List ℕ → Type 0) (hex : B
     pub placed : ArePlaced 0 did
     pub each : AreToldEach closed phases did
     pub all : IsAllTold Stood over did refills closed
+    -- since the life began the flash had at most the program and erase calls that the records cost which were stored or in hand, and a migration
+    pub paid : IsLifeSoFar role image (found_of start) new over all.machine
     pub life : (end : End) → is_cut end ≡ closed → IsLifeTold role phases over (life_told over bearers refills did end) new drawn
     pub wrote : tells (W.On (config_of over).iv (config_of over).mark) did before after
     pub node : IsNodeFlash image new
@@ -255,10 +257,11 @@ pub record ToldReset (image : List ℕ → Type 0) (start new : Chip) (from to :
   pub unwritten : IsUnwritten start new
 
 -- The flash failed as the life was opened: no line was read and none written, and the flash recovers what it did. Nothing was written to it but what
--- a migration of format 01 writes.
+-- a migration of format 01 writes, and where there was a Node Reset nothing at all.
 pub record FailsAtOpening (image : List ℕ → Type 0) (start new : Chip) (from to : StreamsAt) (before after : SinkView) : Type 0 where
   pub failed : start.faults < new.faults
   pub unread : to ≡ from
   pub unwritten : after ≡ before
   pub untouched : IsUntouched image start new
   pub writes : MigratesOnly start new
+  pub reset : WasReset start → IsUnwritten start new

@@ -4,7 +4,7 @@
 ghost use Rattle.std.specs.Prelude.{◌≡◌, ◌≤◌, [], ◌∷◌, None, Some, false};
 ghost use Rattle.event_definitions.specs.Role.{node_role};
 ghost use Rattle.flash_model.specs.Chip.{IsFresh, Keeps};
-ghost use Rattle.machine_contract.specs.Opening.{IsNodeFlash, MigratesOnly};
+ghost use Rattle.machine_contract.specs.Opening.{IsNodeFlash, MigratesOnly, found_of};
 ghost use Rattle.machine_contract.specs.Started.{IsStarted};
 ghost use Rattle.mesh_machine.specs.Machine.{Stands, shown};
 ghost use Rattle.mesh_node.specs.Given.{Stood};
@@ -142,7 +142,7 @@ fn go_on<
         (streams_at S.left S.faults E.held E.pieces E.faults
         (record { source = lines.lines.source; errors = lines.lines.errors; sink = report.sink }))
         (streams_at S.left S.faults E.held E.pieces E.faults result.streams) before
-        (view_of K.held K.pieces result.streams.sink) F.chip (Stood M.view M.stands F.chip) result.status
+        (view_of K.held K.pieces result.streams.sink) F.chip (Stood M.view (M.stands (found_of (F.chip beginning.start))) F.chip) result.status
         result.closed result.flash }
     ensures sink { IsSinkCause result.status (K.faults report.sink) (K.faults result.streams.sink) }
     ensures closed { IsClosedBy result.status result.closed }
@@ -198,7 +198,7 @@ fn run_started<
         (streams_at S.left S.faults E.held E.pieces E.faults streams)
         (streams_at S.left S.faults E.held E.pieces E.faults result.streams)
         (view_of K.held K.pieces streams.sink) (view_of K.held K.pieces result.streams.sink) F.chip
-        (Stood M.view M.stands F.chip) result.status result.closed result.flash }
+        (Stood M.view (M.stands (found_of (F.chip beginning.start))) F.chip) result.status result.closed result.flash }
     ensures sink { IsSinkCause result.status (K.faults streams.sink) (K.faults result.streams.sink) }
     ensures closed { IsClosedBy result.status result.closed }
 {
@@ -268,7 +268,7 @@ fn run_machine<
         (streams_at S.left S.faults E.held E.pieces E.faults over.streams)
         (streams_at S.left S.faults E.held E.pieces E.faults result.streams)
         (view_of K.held K.pieces over.streams.sink) (view_of K.held K.pieces result.streams.sink) F.chip
-        (Stood M.view M.stands F.chip) result.status result.closed result.flash }
+        (Stood M.view (M.stands (found_of (F.chip over.flash))) F.chip) result.status result.closed result.flash }
     ensures sink { IsSinkCause result.status (K.faults over.streams.sink) (K.faults result.streams.sink) }
     ensures closed { IsClosedBy result.status result.closed }
 {
@@ -334,7 +334,7 @@ pub fn run_node<
         (streams_at S.left S.faults E.held E.pieces E.faults streams)
         (streams_at S.left S.faults E.held E.pieces E.faults result.streams)
         (view_of K.held K.pieces streams.sink) (view_of K.held K.pieces result.streams.sink) F.chip
-        (Stood shown Stands F.chip) result.status result.closed result.flash }
+        (Stood shown (Stands (found_of (F.chip flash))) F.chip) result.status result.closed result.flash }
     ensures closed { IsClosedBy result.status result.closed }
 
     // No fault is swallowed: the count of a stream's faults rises exactly where that is why the life ended.

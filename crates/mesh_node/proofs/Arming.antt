@@ -65,11 +65,11 @@ armed_by_first old new calls mask xs setting count changes stays = record {
   cycles = ap (λ (s : Setting). s.cycles) setting;
   changes = changes;
   past = count.past;
-  same = λ honest. record { honest = count.honest; stays = (stays honest).images; now = (stays honest).now; faults = count.faults; began = ap (λ (s : Setting). s.faults) setting };
+  same = λ honest. record { honest = count.honest; stays = (stays honest).images; now = (stays honest).now; faults = count.faults; began = ap (λ (s : Setting). s.faults) setting; changes = changes };
 }
 
 pub armed_by_none : (chip : Chip) (xs : List PlanStep) → chip.setting.arm ≡ first_order xs chip.changes → IsArmedFirst xs chip chip
-armed_by_none chip xs none = record { order = none; steady = refl; cycles = refl; changes = refl; past = past_none chip; same = λ honest. record { honest = refl; stays = λ image among. among; now = refl; faults = refl; began = refl } }
+armed_by_none chip xs none = record { order = none; steady = refl; cycles = refl; changes = refl; past = past_none chip; same = λ honest. record { honest = refl; stays = λ image among. among; now = refl; faults = refl; began = refl; changes = refl } }
 
 -- a flash that a life finds, where power was cycled and an order that stands first was given
 pub record Powered (image : List ℕ → Type 0) (steps : List PlanStep) (old start : Chip) : Type 0 where

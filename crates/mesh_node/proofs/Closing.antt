@@ -6,10 +6,10 @@ use Rattle.flash_model.specs.Arming.{IsExplained, IsReached}
 use Rattle.flash_model.proofs.Runs.{past_more}
 use Rattle.flash_model.specs.Chip.{Arm, Chip, Keeps, KeepsCount, Setting}
 use Rattle.machine_contract.specs.Moved.{HasMoved}
-use Rattle.machine_contract.specs.Opening.{EachRecovered, IsUnwritten, MigratesOnly}
-use Rattle.machine_contract.specs.Refused.{IsUntouched}
+use Rattle.machine_contract.specs.Opening.{EachRecovered, FlashFound, IsUnwritten, MigratesOnly, found_of}
+use Rattle.machine_contract.specs.Refused.{IsUntouched, WasReset}
+use Rattle.machine_contract.specs.Standing.{IsLifeSoFar}
 use Rattle.mesh_types.specs.declared.history.Sent.{Sent}
-use Rattle.mesh_types.specs.declared.report.End.{End}
 use Rattle.mesh_types.specs.declared.report.End.TheVariants as Ends
 use Rattle.mesh_types.specs.declared.report.Opened.TheVariants as W
 use Rattle.record_types.specs.declared.records.StoreRecord.{StoreRecord}
@@ -33,7 +33,7 @@ use Rattle.mesh_node.specs.Drawn.{TellsDrawn, opened_at}
 use Rattle.mesh_node.specs.Given.{WasGiven}
 use Rattle.mesh_node.proofs.Placed.{given_first}
 use Rattle.mesh_node.specs.Going.{IsOver}
-use Rattle.mesh_node.specs.Lives.{Lives, cut_calls}
+use Rattle.mesh_node.specs.Lives.{Lives, cut_calls, found_at}
 use Rattle.life_laws.specs.declared.plan.PlanStep.{PlanStep}
 use Rattle.life_laws.specs.Plan.{HasOneArm, life_of, steps_of}
 use Rattle.mesh_node.specs.Ran.{Ran}
@@ -48,9 +48,17 @@ use Rattle.mesh_node.proofs.Printing.{idle_printable, sends_short}
 abbrev pub IsUnread : LifeLog → Type 0
 IsUnread log = log.early ≡ record { again = 0; before = 0 }
 
--- it was cut as it opened only where it migrated format 01, and within the calls of that
+-- it was cut as it opened only where it migrated format 01
 abbrev pub OpensWithin : Bool → List ℕ → LifeLog → Type 0
-OpensWithin steady found log = IsTrue steady → log.opened ≡ W.CutAtStart → HasFormat 1 found × IfSome (cut_calls log.end) (λ n. n ≤ COMPACTION_CALLS)
+OpensWithin steady found log = IsTrue steady → log.opened ≡ W.CutAtStart → HasFormat 1 found
+
+-- the calls of that at most, and none of another format
+abbrev pub OpensFor : List ℕ → ℕ → Type 0
+OpensFor found changes = (changes ≤ COMPACTION_CALLS) × (¬ HasFormat 1 found → changes ≡ 0)
+
+-- what a life finds
+abbrev found_by : List ℕ → ℕ → FlashFound
+found_by now changes = record { now = now; changes = changes }
 
 reset_or_cut : W.WasReset ≡ W.CutAtStart → ⊥
 reset_or_cut e = cc
@@ -69,15 +77,15 @@ unreached (Some a) (inl less) = omega (arith, less)
 unreached (Some a) (inr full) = omega (arith, full)
 
 -- Cut as it opens, by an order of so many calls: of another format it made none.
-opens_within : (start new : Chip) (end : End) → start.changes ≡ 0 → MigratesOnly start new → IsTrue start.steady → IsReached new.setting.arm new.changes → end ≡ Ends.Cut new.changes
-    → HasFormat 1 start.now × IfSome (cut_calls end) (λ n. n ≤ COMPACTION_CALLS)
-opens_within start new end none only steady reached is = (
-  one_or _ (λ other. unreached new.setting.arm (subst (IsReached new.setting.arm) ((only.unwritten other).no_calls steady ∙ none) reached)),
-  subst (λ e. IfSome (cut_calls e) (λ n. n ≤ COMPACTION_CALLS)) (sym is) (omega (arith, only.most_calls steady, none)),
-)
+opens_within : (start new : Chip) → start.changes ≡ 0 → MigratesOnly start new → IsReached new.setting.arm new.changes → HasFormat 1 start.now
+opens_within start new none only reached =
+    one_or _ (λ other. unreached new.setting.arm (subst (IsReached new.setting.arm) ((only.unwritten other).no_calls ∙ none) reached))
+
+opens_for : (start new : Chip) → start.changes ≡ 0 → MigratesOnly start new → OpensFor start.now new.changes
+opens_for start new none only = (omega (arith, only.most_calls, none), λ other. (only.unwritten other).no_calls ∙ none)
 
 -- a life that was run
-module _ {M F : Type 0} (view : M → MachineView) (stands : Chip → List StoreRecord → M → Type 0) (role : Role) (image : List ℕ → Type 0) (chip : F → Chip) (plan : List Step) (start : F) (node : NodeView F) (d : DrawerView) (log : LifeLog)
+module _ {M F : Type 0} (view : M → MachineView) (stands : FlashFound → Chip → List StoreRecord → M → Type 0) (role : Role) (image : List ℕ → Type 0) (chip : F → Chip) (plan : List Step) (start : F) (node : NodeView F) (d : DrawerView) (log : LifeLog)
     (one : (content : List ℕ) (rs ss : List StoreRecord) → IsRecovered content rs → IsRecovered content ss → rs ≡ ss)
     (begun : List StoreRecord) (read : IsRecovered (chip start).now begun) (runs : (config_of begun).reset ≡ false) (opened : log.opened ≡ W.On (config_of begun).iv (config_of begun).mark)
     (h : IsNode role image chip node) (is_start : node.start ≡ start) (over : IsOver (phases_of plan) node d (map (λ v. v.items) log.sends.items))
@@ -89,7 +97,7 @@ module _ {M F : Type 0} (view : M → MachineView) (stands : Chip → List Store
     (bearers : ℕ) (few : bearers ≤ 8) (many : length log.sends.items ≡ bearers)
     (explained : IsExplained (chip node.flash)) (given : node.stops ≡ 0 → HasGiven plan (chip node.flash).setting.arm)
     (arm : IsOfPlan plan (chip node.flash).setting.arm)
-    (placed : (over : List StoreRecord) → IsRecovered (chip start).now over → IfSome (chip node.flash).setting.arm (WasGiven view stands chip over plan)) (calls : IfSome (cut_calls log.end) (λ n. n ≡ (chip node.flash).changes)) where
+    (placed : (over : List StoreRecord) → IsRecovered (chip start).now over → IfSome (chip node.flash).setting.arm (WasGiven view (stands (found_of (chip start))) chip over plan)) (calls : IfSome (cut_calls log.end) (λ n. n ≡ (chip node.flash).changes)) where
   begun_is : begun ≡ h.over
   begun_is = one (chip start).now begun h.over read (subst (λ s. IsRecovered (chip s).now h.over) is_start h.read)
 
@@ -138,18 +146,20 @@ module _ {M F : Type 0} (view : M → MachineView) (stands : Chip → List Store
     given = placed h.over read_over;
     told = record {
       machine = held.machine;
-      stood = subst (λ o. stands (chip node.flash) o held.machine) held_over held.tie;
+      stood = subst (λ o. stands (found_of (chip start)) (chip node.flash) o held.machine) held_over (subst (λ s. stands (found_of (chip s)) (chip node.flash) held.over held.machine) is_start held.tie);
       entries = ap (λ m. m.entries) held.shows ∙ sym entries;
       refills = ap (λ m. m.fills) held.shows ∙ sym refills;
       closed = ap (λ m. m.closed) held.shows ∙ sym cut;
     };
+    paid = subst (λ m. IsLifeSoFar role image (found_of (chip start)) (chip node.flash) h.over m) (sym held.shows)
+        (subst (λ s. IsLifeSoFar role image (found_of (chip s)) (chip node.flash) h.over node.machine) is_start h.life);
     on = ap is_on opened;
   }
 
-module _ {M F : Type 0} (view : M → MachineView) (stands : Chip → List StoreRecord → M → Type 0) (chip : F → Chip)
+module _ {M F : Type 0} (view : M → MachineView) (stands : FlashFound → Chip → List StoreRecord → M → Type 0) (chip : F → Chip)
     (role : Role) (image : List ℕ → Type 0) (items : List PlanStep) (single : HasOneArm items) (old start : Chip) (left : F) (log : LifeLog)
     (is : old.images start.now) (began : start.setting.faults ≡ old.faults) (order : IsOfPlan (steps_of items) start.setting.arm) (first : start.setting.arm ≡ first_order items 0) (count : KeepsCount old start)
-    (cycled : start.setting.cycles ≡ old.setting.cycles + 1) where
+    (cycled : start.setting.cycles ≡ old.setting.cycles + 1) (uncalled : start.changes ≡ 0) where
   abbrev plan : List Step
   plan = steps_of items
 
@@ -159,6 +169,7 @@ module _ {M F : Type 0} (view : M → MachineView) (stands : Chip → List Store
   pub lives_ran : Ran view stands chip role image plan start log left → Lives view stands chip role image plan old log left
   lives_ran r =
       let now : new.setting.faults ≡ old.faults = r.later.began ∙ began in
+      let found : found_of start ≡ found_at start.now = ap (found_by start.now) uncalled in
       record {
         over = r.over;
         image = start.now;
@@ -177,19 +188,28 @@ module _ {M F : Type 0} (view : M → MachineView) (stands : Chip → List Store
         arm = r.arm;
         calls = r.calls;
         opening = λ steady cut. absurd (true≢false (sym r.on ∙ ap is_on cut));
-        reset = λ steady was. absurd (true≢false (sym r.on ∙ ap is_on was));
+        opening_calls = λ cut. absurd (true≢false (sym r.on ∙ ap is_on cut));
+        reset = λ was. absurd (true≢false (sym r.on ∙ ap is_on was));
+        reset_calls = λ was cut. absurd (true≢false (sym r.on ∙ ap is_on cut));
         drawn = r.drawn;
         moved = r.moved;
         armed = λ steady other. given_one items new.setting.arm single r.arm (r.armed (subst IsTrue (sym (r.later.steady ∙ count.steady)) steady));
-        given = r.given;
-        told = λ on. r.told;
+        given = subst (λ f. IfSome new.setting.arm (WasGiven view (stands f) chip r.over plan)) found r.given;
+        told = λ on. record {
+          machine = r.told.machine;
+          stood = subst (λ f. stands f new r.over r.told.machine) found r.told.stood;
+          entries = r.told.entries;
+          refills = r.told.refills;
+          closed = r.told.closed;
+        };
+        paid = λ on. subst (λ f. IsLifeSoFar role image f new r.over (view r.told.machine)) found r.paid;
         early = λ off. absurd (true≢false (sym r.on ∙ off));
       }
 
   -- a life that wasn't run
   pub lives_idle : Keeps start new → (IsTrue old.steady → log.opened ≢ W.WasReset → IsGiven plan new.setting.arm) → (u : IsUntouched image start new) → is_on log.opened ≡ false → log.drawn ≡ None → log.history.entries.items ≡ [] → log.history.refills ≡ 0 → log.sends.items ≡ []
-      → Opens (config_of u.over) log.opened log.end → (is_cut log.end ≡ true → start.faults < new.faults) → (is_cut log.end ≡ false → new.faults ≡ start.faults) → IfSome (cut_calls log.end) (λ n. n ≡ new.changes) → OpensWithin old.steady start.now log → (IsTrue old.steady → log.opened ≡ W.WasReset → new.changes ≡ 0) → IsUnread log → Lives view stands chip role image plan old log left
-  lives_idle keeps armed u off none entries refills sends opening failed stays calls within reset early =
+      → Opens (config_of u.over) log.opened log.end → (is_cut log.end ≡ true → start.faults < new.faults) → (is_cut log.end ≡ false → new.faults ≡ start.faults) → IfSome (cut_calls log.end) (λ n. n ≡ new.changes) → OpensWithin old.steady start.now log → (log.opened ≡ W.CutAtStart → OpensFor start.now new.changes) → (log.opened ≡ W.WasReset → new.changes ≡ 0) → ((config_of u.over).reset ≡ true → log.opened ≡ W.CutAtStart → new.changes ≡ 0) → IsUnread log → Lives view stands chip role image plan old log left
+  lives_idle keeps armed u off none entries refills sends opening failed stays calls within costs reset cut_reset early =
       record {
         over = u.over;
         image = start.now;
@@ -208,19 +228,22 @@ module _ {M F : Type 0} (view : M → MachineView) (stands : Chip → List Store
         arm = subst (IsOfPlan plan) (sym (ap (λ (s : Setting). s.arm) keeps.setting)) order;
         calls = calls;
         opening = within;
+        opening_calls = costs;
         reset = reset;
+        reset_calls = cut_reset;
         drawn = subst (TellsDrawn (life_of log)) (sym none) off;
         moved = λ runs. subst (λ o. IfSome o (λ (words : ClosedView). HasMoved role u.over log.history.entries.items log.history.refills words.advances)) (sym none) tt;
         armed = armed;
-        given = subst (λ o. IfSome o (WasGiven view stands chip u.over plan)) (sym (ap (λ (s : Setting). s.arm) keeps.setting ∙ first)) (given_first view stands chip u.over items);
+        given = subst (λ o. IfSome o (WasGiven view (stands (found_at start.now)) chip u.over plan)) (sym (ap (λ (s : Setting). s.arm) keeps.setting ∙ first)) (given_first view (stands (found_at start.now)) chip u.over items);
         told = λ on. absurd (true≢false (sym on ∙ off));
+        paid = λ on. absurd (true≢false (sym on ∙ off));
         early = λ off. early;
       }
 
   -- it was cut while it opened
-  pub lives_cut : Keeps start new → start.changes ≡ 0 → MigratesOnly start new → IsExplained new → IsUntouched image start new → start.faults < new.faults → log.opened ≡ W.CutAtStart → log.end ≡ Ends.Cut new.changes
+  pub lives_cut : Keeps start new → MigratesOnly start new → (WasReset start → IsUnwritten start new) → IsExplained new → IsUntouched image start new → start.faults < new.faults → log.opened ≡ W.CutAtStart → log.end ≡ Ends.Cut new.changes
       → log.drawn ≡ None → log.history.entries.items ≡ [] → log.history.refills ≡ 0 → log.sends.items ≡ [] → IsUnread log → Lives view stands chip role image plan old log left
-  lives_cut keeps uncalled only explained u failed opened end none entries refills sends early =
+  lives_cut keeps only untouched explained u failed opened end none entries refills sends early =
       let later : IsTrue old.steady → new.setting.faults < new.faults → HasGiven plan new.setting.arm =
       λ steady more calls mask among. reached_some new.setting.arm new.changes (explained (subst IsTrue (sym (keeps.steady ∙ count.steady)) steady) more) in
       let now : new.setting.faults < new.faults = subst (λ n. n < new.faults) (count.faults ∙ sym began ∙ sym (ap (λ (s : Setting). s.faults) keeps.setting)) failed in
@@ -228,14 +251,15 @@ module _ {M F : Type 0} (view : M → MachineView) (stands : Chip → List Store
       lives_idle keeps (λ steady other. given_one items new.setting.arm single order' (later steady now)) u (ap is_on opened) none entries refills sends
       (subst (λ o. Opens (config_of u.over) o log.end) (sym opened) (subst (λ e. Opens (config_of u.over) W.CutAtStart e) (sym end) cut_at_start))
       (λ cut. failed) (λ off. absurd (true≢false (sym (ap is_cut end) ∙ off))) (subst (λ e. IfSome (cut_calls e) (λ n. n ≡ new.changes)) (sym end) refl)
-      (λ steady cut. opens_within start new log.end uncalled only (subst IsTrue (sym count.steady) steady) (explained (subst IsTrue (sym (keeps.steady ∙ count.steady)) steady) now) end)
-      (λ steady was. absurd (reset_or_cut (sym was ∙ opened))) early
+      (λ steady cut. opens_within start new uncalled only (explained (subst IsTrue (sym (keeps.steady ∙ count.steady)) steady) now)) (λ cut. opens_for start new uncalled only)
+      (λ was. absurd (reset_or_cut (sym was ∙ opened)))
+      (λ was cut. (untouched (record { over = u.over; read = u.read; reset = was })).no_calls ∙ uncalled) early
 
   -- there was a Node Reset
-  pub lives_reset : Keeps start new → start.changes ≡ 0 → IsUnwritten start new → new.faults ≡ start.faults → (u : IsUntouched image start new) → (config_of u.over).reset ≡ true → log.opened ≡ W.WasReset → log.end ≡ Ends.Ended
+  pub lives_reset : Keeps start new → IsUnwritten start new → new.faults ≡ start.faults → (u : IsUntouched image start new) → (config_of u.over).reset ≡ true → log.opened ≡ W.WasReset → log.end ≡ Ends.Ended
       → log.drawn ≡ None → log.history.entries.items ≡ [] → log.history.refills ≡ 0 → log.sends.items ≡ [] → IsUnread log → Lives view stands chip role image plan old log left
-  lives_reset keeps uncalled unwritten same u reset opened end none entries refills sends early =
+  lives_reset keeps unwritten same u reset opened end none entries refills sends early =
       lives_idle keeps (λ steady other. absurd (other opened)) u (ap is_on opened) none entries refills sends
       (subst (λ o. Opens (config_of u.over) o log.end) (sym opened) (subst (λ e. Opens (config_of u.over) W.WasReset e) (sym end) (was_reset reset)))
       (λ cut. absurd (true≢false (sym cut ∙ ap is_cut end))) (λ off. same) (subst (λ e. IfSome (cut_calls e) (λ n. n ≡ new.changes)) (sym end) tt)
-      (λ steady cut. absurd (reset_or_cut (sym opened ∙ cut))) (λ steady was. unwritten.no_calls (subst IsTrue (sym count.steady) steady) ∙ uncalled) early
+      (λ steady cut. absurd (reset_or_cut (sym opened ∙ cut))) (λ cut. absurd (reset_or_cut (sym opened ∙ cut))) (λ was. unwritten.no_calls ∙ uncalled) (λ was cut. absurd (reset_or_cut (sym opened ∙ cut))) early

@@ -94,7 +94,7 @@ module _ {F M Reader Reading : Type 0} {role : Role} {image : List ℕ → Type 
       subst (IsNode role image chip) (sym p.taken) (record {
         over = k.over;
         read = k.read;
-        life = record { told = l.told; entries = l.entries; handled = l.handled; few = l.few; elements = l.elements; node = l.node; left = l.left; idle = l.idle; failed = l.failed };
+        life = record { told = l.told; entries = l.entries; handled = l.handled; few = l.few; elements = l.elements; node = l.node; left = l.left; idle = l.idle; failed = l.failed; in_hand = l.in_hand; hand = l.hand; paid = l.paid };
         few = k.few;
         live = k.live;
         stopped = k.stopped;

@@ -6,6 +6,7 @@ use Rattle.life_laws.specs.Hands.{AreHandledAll}
 use Rattle.life_laws.specs.Plan.{behind_arm, step_of, steps_of}
 use Rattle.life_laws.specs.declared.plan.PlanStep.{PlanStep}
 use Rattle.life_laws.specs.declared.plan.PlanStep.TheVariants as P
+use Rattle.machine_contract.specs.Opening.{FlashFound, found_of}
 use Rattle.machine_contract.specs.View.{MachineView}
 use Rattle.record_types.specs.declared.records.StoreRecord.{StoreRecord}
 use Rattle.run_definitions.specs.Order.{Step, arm, phases_of}
@@ -44,15 +45,6 @@ module _ {M F : Type 0} (view : M → MachineView) (stands : Chip → List Store
   placed_more steps i (P.Phase lists) lt is node machine shows tie handled first new was same =
       subst (IsSameOrPlaced view stands chip over (steps_of steps) first) (sym same) was
 
-  -- of the node in hand
-  pub placed_held : (steps : List PlanStep) (i : ℕ) (x : PlanStep) → i < length steps → x ≡ get_or steps i x → (node : NodeView F) (held : HasMachine stands view chip node)
-      → AreHandledAll (phases_of (steps_of (take i steps))) node.machine.entries → ((content : List ℕ) (rs ss : List StoreRecord) → IsRecovered content rs → IsRecovered content ss → rs ≡ ss)
-      → (start : F) → node.start ≡ start → IsRecovered (chip start).now over → (first : Option Arm) (new : Chip) → IsSameOrPlaced view stands chip over (steps_of steps) first (chip node.flash).setting.arm → IsArmedBy x (chip node.flash) new
-      → IsSameOrPlaced view stands chip over (steps_of steps) first new.setting.arm
-  placed_held steps i x lt is node held handled one start same read first new was armed =
-      let over_is = one (chip start).now held.over over (subst (λ s. IsRecovered (chip s).now held.over) same held.read) read in
-      placed_more steps i x lt is node held.machine held.shows (subst (λ o. stands (chip node.flash) o held.machine) over_is held.tie) handled first new was armed
-
   behind : (items : List PlanStep) (a : Arm) → WasBetween view stands chip over (steps_of (behind_arm items)) a → WasGiven view stands chip over (steps_of items) a
   behind [] a h = inr (h, λ none. absurd (no_step h.before (arm a.calls a.mask) h.behind h.is))
   behind (P.Arm calls mask ∷ items) a h = inr (
@@ -85,3 +77,14 @@ module _ {M F : Type 0} (view : M → MachineView) (stands : Chip → List Store
       → IfSome now (WasGiven view stands chip over (steps_of items))
   given_right items before now first (inl same) = subst (λ o. IfSome o (WasGiven view stands chip over (steps_of items))) (sym (same ∙ first)) (given_first items)
   given_right items before now first (inr placed) = given_behind items now placed
+
+-- one step more of the node in hand
+pub placed_held : {M F : Type 0} (view : M → MachineView) (stands : FlashFound → Chip → List StoreRecord → M → Type 0) (chip : F → Chip) (over : List StoreRecord)
+    (steps : List PlanStep) (i : ℕ) (x : PlanStep) → i < length steps → x ≡ get_or steps i x → (node : NodeView F) (held : HasMachine stands view chip node)
+    → AreHandledAll (phases_of (steps_of (take i steps))) node.machine.entries → ((content : List ℕ) (rs ss : List StoreRecord) → IsRecovered content rs → IsRecovered content ss → rs ≡ ss)
+    → (start : F) → node.start ≡ start → IsRecovered (chip start).now over → (first : Option Arm) (new : Chip) → IsSameOrPlaced view (stands (found_of (chip start))) chip over (steps_of steps) first (chip node.flash).setting.arm → IsArmedBy x (chip node.flash) new
+    → IsSameOrPlaced view (stands (found_of (chip start))) chip over (steps_of steps) first new.setting.arm
+placed_held view stands chip over steps i x lt is node held handled one start same read first new was armed =
+    let over_is = one (chip start).now held.over over (subst (λ s. IsRecovered (chip s).now held.over) same held.read) read in
+    let tie = subst (λ s. stands (found_of (chip s)) (chip node.flash) held.over held.machine) same held.tie in
+    placed_more view (stands (found_of (chip start))) chip over steps i x lt is node held.machine held.shows (subst (λ o. stands (found_of (chip start)) (chip node.flash) o held.machine) over_is tie) handled first new was armed

@@ -15,6 +15,8 @@ use Rattle.locked_node.specs.Asked.{AreAsked}
 use Rattle.locked_node.specs.Node.{NodeView}
 use Rattle.locked_node.specs.Stands.{HasMachine, IsLater, IsNode}
 use Rattle.machine_contract.specs.Moved.{HasMoved}
+use Rattle.machine_contract.specs.Opening.{FlashFound, found_of}
+use Rattle.machine_contract.specs.Standing.{IsLifeSoFar}
 use Rattle.machine_contract.specs.View.{MachineView}
 use Rattle.mesh_node.specs.Given.{Stood}
 use Rattle.life_laws.specs.Pairs.{PairsSo}
@@ -28,7 +30,7 @@ use Rattle.mesh_node.proofs.Ending.{each_life}
 use Rattle.mesh_node.proofs.Printing.{sends_short}
 use Rattle.mesh_node.proofs.Telling.{phases_are}
 
-module _ {M F S T : Type 0} (view : M → MachineView) (stands : Chip → List StoreRecord → M → Type 0) (role : Role) (image : List ℕ → Type 0) (chip : F → Chip) (source : SourceSteps S) (sink : SinkSteps T) (from to : S) (began now : T) (bearers : ℕ) (few : bearers ≤ 8)
+module _ {M F S T : Type 0} (view : M → MachineView) (stands : FlashFound → Chip → List StoreRecord → M → Type 0) (role : Role) (image : List ℕ → Type 0) (chip : F → Chip) (source : SourceSteps S) (sink : SinkSteps T) (from to : S) (began now : T) (bearers : ℕ) (few : bearers ≤ 8)
     (start : F) (node : NodeView F) (d : DrawerView) (opened : F) (last : LastStep) (went : WentOn source sink from to began now bearers node d opened last node.machine.closed)
     (one : (rs ss : List StoreRecord) → IsRecovered (chip start).now rs → IsRecovered (chip start).now ss → rs ≡ ss)
     (begun : List StoreRecord) (read : IsRecovered (chip start).now begun) (runs : (config_of begun).reset ≡ false)
@@ -67,7 +69,7 @@ module _ {M F S T : Type 0} (view : M → MachineView) (stands : Chip → List S
   held_over : held.over ≡ h.over
   held_over = one held.over h.over (subst (λ s. IsRecovered (chip s).now held.over) is_start held.read) (subst (λ o. IsRecovered (chip start).now o) begun_is read)
 
-  pub lived : LivedOn (Stood view stands chip node.flash) role image source sink from to began now bearers (chip start) (chip node.flash) opened node.flash node.machine.fills closed node.machine.closed last
+  pub lived : LivedOn (Stood view (stands (found_of (chip start))) chip node.flash) role image source sink from to began now bearers (chip start) (chip node.flash) opened node.flash node.machine.fills closed node.machine.closed last
   lived = record {
     phases = went.phases;
     did = went.did;
@@ -86,23 +88,24 @@ module _ {M F S T : Type 0} (view : M → MachineView) (stands : Chip → List S
     no_fault = λ off. subst (λ s. (chip node.flash).faults ≡ (chip s).faults) is_start (h.no_fault off);
     all = record {
       machine = node.machine;
-      stood = (held.machine, held.shows, subst (λ o. stands (chip node.flash) o held.machine) held_over held.tie);
+      stood = (held.machine, held.shows, subst (λ o. stands (found_of (chip start)) (chip node.flash) o held.machine) held_over (subst (λ s. stands (found_of (chip s)) (chip node.flash) held.over held.machine) is_start held.tie));
       entries = went.told.entries_are;
       fills = refl;
       is_closed = refl;
     };
+    paid = subst (λ s. IsLifeSoFar role image (found_of (chip s)) (chip node.flash) h.over node.machine) is_start h.life;
     moved = λ runs. subst (λ (l : List Entry). HasMoved role h.over l node.machine.fills closed.advances) went.told.entries_are
         (moved h.over (subst (λ o. IsRecovered (chip start).now o) begun_is read) runs);
   }
 
 -- the same, by what is left of it
-pub lived_left : {M F S T : Type 0} (view : M → MachineView) (stands : Chip → List StoreRecord → M → Type 0) (role : Role) (image : List ℕ → Type 0) (chip : F → Chip) (source : SourceSteps S) (sink : SinkSteps T) (from to : S) (began now : T) (bearers : ℕ) → bearers ≤ 8
+pub lived_left : {M F S T : Type 0} (view : M → MachineView) (stands : FlashFound → Chip → List StoreRecord → M → Type 0) (role : Role) (image : List ℕ → Type 0) (chip : F → Chip) (source : SourceSteps S) (sink : SinkSteps T) (from to : S) (began now : T) (bearers : ℕ) → bearers ≤ 8
     → (node : NodeView F) (d : DrawerView) (first : ℕ) (opened : F) (last : LastStep) (flash : F) (refills : ℕ) (drawn : ClosedView) (closed : Bool) → HasLeft view stands role image chip node first d flash refills drawn closed
     → WentOn source sink from to began now bearers node d opened last node.machine.closed → (over : List StoreRecord) → IsRecovered (chip node.start).now over → (config_of over).reset ≡ false → first ≡ (config_of over).mark
-    → LivedOn (Stood view stands chip flash) role image source sink from to began now bearers (chip node.start) (chip flash) opened flash refills drawn closed last
+    → LivedOn (Stood view (stands (found_of (chip node.start))) chip flash) role image source sink from to began now bearers (chip node.start) (chip flash) opened flash refills drawn closed last
 lived_left view stands role image chip source sink from to began now bearers few node d first opened last flash refills drawn closed h went over read runs firsts =
     let whole = lived view stands role image chip source sink from to began now bearers few node.start node d opened last went h.one over read runs h.known refl drawn first h.order h.mark firsts
     h.closes.since h.below h.once h.seen h.closes h.stood h.moved in
-    subst (λ f. LivedOn (Stood view stands chip f) role image source sink from to began now bearers (chip node.start) (chip f) opened f refills drawn closed last) (sym h.flash_is)
-    (subst (λ n. LivedOn (Stood view stands chip node.flash) role image source sink from to began now bearers (chip node.start) (chip node.flash) opened node.flash n drawn closed last) (sym h.refills_are)
-    (subst (λ b. LivedOn (Stood view stands chip node.flash) role image source sink from to began now bearers (chip node.start) (chip node.flash) opened node.flash node.machine.fills drawn b last) (sym h.closed_is) whole))
+    subst (λ f. LivedOn (Stood view (stands (found_of (chip node.start))) chip f) role image source sink from to began now bearers (chip node.start) (chip f) opened f refills drawn closed last) (sym h.flash_is)
+    (subst (λ n. LivedOn (Stood view (stands (found_of (chip node.start))) chip node.flash) role image source sink from to began now bearers (chip node.start) (chip node.flash) opened node.flash n drawn closed last) (sym h.refills_are)
+    (subst (λ b. LivedOn (Stood view (stands (found_of (chip node.start))) chip node.flash) role image source sink from to began now bearers (chip node.start) (chip node.flash) opened node.flash node.machine.fills drawn b last) (sym h.closed_is) whole))

@@ -13,11 +13,12 @@ pub record WasFirst (plan : List Step) (order : Arm) : Type 0 where
   pub is : plan ≡ arm order.calls order.mask ∷ behind
   pub changes : order.changes ≡ 0
 
--- a machine that shows this stands over the flash
+-- a machine that shows this stands over the flash, as `stands` says of what the life found
 abbrev pub Stood : {M F : Type 0} → (M → MachineView) → (Chip → List StoreRecord → M → Type 0) → (F → Chip) → F
     → List StoreRecord → MachineView → Type 0
 Stood {M} view stands chip flash over shown = (machine : M) × (view machine ≡ shown) × stands (chip flash) over machine
 
+-- `stands` is of one life: what it found is given
 module _ {M F : Type 0} (view : M → MachineView) (stands : Chip → List StoreRecord → M → Type 0) (chip : F → Chip)
     (over : List StoreRecord) where
   -- The order was given where a machine stood over the flash that had handled all events of the phases before it in the plan, and none of

@@ -10,6 +10,7 @@ use Rattle.store_definitions.specs.Recovered.{IsRecovered}
 use Rattle.locked_node.specs.Node.{NodeView}
 use Rattle.locked_node.specs.Stands.{HasMachine, IsNode}
 use Rattle.machine_contract.specs.Moved.{HasMoved}
+use Rattle.machine_contract.specs.Opening.{FlashFound}
 use Rattle.machine_contract.specs.View.{MachineView}
 
 -- what the words tell at their end, of a life that opened at `first`
@@ -26,7 +27,7 @@ pub record Closes (d : DrawerView) (closed : ClosedView) (first : ℕ) : Type 0 
 
 -- What a node leaves whose counter was opened at `first`: its flash, how often it stored a refill, what the counter and the mark were at the end, and
 -- whether the flash failed.
-pub record HasLeft {M F : Type 0} (view : M → MachineView) (stands : Chip → List StoreRecord → M → Type 0) (role : Role)
+pub record HasLeft {M F : Type 0} (view : M → MachineView) (stands : FlashFound → Chip → List StoreRecord → M → Type 0) (role : Role)
     (image : List ℕ → Type 0) (chip : F → Chip) (node : NodeView F) (first : ℕ) (d : DrawerView) (flash : F) (refills : ℕ) (drawn : ClosedView)
     (closed : Bool) : Type 0 where
   pub flash_is : flash ≡ node.flash

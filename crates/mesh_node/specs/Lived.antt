@@ -5,7 +5,8 @@ use Rattle.mesh_types.specs.declared.events.Event.{Event}
 use Rattle.mesh_types.specs.declared.report.End.{End}
 use Rattle.mesh_types.specs.declared.report.Opened.TheVariants as W
 use Rattle.machine_contract.specs.Moved.{HasMoved}
-use Rattle.machine_contract.specs.Opening.{EachRecovered, IsNodeFlash}
+use Rattle.machine_contract.specs.Opening.{EachRecovered, IsNodeFlash, found_of}
+use Rattle.machine_contract.specs.Standing.{IsLifeSoFar}
 use Rattle.record_types.specs.declared.records.StoreRecord.{StoreRecord}
 use Rattle.report_definitions.specs.Record.{Life}
 use Rattle.event_definitions.specs.Handling.{AreHandled}
@@ -103,6 +104,8 @@ module _ {S T : Type 0} (Stood : List StoreRecord → MachineView → Type 0) (r
     pub cause : closed ≡ true → new.setting.faults < new.faults
     pub no_fault : closed ≡ false → new.faults ≡ start.faults
     pub all : IsAllTold Stood over did refills closed
+    -- since its beginning the flash had at most the program and erase calls that the records cost which were stored or in hand, and a migration
+    pub paid : IsLifeSoFar role image (found_of start) new over all.machine
     -- where it wasn't cut, the counter was moved with each record that raised the transmit IV Index, and at no other time
     pub moved : closed ≡ false → HasMoved role over (entries_told did) refills drawn.advances
 

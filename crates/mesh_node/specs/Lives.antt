@@ -2,7 +2,8 @@
 use Rattle.std.specs.Prelude.{◌≡◌, ℕ, ◌+◌, ◌^◌, ◌<◌, ◌≤◌, ◌≢◌, length, true, false, IsTrue, List, Option, None, IfSome}
 use Rattle.flash_model.specs.Chip.{Chip, Remembers}
 use Rattle.machine_contract.specs.Moved.{HasMoved}
-use Rattle.machine_contract.specs.Opening.{EachRecovered, IsNodeFlash}
+use Rattle.machine_contract.specs.Opening.{EachRecovered, FlashFound, IsNodeFlash}
+use Rattle.machine_contract.specs.Standing.{IsLifeSoFar}
 use Rattle.mesh_types.specs.declared.history.Sent.{Sent}
 use Rattle.mesh_types.specs.declared.report.End.{End}
 use Rattle.mesh_types.specs.declared.report.End.TheVariants as F
@@ -44,8 +45,12 @@ pub record IsPrintable (life : Life) : Type 0 where
   pub bearers : length life.sends ≤ BEARERS
   pub lines : All (All IsShort) life.sends
 
+-- what a life finds of a flash that reads this, once power was given: no program or erase call was begun since
+abbrev pub found_at : List ℕ → FlashFound
+found_at image = record { now = image; changes = 0 }
+
 -- The life opened over what one image of the flash recovers. Whatever an image recovers now, it is a life of its plan that leaves this.
-pub record Lives {M F : Type 0} (view : M → MachineView) (stands : Chip → List StoreRecord → M → Type 0) (chip : F → Chip)
+pub record Lives {M F : Type 0} (view : M → MachineView) (stands : FlashFound → Chip → List StoreRecord → M → Type 0) (chip : F → Chip)
     (role : Role) (IsNodeImage : List ℕ → Type 0) (plan : List Step) (old : Chip) (log : LifeLog) (new : F) : Type 0 where
   pub over : List StoreRecord
   pub image : List ℕ
@@ -67,19 +72,25 @@ pub record Lives {M F : Type 0} (view : M → MachineView) (stands : Chip → Li
   pub arm : IsOfPlan plan (chip new).setting.arm
   pub calls : IfSome (cut_calls log.end) (λ calls. calls ≡ (chip new).changes)
   pub drawn : TellsDrawn (life_of log) log.drawn
-  -- over a flash that fails by an order alone, one can be cut as it opens only where it migrates format 01, and within the calls of that
-  pub opening : IsTrue old.steady → log.opened ≡ W.CutAtStart
-      → HasFormat 1 image × IfSome (cut_calls log.end) (λ calls. calls ≤ COMPACTION_CALLS)
-  -- and where there was a Node Reset no program or erase call was made
-  pub reset : IsTrue old.steady → log.opened ≡ W.WasReset → (chip new).changes ≡ 0
+  -- over a flash that fails by an order alone, one can be cut as it opens only where it migrates format 01
+  pub opening : IsTrue old.steady → log.opened ≡ W.CutAtStart → HasFormat 1 image
+  -- cut so, it made at most the program and erase calls of that, and none where the format is another
+  pub opening_calls : log.opened ≡ W.CutAtStart
+      → ((chip new).changes ≤ COMPACTION_CALLS) × (¬ HasFormat 1 image → (chip new).changes ≡ 0)
+  -- and where there was a Node Reset it made none, told or not
+  pub reset : log.opened ≡ W.WasReset → (chip new).changes ≡ 0
+  pub reset_calls : (config_of over).reset ≡ true → log.opened ≡ W.CutAtStart → (chip new).changes ≡ 0
   -- where it wasn't cut, the counter was moved with each record that raised the transmit IV Index, and at no other time
   pub moved : is_cut log.end ≡ false
       → IfSome log.drawn (λ words. HasMoved role over log.history.entries.items log.history.refills words.advances)
   -- over a flash that fails by an order alone, one that the plan has was given, but where there was a Node Reset
   pub armed : IsTrue old.steady → log.opened ≢ W.WasReset → IsGiven plan (chip new).setting.arm
   -- and it was given at its place in the plan
-  pub given : IfSome (chip new).setting.arm (WasGiven view stands chip over plan)
+  pub given : IfSome (chip new).setting.arm (WasGiven view (stands (found_at image)) chip over plan)
   -- what is told of the life is all that its machine handled
-  pub told : is_on log.opened ≡ true → IsTold view stands chip over (life_of log) new
+  pub told : is_on log.opened ≡ true → IsTold view (stands (found_at image)) chip over (life_of log) new
+  -- and the flash had at most the program and erase calls that the records cost which were stored or in hand, and a migration
+  pub paid : (on : is_on log.opened ≡ true)
+      → IsLifeSoFar role IsNodeImage (found_at image) (chip new) over (view (told on).machine)
   -- a life that wasn't run read nothing
   pub early : is_on log.opened ≡ false → log.early ≡ record { again = 0; before = 0 }

@@ -2,7 +2,8 @@
 use Rattle.std.specs.Prelude.{◌≡◌, ℕ, ◌<◌, true, false, IsTrue, List, IfSome}
 use Rattle.flash_model.specs.Chip.{Chip}
 use Rattle.machine_contract.specs.Moved.{HasMoved}
-use Rattle.machine_contract.specs.Opening.{EachRecovered, IsNodeFlash}
+use Rattle.machine_contract.specs.Opening.{EachRecovered, FlashFound, IsNodeFlash, found_of}
+use Rattle.machine_contract.specs.Standing.{IsLifeSoFar}
 use Rattle.record_types.specs.declared.records.StoreRecord.{StoreRecord}
 use Rattle.event_definitions.specs.Role.{Role}
 use Rattle.run_definitions.specs.Order.{Step, is_cut}
@@ -17,7 +18,7 @@ use Rattle.mesh_node.specs.Given.{IsTold, WasGiven}
 use Rattle.life_laws.specs.Plan.{life_of}
 use Rattle.mesh_node.specs.Steps.{HasGiven, IsOfPlan}
 
-pub record Ran {M F : Type 0} (view : M → MachineView) (stands : Chip → List StoreRecord → M → Type 0) (chip : F → Chip)
+pub record Ran {M F : Type 0} (view : M → MachineView) (stands : FlashFound → Chip → List StoreRecord → M → Type 0) (chip : F → Chip)
     (role : Role) (IsNodeImage : List ℕ → Type 0) (plan : List Step) (start : Chip) (log : LifeLog) (new : F) : Type 0 where
   pub over : List StoreRecord
   pub recovered : IsRecovered start.now over
@@ -33,6 +34,7 @@ pub record Ran {M F : Type 0} (view : M → MachineView) (stands : Chip → List
   pub moved : is_cut log.end ≡ false
       → IfSome log.drawn (λ words. HasMoved role over log.history.entries.items log.history.refills words.advances)
   pub armed : IsTrue (chip new).steady → HasGiven plan (chip new).setting.arm
-  pub given : IfSome (chip new).setting.arm (WasGiven view stands chip over plan)
-  pub told : IsTold view stands chip over (life_of log) new
+  pub given : IfSome (chip new).setting.arm (WasGiven view (stands (found_of start)) chip over plan)
+  pub told : IsTold view (stands (found_of start)) chip over (life_of log) new
+  pub paid : IsLifeSoFar role IsNodeImage (found_of start) (chip new) over (view told.machine)
   pub on : is_on log.opened ≡ true

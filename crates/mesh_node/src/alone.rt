@@ -6,6 +6,7 @@ ghost use Rattle.flash_model.specs.Chip.{Keeps};
 ghost use Rattle.mesh_types.specs.declared.events.Event.{Event};
 ghost use Rattle.mesh_types.specs.declared.history.Entry.{Entry};
 ghost use Rattle.mesh_types.specs.declared.history.Sent.{Sent};
+ghost use Rattle.machine_contract.specs.Opening.{found_of};
 ghost use Rattle.machine_contract.specs.Started.{IsStarted};
 ghost use Rattle.locked_node.specs.Stands.{IsNode};
 ghost use Rattle.node_bearer.specs.Did.{AreEvents};
@@ -149,7 +150,7 @@ pub fn live_alone<M: Machine, F: Flash + Send + Drop, S: PhaseSource, T: PhaseSi
     requires kept { Keeps (F.chip beginning.start) (F.chip beginning.flash) }
     requires alone { beginning.bearers ≡ 1 }
     ensures lived { IfOk result
-        (λ r. LivedOn (Stood M.view M.stands F.chip r.flash) M.role M.image S.steps T.steps source.old source.new sink.old sink.new beginning.bearers
+        (λ r. LivedOn (Stood M.view (M.stands (found_of (F.chip beginning.start))) F.chip r.flash) M.role M.image S.steps T.steps source.old source.new sink.old sink.new beginning.bearers
         (F.chip beginning.start) (F.chip r.flash) beginning.flash r.flash r.refills r.drawn r.closed r.last) }
     ensures short { OnErr result
         (FellShort M.role S.steps T.steps source.old source.new sink.old sink.new (F.chip beginning.start)) }

@@ -7,8 +7,8 @@ ghost use Rattle.file_flash.specs.Noted.{IsInside, put_of, written};
 ghost use Rattle.flash_model.specs.Chip.{IsFresh, Keeps};
 ghost use Rattle.mesh_types.specs.declared.events.Event.{Event};
 ghost use Rattle.machine_contract.specs.declared.opening.StartFault.TheVariants as faults;
-ghost use Rattle.machine_contract.specs.Opening.{IsNodeFlash, IsUnwritten, MigratesOnly};
-ghost use Rattle.machine_contract.specs.Refused.{IsStartCause};
+ghost use Rattle.machine_contract.specs.Opening.{IsNodeFlash, IsUnwritten, MigratesOnly, found_of};
+ghost use Rattle.machine_contract.specs.Refused.{IsStartCause, WasReset};
 ghost use Rattle.machine_contract.specs.Started.{IsStarted};
 ghost use Rattle.locked_node.specs.Stands.{IsDueNode, IsIdleNode};
 ghost use Rattle.node_bearer.specs.Did.{AreEvents};
@@ -119,8 +119,8 @@ impl<M: Machine, F: Flash + Send + Drop> HeldLife<M, F> {
     }
 
     /// A life over a flash from which one can be opened: it is started, and begins. That changes what a flash holds only where it
-    /// migrates one of format 01, and a steady one counts a program or erase call only then (`opened`, `unopened`); a node that was reset isn't
-    /// migrated (`reset`).
+    /// migrates one of format 01, and it makes a program or erase call only then (`opened`, `unopened`); a node that was reset isn't
+    /// migrated, also where the flash fails (`reset`).
     ///
     /// # Errors
     ///
@@ -138,8 +138,8 @@ impl<M: Machine, F: Flash + Send + Drop> HeldLife<M, F> {
         ensures cause { IfErr result
             (λ e. IfSome e.flash (λ f. IsStartCause M.image (F.chip flash) (F.chip f) e.fault)) }
         ensures unopened { IfErr result (λ e. IfSome e.flash (λ f. MigratesOnly (F.chip flash) (F.chip f))) }
-        ensures reset { IfErr result
-            (λ e. e.fault ≡ faults.WasReset → IfSome e.flash (λ f. IsUnwritten (F.chip flash) (F.chip f))) }
+        ensures reset { WasReset (F.chip flash)
+            → IfErr result (λ e. IfSome e.flash (λ f. IsUnwritten (F.chip flash) (F.chip f))) }
         ensures kept { IfErr result (λ e. IfSome e.flash (λ f. Keeps (F.chip flash) (F.chip f))) }
         ensures lost { IfErr result (λ e. e.flash ≡ None → e.fault ≡ faults.Memory) }
     {
@@ -249,7 +249,7 @@ impl<M: Machine, F: Flash + Send + Drop> HeldLife<M, F> {
         ensures closed { result.closed ≡ self.node.machine.closed }
         ensures lived { (phases : List (List (List Event))) (did : List PhaseDid)
             → HasLived M.role M.image F.chip self phases did
-            → LivedOn (Stood M.view M.stands F.chip result.flash) M.role M.image given_phases told_phases [] phases [] did 1
+            → LivedOn (Stood M.view (M.stands (found_of (F.chip self.node.start))) F.chip result.flash) M.role M.image given_phases told_phases [] phases [] did 1
             (F.chip self.node.start) (F.chip result.flash) self.node.flash result.flash result.refills result.drawn
             result.closed result.last }
     {
@@ -267,7 +267,7 @@ impl<M: Machine, F: Flash + Send + Drop> HeldLife<M, F> {
 
 impl<M: Machine> HeldLife<M, NotedFlash> {
     /// The writes of the flash since this was called last, or since it was made, as `Node::take_writes` says it: those that the flash noted, in
-    /// that order (`noted`). The life goes on as it was (`held`).
+    /// that order (`noted`). None waits any more then (`none`), and the life goes on as it was (`held`).
     ///
     /// Whoever takes them makes them durable, in their order, before anything leaves that a call of this life handed out.
     pub fn take_writes(&mut self) -> Vec<Write>
@@ -275,6 +275,7 @@ impl<M: Machine> HeldLife<M, NotedFlash> {
             ≡ (⟦<NotedFlash as Flash>⟧.chip self.old.node.flash).now }
         ensures inside { All IsInside result.items }
         ensures noted { Some (map put_of result.items) ≡ ⟦<NotedPlace as Backing>⟧.waiting self.old.node.flash.backing }
+        ensures none { ⟦<NotedPlace as Backing>⟧.waiting self.new.node.flash.backing ≡ Some [] }
         ensures flash { IsHandedOut (⟦<NotedFlash as Flash>⟧.chip self.old.node.flash)
             (⟦<NotedFlash as Flash>⟧.chip self.new.node.flash) }
         ensures frame { self.new ≡ record self.old { node = record self.old.node { flash = self.new.node.flash } } }

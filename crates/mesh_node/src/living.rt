@@ -33,7 +33,9 @@ use store_definitions::recovery::one_list_is_recovered;
 /// recovers, its bearers do what they have, and the flash is handed back. The flash is honest, and each image of it recovers a node or a
 /// reset; so it is when it is handed back. For want of memory the flash is dropped.
 ///
-/// Over a flash that fails by an order alone it is cut as it opens only where it migrates format 01 (`opening` of `Lives`).
+/// Over a flash that fails by an order alone it is cut as it opens only where it migrates format 01 (`opening` of `Lives`). Over any flash, the
+/// program and erase calls of a life are at most what its records and a migration cost (`paid`), or what opening costs one that wasn't run
+/// (`opening_calls`, `reset`, `reset_calls`).
 pub fn life<M: Machine, B: Bench, G: Gate, R: Threads + Wait + Sync>(
     rt: &R,
     alloc: Global,

@@ -6,6 +6,7 @@ ghost use Rattle.mesh_types.specs.declared.events.Event.{Event};
 ghost use Rattle.record_types.specs.declared.records.StoreRecord.{StoreRecord};
 ghost use Rattle.run_definitions.specs.Order.{phases_of};
 ghost use Rattle.store_definitions.specs.Recovered.{IsRecovered};
+ghost use Rattle.machine_contract.specs.Opening.{found_of};
 ghost use Rattle.node_bearer.specs.Did.{AreEvents};
 ghost use Rattle.mesh_node.specs.Given.{IsSameOrPlaced};
 ghost use Rattle.mesh_node.specs.Going.{AreTold, IsBetween, IsGoing, IsOver};
@@ -155,7 +156,7 @@ pub fn do_steps<M: Machine, F: Bench, G: Gate, R: Threads + Wait + Sync>(
     ensures given { IfOk result (λ r. r.0.stops ≡ 0 → HasGiven (steps_of steps.now) (F.chip r.0.flash).setting.arm) }
     ensures placed { (over : List StoreRecord) → IsRecovered (F.chip node.start).now over
         → IfOk result
-        (λ r. IsSameOrPlaced M.view M.stands F.chip over (steps_of steps.now) (F.chip node.flash).setting.arm
+        (λ r. IsSameOrPlaced M.view (M.stands (found_of (F.chip node.start))) F.chip over (steps_of steps.now) (F.chip node.flash).setting.arm
         (F.chip r.0.flash).setting.arm) }
     ensures many { IfOk result (λ r. length r.1.sends.items ≡ bearers) }
     ensures told { IfOk result (λ r. AreTold r.1.entries.items r.0) }

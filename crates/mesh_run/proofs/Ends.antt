@@ -3,7 +3,7 @@ use Rattle.std.proofs.Common.{◌≡◌, ◌⊎◌, ◌<◌, ◌≤◌, ◌+◌,
 use Rattle.std.specs.Prelude.{IfSome, IsSomeAnd}
 use Rattle.std.specs.Io.KnownBytes.{Consumes, IsAtEnd}
 use Rattle.flash_model.proofs.Runs.{past_more}
-use Rattle.flash_model.specs.Arming.{Begins}
+use Rattle.flash_model.specs.Arming.{Begins, BeginsAtMost}
 use Rattle.flash_model.specs.Chip.{Chip, IsFresh, Keeps, KeepsCount, LeavesOnly, Setting, Stays}
 use Rattle.slot_journal.specs.Format.{IsErased, IsFirstWritten}
 use Rattle.node_store.specs.Provisioning.{provisioning}
@@ -75,8 +75,8 @@ set_after old mid new kept is = subst (λ (s : Setting). s ≡ record { faults =
 -- an octet isn't erased, and the content stays
 pub written_at : (old mid new : Chip) (at : ℕ) → KeepsCount old mid → old.images mid.now → IsFresh mid
     → mid.setting ≡ record { faults = old.faults; arm = None; saved = mid.now; moment = mid.moment; cycles = old.setting.cycles + 1 } → Keeps mid new → new.faults ≡ mid.faults
-    → IsFirstWritten mid.now at → ((IsErased mid.now → ⊥) → Stays mid new) → IsWrittenAt at old new
-written_at old mid new at count image fresh setting keeps same first unchanged =
+    → IsFirstWritten mid.now at → ((IsErased mid.now → ⊥) → Stays mid new) → mid.changes ≡ 0 → ((IsErased mid.now → ⊥) → new.changes ≡ mid.changes) → IsWrittenAt at old new
+written_at old mid new at count image fresh setting keeps same first unchanged none no_calls =
     let stays = unchanged (λ erased. first.written (erased at first.within)) in
     record {
       was = subst old.images (sym stays.now) image;
@@ -84,6 +84,7 @@ written_at old mid new at count image fresh setting keeps same first unchanged =
       setting = subst (λ (c : List ℕ). new.setting ≡ record { faults = old.faults; arm = None; saved = c; moment = new.setting.moment; cycles = old.setting.cycles + 1 })
           (sym stays.now) (set_after old mid new keeps.setting setting);
       no_fault = same ∙ count.faults;
+      calls = no_calls (λ erased. first.written (erased at first.within)) ∙ none;
       stays = λ c among. fresh.only c (stays.images c among) ∙ sym stays.now;
     }
 
@@ -108,12 +109,15 @@ was_erased old mid image erased = (mid.now, image, erased)
 pub fails_early : (records : List StoreRecord) (old mid new : Chip) → KeepsCount old mid → old.images mid.now → IsFresh mid
     → mid.setting ≡ record { faults = old.faults; arm = None; saved = mid.now; moment = mid.moment; cycles = old.setting.cycles + 1 } → Keeps mid new → mid.faults < new.faults
     → ((t : ℕ) (c : List ℕ) → t ≤ new.moment → new.images c → new.since t c)
-    → (IsErased mid.now → LeavesOnly mid new (IsMade records)) → ((IsErased mid.now → ⊥) → Stays mid new) → FailsEarly records old new
-fails_early records old mid new count image fresh setting keeps failed counts made unchanged = record {
+    → (IsErased mid.now → LeavesOnly mid new (IsMade records)) → ((IsErased mid.now → ⊥) → Stays mid new) → mid.changes ≡ 0 → BeginsAtMost 8 mid new
+    → ((IsErased mid.now → ⊥) → new.changes ≡ mid.changes) → FailsEarly records old new
+fails_early records old mid new count image fresh setting keeps failed counts made unchanged none most no_calls = record {
   failed = omega (arith, count.faults, failed);
   setting = set_after old mid new keeps.setting setting;
   found = mid.now;
   was = image;
+  calls = omega (arith, most, none);
+  no_calls = λ other. no_calls other ∙ none;
   made = λ erased c among. let left = made erased in left.each c (counts mid.moment c left.later among);
   stays = λ other c among. fresh.only c ((unchanged other).images c among);
 }
@@ -131,7 +135,7 @@ begun_since mid new none begins = begins ∙ ap (λ (k : ℕ). min (k + 8) 42949
 -- the node was provisioned on it in this format
 pub was_provisioned : (format : ℕ) (p q : Provision) (old mid new : Chip) → p ≡ q → KeepsCount old mid → old.images mid.now
     → mid.setting ≡ record { faults = old.faults; arm = None; saved = mid.now; moment = mid.moment; cycles = old.setting.cycles + 1 } → IsErased mid.now → Keeps mid new → new.faults ≡ mid.faults
-    → mid.changes ≡ 0 → (IsTrue mid.steady → Begins 8 mid new) → IsProvisioned new (provisioned (provisioning p)) → IsInFormat format new → WasProvisioned format (provisioned (provisioning q)) old new
+    → mid.changes ≡ 0 → Begins 8 mid new → IsProvisioned new (provisioned (provisioning p)) → IsInFormat format new → WasProvisioned format (provisioned (provisioning q)) old new
 was_provisioned format p q old mid new of count image setting erased keeps same none costs made is = record {
   found = mid.now;
   was = image;
@@ -141,7 +145,7 @@ was_provisioned format p q old mid new of count image setting erased keeps same 
   faults = same ∙ count.faults;
   setting = set_after old mid new keeps.setting setting;
   steady = keeps.steady ∙ count.steady;
-  calls = λ steady. begun_since mid new none (costs (subst IsTrue (sym count.steady) steady));
+  calls = begun_since mid new none costs;
   past = past_more old mid new count.past keeps.past;
 }
 

@@ -103,13 +103,14 @@ abbrev pub WasErased : Chip → Type 0
 WasErased chip = (c : List ℕ) × chip.images c × IsErased c
 
 -- What its power cycle left is what is read and the only image, and this is the first octet that isn't ff. The flash didn't fail since then, and
--- was given no order to tear a call.
+-- was given no order to tear a call, and no program or erase call was begun.
 pub record IsWrittenAt (at : ℕ) (old new : Chip) : Type 0 where
   pub was : old.images new.now
   pub first : IsFirstWritten new.now at
   pub setting : new.setting
       ≡ record { faults = old.faults; arm = None; saved = new.now; moment = new.setting.moment; cycles = old.setting.cycles + 1 }
   pub no_fault : new.faults ≡ old.faults
+  pub calls : new.changes ≡ 0
   pub stays : (image : List ℕ) → new.images image → image ≡ new.now
 
 -- The flash failed in the first power cycle since then.

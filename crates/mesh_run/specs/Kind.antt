@@ -6,6 +6,7 @@ use Rattle.event_definitions.specs.Role.{Role, node_role}
 use Rattle.flash_model.specs.Chip.{Chip}
 use Rattle.low_power_machine.specs.Machine as LowPower
 use Rattle.low_power_role.specs.Role.{low_power_role}
+use Rattle.machine_contract.specs.Opening.{FlashFound}
 use Rattle.machine_contract.specs.View.{MachineView}
 use Rattle.mesh_machine.specs.Machine.{Stands, shown}
 use Rattle.node_layers.specs.NodeLayers.{node_layers}
@@ -16,17 +17,17 @@ use Rattle.script_definitions.specs.declared.kind.Grammar.{Grammar}
 use Rattle.script_definitions.specs.declared.kind.Grammar.TheVariants as G
 use Rattle.mesh_run.specs.declared.machine.ScriptMachine.{ScriptMachine}
 
--- What contracts see of a machine, and what ties it to its flash and to the records that its life opened over; what kind of node it is; and
--- what each image of its flash is to be.
+-- What contracts see of a machine, and what ties it to its flash, as its life found it and as it is, and to the records that its life opened
+-- over; what kind of node it is; and what each image of its flash is to be.
 pub record MachineKind : Type 1 where
   pub machine : Type 0
   pub view : machine → MachineView
-  pub stands : Chip → List StoreRecord → machine → Type 0
+  pub stands : FlashFound → Chip → List StoreRecord → machine → Type 0
   pub role : Role
   pub image : List ℕ → Type 0
 
-abbrev pub kind_of : {M : Type 0} → (M → MachineView) → (Chip → List StoreRecord → M → Type 0) → Role
-    → (List ℕ → Type 0) → MachineKind
+abbrev pub kind_of : {M : Type 0} → (M → MachineView) → (FlashFound → Chip → List StoreRecord → M → Type 0)
+    → Role → (List ℕ → Type 0) → MachineKind
 kind_of {M} view stands role image =
     record { machine = M; view = view; stands = stands; role = role; image = image }
 
@@ -38,7 +39,7 @@ pub record IsSafeKind (kind : MachineKind) : Type 0 where
 -- a node with all its layers
 abbrev pub node_kind : MachineKind
 node_kind =
-    kind_of (λ (m : ScriptMachine). shown m.machine) (λ chip over (m : ScriptMachine). Stands chip over m.machine)
+    kind_of (λ (m : ScriptMachine). shown m.machine) (λ first chip over (m : ScriptMachine). Stands first chip over m.machine)
     (node_role node_layers) IsNode
 
 -- a Low Power node

@@ -39,7 +39,7 @@ impl Machine for ScriptMachine {
 
     ghost advances = { λ m. ⟦<MeshMachine as Machine>⟧.advances m.machine };
 
-    ghost stands = { λ chip over m. Stands chip over m.machine };
+    ghost stands = { λ first chip over m. Stands first chip over m.machine };
 
     ghost fits = { ⟦<MeshMachine as Machine>⟧.fits };
 

@@ -5,6 +5,7 @@ use Rattle.event_definitions.specs.Role.{node_role}
 use Rattle.flash_model.specs.Chip.{Chip}
 use Rattle.live_node.specs.Ends.{IsErrorsCause, IsSourceCause}
 use Rattle.live_node.specs.Lived.{LivedOut, StreamsAt}
+use Rattle.machine_contract.specs.Opening.{found_of}
 use Rattle.mesh_machine.specs.Machine.{Stands, shown}
 use Rattle.mesh_node.specs.Given.{Stood}
 use Rattle.node_layers.specs.NodeLayers.{node_layers}
@@ -24,7 +25,7 @@ module _ {F : Type 0} (chip : F → Chip) (opens : Chip → Type 0) (start : F) 
   -- the flash that was handed back is one that the life left
   abbrev Left : Option F → Type 0
   Left flash = IsSomeAnd flash
-      (λ f. LivedOut (Stood shown Stands chip f) (node_role node_layers) IsNode hex bearers clocked (chip start) (chip f) from to before after)
+      (λ f. LivedOut (Stood shown (Stands (found_of (chip start))) chip f) (node_role node_layers) IsNode hex bearers clocked (chip start) (chip f) from to before after)
 
   has_run : (flash : Option F) → Left flash → to.source_faults ≡ from.source_faults → to.sink_faults ≡ from.sink_faults
       → HasRun chip opens hex bearers clocked from to before after

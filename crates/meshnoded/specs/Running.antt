@@ -6,6 +6,7 @@ use Rattle.live_node.specs.Ends.{EndsAs, IsClosedBy, IsErrorsCause, IsSourceCaus
 use Rattle.live_node.specs.Lived.{LivedOut, StreamsAt}
 use Rattle.live_node.specs.declared.status.Status.{Status}
 use Rattle.live_node.specs.declared.status.Status.TheVariants as S
+use Rattle.machine_contract.specs.Opening.{found_of}
 use Rattle.mesh_machine.specs.Machine.{Stands, shown}
 use Rattle.mesh_node.specs.Given.{Stood}
 use Rattle.node_file.specs.declared.faults.OpenFault.{OpenFault}
@@ -30,7 +31,7 @@ module _ {F : Type 0} (chip : F → Chip) (opens : Chip → Type 0) (hex : Bool)
     pub start : F
     pub opened : opens (chip start)
     pub flash : F
-    pub lived : LivedOut (Stood shown Stands chip flash) (node_role node_layers) IsNode hex bearers clocked (chip start) (chip flash) from to before after
+    pub lived : LivedOut (Stood shown (Stands (found_of (chip start))) chip flash) (node_role node_layers) IsNode hex bearers clocked (chip start) (chip flash) from to before after
     -- no read failed, and nothing that is told of wrong lines
     pub no_source_fault : to.source_faults ≡ from.source_faults
     pub no_errors_fault : to.sink_faults ≡ from.sink_faults
@@ -40,7 +41,7 @@ module _ {F : Type 0} (chip : F → Chip) (opens : Chip → Type 0) (hex : Bool)
     pub start : F
     pub opened : opens (chip start)
     pub flash : Option F
-    pub ends : EndsAs (node_role node_layers) IsNode hex bearers clocked (chip start) from to before after chip (Stood shown Stands chip) status closed flash
+    pub ends : EndsAs (node_role node_layers) IsNode hex bearers clocked (chip start) from to before after chip (Stood shown (Stands (found_of (chip start))) chip) status closed flash
     -- whether the flash failed, and which stream
     pub closed_by : IsClosedBy status closed
     pub source_cause : IsSourceCause status from.source_faults to.source_faults

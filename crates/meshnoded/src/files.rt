@@ -37,7 +37,8 @@ pub trait NodeFiles {
         ensures fresh { IfOk result (λ f. IsFresh (⟦<NodeFlash as Flash>⟧.chip f)) }
         ensures node { IfOk result (λ f. IsNode (⟦<NodeFlash as Flash>⟧.chip f).now) }
         ensures began { IfOk result
-            (λ f. (⟦<NodeFlash as Flash>⟧.chip f).setting.faults ≡ (⟦<NodeFlash as Flash>⟧.chip f).faults) };
+            (λ f. (⟦<NodeFlash as Flash>⟧.chip f).setting.faults ≡ (⟦<NodeFlash as Flash>⟧.chip f).faults) }
+        ensures uncalled { IfOk result (λ f. (⟦<NodeFlash as Flash>⟧.chip f).changes ≡ 0) };
 
     /// Makes the file of a new node, as `make_node` of `node_file` does.
     fn make(&self, alloc: Global, file: &str, provision: &Provision) -> Result<(), MakeFault>

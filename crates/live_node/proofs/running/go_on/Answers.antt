@@ -3,7 +3,7 @@ use Rattle.std.specs.Prelude.{⊤}
 use Rattle.std.proofs.lemmas.List.Elements.{All-nil}
 use Rattle.mesh_types.specs.declared.report.Opened.{Opened}
 use Rattle.mesh_types.specs.declared.report.Opened.TheVariants as W
-use Rattle.machine_contract.specs.Opening.{MigratesOnly}
+use Rattle.machine_contract.specs.Opening.{MigratesOnly, found_of}
 use Rattle.mesh_node.specs.Given.{Stood}
 use Rattle.record_types.specs.declared.records.StoreRecord.{StoreRecord}
 use Rattle.report_writer.specs.Writing.{view_of}
@@ -28,10 +28,10 @@ returns-in-Ok-clause-ended g c before first =
     let lives = c.in-Ok.ensures.lived in
     let lived = c.in-Ok.lived in
     let same = c.one_list_is_recovered.ensures.one_list (chip c.args.beginning.start).now lives.over s.over lives.recovered s.read in
-    let life = c.tells.ensures.known c.args.beginning.flash s.over c.args.beginning.started.machine s.tie in
+    let life = c.tells.ensures.known (found_of (chip c.args.beginning.start)) c.args.beginning.flash s.over c.args.beginning.started.machine s.tie in
     rw c.streams_of.ensures.value
     (over g.S.ClockedSource.clocked g.S.Source.left g.S.Source.faults g.E.Sink.held g.E.Sink.pieces g.E.Sink.faults g.K.Sink.held g.K.Sink.pieces g.K.Sink.faults
-    (Stood g.M.Machine.view g.M.Machine.stands chip lived.flash) g.M.Machine.role g.M.Machine.image _ c.args.beginning.bearers (chip c.args.beginning.start) (chip lived.flash) c.args.beginning.flash lived.flash
+    (Stood g.M.Machine.view (g.M.Machine.stands (found_of (chip c.args.beginning.start))) chip lived.flash) g.M.Machine.role g.M.Machine.image _ c.args.beginning.bearers (chip c.args.beginning.start) (chip lived.flash) c.args.beginning.flash lived.flash
     lines c.live_on-lived.new.source c.args.report c.live_on-lived.new.sink c.end_status-status.new.report.sink lived.refills lived.drawn lived.closed
     (streams_at g.S.Source.left g.S.Source.faults g.E.Sink.held g.E.Sink.pieces g.E.Sink.faults (record { source = lines.lines.source; errors = lines.lines.errors; sink = c.args.report.sink }))
     before c.args.opened c.life_law.ensures.whole first
@@ -67,7 +67,7 @@ returns-in-Err-clause-ended g c before first =
     let lines = c.args.lines in
     let fell = c.in-Err.ensures.short in
     let same = c.one_list_is_recovered.ensures.one_list (chip c.args.beginning.start).now fell.over s.over fell.recovered s.read in
-    let life = c.tells.ensures.known c.args.beginning.flash s.over c.args.beginning.started.machine s.tie in
+    let life = c.tells.ensures.known (found_of (chip c.args.beginning.start)) c.args.beginning.flash s.over c.args.beginning.started.machine s.tie in
     rw c.streams_of-in-Err.ensures.value
     (short g.S.ClockedSource.clocked g.S.Source.left g.S.Source.faults g.E.Sink.held g.E.Sink.pieces g.E.Sink.faults g.K.Sink.held g.K.Sink.pieces g.K.Sink.faults
     (λ _ _. ⊤) g.M.Machine.role g.M.Machine.image _ c.args.beginning.bearers (chip c.args.beginning.start) (chip c.args.beginning.flash) c.args.beginning.flash c.args.beginning.flash

@@ -1,4 +1,5 @@
 use Rattle.std.proofs.Common.{inl, inr, refl, subst}
+use Rattle.machine_contract.specs.Opening.{found_of}
 use Rattle.machine_contract.specs.Refused.{IsStartCause}
 use Rattle.mesh_node.specs.Given.{Stood}
 use Rattle.report_writer.specs.Writing.{view_of}
@@ -26,6 +27,6 @@ returns-in-Err-WasReset-clause-ended g c =
     let streams = c.tell_reset.ensures.streams in
     rw rest.1 (rw rest.0
     (reset_over g.M.Machine.role g.M.Machine.image over.hex over.bearers g.S.ClockedSource.clocked (chip over.flash) (chip flash) (at over.streams) (at told.streams) (view over.streams.sink) (view told.streams.sink)
-    (Stood g.M.Machine.view g.M.Machine.stands chip flash) cause.0 c.start.ensures.frame cause.2 cause.1 (c.in-Err-WasReset.ensures.reset c.in-Err-WasReset.field-0-is) c.start.ensures.writes
+    (Stood g.M.Machine.view (g.M.Machine.stands (found_of (chip over.flash))) chip flash) cause.0 c.start.ensures.frame cause.2 cause.1 (c.start.ensures.reset cause.0) c.start.ensures.writes
     (same_streams g.S.Source.left g.S.Source.faults g.E.Sink.held g.E.Sink.pieces g.E.Sink.faults over.streams told.streams streams.0 streams.1)
     told.status (g.K.Sink.faults over.streams.sink) (g.K.Sink.faults told.streams.sink) c.tell_reset.ensures.told))

@@ -1,6 +1,7 @@
 use Rattle.mesh_machine.specs.contracts.machine.MeshMachine as MeshMachine
 use denote.Param.Send.{IsSend, sendable}
 use Rattle.event_definitions.specs.Role.{node_role}
+use Rattle.machine_contract.specs.Opening.{found_of}
 use Rattle.mesh_machine.specs.Machine.{Stands, shown}
 use Rattle.mesh_node.specs.Given.{Stood}
 use Rattle.node_layers.specs.NodeLayers.{node_layers}
@@ -22,7 +23,7 @@ returns g c =
     let before = view_of g.K.Sink.held g.K.Sink.pieces c.args.streams.sink in
     let after = view_of g.K.Sink.held g.K.Sink.pieces r.streams.sink in
     let ended = c.run_machine.ensures.ended in
-    let stood = Stood shown Stands chip in
+    let stood = Stood shown (Stands (found_of (chip c.args.flash))) chip in
     let causes = stream_causes (node_role node_layers) IsNode c.args.hex c.args.bearers g.S.ClockedSource.clocked (chip c.args.flash) from to before after chip stood r.status r.closed r.flash ended in
     record {
       ended = record {

@@ -1,4 +1,5 @@
 use Rattle.std.proofs.Common.{Err, ap, inl, inr, refl}
+use Rattle.machine_contract.specs.Opening.{found_of}
 use Rattle.mesh_node.specs.Given.{Stood}
 use Rattle.report_writer.specs.Writing.{view_of}
 use Rattle.live_node.specs.Lived.{streams_at}
@@ -13,10 +14,10 @@ returns-in-Err-clause-ended g c =
     let from = streams_at g.S.Source.left g.S.Source.faults g.E.Sink.held g.E.Sink.pieces g.E.Sink.faults c.args.streams in
     let before = view_of g.K.Sink.held g.K.Sink.pieces c.args.streams.sink in
     let after = view_of g.K.Sink.held g.K.Sink.pieces c.write_opening.new.sink in
-    let life = c.tells.ensures.known b.flash s.over b.started.machine s.tie in
+    let life = c.tells.ensures.known (found_of (chip b.start)) b.flash s.over b.started.machine s.tie in
     rw (c.unopened-in-Err.ensures.value, c.stop_status.ensures.value)
     (unopened_over g.M.Machine.role g.M.Machine.image c.args.hex b.bearers g.S.ClockedSource.clocked (chip b.start) (chip b.flash) from from before after
-    (Stood g.M.Machine.view g.M.Machine.stands chip b.flash) (record {
+    (Stood g.M.Machine.view (g.M.Machine.stands (found_of (chip b.start))) chip b.flash) (record {
       wrote = inr (opening_front (chip b.start) before after s.over b.started.state b.started.mark s.read s.runs s.state s.mark c.in-Err.ensures.err);
       unread = refl;
       kept = c.requires.kept;
@@ -31,7 +32,7 @@ returns-in_default-clause-ended g c =
     let chip = g.F.Flash.chip in
     let s = c.requires.started in
     let b = c.args.beginning in
-    let life = c.tells.ensures.known b.flash s.over b.started.machine s.tie in
+    let life = c.tells.ensures.known (found_of (chip b.start)) b.flash s.over b.started.machine s.tie in
     rw c.unopened.ensures.value
     (inl (
       refl,

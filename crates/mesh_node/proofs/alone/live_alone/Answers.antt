@@ -1,5 +1,6 @@
 use Rattle.std.proofs.Common.{◌∙◌, ◌≤◌, ap, arith, subst, sym}
 use Rattle.node_limits.specs.declared.TheConstants.{BEARERS}
+use Rattle.machine_contract.specs.Opening.{found_of}
 use Rattle.store_definitions.specs.Recovered.{IsRecovered}
 use Rattle.mesh_node.specs.Given.{Stood}
 use Rattle.mesh_node.specs.Lived.{LivedOn, WentOn}
@@ -28,4 +29,4 @@ returns-clause-lived g c =
     let few = subst (λ n. n ≤ BEARERS) (sym c.requires.alone) one in
     let lived = lived_left g.M.Machine.view g.M.Machine.stands g.M.Machine.role g.M.Machine.image chip S T c.args.source.now c.go_on_alone.new.source c.args.sink.now c.go_on_alone.new.sink c.args.beginning.bearers few gone.node gone.seats.drawer gone.seats.numbers.opened c.args.beginning.flash gone.last left.flash left.refills left.drawn left.closed c.end_life.ensures.left went s.over
     (subst (λ f. IsRecovered (chip f).now s.over) (sym start) s.read) s.runs (ap (λ n. n.opened) (c.in_ok-gone.ensures.numbers ∙ begun.numbers) ∙ s.opened) in
-    subst (λ f. LivedOn (Stood g.M.Machine.view g.M.Machine.stands chip left.flash) g.M.Machine.role g.M.Machine.image S T c.args.source.now c.go_on_alone.new.source c.args.sink.now c.go_on_alone.new.sink c.args.beginning.bearers (chip f) (chip left.flash) c.args.beginning.flash left.flash left.refills left.drawn left.closed left.last) start (subst (λ l. LivedOn (Stood g.M.Machine.view g.M.Machine.stands chip left.flash) g.M.Machine.role g.M.Machine.image S T c.args.source.now c.go_on_alone.new.source c.args.sink.now c.go_on_alone.new.sink c.args.beginning.bearers (chip gone.node.start) (chip left.flash) c.args.beginning.flash left.flash left.refills left.drawn left.closed l) (sym c.end_life.ensures.last) lived)
+    subst (λ f. LivedOn (Stood g.M.Machine.view (g.M.Machine.stands (found_of (chip f))) chip left.flash) g.M.Machine.role g.M.Machine.image S T c.args.source.now c.go_on_alone.new.source c.args.sink.now c.go_on_alone.new.sink c.args.beginning.bearers (chip f) (chip left.flash) c.args.beginning.flash left.flash left.refills left.drawn left.closed left.last) start (subst (λ l. LivedOn (Stood g.M.Machine.view (g.M.Machine.stands (found_of (chip gone.node.start))) chip left.flash) g.M.Machine.role g.M.Machine.image S T c.args.source.now c.go_on_alone.new.source c.args.sink.now c.go_on_alone.new.sink c.args.beginning.bearers (chip gone.node.start) (chip left.flash) c.args.beginning.flash left.flash left.refills left.drawn left.closed l) (sym c.end_life.ensures.last) lived)

@@ -1,5 +1,6 @@
 use Rattle.std.proofs.Common.{◌≡◌, ◌≤◌, ◌∙◌, ◌+◌, ap, refl, subst, sym}
 use Rattle.std.specs.Prelude.{All}
+use Rattle.machine_contract.specs.Opening.{found_of}
 use Rattle.seq_word.specs.Rule.{once_below, passed_over, times}
 use Rattle.seq_word.specs.Word.{seq_of}
 use Rattle.mesh_node.proofs.edges.end_life.Goals as goal
@@ -39,5 +40,5 @@ returns-clause-left g c =
       moved = λ over read runs. moved_by g.M.Machine.view g.M.Machine.advances g.M.Machine.role stands.0 over c.into_parts-machine.result.0 gone.node.machine d.result.advances
           gone.node.machine.entries gone.node.machine.fills (c.one_list_is_recovered.ensures.one_list start stands.0 over stands.1 read) machine
           (close.advances ∙ c.finish-left.ensures.advances) refl refl
-          (c.tells.ensures.moved c.into_parts-machine.result.1 stands.0 c.into_parts-machine.result.0 stands.2) runs;
+          (c.tells.ensures.moved (found_of (g.F.Flash.chip gone.node.start)) c.into_parts-machine.result.1 stands.0 c.into_parts-machine.result.0 stands.2) runs;
     }

@@ -24,6 +24,7 @@ use Rattle.mesh_node.proofs.Giving.{given_whole}
 use Rattle.mesh_node.proofs.living.run_life.Goals as goal
 use Rattle.mesh_node.proofs.Moving.{moved_by}
 use Rattle.machine_contract.specs.Moved.{HasMoved}
+use Rattle.machine_contract.specs.Opening.{found_of}
 
 pub new-requires-clause-later : goal.new-requires-clause-later
 new-requires-clause-later g c κs lives =
@@ -41,7 +42,7 @@ pub do_steps-requires-clause-steps : goal.do_steps-requires-clause-steps
 do_steps-requires-clause-steps g c κs lives =
     let s = c.requires.started in
     let bearers = c.args.plan.now.bearers in
-    let life = c.tells.ensures.known c.args.flash s.over c.args.started.machine s.tie in
+    let life = c.tells.ensures.known (found_of (g.F.Flash.chip c.args.start)) c.args.flash s.over c.args.started.machine s.tie in
     let elements = ap (λ n. n.machine.elements) c.in_ok-opened.ensures.value ∙ life.elements in
     let whole = c.args.plan.now.steps.items in
     subst (λ n. All (IsStep bearers n) c.args.steps.now) (sym elements)
@@ -76,9 +77,9 @@ returns g c =
     let given : node.stops ≡ 0 → HasGiven plan (chip node.flash).setting.arm =
     λ live. given_whole items before (chip node.flash).setting.arm c.requires.first held (subst (λ xs. HasGiven (steps_of xs) (chip node.flash).setting.arm) c.requires.behind (did.given live)) in
     let calls = subst (λ k. IfSome (cut_calls c.end_of-end.result) (λ n. n ≡ k)) (c.changes.ensures ∙ ap (λ f. (chip f).changes) c.into_parts-machine.ensures.flash) c.end_of-end.ensures.calls in
-    let placed : (over : List StoreRecord) → IsRecovered (chip start).now over → IfSome (chip node.flash).setting.arm (WasGiven g.M.Machine.view g.M.Machine.stands chip over plan) = λ over read. given_right g.M.Machine.view g.M.Machine.stands chip over items before (chip node.flash).setting.arm c.requires.armed
-    (subst (λ xs. IsSameOrPlaced g.M.Machine.view g.M.Machine.stands chip over (steps_of xs) before (chip node.flash).setting.arm) c.requires.behind
-    (subst (λ n. IsSameOrPlaced g.M.Machine.view g.M.Machine.stands chip over (steps_of c.args.steps.now) (chip n.flash).setting.arm (chip node.flash).setting.arm) c.in_ok-opened.ensures.value
+    let placed : (over : List StoreRecord) → IsRecovered (chip start).now over → IfSome (chip node.flash).setting.arm (WasGiven g.M.Machine.view (g.M.Machine.stands (found_of (chip start))) chip over plan) = λ over read. given_right g.M.Machine.view (g.M.Machine.stands (found_of (chip start))) chip over items before (chip node.flash).setting.arm c.requires.armed
+    (subst (λ xs. IsSameOrPlaced g.M.Machine.view (g.M.Machine.stands (found_of (chip start))) chip over (steps_of xs) before (chip node.flash).setting.arm) c.requires.behind
+    (subst (λ n. IsSameOrPlaced g.M.Machine.view (g.M.Machine.stands (found_of (chip n.start))) chip over (steps_of c.args.steps.now) (chip n.flash).setting.arm (chip node.flash).setting.arm) c.in_ok-opened.ensures.value
     (did.placed over (subst (λ n. IsRecovered (chip n.start).now over) (sym c.in_ok-opened.ensures.value) read)))) in
     let close = c.close-drawn.ensures in
     let words = c.do_steps.new.seats in
@@ -103,7 +104,7 @@ returns g c =
     λ over read runs. moved_by g.M.Machine.view g.M.Machine.advances g.M.Machine.role stands.0 over c.into_parts-machine.result.0 node.machine c.close-drawn.result.advances
     log.history.entries.items log.history.refills (c.one_list_is_recovered.ensures.one_list (chip start).now stands.0 over found read) machine
     (close.advances ∙ c.finish-left.ensures.advances) entries refills
-    (c.tells.ensures.moved c.into_parts-machine.result.1 stands.0 c.into_parts-machine.result.0 stands.2) runs in
+    (c.tells.ensures.moved (found_of (chip node.start)) c.into_parts-machine.result.1 stands.0 c.into_parts-machine.result.0 stands.2) runs in
     let whole = ran g.M.Machine.view g.M.Machine.stands g.M.Machine.role g.M.Machine.image chip plan start node c.do_steps.new.seats.drawer log c.one_list_is_recovered.ensures.one_list
     s.over s.read s.runs opened c.known.ensures.known is_start over entries refills
     (c.end_of-end.ensures.cut ∙ c.is_closed.ensures.value ∙ ap (λ m. m.closed) machine)

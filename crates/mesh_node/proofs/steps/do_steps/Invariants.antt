@@ -1,5 +1,6 @@
 -- The steps so far.
 use Rattle.std.proofs.Common.{◌≡◌, ◌≢◌, List, None, length, map, take, drop}
+use Rattle.machine_contract.specs.Opening.{found_of}
 use Rattle.record_types.specs.declared.records.StoreRecord.{StoreRecord}
 use Rattle.run_definitions.specs.Order.{phases_of}
 use Rattle.store_definitions.specs.Recovered.{IsRecovered}
@@ -22,6 +23,6 @@ invariant-loop-step g l = record {
   order : IsSameOrOf (steps_of l.steps) (g.F.Flash.chip l.fn.node.flash).setting.arm (g.F.Flash.chip l.node.flash).setting.arm;
   held : (g.F.Flash.chip l.fn.node.flash).setting.arm ≢ None → (g.F.Flash.chip l.node.flash).setting.arm ≢ None;
   given : HasGiven (steps_of (take l.step-index l.steps)) (g.F.Flash.chip l.node.flash).setting.arm;
-  placed : (over : List StoreRecord) → IsRecovered (g.F.Flash.chip l.fn.node.start).now over → IsSameOrPlaced g.M.Machine.view g.M.Machine.stands g.F.Flash.chip over (steps_of l.steps) (g.F.Flash.chip l.fn.node.flash).setting.arm (g.F.Flash.chip l.node.flash).setting.arm;
+  placed : (over : List StoreRecord) → IsRecovered (g.F.Flash.chip l.fn.node.start).now over → IsSameOrPlaced g.M.Machine.view (g.M.Machine.stands (found_of (g.F.Flash.chip l.fn.node.start))) g.F.Flash.chip over (steps_of l.steps) (g.F.Flash.chip l.fn.node.flash).setting.arm (g.F.Flash.chip l.node.flash).setting.arm;
   may : MayFollow (drop l.step-index l.steps) (g.F.Flash.chip l.node.flash).setting.arm;
 }
