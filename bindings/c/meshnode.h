@@ -218,8 +218,8 @@ struct meshnode {
 };
 
 /* Opens a node over an image of 65,536 octets: what it holds is checked. The first line of its life, `life 1` and so on with its LF, is put into the
- * front of `text`, which has at least 35 octets, and `size` tells how many it has. The image is only read. Writes may be left by the opening: they
- * are made durable before the line leaves. */
+ * front of `text`, which has at least 35 octets, and `size` tells how many it has. The image is only read. Writes are left by the opening of an
+ * image of format 01 alone: they are made durable before the line leaves. */
 uint32_t meshnode_node_open(struct meshnode *node, const uint8_t *image, meshnode_size image_length, uint8_t *text, meshnode_size text_length, meshnode_size *size);
 
 /* Gives the node a line of what happens, without its LF, as `meshnoded` with one bearer reads it: `net`, `bcn`, `send`, `raw`, `tick`, `peer`, `talk`

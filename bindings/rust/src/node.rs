@@ -90,8 +90,8 @@ pub struct Node {
 unsafe impl Send for Node {}
 
 impl Node {
-    /// Opens a node over an image, which is to be what is durable. Writes may be left by it: `store` comes before the first line. Its first report
-    /// begins with the first line of its life.
+    /// Opens a node over an image, which is to be what is durable. Writes are left by it only over an image of format 01, which it migrates: `store`
+    /// comes before the first line. Its first report begins with the first line of its life.
     ///
     /// ```
     /// use meshnode::{Fault, Node, IMAGE};
