@@ -2,6 +2,7 @@
 #![tactic(auto)]
 
 ghost use Rattle.std.specs.Prelude.{◌≡◌, ◌+◌, List, [], ◌∷◌, ◌++◌, false, OnOk};
+ghost use Rattle.flash_model.specs.Chip.{count_of};
 ghost use Rattle.event_records.specs.Putting.{IsMove};
 ghost use Rattle.event_storing.specs.Storing.{advance_to, moved_to, state_said};
 ghost use Rattle.node_records.specs.Full.{IsFull};
@@ -57,16 +58,16 @@ fn put_other<F: Flash>(
     ensures puts { OnOk result
         (Puts (item.now ∷ []) (F.chip flash.old) (F.chip flash.new) reserve.old.store reserve.new.store) }
     ensures used { OnOk result (reserve.new.store.journal.used ≡ used_with_room reserve.old.store + 1) }
-    ensures keeper { reserve.new.keeper ≡ reserve.old.keeper }
     ensures cut { CutLeaves (λ records. IsPut records item.now) (F.chip flash.old) (F.chip flash.new) reserve.old.store }
     ensures durable { (records : List StoreRecord) → IsStoreOf (F.chip flash.old) reserve.old.store records
         → IsDurable (F.chip flash.new) reserve.new.keeper.mark }
     ensures costs { CostsCalls (calls_of reserve.old.store) result (F.chip flash.old) (F.chip flash.new) }
+    ensures keeper { reserve.new.keeper ≡ reserve.old.keeper }
     ensures wear { OnOk result
-        (CostsAndUses reserve.old.store.journal.used 1 (F.chip flash.old).changes (F.chip flash.new).changes
+        (CostsAndUses reserve.old.store.journal.used 1 (count_of (F.chip flash.old)) (count_of (F.chip flash.new))
         reserve.new.store.journal.used) }
-    ensures most_wear { CostsAtMost reserve.old.store.journal.used 1 (F.chip flash.old).changes
-        (F.chip flash.new).changes }
+    ensures most_wear { CostsAtMost reserve.old.store.journal.used 1 (count_of (F.chip flash.old))
+        (count_of (F.chip flash.new)) }
     ensures leaves { LeavesFlash result (F.chip flash.old) (F.chip flash.new) }
     // for the next call
     ensures published { IsPublished reserve.new.store reserve.new.keeper }
@@ -102,10 +103,10 @@ pub(crate) fn store_one<F: Flash>(
         → IsDurable (F.chip flash.new) reserve.new.keeper.mark }
     ensures costs { CostsCalls (calls_of reserve.old.store) result (F.chip flash.old) (F.chip flash.new) }
     ensures wear { OnOk result
-        (CostsAndUses reserve.old.store.journal.used 1 (F.chip flash.old).changes (F.chip flash.new).changes
+        (CostsAndUses reserve.old.store.journal.used 1 (count_of (F.chip flash.old)) (count_of (F.chip flash.new))
         reserve.new.store.journal.used) }
-    ensures most_wear { CostsAtMost reserve.old.store.journal.used 1 (F.chip flash.old).changes
-        (F.chip flash.new).changes }
+    ensures most_wear { CostsAtMost reserve.old.store.journal.used 1 (count_of (F.chip flash.old))
+        (count_of (F.chip flash.new)) }
     ensures leaves { LeavesFlash result (F.chip flash.old) (F.chip flash.new) }
     // for the next call
     ensures published { IsPublished reserve.new.store reserve.new.keeper }

@@ -2,9 +2,11 @@
 #![tactic(auto)]
 
 ghost use Rattle.std.specs.Prelude.{◌≡◌, ◌≢◌, ℕ, ◌+◌, ◌*◌, ◌≤◌, List, [], ◌++◌, length, true, false, Ok, Err, OnOk};
+ghost use Rattle.flash_model.specs.Chip.{count_of};
 ghost use Rattle.event_records.specs.Putting.{AreMoves, ArePuttable};
 ghost use Rattle.event_storing.specs.Storing.{advances_of, moved_to};
 ghost use Rattle.node_records.specs.Tables.{config_in};
+ghost use Rattle.node_store.specs.Calls.{only_slots};
 ghost use Rattle.node_store.specs.Tie.{IsFront, IsStoreOf};
 ghost use Rattle.node_store.specs.Writing.{CostsCalls, CutLeaves, FailsAtFlash, LeavesFlash, OnlyAnswers, Puts};
 ghost use Rattle.record_types.specs.declared.records.StoreRecord.{StoreRecord};
@@ -41,14 +43,14 @@ fn store_each<F: Flash>(
         reserve.old.store }
     ensures durable { (records : List StoreRecord) → IsStoreOf (F.chip flash.old) reserve.old.store records
         → IsDurable (F.chip flash.new) reserve.new.keeper.mark }
-    // two program calls for each record where there is room for all, and else those of compactions besides
+    // two program calls of 32 octets together for each record where there is room for all, and else those of compactions besides
     ensures costs { reserve.old.store.journal.used + length items.now ≤ 1023
-        → CostsCalls (2 * length items.now) result (F.chip flash.old) (F.chip flash.new) }
+        → CostsCalls (only_slots (length items.now)) result (F.chip flash.old) (F.chip flash.new) }
     ensures wear { OnOk result
-        (CostsAndUses reserve.old.store.journal.used (length items.now) (F.chip flash.old).changes (F.chip flash.new).changes
+        (CostsAndUses reserve.old.store.journal.used (length items.now) (count_of (F.chip flash.old)) (count_of (F.chip flash.new))
         reserve.new.store.journal.used) }
-    ensures most_wear { CostsAtMost reserve.old.store.journal.used (length items.now) (F.chip flash.old).changes
-        (F.chip flash.new).changes }
+    ensures most_wear { CostsAtMost reserve.old.store.journal.used (length items.now) (count_of (F.chip flash.old))
+        (count_of (F.chip flash.new)) }
     ensures leaves { LeavesFlash result (F.chip flash.old) (F.chip flash.new) }
     // for the next call
     ensures published { IsPublished reserve.new.store reserve.new.keeper }
@@ -97,15 +99,15 @@ pub fn store_records<F: Flash>(
         → (image : List ℕ) → (F.chip flash.new).images image → IsFront before records.now image }
     ensures durable { (before : List StoreRecord) → IsStoreOf (F.chip flash.old) reserve.old.store before
         → IsDurable (F.chip flash.new) reserve.new.keeper.mark }
-    // two program calls for each record where there is room for all, and else those of compactions besides
+    // two program calls of 32 octets together for each record where there is room for all, and else those of compactions besides
     ensures costs { reserve.old.store.journal.used + length records.now ≤ 1023
-        → CostsCalls (2 * length records.now) result (F.chip flash.old) (F.chip flash.new) }
+        → CostsCalls (only_slots (length records.now)) result (F.chip flash.old) (F.chip flash.new) }
     ensures wear { reserve.old.store.journal.closed ≡ false
         → OnOk result
-        (CostsAndUses reserve.old.store.journal.used (length records.now) (F.chip flash.old).changes (F.chip flash.new).changes
+        (CostsAndUses reserve.old.store.journal.used (length records.now) (count_of (F.chip flash.old)) (count_of (F.chip flash.new))
         reserve.new.store.journal.used) }
-    ensures most_wear { CostsAtMost reserve.old.store.journal.used (length records.now) (F.chip flash.old).changes
-        (F.chip flash.new).changes }
+    ensures most_wear { CostsAtMost reserve.old.store.journal.used (length records.now) (count_of (F.chip flash.old))
+        (count_of (F.chip flash.new)) }
     ensures leaves { LeavesFlash result (F.chip flash.old) (F.chip flash.new) }
     // for the next call
     ensures published { IsPublished reserve.new.store reserve.new.keeper }

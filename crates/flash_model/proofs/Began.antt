@@ -1,12 +1,12 @@
 -- A program or erase call of a flash in memory is begun: what its fields say of faults and of the arm stays true.
 use Rattle.std.proofs.Common.{◌≡◌, ◌⊎◌, ℕ, ◌+◌, ◌-◌, ◌<◌, ◌≤◌, List, Bool, true, false, cond, Option, Some, None, refl, sym, ap, subst, inl, inr, ⊎_elim, arith, true≢false}
 use Rattle.std.specs.Prelude.{nat_lt, nat_le, ◌==◌, ◌||◌, min}
-use Rattle.std.proofs.lemmas.Bool.{eqb-true, eq-eqb, lt-ltb, ltb-true, leb-true, le-leb}
+use Rattle.std.proofs.lemmas.Bool.{eqb-true, eqb-false, eq-eqb, lt-ltb, ltb-true, leb-true, le-leb}
 use Rattle.flash_model.specs.declared.armed.Armed.{Armed}
 use Rattle.flash_model.specs.declared.armed.Course.{Course}
 use Rattle.flash_model.specs.declared.armed.Course.TheVariants.{Whole, Torn}
 use Rattle.flash_model.specs.declared.past.Past.{Past}
-use Rattle.flash_model.specs.Course.{course_of, nearer_arm, is_failing, call_of, is_reached_by, is_ahead}
+use Rattle.flash_model.specs.Course.{course_of, nearer_arm, is_failing, call_of, is_reached_by, is_ahead, is_nearer}
 use Rattle.flash_model.specs.Past.{noted}
 
 -- the tests of the arm as facts: `goal` calls counted is what it waits for
@@ -96,9 +96,23 @@ module _ (past : Past) (octets : List ℕ) (changes : ℕ) where
   began_ahead false None ahead fails = refl
   began_ahead false (Some a) ahead fails = ahead_more a changes (ahead refl)
 
+-- a call that isn't the torn one
+pub began_within : (changes : ℕ) (failed : Bool) (arm : Option Armed) → (failed ≡ false → is_nearer arm changes ≡ true)
+    → is_failing (course_of failed arm) ≡ false → is_nearer (nearer_arm arm) (min (changes + 1) 4294967295) ≡ true
+began_within changes true arm within fails = absurd (true≢false fails)
+began_within changes false None within fails = refl
+began_within changes false (Some a) within fails = by_left (a.left == 0) refl fails
+  where
+    by_left : (b : Bool) → (a.left == 0) ≡ b → is_failing (cond b (Torn a.mask) Whole) ≡ false → nat_le (min (changes + 1) 4294967295 + (a.left - 1)) (a.changes + a.calls) ≡ true
+    by_left true e h = absurd (true≢false h)
+    by_left false e h = let some = eqb-false a.left 0 e in let so = leb-true _ _ (within refl) in le-leb _ _ (omega (arith, some, so))
+
 -- the same at what the fields then are
 pub next_reached : (arm next : Option Armed) (changes later : ℕ) → next ≡ arm → later ≡ changes → is_reached_by arm changes ≡ true → is_reached_by next later ≡ true
 next_reached arm next changes later same at h = subst (λ (x : Option Armed). is_reached_by x later ≡ true) (sym same) (subst (λ (n : ℕ). is_reached_by arm n ≡ true) (sym at) h)
 
 pub next_ahead : (arm next : Option Armed) (changes later : ℕ) → next ≡ arm → later ≡ changes → is_ahead arm changes ≡ true → is_ahead next later ≡ true
 next_ahead arm next changes later same at h = subst (λ (x : Option Armed). is_ahead x later ≡ true) (sym same) (subst (λ (n : ℕ). is_ahead arm n ≡ true) (sym at) h)
+
+pub next_within : (arm next : Option Armed) (changes later : ℕ) → next ≡ arm → later ≡ changes → is_nearer arm changes ≡ true → is_nearer next later ≡ true
+next_within arm next changes later same at h = subst (λ (x : Option Armed). is_nearer x later ≡ true) (sym same) (subst (λ (n : ℕ). is_nearer arm n ≡ true) (sym at) h)

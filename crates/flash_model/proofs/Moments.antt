@@ -34,8 +34,8 @@ contents_more past more x is now before c had =
     ⊎_elim (λ h. before c h) (λ (e : c ≡ x). subst IsContent (sym e) now) (had_push past x c (subst (λ l. HadBeen l c) is had))
 
 -- a call that found `old` and leaves `new`
-module _ (past past' : Past) (old new : List ℕ) (changes changes' reads reads' : ℕ) (arm arm' : Option Armed) (is : past'.contents ≡ past.contents ++ old ∷ []) where
-  pub time_note : (allowed : List ℕ → Type 0) → allowed new → Elapses (mem_chip past old changes reads arm) (mem_chip past' new changes' reads' arm') allowed
+module _ (past past' : Past) (old new : List ℕ) (changes changes' erases erases' programmed programmed' reads reads' : ℕ) (arm arm' : Option Armed) (is : past'.contents ≡ past.contents ++ old ∷ []) where
+  pub time_note : (allowed : List ℕ → Type 0) → allowed new → Elapses (mem_chip past old changes erases programmed reads arm) (mem_chip past' new changes' erases' programmed' reads' arm') allowed
   time_note allowed ok = record {
     later = omega (arith, ap (λ (l : List (List ℕ)). length l) is, length-append past.contents (old ∷ []));
     nothing_else = λ t c le since. ⊎_elim
@@ -49,19 +49,19 @@ module _ (past past' : Past) (old new : List ℕ) (changes changes' reads reads'
       pushed : (t : ℕ) → t ≤ length past.contents → drop t past'.contents ≡ drop t past.contents ++ old ∷ []
       pushed t le = ap (drop t) is ∙ drop-append-le t past.contents (old ∷ []) le
 
-  pub past_note : Remembers (mem_chip past old changes reads arm) (mem_chip past' new changes' reads' arm')
+  pub past_note : Remembers (mem_chip past old changes erases programmed reads arm) (mem_chip past' new changes' erases' programmed' reads' arm')
   past_note = let time = time_note (λ c. c ≡ new) refl in record { later = time.later; keeps = time.keeps }
 
-  pub cut_note : (change : List ℕ → List ℕ) → IsTorn old (change old) new → IsCut change (mem_chip past old changes reads arm) (mem_chip past' new changes' reads' arm')
+  pub cut_note : (change : List ℕ → List ℕ) → IsTorn old (change old) new → IsCut change (mem_chip past old changes erases programmed reads arm) (mem_chip past' new changes' erases' programmed' reads' arm')
   cut_note change torn = record {
     images = λ c e. (old, refl, subst (λ x. IsTorn old (change old) x) (sym e) torn);
     time = time_note (Cut change (λ c. c ≡ old)) (old, refl, torn);
   }
 
-  pub done_note : (change : List ℕ → List ℕ) → new ≡ change old → IsDone change (mem_chip past old changes reads arm) (mem_chip past' new changes' reads' arm')
+  pub done_note : (change : List ℕ → List ℕ) → new ≡ change old → IsDone change (mem_chip past old changes erases programmed reads arm) (mem_chip past' new changes' erases' programmed' reads' arm')
   done_note change e = record { reads = e; durable = λ c at. (old, refl, at ∙ e) }
 
-  pub stays_note : new ≡ old → Stays (mem_chip past old changes reads arm) (mem_chip past' new changes' reads' arm')
+  pub stays_note : new ≡ old → Stays (mem_chip past old changes erases programmed reads arm) (mem_chip past' new changes' erases' programmed' reads' arm')
   stays_note e = record { now = e; images = λ c at. at ∙ e; time = time_note (λ c. c ≡ old) e }
 
 pub not_cut : (cycled faults : ℕ) → faults ≡ cycled → nat_lt cycled faults ≡ false

@@ -1,7 +1,7 @@
 -- Several calls that leave the content, and the identity of a flash, over all of them.
 use Rattle.std.proofs.Common.{◌≡◌, ℕ, ◌+◌, ◌≤◌, refl, ◌∙◌, inl, inr, ⊎_elim, arith}
 use Rattle.flash_model.specs.Chip.{Chip, Keeps, Remembers, Stays}
-use Rattle.flash_model.specs.Arming.{Begins, BeginsAtMost}
+use Rattle.flash_model.specs.Arming.{Begins, BeginsAtMost, Erases, ErasesAtMost, Programs, ProgramsAtMost, ReadsAtMost}
 
 pub past_none : (chip : Chip) → Remembers chip chip
 past_none chip = record { later = omega arith; keeps = λ t c le since. since }
@@ -55,3 +55,27 @@ begins_more m n k a b c is first second = omega (arith, is, first, second)
 
 pub at_most_more : (m n k : ℕ) (a b c : Chip) → m + n ≤ k → BeginsAtMost m a b → BeginsAtMost n b c → BeginsAtMost k a c
 at_most_more m n k a b c is first second = omega (arith, is, first, second)
+
+-- the erase calls among them
+pub erases_none : (chip : Chip) → chip.erases ≤ chip.changes → chip.changes ≤ 4294967295 → Erases 0 chip chip
+erases_none chip among few = omega (arith, among, few)
+
+pub erases_more : (m n k : ℕ) (a b c : Chip) → k ≡ m + n → Erases m a b → Erases n b c → Erases k a c
+erases_more m n k a b c is first second = omega (arith, is, first, second)
+
+pub erases_at_most_more : (m n k : ℕ) (a b c : Chip) → m + n ≤ k → ErasesAtMost m a b → ErasesAtMost n b c → ErasesAtMost k a c
+erases_at_most_more m n k a b c is first second = omega (arith, is, first, second)
+
+-- the octets of the program calls
+pub programs_none : (chip : Chip) → chip.octets ≤ 4294967295 → Programs 0 chip chip
+programs_none chip few = omega (arith, few)
+
+pub programs_more : (m n k : ℕ) (a b c : Chip) → k ≡ m + n → Programs m a b → Programs n b c → Programs k a c
+programs_more m n k a b c is first second = omega (arith, is, first, second)
+
+pub programs_at_most_more : (m n k : ℕ) (a b c : Chip) → m + n ≤ k → ProgramsAtMost m a b → ProgramsAtMost n b c → ProgramsAtMost k a c
+programs_at_most_more m n k a b c is first second = omega (arith, is, first, second)
+
+-- read calls
+pub reads_at_most_more : (m n k : ℕ) (a b c : Chip) → m + n ≤ k → ReadsAtMost m a b → ReadsAtMost n b c → ReadsAtMost k a c
+reads_at_most_more m n k a b c is first second = omega (arith, is, first, second)

@@ -1,5 +1,5 @@
 -- How a steady flash fails: at the call that an arm tears, and at each call from then on until the power cycle.
-use Rattle.std.specs.Prelude.{◌≡◌, ◌⊎◌, ℕ, ◌+◌, ◌-◌, ◌<◌, ◌≤◌, min, List, Bool, true, false, ◌==◌, nat_lt, Option, Some, None, Result, IsOk, IsErr, IsTrue}
+use Rattle.std.specs.Prelude.{◌≡◌, ◌⊎◌, ℕ, ◌+◌, ◌-◌, ◌<◌, ◌≤◌, min, List, Bool, true, false, ◌==◌, nat_lt, Option, Some, None, Result, IsOk, IsErr, IsTrue, ⊤}
 use Rattle.flash_model.specs.Octets.{IsMixed}
 use Rattle.flash_model.specs.Chip.{Chip, Arm}
 
@@ -10,6 +10,26 @@ Begins n old new = new.changes ≡ min (old.changes + n) 4294967295
 -- at most so many were
 abbrev pub BeginsAtMost : ℕ → Chip → Chip → Type 0
 BeginsAtMost n old new = new.changes ≤ old.changes + n
+
+-- so many of them were erase calls
+abbrev pub Erases : ℕ → Chip → Chip → Type 0
+Erases n old new = new.erases ≡ min (old.erases + n) 4294967295
+
+-- at most so many were
+abbrev pub ErasesAtMost : ℕ → Chip → Chip → Type 0
+ErasesAtMost n old new = new.erases ≤ old.erases + n
+
+-- program calls were given so many octets between them
+abbrev pub Programs : ℕ → Chip → Chip → Type 0
+Programs n old new = new.octets ≡ min (old.octets + n) 4294967295
+
+-- at most so many
+abbrev pub ProgramsAtMost : ℕ → Chip → Chip → Type 0
+ProgramsAtMost n old new = new.octets ≤ old.octets + n
+
+-- at most so many read calls were begun between them
+abbrev pub ReadsAtMost : ℕ → Chip → Chip → Type 0
+ReadsAtMost n old new = new.reads ≤ old.reads + n
 
 -- it has failed since the last power cycle
 abbrev pub is_cut : Chip → Bool
@@ -48,6 +68,15 @@ module _ {T E : Type 0} where
 abbrev pub IsReached : Option Arm → ℕ → Type 0
 IsReached None changes = ⊥
 IsReached (Some arm) changes = (arm.changes + arm.calls < changes) ⊎ (changes ≡ 4294967295)
+
+-- no more calls were begun since an arm than come before the torn one
+abbrev pub IsWithin : Option Arm → ℕ → Type 0
+IsWithin None changes = ⊤
+IsWithin (Some arm) changes = changes ≤ arm.changes + arm.calls
+
+-- a steady flash that hasn't failed since the last power cycle hasn't begun the torn call
+abbrev pub IsCarriedOut : Chip → Type 0
+IsCarriedOut chip = IsTrue chip.steady → chip.faults ≤ chip.setting.faults → IsWithin chip.setting.arm chip.changes
 
 -- a steady flash has failed since the last power cycle only by an arm
 abbrev pub IsExplained : Chip → Type 0

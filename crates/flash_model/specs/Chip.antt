@@ -19,6 +19,8 @@ pub record Setting : Type 0 where
   pub saved : List ℕ
   -- the moment
   pub moment : ℕ
+  -- how many program and erase calls were counted then: 0 behind a power cycle
+  pub called : ℕ
   -- how often power was cycled till now
   pub cycles : ℕ
 
@@ -42,10 +44,24 @@ pub record Chip : Type 1 where
   pub setting : Setting
   -- program and erase calls begun since the last power cycle, at most ffffffff
   pub changes : ℕ
+  -- how many of them were erase calls, at most ffffffff
+  pub erases : ℕ
+  -- how many octets the program calls among them were given, at most ffffffff
+  pub octets : ℕ
   -- how many of them still come before the torn one
   pub left : ℕ
   -- read calls begun since the last power cycle, at most ffffffff
   pub reads : ℕ
+
+-- how many program and erase calls were begun since the last power cycle, how many of them were erase calls, and how many octets the others were
+-- given, each at most ffffffff
+pub record CallCount : Type 0 where
+  pub calls : ℕ
+  pub erases : ℕ
+  pub octets : ℕ
+
+abbrev pub count_of : Chip → CallCount
+count_of chip = record { calls = chip.changes; erases = chip.erases; octets = chip.octets }
 
 -- what a cut may leave within a call that is to change the content so
 abbrev pub Cut : (List ℕ → List ℕ) → (List ℕ → Type 0) → List ℕ → Type 0

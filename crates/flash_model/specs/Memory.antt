@@ -1,13 +1,13 @@
 -- A flash in memory as a chip, and why it keeps the laws of one.
 use Rattle.std.specs.Prelude.{◌≡◌, ◌⊎◌, ℕ, zero, suc, ◌<◌, List, [], ◌∷◌, length, drop, Bool, true, false, ◌||◌, ◌==◌, nat_lt, Option, Some, None, is_none, option_map, refl}
 use Rattle.std.proofs.Common.{inl, inr, sym, subst, arith, true≢false}
-use Rattle.std.proofs.lemmas.Bool.{eqb-true, ltb-true}
+use Rattle.std.proofs.lemmas.Bool.{eqb-true, leb-true, ltb-true}
 use Rattle.flash_model.specs.declared.armed.Armed.{Armed}
 use Rattle.flash_model.specs.declared.past.Past.{Past}
 use Rattle.flash_model.specs.Octets.{IsContent}
 use Rattle.flash_model.specs.Chip.{Arm, Chip}
-use Rattle.flash_model.specs.Arming.{IsReached, IsExplained}
-use Rattle.flash_model.specs.Course.{is_reached_by}
+use Rattle.flash_model.specs.Arming.{IsCarriedOut, IsReached, IsExplained}
+use Rattle.flash_model.specs.Course.{is_nearer, is_reached_by}
 use Rattle.flash_model.specs.Past.{HadBeen}
 
 abbrev pub arm_of : Armed → Arm
@@ -18,8 +18,8 @@ left_of None = 0
 left_of (Some arm) = arm.left
 
 -- its one image is what it holds
-abbrev pub mem_chip : Past → List ℕ → ℕ → ℕ → Option Armed → Chip
-mem_chip past octets changes reads arm = record {
+abbrev pub mem_chip : Past → List ℕ → ℕ → ℕ → ℕ → ℕ → Option Armed → Chip
+mem_chip past octets changes erases programmed reads arm = record {
   now = octets;
   images = λ c. c ≡ octets;
   moment = length past.contents;
@@ -28,8 +28,10 @@ mem_chip past octets changes reads arm = record {
   sure = is_none arm;
   faults = past.faults;
   steady = true;
-  setting = record { faults = past.cycled; arm = option_map arm_of arm; saved = past.saved; moment = past.moment; cycles = past.cycles };
+  setting = record { faults = past.cycled; arm = option_map arm_of arm; saved = past.saved; moment = past.moment; called = 0; cycles = past.cycles };
   changes = changes;
+  erases = erases;
+  octets = programmed;
   left = left_of arm;
   reads = reads;
 }
@@ -68,9 +70,18 @@ reached (Some arm) changes is = either _ _ is
         by_test false e h = inr (eqb-true b 4294967295 h)
 
 -- it has failed since the last power cycle only by an arm
-pub explained_by : (past : Past) (changes reads : ℕ) (arm : Option Armed) (octets : List ℕ) (failed : Bool)
+pub explained_by : (past : Past) (changes erases programmed reads : ℕ) (arm : Option Armed) (octets : List ℕ) (failed : Bool)
     → (failed ≡ false → past.faults ≡ past.cycled)
     → (failed ≡ true → (past.cycled < past.faults) × (is_reached_by arm changes ≡ true))
-    → IsExplained (mem_chip past octets changes reads arm)
-explained_by past changes reads arm octets false whole cut steady more = absurd (omega (arith, whole refl))
-explained_by past changes reads arm octets true whole cut steady more = reached arm changes (cut refl).1
+    → IsExplained (mem_chip past octets changes erases programmed reads arm)
+explained_by past changes erases programmed reads arm octets false whole cut steady more = absurd (omega (arith, whole refl))
+explained_by past changes erases programmed reads arm octets true whole cut steady more = reached arm changes (cut refl).1
+
+-- where it hasn't failed since the last power cycle, the torn call wasn't begun
+pub carried_by : (past : Past) (changes erases programmed reads : ℕ) (arm : Option Armed) (octets : List ℕ) (failed : Bool)
+    → (failed ≡ true → (past.cycled < past.faults) × (is_reached_by arm changes ≡ true))
+    → (failed ≡ false → is_nearer arm changes ≡ true)
+    → IsCarriedOut (mem_chip past octets changes erases programmed reads arm)
+carried_by past changes erases programmed reads arm octets true cut within steady few = let fell = (cut refl).0 in absurd (omega (arith, fell, few))
+carried_by past changes erases programmed reads None octets false cut within steady few = tt
+carried_by past changes erases programmed reads (Some arm) octets false cut within steady few = omega (arith, leb-true _ _ (within refl))

@@ -4,8 +4,8 @@
 // Tearing: power that fails within such a call leaves each bit of the range as it was or as it was to be. What it left is
 // stable: it reads the same until the next program or erase.
 // Durability: what a call that returned Ok wrote is there in every image from then on.
-// Counting: a flash counts its faults, and since the last power cycle its read calls, and its program and erase calls. An Ok leaves
-// the count of faults, so no fault is swallowed.
+// Counting: a flash counts its faults, and since the last power cycle its read calls, its program and erase calls, of these the erase calls, and the
+// octets that the program calls were given. An Ok leaves the count of faults, so no fault is swallowed.
 // So a caller that writes a record with its gate still ff, and clears the gate in a call of its own, finds the record whole
 // or its gate not 00, wherever power failed.
 //
@@ -13,7 +13,7 @@
 ghost use Rattle.std.specs.Prelude.{◌≡◌, ℕ, ◌+◌, ◌*◌, ◌%◌, ◌<◌, ◌≤◌, List, length, min, false, slice_range, IsTrue, IsOk, OnOk, OnErr, None, Some};
 ghost use Rattle.flash_model.specs.Octets.{IsContent, programmed, erased};
 ghost use Rattle.flash_model.specs.Chip.{Chip, Elapses, IsCut, IsDone, IsFresh, Keeps, KeepsCount, Stays};
-ghost use Rattle.flash_model.specs.Arming.{Begins, IsExplained, ObeysArm, ObeysCut};
+ghost use Rattle.flash_model.specs.Arming.{Begins, Erases, IsCarriedOut, IsExplained, ObeysArm, ObeysCut, Programs};
 
 use thiserror::Error;
 
@@ -39,7 +39,7 @@ pub trait Flash {
     ghost chip: { Self → Chip };
 
     /// Reads `buf.len()` octets from offset `at` on. It changes nothing (`stays`), and is counted (`reads`) as no other call
-    /// (`uncalled`).
+    /// (`uncalled`, `unerased`, `unprogrammed`).
     ///
     /// # Errors
     ///
@@ -53,6 +53,8 @@ pub trait Flash {
         // of every flash, honest or not
         ensures reads { (chip self.new).reads ≡ min ((chip self.old).reads + 1) 4294967295 }
         ensures uncalled { (chip self.new).changes ≡ (chip self.old).changes }
+        ensures unerased { (chip self.new).erases ≡ (chip self.old).erases }
+        ensures unprogrammed { (chip self.new).octets ≡ (chip self.old).octets }
         ensures no_fault { OnOk result ((chip self.new).faults ≡ (chip self.old).faults) }
         ensures cause { OnErr result ((chip self.old).faults < (chip self.new).faults) }
         ensures sure { IsTrue (chip self.old).sure → IsOk result }
@@ -79,6 +81,8 @@ pub trait Flash {
         // of every flash, honest or not
         ensures reads { (chip self.new).reads ≡ (chip self.old).reads }
         ensures begins { Begins 1 (chip self.old) (chip self.new) }
+        ensures unerased { (chip self.new).erases ≡ (chip self.old).erases }
+        ensures octets { Programs (length bytes.now) (chip self.old) (chip self.new) }
         ensures no_fault { OnOk result ((chip self.new).faults ≡ (chip self.old).faults) }
         ensures cause { OnErr result ((chip self.old).faults < (chip self.new).faults) }
         ensures sure { IsTrue (chip self.old).sure → IsOk result }
@@ -102,6 +106,8 @@ pub trait Flash {
         // of every flash, honest or not
         ensures reads { (chip self.new).reads ≡ (chip self.old).reads }
         ensures begins { Begins 1 (chip self.old) (chip self.new) }
+        ensures erases { Erases 1 (chip self.old) (chip self.new) }
+        ensures unprogrammed { (chip self.new).octets ≡ (chip self.old).octets }
         ensures no_fault { OnOk result ((chip self.new).faults ≡ (chip self.old).faults) }
         ensures cause { OnErr result ((chip self.old).faults < (chip self.new).faults) }
         ensures sure { IsTrue (chip self.old).sure → IsOk result }
@@ -121,6 +127,12 @@ pub trait Flash {
 
     // No more than ffffffff program and erase calls are counted.
     ghost counted: { (f : Self) → (chip f).changes ≤ 4294967295 };
+
+    // The erase calls are among them.
+    ghost counted_erases: { (f : Self) → (chip f).erases ≤ (chip f).changes };
+
+    // No more than ffffffff octets of program calls are counted.
+    ghost counted_octets: { (f : Self) → (chip f).octets ≤ 4294967295 };
 
     // Since this moment there is no other.
     ghost only_now: { (f : Self) (c : List ℕ) → (chip f).since (chip f).moment c → (chip f).images c };
@@ -146,6 +158,8 @@ pub trait Bench: Flash + Send + Drop {
         ensures not_sure { (Self.chip self.new).sure ≡ false }
         ensures stays { IsTrue (Self.chip self.old).honest → Stays (Self.chip self.old) (Self.chip self.new) }
         ensures changes { (Self.chip self.new).changes ≡ (Self.chip self.old).changes }
+        ensures erases { (Self.chip self.new).erases ≡ (Self.chip self.old).erases }
+        ensures octets { (Self.chip self.new).octets ≡ (Self.chip self.old).octets }
         ensures reads { (Self.chip self.new).reads ≡ (Self.chip self.old).reads }
         ensures frame { KeepsCount (Self.chip self.old) (Self.chip self.new) };
 
@@ -161,9 +175,12 @@ pub trait Bench: Flash + Send + Drop {
               arm = None;
               saved = (Self.chip self.new).now;
               moment = (Self.chip self.new).moment;
+              called = 0;
               cycles = (Self.chip self.old).setting.cycles + 1;
             } }
         ensures changes { (Self.chip self.new).changes ≡ 0 }
+        ensures erases { (Self.chip self.new).erases ≡ 0 }
+        ensures octets { (Self.chip self.new).octets ≡ 0 }
         ensures reads { (Self.chip self.new).reads ≡ 0 }
         ensures sure { IsTrue (Self.chip self.old).steady → IsTrue (Self.chip self.new).sure }
         ensures frame { KeepsCount (Self.chip self.old) (Self.chip self.new) };
@@ -175,4 +192,7 @@ pub trait Bench: Flash + Send + Drop {
 
     // A steady flash has failed since the last power cycle only by an arm.
     ghost explained: { (b : Self) → IsExplained (Self.chip b) };
+
+    // Where a steady flash with an arm hasn't failed since the last power cycle, at most the calls that come before the torn one were begun since.
+    ghost carried: { (b : Self) → IsCarriedOut (Self.chip b) };
 }

@@ -40,7 +40,8 @@
 //!    has it in what contracts alone see (`past`).
 //! 7. The past stays: what a cut at an earlier moment might have left, it might still have left, whatever a call does (`frame`; `Remembers`).
 //! 8. Read calls are counted, and program and erase calls, whatever they answer; no call counts as another, and each count stops at ffffffff
-//!    (`reads`, `uncalled`, `begins`, `counted`).
+//!    (`reads`, `uncalled`, `begins`, `counted`). Counts of their own are how many of the program and erase calls erase (`erases`, `unerased`,
+//!    `counted_erases`), and how many octets the others are given (`octets`, `unprogrammed`, `counted_octets`).
 //! 9. A flash that is `sure` never fails, and one that is `steady` fails only as an arm says (`sure`, `by_arm`). An adapter to a chip says that
 //!    it is neither, and owes nothing for it.
 //!
@@ -48,8 +49,8 @@
 //!
 //! ```text
 //! read(at, buf)       count the read; have the chip send buf.len() octets from base + at on
-//! program(at, bytes)  count the call; page by page: enable writing, program, wait until the chip says that it is done
-//! erase(sector)       count the call; enable writing, erase the 4,096 octets from base + 4096 * sector on, wait
+//! program(at, bytes)  count the call, and its octets; page by page: enable writing, program, wait until the chip says that it is done
+//! erase(sector)       count the call, and the erase; enable writing, erase the 4,096 octets from base + 4096 * sector on, wait
 //! each of them        Ok only where the chip said at the end that all went well; else a fault more, and FlashFailed
 //! ```
 //!

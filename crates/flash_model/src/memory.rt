@@ -4,8 +4,8 @@ ghost use Rattle.std.proofs.Common.{inl};
 ghost use Rattle.flash_model.specs.Octets.{IsContent};
 ghost use Rattle.flash_model.specs.Chip.{IsFresh};
 ghost use Rattle.flash_model.specs.Past.{HadBeen, noted};
-ghost use Rattle.flash_model.specs.Course.{course_of, nearer_arm, is_failing, call_of, is_reached_by, is_ahead};
-ghost use Rattle.flash_model.specs.Memory.{mem_chip, each_content, only_octets, explained_by};
+ghost use Rattle.flash_model.specs.Course.{course_of, nearer_arm, is_failing, call_of, is_reached_by, is_ahead, is_nearer};
+ghost use Rattle.flash_model.specs.Memory.{mem_chip, carried_by, each_content, only_octets, explained_by};
 
 use crate::armed::{Armed, Course, nearer, next_course};
 use crate::flash::{Bench, FLASH_OCTETS, Flash, FlashFailed, SECTOR_OCTETS};
@@ -19,6 +19,8 @@ pub struct MemFlash {
     octets: Vec<u8>,
     past: Recorder,
     changes: u32,
+    erases: u32,
+    programmed: u32,
     reads: u32,
     arm: Option<Armed>,
     failed: bool,
@@ -28,6 +30,9 @@ pub struct MemFlash {
     ghost cut: { failed ≡ true → (past.cycled < past.faults) × (is_reached_by arm changes ≡ true) },
     ghost ahead: { failed ≡ false → is_ahead arm changes ≡ true },
     ghost few: { changes ≤ 4294967295 },
+    ghost fewer: { erases ≤ changes },
+    ghost counted: { programmed ≤ 4294967295 },
+    ghost within: { failed ≡ false → is_nearer arm changes ≡ true },
 }
 
 impl MemFlash {
@@ -44,9 +49,12 @@ impl MemFlash {
               arm = None;
               saved = replicate 65536 255;
               moment = (⟦<MemFlash as Flash>⟧.chip m).moment;
+              called = 0;
               cycles = 0;
             }) }
         ensures changes { IfOk result (λ m. (⟦<MemFlash as Flash>⟧.chip m).changes ≡ 0) }
+        ensures erases { IfOk result (λ m. (⟦<MemFlash as Flash>⟧.chip m).erases ≡ 0) }
+        ensures programmed { IfOk result (λ m. (⟦<MemFlash as Flash>⟧.chip m).octets ≡ 0) }
         ensures reads { IfOk result (λ m. (⟦<MemFlash as Flash>⟧.chip m).reads ≡ 0) }
     {
         let octets = vec![in alloc; 0xff; FLASH_OCTETS as usize]?;
@@ -55,6 +63,8 @@ impl MemFlash {
             octets,
             past,
             changes: 0,
+            erases: 0,
+            programmed: 0,
             reads: 0,
             arm: None,
             failed: false,
@@ -70,6 +80,8 @@ impl MemFlash {
         ensures arm { self.new.arm ≡ nearer_arm self.old.arm }
         ensures failed { self.new.failed ≡ is_failing result }
         ensures reads { self.new.reads ≡ self.old.reads }
+        ensures erases { self.new.erases ≡ self.old.erases }
+        ensures programmed { self.new.programmed ≡ self.old.programmed }
     {
         let course = next_course(self.failed, self.arm);
         self.past.note(course.noted_as(), &self.octets);
@@ -81,7 +93,7 @@ impl MemFlash {
 }
 
 impl Flash for MemFlash {
-    ghost chip = { λ m. mem_chip m.past m.octets.items m.changes m.reads m.arm };
+    ghost chip = { λ m. mem_chip m.past m.octets.items m.changes m.erases m.programmed m.reads m.arm };
 
     ghost reads_image = { λ m honest. refl };
 
@@ -90,6 +102,10 @@ impl Flash for MemFlash {
     ghost counts_now = { λ m t c le image. inl image };
 
     ghost counted = { λ m. m.few };
+
+    ghost counted_erases = { λ m. m.fewer };
+
+    ghost counted_octets = { λ m. m.counted };
 
     ghost only_now = { λ m c. only_octets m.octets.items m.past.contents c };
 
@@ -105,7 +121,9 @@ impl Flash for MemFlash {
     }
 
     fn program(&mut self, at: u32, bytes: &[u8]) -> Result<(), FlashFailed> {
-        match self.begin() {
+        let course = self.begin();
+        self.programmed = self.programmed.saturating_add(bytes.len() as u32);
+        match course {
             Course::Whole => {
                 program_octets(&mut self.octets, at as usize, bytes, 0xff);
                 Ok(())
@@ -120,7 +138,9 @@ impl Flash for MemFlash {
 
     fn erase(&mut self, sector: u32) -> Result<(), FlashFailed> {
         let at = (SECTOR_OCTETS * sector) as usize;
-        match self.begin() {
+        let course = self.begin();
+        self.erases = self.erases.saturating_add(1);
+        match course {
             Course::Whole => {
                 blank_octets(&mut self.octets, at, SECTOR_OCTETS as usize, 0xff);
                 Ok(())
@@ -135,7 +155,9 @@ impl Flash for MemFlash {
 }
 
 impl Bench for MemFlash {
-    ghost explained = { λ m. explained_by m.past m.changes m.reads m.arm m.octets.items m.failed m.whole m.cut };
+    ghost explained = { λ m. explained_by m.past m.changes m.erases m.programmed m.reads m.arm m.octets.items m.failed m.whole m.cut };
+
+    ghost carried = { λ m. carried_by m.past m.changes m.erases m.programmed m.reads m.arm m.octets.items m.failed m.cut m.within };
 
     fn arm(&mut self, calls: u32, mask: u8) {
         self.arm = Some(Armed {
@@ -149,6 +171,8 @@ impl Bench for MemFlash {
     fn power_cycle(&mut self) {
         self.past.note(CYCLED, &self.octets);
         self.changes = 0;
+        self.erases = 0;
+        self.programmed = 0;
         self.reads = 0;
         self.arm = None;
         self.failed = false;

@@ -1,7 +1,7 @@
 // Two calls in a row, over any flash: what a cut leaves at each moment of both.
 ghost use Rattle.std.specs.Prelude.{◌≡◌, ℕ, ◌<◌, ◌≤◌, length, IsTrue, IsOk, OnOk, OnErr};
 ghost use Rattle.flash_model.specs.Chip.{IsDone, Keeps, LeavesOnly};
-ghost use Rattle.flash_model.specs.Arming.{Begins, BeginsAtMost};
+ghost use Rattle.flash_model.specs.Arming.{Begins, BeginsAtMost, Erases, ErasesAtMost, Programs, ProgramsAtMost};
 ghost use Rattle.flash_model.specs.Rewrite.{rewritten, IsRewrite};
 
 use crate::flash::{Flash, FlashFailed, SECTOR_OCTETS, SECTORS};
@@ -17,9 +17,13 @@ pub fn rewrite<F: Flash>(flash: &mut F, sector: u32, bytes: &[u8]) -> Result<(),
     ensures any_moment { IsTrue (F.chip flash.old).honest
         → LeavesOnly (F.chip flash.old) (F.chip flash.new) (IsRewrite sector bytes.now (F.chip flash.old).images) }
 
-    // of every flash, honest or not: two program and erase calls, and at most two where it fails
+    // of every flash, honest or not: two program and erase calls, one of them an erase, and at most these where it fails
     ensures calls { OnOk result (Begins 2 (F.chip flash.old) (F.chip flash.new)) }
     ensures most_calls { BeginsAtMost 2 (F.chip flash.old) (F.chip flash.new) }
+    ensures erases { OnOk result (Erases 1 (F.chip flash.old) (F.chip flash.new)) }
+    ensures most_erases { ErasesAtMost 1 (F.chip flash.old) (F.chip flash.new) }
+    ensures octets { OnOk result (Programs (length bytes.now) (F.chip flash.old) (F.chip flash.new)) }
+    ensures most_octets { ProgramsAtMost (length bytes.now) (F.chip flash.old) (F.chip flash.new) }
     ensures reads { (F.chip flash.new).reads ≡ (F.chip flash.old).reads }
     ensures no_fault { OnOk result ((F.chip flash.new).faults ≡ (F.chip flash.old).faults) }
     ensures cause { OnErr result ((F.chip flash.old).faults < (F.chip flash.new).faults) }

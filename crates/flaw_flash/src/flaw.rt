@@ -51,6 +51,8 @@ impl<F: Flash + Drop> FlawFlash<F> {
         ensures setting { IfOk result (λ f. (⟦<FlawFlash<F> as Flash>⟧.chip f).setting ≡ (F.chip flash).setting) }
         ensures faults { IfOk result (λ f. (⟦<FlawFlash<F> as Flash>⟧.chip f).faults ≡ (F.chip flash).faults) }
         ensures changes { IfOk result (λ f. (⟦<FlawFlash<F> as Flash>⟧.chip f).changes ≡ (F.chip flash).changes) }
+        ensures erases { IfOk result (λ f. (⟦<FlawFlash<F> as Flash>⟧.chip f).erases ≡ (F.chip flash).erases) }
+        ensures octets { IfOk result (λ f. (⟦<FlawFlash<F> as Flash>⟧.chip f).octets ≡ (F.chip flash).octets) }
     {
         let failing = reads.to_vec(alloc)?;
         let flaws = Flaws {
@@ -77,6 +79,10 @@ impl<F: Flash + Drop> Flash for FlawFlash<F> {
 
     ghost counted = { λ f. F.counted f.flash };
 
+    ghost counted_erases = { λ f. F.counted_erases f.flash };
+
+    ghost counted_octets = { λ f. F.counted_octets f.flash };
+
     ghost only_now = { λ f c. F.only_now f.flash c };
 
     fn read(&mut self, at: u32, buf: &mut [u8]) -> Result<(), FlashFailed> {
@@ -96,6 +102,8 @@ impl<F: Flash + Drop> Flash for FlawFlash<F> {
 
 impl<B: Bench> Bench for FlawFlash<B> {
     ghost explained = { λ f steady. Prim.search rules };
+
+    ghost carried = { λ f steady. Prim.search rules };
 
     fn arm(&mut self, calls: u32, mask: u8) {
         self.flash.arm(calls, mask);

@@ -51,6 +51,9 @@ pub const BANK_SLOTS: u32 = 1024;
 /// Records of a bank.
 pub const BANK_RECORDS: u32 = BANK_SLOTS - 1;
 
+/// Sectors of a bank, each of which a compaction erases.
+pub const BANK_SECTORS: u32 = 8;
+
 /// Records that say a network key anew: the key, the one that follows it in a Key Refresh, and the phase.
 pub const RECORDS_OF_NETWORK_KEY: usize = 3;
 
@@ -80,8 +83,8 @@ pub const SNAPSHOT_RECORDS: usize = 1
 /// Calls to the flash of a record: its octets, then its gate.
 pub const RECORD_CALLS: usize = 2;
 
-/// Calls to the flash of a compaction beside those of its records: eight sectors are erased, and the header is written.
-pub const BANK_CALLS: usize = 8 + RECORD_CALLS;
+/// Calls to the flash of a compaction beside those of its records: its sectors are erased, and the header is written.
+pub const BANK_CALLS: usize = BANK_SECTORS as usize + RECORD_CALLS;
 
 /// Calls to the flash of a compaction.
 pub const COMPACTION_CALLS: usize = BANK_CALLS + RECORD_CALLS * SNAPSHOT_RECORDS;

@@ -45,6 +45,8 @@ pub fn show<F: Flash>(alloc: Global, flash: &mut F) -> Result<LineText, ShowFaul
     ensures cause { IfErr result (IsShowCause (F.chip flash.old) (F.chip flash.new)) }
     ensures stays { IsTrue (F.chip flash.old).honest → Stays (F.chip flash.old) (F.chip flash.new) }
     ensures calls { (F.chip flash.new).changes ≡ (F.chip flash.old).changes }
+    ensures unerased { (F.chip flash.new).erases ≡ (F.chip flash.old).erases }
+    ensures unprogrammed { (F.chip flash.new).octets ≡ (F.chip flash.old).octets }
     ensures no_fault { OnOk result ((F.chip flash.new).faults ≡ (F.chip flash.old).faults) }
     ensures frame { Keeps (F.chip flash.old) (F.chip flash.new) }
 {

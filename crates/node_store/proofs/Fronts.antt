@@ -4,16 +4,17 @@ use Rattle.std.specs.Prelude.{length, take, drop, fold, get_or, ◌==◌, if◌t
 use Rattle.std.proofs.lemmas.Bool.{eqb-true}
 use Rattle.std.proofs.lemmas.List.{append-nil, drop_more, take_all, take_more}
 use Rattle.std.proofs.lemmas.List.Sums.{fold_more}
-use Rattle.flash_model.specs.Arming.{Begins, BeginsAtMost}
-use Rattle.flash_model.specs.Chip.{Chip, LeavesOnly}
+use Rattle.flash_model.specs.Arming.{Begins, BeginsAtMost, Erases, ErasesAtMost, Programs, ProgramsAtMost}
+use Rattle.flash_model.specs.Chip.{CallCount, Chip, LeavesOnly}
 use Rattle.flash_model.proofs.Leaves.{IsOnlyNow, leaves_join, leaves_none, leaves_weaker}
-use Rattle.flash_model.proofs.Runs.{begins_more}
+use Rattle.flash_model.proofs.Runs.{begins_more, begins_none, programs_more, programs_none}
 use Rattle.record_types.specs.declared.records.StoreRecord.{StoreRecord}
 use Rattle.store_definitions.specs.Config.{Config, changed, config_of}
+use Rattle.store_definitions.specs.Wear.{RECORD_OCTETS}
 use Rattle.node_records.specs.declared.persist.Persist.{Persist}
 use Rattle.node_records.specs.Meaning.{IsMeaningOf}
 use Rattle.node_snapshot.specs.Snapshot.{snapshot_of}
-use Rattle.node_store.specs.Calls.{calls_of, compaction, used_with_room}
+use Rattle.node_store.specs.Calls.{calls_of, compaction, only_slots, used_with_room}
 use Rattle.node_store.specs.Several.{MayPut}
 use Rattle.node_store.specs.Tie.{HasMarkFrom, Holds, IsFront, IsHeld, IsNotBelow, IsPut, IsStoreOf}
 use Rattle.node_store.specs.View.{StoreView}
@@ -113,10 +114,13 @@ module _ (items : List StoreRecord) (i : ℕ) (d : StoreRecord) (less : i < leng
         }
 
 -- How many calls are made where there is room.
-calls_two : (s : StoreView) → s.journal.used < 1023 → calls_of s ≡ 2
+abbrev with_record : CallCount → CallCount
+with_record room = record { calls = room.calls + 2; erases = room.erases; octets = room.octets + RECORD_OCTETS }
+
+calls_two : (s : StoreView) → s.journal.used < 1023 → calls_of s ≡ only_slots 1
 calls_two s less = by_test (s.journal.used == 1023) refl
   where
-    by_test : (b : Bool) → (s.journal.used == 1023) ≡ b → (if b then compaction s.persist else 0) + 2 ≡ 2
+    by_test : (b : Bool) → (s.journal.used == 1023) ≡ b → with_record (if b then compaction s.persist else only_slots 0) ≡ only_slots 1
     by_test true e = let h = eqb-true s.journal.used 1023 e in absurd (omega (arith, h, less))
     by_test false e = refl
 
@@ -127,22 +131,53 @@ used_same s less = by_test (s.journal.used == 1023) refl
     by_test true e = let h = eqb-true s.journal.used 1023 e in absurd (omega (arith, h, less))
     by_test false e = refl
 
-module _ (n i : ℕ) (start mid new : Chip) (first store : StoreView) (less : i < n) (room : first.journal.used + n ≤ 1023) (so : Begins (2 * i) start mid × (store.journal.used ≡ first.journal.used + i)) where
+-- What i records cost where there is room for them, and how many slots are used then.
+pub record HasPut (i : ℕ) (start new : Chip) (first store : StoreView) : Type 0 where
+  pub calls : Begins (2 * i) start new
+  pub erases : Erases 0 start new
+  pub octets : Programs (RECORD_OCTETS * i) start new
+  pub used : store.journal.used ≡ first.journal.used + i
+
+-- before the first
+pub put_none : (chip : Chip) (store : StoreView) → chip.changes ≤ 4294967295 → chip.erases ≤ chip.changes → chip.octets ≤ 4294967295 → HasPut 0 chip chip store store
+put_none chip store few fewer counted = record { calls = begins_none chip few; erases = omega (arith, few, fewer); octets = programs_none chip counted; used = omega arith }
+
+module _ (n i : ℕ) (start mid new : Chip) (first store : StoreView) (less : i < n) (room : first.journal.used + n ≤ 1023) (so : HasPut i start mid first store) where
   below : store.journal.used < 1023
-  below = let is = so.1 in omega (arith, is, less, room)
+  below = let is = so.used in omega (arith, is, less, room)
 
-  pub calls_more : (after : StoreView) → Begins (calls_of store) mid new → after.journal.used ≡ used_with_room store + 1 → Begins (2 * (i + 1)) start new × (after.journal.used ≡ first.journal.used + (i + 1))
-  calls_more after call used =
-      let two : Begins 2 mid new = subst (λ (k : ℕ). Begins k mid new) (calls_two store below) call in
+  pub calls_more : (after : StoreView) → Begins (calls_of store).calls mid new → Erases (calls_of store).erases mid new → Programs (calls_of store).octets mid new → after.journal.used ≡ used_with_room store + 1 → HasPut (i + 1) start new first after
+  calls_more after calls erases octets used =
+      let two : Begins 2 mid new = subst (λ (k : CallCount). Begins k.calls mid new) (calls_two store below) calls in
+      let none : Erases 0 mid new = subst (λ (k : CallCount). Erases k.erases mid new) (calls_two store below) erases in
+      let slot : Programs RECORD_OCTETS mid new = subst (λ (k : CallCount). Programs k.octets mid new) (calls_two store below) octets in
       let same = used_same store below in
-      let is = so.1 in
-      (begins_more (2 * i) 2 (2 * (i + 1)) start mid new (omega arith) so.0 two, omega (arith, used, same, is))
+      let is = so.used in
+      let before = so.erases in
+      record {
+        calls = begins_more (2 * i) 2 (2 * (i + 1)) start mid new (omega arith) so.calls two;
+        erases = omega (arith, before, none);
+        octets = programs_more (RECORD_OCTETS * i) RECORD_OCTETS (RECORD_OCTETS * (i + 1)) start mid new (omega arith) so.octets slot;
+        used = omega (arith, used, same, is);
+      }
 
-  pub calls_at_most : BeginsAtMost (calls_of store) mid new → BeginsAtMost (2 * n) start new
+  pub calls_at_most : BeginsAtMost (calls_of store).calls mid new → BeginsAtMost (2 * n) start new
   calls_at_most call =
-      let two : BeginsAtMost 2 mid new = subst (λ (k : ℕ). BeginsAtMost k mid new) (calls_two store below) call in
-      let count = so.0 in
+      let two : BeginsAtMost 2 mid new = subst (λ (k : CallCount). BeginsAtMost k.calls mid new) (calls_two store below) call in
+      let count = so.calls in
       omega (arith, count, two, less)
+
+  pub erases_at_most : ErasesAtMost (calls_of store).erases mid new → ErasesAtMost 0 start new
+  erases_at_most call =
+      let none : ErasesAtMost 0 mid new = subst (λ (k : CallCount). ErasesAtMost k.erases mid new) (calls_two store below) call in
+      let count = so.erases in
+      omega (arith, count, none)
+
+  pub octets_at_most : ProgramsAtMost (calls_of store).octets mid new → ProgramsAtMost (RECORD_OCTETS * n) start new
+  octets_at_most call =
+      let slot : ProgramsAtMost RECORD_OCTETS mid new = subst (λ (k : CallCount). ProgramsAtMost k.octets mid new) (calls_two store below) call in
+      let count = so.octets in
+      omega (arith, count, slot, less)
 
 -- after the last
 pub all_calls : (n i : ℕ) (start new : Chip) → i ≡ n → Begins (2 * i) start new → Begins (2 * n) start new
@@ -150,6 +185,15 @@ all_calls n i start new is so = subst (λ (k : ℕ). Begins (2 * k) start new) i
 
 pub all_most : (n i : ℕ) (start new : Chip) → i ≡ n → Begins (2 * i) start new → BeginsAtMost (2 * n) start new
 all_most n i start new is so = omega (arith, is, so)
+
+pub all_octets : (n i : ℕ) (start new : Chip) → i ≡ n → Programs (RECORD_OCTETS * i) start new → Programs (RECORD_OCTETS * n) start new
+all_octets n i start new is so = subst (λ (k : ℕ). Programs (RECORD_OCTETS * k) start new) is so
+
+pub most_octets : (n i : ℕ) (start new : Chip) → i ≡ n → Programs (RECORD_OCTETS * i) start new → ProgramsAtMost (RECORD_OCTETS * n) start new
+most_octets n i start new is so = omega (arith, is, so)
+
+pub none_erased : (start new : Chip) → Erases 0 start new → ErasesAtMost 0 start new
+none_erased start new so = omega (arith, so)
 
 -- at the end all are put
 module _ (items : List StoreRecord) (i : ℕ) (most : length items ≤ i) where

@@ -14,7 +14,7 @@ use Rattle.node_records.proofs.Alike.{alike_by}
 use Rattle.node_snapshot.specs.Snapshot.{IsSnapshot, snapshot_of}
 use Rattle.slot_journal.specs.Tie.{IsCompacted, IsJournalOf}
 use Rattle.slot_journal.specs.View.{JournalView}
-use Rattle.node_store.specs.Calls.{compaction, room_of}
+use Rattle.node_store.specs.Calls.{compaction, only_slots, room_of}
 use Rattle.node_store.specs.Mounted.{IsRead}
 use Rattle.node_store.specs.Tie.{IsExactly, IsHeld, IsStoreOf}
 use Rattle.node_store.specs.View.{StoreView}
@@ -59,9 +59,9 @@ module _ (old : Chip) (journal : JournalView) (p : Persist) (found : List StoreR
   }
 
 -- the calls for room are at most those of the largest snapshot
-pub room_few : (s : StoreView) → (s.journal.used ≡ 1023 → length (snapshot_of s.persist) ≤ SNAPSHOT_RECORDS) → room_of s ≤ COMPACTION_CALLS
+pub room_few : (s : StoreView) → (s.journal.used ≡ 1023 → length (snapshot_of s.persist) ≤ SNAPSHOT_RECORDS) → (room_of s).calls ≤ COMPACTION_CALLS
 room_few s few = by_test (s.journal.used == 1023) refl
   where
-    by_test : (b : Bool) → (s.journal.used == 1023) ≡ b → (if b then compaction s.persist else 0) ≤ COMPACTION_CALLS
+    by_test : (b : Bool) → (s.journal.used == 1023) ≡ b → (if b then compaction s.persist else only_slots 0).calls ≤ COMPACTION_CALLS
     by_test true e = let h = few (eqb-true s.journal.used 1023 e) in omega (arith, h)
     by_test false e = omega arith

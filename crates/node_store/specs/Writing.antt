@@ -1,8 +1,8 @@
 -- What the calls do that write to the flash of a store: what they put, what they answer where nothing changes, what a fault leaves, what a
 -- power cut leaves, and what they cost. Each call says which records it puts, and when it refuses them.
 use Rattle.std.specs.Prelude.{◌≡◌, ℕ, ◌<◌, List, ◌++◌, fold, true, false, IsTrue, IsOk, OnOk, OnErr, Result, Err}
-use Rattle.flash_model.specs.Arming.{Begins, BeginsAtMost}
-use Rattle.flash_model.specs.Chip.{Chip, Keeps, LeavesOnly}
+use Rattle.flash_model.specs.Arming.{Begins, BeginsAtMost, Erases, ErasesAtMost, Programs, ProgramsAtMost}
+use Rattle.flash_model.specs.Chip.{CallCount, Chip, Keeps, LeavesOnly}
 use Rattle.record_types.specs.declared.records.StoreRecord.{StoreRecord}
 use Rattle.store_definitions.specs.Config.{changed}
 use Rattle.node_records.specs.Meaning.{IsMeaningOf}
@@ -52,11 +52,15 @@ module _ {T E : Type 0} where
     -- and none comes of a flash that doesn't fail
     pub sure : IsTrue old.sure → IsOk result
 
-  -- So many program and erase calls are begun.
-  pub record CostsCalls (n : ℕ) (result : Result T E) (old new : Chip) : Type 0 where
-    pub calls : OnOk result (Begins n old new)
+  -- So many program and erase calls are begun, so many of them are erase calls, and the others are given so many octets.
+  pub record CostsCalls (n : CallCount) (result : Result T E) (old new : Chip) : Type 0 where
+    pub calls : OnOk result (Begins n.calls old new)
+    pub erases : OnOk result (Erases n.erases old new)
+    pub octets : OnOk result (Programs n.octets old new)
     -- also where it fails
-    pub most_calls : BeginsAtMost n old new
+    pub most_calls : BeginsAtMost n.calls old new
+    pub most_erases : ErasesAtMost n.erases old new
+    pub most_octets : ProgramsAtMost n.octets old new
 
   -- What is left of every flash, honest or not.
   pub record LeavesFlash (result : Result T E) (old new : Chip) : Type 0 where

@@ -127,6 +127,8 @@ fn read_counting<F: Flash>(flash: &mut F) -> Result<Persist, StoreFault>
     ensures runs { IfErr result (λ e. e ≢ StoreFaults.WasReset) }
     ensures stays { IsTrue (F.chip flash.old).honest → Stays (F.chip flash.old) (F.chip flash.new) }
     ensures calls { (F.chip flash.new).changes ≡ (F.chip flash.old).changes }
+    ensures unerased { (F.chip flash.new).erases ≡ (F.chip flash.old).erases }
+    ensures unprogrammed { (F.chip flash.new).octets ≡ (F.chip flash.old).octets }
     ensures said { IfOk result IsSaid }
     ensures no_fault { OnOk result ((F.chip flash.new).faults ≡ (F.chip flash.old).faults) }
     ensures refused { IfErr result (λ e. IsNotFlash e → (F.chip flash.new).faults ≡ (F.chip flash.old).faults) }
@@ -150,6 +152,8 @@ pub fn read_image<F: Flash>(flash: &mut F) -> Result<Persist, ImageFault>
 
     // it makes no program or erase call
     ensures calls { (F.chip flash.new).changes ≡ (F.chip flash.old).changes }
+    ensures unerased { (F.chip flash.new).erases ≡ (F.chip flash.old).erases }
+    ensures unprogrammed { (F.chip flash.new).octets ≡ (F.chip flash.old).octets }
 
     // of every flash, honest or not
     ensures said { IfOk result IsSaid }

@@ -1,23 +1,26 @@
 // A store is found again on its flash.
 ghost use Rattle.std.specs.Prelude.{◌≡◌, ◌↔◌, ◌⊎◌, ℕ, ◌+◌, ◌<◌, ◌≤◌, List, Err, false, IsTrue, IsOk, IfOk, IfErr, OnOk, OnErr};
-ghost use Rattle.flash_model.specs.Arming.{Begins, BeginsAtMost};
-ghost use Rattle.flash_model.specs.Chip.{IsFresh, Keeps, LeavesOnly, Stays};
+ghost use Rattle.flash_model.specs.Arming.{Begins, BeginsAtMost, Erases, ErasesAtMost, Programs, ProgramsAtMost, ReadsAtMost};
+ghost use Rattle.flash_model.specs.Chip.{IsFresh, Keeps, LeavesOnly, Stays, count_of};
+ghost use Rattle.node_limits.specs.declared.TheConstants.{BANK_RECORDS};
 ghost use Rattle.record_types.specs.declared.records.StoreRecord.{StoreRecord};
 ghost use Rattle.node_records.specs.Meaning.{DoesNotFall, IsSaid};
 ghost use Rattle.slot_definitions.specs.Slots.{HasFormat};
 ghost use Rattle.slot_journal.specs.Headers.{IsTidy};
 ghost use Rattle.store_definitions.specs.Config.{config_of};
+ghost use Rattle.store_definitions.specs.Wear.{COMPACTION_OCTETS, MOUNT_READS};
 ghost use Rattle.node_store.specs.declared.mounting.StoreFault.{StoreFault};
 ghost use Rattle.node_store.specs.Calls.{IsOpenedWith, compaction};
 ghost use Rattle.node_store.specs.Causes.{IsFoundAs, IsNotFlash, IsReadCause, IsReset, IsSlotCause, IsStoreCause};
 ghost use Rattle.node_store.specs.Mounted.{AreSaid, IsMounted, IsRefused, IsTaken};
 ghost use Rattle.node_store.specs.Tie.{HasMark, Holds, IsExactly, IsHeld, IsStoreOf};
+ghost use Rattle.node_store.specs.Writing.{CostsCalls};
 
 use crate::room::compact;
 use crate::store::Store;
 use flash_model::{Flash, FlashFailed};
 use mesh_base::slot::Slot;
-use node_limits::{COMPACTION_CALLS, SNAPSHOT_RECORDS};
+use node_limits::{BANK_SECTORS, COMPACTION_CALLS, SNAPSHOT_RECORDS};
 use node_records::Persist;
 use record_texts::decode;
 use record_types::records::StoreRecord;
@@ -72,8 +75,8 @@ impl From<NoMount> for StoreFault {
 
 impl Store {
     /// Finds the store of a node on its flash: it reads the headers and each slot of the bank. A bank of format 01 is migrated: the records
-    /// that say the same are written into the other bank, in format 02 (`kept`, `any_moment`). Else it writes nothing (`stays`), nor where a
-    /// Reset record is among them, also where the flash fails (`reset`).
+    /// that say the same are written into the other bank, in format 02 (`kept`, `any_moment`). Else it writes nothing (`stays`), nor where any of
+    /// the errors below has a cause in what the flash holds, also where the flash fails before that is found (`finding`, `reset`).
     ///
     /// # Errors
     ///
@@ -101,7 +104,11 @@ impl Store {
             → Stays (F.chip flash.old) (F.chip flash.new) }
         ensures reset { IsTrue (F.chip flash.old).honest → IsReset (F.chip flash.old).now
             → Stays (F.chip flash.old) (F.chip flash.new)
-            × ((F.chip flash.new).changes ≡ (F.chip flash.old).changes) }
+            × (count_of (F.chip flash.new) ≡ count_of (F.chip flash.old)) }
+        // whatever is answered
+        ensures finding { IsTrue (F.chip flash.old).honest → (fault : StoreFault) → IsFoundAs (F.chip flash.old).now fault
+            → Stays (F.chip flash.old) (F.chip flash.new)
+            × (count_of (F.chip flash.new) ≡ count_of (F.chip flash.old)) }
 
         // Of a flash that holds records.
         ensures kept { IsFresh (F.chip flash.old) → IsTidy (F.chip flash.old).now → (records : List StoreRecord)
@@ -115,13 +122,19 @@ impl Store {
         // the program and erase calls of a compaction where the bank has format 01, and else none
         ensures calls { IsTrue (F.chip flash.old).honest
             → HasFormat 1 (F.chip flash.old).now
-            → IfOk result (λ s. Begins (compaction s.persist) (F.chip flash.old) (F.chip flash.new)) }
+            → IfOk result
+            (λ s. Begins (compaction s.persist).calls (F.chip flash.old) (F.chip flash.new)
+            × Erases (compaction s.persist).erases (F.chip flash.old) (F.chip flash.new)
+            × Programs (compaction s.persist).octets (F.chip flash.old) (F.chip flash.new)) }
         ensures most_calls { BeginsAtMost COMPACTION_CALLS (F.chip flash.old) (F.chip flash.new) }
+        ensures most_erases { ErasesAtMost BANK_SECTORS (F.chip flash.old) (F.chip flash.new) }
+        ensures most_octets { ProgramsAtMost COMPACTION_OCTETS (F.chip flash.old) (F.chip flash.new) }
+        ensures most_reads { ReadsAtMost MOUNT_READS (F.chip flash.old) (F.chip flash.new) }
         ensures no_calls { IsTrue (F.chip flash.old).honest
-            → ¬ HasFormat 1 (F.chip flash.old).now → (F.chip flash.new).changes ≡ (F.chip flash.old).changes }
+            → ¬ HasFormat 1 (F.chip flash.old).now → count_of (F.chip flash.new) ≡ count_of (F.chip flash.old) }
         ensures wear { IsTrue (F.chip flash.old).honest
             → IfOk result
-            (λ s. IsOpenedWith (F.chip flash.old).now (F.chip flash.old).changes (F.chip flash.new).changes s.journal.used) }
+            (λ s. IsOpenedWith (F.chip flash.old).now (count_of (F.chip flash.old)) (count_of (F.chip flash.new)) s.journal.used) }
 
         // of every flash, honest or not
         ensures usable { IfOk result (λ s. s.journal.closed ≡ false) }
@@ -130,7 +143,7 @@ impl Store {
         ensures refused { IfErr result
             (λ e. IsNotFlash e
             → ((F.chip flash.new).faults ≡ (F.chip flash.old).faults)
-            × ((F.chip flash.new).changes ≡ (F.chip flash.old).changes)) }
+            × (count_of (F.chip flash.new) ≡ count_of (F.chip flash.old))) }
         ensures sure { IsTrue (F.chip flash.old).sure → IfErr result IsNotFlash }
         ensures frame { Keeps (F.chip flash.old) (F.chip flash.new) }
     {
@@ -163,9 +176,12 @@ fn migrated<F: Flash>(
         → LeavesOnly (F.chip flash.old) (F.chip flash.new) (IsHeld found) }
     ensures unchanged { ¬ journal.version ≡ 1 → flash.new ≡ flash.old }
     ensures used { ¬ journal.version ≡ 1 → IfOk result (λ j. j.used ≡ journal.used) }
-    ensures calls { journal.version ≡ 1
-        → OnOk result (Begins (compaction persist.now) (F.chip flash.old) (F.chip flash.new)) }
+    ensures costs { journal.version ≡ 1
+        → CostsCalls (compaction persist.now) result (F.chip flash.old) (F.chip flash.new) }
     ensures most_calls { BeginsAtMost COMPACTION_CALLS (F.chip flash.old) (F.chip flash.new) }
+    ensures most_erases { ErasesAtMost BANK_SECTORS (F.chip flash.old) (F.chip flash.new) }
+    ensures most_octets { ProgramsAtMost COMPACTION_OCTETS (F.chip flash.old) (F.chip flash.new) }
+    ensures reads { (F.chip flash.new).reads ≡ (F.chip flash.old).reads }
     ensures no_fault { OnOk result ((F.chip flash.new).faults ≡ (F.chip flash.old).faults) }
     ensures cause { OnErr result ((F.chip flash.old).faults < (F.chip flash.new).faults) }
     ensures sure { IsTrue (F.chip flash.old).sure → IsOk result }
@@ -190,6 +206,9 @@ pub(crate) fn read_records<F: Flash>(
     ensures said { IfOk result IsSaid }
     ensures stays { IsTrue (F.chip flash.old).honest → Stays (F.chip flash.old) (F.chip flash.new) }
     ensures calls { (F.chip flash.new).changes ≡ (F.chip flash.old).changes }
+    ensures unerased { (F.chip flash.new).erases ≡ (F.chip flash.old).erases }
+    ensures unprogrammed { (F.chip flash.new).octets ≡ (F.chip flash.old).octets }
+    ensures most_reads { ReadsAtMost BANK_RECORDS (F.chip flash.old) (F.chip flash.new) }
     ensures no_fault { OnOk result ((F.chip flash.new).faults ≡ (F.chip flash.old).faults) }
     ensures refused { IfErr result (λ e. IsNotFlash e → (F.chip flash.new).faults ≡ (F.chip flash.old).faults) }
     ensures sure { IsTrue (F.chip flash.old).sure → IfErr result IsNotFlash }
@@ -219,6 +238,9 @@ fn read_slot<F: Flash>(
     ensures said { IsSaid persist.old → IsSaid persist.new }
     ensures stays { IsTrue (F.chip flash.old).honest → Stays (F.chip flash.old) (F.chip flash.new) }
     ensures calls { (F.chip flash.new).changes ≡ (F.chip flash.old).changes }
+    ensures unerased { (F.chip flash.new).erases ≡ (F.chip flash.old).erases }
+    ensures unprogrammed { (F.chip flash.new).octets ≡ (F.chip flash.old).octets }
+    ensures most_reads { ReadsAtMost 1 (F.chip flash.old) (F.chip flash.new) }
     ensures no_fault { OnOk result ((F.chip flash.new).faults ≡ (F.chip flash.old).faults) }
     ensures refused { IfErr result (λ e. IsNotFlash e → (F.chip flash.new).faults ≡ (F.chip flash.old).faults) }
     ensures sure { IsTrue (F.chip flash.old).sure → IfErr result IsNotFlash }

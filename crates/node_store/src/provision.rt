@@ -1,6 +1,6 @@
 // A node is provisioned: its first records are written onto an erased flash.
 ghost use Rattle.std.specs.Prelude.{◌≡◌, List, false, IsTrue, IfOk, IfErr, OnOk, ℕ, ◌*◌, ◌^◌, ◌<◌, All, map, slice_index};
-ghost use Rattle.flash_model.specs.Chip.{IsFresh, Keeps, LeavesOnly, Stays};
+ghost use Rattle.flash_model.specs.Chip.{IsFresh, Keeps, LeavesOnly, Stays, count_of};
 ghost use Rattle.node_records.specs.Meaning.{IsMeaningOf, IsSaid};
 ghost use Rattle.store_definitions.specs.Ranges.{IsInRange};
 ghost use Rattle.store_definitions.specs.Recovered.{record_text, IsRecovered};
@@ -8,6 +8,7 @@ ghost use Rattle.store_definitions.specs.Provisioning.{provisioned};
 ghost use Rattle.mesh_base.specs.IvState.{HasTransmit, transmit_of};
 ghost use Rattle.slot_journal.specs.Causes.{IsFormatCause, IsNotErased};
 ghost use Rattle.slot_journal.specs.Format.{IsErased};
+ghost use Rattle.node_store.specs.Calls.{only_slots};
 ghost use Rattle.node_store.specs.Provisioning.{IsProvision, provisioning, state_of};
 ghost use Rattle.node_store.specs.Mounted.{IsOldNode};
 ghost use Rattle.node_store.specs.Tie.{IsExactly, IsMade, IsStoreOf};
@@ -69,7 +70,7 @@ impl Store {
         ensures unchanged { IsTrue (F.chip flash.old).honest → ¬ IsErased (F.chip flash.old).now
             → Stays (F.chip flash.old) (F.chip flash.new) }
         ensures no_calls { IsTrue (F.chip flash.old).honest → ¬ IsErased (F.chip flash.old).now
-            → (F.chip flash.new).changes ≡ (F.chip flash.old).changes }
+            → count_of (F.chip flash.new) ≡ count_of (F.chip flash.old) }
         ensures value { IfOk result
             (λ s. (s.journal ≡ record { bank = 0; used = 3; closed = false; generation = 1; version = 2 })
             × IsMeaningOf (provisioned (provisioning p.now)) s.persist) }
@@ -84,7 +85,7 @@ impl Store {
             → LeavesOnly (F.chip flash.old) (F.chip flash.new) (IsMade (provisioned (provisioning p.now))) }
 
         // two program calls for each record and two for the header
-        ensures costs { CostsCalls 8 result (F.chip flash.old) (F.chip flash.new) }
+        ensures costs { CostsCalls (only_slots 4) result (F.chip flash.old) (F.chip flash.new) }
 
         // of every flash, honest or not
         ensures no_fault { OnOk result ((F.chip flash.new).faults ≡ (F.chip flash.old).faults) }
@@ -110,7 +111,7 @@ impl Store {
         ensures unchanged { IsTrue (F.chip flash.old).honest → ¬ IsErased (F.chip flash.old).now
             → Stays (F.chip flash.old) (F.chip flash.new) }
         ensures no_calls { IsTrue (F.chip flash.old).honest → ¬ IsErased (F.chip flash.old).now
-            → (F.chip flash.new).changes ≡ (F.chip flash.old).changes }
+            → count_of (F.chip flash.new) ≡ count_of (F.chip flash.old) }
         ensures kept { IsFresh (F.chip flash.old) → OnOk result (IsFresh (F.chip flash.new)) }
         ensures durable { IsFresh (F.chip flash.old)
             → OnOk result
@@ -119,7 +120,7 @@ impl Store {
             → LeavesOnly (F.chip flash.old) (F.chip flash.new) (IsMade (provisioned (provisioning p.now))) }
 
         // as many calls as `provision` makes
-        ensures costs { CostsCalls 8 result (F.chip flash.old) (F.chip flash.new) }
+        ensures costs { CostsCalls (only_slots 4) result (F.chip flash.old) (F.chip flash.new) }
 
         // of every flash, honest or not
         ensures no_fault { OnOk result ((F.chip flash.new).faults ≡ (F.chip flash.old).faults) }

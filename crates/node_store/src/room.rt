@@ -7,7 +7,7 @@ ghost use Rattle.node_records.specs.Meaning.{IsSaid};
 ghost use Rattle.node_records.specs.Full.{IsFull};
 ghost use Rattle.node_snapshot.specs.Snapshot.{snapshot_of};
 ghost use Rattle.store_definitions.specs.Ranges.{IsInRange};
-ghost use Rattle.node_store.specs.Calls.{compaction, room_of, used_with_room};
+ghost use Rattle.node_store.specs.Calls.{compaction, only_slots, room_of, used_with_room};
 ghost use Rattle.node_store.specs.Tie.{IsExactly, IsHeld, IsNotBelow, IsPut, IsStoreOf};
 ghost use Rattle.node_store.specs.Writing.{CostsCalls, LeavesFlash, Puts};
 
@@ -70,7 +70,7 @@ impl Store {
         ensures any_moment { (records : List StoreRecord) → IsStoreOf (F.chip flash.old) self.old records
             → LeavesOnly (F.chip flash.old) (F.chip flash.new) (IsHeld records) }
         ensures costs { CostsCalls (room_of self.old) result (F.chip flash.old) (F.chip flash.new) }
-        ensures bounded { room_of self.old ≤ COMPACTION_CALLS }
+        ensures bounded { (room_of self.old).calls ≤ COMPACTION_CALLS }
         ensures leaves { LeavesFlash result (F.chip flash.old) (F.chip flash.new) }
     {
         if self.journal.used() < BANK_RECORDS {
@@ -98,7 +98,7 @@ impl Store {
         ensures sure { IsTrue (F.chip flash.old).sure → IsOk result }
         ensures any_moment { (records : List StoreRecord) → IsStoreOf (F.chip flash.old) self.old records
             → LeavesOnly (F.chip flash.old) (F.chip flash.new) (IsPut records item.now) }
-        ensures costs { CostsCalls 2 result (F.chip flash.old) (F.chip flash.new) }
+        ensures costs { CostsCalls (only_slots 1) result (F.chip flash.old) (F.chip flash.new) }
         ensures leaves { LeavesFlash result (F.chip flash.old) (F.chip flash.new) }
     {
         let slot = encode(item);

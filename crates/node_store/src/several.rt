@@ -1,6 +1,8 @@
 // Several records are put, one after another.
 ghost use Rattle.std.specs.Prelude.{◌≡◌, ◌+◌, ◌*◌, ◌≤◌, length, true, false, Err, OnOk};
+ghost use Rattle.flash_model.specs.Chip.{count_of};
 ghost use Rattle.flash_model.specs.Arming.{BeginsAtMost};
+ghost use Rattle.node_store.specs.Calls.{only_slots};
 ghost use Rattle.node_store.specs.Several.{MayPut};
 ghost use Rattle.node_store.specs.Tie.{IsFront};
 ghost use Rattle.node_store.specs.Writing.{CostsCalls, CutLeaves, FailsAtFlash, LeavesFlash, OnlyAnswers, Puts};
@@ -31,13 +33,13 @@ impl Store {
         ensures cut { CutLeaves (λ records. IsFront records items.now) (F.chip flash.old) (F.chip flash.new) self.old }
         // two program calls for each record where there is room for all, and never more than a compaction takes for each
         ensures costs { self.old.journal.used + length items.now ≤ 1023
-            → CostsCalls (2 * length items.now) result (F.chip flash.old) (F.chip flash.new) }
+            → CostsCalls (only_slots (length items.now)) result (F.chip flash.old) (F.chip flash.new) }
         ensures bounded { BeginsAtMost (PUT_CALLS * length items.now) (F.chip flash.old) (F.chip flash.new) }
         ensures wear { OnOk result
-            (CostsAndUses self.old.journal.used (length items.now) (F.chip flash.old).changes (F.chip flash.new).changes
+            (CostsAndUses self.old.journal.used (length items.now) (count_of (F.chip flash.old)) (count_of (F.chip flash.new))
             self.new.journal.used) }
-        ensures most_wear { CostsAtMost self.old.journal.used (length items.now) (F.chip flash.old).changes
-            (F.chip flash.new).changes }
+        ensures most_wear { CostsAtMost self.old.journal.used (length items.now) (count_of (F.chip flash.old))
+            (count_of (F.chip flash.new)) }
         ensures leaves { LeavesFlash result (F.chip flash.old) (F.chip flash.new) }
     {
         if self.is_closed() {

@@ -1,7 +1,7 @@
 // The store: the journal that keeps its records, and what they say.
 ghost use Rattle.std.specs.Prelude.{◌≡◌, ◌+◌, ◌≤◌, List, [], ◌∷◌, true, false, Err, OnOk, OnErr};
 ghost use Rattle.flash_model.specs.Arming.{BeginsAtMost};
-ghost use Rattle.flash_model.specs.Chip.{LeavesOnly};
+ghost use Rattle.flash_model.specs.Chip.{LeavesOnly, count_of};
 ghost use Rattle.record_types.specs.declared.records.StoreRecord.{StoreRecord};
 ghost use Rattle.node_records.specs.Meaning.{IsSaid};
 ghost use Rattle.node_records.specs.Full.{IsFull, held_for};
@@ -150,8 +150,8 @@ impl Store {
         ensures costs { CostsCalls (calls_of self.old) result (F.chip flash.old) (F.chip flash.new) }
         ensures bounded { BeginsAtMost PUT_CALLS (F.chip flash.old) (F.chip flash.new) }
         ensures wear { OnOk result
-            (CostsAndUses self.old.journal.used 1 (F.chip flash.old).changes (F.chip flash.new).changes self.new.journal.used) }
-        ensures most_wear { CostsAtMost self.old.journal.used 1 (F.chip flash.old).changes (F.chip flash.new).changes }
+            (CostsAndUses self.old.journal.used 1 (count_of (F.chip flash.old)) (count_of (F.chip flash.new)) self.new.journal.used) }
+        ensures most_wear { CostsAtMost self.old.journal.used 1 (count_of (F.chip flash.old)) (count_of (F.chip flash.new)) }
         ensures leaves { LeavesFlash result (F.chip flash.old) (F.chip flash.new) }
     {
         if self.journal.is_closed() {

@@ -2,7 +2,7 @@
 #![tactic(auto)]
 
 ghost use Rattle.std.specs.Prelude.{◌≡◌, ℕ, ◌+◌, ◌^◌, ◌<◌, List, [], ◌∷◌, true, false, Err, Some, IfSome, OnOk, OnErr};
-ghost use Rattle.flash_model.specs.Chip.{LeavesOnly};
+ghost use Rattle.flash_model.specs.Chip.{LeavesOnly, count_of};
 ghost use Rattle.mesh_world.specs.World.{World};
 ghost use Rattle.mesh_world.specs.World.WorldStep.{Accept};
 ghost use Rattle.node_records.specs.Meaning.{IsMeaningOf};
@@ -156,9 +156,9 @@ pub fn accept<F: Flash>(store: &mut Store, flash: &mut F, name: &Name) -> Result
     // the calls of one record put
     ensures costs { CostsCalls (calls_of store.old) result (F.chip flash.old) (F.chip flash.new) }
     ensures wear { OnOk result
-        (CostsAndUses store.old.journal.used 1 (F.chip flash.old).changes (F.chip flash.new).changes
+        (CostsAndUses store.old.journal.used 1 (count_of (F.chip flash.old)) (count_of (F.chip flash.new))
         store.new.journal.used) }
-    ensures most_wear { CostsAtMost store.old.journal.used 1 (F.chip flash.old).changes (F.chip flash.new).changes }
+    ensures most_wear { CostsAtMost store.old.journal.used 1 (count_of (F.chip flash.old)) (count_of (F.chip flash.new)) }
     ensures leaves { LeavesFlash result (F.chip flash.old) (F.chip flash.new) }
 {
     if store.is_closed() {

@@ -2,7 +2,8 @@
 #![tactic(auto)]
 
 ghost use Rattle.std.specs.Prelude.{◌≡◌, IsTrue, IfErr, OnOk};
-ghost use Rattle.flash_model.specs.Chip.{IsFresh, Keeps, LeavesOnly, Stays};
+ghost use Rattle.flash_model.specs.Chip.{IsFresh, Keeps, LeavesOnly, Stays, count_of};
+ghost use Rattle.node_store.specs.Calls.{only_slots};
 ghost use Rattle.node_store.specs.Provisioning.{IsProvision, provisioning};
 ghost use Rattle.node_store.specs.Tie.{IsMade};
 ghost use Rattle.node_store.specs.Writing.{CostsCalls};
@@ -24,14 +25,14 @@ fn provision_now<F: Flash>(flash: &mut F, p: &Provision) -> Result<(), FormatFau
     ensures unchanged { IsTrue (F.chip flash.old).honest → ¬ IsErased (F.chip flash.old).now
         → Stays (F.chip flash.old) (F.chip flash.new) }
     ensures no_calls { IsTrue (F.chip flash.old).honest → ¬ IsErased (F.chip flash.old).now
-        → (F.chip flash.new).changes ≡ (F.chip flash.old).changes }
+        → count_of (F.chip flash.new) ≡ count_of (F.chip flash.old) }
     ensures provisioned { IsFresh (F.chip flash.old)
         → OnOk result (IsProvisioned (F.chip flash.new) (provisioned (provisioning p.now))) }
     ensures format { IsFresh (F.chip flash.old) → OnOk result (IsInFormat 2 (F.chip flash.new)) }
     ensures any_moment { IsFresh (F.chip flash.old) → IsErased (F.chip flash.old).now
         → LeavesOnly (F.chip flash.old) (F.chip flash.new) (IsMade (provisioned (provisioning p.now))) }
-    // two program calls for each record and two for the header, and never more
-    ensures costs { CostsCalls 8 result (F.chip flash.old) (F.chip flash.new) }
+    // two program calls of 32 octets together for each record and for the header, and never more
+    ensures costs { CostsCalls (only_slots 4) result (F.chip flash.old) (F.chip flash.new) }
     ensures no_fault { OnOk result ((F.chip flash.new).faults ≡ (F.chip flash.old).faults) }
     ensures sure { IsTrue (F.chip flash.old).sure → IfErr result IsNotErased }
     ensures frame { Keeps (F.chip flash.old) (F.chip flash.new) }
@@ -52,14 +53,14 @@ pub fn provision<F: Flash>(flash: &mut F, old: bool, p: &Provision) -> Result<()
     ensures unchanged { IsTrue (F.chip flash.old).honest → ¬ IsErased (F.chip flash.old).now
         → Stays (F.chip flash.old) (F.chip flash.new) }
     ensures no_calls { IsTrue (F.chip flash.old).honest → ¬ IsErased (F.chip flash.old).now
-        → (F.chip flash.new).changes ≡ (F.chip flash.old).changes }
+        → count_of (F.chip flash.new) ≡ count_of (F.chip flash.old) }
     ensures provisioned { IsFresh (F.chip flash.old)
         → OnOk result (IsProvisioned (F.chip flash.new) (provisioned (provisioning p.now))) }
     ensures format { IsFresh (F.chip flash.old) → OnOk result (IsInFormat (format_by old) (F.chip flash.new)) }
     ensures any_moment { IsFresh (F.chip flash.old) → IsErased (F.chip flash.old).now
         → LeavesOnly (F.chip flash.old) (F.chip flash.new) (IsMade (provisioned (provisioning p.now))) }
     // as many calls in either format
-    ensures costs { CostsCalls 8 result (F.chip flash.old) (F.chip flash.new) }
+    ensures costs { CostsCalls (only_slots 4) result (F.chip flash.old) (F.chip flash.new) }
     ensures no_fault { OnOk result ((F.chip flash.new).faults ≡ (F.chip flash.old).faults) }
     ensures sure { IsTrue (F.chip flash.old).sure → IfErr result IsNotErased }
     ensures frame { Keeps (F.chip flash.old) (F.chip flash.new) }

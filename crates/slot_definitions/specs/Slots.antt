@@ -1,6 +1,6 @@
 -- The octets of the node's flash: slots, the headers of the two banks, and the slots that an image recovers. An image is the 65,536
 -- octets of the chip as they are read; erased octets are ff. (The layout is this project's own.)
-use Rattle.std.specs.Prelude.{◌≡◌, ℕ, zero, suc, ◌+◌, ◌*◌, ◌-◌, ◌%◌, List, [], ◌∷◌, ◌++◌, slice_index, slice_range, replicate, ◌&&◌, ◌||◌, ◌==◌, nat_lt, Bool, if◌then◌else◌, Option, Some, None, option_map, option_to_list}
+use Rattle.std.specs.Prelude.{◌≡◌, ◌≢◌, ℕ, zero, suc, ◌+◌, ◌*◌, ◌-◌, ◌%◌, ◌<◌, ◌≤◌, List, [], ◌∷◌, ◌++◌, slice_index, slice_range, replicate, ◌&&◌, ◌||◌, ◌==◌, nat_lt, Bool, if◌then◌else◌, Option, Some, None, option_map, option_to_list}
 use Rattle.std.specs.Int.{to_be_bytes, w32}
 use Rattle.mesh_base.specs.declared.slot.Slot.{Slot}
 
@@ -98,3 +98,9 @@ recovered content = option_map (held_by content) (counting content)
 -- the bank that counts has this format
 abbrev pub HasFormat : ℕ → List ℕ → Type 0
 HasFormat format content = option_map (λ (h : Held). h.format) (recovered content) ≡ Some format
+
+-- so many slots of the bank are used: behind them all is ff, and the last isn't
+pub record IsUsed (content : List ℕ) (bank used : ℕ) : Type 0 where
+  pub few : used ≤ 1023
+  pub blank : (n : ℕ) → used < n → n ≤ 1023 → text_at content (1024 * bank + n) ≡ blank_text
+  pub last : 0 < used → text_at content (1024 * bank + used) ≢ blank_text

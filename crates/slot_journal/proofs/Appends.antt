@@ -5,9 +5,9 @@ use Rattle.std.proofs.lemmas.List.{append-nil}
 use Rattle.mesh_base.specs.declared.slot.Slot.{Slot}
 use Rattle.flash_model.specs.Octets.{IsContent}
 use Rattle.slot_journal.specs.Slots.{IsElsewhere, IsWritten, IsSlotWrite}
-use Rattle.slot_definitions.specs.Slots.{text_at, text_of, blank_text, gate_of, format_of, gated, slots_to, slots_of, counting, counting_by, held_by, recovered}
+use Rattle.slot_definitions.specs.Slots.{text_at, text_of, blank_text, gate_of, format_of, gated, slots_to, slots_of, counting, counting_by, held_by, recovered, IsUsed}
 use Rattle.slot_journal.specs.Headers.{IsSteady, IsTidy}
-use Rattle.slot_journal.specs.Tie.{IsUsed, IsAppended, with_last}
+use Rattle.slot_journal.specs.Tie.{IsAppended, with_last}
 use Rattle.slot_journal.proofs.Texts.{length_text}
 use Rattle.slot_definitions.proofs.SlotLaws.{slots_same, slots_blank, gated_none, gated_text, recovered_at}
 

@@ -1,10 +1,10 @@
 -- The used slots of a bank, counted one after another.
 use Rattle.std.proofs.Common.{◌≡◌, ◌≢◌, ℕ, zero, suc, ◌+◌, ◌-◌, ◌*◌, ◌<◌, ◌≤◌, List, Some, false, refl, sym, ap, ◌∙◌, subst, ⊎_elim, arith}
 use Rattle.std.proofs.lemmas.Bool.{cases_lt}
-use Rattle.slot_definitions.specs.Slots.{text_at, blank_text, format_of, generation_of, slots_to, slots_of, counting, counting_by, recovered}
+use Rattle.slot_definitions.specs.Slots.{text_at, blank_text, format_of, generation_of, slots_to, slots_of, counting, counting_by, recovered, IsUsed}
 use Rattle.slot_journal.specs.declared.header.Counting.{Counting}
 use Rattle.slot_journal.specs.Headers.{header_in, IsSaid}
-use Rattle.slot_journal.specs.Tie.{IsMounted, IsUsed, IsUsedBelow}
+use Rattle.slot_journal.specs.Tie.{IsMounted, IsUsedBelow}
 use Rattle.slot_definitions.proofs.SlotLaws.{slots_blank, recovered_at}
 
 pub below_none : (c : List ℕ) (bank : ℕ) → IsUsedBelow c bank 1 0

@@ -8,11 +8,10 @@ use Rattle.node_limits.specs.declared.TheConstants.{BANK_RECORDS}
 use Rattle.mesh_base.specs.declared.slot.Slot.{Slot}
 use Rattle.flash_model.specs.Chip.{Chip, IsFresh, LeavesOnly}
 use Rattle.flash_model.proofs.Leaves.{IsOnlyNow, leaves_none, leaves_join, leaves_weaker}
-use Rattle.slot_definitions.specs.Slots.{text_at, text_of, blank_text, gated, slots_to, slots_of}
+use Rattle.slot_definitions.specs.Slots.{text_at, text_of, blank_text, gated, slots_to, slots_of, IsUsed}
 use Rattle.slot_definitions.proofs.SlotLaws.{slots_blank, gated_text}
 use Rattle.slot_journal.specs.Slots.{IsWritten, IsSlotWrite}
 use Rattle.slot_journal.specs.Banks.{StaysOutside, IsBankBare, IsBankFilled}
-use Rattle.slot_journal.specs.Tie.{IsUsed}
 use Rattle.slot_journal.proofs.Texts.{length_text}
 
 -- behind the last item there is none

@@ -2,15 +2,9 @@
 use Rattle.std.specs.Prelude.{◌≡◌, ◌≢◌, ◌⊎◌, ℕ, ◌+◌, ◌*◌, ◌<◌, ◌≤◌, List, [], ◌∷◌, ◌++◌, false, Option, Some, option_map}
 use Rattle.mesh_base.specs.declared.slot.Slot.{Slot}
 use Rattle.flash_model.specs.Chip.{Chip, IsFresh}
-use Rattle.slot_definitions.specs.Slots.{text_at, blank_text, generation_of, format_of, counting, Held, recovered}
+use Rattle.slot_definitions.specs.Slots.{text_at, blank_text, generation_of, format_of, counting, Held, IsUsed, recovered}
 use Rattle.slot_journal.specs.Headers.{IsTidy}
 use Rattle.slot_journal.specs.View.{JournalView}
-
--- so many slots of the bank are used: behind them all is ff, and the last isn't
-pub record IsUsed (content : List ℕ) (bank used : ℕ) : Type 0 where
-  pub few : used ≤ 1023
-  pub blank : (n : ℕ) → used < n → n ≤ 1023 → text_at content (1024 * bank + n) ≡ blank_text
-  pub last : 0 < used → text_at content (1024 * bank + used) ≢ blank_text
 
 -- what a mount finds on a flash whose content stays: the bank that counts, what its header says, and its used slots
 pub record IsMounted (content : List ℕ) (journal : JournalView) : Type 0 where

@@ -1,7 +1,7 @@
 // A compaction: the bank that doesn't count is erased, filled, and given a header with the next generation.
 ghost use Rattle.std.specs.Prelude.{◌≡◌, ℕ, ◌+◌, ◌-◌, ◌*◌, ◌%◌, ◌<◌, ◌≤◌, length, true, false, Err, Some, IsTrue, IsOk, OnOk, OnErr};
 ghost use Rattle.flash_model.specs.Octets.{IsContent};
-ghost use Rattle.flash_model.specs.Arming.{Begins, BeginsAtMost};
+ghost use Rattle.flash_model.specs.Arming.{Begins, BeginsAtMost, Erases, ErasesAtMost, Programs, ProgramsAtMost};
 ghost use Rattle.flash_model.specs.Chip.{IsFresh, Keeps, LeavesOnly};
 ghost use Rattle.slot_definitions.specs.Slots.{recovered};
 ghost use Rattle.slot_journal.specs.Tie.{IsJournalOf, IsCompacted};
@@ -11,13 +11,10 @@ use crate::filling::fill_bank;
 use crate::header::{FORMAT, header};
 use crate::items::Items;
 use crate::journal::Journal;
-use crate::text::write_slot;
+use crate::text::{SLOT_OCTETS, write_slot};
 use flash_model::{Flash, FlashFailed};
-use node_limits::{BANK_RECORDS, BANK_SLOTS};
+use node_limits::{BANK_RECORDS, BANK_SECTORS, BANK_SLOTS};
 use thiserror::Error;
-
-/// Sectors of a bank.
-const BANK_SECTORS: u32 = 8;
 
 /// Why a journal wasn't compacted.
 #[derive(Clone, Copy, Debug, PartialEq, Eq, Error)]
@@ -87,9 +84,13 @@ impl Journal {
             → LeavesOnly (F.chip flash.old) (F.chip flash.new)
             (IsCompacted (recovered (F.chip flash.old).now) (S.slots items.now)) }
 
-        // 8 erase calls, two program calls for each item and two for the header, and at most these where it fails
+        // the erase calls of a bank, two program calls of 32 octets together for each item and two for the header, and at most these where it fails
         ensures calls { OnOk result (Begins (10 + 2 * length (S.slots items.now)) (F.chip flash.old) (F.chip flash.new)) }
         ensures most_calls { BeginsAtMost (10 + 2 * length (S.slots items.now)) (F.chip flash.old) (F.chip flash.new) }
+        ensures erases { OnOk result (Erases BANK_SECTORS (F.chip flash.old) (F.chip flash.new)) }
+        ensures most_erases { ErasesAtMost BANK_SECTORS (F.chip flash.old) (F.chip flash.new) }
+        ensures octets { OnOk result (Programs (SLOT_OCTETS * (1 + length (S.slots items.now))) (F.chip flash.old) (F.chip flash.new)) }
+        ensures most_octets { ProgramsAtMost (SLOT_OCTETS * (1 + length (S.slots items.now))) (F.chip flash.old) (F.chip flash.new) }
 
         // of every flash, honest or not
         ensures reads { (F.chip flash.new).reads ≡ (F.chip flash.old).reads }
@@ -124,8 +125,11 @@ fn erase_bank<F: Flash>(flash: &mut F, bank: u32) -> Result<(), FlashFailed>
         → OnOk result (IsErasedTo bank 8 (F.chip flash.old).now (F.chip flash.new)) }
     ensures any_moment { IsFresh (F.chip flash.old) → IsContent (F.chip flash.old).now
         → LeavesOnly (F.chip flash.old) (F.chip flash.new) (IsErasing bank (F.chip flash.old).now) }
-    ensures calls { OnOk result (Begins 8 (F.chip flash.old) (F.chip flash.new)) }
-    ensures most_calls { BeginsAtMost 8 (F.chip flash.old) (F.chip flash.new) }
+    ensures calls { OnOk result (Begins BANK_SECTORS (F.chip flash.old) (F.chip flash.new)) }
+    ensures most_calls { BeginsAtMost BANK_SECTORS (F.chip flash.old) (F.chip flash.new) }
+    ensures erases { OnOk result (Erases BANK_SECTORS (F.chip flash.old) (F.chip flash.new)) }
+    ensures most_erases { ErasesAtMost BANK_SECTORS (F.chip flash.old) (F.chip flash.new) }
+    ensures unprogrammed { (F.chip flash.new).octets ≡ (F.chip flash.old).octets }
     ensures reads { (F.chip flash.new).reads ≡ (F.chip flash.old).reads }
     ensures no_fault { OnOk result ((F.chip flash.new).faults ≡ (F.chip flash.old).faults) }
     ensures cause { OnErr result ((F.chip flash.old).faults < (F.chip flash.new).faults) }

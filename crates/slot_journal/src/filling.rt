@@ -1,11 +1,11 @@
 // Items are written into a blank bank, all before its header.
 ghost use Rattle.std.specs.Prelude.{◌≡◌, ℕ, ◌*◌, ◌<◌, ◌≤◌, List, length, IsTrue, IsOk, IfOk, OnOk, OnErr};
-ghost use Rattle.flash_model.specs.Arming.{Begins, BeginsAtMost};
+ghost use Rattle.flash_model.specs.Arming.{Begins, BeginsAtMost, Programs, ProgramsAtMost};
 ghost use Rattle.flash_model.specs.Chip.{Keeps, LeavesOnly};
 ghost use Rattle.slot_journal.specs.Banks.{IsBankBare, IsBankFilled};
 
 use crate::items::Items;
-use crate::text::write_slot;
+use crate::text::{SLOT_OCTETS, write_slot};
 use flash_model::{Flash, FlashFailed};
 use node_limits::{BANK_RECORDS, BANK_SLOTS};
 
@@ -24,6 +24,9 @@ pub fn fill_bank<F: Flash, S: Items>(
         → LeavesOnly (F.chip flash.old) (F.chip flash.new) (IsBankBare bank base) }
     ensures calls { OnOk result (Begins (2 * length (S.slots items.now)) (F.chip flash.old) (F.chip flash.new)) }
     ensures most_calls { BeginsAtMost (2 * length (S.slots items.now)) (F.chip flash.old) (F.chip flash.new) }
+    ensures unerased { (F.chip flash.new).erases ≡ (F.chip flash.old).erases }
+    ensures octets { OnOk result (Programs (SLOT_OCTETS * length (S.slots items.now)) (F.chip flash.old) (F.chip flash.new)) }
+    ensures most_octets { ProgramsAtMost (SLOT_OCTETS * length (S.slots items.now)) (F.chip flash.old) (F.chip flash.new) }
     ensures reads { (F.chip flash.new).reads ≡ (F.chip flash.old).reads }
     ensures no_fault { OnOk result ((F.chip flash.new).faults ≡ (F.chip flash.old).faults) }
     ensures cause { OnErr result ((F.chip flash.old).faults < (F.chip flash.new).faults) }

@@ -1,7 +1,7 @@
 // A blank flash becomes a journal: its items first, then the header of bank 0, so that nothing counts before all is there.
 ghost use Rattle.std.specs.Prelude.{◌≡◌, ◌⊎◌, ℕ, ◌+◌, ◌*◌, ◌<◌, ◌≤◌, List, length, false, Some, IsTrue, IsOk, IfOk, IfErr, OnOk, OnErr};
-ghost use Rattle.flash_model.specs.Arming.{Begins, BeginsAtMost};
-ghost use Rattle.flash_model.specs.Chip.{IsFresh, Keeps, LeavesOnly, Stays};
+ghost use Rattle.flash_model.specs.Arming.{Begins, BeginsAtMost, Programs, ProgramsAtMost};
+ghost use Rattle.flash_model.specs.Chip.{IsFresh, Keeps, LeavesOnly, Stays, count_of};
 ghost use Rattle.slot_definitions.specs.Slots.{recovered};
 ghost use Rattle.slot_journal.specs.Tie.{IsJournalOf};
 ghost use Rattle.slot_journal.specs.Format.{IsErased, IsFirstSet, IsFormatted, IsScanned};
@@ -52,7 +52,7 @@ impl Journal {
         ensures unchanged { IsTrue (F.chip flash.old).honest → ¬ IsErased (F.chip flash.old).now
             → Stays (F.chip flash.old) (F.chip flash.new) }
         ensures no_calls { IsTrue (F.chip flash.old).honest → ¬ IsErased (F.chip flash.old).now
-            → (F.chip flash.new).changes ≡ (F.chip flash.old).changes }
+            → count_of (F.chip flash.new) ≡ count_of (F.chip flash.old) }
         ensures value { IfOk result
             (λ j. j ≡ record { bank = 0; used = length items.now; closed = false; generation = 1; version = format }) }
         ensures kept { IsFresh (F.chip flash.old) → IfOk result (IsJournalOf (F.chip flash.new)) }
@@ -64,6 +64,9 @@ impl Journal {
         // two program calls for each item and two for the header, and at most these where it fails
         ensures calls { OnOk result (Begins (2 * length items.now + 2) (F.chip flash.old) (F.chip flash.new)) }
         ensures most_calls { BeginsAtMost (2 * length items.now + 2) (F.chip flash.old) (F.chip flash.new) }
+        ensures unerased { (F.chip flash.new).erases ≡ (F.chip flash.old).erases }
+        ensures octets { OnOk result (Programs (SLOT_OCTETS * (length items.now + 1)) (F.chip flash.old) (F.chip flash.new)) }
+        ensures most_octets { ProgramsAtMost (SLOT_OCTETS * (length items.now + 1)) (F.chip flash.old) (F.chip flash.new) }
 
         // of every flash, honest or not
         ensures no_fault { OnOk result ((F.chip flash.new).faults ≡ (F.chip flash.old).faults) }
@@ -90,6 +93,8 @@ fn first_written<F: Flash>(flash: &mut F) -> Result<Option<u32>, FlashFailed>
     ensures value { IsTrue (F.chip flash.old).honest → IfOk result (IsScanned (F.chip flash.old).now) }
     ensures stays { IsTrue (F.chip flash.old).honest → Stays (F.chip flash.old) (F.chip flash.new) }
     ensures calls { (F.chip flash.new).changes ≡ (F.chip flash.old).changes }
+    ensures unerased { (F.chip flash.new).erases ≡ (F.chip flash.old).erases }
+    ensures unprogrammed { (F.chip flash.new).octets ≡ (F.chip flash.old).octets }
     ensures no_fault { OnOk result ((F.chip flash.new).faults ≡ (F.chip flash.old).faults) }
     ensures cause { OnErr result ((F.chip flash.old).faults < (F.chip flash.new).faults) }
     ensures sure { IsTrue (F.chip flash.old).sure → IsOk result }

@@ -1,11 +1,11 @@
 // The journal: which bank counts, how many of its slots are used, and whether a write failed.
 ghost use Rattle.std.specs.Prelude.{◌≡◌, ◌⊎◌, ℕ, ◌+◌, ◌*◌, ◌<◌, ◌≤◌, true, false, Err, IsTrue, IsOk, IfOk, OnOk, OnErr};
-ghost use Rattle.flash_model.specs.Arming.{Begins, BeginsAtMost};
+ghost use Rattle.flash_model.specs.Arming.{Begins, BeginsAtMost, Programs, ProgramsAtMost, ReadsAtMost};
 ghost use Rattle.flash_model.specs.Chip.{Keeps, LeavesOnly, Stays};
 ghost use Rattle.slot_definitions.specs.Slots.{gated, text_at, recovered};
 ghost use Rattle.slot_journal.specs.Tie.{IsJournalOf, IsAppended, with_last};
 
-use crate::text::{gated_slot, read_slot, write_slot};
+use crate::text::{SLOT_OCTETS, gated_slot, read_slot, write_slot};
 use flash_model::{Flash, FlashFailed};
 use mesh_base::slot::Slot;
 use node_limits::{BANK_RECORDS, BANK_SLOTS};
@@ -96,8 +96,11 @@ impl Journal {
         ensures value { IfOk result (λ slot. slot ≡ gated (text_at (F.chip flash.old).now (1024 * self.now.bank + n))) }
         ensures stays { IsTrue (F.chip flash.old).honest → Stays (F.chip flash.old) (F.chip flash.new) }
 
-        // it makes no program or erase call
+        // it makes no program or erase call, and at most one read call
         ensures calls { (F.chip flash.new).changes ≡ (F.chip flash.old).changes }
+        ensures unerased { (F.chip flash.new).erases ≡ (F.chip flash.old).erases }
+        ensures unprogrammed { (F.chip flash.new).octets ≡ (F.chip flash.old).octets }
+        ensures most_reads { ReadsAtMost 1 (F.chip flash.old) (F.chip flash.new) }
 
         // of every flash, honest or not
         ensures no_fault { OnOk result ((F.chip flash.new).faults ≡ (F.chip flash.old).faults) }
@@ -142,9 +145,12 @@ impl Journal {
             → LeavesOnly (F.chip flash.old) (F.chip flash.new)
             (IsAppended (recovered (F.chip flash.old).now) item.now) }
 
-        // two program calls, and at most two where it fails
+        // two program calls, of 32 octets together, and at most these where it fails
         ensures calls { OnOk result (Begins 2 (F.chip flash.old) (F.chip flash.new)) }
         ensures most_calls { BeginsAtMost 2 (F.chip flash.old) (F.chip flash.new) }
+        ensures unerased { (F.chip flash.new).erases ≡ (F.chip flash.old).erases }
+        ensures octets { OnOk result (Programs SLOT_OCTETS (F.chip flash.old) (F.chip flash.new)) }
+        ensures most_octets { ProgramsAtMost SLOT_OCTETS (F.chip flash.old) (F.chip flash.new) }
 
         // of every flash, honest or not
         ensures reads { (F.chip flash.new).reads ≡ (F.chip flash.old).reads }

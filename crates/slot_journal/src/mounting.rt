@@ -1,9 +1,11 @@
 // A journal is found again on its flash.
-ghost use Rattle.std.specs.Prelude.{◌≡◌, ℕ, ◌<◌, ◌≤◌, false, Some, IsTrue, IsOk, IfOk, IfErr, OnOk, OnErr};
+ghost use Rattle.std.specs.Prelude.{◌≡◌, ℕ, ◌+◌, ◌<◌, ◌≤◌, false, Some, IsTrue, IsOk, IfOk, IfErr, OnOk, OnErr};
+ghost use Rattle.flash_model.specs.Arming.{ReadsAtMost};
 ghost use Rattle.flash_model.specs.Chip.{IsFresh, Keeps, Stays};
-ghost use Rattle.slot_definitions.specs.Slots.{slots_to, recovered};
+ghost use Rattle.node_limits.specs.declared.TheConstants.{BANK_RECORDS};
+ghost use Rattle.slot_definitions.specs.Slots.{slots_to, recovered, IsUsed};
 ghost use Rattle.slot_journal.specs.Headers.{IsTidy};
-ghost use Rattle.slot_journal.specs.Tie.{IsJournalOf, IsMounted, IsUsed};
+ghost use Rattle.slot_journal.specs.Tie.{IsJournalOf, IsMounted};
 ghost use Rattle.slot_journal.specs.Causes.{IsMountCause};
 
 use crate::header::choose;
@@ -48,8 +50,11 @@ impl Journal {
             → IfOk result (IsJournalOf (F.chip flash.new)) }
         ensures stays { IsTrue (F.chip flash.old).honest → Stays (F.chip flash.old) (F.chip flash.new) }
 
-        // it makes no program or erase call
+        // it makes no program or erase call, and reads the two headers and at most each slot of a bank
         ensures calls { (F.chip flash.new).changes ≡ (F.chip flash.old).changes }
+        ensures unerased { (F.chip flash.new).erases ≡ (F.chip flash.old).erases }
+        ensures unprogrammed { (F.chip flash.new).octets ≡ (F.chip flash.old).octets }
+        ensures most_reads { ReadsAtMost (BANK_SLOTS + 1) (F.chip flash.old) (F.chip flash.new) }
 
         // of every flash, honest or not
         ensures no_fault { OnOk result ((F.chip flash.new).faults ≡ (F.chip flash.old).faults) }
@@ -80,6 +85,9 @@ fn count_used<F: Flash>(flash: &mut F, bank: u32) -> Result<u32, FlashFailed>
     ensures value { IsTrue (F.chip flash.old).honest → IfOk result (IsUsed (F.chip flash.old).now bank) }
     ensures stays { IsTrue (F.chip flash.old).honest → Stays (F.chip flash.old) (F.chip flash.new) }
     ensures calls { (F.chip flash.new).changes ≡ (F.chip flash.old).changes }
+    ensures unerased { (F.chip flash.new).erases ≡ (F.chip flash.old).erases }
+    ensures unprogrammed { (F.chip flash.new).octets ≡ (F.chip flash.old).octets }
+    ensures most_reads { ReadsAtMost BANK_RECORDS (F.chip flash.old) (F.chip flash.new) }
     ensures no_fault { OnOk result ((F.chip flash.new).faults ≡ (F.chip flash.old).faults) }
     ensures cause { OnErr result ((F.chip flash.old).faults < (F.chip flash.new).faults) }
     ensures sure { IsTrue (F.chip flash.old).sure → IsOk result }

@@ -1,6 +1,6 @@
 // One slot, written and read.
 ghost use Rattle.std.specs.Prelude.{◌≡◌, ℕ, ◌+◌, ◌*◌, ◌<◌, ◌↔◌, [], ◌∷◌, ◌++◌, IsTrue, IsOk, IfOk, OnOk, OnErr};
-ghost use Rattle.flash_model.specs.Arming.{Begins, BeginsAtMost};
+ghost use Rattle.flash_model.specs.Arming.{Begins, BeginsAtMost, Programs, ProgramsAtMost, ReadsAtMost};
 ghost use Rattle.flash_model.specs.Chip.{IsFresh, Keeps, LeavesOnly, Stays};
 ghost use Rattle.slot_journal.specs.Slots.{IsWritten, IsSlotWrite};
 ghost use Rattle.slot_definitions.specs.Slots.{gated, text_at, text_of, blank_text};
@@ -23,6 +23,9 @@ pub fn write_slot<F: Flash>(flash: &mut F, n: u32, slot: &Slot) -> Result<(), Fl
         → LeavesOnly (F.chip flash.old) (F.chip flash.new) (IsSlotWrite n (text_of slot.now) (F.chip flash.old).now) }
     ensures calls { OnOk result (Begins 2 (F.chip flash.old) (F.chip flash.new)) }
     ensures most_calls { BeginsAtMost 2 (F.chip flash.old) (F.chip flash.new) }
+    ensures unerased { (F.chip flash.new).erases ≡ (F.chip flash.old).erases }
+    ensures octets { OnOk result (Programs SLOT_OCTETS (F.chip flash.old) (F.chip flash.new)) }
+    ensures most_octets { ProgramsAtMost SLOT_OCTETS (F.chip flash.old) (F.chip flash.new) }
     ensures reads { (F.chip flash.new).reads ≡ (F.chip flash.old).reads }
     ensures no_fault { OnOk result ((F.chip flash.new).faults ≡ (F.chip flash.old).faults) }
     ensures cause { OnErr result ((F.chip flash.old).faults < (F.chip flash.new).faults) }
@@ -49,6 +52,9 @@ fn write_front<F: Flash>(
         (IsSlotWrite n (front.now ++ 0 ∷ []) (F.chip flash.old).now) }
     ensures calls { OnOk result (Begins 2 (F.chip flash.old) (F.chip flash.new)) }
     ensures most_calls { BeginsAtMost 2 (F.chip flash.old) (F.chip flash.new) }
+    ensures unerased { (F.chip flash.new).erases ≡ (F.chip flash.old).erases }
+    ensures octets { OnOk result (Programs SLOT_OCTETS (F.chip flash.old) (F.chip flash.new)) }
+    ensures most_octets { ProgramsAtMost SLOT_OCTETS (F.chip flash.old) (F.chip flash.new) }
     ensures reads { (F.chip flash.new).reads ≡ (F.chip flash.old).reads }
     ensures no_fault { OnOk result ((F.chip flash.new).faults ≡ (F.chip flash.old).faults) }
     ensures cause { OnErr result ((F.chip flash.old).faults < (F.chip flash.new).faults) }
@@ -65,6 +71,9 @@ pub fn read_slot<F: Flash>(flash: &mut F, n: u32) -> Result<[u8; SLOT_OCTETS], F
     ensures value { IfOk result (λ text. text ≡ text_at (F.chip flash.old).now n) }
     ensures stays { IsTrue (F.chip flash.old).honest → Stays (F.chip flash.old) (F.chip flash.new) }
     ensures calls { (F.chip flash.new).changes ≡ (F.chip flash.old).changes }
+    ensures unerased { (F.chip flash.new).erases ≡ (F.chip flash.old).erases }
+    ensures unprogrammed { (F.chip flash.new).octets ≡ (F.chip flash.old).octets }
+    ensures most_reads { ReadsAtMost 1 (F.chip flash.old) (F.chip flash.new) }
     ensures no_fault { OnOk result ((F.chip flash.new).faults ≡ (F.chip flash.old).faults) }
     ensures cause { OnErr result ((F.chip flash.old).faults < (F.chip flash.new).faults) }
     ensures sure { IsTrue (F.chip flash.old).sure → IsOk result }

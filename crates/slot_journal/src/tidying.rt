@@ -45,6 +45,8 @@ pub fn check_tidy<F: Flash>(flash: &mut F) -> Result<(), Untidy>
 
     // it makes no program or erase call
     ensures calls { (F.chip flash.new).changes ≡ (F.chip flash.old).changes }
+    ensures unerased { (F.chip flash.new).erases ≡ (F.chip flash.old).erases }
+    ensures unprogrammed { (F.chip flash.new).octets ≡ (F.chip flash.old).octets }
 
     // of every flash, honest or not
     ensures no_fault { OnOk result ((F.chip flash.new).faults ≡ (F.chip flash.old).faults) }

@@ -1,11 +1,12 @@
 use Rattle.std.proofs.Common.{◌≡◌, ℕ, ◌+◌, ◌<◌, ◌∙◌, ◌++◌, length, take, refl, sym, subst, arith, true≢false}
 use Rattle.std.proofs.lemmas.List.{append-nil}
 use Rattle.event_storing.specs.Storing.{moved_to}
-use Rattle.flash_model.proofs.Runs.{begins_none, keeps_more, keeps_none}
+use Rattle.flash_model.specs.Chip.{count_of}
+use Rattle.flash_model.proofs.Runs.{keeps_more, keeps_none}
 use Rattle.node_records.specs.Tables.{config_in}
 use Rattle.node_store.proofs.Mounts.{err_of, on_err_all, on_ok_none}
 use Rattle.node_store.proofs.Puts.{puts_of}
-use Rattle.node_store.proofs.Fronts.{all_calls, all_most, calls_at_most, calls_more, config_all, config_more, front_more, fronts_more, fronts_none, marks_more, tie_all, value_all, value_more, value_none}
+use Rattle.node_store.proofs.Fronts.{all_calls, all_most, all_octets, calls_at_most, calls_more, config_all, config_more, erases_at_most, front_more, fronts_more, fronts_none, marks_more, most_octets, none_erased, octets_at_most, put_none, tie_all, value_all, value_more, value_none}
 use Rattle.seq_reserve.specs.Reserving.{IsDurable}
 use Rattle.seq_reserve.proofs.Keeping.{durable_of}
 use Rattle.store_definitions.specs.Wear.{CostsAndUses}
@@ -31,8 +32,8 @@ loop-item-init g c =
       advanced = sym (append-nil (moved_to reserve.keeper));
       fronts = λ records tie. fronts_none chip reserve.store records c.args.items.now tie (laws.only_now flash);
       durable = λ records tie. subst (λ n. IsDurable chip n) (sym c.requires.published) (durable_of chip reserve.store records tie);
-      calls = λ room. (begins_none chip (laws.counted flash), omega arith);
-      wear = paid_none reserve.store.journal.used chip.changes;
+      calls = λ room. put_none chip reserve.store (laws.counted flash) (laws.counted_erases flash) (laws.counted_octets flash);
+      wear = paid_none reserve.store.journal.used (count_of chip);
       reads = refl;
       faults = refl;
     }
@@ -67,8 +68,8 @@ loop-item-preserved g c =
           let all = records ++ take i items in
           fronts_more items i _ less start first records mid store fronts new after may.1 put.puts.value (put.puts.kept all fronts.tie) (put.cut.any_moment all fronts.tie) (put.cut.mark all fronts.tie);
       durable = λ records tie. put.durable (records ++ take i items) (before.fronts records tie).tie;
-      calls = λ room. calls_more (length items) i start mid new first store less room (before.calls room) after put.costs.calls put.used;
-      wear = paid_more first.journal.used i 1 start.changes mid.changes new.changes store.journal.used after.journal.used before.wear put.wear;
+      calls = λ room. calls_more (length items) i start mid new first store less room (before.calls room) after put.costs.calls put.costs.erases put.costs.octets put.used;
+      wear = paid_more first.journal.used i 1 (count_of start) (count_of mid) (count_of new) store.journal.used after.journal.used before.wear put.wear;
       reads = put.leaves.reads ∙ before.reads;
       faults = put.leaves.no_fault ∙ before.faults;
     }
@@ -128,11 +129,22 @@ returns-in_err-store_one-clause-durable g c records tie =
 
 pub returns-in_err-store_one-clause-costs : goal.returns-in_err-store_one-clause-costs
 returns-in_err-store_one-clause-costs g c room =
-    let before = c.loop-item.invariant in
+    let n : ℕ = length c.args.items.now in
+    let i = c.loop-item.item-index in
+    let start = g.F.Flash.chip c.args.flash.now in
+    let mid = g.F.Flash.chip c.loop-item.flash in
+    let new = g.F.Flash.chip c.store_one.new.flash in
+    let first = c.args.reserve.now.store in
+    let store = c.loop-item.reserve.store in
+    let costs = c.in_err-store_one.ensures.costs in
+    let so = c.loop-item.invariant.calls room in
     record {
       calls = on_ok_none c.from_residual.result c.in_err-store_one.field-0.0 c.from_residual.ensures.1 _;
-      most_calls = calls_at_most (length c.args.items.now) c.loop-item.item-index (g.F.Flash.chip c.args.flash.now) (g.F.Flash.chip c.loop-item.flash) (g.F.Flash.chip c.store_one.new.flash)
-          c.args.reserve.now.store c.loop-item.reserve.store c.loop-item-test.true room (before.calls room) c.in_err-store_one.ensures.costs.most_calls;
+      erases = on_ok_none c.from_residual.result c.in_err-store_one.field-0.0 c.from_residual.ensures.1 _;
+      octets = on_ok_none c.from_residual.result c.in_err-store_one.field-0.0 c.from_residual.ensures.1 _;
+      most_calls = calls_at_most n i start mid new first store c.loop-item-test.true room so costs.most_calls;
+      most_erases = erases_at_most n i start mid new first store c.loop-item-test.true room so costs.most_erases;
+      most_octets = octets_at_most n i start mid new first store c.loop-item-test.true room so costs.most_octets;
     }
 
 pub returns-in_err-store_one-clause-most_wear : goal.returns-in_err-store_one-clause-most_wear
@@ -144,8 +156,8 @@ returns-in_err-store_one-clause-most_wear g c =
     let start = g.F.Flash.chip c.args.flash.now in
     let mid = g.F.Flash.chip c.loop-item.flash in
     let new = g.F.Flash.chip c.store_one.new.flash in
-    at_most_of_more used (i + 1) n start.changes new.changes (omega (arith, less))
-    (at_most_more used i 1 start.changes mid.changes new.changes c.loop-item.reserve.store.journal.used c.loop-item.invariant.wear c.in_err-store_one.ensures.most_wear)
+    at_most_of_more used (i + 1) n (count_of start) (count_of new) (omega (arith, less))
+    (at_most_more used i 1 (count_of start) (count_of mid) (count_of new) c.loop-item.reserve.store.journal.used c.loop-item.invariant.wear c.in_err-store_one.ensures.most_wear)
 
 pub returns-in_err-store_one-clause-leaves : goal.returns-in_err-store_one-clause-leaves
 returns-in_err-store_one-clause-leaves g c =
@@ -186,14 +198,19 @@ returns-clause-durable g c records tie = c.loop-item.invariant.durable records t
 
 pub returns-clause-costs : goal.returns-clause-costs
 returns-clause-costs g c room =
-    let n = length c.args.items.now in
+    let n : ℕ = length c.args.items.now in
     let i = c.loop-item.item-index in
     let start = g.F.Flash.chip c.args.flash.now in
     let new = g.F.Flash.chip c.loop-item.flash in
-    let calls = (c.loop-item.invariant.calls room).0 in
+    let so = c.loop-item.invariant.calls room in
+    let all : i ≡ n = omega (arith, c.loop-item-test.false, c.loop-item.auto.item-index-end) in
     record {
-      calls = all_calls n i start new (omega (arith, c.loop-item-test.false, c.loop-item.auto.item-index-end)) calls;
-      most_calls = all_most n i start new (omega (arith, c.loop-item-test.false, c.loop-item.auto.item-index-end)) calls;
+      calls = all_calls n i start new all so.calls;
+      erases = so.erases;
+      octets = all_octets n i start new all so.octets;
+      most_calls = all_most n i start new all so.calls;
+      most_erases = none_erased start new so.erases;
+      most_octets = most_octets n i start new all so.octets;
     }
 
 pub returns-clause-wear : goal.returns-clause-wear
@@ -203,13 +220,13 @@ returns-clause-wear g c =
     let all : i ≡ n = omega (arith, c.loop-item-test.false, c.loop-item.auto.item-index-end) in
     let start = g.F.Flash.chip c.args.flash.now in
     let new = g.F.Flash.chip c.loop-item.flash in
-    subst (λ (k : ℕ). CostsAndUses c.args.reserve.now.store.journal.used k start.changes new.changes c.loop-item.reserve.store.journal.used) all c.loop-item.invariant.wear
+    subst (λ (k : ℕ). CostsAndUses c.args.reserve.now.store.journal.used k (count_of start) (count_of new) c.loop-item.reserve.store.journal.used) all c.loop-item.invariant.wear
 
 pub returns-clause-most_wear : goal.returns-clause-most_wear
 returns-clause-most_wear g c =
     let start = g.F.Flash.chip c.args.flash.now in
     let new = g.F.Flash.chip c.loop-item.flash in
-    at_most_of c.args.reserve.now.store.journal.used (length c.args.items.now) start.changes new.changes c.loop-item.reserve.store.journal.used (returns-clause-wear g c)
+    at_most_of c.args.reserve.now.store.journal.used (length c.args.items.now) (count_of start) (count_of new) c.loop-item.reserve.store.journal.used (returns-clause-wear g c)
 
 pub returns-clause-leaves : goal.returns-clause-leaves
 returns-clause-leaves g c = record { reads = c.loop-item.invariant.reads; no_fault = c.loop-item.invariant.faults; frame = c.loop-item.invariant.keeps }

@@ -1,14 +1,13 @@
-use Rattle.std.proofs.Common.{◌≡◌, ◌+◌, ◌*◌, ◌≤◌, List, ◌++◌, false}
+use Rattle.std.proofs.Common.{◌≡◌, ◌+◌, ◌≤◌, List, ◌++◌, false}
 use Rattle.std.specs.Prelude.{length, take, drop, fold}
 use Rattle.event_records.specs.Putting.{AreMoves, ArePuttable}
 use Rattle.event_storing.specs.Storing.{advances_of, moved_to}
-use Rattle.flash_model.specs.Arming.{Begins}
-use Rattle.flash_model.specs.Chip.{Keeps}
+use Rattle.flash_model.specs.Chip.{Keeps, count_of}
 use Rattle.record_types.specs.declared.records.StoreRecord.{StoreRecord}
 use Rattle.node_records.specs.Meaning.{IsMeaningOf}
 use Rattle.node_records.specs.Tables.{config_in}
 use Rattle.node_store.specs.Tie.{IsStoreOf}
-use Rattle.node_store.proofs.Fronts.{Fronts}
+use Rattle.node_store.proofs.Fronts.{Fronts, HasPut}
 use Rattle.seq_reserve.specs.Reserving.{IsDurable, IsPublished}
 use Rattle.store_definitions.specs.Config.{changed}
 use Rattle.store_definitions.specs.Wear.{CostsAndUses}
@@ -27,8 +26,8 @@ invariant-loop-item g l = record {
   advanced : moved_to l.reserve.keeper ≡ moved_to l.initial.reserve.keeper ++ advances_of (config_in l.initial.reserve.store.persist) (take l.item-index l.items);
   fronts : (records : List StoreRecord) → IsStoreOf (g.F.Flash.chip l.initial.flash) l.initial.reserve.store records → Fronts (g.F.Flash.chip l.initial.flash) l.initial.reserve.store records l.items l.item-index (g.F.Flash.chip l.flash) l.reserve.store;
   durable : (records : List StoreRecord) → IsStoreOf (g.F.Flash.chip l.initial.flash) l.initial.reserve.store records → IsDurable (g.F.Flash.chip l.flash) l.reserve.keeper.mark;
-  calls : l.initial.reserve.store.journal.used + length l.items ≤ 1023 → Begins (2 * l.item-index) (g.F.Flash.chip l.initial.flash) (g.F.Flash.chip l.flash) × (l.reserve.store.journal.used ≡ l.initial.reserve.store.journal.used + l.item-index);
-  wear : CostsAndUses l.initial.reserve.store.journal.used l.item-index (g.F.Flash.chip l.initial.flash).changes (g.F.Flash.chip l.flash).changes l.reserve.store.journal.used;
+  calls : l.initial.reserve.store.journal.used + length l.items ≤ 1023 → HasPut l.item-index (g.F.Flash.chip l.initial.flash) (g.F.Flash.chip l.flash) l.initial.reserve.store l.reserve.store;
+  wear : CostsAndUses l.initial.reserve.store.journal.used l.item-index (count_of (g.F.Flash.chip l.initial.flash)) (count_of (g.F.Flash.chip l.flash)) l.reserve.store.journal.used;
   reads : (g.F.Flash.chip l.flash).reads ≡ (g.F.Flash.chip l.initial.flash).reads;
   faults : (g.F.Flash.chip l.flash).faults ≡ (g.F.Flash.chip l.initial.flash).faults;
 }

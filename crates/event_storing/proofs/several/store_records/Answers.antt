@@ -1,5 +1,7 @@
 use Rattle.std.proofs.Common.{◌≡◌, ◌+◌, ◌*◌, ◌≤◌, List, [], sym, subst}
 use Rattle.std.specs.Prelude.{length, OnOk}
+use Rattle.flash_model.specs.Chip.{count_of}
+use Rattle.node_store.specs.Calls.{only_slots}
 use Rattle.node_store.specs.Tie.{IsFront}
 use Rattle.node_store.specs.Writing.{CostsCalls, CutLeaves, Puts}
 use Rattle.node_store.proofs.Fronts.{fronts_none}
@@ -47,19 +49,19 @@ returns-then-is_empty-clause-wear g c usable =
     let chip = g.F.Flash.chip c.args.flash.now in
     let used = c.args.reserve.now.store.journal.used in
     let is : c.args.records.now ≡ [] = c.is_empty.ensures.0 c.if-is_empty.true in
-    subst (λ (items : List StoreRecord). CostsAndUses used (length items) chip.changes chip.changes used) (sym is) (paid_none used chip.changes)
+    subst (λ (items : List StoreRecord). CostsAndUses used (length items) (count_of chip) (count_of chip) used) (sym is) (paid_none used (count_of chip))
 
 pub returns-then-is_empty-clause-most_wear : goal.returns-then-is_empty-clause-most_wear
 returns-then-is_empty-clause-most_wear g c =
     let chip = g.F.Flash.chip c.args.flash.now in
-    at_most_none c.args.reserve.now.store.journal.used (length c.args.records.now) chip.changes
+    at_most_none c.args.reserve.now.store.journal.used (length c.args.records.now) (count_of chip)
 
 -- the store is closed
 
 pub returns-then-is_closed-clause-most_wear : goal.returns-then-is_closed-clause-most_wear
 returns-then-is_closed-clause-most_wear g c =
     let chip = g.F.Flash.chip c.args.flash.now in
-    at_most_none c.args.reserve.now.store.journal.used (length c.args.records.now) chip.changes
+    at_most_none c.args.reserve.now.store.journal.used (length c.args.records.now) (count_of chip)
 
 -- each of them
 
@@ -86,7 +88,7 @@ returns-clause-costs g c =
     let old = g.F.Flash.chip c.args.flash.now in
     let new = g.F.Flash.chip c.store_each.new.flash in
     let used = c.args.reserve.now.store.journal.used in
-    subst (λ (items : List StoreRecord). used + length items ≤ 1023 → CostsCalls (2 * length items) c.store_each.result old new)
+    subst (λ (items : List StoreRecord). used + length items ≤ 1023 → CostsCalls (only_slots (length items)) c.store_each.result old new)
     c.as_slice.ensures.value c.store_each.ensures.costs
 
 pub returns-clause-wear : goal.returns-clause-wear
@@ -94,7 +96,7 @@ returns-clause-wear g c usable =
     let old = g.F.Flash.chip c.args.flash.now in
     let new = g.F.Flash.chip c.store_each.new.flash in
     let used = c.args.reserve.now.store.journal.used in
-    subst (λ (items : List StoreRecord). OnOk c.store_each.result (CostsAndUses used (length items) old.changes new.changes c.store_each.new.reserve.store.journal.used))
+    subst (λ (items : List StoreRecord). OnOk c.store_each.result (CostsAndUses used (length items) (count_of old) (count_of new) c.store_each.new.reserve.store.journal.used))
     c.as_slice.ensures.value c.store_each.ensures.wear
 
 pub returns-clause-most_wear : goal.returns-clause-most_wear
@@ -102,4 +104,4 @@ returns-clause-most_wear g c =
     let old = g.F.Flash.chip c.args.flash.now in
     let new = g.F.Flash.chip c.store_each.new.flash in
     let used = c.args.reserve.now.store.journal.used in
-    subst (λ (items : List StoreRecord). CostsAtMost used (length items) old.changes new.changes) c.as_slice.ensures.value c.store_each.ensures.most_wear
+    subst (λ (items : List StoreRecord). CostsAtMost used (length items) (count_of old) (count_of new)) c.as_slice.ensures.value c.store_each.ensures.most_wear

@@ -1,5 +1,5 @@
 use Rattle.std.proofs.Common.{◌+◌, ◌∙◌, refl}
-use Rattle.flash_model.proofs.Runs.{keeps_none, keeps_more, begins_none, begins_more}
+use Rattle.flash_model.proofs.Runs.{keeps_none, keeps_more, begins_none, begins_more, erases_none, erases_more}
 use Rattle.slot_journal.proofs.Erases.{erased_none, none_erased, erased_more, erase_fresh, erase_leaves}
 use Rattle.slot_journal.proofs.compacting.erase_bank.Goals as goal
 
@@ -13,6 +13,8 @@ loop-k-init g c =
       erased = λ fresh whole. erased_none c.args.bank chip fresh whole;
       leaves = λ fresh whole. none_erased c.args.bank chip (laws.only_now flash) fresh whole;
       calls = begins_none chip (laws.counted flash);
+      erases = erases_none chip (laws.counted_erases flash) (laws.counted flash);
+      unprogrammed = refl;
       reads = refl;
       faults = refl;
     }
@@ -34,6 +36,8 @@ loop-k-preserved g c =
           let so = before.erased fresh whole in
           erase_leaves c.args.bank c.loop-k.k start.now mid c.requires c.loop-k-test.true whole so start new (before.leaves fresh whole) (did.any_moment so.fresh.honest);
       calls = begins_more c.loop-k.k 1 (c.loop-k.k + 1) start mid new refl before.calls did.begins;
+      erases = erases_more c.loop-k.k 1 (c.loop-k.k + 1) start mid new refl before.erases did.erases;
+      unprogrammed = did.unprogrammed ∙ before.unprogrammed;
       reads = did.reads ∙ before.reads;
       faults = did.no_fault ∙ before.faults;
     }

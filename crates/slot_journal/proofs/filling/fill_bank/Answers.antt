@@ -3,7 +3,7 @@ use Rattle.std.specs.Prelude.{slice_get}
 use Rattle.std.proofs.lemmas.Option.{get_or_from_slice_get, slice_get_within}
 use Rattle.node_limits.specs.declared.TheConstants.{BANK_RECORDS}
 use Rattle.mesh_base.specs.declared.slot.Slot.{Slot}
-use Rattle.flash_model.proofs.Runs.{keeps_none, keeps_more, begins_none, begins_more}
+use Rattle.flash_model.proofs.Runs.{keeps_none, keeps_more, begins_none, begins_more, programs_none, programs_more}
 use Rattle.slot_definitions.specs.Slots.{text_of}
 use Rattle.slot_journal.specs.Banks.{IsBankFilled}
 use Rattle.slot_journal.proofs.Fills.{filled_more, next_item, item_leaves, none_leaves, past_all}
@@ -20,6 +20,8 @@ loop-slot-init g c =
       filled = λ base so. so;
       leaves = λ base so. none_leaves c.args.bank (g.S.Items.slots c.args.items.now) base chip (laws.only_now flash) so;
       calls = begins_none chip (laws.counted flash);
+      unerased = refl;
+      octets = programs_none chip (laws.counted_octets flash);
       reads = refl;
       faults = refl;
     }
@@ -53,6 +55,8 @@ loop-slot-preserved g c =
           let so = before.filled base empty in
           item_leaves bank items k base mid c.requires.low few so start new (text_of item) (before.leaves base empty) (wrote.any_moment so.fresh (next_item bank items k base mid c.requires.low few so));
       calls = begins_more (2 * k) 2 (2 * (k + 1)) start mid new (omega arith) before.calls wrote.calls;
+      unerased = wrote.unerased ∙ before.unerased;
+      octets = programs_more (32 * k) 32 (32 * (k + 1)) start mid new (omega arith) before.octets wrote.octets;
       reads = wrote.reads ∙ before.reads;
       faults = wrote.no_fault ∙ before.faults;
     }
@@ -76,6 +80,12 @@ returns-in_err-write_slot-clause-most_calls g c =
     let less : c.loop-slot.count < length (g.S.Items.slots c.args.items.now) = slice_get_within (g.S.Items.slots c.args.items.now) c.loop-slot.count c.in-Some.slot (sym c.in-Some.ensures.value) in
     omega (arith, less, before.calls, c.in_err-write_slot.ensures.most_calls)
 
+pub returns-in_err-write_slot-clause-most_octets : goal.returns-in_err-write_slot-clause-most_octets
+returns-in_err-write_slot-clause-most_octets g c =
+    let before = c.loop-slot.invariant in
+    let less : c.loop-slot.count < length (g.S.Items.slots c.args.items.now) = slice_get_within (g.S.Items.slots c.args.items.now) c.loop-slot.count c.in-Some.slot (sym c.in-Some.ensures.value) in
+    omega (arith, less, before.octets, c.in_err-write_slot.ensures.most_octets)
+
 pub returns-clause-count : goal.returns-clause-count
 returns-clause-count g c =
     let past : length (g.S.Items.slots c.args.items.now) ≤ c.loop-slot.count = past_all (g.S.Items.slots c.args.items.now) c.loop-slot.count (sym c.slot.ensures.value ∙ c.in_default.is) in
@@ -92,3 +102,9 @@ returns-clause-calls g c =
     let past : length (g.S.Items.slots c.args.items.now) ≤ c.loop-slot.count = past_all (g.S.Items.slots c.args.items.now) c.loop-slot.count (sym c.slot.ensures.value ∙ c.in_default.is) in
     let all : c.loop-slot.count ≡ length (g.S.Items.slots c.args.items.now) = omega (arith, past, c.loop-slot.invariant.within) in
     rw (sym all) c.loop-slot.invariant.calls
+
+pub returns-clause-octets : goal.returns-clause-octets
+returns-clause-octets g c =
+    let past : length (g.S.Items.slots c.args.items.now) ≤ c.loop-slot.count = past_all (g.S.Items.slots c.args.items.now) c.loop-slot.count (sym c.slot.ensures.value ∙ c.in_default.is) in
+    let all : c.loop-slot.count ≡ length (g.S.Items.slots c.args.items.now) = omega (arith, past, c.loop-slot.invariant.within) in
+    rw (sym all) c.loop-slot.invariant.octets

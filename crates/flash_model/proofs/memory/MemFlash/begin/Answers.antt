@@ -2,7 +2,7 @@ use Rattle.std.proofs.Common.{◌≡◌, ◌<◌, ◌∙◌, ◌++◌, ◌∷◌
 use Rattle.flash_model.specs.declared.past.Past.{Past}
 use Rattle.flash_model.specs.Course.{call_of, is_failing, course_of}
 use Rattle.flash_model.specs.Past.{noted}
-use Rattle.flash_model.proofs.Began.{began_whole, began_cut, began_ahead, next_reached, next_ahead}
+use Rattle.flash_model.proofs.Began.{began_whole, began_cut, began_ahead, began_within, next_reached, next_ahead, next_within}
 use Rattle.flash_model.proofs.Moments.{contents_more}
 use Rattle.flash_model.proofs.memory.MemFlash.begin.Goals as goal
 
@@ -25,4 +25,7 @@ invariant_of-self c =
           (subst (λ (p : Past). p.cycled < p.faults) (sym is) all.0, next_reached _ _ _ _ arm changes all.1);
       ahead = λ not. next_ahead _ _ _ _ arm changes (began_ahead before.past found before.changes before.failed before.arm before.ahead (sym fails ∙ not));
       few = omega (arith, changes);
+      fewer = omega (arith, before.fewer, changes);
+      counted = before.counted;
+      within = λ not. next_within _ _ _ _ arm changes (began_within before.changes before.failed before.arm before.within (sym fails ∙ not));
     }

@@ -14,11 +14,14 @@ invariant_of-self c =
       cut = λ yes. absurd (true≢false (sym yes));
       ahead = λ not. refl;
       few = omega arith;
+      fewer = omega arith;
+      counted = omega arith;
+      within = λ not. refl;
     }
 
 pub returns-clause-any_moment : goal.returns-clause-any_moment
 returns-clause-any_moment c honest =
-    time_note c.args.self.now.past c.note.new.self c.args.self.now.octets.items c.args.self.now.octets.items c.args.self.now.changes 0 c.args.self.now.reads 0 c.args.self.now.arm None
+    time_note c.args.self.now.past c.note.new.self c.args.self.now.octets.items c.args.self.now.octets.items c.args.self.now.changes 0 c.args.self.now.erases 0 c.args.self.now.programmed 0 c.args.self.now.reads 0 c.args.self.now.arm None
     (ap (λ (p : Past). p.contents) c.note.ensures ∙ ap (λ (l : List ℕ). c.args.self.now.past.contents ++ l ∷ []) c.deref.ensures.value) (λ d. d ≡ c.args.self.now.octets.items) refl
 
 pub returns-clause-frame : goal.returns-clause-frame
@@ -26,6 +29,6 @@ returns-clause-frame c = record {
   honest = refl;
   steady = refl;
   faults = search rules;
-  past = past_note c.args.self.now.past c.note.new.self c.args.self.now.octets.items c.args.self.now.octets.items c.args.self.now.changes 0 c.args.self.now.reads 0 c.args.self.now.arm None
+  past = past_note c.args.self.now.past c.note.new.self c.args.self.now.octets.items c.args.self.now.octets.items c.args.self.now.changes 0 c.args.self.now.erases 0 c.args.self.now.programmed 0 c.args.self.now.reads 0 c.args.self.now.arm None
       (ap (λ (p : Past). p.contents) c.note.ensures ∙ ap (λ (l : List ℕ). c.args.self.now.past.contents ++ l ∷ []) c.deref.ensures.value);
 }

@@ -14,11 +14,14 @@ invariant_of-self c =
       cut = λ yes. let was = before.cut yes in let more = was.0 in (subst (λ (p : Past). p.cycled < p.faults) (sym c.note.ensures) (omega arith), was.1);
       ahead = λ not. absurd (true≢false (sym c.if-self.true ∙ not));
       few = before.few;
+      fewer = before.fewer;
+      counted = before.counted;
+      within = λ not. absurd (true≢false (sym c.if-self.true ∙ not));
     }
 
 pub returns-then-self-clause-stays : goal.returns-then-self-clause-stays
 returns-then-self-clause-stays c honest =
-    stays_note c.args.self.now.past c.note.new.self c.args.self.now.octets.items c.args.self.now.octets.items c.args.self.now.changes c.args.self.now.changes c.args.self.now.reads c.saturating_add-self.result c.args.self.now.arm c.args.self.now.arm
+    stays_note c.args.self.now.past c.note.new.self c.args.self.now.octets.items c.args.self.now.octets.items c.args.self.now.changes c.args.self.now.changes c.args.self.now.erases c.args.self.now.erases c.args.self.now.programmed c.args.self.now.programmed c.args.self.now.reads c.saturating_add-self.result c.args.self.now.arm c.args.self.now.arm
     (ap (λ (p : Past). p.contents) c.note.ensures ∙ ap (λ (l : List ℕ). c.args.self.now.past.contents ++ l ∷ []) c.deref.ensures.value) refl
 
 pub returns-then-self-clause-frame : goal.returns-then-self-clause-frame
@@ -28,6 +31,6 @@ returns-then-self-clause-frame c = record {
   setting = search rules;
   later = search rules;
   sure = search rules;
-  past = past_note c.args.self.now.past c.note.new.self c.args.self.now.octets.items c.args.self.now.octets.items c.args.self.now.changes c.args.self.now.changes c.args.self.now.reads c.saturating_add-self.result c.args.self.now.arm c.args.self.now.arm
+  past = past_note c.args.self.now.past c.note.new.self c.args.self.now.octets.items c.args.self.now.octets.items c.args.self.now.changes c.args.self.now.changes c.args.self.now.erases c.args.self.now.erases c.args.self.now.programmed c.args.self.now.programmed c.args.self.now.reads c.saturating_add-self.result c.args.self.now.arm c.args.self.now.arm
       (ap (λ (p : Past). p.contents) c.note.ensures ∙ ap (λ (l : List ℕ). c.args.self.now.past.contents ++ l ∷ []) c.deref.ensures.value);
 }

@@ -1,12 +1,12 @@
 use Rattle.std.proofs.Common.{◌≡◌, inl, inr, ⊎_elim, ap, ◌∙◌, arith}
 use Rattle.std.specs.Prelude.{Err, IsTrue}
-use Rattle.flash_model.specs.Chip.{Stays}
+use Rattle.flash_model.specs.Chip.{Stays, count_of}
 use Rattle.flash_model.proofs.Runs.{stays_more}
 use Rattle.node_store.specs.declared.mounting.StoreFault.TheVariants as F
 use Rattle.node_store.specs.Causes.{IsNotFlash, IsStoreCause}
 use Rattle.node_store.specs.Mounted.{IsMounted}
 use Rattle.node_store.proofs.Mounts.{err_of, exact_cause, held_same_mark, if_err_all, mount_kept, mount_moment, none_found, read_exactly, read_moment, store_cause, store_mounted, was_reset}
-use Rattle.node_store.proofs.Wears.{opened_with}
+use Rattle.node_store.proofs.Wears.{opened_with, same_count}
 use Rattle.node_store.proofs.store.Store.mount.Goals as goal
 
 pub returns-in_err-journal-clause-any_moment : goal.returns-in_err-journal-clause-any_moment
@@ -218,48 +218,79 @@ returns-clause-kept g c fresh tidy records holds =
     let new = g.F.Flash.chip c.migrated.new.flash in
     mount_kept old mid read c.in_ok-journal.journal p c.in_ok-persist.ensures.frame first second (journal.kept fresh tidy) is records holds new c.in_ok-journal-2.journal (c.in_ok-journal-2.ensures.kept is.records exact)
 
-pub returns-in_err-persist-clause-reset : goal.returns-in_err-persist-clause-reset
-returns-in_err-persist-clause-reset g c honest found =
+-- Where no store may be mounted, each exit before the migration leaves the flash and its counts, and none behind it is reached.
+
+pub returns-in_err-journal-clause-finding : goal.returns-in_err-journal-clause-finding
+returns-in_err-journal-clause-finding g c honest fault found =
+    let old = g.F.Flash.chip c.args.flash.now in
+    let mid = g.F.Flash.chip c.mount.new.flash in
+    let journal = c.in_err-journal.ensures in
+    (journal.stays honest, same_count old mid journal.calls journal.unerased journal.unprogrammed)
+
+pub returns-in_err-persist-clause-finding : goal.returns-in_err-persist-clause-finding
+returns-in_err-persist-clause-finding g c honest fault found =
     let old = g.F.Flash.chip c.args.flash.now in
     let mid = g.F.Flash.chip c.mount.new.flash in
     let read = g.F.Flash.chip c.read_records.new.flash in
     let journal = c.in_ok-journal.ensures in
     let persist = c.in_err-persist.ensures in
-    (stays_more old mid read (journal.stays honest) (persist.stays (journal.frame.honest ∙ honest)), persist.calls ∙ journal.calls)
+    (stays_more old mid read (journal.stays honest) (persist.stays (journal.frame.honest ∙ honest)), same_count old read (persist.calls ∙ journal.calls) (persist.unerased ∙ journal.unerased) (persist.unprogrammed ∙ journal.unprogrammed))
 
-pub returns-then-persist-clause-reset : goal.returns-then-persist-clause-reset
-returns-then-persist-clause-reset g c honest found =
+pub returns-then-persist-clause-finding : goal.returns-then-persist-clause-finding
+returns-then-persist-clause-finding g c honest fault found =
     let old = g.F.Flash.chip c.args.flash.now in
     let mid = g.F.Flash.chip c.mount.new.flash in
     let read = g.F.Flash.chip c.read_records.new.flash in
     let journal = c.in_ok-journal.ensures in
     let persist = c.in_ok-persist.ensures in
-    (stays_more old mid read (journal.stays honest) (persist.stays (journal.frame.honest ∙ honest)), persist.calls ∙ journal.calls)
+    (stays_more old mid read (journal.stays honest) (persist.stays (journal.frame.honest ∙ honest)), same_count old read (persist.calls ∙ journal.calls) (persist.unerased ∙ journal.unerased) (persist.unprogrammed ∙ journal.unprogrammed))
+
+pub returns-in_err-journal-2-clause-finding : goal.returns-in_err-journal-2-clause-finding
+returns-in_err-journal-2-clause-finding g c honest fault found =
+    let old = g.F.Flash.chip c.args.flash.now in
+    let mid = g.F.Flash.chip c.mount.new.flash in
+    let journal = c.in_ok-journal.ensures in
+    let p = c.in_ok-persist.persist in
+    absurd (none_found old.now p fault (store_mounted old mid c.in_ok-journal.journal journal.frame journal.stays journal.mounted p journal.value c.in_ok-persist.ensures.value honest c.if-persist.false) found)
+
+pub returns-clause-finding : goal.returns-clause-finding
+returns-clause-finding g c honest fault found =
+    let old = g.F.Flash.chip c.args.flash.now in
+    let mid = g.F.Flash.chip c.mount.new.flash in
+    let journal = c.in_ok-journal.ensures in
+    let p = c.in_ok-persist.persist in
+    absurd (none_found old.now p fault (store_mounted old mid c.in_ok-journal.journal journal.frame journal.stays journal.mounted p journal.value c.in_ok-persist.ensures.value honest c.if-persist.false) found)
+
+-- A Node Reset is one of these.
+
+pub returns-in_err-journal-clause-reset : goal.returns-in_err-journal-clause-reset
+returns-in_err-journal-clause-reset g c honest = returns-in_err-journal-clause-finding g c honest F.WasReset
+
+pub returns-in_err-persist-clause-reset : goal.returns-in_err-persist-clause-reset
+returns-in_err-persist-clause-reset g c honest = returns-in_err-persist-clause-finding g c honest F.WasReset
+
+pub returns-then-persist-clause-reset : goal.returns-then-persist-clause-reset
+returns-then-persist-clause-reset g c honest = returns-then-persist-clause-finding g c honest F.WasReset
 
 pub returns-in_err-journal-2-clause-reset : goal.returns-in_err-journal-2-clause-reset
-returns-in_err-journal-2-clause-reset g c honest found =
-    let old = g.F.Flash.chip c.args.flash.now in
-    let mid = g.F.Flash.chip c.mount.new.flash in
-    let journal = c.in_ok-journal.ensures in
-    let p = c.in_ok-persist.persist in
-    absurd (none_found old.now p F.WasReset (store_mounted old mid c.in_ok-journal.journal journal.frame journal.stays journal.mounted p journal.value c.in_ok-persist.ensures.value honest c.if-persist.false) found)
+returns-in_err-journal-2-clause-reset g c honest = returns-in_err-journal-2-clause-finding g c honest F.WasReset
 
 pub returns-clause-reset : goal.returns-clause-reset
-returns-clause-reset g c honest found =
-    let old = g.F.Flash.chip c.args.flash.now in
-    let mid = g.F.Flash.chip c.mount.new.flash in
-    let journal = c.in_ok-journal.ensures in
-    let p = c.in_ok-persist.persist in
-    absurd (none_found old.now p F.WasReset (store_mounted old mid c.in_ok-journal.journal journal.frame journal.stays journal.mounted p journal.value c.in_ok-persist.ensures.value honest c.if-persist.false) found)
+returns-clause-reset g c honest = returns-clause-finding g c honest F.WasReset
 
 pub returns-clause-wear : goal.returns-clause-wear
 returns-clause-wear g c honest =
     let old = g.F.Flash.chip c.args.flash.now in
+    let read = g.F.Flash.chip c.read_records.new.flash in
     let new = g.F.Flash.chip c.migrated.new.flash in
     let journal = c.in_ok-journal.ensures in
     let persist = c.in_ok-persist.ensures in
     let migrated = c.in_ok-journal-2.ensures in
     let most = migrated.most_calls in
+    let erased = migrated.most_erases in
+    let given = migrated.most_octets in
     let same = persist.calls ∙ journal.calls in
-    opened_with old.now c.in_ok-journal.journal _ (journal.value honest) (journal.mounted honest) old.changes new.changes c.in_ok-journal-2.journal.used (omega (arith, most, same))
-    (λ other. (ap (λ f. (g.F.Flash.chip f).changes) (migrated.unchanged other) ∙ same, migrated.used other)) migrated.room
+    let unerased = persist.unerased ∙ journal.unerased in
+    let unprogrammed = persist.unprogrammed ∙ journal.unprogrammed in
+    opened_with old.now c.in_ok-journal.journal _ (journal.value honest) (journal.mounted honest) (count_of old) (count_of new) c.in_ok-journal-2.journal.used (omega (arith, most, same)) (omega (arith, erased, unerased)) (omega (arith, given, unprogrammed))
+    (λ other. (ap (λ f. count_of (g.F.Flash.chip f)) (migrated.unchanged other) ∙ same_count old read same unerased unprogrammed, migrated.used other)) migrated.room

@@ -1,5 +1,5 @@
 use Rattle.std.proofs.Common.{ℕ, ◌+◌, ◌∙◌, List, ap, arith}
-use Rattle.flash_model.specs.Chip.{LeavesOnly}
+use Rattle.flash_model.specs.Chip.{LeavesOnly, count_of}
 use Rattle.record_types.specs.declared.records.StoreRecord.{StoreRecord}
 use Rattle.node_store.specs.Tie.{IsPut, IsStoreOf}
 use Rattle.node_store.proofs.Holding.{held_unchanged}
@@ -122,34 +122,51 @@ returns-clause-bounded g c =
     omega (arith, first, few, second)
 
 pub returns-then-is_closed-clause-most_wear : goal.returns-then-is_closed-clause-most_wear
-returns-then-is_closed-clause-most_wear g c = none_put c.args.self.now.journal.used (g.F.Flash.chip c.args.flash.now).changes
+returns-then-is_closed-clause-most_wear g c = none_put c.args.self.now.journal.used (count_of (g.F.Flash.chip c.args.flash.now))
 
 pub returns-in_err-check-clause-most_wear : goal.returns-in_err-check-clause-most_wear
-returns-in_err-check-clause-most_wear g c = none_put c.args.self.now.journal.used (g.F.Flash.chip c.args.flash.now).changes
+returns-in_err-check-clause-most_wear g c = none_put c.args.self.now.journal.used (count_of (g.F.Flash.chip c.args.flash.now))
 
 pub returns-in_err-make_room-clause-most_wear : goal.returns-in_err-make_room-clause-most_wear
 returns-in_err-make_room-clause-most_wear g c =
     let room = c.in_err-make_room.ensures in
     let first = room.costs.most_calls in
-    put_at_most c.args.self.now _ _ room.bounded (omega (arith, first))
+    let erased = room.costs.most_erases in
+    let compacted = room.costs.most_octets in
+    put_at_most c.args.self.now _ _ room.bounded (omega (arith, first)) (omega (arith, erased)) (omega (arith, compacted))
 
 pub returns-in_err-add-clause-most_wear : goal.returns-in_err-add-clause-most_wear
 returns-in_err-add-clause-most_wear g c =
     let room = c.in_ok-make_room.ensures in
+    let costs = c.in_err-add.ensures.costs in
     let first = room.costs.most_calls in
-    let second = c.in_err-add.ensures.costs.most_calls in
-    put_at_most c.args.self.now _ _ room.bounded (omega (arith, first, second))
+    let second = costs.most_calls in
+    let erased = room.costs.most_erases in
+    let none = costs.most_erases in
+    let compacted = room.costs.most_octets in
+    let slot = costs.most_octets in
+    put_at_most c.args.self.now _ _ room.bounded (omega (arith, first, second)) (omega (arith, erased, none)) (omega (arith, compacted, slot))
 
 pub returns-clause-most_wear : goal.returns-clause-most_wear
 returns-clause-most_wear g c =
     let room = c.in_ok-make_room.ensures in
+    let costs = c.in_ok-add.ensures.costs in
     let first = room.costs.most_calls in
-    let second = c.in_ok-add.ensures.costs.most_calls in
-    put_at_most c.args.self.now _ _ room.bounded (omega (arith, first, second))
+    let second = costs.most_calls in
+    let erased = room.costs.most_erases in
+    let none = costs.most_erases in
+    let compacted = room.costs.most_octets in
+    let slot = costs.most_octets in
+    put_at_most c.args.self.now _ _ room.bounded (omega (arith, first, second)) (omega (arith, erased, none)) (omega (arith, compacted, slot))
 
 pub returns-clause-wear : goal.returns-clause-wear
 returns-clause-wear g c =
     let room = c.in_ok-make_room.ensures in
+    let costs = c.in_ok-add.ensures.costs in
     let first = room.costs.most_calls in
-    let second = c.in_ok-add.ensures.costs.most_calls in
-    put_costs c.args.self.now _ _ room.bounded _ (omega (arith, first, second)) (c.in_ok-add.ensures.used ∙ ap (λ (n : ℕ). n + 1) room.used)
+    let second = costs.most_calls in
+    let erased = room.costs.most_erases in
+    let none = costs.most_erases in
+    let compacted = room.costs.most_octets in
+    let slot = costs.most_octets in
+    put_costs c.args.self.now _ _ room.bounded _ (omega (arith, first, second)) (omega (arith, erased, none)) (omega (arith, compacted, slot)) (c.in_ok-add.ensures.used ∙ ap (λ (n : ℕ). n + 1) room.used)

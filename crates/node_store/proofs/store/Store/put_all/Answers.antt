@@ -1,10 +1,11 @@
 use Rattle.std.proofs.Common.{◌≡◌, ℕ, ◌+◌, ◌*◌, ◌<◌, ◌++◌, length, take, refl, sym, subst, ◌∙◌, arith, true≢false}
 use Rattle.node_limits.specs.declared.TheConstants.{PUT_CALLS}
-use Rattle.flash_model.proofs.Runs.{at_most_more, begins_none, keeps_more, keeps_none}
+use Rattle.flash_model.specs.Chip.{count_of}
+use Rattle.flash_model.proofs.Runs.{at_most_more, keeps_more, keeps_none}
 use Rattle.node_records.specs.Tables.{config_in}
 use Rattle.node_store.proofs.Mounts.{err_of, on_err_all, on_ok_none}
 use Rattle.node_store.proofs.Puts.{puts_of}
-use Rattle.node_store.proofs.Fronts.{all_calls, all_most, calls_at_most, calls_more, config_all, config_more, front_more, fronts_more, fronts_none, marks_more, next_may, tie_all, value_all, value_more, value_none}
+use Rattle.node_store.proofs.Fronts.{all_calls, all_most, all_octets, calls_at_most, calls_more, config_all, config_more, erases_at_most, front_more, fronts_more, fronts_none, marks_more, most_octets, next_may, none_erased, octets_at_most, put_none, tie_all, value_all, value_more, value_none}
 use Rattle.store_definitions.specs.Wear.{CostsAndUses}
 use Rattle.store_definitions.proofs.Wear.{at_most_more as worn_more, at_most_none, at_most_of, at_most_of_more, paid_more, paid_none}
 use Rattle.node_store.proofs.store.Store.put_all.Goals as goal
@@ -21,9 +22,9 @@ loop-item-init g c =
       config = refl;
       value = λ records meaning. value_none records c.args.items.now c.args.self.now.persist meaning;
       fronts = λ records tie. fronts_none chip c.args.self.now records c.args.items.now tie (laws.only_now flash);
-      calls = λ room. (begins_none chip (laws.counted flash), omega arith);
+      calls = λ room. put_none chip c.args.self.now (laws.counted flash) (laws.counted_erases flash) (laws.counted_octets flash);
       spent = omega arith;
-      wear = paid_none c.args.self.now.journal.used chip.changes;
+      wear = paid_none c.args.self.now.journal.used (count_of chip);
       reads = refl;
       faults = refl;
     }
@@ -52,9 +53,9 @@ loop-item-preserved g c =
           let fronts = before.fronts records tie in
           let all = records ++ take i items in
           fronts_more items i _ less start first records mid store fronts new after may.1 put.puts.value (put.puts.kept all fronts.tie) (put.cut.any_moment all fronts.tie) (put.cut.mark all fronts.tie);
-      calls = λ room. calls_more (length items) i start mid new first store less room (before.calls room) after put.costs.calls put.used;
+      calls = λ room. calls_more (length items) i start mid new first store less room (before.calls room) after put.costs.calls put.costs.erases put.costs.octets put.used;
       spent = at_most_more (PUT_CALLS * i) PUT_CALLS (PUT_CALLS * (i + 1)) start mid new (omega arith) before.spent put.bounded;
-      wear = paid_more first.journal.used i 1 start.changes mid.changes new.changes store.journal.used after.journal.used before.wear put.wear;
+      wear = paid_more first.journal.used i 1 (count_of start) (count_of mid) (count_of new) store.journal.used after.journal.used before.wear put.wear;
       reads = put.leaves.reads ∙ before.reads;
       faults = put.leaves.no_fault ∙ before.faults;
     }
@@ -98,10 +99,22 @@ returns-in_err-put-clause-cut g c =
 pub returns-in_err-put-clause-costs : goal.returns-in_err-put-clause-costs
 returns-in_err-put-clause-costs g c room =
     let before = c.loop-item.invariant in
+    let n : ℕ = length c.args.items.now in
+    let i = c.loop-item.item-index in
+    let start = g.F.Flash.chip c.args.flash.now in
+    let mid = g.F.Flash.chip c.loop-item.flash in
+    let new = g.F.Flash.chip c.put.new.flash in
+    let less = c.loop-item-test.true in
+    let costs = c.in_err-put.ensures.costs in
+    let result = c.from_residual.result in
+    let fault = c.in_err-put.field-0.0 in
     record {
-      calls = on_ok_none c.from_residual.result c.in_err-put.field-0.0 c.from_residual.ensures.1 _;
-      most_calls = calls_at_most (length c.args.items.now) c.loop-item.item-index (g.F.Flash.chip c.args.flash.now) (g.F.Flash.chip c.loop-item.flash) (g.F.Flash.chip c.put.new.flash) c.args.self.now c.loop-item.self
-          c.loop-item-test.true room (before.calls room) c.in_err-put.ensures.costs.most_calls;
+      calls = on_ok_none result fault c.from_residual.ensures.1 _;
+      erases = on_ok_none result fault c.from_residual.ensures.1 _;
+      octets = on_ok_none result fault c.from_residual.ensures.1 _;
+      most_calls = calls_at_most n i start mid new c.args.self.now c.loop-item.self less room (before.calls room) costs.most_calls;
+      most_erases = erases_at_most n i start mid new c.args.self.now c.loop-item.self less room (before.calls room) costs.most_erases;
+      most_octets = octets_at_most n i start mid new c.args.self.now c.loop-item.self less room (before.calls room) costs.most_octets;
     }
 
 pub returns-in_err-put-clause-bounded : goal.returns-in_err-put-clause-bounded
@@ -129,8 +142,8 @@ returns-in_err-put-clause-most_wear g c =
     let start = g.F.Flash.chip c.args.flash.now in
     let mid = g.F.Flash.chip c.loop-item.flash in
     let new = g.F.Flash.chip c.put.new.flash in
-    at_most_of_more used (i + 1) n start.changes new.changes (omega (arith, less))
-    (worn_more used i 1 start.changes mid.changes new.changes c.loop-item.self.journal.used c.loop-item.invariant.wear c.in_err-put.ensures.most_wear)
+    at_most_of_more used (i + 1) n (count_of start) (count_of new) (omega (arith, less))
+    (worn_more used i 1 (count_of start) (count_of mid) (count_of new) c.loop-item.self.journal.used c.loop-item.invariant.wear c.in_err-put.ensures.most_wear)
 
 pub returns-in_err-put-clause-leaves : goal.returns-in_err-put-clause-leaves
 returns-in_err-put-clause-leaves g c =
@@ -167,10 +180,14 @@ returns-clause-costs g c room =
     let i = c.loop-item.item-index in
     let start = g.F.Flash.chip c.args.flash.now in
     let new = g.F.Flash.chip c.loop-item.flash in
-    let calls = (c.loop-item.invariant.calls room).0 in
+    let put = c.loop-item.invariant.calls room in
     record {
-      calls = all_calls n i start new (omega (arith, c.loop-item-test.false, c.loop-item.auto.item-index-end)) calls;
-      most_calls = all_most n i start new (omega (arith, c.loop-item-test.false, c.loop-item.auto.item-index-end)) calls;
+      calls = all_calls n i start new (omega (arith, c.loop-item-test.false, c.loop-item.auto.item-index-end)) put.calls;
+      erases = put.erases;
+      octets = all_octets n i start new (omega (arith, c.loop-item-test.false, c.loop-item.auto.item-index-end)) put.octets;
+      most_calls = all_most n i start new (omega (arith, c.loop-item-test.false, c.loop-item.auto.item-index-end)) put.calls;
+      most_erases = none_erased start new put.erases;
+      most_octets = most_octets n i start new (omega (arith, c.loop-item-test.false, c.loop-item.auto.item-index-end)) put.octets;
     }
 
 pub returns-clause-wear : goal.returns-clause-wear
@@ -180,18 +197,18 @@ returns-clause-wear g c =
     let all : i ≡ n = omega (arith, c.loop-item-test.false, c.loop-item.auto.item-index-end) in
     let start = g.F.Flash.chip c.args.flash.now in
     let new = g.F.Flash.chip c.loop-item.flash in
-    subst (λ (k : ℕ). CostsAndUses c.args.self.now.journal.used k start.changes new.changes c.loop-item.self.journal.used) all c.loop-item.invariant.wear
+    subst (λ (k : ℕ). CostsAndUses c.args.self.now.journal.used k (count_of start) (count_of new) c.loop-item.self.journal.used) all c.loop-item.invariant.wear
 
 pub returns-clause-most_wear : goal.returns-clause-most_wear
 returns-clause-most_wear g c =
     let start = g.F.Flash.chip c.args.flash.now in
     let new = g.F.Flash.chip c.loop-item.flash in
-    at_most_of c.args.self.now.journal.used (length c.args.items.now) start.changes new.changes c.loop-item.self.journal.used (returns-clause-wear g c)
+    at_most_of c.args.self.now.journal.used (length c.args.items.now) (count_of start) (count_of new) c.loop-item.self.journal.used (returns-clause-wear g c)
 
 pub returns-then-is_closed-clause-most_wear : goal.returns-then-is_closed-clause-most_wear
 returns-then-is_closed-clause-most_wear g c =
     let chip = g.F.Flash.chip c.args.flash.now in
-    at_most_none c.args.self.now.journal.used (length c.args.items.now) chip.changes
+    at_most_none c.args.self.now.journal.used (length c.args.items.now) (count_of chip)
 
 pub returns-clause-leaves : goal.returns-clause-leaves
 returns-clause-leaves g c = record { reads = c.loop-item.invariant.reads; no_fault = c.loop-item.invariant.faults; frame = c.loop-item.invariant.keeps }

@@ -1,8 +1,7 @@
 use Rattle.std.proofs.Common.{ℕ, ◌≡◌, ◌∙◌, List, ap, subst}
 use Rattle.flash_model.specs.Chip.{Stays}
 use Rattle.flash_model.proofs.Runs.{stays_more}
-use Rattle.slot_definitions.specs.Slots.{text_at}
-use Rattle.slot_journal.specs.Tie.{IsUsed}
+use Rattle.slot_definitions.specs.Slots.{text_at, IsUsed}
 use Rattle.slot_journal.proofs.Counted.{mounted_by, recovered_used}
 use Rattle.slot_journal.proofs.Ties.{mounted_stays}
 use Rattle.slot_journal.proofs.journal.Journal.mount.Goals as goal
